@@ -1,0 +1,43 @@
+-- The metadata of a product, as contracts see an `Info`: the record of its fields.
+use Rattle.std.specs.Prelude.{◌≡◌, ℕ, ◌+◌, ◌*◌, ◌/◌, ◌≤◌, List, ◌++◌, length, Option, Some, None, nat_lt, position, if◌then◌else◌, ◌==◌}
+use Rattle.ldm_types.specs.declared.info.InfoFault.{InfoFault}
+use Rattle.ldm_types.specs.declared.info.InfoFault.TheVariants.{OriginLong, IdentLong, NulByte}
+
+pub record Metadata : Type 0 where
+  -- microseconds since the beginning of 1970
+  pub arrival : ℕ
+  -- 16 bytes
+  pub signature : List ℕ
+  pub origin : List ℕ
+  -- a set of feedtypes, as a number whose bits are the members
+  pub feed : ℕ
+  pub seqno : ℕ
+  pub ident : List ℕ
+  -- bytes of the body
+  pub size : ℕ
+
+-- the bounds of the two texts: no zero byte stands in either
+pub record TextsFit (info : Metadata) : Type 0 where
+  pub origin_short : length info.origin ≤ 64
+  pub ident_short : length info.ident ≤ 255
+  pub no_nul : position (λ byte. byte == 0) (info.origin ++ info.ident) ≡ None
+
+-- a length rounded up to a multiple of four
+abbrev pub pad4 : ℕ → ℕ
+pad4 n = 4 * ((n + 3) / 4)
+
+-- the bytes that the metadata take when they are spelled in XDR (RFC 4506), in this project's profile:
+-- 44 for the numbers, the signature and the lengths of the texts, and the texts with their padding
+abbrev pub metadata_len : Metadata → ℕ
+metadata_len info = 44 + pad4 (length info.origin) + pad4 (length info.ident)
+
+-- the first fault of two texts, if there is one
+abbrev pub texts_fault : List ℕ → List ℕ → Option InfoFault
+texts_fault origin ident =
+    if nat_lt 64 (length origin) then Some OriginLong
+    else (if nat_lt 255 (length ident) then Some IdentLong
+    else nul_fault (position (λ byte. byte == 0) (origin ++ ident)))
+  where
+    nul_fault : Option ℕ → Option InfoFault
+    nul_fault None = None
+    nul_fault (Some at) = Some (NulByte at)

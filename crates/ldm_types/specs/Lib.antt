@@ -1,0 +1,4 @@
+pub mod Arena
+pub mod Feed
+pub mod Info
+pub mod InfoView
