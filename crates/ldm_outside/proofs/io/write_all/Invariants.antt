@@ -1,0 +1,13 @@
+use Rattle.std.proofs.Common.{◌-◌, ◌≤◌, length, take}
+use Rattle.ldm_outside.specs.Io.{Takes}
+use Rattle.ldm_outside.proofs.io.write_all.Given as goal
+
+abbrev pub invariant-loop-at : goal.invariant-loop-at
+invariant-loop-at g l = record {
+  within : l.at ≤ length l.piece;
+  taken : Takes (g.K.Sink.written l.initial.sink) (take l.at l.piece) (g.K.Sink.written l.sink);
+  faults_kept : g.K.Sink.faults l.initial.sink ≤ g.K.Sink.faults l.sink;
+}
+
+abbrev pub decreases-loop-at : goal.decreases-loop-at
+decreases-loop-at g l = length l.initial.piece - l.at

@@ -1,0 +1,181 @@
+//! Sources and sinks in memory, which fail at chosen calls.
+ghost use Rattle.std.specs.Prelude.{◌≡◌, ◌+◌, ◌-◌, ◌≤◌, [], ◌++◌, length, take, drop, min};
+
+use crate::io::{Got, Put, Sink, Source};
+use std::alloc::Global;
+use std::marker::Model;
+
+/// A source over bytes in memory. Its calls are numbered from 1, and those of the numbers in a list fail.
+#[derive(Debug, Drop)]
+pub struct MemSource {
+    bytes: Vec<u8>,
+    at: usize,
+    most: usize,
+    calls: u64,
+    failing: Vec<u64>,
+    faults: u64,
+    ends: u64,
+}
+
+impl Model for MemSource {
+    ghost use Rattle.std.specs.Prelude.{◌≤◌, ◌<◌, drop, length};
+    ghost use Rattle.ldm_outside.specs.Memory.{SourceState};
+
+    ghost Value = { SourceState };
+
+    ghost view = { λ s. record { left = drop s.at s.bytes.items; faults = s.faults; ends = s.ends } };
+
+    ghost invariant = { λ s. (s.at ≤ length s.bytes.items) × (0 < s.most) };
+}
+
+impl MemSource {
+    /// A source that gives these bytes, and whose calls of the given numbers fail.
+    pub fn new(bytes: Vec<u8>, failing: Vec<u64>) -> MemSource
+        ensures { result ≡ record { left = bytes.items; faults = 0; ends = 0 } }
+    {
+        MemSource {
+            bytes,
+            at: 0,
+            most: usize::MAX,
+            calls: 0,
+            failing,
+            faults: 0,
+            ends: 0,
+        }
+    }
+
+    /// From now on a call gives at most so many bytes, and at least one.
+    pub fn limit_pieces(&mut self, most: usize)
+        ensures { self.new ≡ self.old }
+    {
+        self.most = most.max(1);
+    }
+
+    /// How often it failed.
+    pub fn faults(&self) -> u64
+        ensures { result ≡ self.now.faults }
+    {
+        self.faults
+    }
+
+    /// How often it answered that it is at its end.
+    pub fn ends(&self) -> u64
+        ensures { result ≡ self.now.ends }
+    {
+        self.ends
+    }
+}
+
+impl Source for MemSource {
+    ghost use Rattle.std.specs.Prelude.{Some};
+
+    ghost faults = { λ s. s.faults };
+
+    ghost ends = { λ s. s.ends };
+
+    ghost left = { λ s. Some s.left };
+
+    fn read(&mut self, into: &mut [u8]) -> Got {
+        self.calls = self.calls.saturating_add(1);
+        if self.failing.contains(&self.calls) {
+            self.faults = self.faults.saturating_add(1);
+            return Got::Failed;
+        }
+        let n = copy_front(&self.bytes[self.at..], self.most, into);
+        if n == 0 {
+            self.ends = self.ends.saturating_add(1);
+            return Got::End;
+        }
+        self.at += n;
+        Got::Bytes(n)
+    }
+}
+
+/// Copies as many bytes as fit, and at most so many, to the front of the buffer, and answers how many.
+pub(crate) fn copy_front(bytes: &[u8], most: usize, into: &mut [u8]) -> usize
+    ensures count { result ≡ min (min (length bytes.now) most) (length into.old) }
+    ensures front { take result into.new ≡ take result bytes.now }
+    ensures len { length into.new ≡ length into.old }
+{
+    let n = bytes.len().min(most).min(into.len());
+    into[..n].copy_from_slice(&bytes[..n]);
+    n
+}
+
+/// A sink that keeps what it takes. Its calls are numbered from 1, and those of the numbers in a list fail.
+/// Without memory for what it is to keep, a call fails too.
+#[derive(Debug, Drop)]
+pub struct MemSink {
+    written: Vec<u8>,
+    most: usize,
+    calls: u64,
+    failing: Vec<u64>,
+    faults: u64,
+}
+
+impl Model for MemSink {
+    ghost use Rattle.std.specs.Prelude.{◌<◌};
+    ghost use Rattle.ldm_outside.specs.Memory.{SinkState};
+
+    ghost Value = { SinkState };
+
+    ghost view = { λ s. record { written = s.written.items; faults = s.faults } };
+
+    ghost invariant = { λ s. 0 < s.most };
+}
+
+impl MemSink {
+    /// A sink that has nothing, and whose calls of the given numbers fail.
+    pub fn new(alloc: Global, failing: Vec<u64>) -> MemSink
+        ensures { result ≡ record { written = []; faults = 0 } }
+    {
+        MemSink {
+            written: Vec::new(alloc),
+            most: usize::MAX,
+            calls: 0,
+            failing,
+            faults: 0,
+        }
+    }
+
+    /// From now on a call takes at most so many bytes, and at least one where there is one.
+    pub fn limit_pieces(&mut self, most: usize)
+        ensures { self.new ≡ self.old }
+    {
+        self.most = most.max(1);
+    }
+
+    /// All bytes that it took.
+    pub fn written(&self) -> &[u8]
+        ensures { result.now ≡ self.now.written }
+    {
+        self.written.as_slice()
+    }
+
+    /// How often it failed.
+    pub fn faults(&self) -> u64
+        ensures { result ≡ self.now.faults }
+    {
+        self.faults
+    }
+}
+
+impl Sink for MemSink {
+    ghost use Rattle.std.specs.Prelude.{Some};
+
+    ghost faults = { λ s. s.faults };
+
+    ghost written = { λ s. Some s.written };
+
+    fn write(&mut self, piece: &[u8]) -> Put {
+        self.calls = self.calls.saturating_add(1);
+        let n = piece.len().min(self.most);
+        if self.failing.contains(&self.calls)
+            || self.written.extend_from_slice(&piece[..n]).is_err()
+        {
+            self.faults = self.faults.saturating_add(1);
+            return Put::Failed;
+        }
+        Put::Took(n)
+    }
+}
