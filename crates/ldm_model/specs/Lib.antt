@@ -1,0 +1,9 @@
+pub mod Product
+pub mod State
+pub mod Room
+pub mod Evict
+pub mod Insert
+pub mod Look
+pub mod Step
+pub mod History
+pub mod Examples

@@ -1,0 +1,91 @@
+-- The state of a queue.
+use Rattle.std.specs.Prelude.{ℕ, ◌+◌, Bool, List, [], ◌∷◌, length, map, replicate, Option, Some, None, bytes_eq}
+use Rattle.std.specs.List.{find}
+use Rattle.ldm_types.specs.Arena.{Region}
+use Rattle.ldm_model.specs.Product.{Product, extent_of}
+
+-- An admitted product. Rows are numbered from 0 in the order of admission and are never taken out; a row
+-- with a place is present, and one with none was evicted.
+pub record Row : Type 0 where
+  pub product : Product
+  -- its insertion time
+  pub time : ℕ
+  pub place : Option ℕ
+
+-- What an open cursor place has.
+pub record Cursor : Type 0 where
+  pub actor : ℕ
+  pub feed : ℕ
+  pub position : ℕ
+  -- the number of the row that it holds
+  pub held : Option ℕ
+  -- the numbers of the rows that it was given, of those whose eviction it was told, and of those whose
+  -- eviction it was not told yet
+  pub given : List ℕ
+  pub told : List ℕ
+  pub untold : List ℕ
+
+pub record State : Type 0 where
+  -- bytes of the arena
+  pub arena : ℕ
+  pub slots : ℕ
+  pub rows : List Row
+  -- 64 places, each empty or with an open cursor
+  pub cursors : List (Option Cursor)
+
+-- the state at the beginning
+abbrev pub empty : ℕ → ℕ → State
+empty arena slots = record { arena = arena; slots = slots; rows = []; cursors = replicate 64 None }
+
+-- the end: how many products were admitted
+abbrev pub end_of : State → ℕ
+end_of s = length s.rows
+
+-- the insertion time of the last of these rows, or the time before them
+abbrev pub latest : Option ℕ → List Row → Option ℕ
+latest before [] = before
+latest before (row ∷ rows) = latest (Some row.time) rows
+
+-- the insertion time of the last row, if there is a row
+abbrev pub last_time : State → Option ℕ
+last_time s = latest None s.rows
+
+-- A present row, with its number and its place.
+pub record Queued : Type 0 where
+  pub number : ℕ
+  pub product : Product
+  pub time : ℕ
+  pub place : ℕ
+
+abbrev pub add_queued : ℕ → Row → Option ℕ → List Queued → List Queued
+add_queued number row None behind = behind
+add_queued number row (Some place) behind =
+    record { number = number; product = row.product; time = row.time; place = place } ∷ behind
+
+-- the present ones of these rows, the first of which has that number
+abbrev pub queued_from : ℕ → List Row → List Queued
+queued_from number [] = []
+queued_from number (row ∷ rows) = add_queued number row row.place (queued_from (number + 1) rows)
+
+-- the present rows, in the order of their numbers
+abbrev pub queued : State → List Queued
+queued s = queued_from 0 s.rows
+
+abbrev pub has_signature : List ℕ → Queued → Bool
+has_signature signature q = bytes_eq q.product.info.signature signature
+
+-- the present row of that signature
+abbrev pub queued_with : List ℕ → List Queued → Option Queued
+queued_with signature rows = find (has_signature signature) rows
+
+-- where a present row lies
+abbrev pub region_of : Queued → Region
+region_of q = record { start = q.place; extent = extent_of q.product.info }
+
+-- what occupies the arena
+abbrev pub occupied : State → List Region
+occupied s = map region_of (queued s)
+
+-- how many slots are taken
+abbrev pub slots_taken : State → ℕ
+slots_taken s = length (queued s)
