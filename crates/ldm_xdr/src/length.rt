@@ -1,5 +1,5 @@
 //! How many bytes metadata take.
-ghost use Rattle.std.specs.Prelude.{◌≡◌, ◌+◌, ◌<◌, ◌^◌};
+ghost use Rattle.std.specs.Prelude.{◌≡◌, ◌+◌, ◌<◌, ◌≤◌, ◌^◌};
 ghost use Rattle.ldm_types.specs.Info.{pad4, metadata_len};
 
 use ldm_types::Info;
@@ -7,7 +7,8 @@ use ldm_types::Info;
 /// The number of bytes that the metadata take when they are spelled: 44 for the numbers, the signature
 /// and the lengths of the two texts, and each text with its padding (RFC 4506, sections 4.9 and 4.11).
 pub fn info_len(info: &Info) -> usize
-    ensures { result ≡ metadata_len info.now }
+    ensures value { result ≡ metadata_len info.now }
+    ensures bound { result ≤ 364 }
 {
     44 + padded(info.origin().len()) + padded(info.ident().len())
 }

@@ -1,0 +1,4 @@
+pub mod Queued
+pub mod Packed
+pub mod Evictions
+pub mod Inserting

@@ -1,0 +1,14 @@
+-- When a book stands for a state of the queue.
+use Rattle.std.specs.Prelude.{◌≡◌, map, replicate, None}
+use Rattle.ldm_model.specs.State.{State, end_of, last_time, queued}
+use Rattle.ldm_book.specs.View.{BookView, kept}
+
+pub record StandsFor (book : BookView) (s : State) : Type 0 where
+  pub arena : book.arena ≡ s.arena
+  pub slots : book.slots ≡ s.slots
+  pub admitted : book.admitted ≡ end_of s
+  pub last : book.last ≡ last_time s
+  -- the kept rows are the present rows, in order
+  pub rows : book.rows ≡ map kept (queued s)
+  -- no cursor is open
+  pub cursors : s.cursors ≡ replicate 64 None
