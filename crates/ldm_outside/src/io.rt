@@ -35,7 +35,10 @@ pub trait Source {
     /// The bytes that it has left, where it tells.
     ghost left: { Self → Option (List ℕ) };
 
-    /// Reads some bytes into the front of the buffer.
+    /// Reads some bytes into the front of the buffer, which has room for one at least.
+    ///
+    /// A failure loses no byte, so a caller may read on after it. The buffer behind the bytes that came, and all
+    /// of it where none came, may hold anything.
     fn read(&mut self, into: &mut [u8]) -> Got
         requires { 0 < length into.old }
         ensures given { ReadGives result into.new (left self.old) (left self.new) (ends self.old) (ends self.new) (faults self.old) (faults self.new) }
@@ -52,7 +55,9 @@ pub trait Sink {
     /// All bytes that it took, where it tells.
     ghost written: { Self → Option (List ℕ) };
 
-    /// Writes some bytes from the front of the piece.
+    /// Writes some bytes from the front of the piece: what is left of it is the caller's to write.
+    ///
+    /// Where it fails it took nothing, so a caller may write the piece again.
     fn write(&mut self, piece: &[u8]) -> Put
         ensures taken { WriteGives result piece.now (written self.old) (written self.new) (faults self.old) (faults self.new) }
         ensures faults_kept { faults self.old ≤ faults self.new };
@@ -62,9 +67,9 @@ pub trait Sink {
 #[derive(Clone, Copy, Debug, PartialEq, Eq)]
 pub struct SinkFailed;
 
-/// Writes the whole piece, beginning with all of it as one piece.
+/// Writes the whole piece: all of it at once, then each time what the sink left of it. An empty piece takes no call.
 ///
-/// On an error a front of the piece was taken.
+/// [`SinkFailed`] comes at the first call that fails, after a front of the piece was taken.
 pub fn write_all<K: Sink>(sink: &mut K, piece: &[u8]) -> Result<(), SinkFailed>
     ensures written { WritesAll result piece.now (K.written sink.old) (K.written sink.new) (K.faults sink.old) (K.faults sink.new) }
     ensures faults_kept { K.faults sink.old ≤ K.faults sink.new }

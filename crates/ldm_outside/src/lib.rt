@@ -14,3 +14,6 @@ pub use io::{Got, Put, Sink, SinkFailed, Source, write_all};
 pub use memory::{MemSink, MemSource};
 pub use sure::{SureSink, SureSource};
 pub use world::World;
+
+#[cfg(test)]
+mod tests;

@@ -1,11 +1,15 @@
 //! Sources and sinks in memory, which fail at chosen calls.
-ghost use Rattle.std.specs.Prelude.{◌≡◌, ◌+◌, ◌-◌, ◌≤◌, [], ◌++◌, length, take, drop, min};
+ghost use Rattle.std.specs.Prelude.{◌≡◌, ◌<◌, ◌≤◌, [], length, take, drop, min};
+ghost use Rattle.ldm_outside.specs.Memory.{first_plan, with_most};
 
 use crate::io::{Got, Put, Sink, Source};
 use std::alloc::Global;
 use std::marker::Model;
 
-/// A source over bytes in memory. Its calls are numbered from 1, and those of the numbers in a list fail.
+/// A source over bytes in memory. Its calls are numbered from 1, and exactly those of the numbers in a list fail.
+///
+/// A call that does not fail gives as many bytes as are left, as fit the buffer and as the limit allows, and
+/// leaves the rest of the buffer as it was.
 #[derive(Debug, Drop)]
 pub struct MemSource {
     bytes: Vec<u8>,
@@ -23,15 +27,20 @@ impl Model for MemSource {
 
     ghost Value = { SourceState };
 
-    ghost view = { λ s. record { left = drop s.at s.bytes.items; faults = s.faults; ends = s.ends } };
+    ghost view = { λ s. record {
+      left = drop s.at s.bytes.items;
+      faults = s.faults;
+      ends = s.ends;
+      plan = record { calls = s.calls; failing = s.failing.items; most = s.most };
+    } };
 
     ghost invariant = { λ s. (s.at ≤ length s.bytes.items) × (0 < s.most) };
 }
 
 impl MemSource {
-    /// A source that gives these bytes, and whose calls of the given numbers fail.
+    /// A source that gives these bytes, and whose calls of the given numbers fail. The numbers are in any order.
     pub fn new(bytes: Vec<u8>, failing: Vec<u64>) -> MemSource
-        ensures { result ≡ record { left = bytes.items; faults = 0; ends = 0 } }
+        ensures { result ≡ record { left = bytes.items; faults = 0; ends = 0; plan = first_plan failing.items } }
     {
         MemSource {
             bytes,
@@ -46,7 +55,7 @@ impl MemSource {
 
     /// From now on a call gives at most so many bytes, and at least one.
     pub fn limit_pieces(&mut self, most: usize)
-        ensures { self.new ≡ self.old }
+        ensures { self.new ≡ record self.old { plan = with_most most self.old.plan } }
     {
         self.most = most.max(1);
     }
@@ -68,6 +77,8 @@ impl MemSource {
 
 impl Source for MemSource {
     ghost use Rattle.std.specs.Prelude.{Some};
+    ghost use Rattle.ldm_outside.specs.Io.{ReadGives};
+    ghost use Rattle.ldm_outside.specs.Memory.{ReadsAsPlanned, moved};
 
     ghost faults = { λ s. s.faults };
 
@@ -75,7 +86,13 @@ impl Source for MemSource {
 
     ghost left = { λ s. Some s.left };
 
-    fn read(&mut self, into: &mut [u8]) -> Got {
+    fn read(&mut self, into: &mut [u8]) -> Got
+        requires { 0 < length into.old }
+        ensures given { ReadGives result into.new (Some self.old.left) (Some self.new.left) self.old.ends self.new.ends self.old.faults self.new.faults }
+        ensures faults_kept { self.old.faults ≤ self.new.faults }
+        ensures planned { ReadsAsPlanned result (length into.old) self.old self.new }
+        ensures rest { drop (moved result) into.new ≡ drop (moved result) into.old }
+    {
         self.calls = self.calls.saturating_add(1);
         if self.failing.contains(&self.calls) {
             self.faults = self.faults.saturating_add(1);
@@ -95,6 +112,7 @@ impl Source for MemSource {
 pub(crate) fn copy_front(bytes: &[u8], most: usize, into: &mut [u8]) -> usize
     ensures count { result ≡ min (min (length bytes.now) most) (length into.old) }
     ensures front { take result into.new ≡ take result bytes.now }
+    ensures rest { drop result into.new ≡ drop result into.old }
     ensures len { length into.new ≡ length into.old }
 {
     let n = bytes.len().min(most).min(into.len());
@@ -103,7 +121,9 @@ pub(crate) fn copy_front(bytes: &[u8], most: usize, into: &mut [u8]) -> usize
 }
 
 /// A sink that keeps what it takes. Its calls are numbered from 1, and those of the numbers in a list fail.
-/// Without memory for what it is to keep, a call fails too.
+///
+/// Without memory for what it is to keep, a call fails too. A call that does not fail takes as much of the piece as
+/// the limit allows.
 #[derive(Debug, Drop)]
 pub struct MemSink {
     written: Vec<u8>,
@@ -119,15 +139,19 @@ impl Model for MemSink {
 
     ghost Value = { SinkState };
 
-    ghost view = { λ s. record { written = s.written.items; faults = s.faults } };
+    ghost view = { λ s. record {
+      written = s.written.items;
+      faults = s.faults;
+      plan = record { calls = s.calls; failing = s.failing.items; most = s.most };
+    } };
 
     ghost invariant = { λ s. 0 < s.most };
 }
 
 impl MemSink {
-    /// A sink that has nothing, and whose calls of the given numbers fail.
+    /// A sink that has nothing, and whose calls of the given numbers fail. The numbers are in any order.
     pub fn new(alloc: Global, failing: Vec<u64>) -> MemSink
-        ensures { result ≡ record { written = []; faults = 0 } }
+        ensures { result ≡ record { written = []; faults = 0; plan = first_plan failing.items } }
     {
         MemSink {
             written: Vec::new(alloc),
@@ -140,7 +164,7 @@ impl MemSink {
 
     /// From now on a call takes at most so many bytes, and at least one where there is one.
     pub fn limit_pieces(&mut self, most: usize)
-        ensures { self.new ≡ self.old }
+        ensures { self.new ≡ record self.old { plan = with_most most self.old.plan } }
     {
         self.most = most.max(1);
     }
@@ -162,12 +186,18 @@ impl MemSink {
 
 impl Sink for MemSink {
     ghost use Rattle.std.specs.Prelude.{Some};
+    ghost use Rattle.ldm_outside.specs.Io.{WriteGives};
+    ghost use Rattle.ldm_outside.specs.Memory.{WritesAsPlanned};
 
     ghost faults = { λ s. s.faults };
 
     ghost written = { λ s. Some s.written };
 
-    fn write(&mut self, piece: &[u8]) -> Put {
+    fn write(&mut self, piece: &[u8]) -> Put
+        ensures taken { WriteGives result piece.now (Some self.old.written) (Some self.new.written) self.old.faults self.new.faults }
+        ensures faults_kept { self.old.faults ≤ self.new.faults }
+        ensures planned { WritesAsPlanned result piece.now self.old self.new }
+    {
         self.calls = self.calls.saturating_add(1);
         let n = piece.len().min(self.most);
         if self.failing.contains(&self.calls)

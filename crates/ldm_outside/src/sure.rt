@@ -1,11 +1,13 @@
 //! The forms that never fail: their count of faults is the constant 0.
-ghost use Rattle.std.specs.Prelude.{◌≡◌};
+ghost use Rattle.std.specs.Prelude.{◌≡◌, ◌<◌, ◌≤◌, length, drop};
 
 use crate::io::{Got, Put, Sink, Source};
 use crate::memory::copy_front;
 use std::marker::Model;
 
 /// A source over bytes in memory that never fails.
+///
+/// A call gives as many bytes as are left and as fit the buffer, and leaves the rest of the buffer as it was.
 #[derive(Debug, Drop)]
 pub struct SureSource {
     bytes: Vec<u8>,
@@ -15,9 +17,9 @@ pub struct SureSource {
 
 impl Model for SureSource {
     ghost use Rattle.std.specs.Prelude.{◌≤◌, drop, length};
-    ghost use Rattle.ldm_outside.specs.Memory.{SourceState};
+    ghost use Rattle.ldm_outside.specs.Memory.{SureState};
 
-    ghost Value = { SourceState };
+    ghost Value = { SureState };
 
     ghost view = { λ s. record { left = drop s.at s.bytes.items; faults = 0; ends = s.ends } };
 
@@ -39,6 +41,8 @@ impl SureSource {
 
 impl Source for SureSource {
     ghost use Rattle.std.specs.Prelude.{Some};
+    ghost use Rattle.ldm_outside.specs.Io.{ReadGives};
+    ghost use Rattle.ldm_outside.specs.Memory.{ReadsSurely, moved};
 
     ghost faults = { λ _. 0 };
 
@@ -46,7 +50,12 @@ impl Source for SureSource {
 
     ghost left = { λ s. Some s.left };
 
-    fn read(&mut self, into: &mut [u8]) -> Got {
+    fn read(&mut self, into: &mut [u8]) -> Got
+        requires { 0 < length into.old }
+        ensures given { ReadGives result into.new (Some self.old.left) (Some self.new.left) self.old.ends self.new.ends 0 0 }
+        ensures sure { ReadsSurely result (length into.old) self.old self.new }
+        ensures rest { drop (moved result) into.new ≡ drop (moved result) into.old }
+    {
         let n = copy_front(&self.bytes[self.at..], usize::MAX, into);
         if n == 0 {
             self.ends = self.ends.saturating_add(1);
@@ -63,12 +72,16 @@ pub struct SureSink;
 
 impl Sink for SureSink {
     ghost use Rattle.std.specs.Prelude.{None};
+    ghost use Rattle.ldm_outside.specs.Io.{WriteGives};
 
     ghost faults = { λ _. 0 };
 
     ghost written = { λ _. None };
 
-    fn write(&mut self, piece: &[u8]) -> Put {
+    fn write(&mut self, piece: &[u8]) -> Put
+        ensures taken { WriteGives result piece.now None None 0 0 }
+        ensures whole { result ≡ Put.Took (length piece.now) }
+    {
         Put::Took(piece.len())
     }
 }

@@ -1,0 +1,103 @@
+use super::*;
+use std::alloc::{AllocError, Global};
+use std::process::Abort;
+use std::test::Fail;
+
+// Reads with a buffer of two bytes, and compares each answer and the bytes that came with it.
+fn expect_reads<S: Source>(rt: &impl Abort, source: &mut S, wanted: &[(Got, &[u8])]) {
+    for (answer, bytes) in wanted {
+        let mut buffer = [0; 2];
+        let got = source.read(&mut buffer);
+        assert_eq!(rt; got, *answer);
+        if let Got::Bytes(n) = got {
+            assert_eq!(rt; &buffer[..n], *bytes);
+        }
+    }
+}
+
+// Writes each piece, and compares the answer.
+fn expect_writes<K: Sink>(rt: &impl Abort, sink: &mut K, wanted: &[(&[u8], Put)]) {
+    for (piece, answer) in wanted {
+        assert_eq!(rt; sink.write(piece), *answer);
+    }
+}
+
+fn source(alloc: Global, failing: &[u64]) -> Result<MemSource, AllocError> {
+    Ok(MemSource::new(b"abcde".to_vec(alloc)?, failing.to_vec(alloc)?))
+}
+
+#[test]
+fn sources_give_all_bytes(rt: HostRuntime) -> Result<(), Fail> {
+    let mut whole = source(rt.alloc(), &[2])?;
+    let wanted: [(Got, &[u8]); 6] = [
+        (Got::Bytes(2), b"ab"),
+        (Got::Failed, b""),
+        (Got::Bytes(2), b"cd"),
+        (Got::Bytes(1), b"e"),
+        (Got::End, b""),
+        (Got::End, b""),
+    ];
+    expect_reads(&rt, &mut whole, &wanted);
+    assert_eq!(rt; (whole.faults(), whole.ends()), (1, 2));
+
+    let mut limited = source(rt.alloc(), &[2])?;
+    limited.limit_pieces(1);
+    let wanted: [(Got, &[u8]); 8] = [
+        (Got::Bytes(1), b"a"),
+        (Got::Failed, b""),
+        (Got::Bytes(1), b"b"),
+        (Got::Bytes(1), b"c"),
+        (Got::Bytes(1), b"d"),
+        (Got::Bytes(1), b"e"),
+        (Got::End, b""),
+        (Got::End, b""),
+    ];
+    expect_reads(&rt, &mut limited, &wanted);
+    assert_eq!(rt; (limited.faults(), limited.ends()), (1, 2));
+    Ok(())
+}
+
+#[test]
+fn sinks_keep_what_they_take(rt: HostRuntime) -> Result<(), Fail> {
+    let mut whole = MemSink::new(rt.alloc(), [2].to_vec(rt.alloc())?);
+    let wanted: [(&[u8], Put); 4] = [
+        (b"abc", Put::Took(3)),
+        (b"de", Put::Failed),
+        (b"de", Put::Took(2)),
+        (b"", Put::Took(0)),
+    ];
+    expect_writes(&rt, &mut whole, &wanted);
+    assert_eq!(rt; whole.written(), b"abcde".as_slice());
+    assert_eq!(rt; whole.faults(), 1);
+
+    // After one byte the second call fails, and a second try writes the rest.
+    let mut limited = MemSink::new(rt.alloc(), [2].to_vec(rt.alloc())?);
+    limited.limit_pieces(1);
+    assert_eq!(rt; write_all(&mut limited, b"abc"), Err(SinkFailed));
+    assert_eq!(rt; limited.written(), b"a".as_slice());
+    assert_eq!(rt; write_all(&mut limited, b"bc"), Ok(()));
+    assert_eq!(rt; limited.written(), b"abc".as_slice());
+    assert_eq!(rt; limited.faults(), 1);
+    Ok(())
+}
+
+#[test]
+fn sure_forms_make_a_world(rt: HostRuntime) -> Result<(), Fail> {
+    let mut world = World {
+        source: SureSource::new(b"abc".to_vec(rt.alloc())?),
+        sink: SureSink,
+        log: MemSink::new(rt.alloc(), Vec::new(rt.alloc())),
+    };
+    let wanted: [(Got, &[u8]); 4] = [
+        (Got::Bytes(2), b"ab"),
+        (Got::Bytes(1), b"c"),
+        (Got::End, b""),
+        (Got::End, b""),
+    ];
+    expect_reads(&rt, &mut world.source, &wanted);
+    expect_writes(&rt, &mut world.sink, &[(b"abc", Put::Took(3))]);
+    assert_eq!(rt; write_all(&mut world.sink, b"abc"), Ok(()));
+    assert_eq!(rt; write_all(&mut world.log, b"abc"), Ok(()));
+    assert_eq!(rt; world.log.written(), b"abc".as_slice());
+    Ok(())
+}
