@@ -2,8 +2,8 @@
 ghost use Rattle.std.specs.Prelude.{◌≡◌, ◌↔◌, IsTrue};
 ghost use Rattle.ldm_types.specs.Feed.{feeds_meet, ShareBit};
 
-/// A set of feedtypes, one bit each: bit 0 is PPS, bit 1 is DDS, and so on.
-#[derive(Clone, Copy, Debug, PartialEq, Eq, PartialOrd, Ord, Hash)]
+/// A set of feedtypes, one bit each: bit 0 is PPS, bit 1 is DDS, and so on. The default is the empty set.
+#[derive(Clone, Copy, Debug, Default, PartialEq, Eq, PartialOrd, Ord, Hash)]
 pub struct Feed(pub u32);
 
 impl Feed {

@@ -6,6 +6,7 @@ use crate::feed::Feed;
 use crate::micros::Micros;
 use crate::signature::Signature;
 use arrayvec::ArrayVec;
+use std::alloc::AllocError;
 use std::marker::Model;
 use thiserror::Error;
 
@@ -18,15 +19,19 @@ pub enum InfoFault {
     /// The ident has more than 255 bytes.
     #[error("the ident has more than 255 bytes")]
     IdentLong,
-    /// A zero byte, the first one in the origin followed by the ident.
+    /// A zero byte stands in the origin or the ident.
     #[error("a zero byte at {at}")]
-    NulByte { at: usize },
+    NulByte {
+        /// The place of the first one, counted from 0 in the origin followed by the ident.
+        at: usize,
+    },
 }
 
 /// The metadata of a product.
 ///
-/// The origin has at most 64 bytes and the ident at most 255. Neither has a zero byte.
-#[derive(Drop)]
+/// The origin has at most 64 bytes and the ident at most 255. Neither has a zero byte. The other fields have
+/// any value of their types.
+#[derive(Debug, Drop)]
 pub struct Info {
     arrival: Micros,
     signature: Signature,
@@ -50,7 +55,9 @@ impl Model for Info {
 }
 
 impl Info {
-    /// The metadata with these fields, or the first fault of the two texts.
+    /// The metadata with these fields, or the first fault of the two texts, in the order of [`InfoFault`].
+    ///
+    /// `size` is the bytes of the body.
     pub fn new(
         arrival: Micros,
         signature: Signature,
@@ -149,6 +156,16 @@ impl Info {
             ident: copied(&self.ident),
             size: self.size,
         }
+    }
+}
+
+impl Clone for Info {
+    ghost is_clone = { λ info copy. copy ≡ info };
+
+    ghost is_infallible = { λ _. Unit {0} };
+
+    fn clone(&self) -> Result<Info, AllocError> {
+        Ok(self.copy())
     }
 }
 

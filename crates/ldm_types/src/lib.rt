@@ -17,3 +17,6 @@ pub use info::{Info, InfoFault};
 pub use micros::Micros;
 pub use numbers::{Actor, CursorNo};
 pub use signature::Signature;
+
+#[cfg(test)]
+mod tests;
