@@ -53,6 +53,10 @@ impl Book {
 
     /// An empty queue with an arena of so many bytes and so many product slots. It takes all the memory that
     /// the queue will ever use.
+    ///
+    /// In this project's profile the arena is a multiple of 8 from [`Book::LEAST_ARENA`] up to
+    /// [`Book::GREATEST_ARENA`], and the slots are from 1 up to [`Book::MOST_SLOTS`]. A fault of the arena is
+    /// told before one of the slots, and want of memory after both.
     pub fn create(alloc: Global, arena: u64, slots: u32) -> Result<Book, CreateFault>
         ensures stands { IfOk result (λ book. StandsFor book (empty arena slots)) }
         ensures limits { IfOk result (λ _. IsGoodArena arena × IsGoodSlots slots) }
@@ -84,6 +88,8 @@ impl Book {
     /// The cases are tested in this order: larger than the arena, a duplicate of a queued product, no insertion
     /// time left, locked. Else the product is admitted: it goes into the shortest gap that is long enough, and
     /// its insertion time is `now`, or one microsecond after the last insertion time where that is later.
+    ///
+    /// Where a product would have to be evicted first, the answer is [`InsertReply::NotBuilt`] for now.
     pub fn insert(&mut self, actor: Actor, now: Micros, info: &Info, body: &[u8]) -> InsertReply
         requires { length body.now ≡ info.now.size }
         ensures answers { (s : State) → StandsFor self.old s → InsertAnswers result self.old self.new (insert_of s now (record { info = info.now; body = body.now })) }

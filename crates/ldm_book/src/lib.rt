@@ -8,6 +8,8 @@
 mod book;
 mod replies;
 mod row;
+#[cfg(test)]
+mod tests;
 
 pub use book::Book;
 pub use replies::{CreateFault, InsertReply, LookReply};

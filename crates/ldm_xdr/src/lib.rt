@@ -8,6 +8,17 @@
 //! No call takes memory.
 #![tactic(auto)]
 
+mod fault;
+mod laws;
 mod length;
+mod reading;
+mod writing;
 
+pub use fault::XdrFault;
+pub use laws::{no_spelling_begins_another, spelling_has_metadata_len};
 pub use length::info_len;
+pub use reading::read_info;
+pub use writing::write_info;
+
+#[cfg(test)]
+mod tests;

@@ -1,0 +1,4 @@
+pub mod Places
+pub mod Fields
+pub mod Whole
+pub mod Written
