@@ -1,0 +1,8 @@
+//! The free regions of an arena, as a set of pairs of an extent and an offset, and a counter of steps.
+#![tactic(auto)]
+
+mod free_set;
+mod steps;
+
+pub use free_set::FreeSet;
+pub use steps::Steps;
