@@ -1,0 +1,10 @@
+pub mod Numbers
+pub mod Splitting
+pub mod Orders
+pub mod Fronts
+pub mod Acts
+pub mod Played
+pub mod Cuts
+pub mod Runs
+pub mod Pieces
+pub mod Endings

@@ -1,0 +1,17 @@
+pub mod Number
+pub mod Split
+pub mod Word
+pub mod Fields
+pub mod FieldsView
+pub mod FillView
+pub mod Line
+pub mod LineView
+pub mod Lines
+pub mod Answer
+pub mod AnswerView
+pub mod Play
+pub mod Ending
+pub mod Step
+pub mod Status
+pub mod Command
+pub mod Run

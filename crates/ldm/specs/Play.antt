@@ -1,0 +1,67 @@
+-- What playing the lines of a script writes, and where it stops.
+use Rattle.std.specs.Prelude.{ℕ, Bool, false, nat_lt, is_some, List, [], ◌∷◌, ◌++◌, Option, Some, None, if◌then◌else◌}
+use Rattle.ldm_model.specs.declared.event.Reply.{Reply}
+use Rattle.ldm_model.specs.declared.event.Reply.TheVariants as reply
+use Rattle.ldm_model.specs.State.{State}
+use Rattle.ldm_model.specs.Insert.{Outcome}
+use Rattle.ldm_model.specs.Step.{next}
+use Rattle.ldm.specs.declared.script.word.LineWord.{LineWord}
+use Rattle.ldm.specs.declared.script.word.LineWord.TheVariants as word
+use Rattle.ldm.specs.declared.status.Unbuilt.{Unbuilt}
+use Rattle.ldm.specs.declared.status.Unbuilt.TheVariants as unbuilt
+use Rattle.ldm.specs.Line.{Reading, Skipped, Ordered, Refused, read_line}
+use Rattle.ldm.specs.Answer.{answer_line}
+
+pub record Played : Type 0 where
+  -- all that is written
+  pub text : List ℕ
+  pub state : State
+  -- what is not built yet, where the play stops for it
+  pub stop : Option Unbuilt
+
+abbrev pub nothing_played : State → Played
+nothing_played s = record { text = []; state = s; stop = None }
+
+abbrev pub stopped_for : State → Unbuilt → Played
+stopped_for s what = record { text = []; state = s; stop = Some what }
+
+-- whether the queue evicted: that is not built yet
+abbrev pub evicts : Reply → Bool
+evicts (reply.Admitted n time evicted) = nat_lt 0 evicted
+evicts (reply.TooBig need arena) = false
+evicts (reply.Duplicate n) = false
+evicts reply.TimeEnd = false
+evicts (reply.Locked held) = false
+evicts (reply.Queued n time) = false
+evicts reply.Absent = false
+
+-- the reply of the queue is answered by one line
+abbrev pub play_outcome : State → Outcome → Played
+play_outcome s outcome =
+    if evicts outcome.reply
+    then stopped_for s (unbuilt.Line word.Insert)
+    else record { text = answer_line outcome.reply; state = outcome.state; stop = None }
+
+abbrev pub unbuilt_line : Option LineWord → Unbuilt
+unbuilt_line None = unbuilt.AnyLine
+unbuilt_line (Some w) = unbuilt.Line w
+
+abbrev pub play_reading : State → Reading → Played
+play_reading s Skipped = nothing_played s
+play_reading s (Ordered order) = play_outcome s (next s order.actor order.event)
+play_reading s (Refused w) = stopped_for s (unbuilt_line w)
+
+unfoldable pub play_line : State → List ℕ → Played
+play_line s line = play_reading s (read_line line)
+
+-- what was played, and what is played behind it, unless the play stopped
+abbrev pub followed : Played → Played → Played
+followed first behind =
+    if is_some first.stop
+    then first
+    else record { text = first.text ++ behind.text; state = behind.state; stop = behind.stop }
+
+-- lines, one after another
+abbrev pub play : State → List (List ℕ) → Played
+play s [] = nothing_played s
+play s (line ∷ lines) = followed (play_line s line) (play (play_line s line).state lines)

@@ -1,0 +1,113 @@
+//! Answers to script lines.
+ghost use Rattle.std.specs.Prelude.{◌≡◌, ◌+◌, ◌≤◌, ◌++◌, [], MatchOption, None, Some};
+ghost use Rattle.arrayvec.specs.ArrayVec.{array_vec_len};
+ghost use Rattle.ldm.specs.Answer.{blank_number, reply_text, answer_line};
+ghost use Rattle.ldm.specs.AnswerView.{reply_of, insert_answer, look_answer};
+
+use crate::text::{put, put_number};
+use arrayvec::ArrayVec;
+use ldm_book::{InsertReply, LookReply};
+use ldm_types::Micros;
+
+/// What a line is answered. Numbers of products count admitted products from 0.
+#[derive(Clone, Copy, Debug, PartialEq, Eq)]
+pub enum Answer {
+    /// `admitted N TIME EVICTED`
+    Admitted { n: u64, time: Micros, evicted: u64 },
+    /// `toobig NEED ARENA`
+    TooBig { need: u64, arena: u64 },
+    /// `duplicate N`
+    Duplicate { n: u64 },
+    /// `timeend`
+    TimeEnd,
+    /// `locked HELD`
+    Locked { held: u64 },
+    /// `queued N TIME`
+    Queued { n: u64, time: Micros },
+    /// `absent`
+    Absent,
+}
+
+impl Answer {
+    /// What an insertion is answered. `None` where that is not built yet.
+    pub fn to_insert(reply: InsertReply) -> Option<Answer>
+        ensures { result ≡ insert_answer reply }
+    {
+        match reply {
+            InsertReply::Admitted { n, time, evicted } => Some(Answer::Admitted {
+                n,
+                time,
+                evicted,
+            }),
+            InsertReply::TooBig { need, arena } => Some(Answer::TooBig { need, arena }),
+            InsertReply::Duplicate { n } => Some(Answer::Duplicate { n }),
+            InsertReply::TimeEnd => Some(Answer::TimeEnd),
+            InsertReply::Locked { held } => Some(Answer::Locked { held }),
+            InsertReply::NotBuilt => None,
+        }
+    }
+
+    /// What a look is answered.
+    pub fn to_look(reply: LookReply) -> Answer
+        ensures { result ≡ look_answer reply }
+    {
+        match reply {
+            LookReply::Queued { n, time } => Answer::Queued { n, time },
+            LookReply::Absent => Answer::Absent,
+        }
+    }
+
+    /// Writes the answer line, with its newline, over what the buffer had.
+    #[tactic(auto, unfolding(crate::specs::Answer::answer_line))]
+    pub fn write_line(&self, out: &mut ArrayVec<u8, 160>)
+        ensures { out.new.items ≡ answer_line (reply_of self.now) }
+    {
+        out.clear();
+        self.write(out);
+        put(out, b"\n");
+    }
+
+    fn write(&self, out: &mut ArrayVec<u8, 160>)
+        requires { out.old.items ≡ [] }
+        ensures text { out.new.items ≡ reply_text (reply_of self.now) }
+        ensures len { array_vec_len out.new ≤ 150 }
+    {
+        match *self {
+            Answer::Admitted { n, time, evicted } => {
+                put(out, b"admitted");
+                put_blank_number(out, n);
+                put_blank_number(out, time.get());
+                put_blank_number(out, evicted);
+            }
+            Answer::TooBig { need, arena } => {
+                put(out, b"toobig");
+                put_blank_number(out, need);
+                put_blank_number(out, arena);
+            }
+            Answer::Duplicate { n } => {
+                put(out, b"duplicate");
+                put_blank_number(out, n);
+            }
+            Answer::TimeEnd => put(out, b"timeend"),
+            Answer::Locked { held } => {
+                put(out, b"locked");
+                put_blank_number(out, held);
+            }
+            Answer::Queued { n, time } => {
+                put(out, b"queued");
+                put_blank_number(out, n);
+                put_blank_number(out, time.get());
+            }
+            Answer::Absent => put(out, b"absent"),
+        }
+    }
+}
+
+fn put_blank_number(out: &mut ArrayVec<u8, 160>, n: u64)
+    requires { array_vec_len out.old + 41 ≤ 160 }
+    ensures text { out.new.items ≡ out.old.items ++ blank_number n }
+    ensures len { array_vec_len out.new ≤ array_vec_len out.old + 41 }
+{
+    put(out, b" ");
+    put_number(out, n);
+}

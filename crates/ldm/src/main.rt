@@ -1,0 +1,48 @@
+//! `ldm`: a node that relays data products.
+//!
+//! [`run::run_ldm`] does what the words of the program ask for, and its contract says how that ends. Here are only the
+//! real streams, and the words.
+#![tactic(auto)]
+
+mod answer;
+mod command;
+mod pending;
+mod play;
+mod player;
+mod run;
+mod script;
+mod status;
+mod streams;
+mod text;
+
+use crate::run::run_ldm;
+use crate::status::Status;
+use crate::streams::{RealSink, RealSource};
+use ldm_outside::World;
+use std::env;
+use std::io::{self, ErrorKind};
+use std::process::ExitCode;
+
+// The words behind the program's name.
+fn words(rt: &HostRuntime) -> io::Result<Vec<String>> {
+    let mut args = env::args(rt)?;
+    args.next();
+    Ok(args.collect(rt.alloc())?)
+}
+
+fn main(rt: HostRuntime) -> ExitCode {
+    let mut world = World {
+        source: RealSource::new(rt.stdin()),
+        sink: RealSink::new(rt.stdout()),
+        log: RealSink::new(rt.stderr()),
+    };
+    let code = match words(&rt) {
+        Ok(words) => run_ldm(rt.alloc(), &words, &mut world),
+        Err(error) if error.kind() == ErrorKind::OutOfMemory => {
+            Status::NoMemory.report(&mut world.log)
+        }
+        // a word that is not text is no form of a command
+        Err(_) => Status::Usage.report(&mut world.log),
+    };
+    ExitCode::from(code)
+}

@@ -1,0 +1,114 @@
+//! One line of a script, played on a queue.
+ghost use Rattle.std.specs.Prelude.{◌≡◌, ◌≤◌, length};
+ghost use Rattle.ldm_model.specs.State.{State};
+ghost use Rattle.ldm_model.specs.Step.{next};
+ghost use Rattle.ldm_book.specs.Stands.{StandsFor};
+ghost use Rattle.ldm.specs.LineView.{event_of};
+ghost use Rattle.ldm.specs.Play.{play_line};
+ghost use Rattle.ldm.specs.Step.{ActGives};
+
+use crate::answer::Answer;
+use crate::script::fields::MAX_BODY;
+use crate::script::line::read_line;
+use crate::script::order::{Act, Insertion, Line, Order};
+use crate::script::word::LineWord;
+use crate::status::Unbuilt;
+use arrayvec::ArrayVec;
+use ldm_book::Book;
+use ldm_outside::{Sink, SinkFailed, write_all};
+use ldm_types::Actor;
+use std::alloc::{AllocError, Global};
+use std::marker::Model;
+
+/// Why the play of a script stops before its end.
+#[derive(Clone, Copy, Debug, PartialEq, Eq)]
+pub enum Stop {
+    /// A line asks for what is not built yet.
+    NotBuilt(Unbuilt),
+    /// The sink failed.
+    SinkFault,
+}
+
+/// A queue that script lines are played on, with all the memory that this takes.
+#[derive(Drop)]
+pub struct Player {
+    book: Book,
+    // Room for the largest body of a script.
+    body: Vec<u8>,
+}
+
+impl Model for Player {
+    ghost use Rattle.std.specs.Prelude.{◌≡◌};
+    ghost use Rattle.std.specs.Vec.{vec_len};
+    ghost use Rattle.ldm_book.specs.View.{BookView};
+
+    ghost Value = { BookView };
+
+    ghost view = { λ p. p.book };
+
+    ghost invariant = { λ p. vec_len p.body ≡ 1048576 };
+}
+
+impl Player {
+    ghost use Rattle.std.specs.Prelude.{IfOk};
+    ghost use Rattle.ldm_book.specs.Stands.{StandsFor};
+    ghost use Rattle.ldm_book.specs.Answers.{Follows};
+    ghost use Rattle.ldm_model.specs.Step.{next};
+    ghost use Rattle.ldm.specs.AnswerView.{reply_of};
+    ghost use Rattle.ldm.specs.LineView.{event_of};
+    ghost use Rattle.ldm.specs.Step.{LineGives, ActGives};
+
+    /// A player on a queue.
+    pub fn new(alloc: Global, book: Book) -> Result<Player, AllocError>
+        ensures { IfOk result (λ player. player ≡ book) }
+    {
+        let body = vec![in alloc; 0u8; MAX_BODY as usize]?;
+        Ok(Player { book, body })
+    }
+
+    /// Plays a line, without its newline: what it asks for is done, and its answer goes to the sink as one piece.
+    ///
+    /// The clause says how it ends: all done and answered; a line that is not built yet, at which nothing is written;
+    /// or a sink that failed, at which a front of the answer is written.
+    pub fn play_line<K: Sink>(&mut self, line: &[u8], sink: &mut K) -> Result<(), Stop>
+        ensures played { (s : State) → StandsFor self.old s → LineGives result (play_line s line.now) self.new (K.written sink.old) (K.written sink.new) (K.faults sink.old) (K.faults sink.new) }
+        ensures faults_kept { K.faults sink.old ≤ K.faults sink.new }
+    {
+        let order = match read_line(line) {
+            Line::Skipped => return Ok(()),
+            Line::Refused(None) => return Err(Stop::NotBuilt(Unbuilt::AnyLine)),
+            Line::Refused(Some(word)) => return Err(Stop::NotBuilt(Unbuilt::Line(word))),
+            Line::Ordered(order) => order,
+        };
+        let Some(answer) = self.act(&order) else {
+            return Err(Stop::NotBuilt(Unbuilt::Line(LineWord::Insert)));
+        };
+        let mut text = ArrayVec::new();
+        answer.write_line(&mut text);
+        match write_all(sink, text.as_slice()) {
+            Ok(()) => Ok(()),
+            Err(SinkFailed) => Err(Stop::SinkFault),
+        }
+    }
+
+    // Does what a line asks for. `None` where that is not built yet, and nothing is done.
+    fn act(&mut self, order: &Order) -> Option<Answer>
+        ensures { (s : State) → StandsFor self.old s → ActGives result self.old self.new (next s order.now.actor (event_of order.now.act)) }
+    {
+        let actor = order.actor;
+        match &order.act {
+            Act::Insert(asked) => insert(&mut self.book, &mut self.body, actor, asked),
+            Act::Look { signature } => Some(Answer::to_look(self.book.look(actor, signature))),
+        }
+    }
+}
+
+// Inserts a product, whose body is made in the room that is lent.
+fn insert(book: &mut Book, room: &mut [u8], actor: Actor, asked: &Insertion) -> Option<Answer>
+    requires { 1048576 ≤ length room.old }
+    ensures { (s : State) → StandsFor book.old s → ActGives result book.old book.new (next s actor (event_of (Act.Insert asked.entry.now))) }
+{
+    let body = &mut room[..asked.fill.count as usize];
+    body.fill(asked.fill.byte);
+    Answer::to_insert(book.insert(actor, asked.now, &asked.info, body))
+}

@@ -1,0 +1,158 @@
+//! How the program ends: statuses with their log lines.
+ghost use Rattle.std.specs.Prelude.{◌≡◌, ◌≤◌, length};
+
+use crate::script::word::LineWord;
+use crate::text::{put, put_number};
+use arrayvec::ArrayVec;
+use ldm_outside::{Sink, SinkFailed, write_all};
+
+/// A first word of the program that is not built yet.
+#[derive(Clone, Copy, Debug, PartialEq, Eq)]
+pub enum CommandWord {
+    Crowd,
+    Chain,
+    Exercise,
+    Node,
+    Pqact,
+    Pqinsert,
+    Pqcat,
+    Pqmon,
+}
+
+/// What is not built yet.
+#[derive(Clone, Copy, Debug, PartialEq, Eq)]
+pub enum Unbuilt {
+    /// A script line of that word.
+    Line(LineWord),
+    /// A script line without a word.
+    AnyLine,
+    /// A command of the program.
+    Command(CommandWord),
+}
+
+/// How the program ends, its log apart.
+#[derive(Clone, Copy, Debug, PartialEq, Eq)]
+pub enum Status {
+    /// All input was read, and all owed text is written.
+    Done,
+    /// The words are no form of a command.
+    Usage,
+    /// As many bytes of a script were taken as it may have.
+    StreamLimit,
+    /// No queue has an arena of so many bytes.
+    RefusedArena(u64),
+    /// No queue has so many slots.
+    RefusedSlots(u32),
+    /// Something was asked for that is not built yet.
+    NotBuilt(Unbuilt),
+    /// There is no memory.
+    NoMemory,
+    /// The source failed.
+    SourceFault,
+    /// The sink failed.
+    SinkFault,
+}
+
+/// The status where the log line of another status could not be written.
+pub const LOG_FAULT: u8 = 76;
+
+impl CommandWord {
+    ghost use Rattle.ldm.specs.Status.{command_text};
+
+    /// How the word is spelled.
+    pub fn text(self) -> &'static [u8]
+        ensures text { result.now ≡ command_text self }
+        ensures short { length result.now ≤ 10 }
+    {
+        match self {
+            CommandWord::Crowd => b"crowd",
+            CommandWord::Chain => b"chain",
+            CommandWord::Exercise => b"exercise",
+            CommandWord::Node => b"node",
+            CommandWord::Pqact => b"pqact",
+            CommandWord::Pqinsert => b"pqinsert",
+            CommandWord::Pqcat => b"pqcat",
+            CommandWord::Pqmon => b"pqmon",
+        }
+    }
+}
+
+impl Unbuilt {
+    ghost use Rattle.ldm.specs.Status.{unbuilt_text};
+
+    /// The word that names it.
+    pub fn text(self) -> &'static [u8]
+        ensures text { result.now ≡ unbuilt_text self }
+        ensures short { length result.now ≤ 10 }
+    {
+        match self {
+            Unbuilt::Line(word) => word.text(),
+            Unbuilt::AnyLine => b"line",
+            Unbuilt::Command(command) => command.text(),
+        }
+    }
+}
+
+impl Status {
+    ghost use Rattle.ldm.specs.Status.{code_of, log_line, Reports};
+
+    /// The number that the program ends with.
+    pub fn code(&self) -> u8
+        ensures { result ≡ code_of self.now }
+    {
+        match self {
+            Status::Done => 0,
+            Status::Usage => 64,
+            Status::StreamLimit => 66,
+            Status::RefusedArena(_) | Status::RefusedSlots(_) => 67,
+            Status::NotBuilt(_) => 68,
+            Status::NoMemory => 71,
+            Status::SourceFault => 74,
+            Status::SinkFault => 75,
+        }
+    }
+
+    /// Writes the log line, with its newline, over what the buffer had: nothing where all went well.
+    fn write_line(&self, out: &mut ArrayVec<u8, 160>)
+        ensures { out.new.items ≡ log_line self.now }
+    {
+        out.clear();
+        match *self {
+            Status::Done => {}
+            Status::Usage => put(out, b"ldm: usage\n"),
+            Status::StreamLimit => put(out, b"ldm: stream limit\n"),
+            Status::RefusedArena(arena) => {
+                put(out, b"ldm: refused arena ");
+                put_number(out, arena);
+                put(out, b"\n");
+            }
+            Status::RefusedSlots(slots) => {
+                put(out, b"ldm: refused slots ");
+                put_number(out, u64::from(slots));
+                put(out, b"\n");
+            }
+            Status::NotBuilt(what) => {
+                put(out, b"ldm: not built ");
+                put(out, what.text());
+                put(out, b"\n");
+            }
+            Status::NoMemory => put(out, b"ldm: no memory\n"),
+            Status::SourceFault => put(out, b"ldm: source fault\n"),
+            Status::SinkFault => put(out, b"ldm: sink fault\n"),
+        }
+    }
+
+    /// Writes the log line to the log, and answers the number that the program ends with: that of the status, or
+    /// [`LOG_FAULT`] where the log failed.
+    pub fn report<E: Sink>(&self, log: &mut E) -> u8
+        ensures reports { Reports self.now result (E.written log.old) (E.written log.new) (E.faults log.old) (E.faults log.new) }
+        ensures faults_kept { E.faults log.old ≤ E.faults log.new }
+    {
+        let mut line = ArrayVec::new();
+        self.write_line(&mut line);
+        match write_all(log, line.as_slice()) {
+            Ok(()) => self.code(),
+            Err(SinkFailed) => LOG_FAULT,
+        }
+    }
+}
