@@ -2,7 +2,6 @@
 use Rattle.std.proofs.Common.{◌≡◌, ℕ, ◌<◌, ◌≤◌, true, false, List, [], ◌++◌, length, Option, Some, None, refl, sym, ap, ◌∙◌, append_assoc}
 use Rattle.std.specs.Option.{option_map}
 use Rattle.std.proofs.lemmas.Bool.{false≢true}
-use Rattle.ldm_outside.specs.Count.{Rose}
 use Rattle.ldm_outside.specs.Io.{Gives}
 use Rattle.ldm_model.specs.State.{State, empty}
 use Rattle.ldm_book.specs.View.{BookView}
@@ -13,7 +12,7 @@ use Rattle.ldm.specs.declared.player.Stop.TheVariants as stop
 use Rattle.ldm.specs.declared.status.Status.{Status}
 use Rattle.ldm.specs.declared.status.Status.TheVariants as status
 use Rattle.ldm.specs.Lines.{known_lines}
-use Rattle.ldm.specs.Ending.{Streams, GoesOn, StepStops, ScriptEnds, PlaysScript, PlayEnds, script_limit}
+use Rattle.ldm.specs.Ending.{Streams, GoesOn, StepStops, ScriptEnds, PlaysScript, PlayEnds, AtEnd, script_limit}
 use Rattle.ldm.specs.Step.{EndGives, status_of}
 use Rattle.ldm.proofs.Fronts.{Takes-nothing}
 use Rattle.ldm.proofs.Pieces.{Rose-later}
@@ -43,7 +42,7 @@ ScriptEnds-step (stop.NotBuilt what) s script old new later h stops = (false, λ
 ScriptEnds-step stop.SinkFault s script old new later h stops = (false, λ e. absurd (false≢true e), Rose-later old.sink_faults later new.sink_faults h stops.0, stops.1)
 
 -- the end of a script
-pub ScriptEnds-end : (ending : Status) (s : State) (script : List ℕ) (old new : Streams) (later : ℕ) → old.sink_faults ≤ later → length script < script_limit → Rose old.ends new.ends → EndGives ending s script old.written new.written later new.sink_faults → ScriptEnds ending s script old new
+pub ScriptEnds-end : (ending : Status) (s : State) (script : List ℕ) (old new : Streams) (later : ℕ) → old.sink_faults ≤ later → length script < script_limit → AtEnd old new → EndGives ending s script old.written new.written later new.sink_faults → ScriptEnds ending s script old new
 ScriptEnds-end status.Done s script old new later h short rose gives = (short, rose, gives.0, gives.1)
 ScriptEnds-end (status.NotBuilt what) s script old new later h short rose gives = (true, λ e. rose, gives)
 ScriptEnds-end status.SinkFault s script old new later h short rose gives = (true, λ e. rose, Rose-later old.sink_faults later new.sink_faults h gives.0, gives.1)

@@ -8,3 +8,4 @@ pub mod Cuts
 pub mod Runs
 pub mod Pieces
 pub mod Endings
+pub mod Complete

@@ -26,7 +26,7 @@ no_stop : (what : Unbuilt) → Some what ≡ None → ⊥
 no_stop what e = cc
 
 -- where the whole goes on, its first part does
-first_on : (first behind : Played) → (followed first behind).stop ≡ None → (first.stop ≡ None) × (behind.stop ≡ None)
+pub first_on : (first behind : Played) → (followed first behind).stop ≡ None → (first.stop ≡ None) × (behind.stop ≡ None)
 first_on first behind h = by_stop first.stop refl
   where
     by_stop : (o : Option Unbuilt) → first.stop ≡ o → (first.stop ≡ None) × (behind.stop ≡ None)

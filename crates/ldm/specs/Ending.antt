@@ -1,5 +1,5 @@
 -- How a play ends, and what stands then.
-use Rattle.std.specs.Prelude.{◌≡◌, ℕ, ◌^◌, ◌<◌, ◌≤◌, Bool, true, List, ◌++◌, length, Option, Some, None}
+use Rattle.std.specs.Prelude.{◌≡◌, ℕ, ◌^◌, ◌<◌, ◌≤◌, Bool, true, List, [], ◌++◌, length, Option, Some, None, IfSome}
 use Rattle.ldm_outside.specs.Count.{Rose}
 use Rattle.ldm_outside.specs.Io.{Gives, Takes}
 use Rattle.ldm_model.specs.State.{State, empty}
@@ -54,6 +54,10 @@ abbrev pub StepStops : Stop → State → List (List ℕ) → Option (List ℕ) 
 StepStops (stop.NotBuilt what) s lines before after old_faults new_faults = StopsFor what s lines before after
 StepStops stop.SinkFault s lines before after old_faults new_faults = Rose old_faults new_faults × WritesFront before (play s lines).text after
 
+-- the source told its end, and where it tells what it has left, that is nothing
+abbrev pub AtEnd : Streams → Streams → Type 0
+AtEnd old new = Rose old.ends new.ends × IfSome new.left (λ rest. rest ≡ [])
+
 -- the most bytes of a script
 abbrev pub script_limit : ℕ
 script_limit = 2 ^ 40
@@ -62,17 +66,17 @@ script_limit = 2 ^ 40
 abbrev pub ScriptEnds : Status → State → List ℕ → Streams → Streams → Type 0
 -- the script was read to its end and all its lines are answered
 ScriptEnds status.Done s script old new =
-    (length script < script_limit) × Rose old.ends new.ends × ((play s (known_lines true script)).stop ≡ None) × Takes old.written (play s (known_lines true script)).text new.written
+    (length script < script_limit) × AtEnd old new × ((play s (known_lines true script)).stop ≡ None) × Takes old.written (play s (known_lines true script)).text new.written
 -- as many bytes were taken as a script may have
 ScriptEnds status.StreamLimit s script old new = (length script ≡ script_limit) × AnswersWholeLines s script old.written new.written
 -- the source failed
 ScriptEnds status.SourceFault s script old new = Rose old.source_faults new.source_faults × AnswersWholeLines s script old.written new.written
 -- the sink failed, and a front of what is owed was written
 ScriptEnds status.SinkFault s script old new =
-    (ended : Bool) × (ended ≡ true → Rose old.ends new.ends) × Rose old.sink_faults new.sink_faults × WritesFront old.written (play s (known_lines ended script)).text new.written
+    (ended : Bool) × (ended ≡ true → AtEnd old new) × Rose old.sink_faults new.sink_faults × WritesFront old.written (play s (known_lines ended script)).text new.written
 -- something is not built yet
 ScriptEnds (status.NotBuilt what) s script old new =
-    (ended : Bool) × (ended ≡ true → Rose old.ends new.ends) × StopsFor what s (known_lines ended script) old.written new.written
+    (ended : Bool) × (ended ≡ true → AtEnd old new) × StopsFor what s (known_lines ended script) old.written new.written
 ScriptEnds status.NoMemory s script old new = ⊥
 ScriptEnds (status.RefusedArena arena) s script old new = ⊥
 ScriptEnds (status.RefusedSlots slots) s script old new = ⊥

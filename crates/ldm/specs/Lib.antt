@@ -15,3 +15,4 @@ pub mod Step
 pub mod Status
 pub mod Command
 pub mod Run
+pub mod Complete

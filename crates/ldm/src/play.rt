@@ -6,6 +6,7 @@ ghost use Rattle.ldm.specs.Line.{word_of_line};
 ghost use Rattle.ldm.specs.Play.{play_line, unbuilt_line};
 ghost use Rattle.ldm.specs.Ending.{streams, GoesOn, PlaysScript, PlayEnds};
 ghost use Rattle.ldm.specs.Step.{LineGives, PieceGives, EndGives, status_of};
+ghost use Rattle.ldm.specs.Complete.{Completes};
 ghost use Rattle.ldm.specs.Status.{Reports};
 ghost use Rattle.ldm.specs.declared.player.Stop.TheVariants.{NotBuilt};
 ghost use Rattle.ldm.specs.declared.status.Status.{Status};
@@ -178,8 +179,9 @@ fn play_new<S: Source, K: Sink>(
 /// answers each line that asks for something with one line on the sink, before the next line is looked at. Answers
 /// the number that the program ends with, and writes its line to the log.
 ///
-/// All memory is taken before the first read. The clause gives each status its cause, and what was read and written
-/// then: see `PlayEnds` and `Reports`.
+/// All memory is taken before the first read. The clause `ends` gives each status its cause, and what was read and
+/// written then: see `PlayEnds` and `Reports`. The clause `completes` says when a play comes to its end: see
+/// `Unhindered`.
 pub fn play<S: Source, K: Sink, E: Sink>(
     alloc: Global,
     arena: u64,
@@ -192,6 +194,10 @@ pub fn play<S: Source, K: Sink, E: Sink>(
         (streams (S.left source.old) (S.faults source.old) (S.ends source.old) (K.written sink.old) (K.faults sink.old))
         (streams (S.left source.new) (S.faults source.new) (S.ends source.new) (K.written sink.new) (K.faults sink.new))
         × Reports ending result (E.written log.old) (E.written log.new) (E.faults log.old) (E.faults log.new) }
+    ensures completes { Completes arena slots
+        (streams (S.left source.old) (S.faults source.old) (S.ends source.old) (K.written sink.old) (K.faults sink.old))
+        (streams (S.left source.new) (S.faults source.new) (S.ends source.new) (K.written sink.new) (K.faults sink.new))
+        result (E.faults log.old) (E.faults log.new) }
     ensures log_faults_kept { E.faults log.old ≤ E.faults log.new }
 {
     let ending = play_new(alloc, arena, slots, source, sink);

@@ -1,5 +1,6 @@
-use Rattle.std.proofs.Common.{◌∙◌, ℕ, List, [], ◌++◌, take, Option, refl, sym, subst, arith, length-append, length-take}
+use Rattle.std.proofs.Common.{◌≡◌, ◌∙◌, ℕ, List, [], ◌++◌, take, Option, refl, sym, subst, arith, length-append, length-take}
 use Rattle.ldm_outside.specs.Count.{Rose}
+use Rattle.std.specs.Prelude.{IfSome}
 use Rattle.ldm_outside.specs.Io.{Gives}
 use Rattle.ldm.specs.declared.status.Status.{Status}
 use Rattle.ldm.specs.Ending.{Streams, streams, ScriptEnds}
@@ -65,7 +66,7 @@ returns-in-End g c = λ s stands.
       script = so_far.0;
       taken = subst (λ (o : Option (List ℕ)). Gives (g.S.Source.left c.args.source.now) so_far.0 o) (sym given.1) so_far.2;
       limit = omega (arith, so_far.1, c.loop-taken.invariant.limit);
-      ends = ScriptEnds-end c.play_last.result s so_far.0 before after (g.K.Sink.faults c.loop-taken.sink) c.loop-taken.invariant.sink_faults (omega (arith, so_far.1, c.loop-taken-test.true)) (subst (λ (n : ℕ). Rose n (g.S.Source.ends c.read.new.self)) c.loop-taken.invariant.ends given.0) gives;
+      ends = ScriptEnds-end c.play_last.result s so_far.0 before after (g.K.Sink.faults c.loop-taken.sink) c.loop-taken.invariant.sink_faults (omega (arith, so_far.1, c.loop-taken-test.true)) (subst (λ (n : ℕ). Rose n (g.S.Source.ends c.read.new.self)) c.loop-taken.invariant.ends given.0, subst (λ (o : Option (List ℕ)). IfSome o (λ rest. rest ≡ [])) (sym given.1) given.2) gives;
       source_faults = omega (arith, c.loop-taken.invariant.source_faults, c.in-End.ensures.faults_kept);
       sink_faults = omega (arith, c.loop-taken.invariant.sink_faults, c.play_last.ensures.faults_kept);
     }
