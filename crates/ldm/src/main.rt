@@ -13,6 +13,8 @@ mod run;
 mod script;
 mod status;
 mod streams;
+#[cfg(test)]
+mod tests;
 mod text;
 
 use crate::run::run_ldm;
