@@ -4,8 +4,7 @@ ghost use Rattle.arrayvec.specs.ArrayVec.{array_vec_len};
 ghost use Rattle.ldm.specs.Answer.{blank_number, reply_text, answer_line};
 ghost use Rattle.ldm.specs.AnswerView.{reply_of, insert_answer, look_answer};
 
-use crate::text::{put, put_number};
-use arrayvec::ArrayVec;
+use crate::text::{Text, put, put_number};
 use ldm_book::{InsertReply, LookReply};
 use ldm_types::Micros;
 
@@ -59,7 +58,7 @@ impl Answer {
 
     /// Writes the answer line, with its newline, over what the buffer had.
     #[tactic(auto, unfolding(crate::specs::Answer::answer_line))]
-    pub fn write_line(&self, out: &mut ArrayVec<u8, 160>)
+    pub fn write_line(&self, out: &mut Text)
         ensures { out.new.items ≡ answer_line (reply_of self.now) }
     {
         out.clear();
@@ -67,7 +66,7 @@ impl Answer {
         put(out, b"\n");
     }
 
-    fn write(&self, out: &mut ArrayVec<u8, 160>)
+    fn write(&self, out: &mut Text)
         requires { out.old.items ≡ [] }
         ensures text { out.new.items ≡ reply_text (reply_of self.now) }
         ensures len { array_vec_len out.new ≤ 150 }
@@ -103,7 +102,7 @@ impl Answer {
     }
 }
 
-fn put_blank_number(out: &mut ArrayVec<u8, 160>, n: u64)
+fn put_blank_number(out: &mut Text, n: u64)
     requires { array_vec_len out.old + 41 ≤ 160 }
     ensures text { out.new.items ≡ out.old.items ++ blank_number n }
     ensures len { array_vec_len out.new ≤ array_vec_len out.old + 41 }

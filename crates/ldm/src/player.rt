@@ -1,11 +1,11 @@
 //! One line of a script, played on a queue.
-ghost use Rattle.std.specs.Prelude.{◌≡◌, ◌≤◌, length};
+ghost use Rattle.std.specs.Prelude.{◌≡◌, ◌≤◌, length, IfOk};
 ghost use Rattle.ldm_model.specs.State.{State};
 ghost use Rattle.ldm_model.specs.Step.{next};
 ghost use Rattle.ldm_book.specs.Stands.{StandsFor};
 ghost use Rattle.ldm.specs.LineView.{event_of};
 ghost use Rattle.ldm.specs.Play.{play_line};
-ghost use Rattle.ldm.specs.Step.{ActGives};
+ghost use Rattle.ldm.specs.Step.{ActGives, LineGives};
 
 use crate::answer::Answer;
 use crate::script::fields::MAX_BODY;
@@ -13,7 +13,7 @@ use crate::script::line::read_line;
 use crate::script::order::{Act, Insertion, Line, Order};
 use crate::script::word::LineWord;
 use crate::status::Unbuilt;
-use arrayvec::ArrayVec;
+use crate::text::Text;
 use ldm_book::Book;
 use ldm_outside::{Sink, SinkFailed, write_all};
 use ldm_types::Actor;
@@ -50,14 +50,6 @@ impl Model for Player {
 }
 
 impl Player {
-    ghost use Rattle.std.specs.Prelude.{IfOk};
-    ghost use Rattle.ldm_book.specs.Stands.{StandsFor};
-    ghost use Rattle.ldm_book.specs.Answers.{Follows};
-    ghost use Rattle.ldm_model.specs.Step.{next};
-    ghost use Rattle.ldm.specs.AnswerView.{reply_of};
-    ghost use Rattle.ldm.specs.LineView.{event_of};
-    ghost use Rattle.ldm.specs.Step.{LineGives, ActGives};
-
     /// A player on a queue.
     pub fn new(alloc: Global, book: Book) -> Result<Player, AllocError>
         ensures { IfOk result (λ player. player ≡ book) }
@@ -83,7 +75,7 @@ impl Player {
         let Some(answer) = self.act(&order) else {
             return Err(Stop::NotBuilt(Unbuilt::Line(LineWord::Insert)));
         };
-        let mut text = ArrayVec::new();
+        let mut text = Text::new();
         answer.write_line(&mut text);
         match write_all(sink, text.as_slice()) {
             Ok(()) => Ok(()),

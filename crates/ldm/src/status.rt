@@ -2,8 +2,7 @@
 ghost use Rattle.std.specs.Prelude.{◌≡◌, ◌≤◌, length};
 
 use crate::script::word::LineWord;
-use crate::text::{put, put_number};
-use arrayvec::ArrayVec;
+use crate::text::{Text, put, put_number};
 use ldm_outside::{Sink, SinkFailed, write_all};
 
 /// A first word of the program that is not built yet.
@@ -113,7 +112,7 @@ impl Status {
     }
 
     /// Writes the log line, with its newline, over what the buffer had: nothing where all went well.
-    fn write_line(&self, out: &mut ArrayVec<u8, 160>)
+    fn write_line(&self, out: &mut Text)
         ensures { out.new.items ≡ log_line self.now }
     {
         out.clear();
@@ -148,7 +147,7 @@ impl Status {
         ensures reports { Reports self.now result (E.written log.old) (E.written log.new) (E.faults log.old) (E.faults log.new) }
         ensures faults_kept { E.faults log.old ≤ E.faults log.new }
     {
-        let mut line = ArrayVec::new();
+        let mut line = Text::new();
         self.write_line(&mut line);
         match write_all(log, line.as_slice()) {
             Ok(()) => self.code(),

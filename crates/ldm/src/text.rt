@@ -5,14 +5,11 @@ ghost use Rattle.arrayvec.specs.ArrayVec.{array_vec_len};
 use arrayvec::ArrayVec;
 use itoa::Buffer;
 
-/// The most bytes of a line of output.
-pub const MAX_TEXT: usize = 160;
-
-/// A line of output.
-pub type Text = ArrayVec<u8, MAX_TEXT>;
+/// A line of output, with room for the longest.
+pub type Text = ArrayVec<u8, 160>;
 
 /// Appends bytes.
-pub fn put(out: &mut ArrayVec<u8, 160>, bytes: &[u8])
+pub fn put(out: &mut Text, bytes: &[u8])
     requires { array_vec_len out.old + length bytes.now ≤ 160 }
     ensures text { out.new.items ≡ out.old.items ++ bytes.now }
     ensures len { array_vec_len out.new ≡ array_vec_len out.old + length bytes.now }
@@ -23,7 +20,7 @@ pub fn put(out: &mut ArrayVec<u8, 160>, bytes: &[u8])
 }
 
 /// Appends a number in decimal digits.
-pub fn put_number(out: &mut ArrayVec<u8, 160>, n: u64)
+pub fn put_number(out: &mut Text, n: u64)
     requires { array_vec_len out.old + 40 ≤ 160 }
     ensures text { out.new.items ≡ out.old.items ++ decimal n }
     ensures len { array_vec_len out.new ≤ array_vec_len out.old + 40 }
