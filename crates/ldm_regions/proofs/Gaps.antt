@@ -6,13 +6,6 @@ use Rattle.ldm_regions.specs.Walk.{Lie, region_of, space_before, spaces}
 use Rattle.ldm_regions.specs.declared.walk.Used.{Used}
 use Rattle.ldm_regions.proofs.Best.{Lie-within}
 
--- only what is covered matters
-pub free_runs-same : (one other : List Region) → ((position : ℕ) → is_covered one position ≡ is_covered other position) → (position count : ℕ) → free_runs one position count ≡ free_runs other position count
-free_runs-same one other same position zero = refl
-free_runs-same one other same position (suc count) =
-    ap (λ b. cond b (free_runs one (position + 1) count) (with_free position (free_runs one (position + 1) count))) (same position)
-    ∙ ap (λ gaps. cond (is_covered other position) gaps (with_free position gaps)) (free_runs-same one other same (position + 1) count)
-
 -- the first gap, if there is one, begins at a position or behind it
 abbrev BeginsFrom : ℕ → List Region → Type 0
 BeginsFrom position [] = Unit {0}

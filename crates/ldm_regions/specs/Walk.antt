@@ -3,7 +3,7 @@ use Rattle.std.specs.Prelude.{◌≡◌, ℕ, suc, ◌+◌, ◌-◌, ◌<◌, �
 use Rattle.std.specs.FinMap.{find}
 use Rattle.std.specs.List.{AllByRecursion}
 use Rattle.std.specs.Ordering.{nat_cmp}
-use Rattle.ldm_types.specs.Arena.{Region, shorter}
+use Rattle.ldm_types.specs.Arena.{Region, shorter, longest}
 use Rattle.ldm_regions.specs.declared.walk.Used.{Used}
 use Rattle.ldm_regions.specs.declared.walk.Space.{Space}
 
@@ -56,3 +56,8 @@ pub record IsLaidOut (used : List Used) (arena slots capacity : ℕ) : Type 0 wh
   pub owners : HaveOwners used
   pub below : AllByRecursion (λ u. u.owner < slots) used
   pub held : slots ≤ capacity
+
+-- what is always true of an arena: its regions are laid out so, and the extent of the longest space is known
+pub record IsKept (used : List Used) (arena slots capacity most : ℕ) : Type 0 where
+  pub laid : IsLaidOut used arena slots capacity
+  pub measured : most ≡ longest (spaces 0 used arena)

@@ -19,13 +19,15 @@ pub struct Regions {
     arena: u64,
     slots: u32,
     used: Vec<Used>,
+    // The extent of the longest free region, 0 where there is none.
+    longest: u64,
 }
 
 impl Model for Regions {
     ghost use Rattle.std.specs.Prelude.{map as each, vec_capacity};
     ghost use Rattle.std.specs.FinMap as map;
     ghost use Rattle.ldm_regions.specs.Layout.{Layout, layout_code};
-    ghost use Rattle.ldm_regions.specs.Walk.{entry_of, IsLaidOut};
+    ghost use Rattle.ldm_regions.specs.Walk.{entry_of, IsKept};
 
     ghost Value = { Layout };
 
@@ -33,7 +35,7 @@ impl Model for Regions {
 
     ghost view = { λ r. record { arena = r.arena; slots = r.slots; owned = map.from_entries (each entry_of r.used.items) } };
 
-    ghost invariant = { λ r. IsLaidOut r.used.items r.arena r.slots (vec_capacity r.used) };
+    ghost invariant = { λ r. IsKept r.used.items r.arena r.slots (vec_capacity r.used) r.longest };
 }
 
 impl Regions {
@@ -49,6 +51,7 @@ impl Regions {
             arena,
             slots,
             used: Vec::with_capacity(alloc, slots as usize)?,
+            longest: arena,
         })
     }
 
@@ -72,6 +75,7 @@ impl Regions {
         let Ok(()) = self.used.insert(place, region) else {
             unreachable!()
         };
+        self.longest = walk::longest_space(&self.used, self.arena);
         Some(space.start)
     }
 
@@ -85,6 +89,7 @@ impl Regions {
             unreachable!()
         };
         let _region = self.used.remove(place);
+        self.longest = walk::longest_space(&self.used, self.arena);
     }
 
     /// The extent of the longest free region, 0 where there is none.
@@ -92,7 +97,7 @@ impl Regions {
         ensures longest { result ≡ longest (gaps (occupied self.now.owned) self.now.arena) }
         ensures tiles { Tiles self.now }
     {
-        walk::longest_space(&self.used, self.arena)
+        self.longest
     }
 
     /// The extent of the longest free region that there would be if every owner that is not marked gave its

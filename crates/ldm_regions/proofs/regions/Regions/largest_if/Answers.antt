@@ -13,10 +13,10 @@ returns-clause-longest c =
     let kept = c.args.kept.now in
     c.longest_space_if.ensures
     ∙ ap (λ (used : List Used). longest (spaces 0 (filter (λ u. slice_index_or kept u.owner false) used) inside.arena)) c.deref.ensures.value
-    ∙ ap longest (sym (gaps_of_marked kept inside.used.items inside.arena inside.slots (vec_capacity inside.used) c.self.invariant))
+    ∙ ap longest (sym (gaps_of_marked kept inside.used.items inside.arena inside.slots (vec_capacity inside.used) c.self.invariant.laid))
     ∙ ap (λ (layout : Layout). longest (gaps (occupied (marked_only kept layout.owned)) layout.arena)) c.self.view_is
 
 pub returns-clause-tiles : goal.returns-clause-tiles
 returns-clause-tiles c =
     let inside = c.self.inside in
-    subst Tiles c.self.view_is (tiles inside.used.items inside.arena inside.slots (vec_capacity inside.used) c.self.invariant)
+    subst Tiles c.self.view_is (tiles inside.used.items inside.arena inside.slots (vec_capacity inside.used) c.self.invariant.laid)
