@@ -17,10 +17,7 @@ use Rattle.ldm.specs.Complete.{Unhindered}
 use Rattle.ldm.proofs.Cuts.{both, joined, cut-append}
 use Rattle.ldm.proofs.Orders.{read_line-long}
 use Rattle.ldm.proofs.Played.{play_line-reading}
-use Rattle.ldm.proofs.Runs.{first_on, followed-on, play-append}
-
-some≢none : (what : Unbuilt) → Some what ≡ None → ⊥
-some≢none what e = cc
+use Rattle.ldm.proofs.Runs.{no_stop, first_on, followed-on, play-append}
 
 -- where a play does not stop, it does not stop at its first lines
 before_on : (lines : List (List ℕ)) (s : State) (more : List (List ℕ)) → (play s (lines ++ more)).stop ≡ None → (play s lines).stop ≡ None
@@ -40,7 +37,7 @@ line_on lines s line more h =
 
 -- the play stops at a line that is too long
 long_stops : (s : State) (line : List ℕ) → longest_line < length line → (play_line s line).stop ≡ None → ⊥
-long_stops s line long on = some≢none _ (sym (ap (λ (p : Played). p.stop) (play_line-reading s line (Refused (word_of_line line)) (read_line-long line long))) ∙ on)
+long_stops s line long on = no_stop _ (sym (ap (λ (p : Played). p.stop) (play_line-reading s line (Refused (word_of_line line)) (read_line-long line long))) ∙ on)
 
 -- a line that is not empty counts, though no newline ends it
 last_line-some : (text : List ℕ) → 0 < length text → last_line text ≡ text ∷ []
@@ -112,10 +109,10 @@ module _ (arena slots : ℕ) (old new : Streams) (free : Unhindered arena slots 
       let p = part taken gives in
       let rest : p.0 ≡ [] = subst (λ (o : Option (List ℕ)). IfSome o (λ left. left ≡ [])) p.1 (at_end refl).1 in
       let whole : free.script ≡ taken = p.2 ∙ ap (λ (t : List ℕ). taken ++ t) rest ∙ append-nil taken in
-      some≢none what (sym stops ∙ sym (ap (λ (t : List ℕ). (play (empty arena slots) (lines_of t)).stop) whole) ∙ free.built)
+      no_stop what (sym stops ∙ sym (ap (λ (t : List ℕ). (play (empty arena slots) (lines_of t)).stop) whole) ∙ free.built)
   built what false taken gives at_end stops =
       let p = part taken gives in
-      some≢none what (sym stops ∙ known_on (empty arena slots) taken p.0 (sym (ap (λ (t : List ℕ). (play (empty arena slots) (lines_of t)).stop) p.2) ∙ free.built))
+      no_stop what (sym stops ∙ known_on (empty arena slots) taken p.0 (sym (ap (λ (t : List ℕ). (play (empty arena slots) (lines_of t)).stop) p.2) ∙ free.built))
 
   pub comes_to_end : (ending : Status) → PlayEnds ending arena slots old new → (ending ≡ status.Done) ⊎ (ending ≡ status.NoMemory)
   comes_to_end status.Done ends = inl refl

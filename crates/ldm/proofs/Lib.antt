@@ -2,7 +2,6 @@ pub mod Numbers
 pub mod Splitting
 pub mod Orders
 pub mod Fronts
-pub mod Acts
 pub mod Played
 pub mod Cuts
 pub mod Runs

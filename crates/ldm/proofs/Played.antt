@@ -1,5 +1,5 @@
 -- What a line plays, by what it was read as.
-use Rattle.std.proofs.Common.{◌≡◌, ℕ, Bool, true, false, cond, List, Option, Some, None, refl, sym, ap, subst, ◌∙◌}
+use Rattle.std.proofs.Common.{◌≡◌, ℕ, List, Option, None, refl, sym, ap, subst, ◌∙◌}
 use Rattle.ldm_outside.specs.Io.{Takes}
 use Rattle.ldm_model.specs.State.{State}
 use Rattle.ldm_model.specs.Step.{next}
@@ -7,11 +7,9 @@ use Rattle.ldm_model.specs.declared.event.Reply.{Reply}
 use Rattle.ldm_book.specs.View.{BookView}
 use Rattle.ldm_book.specs.Stands.{StandsFor}
 use Rattle.ldm_book.specs.Answers.{Follows}
-use Rattle.ldm.specs.declared.script.word.LineWord.TheVariants as word
-use Rattle.ldm.specs.declared.status.Unbuilt.TheVariants as unbuilt
 use Rattle.ldm.specs.Line.{Order, Reading, Skipped, Ordered, read_line}
 use Rattle.ldm.specs.Answer.{answer_line}
-use Rattle.ldm.specs.Play.{Played, evicts, stopped_for, play_reading, play_line}
+use Rattle.ldm.specs.Play.{Played, play_reading, play_line}
 use Rattle.ldm.specs.Ending.{WritesFront}
 use Rattle.ldm.proofs.Fronts.{Takes-nothing}
 
@@ -24,26 +22,15 @@ pub skipped : (s : State) (line : List ℕ) (book : BookView) (written : Option 
 skipped s line book written is stands =
     subst (λ (p : Played). (p.stop ≡ None) × StandsFor book p.state × Takes written p.text written) (sym (play_line-reading s line Skipped is)) (refl, stands, Takes-nothing written)
 
--- an event for which the queue would have to evict
-pub evicting : (s : State) (line : List ℕ) (order : Order) → read_line line ≡ Ordered order → evicts (next s order.actor order.event).reply ≡ true → (play_line s line).stop ≡ Some (unbuilt.Line word.Insert)
-evicting s line order is evicted =
-    let outcome = next s order.actor order.event in
-    ap (λ (p : Played). p.stop) (play_line-reading s line (Ordered order) is ∙ ap (λ (b : Bool). cond b (stopped_for s (unbuilt.Line word.Insert)) (record { text = answer_line outcome.reply; state = outcome.state; stop = None })) evicted)
-
 -- an event that the queue answers
-pub answered : (s : State) (line : List ℕ) (order : Order) → read_line line ≡ Ordered order → evicts (next s order.actor order.event).reply ≡ false → play_line s line ≡ record { text = answer_line (next s order.actor order.event).reply; state = (next s order.actor order.event).state; stop = None }
-answered s line order is calm =
-    let outcome = next s order.actor order.event in
-    play_line-reading s line (Ordered order) is ∙ ap (λ (b : Bool). cond b (stopped_for s (unbuilt.Line word.Insert)) (record { text = answer_line outcome.reply; state = outcome.state; stop = None })) calm
-
-module _ (s : State) (line : List ℕ) (order : Order) (is : read_line line ≡ Ordered order) (book : BookView) (reply : Reply) (follows : Follows reply book (next s order.actor order.event)) (calm : evicts (next s order.actor order.event).reply ≡ false) (piece : List ℕ) (text : piece ≡ answer_line reply) (before after : Option (List ℕ)) where
+module _ (s : State) (line : List ℕ) (order : Order) (is : read_line line ≡ Ordered order) (book : BookView) (reply : Reply) (follows : Follows reply book (next s order.actor order.event)) (piece : List ℕ) (text : piece ≡ answer_line reply) (before after : Option (List ℕ)) where
   piece-is : piece ≡ answer_line (next s order.actor order.event).reply
   piece-is = text ∙ ap answer_line follows.reply
 
   pub answered_whole : Takes before piece after → ((play_line s line).stop ≡ None) × StandsFor book (play_line s line).state × Takes before (play_line s line).text after
   answered_whole taken =
-      subst (λ (p : Played). (p.stop ≡ None) × StandsFor book p.state × Takes before p.text after) (sym (answered s line order is calm)) (refl, follows.state, subst (λ (t : List ℕ). Takes before t after) piece-is taken)
+      subst (λ (p : Played). (p.stop ≡ None) × StandsFor book p.state × Takes before p.text after) (sym (play_line-reading s line (Ordered order) is)) (refl, follows.state, subst (λ (t : List ℕ). Takes before t after) piece-is taken)
 
   pub answered_front : WritesFront before piece after → ((play_line s line).stop ≡ None) × WritesFront before (play_line s line).text after
   answered_front front =
-      subst (λ (p : Played). (p.stop ≡ None) × WritesFront before p.text after) (sym (answered s line order is calm)) (refl, subst (λ (t : List ℕ). WritesFront before t after) piece-is front)
+      subst (λ (p : Played). (p.stop ≡ None) × WritesFront before p.text after) (sym (play_line-reading s line (Ordered order) is)) (refl, subst (λ (t : List ℕ). WritesFront before t after) piece-is front)

@@ -1,16 +1,11 @@
 -- Lines played one after another.
-use Rattle.std.proofs.Common.{◌≡◌, ℕ, Bool, true, false, cond, List, [], ◌∷◌, ◌++◌, Option, Some, None, refl, sym, ap, ◌∙◌, append_assoc}
+use Rattle.std.proofs.Common.{◌≡◌, ℕ, cond, List, [], ◌∷◌, ◌++◌, Option, Some, None, refl, sym, ap, ◌∙◌, append_assoc}
 use Rattle.std.specs.Prelude.{is_some}
 use Rattle.std.proofs.lemmas.List.{append-nil}
 use Rattle.ldm_model.specs.State.{State}
-use Rattle.ldm_model.specs.Insert.{Outcome}
-use Rattle.ldm_model.specs.Step.{next}
 use Rattle.ldm.specs.declared.status.Unbuilt.{Unbuilt}
-use Rattle.ldm.specs.declared.status.Unbuilt.TheVariants as unbuilt
-use Rattle.ldm.specs.declared.script.word.LineWord.TheVariants as word
 use Rattle.ldm.specs.Line.{Reading, Skipped, Ordered, Refused, read_line}
-use Rattle.ldm.specs.Answer.{answer_line}
-use Rattle.ldm.specs.Play.{Played, nothing_played, stopped_for, evicts, play_reading, play_line, followed, play}
+use Rattle.ldm.specs.Play.{Played, nothing_played, play_reading, play_line, followed, play}
 
 -- what was played, and what is played behind it, where the play goes on
 abbrev pub onward : Played → Played → Played
@@ -22,7 +17,8 @@ followed-on first behind h = ap (λ (o : Option Unbuilt). cond (is_some o) first
 pub followed-stopped : (first behind : Played) (what : Unbuilt) → first.stop ≡ Some what → followed first behind ≡ first
 followed-stopped first behind what h = ap (λ (o : Option Unbuilt). cond (is_some o) first (onward first behind)) h
 
-no_stop : (what : Unbuilt) → Some what ≡ None → ⊥
+-- where the play stopped, it does not go on
+pub no_stop : (what : Unbuilt) → Some what ≡ None → ⊥
 no_stop what e = cc
 
 -- where the whole goes on, its first part does
@@ -72,11 +68,7 @@ pub stopped_text : (s : State) (line : List ℕ) (what : Unbuilt) → (play_line
 unfolding play_line
 stopped_text s line what h = by_reading (read_line line) h
   where
-    by_test : (s : State) (outcome : Outcome) (test : Bool) → (cond test (stopped_for s (unbuilt.Line word.Insert)) (record { text = answer_line outcome.reply; state = outcome.state; stop = None })).stop ≡ Some what → (cond test (stopped_for s (unbuilt.Line word.Insert)) (record { text = answer_line outcome.reply; state = outcome.state; stop = None })).text ≡ []
-    by_test s outcome true h = refl
-    by_test s outcome false h = absurd cc
-
     by_reading : (r : Reading) → (play_reading s r).stop ≡ Some what → (play_reading s r).text ≡ []
     by_reading Skipped h = absurd cc
-    by_reading (Ordered order) h = by_test s (next s order.actor order.event) (evicts (next s order.actor order.event).reply) h
+    by_reading (Ordered order) h = absurd cc
     by_reading (Refused w) h = refl

@@ -15,6 +15,9 @@ reply_text reply.TimeEnd = codes "timeend"
 reply_text (reply.Locked held) = codes "locked" ++ blank_number held
 reply_text (reply.Queued n time) = codes "queued" ++ blank_number n ++ blank_number time
 reply_text reply.Absent = codes "absent"
+reply_text (reply.Expired n) = codes "expired" ++ blank_number n
+reply_text reply.Nothing = codes "nothing"
+reply_text (reply.Stat admitted queued held used largest_free) = codes "stat" ++ blank_number admitted ++ blank_number queued ++ blank_number held ++ blank_number used ++ blank_number largest_free
 
 -- the answer line, with its newline
 unfoldable pub answer_line : Reply → List ℕ

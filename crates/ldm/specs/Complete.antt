@@ -9,8 +9,8 @@ use Rattle.ldm.specs.Lines.{lines_of}
 use Rattle.ldm.specs.Play.{play}
 use Rattle.ldm.specs.Ending.{Streams, script_limit}
 
--- Nothing hinders a play: the queue can be made; the source tells a script of fewer bytes than it may have, at no line
--- of which something is not built yet; and neither the source nor the sink failed.
+-- Nothing hinders a play: the queue can be made; the source tells a script of fewer bytes than are too many, at no
+-- line of which something is not built yet; and neither the source nor the sink failed.
 pub record Unhindered (arena slots : ℕ) (old new : Streams) : Type 0 where
   pub good_arena : IsGoodArena arena
   pub good_slots : IsGoodSlots slots

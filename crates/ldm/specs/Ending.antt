@@ -58,7 +58,7 @@ StepStops stop.SinkFault s lines before after old_faults new_faults = Rose old_f
 abbrev pub AtEnd : Streams → Streams → Type 0
 AtEnd old new = Rose old.ends new.ends × IfSome new.left (λ rest. rest ≡ [])
 
--- the most bytes of a script
+-- how many bytes of a script are too many: a play that took so many ends
 abbrev pub script_limit : ℕ
 script_limit = 2 ^ 40
 
@@ -67,7 +67,7 @@ abbrev pub ScriptEnds : Status → State → List ℕ → Streams → Streams �
 -- the script was read to its end and all its lines are answered
 ScriptEnds status.Done s script old new =
     (length script < script_limit) × AtEnd old new × ((play s (known_lines true script)).stop ≡ None) × Takes old.written (play s (known_lines true script)).text new.written
--- as many bytes were taken as a script may have
+-- as many bytes were taken as are too many
 ScriptEnds status.StreamLimit s script old new = (length script ≡ script_limit) × AnswersWholeLines s script old.written new.written
 -- the source failed
 ScriptEnds status.SourceFault s script old new = Rose old.source_faults new.source_faults × AnswersWholeLines s script old.written new.written
@@ -82,7 +82,7 @@ ScriptEnds (status.RefusedArena arena) s script old new = ⊥
 ScriptEnds (status.RefusedSlots slots) s script old new = ⊥
 ScriptEnds status.Usage s script old new = ⊥
 
--- a script was taken from the source, no more than a script may have, and its play ended so
+-- a script was taken from the source, at most as many bytes as are too many, and its play ended so
 pub record PlaysScript (ending : Status) (s : State) (old new : Streams) : Type 0 where
   pub script : List ℕ
   pub taken : Gives old.left script new.left

@@ -52,6 +52,12 @@ look_at behind = do
   end ← nothing_behind signature.1
   Some (event.Look (record { 0 = signature.0 }))
 
+-- nothing: the word stands alone
+abbrev pub alone_at : Event → List (List ℕ) → Option Event
+alone_at alone behind = do
+  end ← nothing_behind behind
+  Some alone
+
 abbrev pub event_at : LineWord → List (List ℕ) → Option Event
 event_at word.Insert behind = insert_at behind
 event_at word.Look behind = look_at behind
@@ -60,9 +66,9 @@ event_at word.Step behind = None
 event_at word.Read behind = None
 event_at word.Release behind = None
 event_at word.Close behind = None
-event_at word.Expire behind = None
+event_at word.Expire behind = alone_at event.Expire behind
 event_at word.Tally behind = None
-event_at word.Stat behind = None
+event_at word.Stat behind = alone_at event.Stat behind
 
 -- `ACTOR WORD ..`
 unfoldable pub order_at : List (List ℕ) → Option Order

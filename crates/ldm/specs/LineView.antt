@@ -13,6 +13,8 @@ use Rattle.ldm.specs.Line.{Order, Reading, Skipped, Ordered, Refused}
 abbrev pub event_of : Act → Event
 event_of (act.Insert asked) = event.Insert asked.now asked.info (body_bytes (repeated asked.fill))
 event_of (act.Look signature) = event.Look signature
+event_of act.Expire = event.Expire
+event_of act.Stat = event.Stat
 
 abbrev pub order_of : Asked → Order
 order_of order = record { actor = order.actor; event = event_of order.act }

@@ -1,12 +1,9 @@
 -- What playing the lines of a script writes, and where it stops.
-use Rattle.std.specs.Prelude.{ℕ, Bool, false, nat_lt, is_some, List, [], ◌∷◌, ◌++◌, Option, Some, None, if◌then◌else◌}
-use Rattle.ldm_model.specs.declared.event.Reply.{Reply}
-use Rattle.ldm_model.specs.declared.event.Reply.TheVariants as reply
+use Rattle.std.specs.Prelude.{ℕ, is_some, List, [], ◌∷◌, ◌++◌, Option, Some, None, if◌then◌else◌}
 use Rattle.ldm_model.specs.State.{State}
 use Rattle.ldm_model.specs.Insert.{Outcome}
 use Rattle.ldm_model.specs.Step.{next}
 use Rattle.ldm.specs.declared.script.word.LineWord.{LineWord}
-use Rattle.ldm.specs.declared.script.word.LineWord.TheVariants as word
 use Rattle.ldm.specs.declared.status.Unbuilt.{Unbuilt}
 use Rattle.ldm.specs.declared.status.Unbuilt.TheVariants as unbuilt
 use Rattle.ldm.specs.Line.{Reading, Skipped, Ordered, Refused, read_line}
@@ -25,22 +22,9 @@ nothing_played s = record { text = []; state = s; stop = None }
 abbrev pub stopped_for : State → Unbuilt → Played
 stopped_for s what = record { text = []; state = s; stop = Some what }
 
--- whether the queue evicted: that is not built yet
-abbrev pub evicts : Reply → Bool
-evicts (reply.Admitted n time evicted) = nat_lt 0 evicted
-evicts (reply.TooBig need arena) = false
-evicts (reply.Duplicate n) = false
-evicts reply.TimeEnd = false
-evicts (reply.Locked held) = false
-evicts (reply.Queued n time) = false
-evicts reply.Absent = false
-
 -- the reply of the queue is answered by one line
-abbrev pub play_outcome : State → Outcome → Played
-play_outcome s outcome =
-    if evicts outcome.reply
-    then stopped_for s (unbuilt.Line word.Insert)
-    else record { text = answer_line outcome.reply; state = outcome.state; stop = None }
+abbrev pub play_outcome : Outcome → Played
+play_outcome outcome = record { text = answer_line outcome.reply; state = outcome.state; stop = None }
 
 abbrev pub unbuilt_line : Option LineWord → Unbuilt
 unbuilt_line None = unbuilt.AnyLine
@@ -48,7 +32,7 @@ unbuilt_line (Some w) = unbuilt.Line w
 
 abbrev pub play_reading : State → Reading → Played
 play_reading s Skipped = nothing_played s
-play_reading s (Ordered order) = play_outcome s (next s order.actor order.event)
+play_reading s (Ordered order) = play_outcome (next s order.actor order.event)
 play_reading s (Refused w) = stopped_for s (unbuilt_line w)
 
 unfoldable pub play_line : State → List ℕ → Played

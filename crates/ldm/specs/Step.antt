@@ -12,15 +12,14 @@ use Rattle.ldm.specs.declared.player.Stop.TheVariants as stop
 use Rattle.ldm.specs.declared.status.Status.{Status}
 use Rattle.ldm.specs.declared.status.Status.TheVariants as status
 use Rattle.ldm.specs.AnswerView.{reply_of}
-use Rattle.ldm.specs.Play.{Played, evicts, play}
+use Rattle.ldm.specs.Play.{Played, play}
 use Rattle.ldm_model.specs.State.{State}
 use Rattle.ldm.specs.Lines.{known_lines}
 use Rattle.ldm.specs.Ending.{WritesFront, GoesOn, StopsFor, StepStops}
 
--- an act is answered as the queue answers it, unless the queue would have to evict
-abbrev pub ActGives : Option Answer → BookView → BookView → Outcome → Type 0
-ActGives None old new outcome = (evicts outcome.reply ≡ true) × (new ≡ old)
-ActGives (Some answer) old new outcome = Follows (reply_of answer) new outcome × (evicts outcome.reply ≡ false)
+-- an act is answered as the queue answers it
+abbrev pub ActGives : Answer → BookView → Outcome → Type 0
+ActGives answer new outcome = Follows (reply_of answer) new outcome
 
 -- a step of a play stopped
 abbrev pub LineStops : Stop → Played → Option (List ℕ) → Option (List ℕ) → ℕ → ℕ → Type 0

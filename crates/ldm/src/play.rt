@@ -20,7 +20,7 @@ use ldm_outside::{Got, Sink, Source};
 use memchr::memchr;
 use std::alloc::Global;
 
-/// The most bytes of a script.
+/// How many bytes of a script are too many: a play that took so many ends.
 pub const SCRIPT_LIMIT: u64 = 1 << 40;
 
 // How many bytes are asked of the source at once.

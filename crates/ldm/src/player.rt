@@ -11,7 +11,6 @@ use crate::answer::Answer;
 use crate::script::fields::MAX_BODY;
 use crate::script::line::read_line;
 use crate::script::order::{Act, Insertion, Line, Order};
-use crate::script::word::LineWord;
 use crate::status::Unbuilt;
 use crate::text::Text;
 use ldm_book::Book;
@@ -72,9 +71,7 @@ impl Player {
             Line::Refused(Some(word)) => return Err(Stop::NotBuilt(Unbuilt::Line(word))),
             Line::Ordered(order) => order,
         };
-        let Some(answer) = self.act(&order) else {
-            return Err(Stop::NotBuilt(Unbuilt::Line(LineWord::Insert)));
-        };
+        let answer = self.act(&order);
         let mut text = Text::new();
         answer.write_line(&mut text);
         match write_all(sink, text.as_slice()) {
@@ -83,22 +80,24 @@ impl Player {
         }
     }
 
-    // Does what a line asks for. `None` where that is not built yet, and nothing is done.
-    fn act(&mut self, order: &Order) -> Option<Answer>
-        ensures { (s : State) → StandsFor self.old s → ActGives result self.old self.new (next s order.now.actor (event_of order.now.act)) }
+    // Does what a line asks for.
+    fn act(&mut self, order: &Order) -> Answer
+        ensures { (s : State) → StandsFor self.old s → ActGives result self.new (next s order.now.actor (event_of order.now.act)) }
     {
         let actor = order.actor;
         match &order.act {
             Act::Insert(asked) => insert(&mut self.book, &mut self.body, actor, asked),
-            Act::Look { signature } => Some(Answer::to_look(self.book.look(actor, signature))),
+            Act::Look { signature } => Answer::to_look(self.book.look(actor, signature)),
+            Act::Expire => Answer::to_expire(self.book.expire(actor)),
+            Act::Stat => Answer::to_stat(self.book.stat(actor)),
         }
     }
 }
 
 // Inserts a product, whose body is made in the room that is lent.
-fn insert(book: &mut Book, room: &mut [u8], actor: Actor, asked: &Insertion) -> Option<Answer>
+fn insert(book: &mut Book, room: &mut [u8], actor: Actor, asked: &Insertion) -> Answer
     requires { 1048576 ≤ length room.old }
-    ensures { (s : State) → StandsFor book.old s → ActGives result book.old book.new (next s actor (event_of (Act.Insert asked.entry.now))) }
+    ensures { (s : State) → StandsFor book.old s → ActGives result book.new (next s actor (event_of (Act.Insert asked.entry.now))) }
 {
     let body = &mut room[..asked.fill.count as usize];
     body.fill(asked.fill.byte);

@@ -36,7 +36,7 @@ pub enum Status {
     Done,
     /// The words are no form of a command.
     Usage,
-    /// As many bytes of a script were taken as it may have.
+    /// As many bytes of a script were taken as are too many.
     StreamLimit,
     /// No queue has an arena of so many bytes.
     RefusedArena(u64),

@@ -96,7 +96,7 @@ fn expect_run(
 }
 
 // Scripts for a queue of 168 bytes and 10 slots, with the status, the answers and the log.
-const SCRIPTS: [(&str, u8, &str, &str); 19] = [
+const SCRIPTS: [(&str, u8, &str, &str); 21] = [
     ("", 0, "", ""),
     ("\n# a comment\n#\n\n", 0, "", ""),
     // An extent of 176 bytes is too large, one of 168 is not.
@@ -133,16 +133,16 @@ const SCRIPTS: [(&str, u8, &str, &str); 19] = [
         "admitted 0 100 0\nqueued 0 100\n",
         "",
     ),
-    // A fourth product of 56 bytes needs an eviction. What stands behind it is not played.
+    // A fourth product of 56 bytes needs an eviction.
     (
         "0 insert 100 01010101010101010101010101010101 2 1 h p 4*41\n\
          0 insert 100 02020202020202020202020202020202 2 2 h p 4*42\n\
          0 insert 100 03030303030303030303030303030303 2 3 h p 4*43\n\
          0 insert 100 04040404040404040404040404040404 2 4 h p 4*44\n\
          0 look 01010101010101010101010101010101\n",
-        68,
-        "admitted 0 100 0\nadmitted 1 101 0\nadmitted 2 102 0\n",
-        "ldm: not built insert\n",
+        0,
+        "admitted 0 100 0\nadmitted 1 101 0\nadmitted 2 102 0\nadmitted 3 103 1\nabsent\n",
+        "",
     ),
     (
         "0 insert 4294967295999999 01010101010101010101010101010101 2 1 h p 4*41\n\
@@ -166,10 +166,10 @@ const SCRIPTS: [(&str, u8, &str, &str); 19] = [
         "",
     ),
     (
-        "0 look 01010101010101010101010101010101\n0 stat",
+        "0 look 01010101010101010101010101010101\n0 tally",
         68,
         "absent\n",
-        "ldm: not built stat\n",
+        "ldm: not built tally\n",
     ),
     (
         "0 look 01010101010101010101010101010101\n0 jump\n0 look 01010101010101010101010101010101\n",
@@ -191,6 +191,8 @@ const SCRIPTS: [(&str, u8, &str, &str); 19] = [
         "ldm: not built insert\n",
     ),
     ("0 look md5\n", 68, "", "ldm: not built look\n"),
+    ("0 expire x\n", 68, "", "ldm: not built expire\n"),
+    ("0 stat x\n", 68, "", "ldm: not built stat\n"),
     (
         "0  look 01010101010101010101010101010101\n",
         68,
@@ -216,6 +218,93 @@ fn scripts_are_played(rt: HostRuntime) -> Result<(), Fail> {
             log,
         };
         expect_run(&rt, rt.alloc(), &WORDS, script, ALL_GOOD, wanted)?;
+    }
+    Ok(())
+}
+
+// The arena and the slots of a queue, with a script and its answers. Products are evicted.
+const EVICTIONS: [(&str, &str, &str, &str); 4] = [
+    (
+        "168",
+        "10",
+        "0 insert 100 01010101010101010101010101010101 2 1 h p 4*41\n\
+         0 insert 100 01010101010101010101010101010101 2 1 h p 4*41\n\
+         0 expire\n\
+         0 insert 100 01010101010101010101010101010101 2 1 h p 4*41\n\
+         0 look 01010101010101010101010101010101\n\
+         0 look 02020202020202020202020202020202\n\
+         0 expire\n\
+         0 expire\n",
+        "admitted 0 100 0\n\
+         duplicate 0\n\
+         expired 0\n\
+         admitted 1 101 0\n\
+         queued 1 101\n\
+         absent\n\
+         expired 1\n\
+         nothing\n",
+    ),
+    // There is no room for a fourth product.
+    (
+        "168",
+        "10",
+        "0 insert 100 01010101010101010101010101010101 2 1 h p 4*41\n\
+         0 insert 100 02020202020202020202020202020202 2 1 h p 4*41\n\
+         0 insert 100 03030303030303030303030303030303 2 1 h p 4*41\n\
+         0 insert 100 04040404040404040404040404040404 2 1 h p 4*41\n\
+         0 stat\n",
+        "admitted 0 100 0\n\
+         admitted 1 101 0\n\
+         admitted 2 102 0\n\
+         admitted 3 103 1\n\
+         stat 4 3 0 168 0\n",
+    ),
+    // There is room, but no slot, for a third product.
+    (
+        "1000",
+        "2",
+        "0 insert 100 01010101010101010101010101010101 2 1 h p 4*41\n\
+         0 insert 100 02020202020202020202020202020202 2 1 h p 4*41\n\
+         0 insert 100 03030303030303030303030303030303 2 1 h p 4*41\n\
+         0 stat\n",
+        "admitted 0 100 0\n\
+         admitted 1 101 0\n\
+         admitted 2 102 1\n\
+         stat 3 2 0 112 888\n",
+    ),
+    // The gap behind the second product is shorter than the one in front of it, and long enough.
+    (
+        "240",
+        "10",
+        "0 insert 100 01010101010101010101010101010101 2 1 h p 68*41\n\
+         0 insert 100 02020202020202020202020202020202 2 1 h p 4*41\n\
+         0 expire\n\
+         0 insert 100 03030303030303030303030303030303 2 1 h p 4*41\n\
+         0 stat\n",
+        "admitted 0 100 0\n\
+         admitted 1 101 0\n\
+         expired 0\n\
+         admitted 2 102 0\n\
+         stat 3 2 0 112 120\n",
+    ),
+];
+
+#[test]
+fn products_are_evicted(rt: HostRuntime) -> Result<(), Fail> {
+    for (arena, slots, script, written) in EVICTIONS {
+        let wanted = Wanted {
+            status: 0,
+            written,
+            log: "",
+        };
+        expect_run(
+            &rt,
+            rt.alloc(),
+            &["play", arena, slots],
+            script,
+            ALL_GOOD,
+            wanted,
+        )?;
     }
     Ok(())
 }
@@ -440,32 +529,32 @@ fn writes_fail(rt: HostRuntime) -> Result<(), Fail> {
 // A script, the call of the log that fails, and what is left. A call of the log takes at most 8 bytes.
 const FAILING_LOGS: [(&str, u64, u8, &str, &str); 7] = [
     (
-        "0 look 01010101010101010101010101010101\n0 stat\n",
+        "0 look 01010101010101010101010101010101\n0 tally\n",
         1,
         76,
         "absent\n",
         "",
     ),
     (
-        "0 look 01010101010101010101010101010101\n0 stat\n",
+        "0 look 01010101010101010101010101010101\n0 tally\n",
         2,
         76,
         "absent\n",
         "ldm: not",
     ),
     (
-        "0 look 01010101010101010101010101010101\n0 stat\n",
+        "0 look 01010101010101010101010101010101\n0 tally\n",
         3,
         76,
         "absent\n",
-        "ldm: not built s",
+        "ldm: not built t",
     ),
     (
-        "0 look 01010101010101010101010101010101\n0 stat\n",
+        "0 look 01010101010101010101010101010101\n0 tally\n",
         4,
         68,
         "absent\n",
-        "ldm: not built stat\n",
+        "ldm: not built tally\n",
     ),
     // No log line is due.
     (

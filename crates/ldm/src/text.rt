@@ -19,11 +19,11 @@ pub fn put(out: &mut Text, bytes: &[u8])
     }
 }
 
-/// Appends a number in decimal digits.
+/// Appends a number in decimal digits, of which there are at most 20.
 pub fn put_number(out: &mut Text, n: u64)
-    requires { array_vec_len out.old + 40 ≤ 160 }
+    requires { array_vec_len out.old + 20 ≤ 160 }
     ensures text { out.new.items ≡ out.old.items ++ decimal n }
-    ensures len { array_vec_len out.new ≤ array_vec_len out.old + 40 }
+    ensures len { array_vec_len out.new ≤ array_vec_len out.old + 20 }
 {
     let mut buffer = Buffer::new();
     put(out, buffer.format(n).as_bytes());

@@ -1,15 +1,15 @@
 -- The present rows of a state, and what a book keeps of them.
-use Rattle.std.proofs.Common.{◌≡◌, ℕ, zero, suc, ◌+◌, ◌<◌, Bool, true, false, cond, List, [], ◌∷◌, ◌++◌, length, map, Option, Some, None, refl, ap, ◌∙◌, arith}
+use Rattle.std.proofs.Common.{◌≡◌, ℕ, zero, suc, ◌+◌, ◌<◌, Bool, true, false, cond, List, [], ◌∷◌, ◌++◌, length, map, replicate, take, drop, Option, Some, None, refl, ap, ◌∙◌, arith}
 use Rattle.std.proofs.Math.Nat.{add-zero}
 use Rattle.std.specs.Prelude.{slice_get}
 use Rattle.std.specs.Option.{option_map}
 use Rattle.ldm_types.specs.Arena.{Region}
-use Rattle.ldm_model.specs.Product.{extent_of}
 use Rattle.ldm_model.specs.declared.event.Reply.TheVariants as reply
-use Rattle.ldm_model.specs.State.{State, Row, Queued, add_queued, queued_from, queued, has_signature, queued_with, region_of}
-use Rattle.ldm_model.specs.Evict.{without_place, evict_row, evict, evict_all}
+use Rattle.ldm_model.specs.State.{State, Row, Queued, Cursor, end_of, last_time, latest, add_queued, queued_from, queued, has_signature, queued_with, region_of}
+use Rattle.ldm_model.specs.Evict.{without_place, with_loss, evict_row, evict, evict_all}
 use Rattle.ldm_model.specs.Look.{look_reply}
-use Rattle.ldm_book.specs.View.{Kept, kept}
+use Rattle.ldm_book.specs.View.{kept}
+use Rattle.ldm_book.specs.Products.{kept_region}
 use Rattle.ldm_book.specs.Lookup.{kept_with, look_kept}
 
 add_queued-append : (n : ℕ) (row : Row) (place : Option ℕ) (behind more : List Queued) → add_queued n row place (behind ++ more) ≡ add_queued n row place behind ++ more
@@ -48,10 +48,7 @@ pub some_from_queued : (o : Option Queued) (n t : ℕ) → look_reply o ≡ repl
 some_from_queued None n t e = absurd cc
 some_from_queued (Some q) n t e = (q, refl, cc)
 
--- where a kept row lies
-abbrev pub kept_region : Kept → Region
-kept_region k = record { start = k.place; extent = extent_of k.info }
-
+-- where the products lie
 pub regions-kept : (qs : List Queued) → map region_of qs ≡ map kept_region (map kept qs)
 regions-kept [] = refl
 regions-kept (q ∷ qs) = ap (λ (rs : List Region). region_of q ∷ rs) (regions-kept qs)
@@ -104,18 +101,48 @@ queued-evict_first s q qs e =
     let found = get_within s.rows first.index first.within in
     ap (λ (n : ℕ). queued (evict s n)) number ∙ (ap (λ (o : Option Row). queued (evict_row s first.index o)) found.1 ∙ first.left)
 
--- evicting every present row leaves none
-pub queued-evict_all : (qs : List Queued) (s : State) → queued s ≡ qs → queued (evict_all s (map (λ (q : Queued). q.number) qs)) ≡ []
-queued-evict_all [] s e = e
-queued-evict_all (q ∷ qs) s e = queued-evict_all qs (evict s q.number) (queued-evict_first s q qs e)
+-- evicting the first present rows leaves the others
+pub queued-evict_first_ones : (j : ℕ) (qs : List Queued) (s : State) → queued s ≡ qs → queued (evict_all s (take j (map (λ (q : Queued). q.number) qs))) ≡ drop j qs
+queued-evict_first_ones zero qs s e = e
+queued-evict_first_ones (suc j) [] s e = e
+queued-evict_first_ones (suc j) (q ∷ qs) s e = queued-evict_first_ones j qs (evict s q.number) (queued-evict_first s q qs e)
 
-pub evict_all-same : (ns : List ℕ) (s : State) → ((evict_all s ns).arena ≡ s.arena) × ((evict_all s ns).slots ≡ s.slots)
-evict_all-same [] s = (refl, refl)
-evict_all-same (n ∷ ns) s =
-    let rest = evict_all-same ns (evict s n) in
-    let one = same_by (slice_get s.rows n) in
-    (rest.0 ∙ one.0, rest.1 ∙ one.1)
-  where
-    same_by : (o : Option Row) → ((evict_row s n o).arena ≡ s.arena) × ((evict_row s n o).slots ≡ s.slots)
-    same_by None = (refl, refl)
-    same_by (Some row) = (refl, refl)
+-- evicting changes neither the end nor the times
+length-without_place : (rows : List Row) (n : ℕ) → length (without_place rows n) ≡ length rows
+length-without_place [] n = refl
+length-without_place (row ∷ rows) zero = refl
+length-without_place (row ∷ rows) (suc n) = ap suc (length-without_place rows n)
+
+latest-without_place : (rows : List Row) (before : Option ℕ) (n : ℕ) → latest before (without_place rows n) ≡ latest before rows
+latest-without_place [] before n = refl
+latest-without_place (row ∷ rows) before zero = refl
+latest-without_place (row ∷ rows) before (suc n) = latest-without_place rows (Some row.time) n
+
+with_loss-none : (n feed k : ℕ) → map (with_loss n feed) (replicate k None) ≡ replicate k None
+with_loss-none n feed zero = refl
+with_loss-none n feed (suc k) = ap (λ (cs : List (Option Cursor)). None ∷ cs) (with_loss-none n feed k)
+
+-- what evicting leaves as it was, where no cursor is open
+pub record Alike (t s : State) : Type 0 where
+  pub arena : t.arena ≡ s.arena
+  pub slots : t.slots ≡ s.slots
+  pub end : end_of t ≡ end_of s
+  pub last : last_time t ≡ last_time s
+  pub cursors : t.cursors ≡ replicate 64 None
+
+evict_row-alike : (s : State) (n : ℕ) (found : Option Row) → s.cursors ≡ replicate 64 None → Alike (evict_row s n found) s
+evict_row-alike s n None none = record { arena = refl; slots = refl; end = refl; last = refl; cursors = none }
+evict_row-alike s n (Some row) none = record {
+  arena = refl;
+  slots = refl;
+  end = length-without_place s.rows n;
+  last = latest-without_place s.rows None n;
+  cursors = ap (map (with_loss n row.product.info.feed)) none ∙ with_loss-none n row.product.info.feed 64;
+}
+
+pub evict_all-alike : (ns : List ℕ) (s : State) → s.cursors ≡ replicate 64 None → Alike (evict_all s ns) s
+evict_all-alike [] s none = record { arena = refl; slots = refl; end = refl; last = refl; cursors = none }
+evict_all-alike (n ∷ ns) s none =
+    let one = evict_row-alike s n (slice_get s.rows n) none in
+    let rest = evict_all-alike ns (evict s n) one.cursors in
+    record { arena = rest.arena ∙ one.arena; slots = rest.slots ∙ one.slots; end = rest.end ∙ one.end; last = rest.last ∙ one.last; cursors = rest.cursors }

@@ -1,6 +1,9 @@
 pub mod View
-pub mod Rows
+pub mod Products
+pub mod Slots
 pub mod Stands
 pub mod Lookup
 pub mod Limits
 pub mod Answers
+pub mod Sound
+pub mod Making

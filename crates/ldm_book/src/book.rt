@@ -1,15 +1,19 @@
 //! The book: the queue of one thread.
-ghost use Rattle.std.specs.Prelude.{◌≡◌, ◌↔◌, true, false, length, IfOk, IfErr, IsErrOf, MatchOption};
+ghost use Rattle.std.specs.Prelude.{◌≡◌, ◌<◌, ◌≤◌, ◌++◌, ◌∷◌, [], ℕ, None, Some, true, false, length, drop, map, IfOk, IfErr, MatchOption};
+ghost use Rattle.std.specs.List.{All};
 ghost use Rattle.ldm_model.specs.Product.{extent_of};
 ghost use Rattle.ldm_model.specs.State.{State, empty};
 ghost use Rattle.ldm_model.specs.Insert.{insert as insert_of, is_last, time_after as time_of};
 ghost use Rattle.ldm_model.specs.Look.{look as look_of};
-ghost use Rattle.ldm_book.specs.Answers.{look_answer};
-ghost use Rattle.ldm_book.specs.Lookup.{kept_with, look_kept};
-ghost use Rattle.ldm_book.specs.Rows.{kept_from};
+ghost use Rattle.ldm_model.specs.Expire.{expire as expire_of};
+ghost use Rattle.ldm_model.specs.Stat.{stat as stat_of};
+ghost use Rattle.ldm_book.specs.Lookup.{kept_with};
+ghost use Rattle.ldm_book.specs.Making.{PutEvicting, first_number};
+ghost use Rattle.ldm_book.specs.Products.{LieApart};
 
-use crate::replies::{CreateFault, InsertReply, LookReply};
-use crate::row::Row;
+use crate::products::Products;
+use crate::replies::{CreateFault, ExpireReply, InsertReply, LookReply, Stat};
+use crate::row::extent;
 use ldm_types::{Actor, Info, Micros, Signature};
 use ldm_xdr::info_len;
 use std::alloc::Global;
@@ -19,9 +23,8 @@ use std::marker::Model;
 #[derive(Drop)]
 pub struct Book {
     arena: Vec<u8>,
-    rows: Vec<Row>,
-    slots: u32,
-    used: u64,
+    products: Products,
+    admitted: u64,
     last: Option<Micros>,
 }
 
@@ -30,7 +33,7 @@ impl Model for Book {
 
     ghost Value = { BookView };
 
-    ghost use Rattle.ldm_book.specs.Rows.{view_of, IsSound};
+    ghost use Rattle.ldm_book.specs.Sound.{view_of, IsSound};
 
     ghost view = { view_of };
 
@@ -39,7 +42,7 @@ impl Model for Book {
 
 impl Book {
     ghost use Rattle.ldm_book.specs.Stands.{StandsFor};
-    ghost use Rattle.ldm_book.specs.Answers.{InsertAnswers, IfRefused, Follows, look_answer};
+    ghost use Rattle.ldm_book.specs.Answers.{IfRefused, IfNothing, KeepsPlaces, Follows, insert_answer, look_answer, expire_answer, stat_answer};
     ghost use Rattle.ldm_book.specs.Limits.{IsGoodArena, IsGoodSlots, IsFaultOf};
 
     /// The least arena, in bytes.
@@ -71,14 +74,13 @@ impl Book {
         let Ok(bytes) = vec![in alloc; 0u8; arena as usize] else {
             return Err(CreateFault::OutOfMemory);
         };
-        let Ok(rows) = Vec::with_capacity(alloc, slots as usize) else {
+        let Ok(products) = Products::create(alloc, arena, slots) else {
             return Err(CreateFault::OutOfMemory);
         };
         Ok(Book {
             arena: bytes,
-            rows,
-            slots,
-            used: 0,
+            products,
+            admitted: 0,
             last: None,
         })
     }
@@ -86,14 +88,16 @@ impl Book {
     /// Inserts a product at the moment `now`. The body has as many bytes as the metadata say.
     ///
     /// The cases are tested in this order: larger than the arena, a duplicate of a queued product, no insertion
-    /// time left, locked. Else the product is admitted: it goes into the shortest gap that is long enough, and
-    /// its insertion time is `now`, or one microsecond after the last insertion time where that is later.
-    ///
-    /// Where a product would have to be evicted first, the answer is [`InsertReply::NotBuilt`] for now.
+    /// time left, locked. Else the product is admitted: as many of the oldest products that no cursor holds are
+    /// evicted as it needs, and no more, and it goes into the shortest gap that is long enough, the lowest where
+    /// several are equally short. Its insertion time is `now`, or one microsecond after the last insertion time
+    /// where that is later.
     pub fn insert(&mut self, actor: Actor, now: Micros, info: &Info, body: &[u8]) -> InsertReply
         requires { length body.now ≡ info.now.size }
-        ensures answers { (s : State) → StandsFor self.old s → InsertAnswers result self.old self.new (insert_of s now (record { info = info.now; body = body.now })) }
+        ensures answers { (s : State) → StandsFor self.old s → Follows (insert_answer result) self.new (insert_of s now (record { info = info.now; body = body.now })) }
         ensures refused { IfRefused result (self.new ≡ self.old) }
+        ensures places { KeepsPlaces self.old self.new }
+        ensures apart { LieApart self.new.arena self.new.rows }
     {
         let _ = actor;
         let need = extent(info);
@@ -101,34 +105,24 @@ impl Book {
         if need > arena {
             return InsertReply::TooBig { need, arena };
         }
-        if let LookReply::Queued { n, .. } = look_in(&self.rows, &info.signature()) {
+        if let LookReply::Queued { n, .. } = self.products.look(&info.signature()) {
             return InsertReply::Duplicate { n };
         }
         let Some(time) = time_after(self.last, now) else {
             return InsertReply::TimeEnd;
         };
-        if self.rows.len() >= self.slots as usize || arena - self.used < need {
-            return InsertReply::NotBuilt;
-        }
-        let n = self.rows.len() as u64;
-        let place = self.used;
-        let front = place as usize + info_len(info);
+        // No product is held, so all that is not larger than the arena fits once enough is evicted.
+        let n = self.admitted;
+        let put = put_evicting(&mut self.products, info, n, time);
+        let front = put.place as usize + info_len(info);
         let back = front + body.len();
         self.arena[front..back].copy_from_slice(body);
-        let row = Row {
-            info: info.copy(),
-            time,
-            place,
-        };
-        if self.rows.push(row).is_err() {
-            unreachable!();
-        }
-        self.used += need;
+        self.admitted += 1;
         self.last = Some(time);
         InsertReply::Admitted {
             n,
             time,
-            evicted: 0,
+            evicted: put.evicted,
         }
     }
 
@@ -138,15 +132,37 @@ impl Book {
         ensures unchanged { self.new ≡ self.old }
     {
         let _ = actor;
-        look_in(&self.rows, signature)
+        self.products.look(signature)
     }
-}
 
-// The bytes of the arena that a product takes.
-fn extent(info: &Info) -> u64
-    ensures { result ≡ extent_of info.now }
-{
-    (info_len(info) as u64 + u64::from(info.size())).div_ceil(8) * 8
+    /// Evicts the oldest product that no cursor holds, if there is one.
+    pub fn expire(&mut self, actor: Actor) -> ExpireReply
+        ensures answers { (s : State) → StandsFor self.old s → Follows (expire_answer result) self.new (expire_of s) }
+        ensures nothing { IfNothing result (self.new ≡ self.old) }
+        ensures places { KeepsPlaces self.old self.new }
+        ensures apart { LieApart self.new.arena self.new.rows }
+    {
+        let _ = actor;
+        match evict_oldest(&mut self.products) {
+            Some(n) => ExpireReply::Expired { n },
+            None => ExpireReply::Nothing,
+        }
+    }
+
+    /// How full the queue is.
+    pub fn stat(&mut self, actor: Actor) -> Stat
+        ensures answers { (s : State) → StandsFor self.old s → Follows (stat_answer result) self.new (stat_of s) }
+        ensures unchanged { self.new ≡ self.old }
+    {
+        let _ = actor;
+        Stat {
+            admitted: self.admitted,
+            queued: self.products.len(),
+            held: 0,
+            used: self.products.used(),
+            largest_free: self.products.largest_free(),
+        }
+    }
 }
 
 // The insertion time at the moment `now`, unless the last one is the greatest instant.
@@ -162,17 +178,38 @@ fn time_after(last: Option<Micros>, now: Micros) -> Option<Micros>
     Micros::new(now.get().max(last.get() + 1))
 }
 
-// The row of that signature, as a look for it is answered.
-fn look_in(rows: &[Row], signature: &Signature) -> LookReply
-    ensures { look_answer result ≡ look_kept (kept_with signature.now.0 (kept_from 0 rows.now)) }
+// Evicts the oldest product that no cursor holds, and answers its number. No cursor holds one yet, so it is the first.
+fn evict_oldest(products: &mut Products) -> Option<u64>
+    ensures first { result ≡ first_number products.old.rows }
+    ensures rest { products.new ≡ record products.old { rows = drop 1 products.old.rows } }
+    ensures apart { LieApart products.new.arena products.new.rows }
 {
-    for (n, row) in rows.iter().enumerate() {
-        if row.info.signature() == *signature {
-            return LookReply::Queued {
-                n: n as u64,
-                time: row.time,
-            };
+    let n = products.first_at(0)?;
+    products.take_out(n);
+    Some(n)
+}
+
+// Where a product went, and how many were evicted to make room for it.
+#[derive(Clone, Copy)]
+struct Put {
+    place: u64,
+    evicted: u64,
+}
+
+// Puts a product in, after evicting as many of the oldest products as it needs and no more.
+fn put_evicting(products: &mut Products, info: &Info, n: u64, time: Micros) -> Put
+    requires slot { 0 < products.old.slots }
+    requires fits { extent_of info.now ≤ products.old.arena }
+    requires absent { kept_with info.now.signature products.old.rows ≡ None }
+    requires later { All (λ k. (k.number < n) × (k.time < time)) products.old.rows }
+    ensures put { PutEvicting result info.now n time products.old products.new }
+    ensures apart { LieApart products.new.arena products.new.rows }
+{
+    for evicted in 0..products.len() + 1 {
+        if let Some(place) = products.put(info, n, time) {
+            return Put { place, evicted };
         }
+        let _oldest = evict_oldest(products);
     }
-    LookReply::Absent
+    unreachable!()
 }

@@ -6,10 +6,11 @@
 #![tactic(auto)]
 
 mod book;
+mod products;
 mod replies;
 mod row;
 #[cfg(test)]
 mod tests;
 
 pub use book::Book;
-pub use replies::{CreateFault, InsertReply, LookReply};
+pub use replies::{CreateFault, ExpireReply, InsertReply, LookReply, Stat};

@@ -26,8 +26,6 @@ pub enum InsertReply {
     TimeEnd,
     /// Evicting every product that no cursor holds would not make room. `held` products are held.
     Locked { held: u64 },
-    /// Room would have to be made by eviction, which is not built yet. Nothing changed.
-    NotBuilt,
 }
 
 /// What looking for a product led to.
@@ -37,4 +35,28 @@ pub enum LookReply {
     Queued { n: u64, time: Micros },
     /// No queued product has the signature.
     Absent,
+}
+
+/// What evicting the oldest product led to.
+#[derive(Clone, Copy, Debug, PartialEq, Eq)]
+pub enum ExpireReply {
+    /// Product `n` was the oldest that no cursor held, and was evicted.
+    Expired { n: u64 },
+    /// No product is queued that no cursor holds.
+    Nothing,
+}
+
+/// How full a queue is.
+#[derive(Clone, Copy, Debug, PartialEq, Eq)]
+pub struct Stat {
+    /// How many products were admitted.
+    pub admitted: u64,
+    /// How many of them are queued.
+    pub queued: u64,
+    /// How many of these are held.
+    pub held: u64,
+    /// The sum of the extents of the queued products, in bytes.
+    pub used: u64,
+    /// The extent of the longest gap, in bytes, 0 where there is none.
+    pub largest_free: u64,
 }

@@ -3,6 +3,8 @@ use ldm_types::{Actor, Feed, Info, Micros, Signature};
 use std::alloc::Global;
 use std::test::Fail;
 
+mod random;
+
 // A call on a queue. Its product has the origin `h` and the ident `p`, so that the metadata take 52 bytes, and
 // a signature of 16 times the same byte.
 #[derive(Clone, Copy, Debug)]
@@ -11,6 +13,8 @@ enum Call {
     Insert(u64, u8, u32),
     // The byte of the signature.
     Look(u8),
+    Expire,
+    Stat,
 }
 
 // An answer, its numbers in the order of the replies.
@@ -21,9 +25,11 @@ enum Answer {
     Duplicate(u64),
     TimeEnd,
     Locked(u64),
-    NotBuilt,
     Queued(u64, u64),
     Absent,
+    Expired(u64),
+    Nothing,
+    Counted(u64, u64, u64, u64, u64),
 }
 
 impl From<InsertReply> for Answer {
@@ -34,7 +40,6 @@ impl From<InsertReply> for Answer {
             InsertReply::Duplicate { n } => Duplicate(n),
             InsertReply::TimeEnd => TimeEnd,
             InsertReply::Locked { held } => Locked(held),
-            InsertReply::NotBuilt => NotBuilt,
         }
     }
 }
@@ -48,7 +53,30 @@ impl From<LookReply> for Answer {
     }
 }
 
-use Answer::{Absent, Admitted, Duplicate, Locked, NotBuilt, Queued, TimeEnd, TooBig};
+impl From<ExpireReply> for Answer {
+    fn from(reply: ExpireReply) -> Answer {
+        match reply {
+            ExpireReply::Expired { n } => Expired(n),
+            ExpireReply::Nothing => Nothing,
+        }
+    }
+}
+
+impl From<Stat> for Answer {
+    fn from(stat: Stat) -> Answer {
+        Counted(
+            stat.admitted,
+            stat.queued,
+            stat.held,
+            stat.used,
+            stat.largest_free,
+        )
+    }
+}
+
+use Answer::{
+    Absent, Admitted, Counted, Duplicate, Expired, Locked, Nothing, Queued, TimeEnd, TooBig,
+};
 use Call::{Insert, Look};
 
 fn call_book(alloc: Global, book: &mut Book, call: Call) -> Result<Answer, Fail> {
@@ -61,14 +89,16 @@ fn call_book(alloc: Global, book: &mut Book, call: Call) -> Result<Answer, Fail>
             Ok(book.insert(actor, now, &info, &body).into())
         }
         Look(byte) => Ok(book.look(actor, &Signature([byte; 16])).into()),
+        Call::Expire => Ok(book.expire(actor).into()),
+        Call::Stat => Ok(book.stat(actor).into()),
     }
 }
 
 const LAST: u64 = 4_294_967_295_999_999;
 
 // Each list of calls begins with an empty queue. Extents, worked out by hand: a body of 0 or 4 bytes takes 56
-// bytes of the arena, one of 12 takes 64, of 13 takes 72, of 116 takes 168, and of 117 takes 176.
-const QUEUES: [(u64, u32, &[(Call, Answer)]); 6] = [
+// bytes of the arena, one of 12 takes 64, of 13 takes 72, of 68 takes 120, of 116 takes 168, and of 117 takes 176.
+const QUEUES: [(u64, u32, &[(Call, Answer)]); 11] = [
     (
         168,
         10,
@@ -78,10 +108,12 @@ const QUEUES: [(u64, u32, &[(Call, Answer)]); 6] = [
             (Insert(100, 2, 116), Admitted(0, 100, 0)),
             (Look(2), Queued(0, 100)),
             (Insert(200, 2, 117), TooBig(176, 168)),
-            (Insert(200, 3, 0), NotBuilt),
-            (Look(3), Absent),
+            (Insert(200, 3, 0), Admitted(1, 200, 1)),
+            (Look(2), Absent),
+            (Look(3), Queued(1, 200)),
         ],
     ),
+    // A duplicate of an evicted product is admitted anew, and evicts in turn.
     (
         168,
         10,
@@ -89,11 +121,14 @@ const QUEUES: [(u64, u32, &[(Call, Answer)]); 6] = [
             (Insert(100, 1, 4), Admitted(0, 100, 0)),
             (Insert(100, 2, 4), Admitted(1, 101, 0)),
             (Insert(50, 3, 4), Admitted(2, 102, 0)),
-            (Insert(200, 4, 4), NotBuilt),
-            (Look(2), Queued(1, 101)),
-            (Look(4), Absent),
             (Insert(200, 1, 12), Duplicate(0)),
             (Insert(200, 3, 4), Duplicate(2)),
+            (Insert(100, 4, 4), Admitted(3, 103, 1)),
+            (Look(1), Absent),
+            (Look(2), Queued(1, 101)),
+            (Insert(100, 1, 4), Admitted(4, 104, 1)),
+            (Look(2), Absent),
+            (Look(4), Queued(3, 103)),
         ],
     ),
     (
@@ -115,7 +150,8 @@ const QUEUES: [(u64, u32, &[(Call, Answer)]); 6] = [
             (Look(2), Queued(1, LAST)),
         ],
     ),
-    // With no room and no time left, it is the time that is told.
+    // With no room and no time left, it is the time that is told, and nothing is evicted. Nor does eviction give
+    // times back.
     (
         64,
         10,
@@ -123,23 +159,97 @@ const QUEUES: [(u64, u32, &[(Call, Answer)]); 6] = [
             (Insert(LAST, 1, 4), Admitted(0, LAST, 0)),
             (Insert(LAST, 2, 4), TimeEnd),
             (Insert(100, 1, 12), Duplicate(0)),
+            (Call::Expire, Expired(0)),
+            (Insert(100, 1, 12), TimeEnd),
+            (Call::Stat, Counted(1, 0, 0, 0, 64)),
         ],
     ),
+    // Slots run out where the arena does not.
     (
         1_048_576,
         2,
         &[
             (Insert(0, 1, 4), Admitted(0, 0, 0)),
             (Insert(1000, 2, 4), Admitted(1, 1000, 0)),
-            (Insert(2000, 3, 4), NotBuilt),
-            (Look(1), Queued(0, 0)),
+            (Insert(2000, 3, 4), Admitted(2, 2000, 1)),
+            (Look(1), Absent),
             (Look(2), Queued(1, 1000)),
+            (Call::Stat, Counted(3, 2, 0, 112, 1_048_464)),
+        ],
+    ),
+    // The best fit: the third product lies in the 64 bytes at 176, and not in the 120 bytes at 0.
+    (
+        240,
+        10,
+        &[
+            (Insert(100, 1, 68), Admitted(0, 100, 0)),
+            (Insert(100, 2, 4), Admitted(1, 101, 0)),
+            (Call::Expire, Expired(0)),
+            (Insert(100, 3, 4), Admitted(2, 102, 0)),
+            (Call::Stat, Counted(3, 2, 0, 112, 120)),
+        ],
+    ),
+    // Two gaps, of 64 and of 56 bytes, and then one in which a product of 64 bytes fits.
+    (
+        240,
+        10,
+        &[
+            (Insert(100, 1, 12), Admitted(0, 100, 0)),
+            (Insert(100, 2, 4), Admitted(1, 101, 0)),
+            (Insert(100, 3, 4), Admitted(2, 102, 0)),
+            (Insert(100, 4, 12), Admitted(3, 103, 0)),
+            (Call::Stat, Counted(4, 4, 0, 240, 0)),
+            (Insert(100, 5, 12), Admitted(4, 104, 1)),
+            (Insert(100, 6, 12), Admitted(5, 105, 2)),
+            (Call::Stat, Counted(6, 3, 0, 192, 48)),
+        ],
+    ),
+    // As many as are needed are evicted: all of them for one that takes the whole arena.
+    (
+        168,
+        10,
+        &[
+            (Call::Stat, Counted(0, 0, 0, 0, 168)),
+            (Insert(100, 1, 4), Admitted(0, 100, 0)),
+            (Insert(100, 2, 4), Admitted(1, 101, 0)),
+            (Insert(100, 3, 4), Admitted(2, 102, 0)),
+            (Insert(100, 4, 12), Admitted(3, 103, 2)),
+            (Insert(100, 5, 116), Admitted(4, 104, 2)),
+            (Call::Stat, Counted(5, 1, 0, 168, 0)),
+            (Call::Expire, Expired(4)),
+            (Call::Expire, Nothing),
+            (Call::Stat, Counted(5, 0, 0, 0, 168)),
+        ],
+    ),
+    // One slot: each product takes the place of the one before.
+    (
+        168,
+        1,
+        &[
+            (Insert(100, 1, 4), Admitted(0, 100, 0)),
+            (Insert(100, 2, 4), Admitted(1, 101, 1)),
+            (Insert(100, 1, 4), Admitted(2, 102, 1)),
+            (Call::Stat, Counted(3, 1, 0, 56, 112)),
+        ],
+    ),
+    // The least queue.
+    (
+        64,
+        1,
+        &[
+            (Call::Expire, Nothing),
+            (Insert(100, 1, 12), Admitted(0, 100, 0)),
+            (Insert(100, 1, 4), Duplicate(0)),
+            (Insert(100, 2, 4), Admitted(1, 101, 1)),
+            (Call::Stat, Counted(2, 1, 0, 56, 8)),
+            (Insert(100, 3, 13), TooBig(72, 64)),
+            (Look(2), Queued(1, 101)),
         ],
     ),
 ];
 
 #[test]
-fn insertions_and_looks(rt: HostRuntime) -> Result<(), Fail> {
+fn calls_are_answered(rt: HostRuntime) -> Result<(), Fail> {
     for (arena, slots, calls) in QUEUES {
         let mut book = Book::create(rt.alloc(), arena, slots)?;
         for (call, wanted) in calls {

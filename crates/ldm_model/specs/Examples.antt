@@ -3,7 +3,7 @@ use Rattle.std.specs.Prelude.{ℕ, List, [], ◌∷◌, replicate, Option, Some,
 use Rattle.ldm_types.specs.Info.{Metadata}
 use Rattle.ldm_types.specs.Arena.{Region}
 use Rattle.ldm_model.specs.declared.event.Event.{Event}
-use Rattle.ldm_model.specs.declared.event.Event.TheVariants.{Insert, Look}
+use Rattle.ldm_model.specs.declared.event.Event.TheVariants.{Insert, Look, Expire, Stat}
 use Rattle.ldm_model.specs.declared.event.Reply.{Reply}
 use Rattle.ldm_model.specs.State.{State, Cursor, empty}
 use Rattle.ldm_model.specs.Step.{next, replies}
@@ -21,6 +21,9 @@ insert_of now byte size = Insert now (sample_info byte size) (replicate size 65)
 
 abbrev pub look_for : ℕ → Event
 look_for byte = Look (record { 0 = signature_of byte })
+
+abbrev pub expire_from : State → Reply
+expire_from s = (next s 0 Expire).reply
 
 -- the replies of a new queue
 abbrev pub answers : ℕ → ℕ → List Event → List Reply

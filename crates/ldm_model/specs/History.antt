@@ -2,7 +2,7 @@
 use Rattle.std.specs.Prelude.{◌≡◌, ℕ, ◌<◌, ◌≤◌, ◌^◌, List, [], ◌∷◌, length, All}
 use Rattle.ldm_types.specs.Info.{Metadata, TextsFit}
 use Rattle.ldm_model.specs.declared.event.Event.{Event}
-use Rattle.ldm_model.specs.declared.event.Event.TheVariants.{Insert, Look}
+use Rattle.ldm_model.specs.declared.event.Event.TheVariants.{Insert, Look, Expire, Stat}
 use Rattle.ldm_model.specs.declared.event.Entry.{Entry}
 use Rattle.ldm_model.specs.State.{State, empty}
 use Rattle.ldm_model.specs.Insert.{greatest_instant}
@@ -31,6 +31,8 @@ abbrev pub IsPossible : Event → Type 0
 IsPossible (Insert now info body) =
     (now ≤ greatest_instant) × IsMetadata info × AreBytes body × (length body ≡ info.size)
 IsPossible (Look signature) = IsSignature signature.0
+IsPossible Expire = Unit {0}
+IsPossible Stat = Unit {0}
 
 -- the state that the entries of a history lead to
 abbrev pub after_entries : State → List Entry → State

@@ -4,6 +4,8 @@ pub mod Room
 pub mod Evict
 pub mod Insert
 pub mod Look
+pub mod Expire
+pub mod Stat
 pub mod Step
 pub mod History
 pub mod Examples

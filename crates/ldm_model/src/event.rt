@@ -29,25 +29,58 @@ pub enum Event {
     Look {
         signature: Signature,
     },
+    /// The oldest product that no cursor holds is evicted.
+    Expire,
+    /// How full the queue is.
+    Stat,
 }
 
 /// What the queue answers. Numbers of products count admitted products from 0.
 #[derive(Clone, Copy, Debug)]
 pub enum Reply {
     /// The product is number `n` and got that insertion time; `evicted` products made room for it.
-    Admitted { n: u64, time: Micros, evicted: u64 },
+    Admitted {
+        n: u64,
+        time: Micros,
+        evicted: u64,
+    },
     /// The product's extent is larger than the arena. Both in bytes.
-    TooBig { need: u64, arena: u64 },
+    TooBig {
+        need: u64,
+        arena: u64,
+    },
     /// Queued product `n` has the signature.
-    Duplicate { n: u64 },
+    Duplicate {
+        n: u64,
+    },
     /// The last insertion time is the greatest instant.
     TimeEnd,
     /// Evicting every product that no cursor holds would not make room. `held` products are held.
-    Locked { held: u64 },
+    Locked {
+        held: u64,
+    },
     /// Queued product `n` has the signature, and was inserted at that time.
-    Queued { n: u64, time: Micros },
+    Queued {
+        n: u64,
+        time: Micros,
+    },
     /// No queued product has the signature.
     Absent,
+    /// Product `n` was evicted.
+    Expired {
+        n: u64,
+    },
+    /// No product is queued that no cursor holds.
+    Nothing,
+    /// How many products were admitted, are queued, and are held; the sum of the extents of those that are queued,
+    /// and the extent of the longest gap, 0 where there is none. Both in bytes.
+    Stat {
+        admitted: u64,
+        queued: u64,
+        held: u64,
+        used: u64,
+        largest_free: u64,
+    },
 }
 
 /// One call of a history: who called, what was called, and what was answered.

@@ -5,8 +5,10 @@ ghost use Rattle.ldm_model.specs.State.{occupied};
 ghost use Rattle.ldm_model.specs.Room.{fit_in};
 ghost use Rattle.ldm_model.specs.Evict.{held, unheld, evict, evict_all};
 ghost use Rattle.ldm_model.specs.Insert.{greatest_instant};
-ghost use Rattle.ldm_model.specs.Examples.{answers, insert_of, look_for, state_after, region, holding_second, reading, untold_of_first, insert_into};
-ghost use Rattle.ldm_model.specs.declared.event.Reply.TheVariants.{Admitted, TooBig, Duplicate, TimeEnd, Locked, Queued, Absent};
+ghost use Rattle.ldm_model.specs.Stat.{stat_reply};
+ghost use Rattle.ldm_model.specs.Examples.{answers, insert_of, look_for, expire_from, state_after, region, holding_second, reading, untold_of_first, insert_into};
+ghost use Rattle.ldm_model.specs.declared.event.Event.TheVariants.{Expire, Stat as StatCall};
+ghost use Rattle.ldm_model.specs.declared.event.Reply.TheVariants.{Admitted, TooBig, Duplicate, TimeEnd, Locked, Queued, Absent, Expired, Nothing, Stat};
 
 /// Worked examples of the definitions, worked out by hand. A sample product of 4 bytes has the extent 56, one
 /// of 12 bytes 64, one of 68 bytes 120.
@@ -24,6 +26,13 @@ pub fn worked_examples()
         ≡ Admitted 0 100 0 ∷ Admitted 1 101 0 ∷ Admitted 2 102 0 ∷ Admitted 3 103 1 ∷ Absent ∷ [] }
     ensures evicts_for_a_slot { answers 240 2 (insert_of 100 1 4 ∷ insert_of 100 2 4 ∷ insert_of 100 3 4 ∷ [])
         ≡ Admitted 0 100 0 ∷ Admitted 1 101 0 ∷ Admitted 2 102 1 ∷ [] }
+
+    ensures expires_the_oldest { answers 168 10 (insert_of 100 1 4 ∷ insert_of 100 2 4 ∷ Expire ∷ look_for 1 ∷ Expire ∷ Expire ∷ [])
+        ≡ Admitted 0 100 0 ∷ Admitted 1 101 0 ∷ Expired 0 ∷ Absent ∷ Expired 1 ∷ Nothing ∷ [] }
+    ensures expires_past_the_held { expire_from (holding_second (state_after 168 10 (insert_of 100 1 4 ∷ insert_of 100 2 4 ∷ Expire ∷ []))) ≡ Nothing }
+    ensures counts { answers 240 10 (StatCall ∷ insert_of 100 1 68 ∷ insert_of 100 2 4 ∷ Expire ∷ insert_of 100 3 4 ∷ StatCall ∷ [])
+        ≡ Stat 0 0 0 0 240 ∷ Admitted 0 100 0 ∷ Admitted 1 101 0 ∷ Expired 0 ∷ Admitted 2 102 0 ∷ Stat 3 2 0 112 120 ∷ [] }
+    ensures counts_the_held { stat_reply (holding_second (state_after 168 10 (insert_of 100 1 4 ∷ insert_of 100 2 4 ∷ []))) ≡ Stat 2 2 1 112 56 }
 
     // Two gaps, of 64 and of 56 bytes: the shorter one that is long enough is taken, though the other comes first.
     ensures gaps_between { gaps (occupied (evict_all (state_after 240 10 (insert_of 100 1 12 ∷ insert_of 100 2 4 ∷ insert_of 100 3 4 ∷ insert_of 100 4 12 ∷ [])) (0 ∷ 2 ∷ []))) 240

@@ -1,8 +1,8 @@
 //! What the queue is, as definitions that contracts cite, and the events and replies that they speak of.
 //!
 //! The definitions stand in `specs/`: products, states, gaps and the best fit, eviction, insertion, looking,
-//! one step, and legal histories. The types here are those of the definitions: no running call makes a value
-//! of them.
+//! expiring, how full the queue is, one step, and legal histories. The types here are those of the definitions:
+//! no running call makes a value of them.
 #![tactic(auto)]
 
 mod bytes;

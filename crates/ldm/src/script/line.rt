@@ -2,7 +2,7 @@
 ghost use Rattle.std.specs.Prelude.{◌≡◌, ◌≤◌, IfSome, length};
 ghost use Rattle.std.specs.Option.{option_map};
 ghost use Rattle.ldm.specs.Fields.{fields as fields_of};
-ghost use Rattle.ldm.specs.Line.{insert_at, look_at, order_at, word_of_line, metadata_of, read_line as reading};
+ghost use Rattle.ldm.specs.Line.{insert_at, look_at, alone_at, order_at, word_of_line, metadata_of, read_line as reading};
 ghost use Rattle.ldm.specs.LineView.{event_of, order_of, reading_of};
 
 use crate::script::fields::Fields;
@@ -51,6 +51,8 @@ fn read_order(line: &[u8]) -> Option<Order>
     let act = match fields.word()? {
         LineWord::Insert => read_insert(fields)?,
         LineWord::Look => read_look(fields)?,
+        LineWord::Expire => read_alone(fields, Act::Expire)?,
+        LineWord::Stat => read_alone(fields, Act::Stat)?,
         _ => return None,
     };
     Some(Order { actor, act })
@@ -97,4 +99,12 @@ fn read_look(mut fields: Fields) -> Option<Act>
     let signature = fields.signature()?;
     fields.end()?;
     Some(Act::Look { signature })
+}
+
+// An act whose word stands alone.
+fn read_alone(mut fields: Fields, act: Act) -> Option<Act>
+    ensures { option_map event_of result ≡ alone_at (event_of act) fields.entry }
+{
+    fields.end()?;
+    Some(act)
 }

@@ -28,6 +28,10 @@ pub enum Act {
     Insert(Insertion),
     /// `look SIG`
     Look { signature: Signature },
+    /// `expire`
+    Expire,
+    /// `stat`
+    Stat,
 }
 
 /// What a line is.

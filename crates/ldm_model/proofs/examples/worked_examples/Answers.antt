@@ -2,6 +2,8 @@
 use Rattle.std.proofs.Common.{refl}
 use Rattle.ldm_model.specs.Insert.{insert}
 use Rattle.ldm_model.specs.Look.{look}
+use Rattle.ldm_model.specs.Expire.{expire}
+use Rattle.ldm_model.specs.Stat.{stat}
 use Rattle.ldm_model.proofs.examples.worked_examples.Goals as goal
 
 pub returns-clause-too_big : goal.returns-clause-too_big
@@ -87,3 +89,19 @@ returns-clause-loss_noted c = refl
 pub returns-clause-loss_of_another_feed : goal.returns-clause-loss_of_another_feed
 unfolding insert look
 returns-clause-loss_of_another_feed c = refl
+
+pub returns-clause-expires_the_oldest : goal.returns-clause-expires_the_oldest
+unfolding insert look expire stat
+returns-clause-expires_the_oldest c = refl
+
+pub returns-clause-expires_past_the_held : goal.returns-clause-expires_past_the_held
+unfolding insert look expire stat
+returns-clause-expires_past_the_held c = refl
+
+pub returns-clause-counts : goal.returns-clause-counts
+unfolding insert look expire stat
+returns-clause-counts c = refl
+
+pub returns-clause-counts_the_held : goal.returns-clause-counts_the_held
+unfolding insert look expire stat
+returns-clause-counts_the_held c = refl

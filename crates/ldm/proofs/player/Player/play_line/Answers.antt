@@ -5,7 +5,7 @@ use Rattle.ldm.specs.LineView.{order_of}
 use Rattle.ldm.specs.AnswerView.{reply_of}
 use Rattle.ldm.specs.Play.{Played}
 use Rattle.ldm.proofs.Fronts.{front_of_piece}
-use Rattle.ldm.proofs.Played.{play_line-reading, skipped, evicting, answered_whole, answered_front}
+use Rattle.ldm.proofs.Played.{play_line-reading, skipped, answered_whole, answered_front}
 use Rattle.ldm.proofs.player.Player.play_line.Goals as goal
 
 pub returns-in-Skipped-clause-played : goal.returns-in-Skipped-clause-played
@@ -19,19 +19,13 @@ pub returns-in-Refused-Some-clause-played : goal.returns-in-Refused-Some-clause-
 returns-in-Refused-Some-clause-played g c = λ s stands.
     (ap (λ (p : Played). p.stop) (play_line-reading s c.args.line.now (Refused (Some c.in-Refused-Some.word)) (sym c.in-Refused-Some.ensures ∙ ap (λ (w : Option LineWord). Refused w) c.in-Refused-Some.field-0-is)), refl)
 
-pub returns-in_default-clause-played : goal.returns-in_default-clause-played
-returns-in_default-clause-played g c = λ s stands.
-    (evicting s c.args.line.now (order_of c.in-Ordered.order) (sym c.in-Ordered.ensures) (c.in_default.ensures s stands).0, refl)
-
 pub returns-in-Ok-clause-played : goal.returns-in-Ok-clause-played
 returns-in-Ok-clause-played g c = λ s stands.
-    let act = c.in-Some.ensures s stands in
-    answered_whole s c.args.line.now (order_of c.in-Ordered.order) (sym c.in-Ordered.ensures) c.act.new.self (reply_of c.in-Some.answer) act.0 act.1 c.as_slice.result.now (c.as_slice.ensures.value ∙ c.write_line.ensures) _ _ c.in-Ok.ensures.written
+    answered_whole s c.args.line.now (order_of c.in-Ordered.order) (sym c.in-Ordered.ensures) c.act-answer.new.self (reply_of c.act-answer.result) (c.act-answer.ensures s stands) c.as_slice.result.now (c.as_slice.ensures.value ∙ c.write_line.ensures) _ _ c.in-Ok.ensures.written
 
 pub returns-in-Err-clause-played : goal.returns-in-Err-clause-played
 returns-in-Err-clause-played g c = λ s stands.
-    let act = c.in-Some.ensures s stands in
     let failed = c.in-Err.ensures.written in
-    let front = answered_front s c.args.line.now (order_of c.in-Ordered.order) (sym c.in-Ordered.ensures) c.act.new.self (reply_of c.in-Some.answer) act.0 act.1 c.as_slice.result.now (c.as_slice.ensures.value ∙ c.write_line.ensures) _ _
+    let front = answered_front s c.args.line.now (order_of c.in-Ordered.order) (sym c.in-Ordered.ensures) c.act-answer.new.self (reply_of c.act-answer.result) (c.act-answer.ensures s stands) c.as_slice.result.now (c.as_slice.ensures.value ∙ c.write_line.ensures) _ _
     (front_of_piece _ _ c.as_slice.result.now c.as_slice.result.now failed.1 refl failed.3) in
     (front.0, failed.0, front.1)

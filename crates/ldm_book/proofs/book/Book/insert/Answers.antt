@@ -1,24 +1,21 @@
-use Rattle.std.proofs.Common.{◌≡◌, ◌∙◌, ℕ, ◌+◌, ◌-◌, ◌<◌, ◌≤◌, true, ◌⊎◌, List, [], ◌∷◌, ◌++◌, length, Option, Some, Bool, cond, refl, sym, ap, subst, arith, inl, inr, rules}
-use Rattle.std.specs.Prelude.{is_ok}
-use Rattle.std.specs.Vec.{vec_len}
-use Rattle.std.proofs.lemmas.List.{length-append}
+use Rattle.std.proofs.Common.{◌≡◌, ◌∙◌, ℕ, ◌+◌, List, [], ◌∷◌, ◌++◌, drop, length, Option, Some, refl, sym, ap, subst, arith, inl, inr, rules}
+use Rattle.std.specs.List.{Contains}
 use Rattle.ldm_types.specs.Info.{Metadata}
 use Rattle.ldm_model.specs.Product.{Product, extent_of}
+use Rattle.ldm_model.specs.declared.event.Reply.{Reply}
 use Rattle.ldm_model.specs.declared.event.Reply.TheVariants as reply
 use Rattle.ldm_model.specs.Insert.{is_last, time_after as time_of, insert as insert_of}
-use Rattle.ldm_book.specs.declared.row.Row.{Row}
-use Rattle.ldm_book.specs.declared.replies.InsertReply.TheVariants as answer
-use Rattle.ldm_book.specs.Answers.{InsertAnswers}
+use Rattle.ldm_book.specs.Answers.{Follows}
 use Rattle.ldm_book.specs.View.{BookView, Kept}
 use Rattle.ldm_book.specs.Lookup.{kept_with, look_kept}
-use Rattle.ldm_book.specs.Rows.{kept_from, LieFrom}
-use Rattle.ldm_book.proofs.Inserting.{too_big, duplicate, time_end, not_built, admitted_row}
-use Rattle.ldm_book.proofs.Packed.{LieFrom-append}
+use Rattle.ldm_book.specs.Products.{ProductsView, room_for, with_row}
+use Rattle.ldm_book.specs.Making.{without_first}
+use Rattle.ldm_book.specs.Sound.{view_of, IsTimed}
+use Rattle.ldm_book.proofs.Evicting.{products, without_oldest}
+use Rattle.ldm_book.proofs.Oldest.{contains_drop, contains_push}
+use Rattle.ldm_book.proofs.Timed.{timed_push}
+use Rattle.ldm_book.proofs.Inserting.{too_big, duplicate, time_end, grown, admitted_after}
 use Rattle.ldm_book.proofs.book.Book.insert.Goals as goal
-use Rattle.ldm_book.proofs.book.Book.insert.Goals.{then-len-self-via-then-len-self, then-len-self-via-else-len-self+then-arena-self}
-
-abbrev grown_to : ℕ → ℕ → ℕ → List Row → BookView
-grown_to arena slots t rows = record { arena = arena; slots = slots; admitted = length rows; last = Some t; rows = kept_from 0 rows }
 
 pub returns-then-need-arena-clause-answers : goal.returns-then-need-arena-clause-answers
 returns-then-need-arena-clause-answers c = λ s stands.
@@ -31,78 +28,80 @@ pub returns-in-Queued-clause-answers : goal.returns-in-Queued-clause-answers
 returns-in-Queued-clause-answers c = λ s stands.
     let p : Product = record { info = c.args.info.now; body = c.args.body.now } in
     let arena = ap (λ (b : BookView). b.arena) c.self.view_is in
-    let rows : kept_from 0 c.self.inside.rows.items ≡ c.args.self.now.rows = ap (λ (b : BookView). b.rows) c.self.view_is in
-    let found : reply.Queued c.in-Queued.n c.in-Queued.time ≡ look_kept (kept_with c.args.info.now.signature c.args.self.now.rows) =
-    rw (c.signature.ensures, c.deref.ensures.value) at c.in-Queued.ensures ∙ ap (λ (ks : List Kept). look_kept (kept_with c.args.info.now.signature ks)) rows in
+    let rows = ap (λ (b : BookView). b.rows) c.self.view_is in
+    let found = rw c.signature.ensures at c.in-Queued.ensures ∙ ap (λ (ks : List Kept). look_kept (kept_with c.args.info.now.signature ks)) rows in
     duplicate c.args.self.now s stands c.args.now p (omega (arith, c.extent-need.ensures, c.len-arena.ensures, arena, c.if-need-arena.false)) c.in-Queued.n c.in-Queued.time (sym found)
 
 pub returns-in_default-time_after-clause-answers : goal.returns-in_default-time_after-clause-answers
 returns-in_default-time_after-clause-answers c = λ s stands.
     let p : Product = record { info = c.args.info.now; body = c.args.body.now } in
     let arena = ap (λ (b : BookView). b.arena) c.self.view_is in
-    let rows : kept_from 0 c.self.inside.rows.items ≡ c.args.self.now.rows = ap (λ (b : BookView). b.rows) c.self.view_is in
-    let last : c.self.inside.last ≡ c.args.self.now.last = ap (λ (b : BookView). b.last) c.self.view_is in
-    let absent : reply.Absent ≡ look_kept (kept_with c.args.info.now.signature c.args.self.now.rows) =
-    rw (c.signature.ensures, c.deref.ensures.value) at c.in_default.ensures ∙ ap (λ (ks : List Kept). look_kept (kept_with c.args.info.now.signature ks)) rows in
+    let rows = ap (λ (b : BookView). b.rows) c.self.view_is in
+    let last = ap (λ (b : BookView). b.last) c.self.view_is in
+    let absent = rw c.signature.ensures at c.in_default.ensures ∙ ap (λ (ks : List Kept). look_kept (kept_with c.args.info.now.signature ks)) rows in
     time_end c.args.self.now s stands c.args.now p (omega (arith, c.extent-need.ensures, c.len-arena.ensures, arena, c.if-need-arena.false)) (sym absent) (ap is_last (sym last) ∙ c.in_default-time_after.ensures)
 
-pub returns-then-len-self-clause-answers : goal.returns-then-len-self-clause-answers
-returns-then-len-self-clause-answers c = λ s stands.
-    let p : Product = record { info = c.args.info.now; body = c.args.body.now } in
-    let arena = ap (λ (b : BookView). b.arena) c.self.view_is in
-    let slots : c.self.inside.slots ≡ c.args.self.now.slots = ap (λ (b : BookView). b.slots) c.self.view_is in
-    let rows : kept_from 0 c.self.inside.rows.items ≡ c.args.self.now.rows = ap (λ (b : BookView). b.rows) c.self.view_is in
-    let last : c.self.inside.last ≡ c.args.self.now.last = ap (λ (b : BookView). b.last) c.self.view_is in
-    let absent : reply.Absent ≡ look_kept (kept_with c.args.info.now.signature c.args.self.now.rows) =
-    rw (c.signature.ensures, c.deref.ensures.value) at c.in_default.ensures ∙ ap (λ (ks : List Kept). look_kept (kept_with c.args.info.now.signature ks)) rows in
-    let fits : extent_of c.args.info.now ≤ c.args.self.now.arena = omega (arith, c.extent-need.ensures, c.len-arena.ensures, arena, c.if-need-arena.false) in
-    let full : (c.args.self.now.slots ≤ length c.self.inside.rows.items) ⊎ (c.args.self.now.arena - c.self.inside.used < extent_of c.args.info.now) =
-    elim c.then-len-self.branch [
-      | then-len-self-via-then-len-self w ↦ inl (omega (arith, slots, c.len.ensures, w.if-len-self.true))
-      | then-len-self-via-else-len-self+then-arena-self w ↦ inr (omega (arith, arena, c.len-arena.ensures, c.extent-need.ensures, w.if-arena-self.true))
-    ] in
-    not_built c.args.self.now s stands c.args.now p c.self.inside.rows.items c.self.inside.used rows c.self.invariant.packed (omega (arith, arena, c.self.invariant.within)) fits (sym absent)
-    (ap is_last (sym last) ∙ c.in-Some.ensures.0) (omega (arith, slots, c.self.invariant.some_slot)) full
+-- the product that is put in
+abbrev new_row : ℕ → Metadata → ℕ → ℕ → Kept
+new_row n info time place = record { number = n; info = info; time = time; place = place }
+
+-- a book with other products and one insertion more
+abbrev with_products : BookView → ℕ → ProductsView → BookView
+with_products book time products = record { arena = book.arena; slots = products.slots; admitted = book.admitted + 1; last = Some time; rows = products.rows }
 
 pub invariant_of-self : goal.invariant_of-self
 invariant_of-self c =
-    let row : Row = record { info = c.copy.result; time = c.in-Some.time; place = c.self.inside.used } in
-    let ok : is_ok c.push.result ≡ true = search rules in
-    let pushed : c.push.new.self.items ≡ c.self.inside.rows.items ++ row ∷ [] = c.push.ensures.items ∙ ap (λ (b : Bool). cond b (c.self.inside.rows.items ++ row ∷ []) c.self.inside.rows.items) ok in
-    let length_pushed : length c.push.new.self.items ≡ length (c.self.inside.rows.items ++ row ∷ []) = ap (λ (rs : List Row). length rs) pushed in
-    let length_same = length-append c.self.inside.rows.items (row ∷ []) in
-    let end : c.self.inside.used + extent_of c.copy.result ≡ c.self.inside.used + c.extent-need.result = ap (λ (i : Metadata). c.self.inside.used + extent_of i) c.copy.ensures ∙ ap (λ (n : ℕ). c.self.inside.used + n) (sym c.extent-need.ensures) in
-    let lies = LieFrom-append 0 c.self.inside.rows.items c.self.inside.used row c.self.invariant.packed refl in
+    let put = c.put_evicting-put.result in
+    let time : time_of c.self.inside.last c.args.now ≡ c.in-Some.time = sym c.in-Some.ensures.1 in
+    let new = new_row c.self.inside.admitted c.args.info.now c.in-Some.time put.place in
+    let rows = ap (λ (p : ProductsView). p.rows) c.put_evicting-put.ensures.put.rows in
+    let timed = timed_push c.self.inside.last c.self.inside.admitted c.args.now put.evicted c.self.inside.products.rows new c.self.invariant.timed refl c.in-Some.ensures.1 in
     record {
-      packed = subst (λ (rs : List Row). LieFrom 0 rs (c.self.inside.used + c.extent-need.result)) (sym pushed) (subst (λ (n : ℕ). LieFrom 0 (c.self.inside.rows.items ++ row ∷ []) n) end lies);
-      within = search rules;
-      few = omega (arith, length_pushed, length_same, c.len.ensures, c.if-len-self.false);
-      roomy = search rules;
+      arena = search rules;
+      timed = subst (λ (ks : List Kept). IsTimed (Some c.in-Some.time) (c.self.inside.admitted + 1) ks) (sym rows)
+          (subst (λ (t : ℕ). IsTimed (Some t) (c.self.inside.admitted + 1) (drop put.evicted c.self.inside.products.rows ++ new ∷ [])) time timed);
+      apart = search rules;
       arena_small = search rules;
       slots_small = search rules;
       some_slot = search rules;
-      some_arena = search rules;
     }
 
 pub returns-clause-answers : goal.returns-clause-answers
 returns-clause-answers c = λ s stands.
+    let now = c.args.self.now in
     let p : Product = record { info = c.args.info.now; body = c.args.body.now } in
-    let row : Row = record { info = c.copy.result; time = c.in-Some.time; place = c.self.inside.used } in
-    let ok : is_ok c.push.result ≡ true = search rules in
-    let pushed : c.push.new.self.items ≡ c.self.inside.rows.items ++ row ∷ [] = c.push.ensures.items ∙ ap (λ (b : Bool). cond b (c.self.inside.rows.items ++ row ∷ []) c.self.inside.rows.items) ok in
+    let put = c.put_evicting-put.result in
     let arena = ap (λ (b : BookView). b.arena) c.self.view_is in
-    let slots : c.self.inside.slots ≡ c.args.self.now.slots = ap (λ (b : BookView). b.slots) c.self.view_is in
-    let rows : kept_from 0 c.self.inside.rows.items ≡ c.args.self.now.rows = ap (λ (b : BookView). b.rows) c.self.view_is in
-    let last : c.self.inside.last ≡ c.args.self.now.last = ap (λ (b : BookView). b.last) c.self.view_is in
-    let count : length c.self.inside.rows.items ≡ c.args.self.now.admitted = ap (λ (b : BookView). b.admitted) c.self.view_is in
-    let absent : reply.Absent ≡ look_kept (kept_with c.args.info.now.signature c.args.self.now.rows) =
-    rw (c.signature.ensures, c.deref.ensures.value) at c.in_default.ensures ∙ ap (λ (ks : List Kept). look_kept (kept_with c.args.info.now.signature ks)) rows in
-    let fits : extent_of c.args.info.now ≤ c.args.self.now.arena = omega (arith, c.extent-need.ensures, c.len-arena.ensures, arena, c.if-need-arena.false) in
-    let done = admitted_row c.args.self.now s stands c.args.now p c.self.inside.rows.items c.self.inside.used rows c.self.invariant.packed (omega (arith, arena, c.self.invariant.within)) fits (sym absent)
-    (ap is_last (sym last) ∙ c.in-Some.ensures.0) row c.len-n.result c.in-Some.time (sym count)
-    (omega (arith, slots, c.len.ensures, c.if-len-self.false)) (omega (arith, arena, c.len-arena.ensures, c.extent-need.ensures, c.if-arena-self.false, c.self.invariant.within))
-    (omega (arith, c.len-n.ensures)) (c.in-Some.ensures.1 ∙ ap (λ (o : Option ℕ). time_of o c.args.now) last) c.copy.ensures refl refl in
-    let same = ap (λ (a : ℕ). grown_to a c.args.self.now.slots c.in-Some.time (c.self.inside.rows.items ++ row ∷ [])) (sym arena)
-    ∙ ap (λ (n : ℕ). grown_to (vec_len c.self.inside.arena) n c.in-Some.time (c.self.inside.rows.items ++ row ∷ [])) (sym slots)
-    ∙ ap (grown_to (vec_len c.self.inside.arena) c.self.inside.slots c.in-Some.time) (sym pushed) in
-    subst (λ (v : BookView). InsertAnswers (answer.Admitted c.len-n.result c.in-Some.time 0) c.args.self.now v (insert_of s c.args.now p)) same done
+    let rows = ap (λ (b : BookView). b.rows) c.self.view_is in
+    let last = ap (λ (b : BookView). b.last) c.self.view_is in
+    let admitted = ap (λ (b : BookView). b.admitted) c.self.view_is in
+    let same : products now ≡ c.self.inside.products =
+    ap products (sym c.self.view_is) ∙ ap (λ (a : ℕ). record c.self.inside.products { arena = a }) c.self.invariant.arena in
+    let count : length c.self.inside.products.rows ≡ length now.rows = ap (λ (ks : List Kept). length ks) rows in
+    let absent = rw c.signature.ensures at c.in_default.ensures ∙ ap (λ (ks : List Kept). look_kept (kept_with c.args.info.now.signature ks)) rows in
+    let time : c.in-Some.time ≡ time_of c.self.inside.last c.args.now = c.in-Some.ensures.1 in
+    let done = admitted_after now s stands c.args.now p (omega (arith, c.extent-need.ensures, c.len-arena.ensures, arena, c.if-need-arena.false)) (sym absent)
+    (ap is_last (sym last) ∙ c.in-Some.ensures.0) put.evicted put.place (omega (arith, count, c.put_evicting-put.ensures.put.queued))
+    (λ i h. ap (λ (q : ProductsView). room_for (without_first i q) (extent_of p.info)) same ∙ c.put_evicting-put.ensures.put.needed i h)
+    (ap (λ (q : ProductsView). room_for (without_first put.evicted q) (extent_of p.info)) same ∙ c.put_evicting-put.ensures.put.place) in
+    let view : with_products (view_of c.self.inside) c.in-Some.time c.put_evicting-put.new.products ≡ grown (without_oldest put.evicted now) c.args.now p put.place =
+    ap (with_products (view_of c.self.inside) c.in-Some.time) c.put_evicting-put.ensures.put.rows
+    ∙ ap (λ (t : ℕ). with_products (view_of c.self.inside) t (with_row (without_first put.evicted c.self.inside.products) (new_row c.self.inside.admitted p.info t put.place))) time
+    ∙ ap (λ (b : BookView). grown (without_oldest put.evicted b) c.args.now p put.place) c.self.view_is in
+    let number = ap (λ (n : ℕ). reply.Admitted n (time_of now.last c.args.now) put.evicted) (sym admitted)
+    ∙ ap (λ (t : ℕ). reply.Admitted c.self.inside.admitted t put.evicted) (ap (λ (o : Option ℕ). time_of o c.args.now) (sym last) ∙ sym time) in
+    subst (λ (b : BookView). Follows (reply.Admitted c.self.inside.admitted c.in-Some.time put.evicted) b (insert_of s c.args.now p)) (sym view)
+    (subst (λ (r : Reply). Follows r (grown (without_oldest put.evicted now) c.args.now p put.place) (insert_of s c.args.now p)) number done)
+
+pub returns-clause-places : goal.returns-clause-places
+returns-clause-places c = λ k in_new below.
+    let put = c.put_evicting-put.result in
+    let old = c.self.inside.products.rows in
+    let new = new_row c.self.inside.admitted c.args.info.now c.in-Some.time put.place in
+    let rows = ap (λ (b : BookView). b.rows) c.self.view_is in
+    let admitted = ap (λ (b : BookView). b.admitted) c.self.view_is in
+    let left = ap (λ (p : ProductsView). p.rows) c.put_evicting-put.ensures.put.rows in
+    elim (contains_push (drop put.evicted old) new k (subst (λ (ks : List Kept). Contains ks k) left in_new)) [
+      | inl kept ↦ subst (λ (ks : List Kept). Contains ks k) rows (contains_drop put.evicted old k kept)
+      | inr same ↦ (let number = ap (λ (x : Kept). x.number) same in absurd (omega (arith, number, admitted, below)))
+    ]

@@ -1,0 +1,51 @@
+-- What a contract sees of the products of a queue.
+use Rattle.std.specs.Prelude.{ℕ, ◌+◌, ◌<◌, ◌≤◌, Bool, not, ◌==◌, nat_le, nat_lt, List, [], ◌∷◌, ◌++◌, length, map, filter, Option, None, if◌then◌else◌}
+use Rattle.std.specs.List.{AllByRecursion}
+use Rattle.ldm_types.specs.Arena.{Region, fit}
+use Rattle.ldm_model.specs.Product.{extent_of}
+use Rattle.ldm_regions.specs.Layout.{AreApart}
+use Rattle.ldm_book.specs.View.{Kept}
+
+pub record ProductsView : Type 0 where
+  -- bytes of the arena
+  pub arena : ℕ
+  pub slots : ℕ
+  -- the products, in the order of their numbers
+  pub rows : List Kept
+
+-- each number is below those that stand behind it
+abbrev pub AreRising : List Kept → Type 0
+AreRising [] = Unit {0}
+AreRising (k ∷ ks) = AllByRecursion (λ other. k.number < other.number) ks × AreRising ks
+
+-- where a product lies
+abbrev pub kept_region : Kept → Region
+kept_region k = record { start = k.place; extent = extent_of k.info }
+
+abbrev pub kept_number : Kept → ℕ
+kept_number k = k.number
+
+-- whether a product has that number or a greater one
+abbrev pub at_number : ℕ → Kept → Bool
+at_number n k = nat_le n k.number
+
+-- whether a product has another number
+abbrev pub is_other : ℕ → Kept → Bool
+is_other n k = not (k.number == n)
+
+-- the products lie within the arena, and no two of them share a position
+abbrev pub LieApart : ℕ → List Kept → Type 0
+LieApart arena [] = Unit {0}
+LieApart arena (k ∷ ks) = (k.place + extent_of k.info ≤ arena) × AllByRecursion (λ other. AreApart (kept_region k) (kept_region other)) ks × LieApart arena ks
+
+-- where a product of that extent goes, if a slot is free and a gap is long enough
+abbrev pub room_for : ProductsView → ℕ → Option ℕ
+room_for p need = if nat_lt (length p.rows) p.slots then fit need (map kept_region p.rows) p.arena else None
+
+-- one more product, behind the others
+abbrev pub with_row : ProductsView → Kept → ProductsView
+with_row p k = record p { rows = p.rows ++ k ∷ [] }
+
+-- without the product of that number
+abbrev pub without : ℕ → ProductsView → ProductsView
+without n p = record p { rows = filter (is_other n) p.rows }

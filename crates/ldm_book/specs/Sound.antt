@@ -1,0 +1,29 @@
+-- What a book keeps, and what is always true of it.
+use Rattle.std.specs.Prelude.{◌≡◌, ℕ, ◌+◌, ◌≤◌, ◌<◌, List, [], Option, Some, None}
+use Rattle.std.specs.List.{All}
+use Rattle.std.specs.Vec.{vec_len}
+use Rattle.ldm_book.specs.declared.book.Book.TheInside.{Inside}
+use Rattle.ldm_book.specs.View.{BookView, Kept}
+use Rattle.ldm_book.specs.Products.{LieApart}
+
+abbrev pub view_of : Inside → BookView
+view_of b = record {
+  arena = vec_len b.arena;
+  slots = b.products.slots;
+  admitted = b.admitted;
+  last = b.last;
+  rows = b.products.rows;
+}
+
+-- no product was admitted after the last insertion time, and times rise by one at least
+abbrev pub IsTimed : Option ℕ → ℕ → List Kept → Type 0
+IsTimed None admitted rows = (admitted ≡ 0) × (rows ≡ [])
+IsTimed (Some last) admitted rows = (admitted ≤ last + 1) × All (λ k. (k.number < admitted) × (k.time ≤ last)) rows
+
+pub record IsSound (b : Inside) : Type 0 where
+  pub arena : vec_len b.arena ≡ b.products.arena
+  pub timed : IsTimed b.last b.admitted b.products.rows
+  pub apart : LieApart b.products.arena b.products.rows
+  pub arena_small : vec_len b.arena ≤ 1073741824
+  pub slots_small : b.products.slots ≤ 1048576
+  pub some_slot : 0 < b.products.slots

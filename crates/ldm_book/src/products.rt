@@ -1,0 +1,172 @@
+//! The products of a queue, each in a slot of its own.
+ghost use Rattle.std.specs.Prelude.{◌≡◌, ◌%◌, ◌+◌, ◌<◌, ◌≤◌, ℕ, None, Some, [], length, map, IfOk, MatchOption};
+ghost use Rattle.std.specs.List.{All, Any, find};
+ghost use Rattle.std.specs.Option.{option_map};
+ghost use Rattle.ldm_types.specs.Arena.{gaps, longest};
+ghost use Rattle.ldm_model.specs.Product.{extent_of};
+ghost use Rattle.ldm_model.specs.Stat.{extents};
+ghost use Rattle.ldm_book.specs.Answers.{look_answer};
+ghost use Rattle.ldm_book.specs.Lookup.{kept_with, look_kept};
+ghost use Rattle.ldm_book.specs.Products.{kept_region, at_number, kept_number, AreRising, LieApart, room_for, with_row, without};
+
+use crate::replies::LookReply;
+use crate::row::{Row, extent};
+use ldm_regions::Regions;
+use ldm_sigindex::SigIndex;
+use ldm_timeindex::TimeIndex;
+use ldm_types::{Info, Micros, Signature};
+use std::alloc::{AllocError, Global};
+use std::marker::Model;
+
+/// The products that are queued, in the order of their numbers. Each has a slot, and its region in the arena is
+/// owned by that slot.
+///
+/// `create` takes all memory; the other calls take none, and do not walk over the slots.
+#[derive(Drop)]
+pub(crate) struct Products {
+    slots: Vec<Option<Row>>,
+    // The slots that have no product. The last of them is the next to get one.
+    free: Vec<u32>,
+    regions: Regions,
+    by_signature: SigIndex,
+    by_number: TimeIndex,
+    // The sum of the extents.
+    used: u64,
+}
+
+impl Model for Products {
+    ghost use Rattle.ldm_book.specs.Products.{ProductsView};
+
+    ghost Value = { ProductsView };
+
+    ghost use Rattle.ldm_book.specs.Slots.{products_of, IsSlotted};
+
+    ghost view = { products_of };
+
+    ghost invariant = { IsSlotted };
+}
+
+impl Products {
+    /// No products, with all the memory that they will ever take but the arena's. An error only where there is
+    /// too little of it.
+    pub(crate) fn create(alloc: Global, arena: u64, slots: u32) -> Result<Products, AllocError>
+        requires whole { arena % 8 ≡ 0 }
+        requires least { 64 ≤ arena }
+        requires greatest { arena ≤ 1073741824 }
+        requires slots { slots ≤ 1048576 }
+        ensures { IfOk result (λ products. products ≡ record { arena = arena; slots = slots; rows = [] }) }
+    {
+        let mut kept = Vec::with_capacity(alloc, slots as usize)?;
+        let mut free = Vec::with_capacity(alloc, slots as usize)?;
+        for behind in 0..slots {
+            kept.push(None)?;
+            free.push(slots - 1 - behind)?;
+        }
+        Ok(Products {
+            slots: kept,
+            free,
+            regions: Regions::create(alloc, arena, slots)?,
+            by_signature: SigIndex::create(alloc, slots)?,
+            by_number: TimeIndex::create(alloc, slots)?,
+            used: 0,
+        })
+    }
+
+    /// How many there are.
+    pub(crate) fn len(&self) -> u64
+        ensures count { result ≡ length self.now.rows }
+        ensures few { result ≤ 1048576 }
+    {
+        (self.slots.len() - self.free.len()) as u64
+    }
+
+    /// The sum of their extents, in bytes.
+    pub(crate) fn used(&self) -> u64
+        ensures { result ≡ extents (map kept_region self.now.rows) }
+    {
+        self.used
+    }
+
+    /// The extent of the longest gap between them, in bytes, 0 where there is none.
+    pub(crate) fn largest_free(&self) -> u64
+        ensures { result ≡ longest (gaps (map kept_region self.now.rows) self.now.arena) }
+    {
+        self.regions.largest()
+    }
+
+    /// The product of that signature, if there is one.
+    pub(crate) fn look(&self, signature: &Signature) -> LookReply
+        ensures { look_answer result ≡ look_kept (kept_with signature.now.0 self.now.rows) }
+    {
+        let Some(slot) = self.by_signature.find(signature) else {
+            return LookReply::Absent;
+        };
+        match &self.slots[slot as usize] {
+            Some(row) => LookReply::Queued {
+                n: row.n,
+                time: row.time,
+            },
+            None => unreachable!(),
+        }
+    }
+
+    /// The number of the first product of at least that number. `None` exactly where there is none.
+    pub(crate) fn first_at(&self, n: u64) -> Option<u64>
+        ensures first { result ≡ option_map kept_number (find (at_number n) self.now.rows) }
+        ensures rising { AreRising self.now.rows }
+        ensures apart { LieApart self.now.arena self.now.rows }
+    {
+        match self.by_number.first_at(n) {
+            Some((found, _)) => Some(found),
+            None => None,
+        }
+    }
+
+    /// Puts a product in behind all others: into a free slot, at the start of the shortest gap that is long enough,
+    /// the lowest where several are equally short. Answers where it begins. `None` exactly where no slot is free or
+    /// no gap is long enough.
+    pub(crate) fn put(&mut self, info: &Info, n: u64, time: Micros) -> Option<u64>
+        requires absent { kept_with info.now.signature self.old.rows ≡ None }
+        requires later { All (λ k. (k.number < n) × (k.time < time)) self.old.rows }
+        ensures place { result ≡ room_for self.old (extent_of info.now) }
+        ensures within { MatchOption result (Unit {0}) (λ place. place + extent_of info.now ≤ self.old.arena) }
+        ensures rows { MatchOption result (self.new ≡ self.old) (λ place. self.new ≡ with_row self.old (record { number = n; info = info.now; time = time; place = place })) }
+        ensures apart { LieApart self.new.arena self.new.rows }
+    {
+        let slot = *self.free.last()?;
+        let need = extent(info);
+        let place = self.regions.take(need, slot)?;
+        let _slot = self.free.pop();
+        self.by_signature.put(info.signature(), slot);
+        self.by_number.push(n, time, slot);
+        self.slots[slot as usize] = Some(Row {
+            info: info.copy(),
+            n,
+            time,
+            place,
+        });
+        self.used += need;
+        Some(place)
+    }
+
+    /// Takes the product of that number out. Its slot and its region are free from then on.
+    pub(crate) fn take_out(&mut self, n: u64)
+        requires { Any (λ k. k.number ≡ n) self.old.rows }
+        ensures left { self.new ≡ without n self.old }
+        ensures apart { LieApart self.new.arena self.new.rows }
+    {
+        let Some((_, slot)) = self.by_number.first_at(n) else {
+            unreachable!()
+        };
+        let Some(row) = self.slots[slot as usize].take() else {
+            unreachable!()
+        };
+        self.by_number.take_out(n);
+        self.by_signature.take_out(&row.info.signature());
+        self.regions.give_back(slot);
+        self.used -= extent(&row.info);
+        let Ok(()) = self.free.push(slot) else {
+            unreachable!()
+        };
+    }
+}
