@@ -1,5 +1,5 @@
 -- What evicting the oldest products leaves, and how many evictions make room.
-use Rattle.std.proofs.Common.{◌≡◌, ℕ, zero, suc, ◌+◌, ◌<◌, ◌≤◌, Bool, true, false, cond, ltb, List, [], ◌∷◌, length, map, replicate, take, drop, Option, Some, None, refl, sym, ap, ◌∙◌, arith}
+use Rattle.std.proofs.Common.{◌≡◌, ℕ, zero, suc, ◌+◌, ◌<◌, ◌≤◌, Bool, true, false, cond, ltb, List, [], ◌∷◌, length, map, replicate, take, drop, Option, Some, None, refl, sym, ap, subst, ◌∙◌, arith}
 use Rattle.std.specs.Prelude.{not, ◌&&◌, filter, is_some}
 use Rattle.std.specs.List.{find, range_with_len, list_any}
 use Rattle.std.proofs.lemmas.List.{length-map}
@@ -11,7 +11,8 @@ use Rattle.ldm_model.specs.Insert.{after_evicting, evictions}
 use Rattle.ldm_book.specs.View.{BookView, Kept, kept}
 use Rattle.ldm_book.specs.Products.{ProductsView, kept_region, room_for}
 use Rattle.ldm_book.specs.Making.{without_first}
-use Rattle.ldm_book.specs.Stands.{StandsFor}
+use Rattle.ldm_book.specs.Stands.{HasBodies, StandsFor}
+use Rattle.ldm_book.proofs.Bodies.{bodies_drop}
 use Rattle.ldm_book.proofs.Queued.{queued-evict_first_ones, evict_all-alike, regions-kept}
 
 -- a filter that nothing passes, and one that all passes
@@ -50,6 +51,7 @@ StandsFor-evicting j book s stands =
       slots = stands.slots ∙ sym same.slots;
       admitted = stands.admitted ∙ sym same.end;
       last = stands.last ∙ sym same.last;
+      bodies = subst (HasBodies book.bytes) (sym left) (bodies_drop book.bytes j (queued s) stands.bodies);
       rows = ap (drop j) stands.rows ∙ sym (map-drop j (queued s)) ∙ ap (map kept) (sym left);
       cursors = same.cursors;
     }

@@ -1,20 +1,21 @@
 -- What the queue does at each way out of inserting, by what the book keeps.
-use Rattle.std.proofs.Common.{◌≡◌, ℕ, ◌+◌, ◌<◌, ◌≤◌, Bool, true, false, cond, ltb, List, [], ◌∷◌, ◌++◌, length, map, Option, Some, None, refl, sym, ap, subst, ◌∙◌, arith}
+use Rattle.std.proofs.Common.{◌≡◌, ℕ, ◌+◌, ◌<◌, ◌≤◌, Bool, true, false, cond, ltb, List, [], ◌∷◌, ◌++◌, length, map, drop, Option, Some, None, refl, sym, ap, subst, ◌∙◌, arith}
 use Rattle.std.proofs.lemmas.Bool.{lt-ltb, le-ltb}
 use Rattle.std.proofs.lemmas.List.{map-append, length-append}
 use Rattle.ldm_model.specs.Product.{Product, extent_of}
 use Rattle.ldm_model.specs.declared.event.Reply.{Reply}
 use Rattle.ldm_model.specs.declared.event.Reply.TheVariants as reply
-use Rattle.ldm_model.specs.State.{State, Row, end_of, last_time, latest, add_queued, queued, queued_from, queued_with}
+use Rattle.ldm_model.specs.State.{State, Row, Queued, end_of, last_time, latest, add_queued, queued, queued_from, queued_with}
 use Rattle.ldm_model.specs.Room.{fit_in}
 use Rattle.ldm_model.specs.Insert.{Outcome, unchanged, after_evicting, evictions, time_after, new_row, admitted, insert_by_evictions, is_last, insert_new, insert_fitting, insert}
-use Rattle.ldm_book.specs.View.{BookView, Kept, kept}
-use Rattle.ldm_book.specs.Products.{room_for}
+use Rattle.ldm_book.specs.View.{BookView, Kept, kept, body_start, body_of}
+use Rattle.ldm_book.specs.Products.{LieApart, room_for}
 use Rattle.ldm_book.specs.Making.{without_first}
-use Rattle.ldm_book.specs.Stands.{StandsFor}
+use Rattle.ldm_book.specs.Stands.{HasBodies, StandsFor}
 use Rattle.ldm_book.specs.Lookup.{kept_with, look_kept}
 use Rattle.ldm_book.specs.Answers.{Follows}
 use Rattle.ldm_book.proofs.Queued.{queued_from-append, look-from_kept, none_from_absent, some_from_queued}
+use Rattle.ldm_book.proofs.Bodies.{written, bodies_left, body_written, bodies_push}
 use Rattle.ldm_book.proofs.Evicting.{products, without_oldest, StandsFor-evicting, room_place, evictions-are}
 
 -- a refusal
@@ -29,18 +30,19 @@ latest-append before (first ∷ rows) row = latest-append (Some first.time) rows
 abbrev pub kept_new : BookView → ℕ → Product → ℕ → Kept
 kept_new book now p place = record { number = book.admitted; info = p.info; time = time_after book.last now; place = place }
 
--- a book with one product more
-abbrev pub grown : BookView → ℕ → Product → ℕ → BookView
-grown book now p place = record { arena = book.arena; slots = book.slots; admitted = book.admitted + 1; last = Some (time_after book.last now); rows = book.rows ++ kept_new book now p place ∷ [] }
+-- a book with one product more, and an arena with its body
+abbrev pub grown : BookView → ℕ → Product → ℕ → List ℕ → BookView
+grown book now p place bytes = record { arena = book.arena; bytes = bytes; slots = book.slots; admitted = book.admitted + 1; last = Some (time_after book.last now); rows = book.rows ++ kept_new book now p place ∷ [] }
 
 -- the new row, as it is queued
 queued-new : (s : State) (now : ℕ) (p : Product) (m place : ℕ) → fit_in s (extent_of p.info) ≡ Some place → queued_from m (new_row s now p ∷ []) ≡ record { number = m; product = p; time = time_after (last_time s) now; place = place } ∷ []
 queued-new s now p m place fits = ap (λ (o : Option ℕ). add_queued m (new_row s now p) o []) fits
 
 -- admitting a product that fits
-StandsFor-grown : (book : BookView) (s : State) → StandsFor book s → (now : ℕ) (p : Product) (place evicted : ℕ) → fit_in s (extent_of p.info) ≡ Some place
-    → Follows (reply.Admitted book.admitted (time_after book.last now) evicted) (grown book now p place) (admitted s now p evicted)
-StandsFor-grown book s stands now p place evicted fits =
+StandsFor-grown : (book : BookView) (s : State) → StandsFor book s → (now : ℕ) (p : Product) (place evicted : ℕ) (bytes : List ℕ) → fit_in s (extent_of p.info) ≡ Some place
+    → HasBodies bytes (queued s) → body_of bytes (kept_new book now p place) ≡ p.body
+    → Follows (reply.Admitted book.admitted (time_after book.last now) evicted) (grown book now p place bytes) (admitted s now p evicted)
+StandsFor-grown book s stands now p place evicted bytes fits bodies body =
     let number : book.admitted ≡ 0 + length s.rows = omega (arith, stands.admitted) in
     let time : time_after book.last now ≡ time_after (last_time s) now = ap (λ (o : Option ℕ). time_after o now) stands.last in
     let new : kept_new book now p place ∷ [] ≡ map kept (queued_from (0 + length s.rows) (new_row s now p ∷ [])) =
@@ -55,6 +57,8 @@ StandsFor-grown book s stands now p place evicted fits =
         last = ap (λ (t : ℕ). Some t) time ∙ sym (latest-append None s.rows (new_row s now p));
         rows = ap (λ (ks : List Kept). ks ++ kept_new book now p place ∷ []) stands.rows ∙ ap (λ (ks : List Kept). map kept (queued s) ++ ks) new
             ∙ sym (ap (map kept) (queued_from-append 0 s.rows (new_row s now p ∷ [])) ∙ map-append kept (queued_from 0 s.rows) (queued_from (0 + length s.rows) (new_row s now p ∷ [])));
+        bodies = subst (HasBodies bytes) (sym (queued_from-append 0 s.rows (new_row s now p ∷ []) ∙ ap (λ (qs : List Queued). queued s ++ qs) (queued-new s now p (0 + length s.rows) place fits)))
+            (bodies_push bytes (queued s) (record { number = 0 + length s.rows; product = p; time = time_after (last_time s) now; place = place }) bodies body);
         cursors = stands.cursors;
       };
     }
@@ -103,12 +107,16 @@ module _ (book : BookView) (s : State) (stands : StandsFor book s) (now : ℕ) (
       let test : is_last (last_time s) ≡ false = ap is_last (sym stands.last) ∙ last in
       insert-absent fits absent ∙ ap (λ (b : Bool). cond b (unchanged s reply.TimeEnd) (insert_by_evictions s now p (evictions s (extent_of p.info)))) test
 
-  -- admitted, after the evictions that make room
+  -- admitted, after the evictions that make room, with the body written to the arena
   pub admitted_after : extent_of p.info ≤ book.arena → look_kept (kept_with p.info.signature book.rows) ≡ reply.Absent → is_last book.last ≡ false → (j place : ℕ) → j ≤ length book.rows
       → ((i : ℕ) → i < j → room_for (without_first i (products book)) (extent_of p.info) ≡ None) → room_for (without_first j (products book)) (extent_of p.info) ≡ Some place
-      → Follows (reply.Admitted book.admitted (time_after book.last now) j) (grown (without_oldest j book) now p place) (insert s now p)
-  admitted_after fits absent last j place within none some =
+      → length p.body ≡ p.info.size → body_start (kept_new book now p place) + length p.body ≤ length book.bytes → LieApart book.arena (drop j book.rows ++ kept_new book now p place ∷ [])
+      → Follows (reply.Admitted book.admitted (time_after book.last now) j) (grown (without_oldest j book) now p place (written book.bytes p.body (kept_new book now p place))) (insert s now p)
+  admitted_after fits absent last j place within none some size written_within apart =
       let same : insert s now p ≡ admitted (after_evicting s j) now p j = insert-in_time fits absent last ∙ ap (insert_by_evictions s now p) (evictions-are book s (extent_of p.info) j stands within none place some) in
       let after = StandsFor-evicting j book s stands in
-      subst (λ (o : Outcome). Follows (reply.Admitted book.admitted (time_after book.last now) j) (grown (without_oldest j book) now p place) o) (sym same)
-      (StandsFor-grown (without_oldest j book) (after_evicting s j) after now p place j (room_place (without_oldest j book) (after_evicting s j) (extent_of p.info) place after some))
+      let new = kept_new book now p place in
+      let bytes = written book.bytes p.body new in
+      let bodies = bodies_left book.bytes p.body new size written_within book.arena (queued (after_evicting s j)) (subst (λ (ks : List Kept). LieApart book.arena (ks ++ new ∷ [])) after.rows apart) after.bodies in
+      subst (λ (o : Outcome). Follows (reply.Admitted book.admitted (time_after book.last now) j) (grown (without_oldest j book) now p place bytes) o) (sym same)
+      (StandsFor-grown (without_oldest j book) (after_evicting s j) after now p place j bytes (room_place (without_oldest j book) (after_evicting s j) (extent_of p.info) place after some) bodies (body_written book.bytes p.body new size written_within))

@@ -1,6 +1,7 @@
 pub mod Queued
 pub mod Empty
 pub mod Oldest
+pub mod Bodies
 pub mod Evicting
 pub mod Making
 pub mod Inserting

@@ -9,6 +9,7 @@ use Rattle.ldm_book.specs.Products.{LieApart}
 abbrev pub view_of : Inside → BookView
 view_of b = record {
   arena = vec_len b.arena;
+  bytes = b.arena.items;
   slots = b.products.slots;
   admitted = b.admitted;
   last = b.last;

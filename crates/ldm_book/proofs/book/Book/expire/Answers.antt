@@ -15,7 +15,7 @@ use Rattle.ldm_book.proofs.book.Book.expire.Goals.{in-Some, in-None}
 
 -- a book with other products
 abbrev with_products : BookView → ProductsView → BookView
-with_products book products = record { arena = book.arena; slots = products.slots; admitted = book.admitted; last = book.last; rows = products.rows }
+with_products book products = record { arena = book.arena; bytes = book.bytes; slots = products.slots; admitted = book.admitted; last = book.last; rows = products.rows }
 
 pub returns-clause-answers : goal.returns-clause-answers
 unfolding expire
