@@ -2,24 +2,16 @@
 use Rattle.std.specs.Prelude.{◌≡◌, ℕ, List, true, false, Option, Some, None, Result, Ok, Err}
 use Rattle.ldm_outside.specs.Count.{Rose}
 use Rattle.ldm_outside.specs.Io.{Takes}
-use Rattle.ldm_model.specs.Insert.{Outcome}
 use Rattle.ldm_book.specs.View.{BookView}
 use Rattle.ldm_book.specs.Stands.{StandsFor}
-use Rattle.ldm_book.specs.Answers.{Follows}
-use Rattle.ldm.specs.declared.answer.Answer.{Answer}
 use Rattle.ldm.specs.declared.player.Stop.{Stop}
 use Rattle.ldm.specs.declared.player.Stop.TheVariants as stop
 use Rattle.ldm.specs.declared.status.Status.{Status}
 use Rattle.ldm.specs.declared.status.Status.TheVariants as status
-use Rattle.ldm.specs.AnswerView.{reply_of}
 use Rattle.ldm.specs.Play.{Played, play}
 use Rattle.ldm_model.specs.State.{State}
 use Rattle.ldm.specs.Lines.{known_lines}
 use Rattle.ldm.specs.Ending.{WritesFront, GoesOn, StopsFor, StepStops}
-
--- an act is answered as the queue answers it
-abbrev pub ActGives : Answer → BookView → Outcome → Type 0
-ActGives answer new outcome = Follows (reply_of answer) new outcome
 
 -- a step of a play stopped
 abbrev pub LineStops : Stop → Played → Option (List ℕ) → Option (List ℕ) → ℕ → ℕ → Type 0

@@ -2,10 +2,12 @@
 ghost use Rattle.std.specs.Prelude.{◌≡◌, ◌≤◌, length, IfOk};
 ghost use Rattle.ldm_model.specs.State.{State};
 ghost use Rattle.ldm_model.specs.Step.{next};
+ghost use Rattle.ldm_book.specs.Answers.{Follows};
 ghost use Rattle.ldm_book.specs.Stands.{StandsFor};
+ghost use Rattle.ldm.specs.AnswerView.{reply_of};
 ghost use Rattle.ldm.specs.LineView.{event_of};
 ghost use Rattle.ldm.specs.Play.{play_line};
-ghost use Rattle.ldm.specs.Step.{ActGives, LineGives};
+ghost use Rattle.ldm.specs.Step.{LineGives};
 
 use crate::answer::Answer;
 use crate::script::fields::MAX_BODY;
@@ -82,7 +84,7 @@ impl Player {
 
     // Does what a line asks for.
     fn act(&mut self, order: &Order) -> Answer
-        ensures { (s : State) → StandsFor self.old s → ActGives result self.new (next s order.now.actor (event_of order.now.act)) }
+        ensures { (s : State) → StandsFor self.old s → Follows (reply_of result) self.new (next s order.now.actor (event_of order.now.act)) }
     {
         let actor = order.actor;
         match &order.act {
@@ -97,7 +99,7 @@ impl Player {
 // Inserts a product, whose body is made in the room that is lent.
 fn insert(book: &mut Book, room: &mut [u8], actor: Actor, asked: &Insertion) -> Answer
     requires { 1048576 ≤ length room.old }
-    ensures { (s : State) → StandsFor book.old s → ActGives result book.new (next s actor (event_of (Act.Insert asked.entry.now))) }
+    ensures { (s : State) → StandsFor book.old s → Follows (reply_of result) book.new (next s actor (event_of (Act.Insert asked.entry.now))) }
 {
     let body = &mut room[..asked.fill.count as usize];
     body.fill(asked.fill.byte);
