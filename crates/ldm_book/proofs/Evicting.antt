@@ -2,7 +2,7 @@
 use Rattle.std.proofs.Common.{◌≡◌, ℕ, zero, suc, ◌+◌, ◌<◌, ◌≤◌, Bool, true, false, cond, ltb, List, [], ◌∷◌, length, map, replicate, take, drop, Option, Some, None, refl, sym, ap, subst, ◌∙◌, arith}
 use Rattle.std.specs.Prelude.{not, ◌&&◌, filter, is_some}
 use Rattle.std.specs.List.{find, range_with_len, list_any}
-use Rattle.std.proofs.lemmas.List.{length-map}
+use Rattle.std.proofs.lemmas.List.{length-map, drop-map}
 use Rattle.ldm_types.specs.Arena.{Region, fit}
 use Rattle.ldm_model.specs.State.{State, Queued, Cursor, queued, region_of}
 use Rattle.ldm_model.specs.Room.{fit_in, has_room}
@@ -31,11 +31,6 @@ held-no_cursor s none = filter_none (is_held s) (numbers s) (λ n. ap (λ (cs : 
 pub unheld-no_cursor : (s : State) → s.cursors ≡ replicate 64 None → unheld s ≡ numbers s
 unheld-no_cursor s none = filter_all (λ n. not (is_held s n)) (numbers s) (λ n. ap (λ (cs : List (Option Cursor)). not (list_any (holds n) cs)) none)
 
-map-drop : (j : ℕ) (qs : List Queued) → map kept (drop j qs) ≡ drop j (map kept qs)
-map-drop zero qs = refl
-map-drop (suc j) [] = refl
-map-drop (suc j) (q ∷ qs) = map-drop j qs
-
 -- a book without its oldest products
 abbrev pub without_oldest : ℕ → BookView → BookView
 without_oldest j book = record book { rows = drop j book.rows }
@@ -52,7 +47,7 @@ StandsFor-evicting j book s stands =
       admitted = stands.admitted ∙ sym same.end;
       last = stands.last ∙ sym same.last;
       bodies = subst (HasBodies book.bytes) (sym left) (bodies_drop book.bytes j (queued s) stands.bodies);
-      rows = ap (drop j) stands.rows ∙ sym (map-drop j (queued s)) ∙ ap (map kept) (sym left);
+      rows = ap (drop j) stands.rows ∙ drop-map kept j (queued s) ∙ ap (map kept) (sym left);
       cursors = same.cursors;
     }
 
@@ -60,12 +55,14 @@ StandsFor-evicting j book s stands =
 abbrev pub products : BookView → ProductsView
 products book = record { arena = book.arena; slots = book.slots; rows = book.rows }
 
+-- the best fit
 pub fit-stands : (book : BookView) (s : State) (need : ℕ) → StandsFor book s → fit need (map kept_region book.rows) book.arena ≡ fit_in s need
 fit-stands book s need stands =
     ap (λ (ks : List Kept). fit need (map kept_region ks) book.arena) stands.rows
     ∙ ap (λ (rs : List Region). fit need rs book.arena) (sym (regions-kept (queued s)))
     ∙ ap (fit need (map region_of (queued s))) stands.arena
 
+-- whether a slot is free
 taken-stands : (book : BookView) (s : State) → StandsFor book s → ltb (length book.rows) book.slots ≡ ltb (length (queued s)) s.slots
 taken-stands book s stands =
     ap (λ (n : ℕ). ltb n book.slots) (ap (λ (ks : List Kept). length ks) stands.rows ∙ length-map (queued s) kept) ∙ ap (ltb (length (queued s))) stands.slots

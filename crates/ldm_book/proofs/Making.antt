@@ -1,7 +1,7 @@
 -- Evicting until there is room.
-use Rattle.std.proofs.Common.{◌≡◌, ℕ, zero, suc, ◌+◌, ◌<◌, ◌≤◌, Bool, true, false, cond, ltb, List, [], ◌∷◌, length, map, drop, Option, Some, None, refl, sym, ap, ◌∙◌, arith, inl, inr}
+use Rattle.std.proofs.Common.{◌≡◌, ℕ, zero, suc, ◌+◌, ◌<◌, ◌≤◌, Bool, true, false, cond, ltb, List, [], ◌∷◌, length, map, drop, Option, Some, None, sym, ap, ◌∙◌, arith, inl, inr}
 use Rattle.std.proofs.lemmas.Bool.{lt-ltb, cases_lt}
-use Rattle.std.proofs.lemmas.List.{drop_all}
+use Rattle.std.proofs.lemmas.List.{drop_all, drop-drop}
 use Rattle.ldm_types.specs.Arena.{fit}
 use Rattle.ldm_book.specs.View.{Kept}
 use Rattle.ldm_book.specs.Lookup.{kept_signature, kept_with}
@@ -24,11 +24,6 @@ absent_drop signature (suc j) (k ∷ ks) e = absent_drop signature j ks (behind 
     behind : (b : Bool) → cond b (Some k) (kept_with signature ks) ≡ None → kept_with signature ks ≡ None
     behind true e = absurd cc
     behind false e = e
-
-drop_one_more : (j : ℕ) (rows : List Kept) → drop 1 (drop j rows) ≡ drop (j + 1) rows
-drop_one_more zero rows = refl
-drop_one_more (suc j) [] = sym (drop_all (suc j + 1) [] (omega arith))
-drop_one_more (suc j) (k ∷ ks) = drop_one_more j ks ∙ (let next : suc (j + 1) ≡ suc j + 1 = omega arith in ap (λ (n : ℕ). drop n (k ∷ ks)) next)
 
 -- an empty arena with a slot has room for all that is not larger
 room-empty : (p : ProductsView) (need : ℕ) → p.rows ≡ [] → 0 < p.slots → 0 < need → need ≤ p.arena → room_for p need ≡ Some 0
@@ -54,7 +49,7 @@ evicted_more old now after need j so_far slot some fits none is =
     let none_left : room_for (without_first j old) need ≡ None = ap (λ (p : ProductsView). room_for p need) (sym so_far.left) ∙ none in
     record {
       queued = let below = something_left old need j slot some fits none_left in omega arith;
-      left = is ∙ ap (λ (p : ProductsView). record p { rows = drop 1 p.rows }) so_far.left ∙ ap (λ (ks : List Kept). record old { rows = ks }) (drop_one_more j old.rows);
+      left = is ∙ ap (λ (p : ProductsView). record p { rows = drop 1 p.rows }) so_far.left ∙ ap (λ (ks : List Kept). record old { rows = ks }) (drop-drop 1 j old.rows);
       needed = λ i h. elim (cases_lt i j) [
         | inl below ↦ so_far.needed i below
         | inr up ↦ (let same : i ≡ j = omega arith in ap (λ (n : ℕ). room_for (without_first n old) need) same ∙ none_left)

@@ -10,11 +10,13 @@ use Rattle.ldm_book.specs.Sound.{IsTimed}
 abbrev IsBefore : ℕ → ℕ → Kept → Type 0
 IsBefore admitted last k = (k.number < admitted) × (k.time ≤ last)
 
+-- so all are, with one insertion more
 all_before : (last : Option ℕ) (admitted now : ℕ) (rows : List Kept) → IsTimed last admitted rows → All (IsBefore (admitted + 1) (time_after last now)) rows
 all_before None admitted now rows timed = All-same (IsBefore (admitted + 1) now) rows [] timed.1 (All-nil (IsBefore (admitted + 1) now))
 all_before (Some last) admitted now rows timed =
     All-weaker (IsBefore admitted last) (IsBefore (admitted + 1) (max now (last + 1))) (λ k before. (omega (arith, before.0), omega (arith, before.1))) rows timed.1
 
+-- and no more were admitted than instants have passed
 few_admitted : (last : Option ℕ) (admitted now : ℕ) (rows : List Kept) → IsTimed last admitted rows → admitted + 1 ≤ time_after last now + 1
 few_admitted None admitted now rows timed = omega (arith, timed.0)
 few_admitted (Some last) admitted now rows timed = omega (arith, timed.0)

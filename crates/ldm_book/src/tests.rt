@@ -1,3 +1,4 @@
+//! Calls on a book, with answers that were worked out by hand.
 use super::*;
 use ldm_types::{Actor, Feed, Info, Micros, Signature};
 use std::alloc::Global;
