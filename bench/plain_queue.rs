@@ -1,6 +1,6 @@
 //! A plain Rust program that answers scripts of `insert`, `look`, `expire` and `stat` lines as `ldm play` does, for
-//! comparison: its queue stands on the maps and sets of the standard library. It proves nothing, and refuses no line
-//! by its place.
+//! comparison: its queue stands on the maps and sets of the standard library. It proves nothing, and takes every line
+//! to be well formed.
 
 use std::collections::{BTreeMap, BTreeSet, HashMap};
 use std::io::{self, BufRead, BufWriter, Write};
