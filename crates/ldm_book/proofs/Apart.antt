@@ -3,8 +3,7 @@ use Rattle.std.proofs.Common.{◌≡◌, ◌≢◌, ◌+◌, ◌≤◌, List, []
 use Rattle.std.specs.List.{AllByRecursion}
 use Rattle.std.specs.FinMap as fin
 use Rattle.std.specs.Option.{option_map}
-use Rattle.ldm_types.specs.Arena.{Region}
-use Rattle.ldm_regions.specs.Layout.{AreApart}
+use Rattle.ldm_types.specs.Arena.{Region, AreApart}
 use Rattle.ldm_timeindex.specs.Times.{Queued, Precedes, IsRising}
 use Rattle.ldm_book.specs.declared.products.Products.TheInside.{Inside}
 use Rattle.ldm_book.specs.declared.row.Row.{Row}

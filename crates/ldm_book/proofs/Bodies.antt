@@ -4,8 +4,8 @@ use borrow.Rule.Slice.PartMut.{put_mid, same_len_mid}
 use Rattle.std.specs.List.{AllByRecursion, between}
 use Rattle.std.proofs.lemmas.List.{length-take-le, length-drop}
 use Rattle.std.proofs.lemmas.Slice.{between_is, take-put_mid_below, drop-put_mid, between-put_mid}
+use Rattle.ldm_types.specs.Arena.{AreApart}
 use Rattle.ldm_model.specs.State.{Queued}
-use Rattle.ldm_regions.specs.Layout.{AreApart}
 use Rattle.ldm_book.specs.View.{Kept, kept, body_start, body_of}
 use Rattle.ldm_book.specs.Products.{kept_region, LieApart}
 use Rattle.ldm_book.specs.Stands.{HasBodies}

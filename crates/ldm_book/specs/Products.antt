@@ -1,9 +1,8 @@
 -- What a contract sees of the products of a queue.
 use Rattle.std.specs.Prelude.{ℕ, ◌+◌, ◌<◌, ◌≤◌, Bool, not, ◌==◌, nat_le, nat_lt, List, [], ◌∷◌, ◌++◌, length, map, filter, Option, None, if◌then◌else◌}
 use Rattle.std.specs.List.{AllByRecursion}
-use Rattle.ldm_types.specs.Arena.{Region, fit}
+use Rattle.ldm_types.specs.Arena.{Region, fit, AreApart}
 use Rattle.ldm_model.specs.Product.{extent_of}
-use Rattle.ldm_regions.specs.Layout.{AreApart}
 use Rattle.ldm_book.specs.View.{Kept}
 
 pub record ProductsView : Type 0 where

@@ -14,8 +14,8 @@ use crate::row::{Row, extent};
 use ldm_regions::Regions;
 use ldm_sigindex::SigIndex;
 use ldm_timeindex::TimeIndex;
-use ldm_types::{Info, Micros, Signature};
-use std::alloc::{AllocError, Global};
+use ldm_types::{Info, Micros, OutOfMemory, Signature};
+use std::alloc::Global;
 use std::marker::Model;
 
 /// The products that are queued, in the order of their numbers. Each has a slot, and its region in the arena is
@@ -49,7 +49,7 @@ impl Model for Products {
 impl Products {
     /// No products, with all the memory that they will ever take but the arena's. An error only where there is
     /// too little of it.
-    pub(crate) fn create(alloc: Global, arena: u64, slots: u32) -> Result<Products, AllocError>
+    pub(crate) fn create(alloc: Global, arena: u64, slots: u32) -> Result<Products, OutOfMemory>
         requires whole { arena % 8 ≡ 0 }
         requires least { 64 ≤ arena }
         requires greatest { arena ≤ 1073741824 }

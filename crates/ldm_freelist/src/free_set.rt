@@ -5,7 +5,8 @@ ghost use Rattle.std.specs.FinSet as set;
 ghost use Rattle.ldm_freelist.specs.Pairs.{pair_cmp, IsBest, first_from_bound};
 
 use crate::steps::Steps;
-use std::alloc::{AllocError, Global};
+use ldm_types::OutOfMemory;
+use std::alloc::Global;
 use std::marker::Model;
 use std::sync::ledger::Ledger;
 
@@ -34,7 +35,7 @@ impl Model for FreeSet {
 
 impl FreeSet {
     /// An empty set with room for that many pairs, all of whose memory is taken here.
-    pub fn create(alloc: Global, room: u32) -> Result<FreeSet, AllocError>
+    pub fn create(alloc: Global, room: u32) -> Result<FreeSet, OutOfMemory>
         ensures { IfOk result (λ s. s ≡ record { room = room; members = set.empty }) }
     {
         Ok(FreeSet {

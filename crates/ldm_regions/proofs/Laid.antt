@@ -7,8 +7,8 @@ use Rattle.std.proofs.lemmas.Bool.{both_ways, eqb-true, ne_eqb, leb-true, lt-ltb
 use Rattle.std.proofs.lemmas.List.{length-map}
 use Rattle.std.proofs.lemmas.Map.Keys.{IsDistinct-cons}
 use Rattle.std.proofs.lemmas.Map.Steps.{length-le_from_distinct_below}
-use Rattle.ldm_types.specs.Arena.{Region, best_gap, covers, gaps, fit}
-use Rattle.ldm_regions.specs.Layout.{Tiles, AreApart, occupied, marked_only}
+use Rattle.ldm_types.specs.Arena.{Region, best_gap, covers, gaps, fit, AreApart}
+use Rattle.ldm_regions.specs.Layout.{Tiles, occupied, marked_only}
 use Rattle.ldm_regions.specs.Walk.{region_of, Lie, HaveOwners, spaces, if_long, better_of, count_before, IsLaidOut}
 use Rattle.ldm_regions.specs.declared.walk.Used.{Used}
 use Rattle.ldm_regions.proofs.Best.{Lie-within, Lie-earlier, better_of-none, best_gap-space}

@@ -1,9 +1,9 @@
 -- Which owner has which region of an arena.
-use Rattle.std.specs.Prelude.{◌≡◌, ◌≢◌, ℕ, ◌+◌, ◌<◌, ◌≤◌, ◌⊎◌, Bool, false, List, slice_index_or, Some, refl}
+use Rattle.std.specs.Prelude.{◌≡◌, ◌≢◌, ℕ, ◌+◌, ◌<◌, ◌≤◌, Bool, false, List, slice_index_or, Some, refl}
 use Rattle.std.specs.Coded.{Coded, code_by, coded×, coded_ℕ}
 use Rattle.std.specs.FinMap as map
 use Rattle.std.specs.Ordering.{nat_cmp}
-use Rattle.ldm_types.specs.Arena.{Region}
+use Rattle.ldm_types.specs.Arena.{Region, AreApart}
 
 -- the region of each owner that has one, by the owner's number
 abbrev pub Owned : Type 0
@@ -38,10 +38,6 @@ with_region layout owner region = record layout { owned = map.insert layout.owne
 -- one owner less
 abbrev pub without_owner : Layout → ℕ → Layout
 without_owner layout owner = record layout { owned = map.remove layout.owned owner }
-
--- one ends before the other begins
-abbrev pub AreApart : Region → Region → Type 0
-AreApart one other = (one.start + one.extent ≤ other.start) ⊎ (other.start + other.extent ≤ one.start)
 
 -- the regions are not empty, lie within the arena, and no two owners' regions share a position
 pub record Tiles (layout : Layout) : Type 0 where

@@ -6,7 +6,8 @@ ghost use Rattle.ldm_regions.specs.Layout.{Tiles, occupied, marked_only, with_re
 
 use crate::walk;
 use crate::walk::Used;
-use std::alloc::{AllocError, Global};
+use ldm_types::{MOST_SLOTS, OutOfMemory, SMALLEST_ARENA};
+use std::alloc::Global;
 use std::marker::Model;
 
 /// Which owner, a number below a fixed number of slots, has which region of an arena.
@@ -40,10 +41,10 @@ impl Model for Regions {
 
 impl Regions {
     /// An arena that is one free region, with memory for a region of each slot, which is all taken here.
-    pub fn create(alloc: Global, arena: u64, slots: u32) -> Result<Regions, AllocError>
+    pub fn create(alloc: Global, arena: u64, slots: u32) -> Result<Regions, OutOfMemory>
         requires whole { arena % 8 ≡ 0 }
-        requires least { 64 ≤ arena }
-        requires slots { slots ≤ 1048576 }
+        requires least { SMALLEST_ARENA ≤ arena }
+        requires slots { slots ≤ MOST_SLOTS }
         ensures empty { IfOk result (λ r. r ≡ record { arena = arena; slots = slots; owned = map.empty }) }
         ensures tiles { IfOk result Tiles }
     {

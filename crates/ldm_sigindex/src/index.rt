@@ -3,8 +3,8 @@ ghost use Rattle.std.specs.Prelude.{◌≡◌, IfOk, IfSome, IsSome, None, Some,
 ghost use Rattle.ldm_sigindex.specs.Index.{IsOneToOne, slot_of};
 
 use crate::scan;
-use ldm_types::Signature;
-use std::alloc::{AllocError, Global};
+use ldm_types::{OutOfMemory, Signature};
+use std::alloc::Global;
 use std::marker::Model;
 
 /// Which of a fixed number of slots has which signature.
@@ -30,7 +30,7 @@ impl Model for SigIndex {
 impl SigIndex {
     /// An index of slots that have no signature, all of whose memory is taken here. An error only where there is
     /// too little of it.
-    pub fn create(alloc: Global, slots: u32) -> Result<SigIndex, AllocError>
+    pub fn create(alloc: Global, slots: u32) -> Result<SigIndex, OutOfMemory>
         ensures { IfOk result (λ index. index ≡ replicate slots None) }
     {
         let mut signatures = Vec::with_capacity(alloc, slots as usize)?;
@@ -39,33 +39,33 @@ impl SigIndex {
     }
 
     /// Gives a slot that has none a signature that no slot has.
-    pub fn put(&mut self, signature: Signature, slot: u32)
-        requires absent { slot_of self.old signature.0 ≡ None }
+    pub fn put(&mut self, s: Signature, slot: u32)
+        requires absent { slot_of self.old s.0 ≡ None }
         requires free { slice_get self.old slot ≡ Some None }
-        ensures put { self.new ≡ set self.old slot (Some signature.0) }
+        ensures put { self.new ≡ set self.old slot (Some s.0) }
         ensures one_to_one { IsOneToOne self.new }
     {
-        self.signatures[slot as usize] = Some(signature);
+        self.signatures[slot as usize] = Some(s);
     }
 
     /// Takes a signature from the slot that has it.
-    pub fn take_out(&mut self, signature: &Signature)
-        requires { IsSome (slot_of self.old signature.now.0) }
-        ensures taken { IfSome (slot_of self.old signature.now.0) (λ slot. self.new ≡ set self.old slot None) }
+    pub fn take_out(&mut self, s: &Signature)
+        requires { IsSome (slot_of self.old s.now.0) }
+        ensures taken { IfSome (slot_of self.old s.now.0) (λ slot. self.new ≡ set self.old slot None) }
         ensures one_to_one { IsOneToOne self.new }
     {
-        let Some(slot) = scan::first_with(&self.signatures, signature) else {
+        let Some(slot) = scan::first_with(&self.signatures, s) else {
             unreachable!()
         };
         self.signatures[slot] = None;
     }
 
     /// The slot that has a signature. `None` exactly where no slot has it.
-    pub fn find(&self, signature: &Signature) -> Option<u32>
-        ensures slot { result ≡ slot_of self.now signature.now.0 }
+    pub fn find(&self, s: &Signature) -> Option<u32>
+        ensures slot { result ≡ slot_of self.now s.now.0 }
         ensures one_to_one { IsOneToOne self.now }
     {
-        match scan::first_with(&self.signatures, signature) {
+        match scan::first_with(&self.signatures, s) {
             Some(slot) => Some(slot as u32),
             None => None,
         }

@@ -5,8 +5,8 @@ ghost use Rattle.std.specs.Option.{option_map};
 ghost use Rattle.ldm_timeindex.specs.Kept.{all_queued};
 ghost use Rattle.ldm_timeindex.specs.Times.{IsRising, at_number, behind_time, number_and_slot};
 
-use ldm_types::Micros;
-use std::alloc::{AllocError, Global};
+use ldm_types::{Micros, OutOfMemory};
+use std::alloc::Global;
 use std::marker::Model;
 
 /// A product: its number, the instant at which it came in, and the slot that it has.
@@ -42,7 +42,7 @@ impl Model for TimeIndex {
 
 impl TimeIndex {
     /// An empty index with room for that many products, all of whose memory is taken here.
-    pub fn create(alloc: Global, slots: u32) -> Result<TimeIndex, AllocError>
+    pub fn create(alloc: Global, slots: u32) -> Result<TimeIndex, OutOfMemory>
         ensures { IfOk result (λ t. t ≡ record { slots = slots; entries = [] }) }
     {
         Ok(TimeIndex {

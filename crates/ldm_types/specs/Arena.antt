@@ -1,5 +1,5 @@
 -- The arena: positions from 0 up to its size, the regions that occupy it, and the gaps between them.
-use Rattle.std.specs.Prelude.{ℕ, zero, suc, ◌+◌, Bool, ◌&&◌, nat_le, nat_lt, List, [], ◌∷◌, Option, Some, None, ◌==◌, if◌then◌else◌, max}
+use Rattle.std.specs.Prelude.{ℕ, zero, suc, ◌+◌, ◌≤◌, ◌⊎◌, Bool, ◌&&◌, nat_le, nat_lt, List, [], ◌∷◌, Option, Some, None, ◌==◌, if◌then◌else◌, max}
 use Rattle.std.specs.List.{list_any}
 use Rattle.std.specs.Option.{option_map}
 
@@ -7,6 +7,10 @@ use Rattle.std.specs.Option.{option_map}
 pub record Region : Type 0 where
   pub start : ℕ
   pub extent : ℕ
+
+-- one ends before the other begins
+abbrev pub AreApart : Region → Region → Type 0
+AreApart one other = (one.start + one.extent ≤ other.start) ⊎ (other.start + other.extent ≤ one.start)
 
 -- whether a region covers a position
 abbrev pub covers : ℕ → Region → Bool

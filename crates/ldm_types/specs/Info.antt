@@ -1,5 +1,6 @@
 -- The metadata of a product, as contracts see an `Info`: the record of its fields.
 use Rattle.std.specs.Prelude.{◌≡◌, ℕ, ◌+◌, ◌*◌, ◌/◌, ◌≤◌, List, ◌++◌, length, Option, Some, None, nat_lt, position, if◌then◌else◌, ◌==◌}
+use Rattle.ldm_types.specs.declared.limits.TheConstants.{LONGEST_IDENT, LONGEST_ORIGIN}
 use Rattle.ldm_types.specs.declared.info.InfoFault.{InfoFault}
 use Rattle.ldm_types.specs.declared.info.InfoFault.TheVariants.{OriginLong, IdentLong, NulByte}
 
@@ -18,8 +19,8 @@ pub record Metadata : Type 0 where
 
 -- the bounds of the two texts: no zero byte stands in either
 pub record TextsFit (info : Metadata) : Type 0 where
-  pub origin_short : length info.origin ≤ 64
-  pub ident_short : length info.ident ≤ 255
+  pub origin_short : length info.origin ≤ LONGEST_ORIGIN
+  pub ident_short : length info.ident ≤ LONGEST_IDENT
   pub no_nul : position (λ byte. byte == 0) (info.origin ++ info.ident) ≡ None
 
 -- a length rounded up to a multiple of four
@@ -34,8 +35,8 @@ metadata_len info = 44 + pad4 (length info.origin) + pad4 (length info.ident)
 -- the first fault of two texts, if there is one
 abbrev pub texts_fault : List ℕ → List ℕ → Option InfoFault
 texts_fault origin ident =
-    if nat_lt 64 (length origin) then Some OriginLong
-    else (if nat_lt 255 (length ident) then Some IdentLong
+    if nat_lt LONGEST_ORIGIN (length origin) then Some OriginLong
+    else (if nat_lt LONGEST_IDENT (length ident) then Some IdentLong
     else nul_fault (position (λ byte. byte == 0) (origin ++ ident)))
   where
     nul_fault : Option ℕ → Option InfoFault

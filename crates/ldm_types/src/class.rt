@@ -1,6 +1,7 @@
 //! Classes of products, as a site asks for them.
 
 use crate::feed::Feed;
+use crate::limits::{LONGEST_PATTERN, MOST_SPECS};
 use crate::micros::Micros;
 use arrayvec::ArrayVec;
 
@@ -12,7 +13,7 @@ pub struct Spec {
     /// The feedtypes: a product needs one of them.
     pub feed: Feed,
     /// A regular expression of at most 255 bytes.
-    pub pattern: ArrayVec<u8, 255>,
+    pub pattern: ArrayVec<u8, LONGEST_PATTERN>,
 }
 
 /// The products inserted from `from` to `to`, both included, that one of at most 32 specifications wants.
@@ -23,5 +24,5 @@ pub struct ClassSpec {
     /// The latest instant of insertion. Before `from` it leaves no product.
     pub to: Micros,
     /// The specifications: a product needs to be wanted by one of them.
-    pub specs: ArrayVec<Spec, 32>,
+    pub specs: ArrayVec<Spec, MOST_SPECS>,
 }

@@ -3,6 +3,7 @@ ghost use Rattle.std.specs.Prelude.{◌≡◌, ◌≤◌, ◌==◌, ◌++◌, Ma
 ghost use Rattle.ldm_types.specs.Info.{Metadata, TextsFit, texts_fault};
 
 use crate::feed::Feed;
+use crate::limits::{LONGEST_IDENT, LONGEST_ORIGIN};
 use crate::micros::Micros;
 use crate::signature::Signature;
 use arrayvec::ArrayVec;
@@ -35,10 +36,10 @@ pub enum InfoFault {
 pub struct Info {
     arrival: Micros,
     signature: Signature,
-    origin: ArrayVec<u8, 64>,
+    origin: ArrayVec<u8, LONGEST_ORIGIN>,
     feed: Feed,
     seqno: u32,
-    ident: ArrayVec<u8, 255>,
+    ident: ArrayVec<u8, LONGEST_IDENT>,
     size: u32,
 }
 

@@ -1,6 +1,7 @@
 //! Instants.
 ghost use Rattle.std.specs.Prelude.{◌≡◌, ◌<◌, ◌≤◌, SomeIff};
 
+use crate::limits::GREATEST_INSTANT;
 use std::marker::Model;
 
 /// An instant: microseconds since the beginning of 1970, UTC, below 2^32 seconds.
@@ -13,23 +14,24 @@ pub struct Micros {
 
 impl Model for Micros {
     ghost use Rattle.std.specs.Prelude.{ℕ, ◌≤◌};
+    ghost use Rattle.ldm_types.specs.declared.limits.TheConstants.{GREATEST_INSTANT};
 
     ghost Value = { ℕ };
 
     ghost view = { λ micros. micros.value };
 
-    ghost invariant = { λ micros. micros.value ≤ 4294967295999999 };
+    ghost invariant = { λ micros. micros.value ≤ GREATEST_INSTANT };
 
     ghost inverse = { λ n. record { value = n } };
 }
 
 impl Micros {
     /// The greatest instant, as a number.
-    pub const MAX: u64 = 4_294_967_295_999_999;
+    pub const MAX: u64 = GREATEST_INSTANT;
 
     /// The instant of that many microseconds. `None` exactly where the number exceeds [`Micros::MAX`].
     pub fn new(n: u64) -> Option<Micros>
-        ensures { SomeIff result (n ≤ 4294967295999999) n }
+        ensures { SomeIff result (n ≤ GREATEST_INSTANT) n }
     {
         if n <= Micros::MAX {
             Some(Micros { value: n })
@@ -41,7 +43,7 @@ impl Micros {
     /// The number of microseconds.
     pub fn get(self) -> u64
         ensures value { result ≡ self }
-        ensures bound { self ≤ 4294967295999999 }
+        ensures bound { self ≤ GREATEST_INSTANT }
     {
         self.value
     }

@@ -1,5 +1,6 @@
 use super::*;
 use arrayvec::ArrayVec;
+use std::alloc::Global;
 use std::process::Abort;
 use std::test::Fail;
 
@@ -97,5 +98,17 @@ fn classes_are_made(rt: HostRuntime) -> Result<(), Fail> {
     };
     assert_eq!(rt; class.specs.try_push(wanted).is_ok(), true);
     assert_eq!(rt; class.specs.len(), 1);
+    Ok(())
+}
+
+fn with_one(alloc: Global) -> Result<Vec<u8>, OutOfMemory> {
+    let mut bytes = Vec::with_capacity(alloc, 1)?;
+    bytes.push(7u8)?;
+    Ok(bytes)
+}
+
+#[test]
+fn ample_memory_is_enough(rt: HostRuntime) -> Result<(), Fail> {
+    assert_eq!(rt; with_one(rt.alloc())?.as_slice(), [7].as_slice());
     Ok(())
 }

@@ -7,7 +7,7 @@ use Rattle.ldm_sigindex.proofs.index.SigIndex.take_out.Goals as goal
 
 pub returns-clause-taken : goal.returns-clause-taken
 returns-clause-taken c =
-    let at = c.in-Some.ensures ∙ ap (λ signatures. slot_of (table_of signatures) c.args.signature.now.0) c.deref.ensures.value ∙ ap (λ (table : Table). slot_of table c.args.signature.now.0) c.self.view_is in
+    let at = c.in-Some.ensures ∙ ap (λ signatures. slot_of (table_of signatures) c.args.s.now.0) c.deref.ensures.value ∙ ap (λ (table : Table). slot_of table c.args.s.now.0) c.self.view_is in
     let taken = map-set bytes_of c.self.inside.signatures.items c.in-Some.slot None
     ∙ ap (λ (table : Table). set table c.in-Some.slot None) c.self.view_is in
     subst (λ (o : Option ℕ). IfSome o (λ slot. table_of (set c.self.inside.signatures.items c.in-Some.slot None) ≡ set c.args.self.now slot None)) at taken
