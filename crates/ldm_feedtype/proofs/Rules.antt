@@ -2,6 +2,7 @@
 use Rattle.std.proofs.Common.{◌≡◌, ℕ, suc, ◌+◌, ◌-◌, ◌<◌, ◌≤◌, List, [], ◌∷◌, ◌++◌, length, false, cond, eqb, Option, Some, None, Result, Ok, Err, refl, sym, ap, ◌∙◌, subst, inl, inr, arith, append_assoc, append-nil}
 use Rattle.std.specs.Prelude.{◌↔◌, MatchResult}
 use Rattle.std.proofs.lemmas.Bool.{cases_Bool, cases_lt, cond_below, cond_above, cond-true, cond-false, eqb-true}
+use Rattle.ldm_feedtype.specs.declared.reader.TheConstants.{MOST_OPEN}
 use Rattle.ldm_feedtype.specs.declared.fault.FeedFault.{FeedFault}
 use Rattle.ldm_feedtype.specs.declared.fault.FeedFault.TheVariants.{Syntax, Deep}
 use Rattle.ldm_feedtype.specs.FeedSets.{FeedSet, set_of, complement}
@@ -15,10 +16,10 @@ use Rattle.ldm_feedtype.specs.Grammar.{Kind, Term, Expression, Spells, value, in
 -- a term is read into its place, and an expression into the place of a whole one
 abbrev IsRead : Kind → ℕ → List Part → FeedSet → Type 0
 IsRead Term depth ps set =
-    (end : ℕ) (behind : List Part) (place : Place) (outer : List Place) → length outer + depth ≤ 64
+    (end : ℕ) (behind : List Part) (place : Place) (outer : List Place) → length outer + depth ≤ MOST_OPEN
     → reading end (ps ++ behind) (Wanted place outer) ≡ reading end behind (Found (place set) outer)
 IsRead Expression depth ps set =
-    (end : ℕ) (behind : List Part) (outer : List Place) → length outer + depth ≤ 64
+    (end : ℕ) (behind : List Part) (outer : List Place) → length outer + depth ≤ MOST_OPEN
     → reading end (ps ++ behind) (Wanted whole outer) ≡ reading end behind (Found set outer)
 
 -- an operator is no closing parenthesis
@@ -44,9 +45,9 @@ is_read _ _ _ _ (inverted depth at term set spells) =
     is_read Term depth term set spells end behind (λ s. place (complement s)) outer room
 is_read _ _ _ _ (enclosed depth at close inner set spells) =
     λ end behind place outer room.
-    let fits : length outer < 64 = omega arith in
+    let fits : length outer < MOST_OPEN = omega arith in
     ap (λ (next : Result State FeedFault). and_then next (reading end ((inner ++ Mark close 41 ∷ []) ++ behind)))
-    (sym (cond_below (length outer) 64 (Ok (Wanted whole (place ∷ outer))) _ fits))
+    (sym (cond_below (length outer) MOST_OPEN (Ok (Wanted whole (place ∷ outer))) _ fits))
     ∙ ap (λ (ps : List Part). reading end ps (Wanted whole (place ∷ outer))) (append_assoc inner (Mark close 41 ∷ []) behind)
     ∙ is_read Expression depth inner set spells end (Mark close 41 ∷ behind) (place ∷ outer) (omega arith)
 is_read _ _ _ _ (single depth term set spells) =
@@ -63,7 +64,7 @@ is_read _ _ _ _ (joined depth at byte joins left right a b is first second) =
 
 -- the parts in front have brought an expression into the places, with so many parentheses still allowed
 abbrev HasFound : ℕ → List Part → FeedSet → List Place → Type 0
-HasFound depth front set [] = (depth ≡ 64) × Spells Expression 64 front set
+HasFound depth front set [] = (depth ≡ MOST_OPEN) × Spells Expression MOST_OPEN front set
 HasFound depth front set (place ∷ outer) =
     (before inner : List Part) × (at : ℕ) × (front ≡ before ++ Mark at 40 ∷ inner) × Spells Expression depth inner set
     × ((right : List Part) (b : FeedSet) → Spells Term (suc depth) right b → HasFound (suc depth) (before ++ right) (place b) outer)
@@ -74,8 +75,8 @@ Awaits depth front place outer =
     (right : List Part) (b : FeedSet) → Spells Term depth right b → HasFound depth (front ++ right) (place b) outer
 
 abbrev HasReached : ℕ → List Part → State → Type 0
-HasReached depth front (Wanted place outer) = (length outer + depth ≡ 64) × Awaits depth front place outer
-HasReached depth front (Found set outer) = (length outer + depth ≡ 64) × HasFound depth front set outer
+HasReached depth front (Wanted place outer) = (length outer + depth ≡ MOST_OPEN) × Awaits depth front place outer
+HasReached depth front (Found set outer) = (length outer + depth ≡ MOST_OPEN) × HasFound depth front set outer
 
 -- a state that was reached, with some depth
 abbrev Reached : List Part → State → Type 0
@@ -102,7 +103,7 @@ reached-inverted front at place outer (depth, (room, awaits)) = (
   ),
 )
 
-reached-opened : (front : List Part) (at : ℕ) (place : Place) (outer : List Place) → length outer < 64
+reached-opened : (front : List Part) (at : ℕ) (place : Place) (outer : List Place) → length outer < MOST_OPEN
     → Reached front (Wanted place outer) → Reached (front ++ Mark at 40 ∷ []) (Wanted whole (place ∷ outer))
 reached-opened front at place outer free (depth, (room, awaits)) =
     let deeper : depth ≡ suc (depth - 1) = omega arith in (
@@ -128,8 +129,8 @@ reached-operator front at byte joins set [] is (depth, (room, (all, spells))) = 
     room,
     λ right b term. (
       all,
-      subst (λ (ps : List Part). Spells Expression 64 ps (joins set b)) (sym (regroup front (Mark at byte) right))
-          (joined 64 at byte joins front right set b is spells (subst (λ (d : ℕ). Spells Term d right b) all term)),
+      subst (λ (ps : List Part). Spells Expression MOST_OPEN ps (joins set b)) (sym (regroup front (Mark at byte) right))
+          (joined MOST_OPEN at byte joins front right set b is spells (subst (λ (d : ℕ). Spells Term d right b) all term)),
     ),
   ),
 )
@@ -169,14 +170,14 @@ valued-ok place outer (Ok n) next is = (n, refl, cc)
 valued-ok place outer (Err fault) next is = cc is
 
 opened-ok : (at : ℕ) (place : Place) (outer : List Place) (next : State) → opened at place outer ≡ Ok next
-    → (length outer < 64) × (Wanted whole (place ∷ outer) ≡ next)
+    → (length outer < MOST_OPEN) × (Wanted whole (place ∷ outer) ≡ next)
 opened-ok at place outer next is =
-    elim (cases_lt (length outer) 64) [
+    elim (cases_lt (length outer) MOST_OPEN) [
       | inl room ↦
-          let opens : Ok (Wanted whole (place ∷ outer)) ≡ opened at place outer = cond_below (length outer) 64 _ _ room in
+          let opens : Ok (Wanted whole (place ∷ outer)) ≡ opened at place outer = cond_below (length outer) MOST_OPEN _ _ room in
           let same = opens ∙ is in (room, cc)
       | inr full ↦
-          let refused : Err (Deep at) ≡ opened at place outer = cond_above (length outer) 64 _ _ _ full refl in
+          let refused : Err (Deep at) ≡ opened at place outer = cond_above (length outer) MOST_OPEN _ _ _ full refl in
           cc (refused ∙ is)
     ]
 
@@ -237,11 +238,11 @@ reached-step front (Mark at byte) (Found set outer) next reached is = reached-be
 -- ---- the end
 
 reached-end : (end : ℕ) (front : List Part) (state : State) (set : FeedSet) → Reached front state → finished end state ≡ Ok set
-    → Spells Expression 64 front set
+    → Spells Expression MOST_OPEN front set
 reached-end end front (Wanted place outer) set reached is = cc is
 reached-end end front (Found found []) set (depth, (room, (all, spells))) is =
     let same : found ≡ set = cc is in
-    subst (Spells Expression 64 front) same spells
+    subst (Spells Expression MOST_OPEN front) same spells
 reached-end end front (Found found (place ∷ outer)) set reached is = cc is
 
 and_then-ok : (next : Result State FeedFault) (more : State → Result FeedSet FeedFault) (set : FeedSet) → and_then next more ≡ Ok set
@@ -250,27 +251,27 @@ and_then-ok (Ok state) more set is = (state, refl, is)
 and_then-ok (Err fault) more set is = cc is
 
 is_spelled : (end : ℕ) (ps front : List Part) (state : State) (set : FeedSet) → Reached front state → reading end ps state ≡ Ok set
-    → Spells Expression 64 (front ++ ps) set
+    → Spells Expression MOST_OPEN (front ++ ps) set
 is_spelled end [] front state set reached is =
-    subst (λ (all : List Part). Spells Expression 64 all set) (sym (append-nil front)) (reached-end end front state set reached is)
+    subst (λ (all : List Part). Spells Expression MOST_OPEN all set) (sym (append-nil front)) (reached-end end front state set reached is)
 is_spelled end (part ∷ behind) front state set reached is =
     let next = and_then-ok (step part state) (reading end behind) set is in
-    subst (λ (all : List Part). Spells Expression 64 all set) (regroup front part behind)
+    subst (λ (all : List Part). Spells Expression MOST_OPEN all set) (regroup front part behind)
     (is_spelled end behind (front ++ part ∷ []) next.0 set (reached-step front part state next.0 reached next.1) next.2)
 
 -- what is read from the beginning is an expression, and each expression is read
 pub reading-spells : (end : ℕ) (ps : List Part) (set : FeedSet)
-    → (reading end ps (Wanted whole []) ≡ Ok set) ↔ Spells Expression 64 ps set
+    → (reading end ps (Wanted whole []) ≡ Ok set) ↔ Spells Expression MOST_OPEN ps set
 reading-spells end ps set = (
-  λ is. is_spelled end ps [] (Wanted whole []) set (64, (refl, λ right b spells. (refl, single 64 right b spells))) is,
+  λ is. is_spelled end ps [] (Wanted whole []) set (MOST_OPEN, (refl, λ right b spells. (refl, single MOST_OPEN right b spells))) is,
   λ spells.
       ap (λ (all : List Part). reading end all (Wanted whole [])) (sym (append-nil ps))
-      ∙ is_read Expression 64 ps set spells end [] [] (omega arith),
+      ∙ is_read Expression MOST_OPEN ps set spells end [] [] (omega arith),
 )
 
 -- what a reader answers tells whether the parts are an expression
 pub answers-spell : {X : Type 0} (view : X → FeedSet) (end : ℕ) (ps : List Part) (answer : Result X FeedFault)
     → MatchResult answer (λ x. reading end ps (Wanted whole []) ≡ Ok (view x)) (λ fault. reading end ps (Wanted whole []) ≡ Err fault)
-    → MatchResult answer (λ x. Spells Expression 64 ps (view x)) (λ _. (set : FeedSet) → Spells Expression 64 ps set → ⊥)
+    → MatchResult answer (λ x. Spells Expression MOST_OPEN ps (view x)) (λ _. (set : FeedSet) → Spells Expression MOST_OPEN ps set → ⊥)
 answers-spell view end ps (Ok x) is = (reading-spells end ps (view x)).0 is
 answers-spell view end ps (Err fault) is = λ set spells. cc (sym is ∙ (reading-spells end ps set).1 spells)

@@ -1,11 +1,16 @@
 -- The operations on words are those on the sets that the words stand for.
-use Rattle.std.proofs.Common.{◌≡◌, ℕ, ◌-◌, ◌^◌, ◌<◌, ◌≤◌, max, min, false, ◌&&◌, ◌||◌, not, eqb, ◌⊎◌, refl, sym, ap, ◌∙◌, arith, inl, inr}
-use Rattle.std.specs.Prelude.{bit_and, bit_or}
+use Rattle.std.proofs.Common.{◌≡◌, ℕ, zero, suc, ◌+◌, ◌-◌, ◌*◌, ◌%◌, ◌^◌, ◌<◌, ◌≤◌, max, min, false, ◌&&◌, ◌||◌, not, eqb, cond, ◌⊎◌, Result, Ok, Err, Some, None, refl, sym, ap, ◌∙◌, arith, inl, inr}
+use Rattle.std.specs.Prelude.{bit_and, bit_or, IfOk, MatchResult}
+use Rattle.std.specs.Option.{option_map}
+use Rattle.std.specs.Result.{result_ok}
 use Rattle.std.specs.Int.{bit_at, bit_not, w32}
 use Rattle.std.proofs.Math.Path.{fun_ext}
 use Rattle.std.proofs.lemmas.Bool.{cases_lt, cond_below, cond_above}
 use Rattle.std.proofs.lemmas.Nat.Bits.{bit_at_and, bit_at_or, bit_at_not, bit_at-lt, bit_at_above}
-use Rattle.ldm_feedtype.specs.FeedSets.{FeedSet, set_of, union, meet, without, complement}
+use Rattle.std.proofs.lemmas.Nat.{mod-pow-add}
+use Rattle.ldm_types.specs.declared.feed.Feed.{Feed}
+use Rattle.ldm_feedtype.specs.declared.fault.FeedFault.{FeedFault}
+use Rattle.ldm_feedtype.specs.FeedSets.{FeedSet, set_of, number_below, number_of, union, meet, without, complement}
 
 -- a bit is 0 or 1
 bit_cases : (n k : ℕ) → (bit_at n k ≡ 0) ⊎ (bit_at n k ≡ 1)
@@ -57,3 +62,29 @@ without-complement a set small =
       | inl below ↦ ap (λ x. set_of a k && x) (sym (cond_below k 32 (not (set k)) (set k) below))
       | inr above ↦ rw (set_of-above a k small above) refl
     ])
+
+by_cases : (power b : ℕ) → (b ≡ 0) ⊎ (b ≡ 1) → cond (eqb b 1) power 0 ≡ b * power
+by_cases power b (inl none) = rw none (omega arith)
+by_cases power b (inr one) = rw one (omega arith)
+
+-- the members of a number below a bit are its rest by that power of two
+number_below-set_of : (k n : ℕ) → number_below k (set_of n) ≡ n % 2 ^ k
+unfolding number_below
+number_below-set_of zero n = omega arith
+number_below-set_of (suc k) n =
+    let low = number_below-set_of k n in
+    let next : suc k ≡ 1 + k = omega arith in
+    let split : n % 2 ^ suc k ≡ bit_at n k * 2 ^ k + n % 2 ^ k = ap (λ (m : ℕ). n % 2 ^ m) next ∙ mod-pow-add n 1 k in
+    omega (arith, low, split, by_cases (2 ^ k) (bit_at n k) (bit_cases n k))
+
+-- the number of a word's set is the word
+pub number_of-set_of : (n : ℕ) → n < 2 ^ 32 → number_of (set_of n) ≡ n
+number_of-set_of n small = number_below-set_of 32 n ∙ omega arith
+
+-- what a reader answers in place of a set is the number of that set
+pub answers-number : (read : Result FeedSet FeedFault) (answer : Result Feed FeedFault) → IfOk answer (λ feed. feed.0 < 2 ^ 32)
+    → MatchResult answer (λ feed. read ≡ Ok (set_of feed.0)) (λ fault. read ≡ Err fault)
+    → MatchResult answer (λ feed. option_map number_of (result_ok read) ≡ Some feed.0) (λ _. option_map number_of (result_ok read) ≡ None)
+answers-number read (Ok feed) small is =
+    ap (λ (found : Result FeedSet FeedFault). option_map number_of (result_ok found)) is ∙ ap (λ (n : ℕ). Some n) (number_of-set_of feed.0 small)
+answers-number read (Err fault) small is = ap (λ (found : Result FeedSet FeedFault). option_map number_of (result_ok found)) is

@@ -2,6 +2,7 @@
 use Rattle.std.proofs.Common.{◌≡◌, ℕ, List, [], ◌∷◌, ◌++◌, length, cond, eqb, ◌⊎◌, Option, Some, None, Result, Ok, Err, refl, sym, ap, ◌∙◌, subst, inl, inr, append_assoc, append-nil}
 use Rattle.std.specs.Prelude.{MatchResult, IfErr}
 use Rattle.std.proofs.lemmas.Bool.{cases_Bool, cases_lt, cond_below, cond_above, cond-true, cond-false, eqb-true, eqb-false}
+use Rattle.ldm_feedtype.specs.declared.reader.TheConstants.{MOST_OPEN}
 use Rattle.ldm_feedtype.specs.declared.fault.FeedFault.{FeedFault}
 use Rattle.ldm_feedtype.specs.declared.fault.FeedFault.TheVariants.{Syntax, Deep}
 use Rattle.ldm_feedtype.specs.FeedSets.{FeedSet, set_of, complement}
@@ -75,12 +76,12 @@ valued-err place outer (Err found) fault is = cc
 
 opened-err : (at : ℕ) (place : Place) (outer : List Place) (fault : FeedFault) → opened at place outer ≡ Err fault → fault ≡ Deep at
 opened-err at place outer fault is =
-    elim (cases_lt (length outer) 64) [
+    elim (cases_lt (length outer) MOST_OPEN) [
       | inl room ↦
-          let opens : Ok (Wanted whole (place ∷ outer)) ≡ opened at place outer = cond_below (length outer) 64 _ _ room in
+          let opens : Ok (Wanted whole (place ∷ outer)) ≡ opened at place outer = cond_below (length outer) MOST_OPEN _ _ room in
           cc (opens ∙ is)
       | inr full ↦
-          let refused : Err (Deep at) ≡ opened at place outer = cond_above (length outer) 64 _ _ _ full refl in
+          let refused : Err (Deep at) ≡ opened at place outer = cond_above (length outer) MOST_OPEN _ _ _ full refl in
           let same = refused ∙ is in
           cc
     ]

@@ -2,6 +2,7 @@
 use Rattle.std.specs.Prelude.{◌≡◌, ◌⊎◌, ℕ, List, [], ◌∷◌, ◌++◌, Err}
 use Rattle.ldm_feedtype.specs.declared.fault.FeedFault.{FeedFault}
 use Rattle.ldm_feedtype.specs.declared.fault.FeedFault.TheVariants.{Syntax, Deep}
+use Rattle.ldm_feedtype.specs.declared.reader.TheConstants.{MOST_OPEN}
 use Rattle.ldm_feedtype.specs.FeedSets.{FeedSet}
 use Rattle.ldm_feedtype.specs.Parts.{Part, Word, Mark}
 use Rattle.ldm_feedtype.specs.Words.{word_value}
@@ -9,7 +10,7 @@ use Rattle.ldm_feedtype.specs.Grammar.{Spells, Expression}
 
 -- with some parts behind them, these are an expression
 abbrev pub Begins : List Part → Type 0
-Begins front = (behind : List Part) × (set : FeedSet) × Spells Expression 64 (front ++ behind) set
+Begins front = (behind : List Part) × (set : FeedSet) × Spells Expression MOST_OPEN (front ++ behind) set
 
 -- a term may stand behind these parts, as the number `0` (48)
 abbrev pub TakesTerm : List Part → Type 0
@@ -26,7 +27,7 @@ IsFaultOf front (Mark at byte) fault =
 -- the text ends at that place, too early
 pub record EndsEarly (end : ℕ) (ps : List Part) (fault : FeedFault) : Type 0 where
   pub begins : Begins ps
-  pub unfinished : (set : FeedSet) → Spells Expression 64 ps set → ⊥
+  pub unfinished : (set : FeedSet) → Spells Expression MOST_OPEN ps set → ⊥
   pub is : fault ≡ Syntax end
 
 -- a part is the first that cannot continue an expression

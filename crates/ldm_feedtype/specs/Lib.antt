@@ -1,5 +1,6 @@
 pub mod FeedSets
 pub mod Parts
+pub mod Names
 pub mod Words
 pub mod Reading
 pub mod Grammar

@@ -4,9 +4,12 @@
 -- parenthesis, the place that the expression in it is to take, the innermost first.
 use Rattle.std.specs.Prelude.{◌≡◌, ◌↔◌, IsTrue, MatchResult, ℕ, ◌==◌, nat_lt, if◌then◌else◌, List, [], ◌∷◌, length, Option, Some, None, Result, Ok, Err}
 use Rattle.std.specs.Int.{bit_at}
+use Rattle.std.specs.Option.{option_map}
+use Rattle.std.specs.Result.{result_ok}
 use Rattle.ldm_feedtype.specs.declared.fault.FeedFault.{FeedFault}
 use Rattle.ldm_feedtype.specs.declared.fault.FeedFault.TheVariants.{Syntax, Deep}
-use Rattle.ldm_feedtype.specs.FeedSets.{FeedSet, set_of, union, meet, without, complement}
+use Rattle.ldm_feedtype.specs.declared.reader.TheConstants.{MOST_OPEN}
+use Rattle.ldm_feedtype.specs.FeedSets.{FeedSet, set_of, number_of, union, meet, without, complement}
 use Rattle.ldm_feedtype.specs.Parts.{Part, Word, Mark, parts}
 use Rattle.ldm_feedtype.specs.Words.{word_value}
 
@@ -32,9 +35,9 @@ operator byte =
     else if byte == 45 then Some without
     else None
 
--- a `(` at that place: at most 64 are open at once
+-- a `(` at that place, if one more may be open
 abbrev pub opened : ℕ → Place → List Place → Result State FeedFault
-opened at place outer = if nat_lt (length outer) 64 then Ok (Wanted whole (place ∷ outer)) else Err (Deep at)
+opened at place outer = if nat_lt (length outer) MOST_OPEN then Ok (Wanted whole (place ∷ outer)) else Err (Deep at)
 
 -- a `)` at that place
 abbrev pub closed : ℕ → FeedSet → List Place → Result State FeedFault
@@ -80,6 +83,10 @@ reading end (part ∷ behind) state = and_then (step part state) (reading end be
 -- the set that a text means, or its first fault
 abbrev pub feed_set : List ℕ → Result FeedSet FeedFault
 feed_set text = reading (length text) (parts 0 text) (Wanted whole [])
+
+-- the number whose bits are the set that a text means, where it means one
+abbrev pub feed_number : List ℕ → Option ℕ
+feed_number text = option_map number_of (result_ok (feed_set text))
 
 -- the ones of a number stand at the members of the set that was read
 abbrev pub HasMembers : ℕ → Result FeedSet FeedFault → Type 0

@@ -1,11 +1,11 @@
--- What a word means: a name of the table, or a number.
-use Rattle.std.specs.Prelude.{ℕ, ◌+◌, ◌*◌, ◌^◌, ◌==◌, nat_lt, if◌then◌else◌, List, [], ◌∷◌, map, Option, Some, None, Result, Ok, Err}
+-- What a word means: a name of a feedtype, or a number.
+use Rattle.std.specs.Prelude.{ℕ, ◌+◌, ◌*◌, ◌^◌, ◌==◌, ◌&&◌, nat_lt, if◌then◌else◌, List, [], ◌∷◌, Option, Some, None, Result, Ok, Err}
 use Rattle.std.specs.Option.{ok_or}
 use Rattle.std.specs.Char.{digit_value, is_ascii_alphabetic, is_ascii_digit}
 use Rattle.std.specs.Str.{str_eq_ignore_ascii_case}
 use Rattle.ldm_feedtype.specs.declared.fault.FeedFault.{FeedFault}
 use Rattle.ldm_feedtype.specs.declared.fault.FeedFault.TheVariants.{Unknown, Syntax, Range}
-use Rattle.ldm_feedtype.specs.declared.names.TheConstants.{NAMES}
+use Rattle.ldm_feedtype.specs.Names.{feed_names}
 
 -- the value behind the first name that is the word, whatever the case of the letters
 abbrev pub lookup : List (List ℕ × ℕ) → List ℕ → Option ℕ
@@ -13,8 +13,8 @@ lookup [] word = None
 lookup (row ∷ rows) word = if str_eq_ignore_ascii_case row.0 word then Some row.1 else lookup rows word
 
 -- the value of a name
-unfoldable pub named : List ℕ → Option ℕ
-named word = lookup (map (λ row. (row.0.now, row.1)) NAMES) word
+abbrev pub named : List ℕ → Option ℕ
+named word = lookup feed_names word
 
 -- a number that begins at that place, if it has 32 bits
 abbrev pub within : ℕ → ℕ → Result ℕ FeedFault
@@ -38,17 +38,16 @@ abbrev pub hexadecimal : ℕ → List ℕ → Result ℕ FeedFault
 hexadecimal at [] = Err (Syntax (at + 2))
 hexadecimal at (digit ∷ digits) = numeral 16 at (at + 2) 0 (digit ∷ digits)
 
--- what follows a `0` at the front: nothing, or the `x` (120) of a hexadecimal number
-abbrev pub after_zero : ℕ → List ℕ → Result ℕ FeedFault
-after_zero at [] = Ok 0
-after_zero at (byte ∷ digits) = if byte == 120 then hexadecimal at digits else Err (Syntax (at + 1))
+-- a number, by its first digit and what follows that: behind `0x` (48 and 120) it is hexadecimal, else decimal
+abbrev pub number : ℕ → ℕ → List ℕ → Result ℕ FeedFault
+number at first [] = numeral 10 at at 0 (first ∷ [])
+number at first (second ∷ digits) =
+    if first == 48 && second == 120 then hexadecimal at digits else numeral 10 at at 0 (first ∷ second ∷ digits)
 
--- the value of a word at that place: a name begins with a letter and a number with a digit,
--- `0` (48) where it is hexadecimal or nothing else
+-- the value of a word at that place: a name begins with a letter, and a number with a digit
 abbrev pub word_value : ℕ → List ℕ → Result ℕ FeedFault
 word_value at [] = Err (Syntax at)
 word_value at (byte ∷ rest) =
     if is_ascii_alphabetic byte then ok_or (named (byte ∷ rest)) (Unknown at)
-    else if byte == 48 then after_zero at rest
-    else if is_ascii_digit byte then numeral 10 at at 0 (byte ∷ rest)
+    else if is_ascii_digit byte then number at byte rest
     else Err (Syntax at)

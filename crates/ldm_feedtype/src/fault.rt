@@ -11,7 +11,7 @@ pub enum FeedFault {
     /// The byte there cannot continue an expression, or the text ends there too early.
     #[error("no feed expression from {at} on")]
     Syntax { at: usize },
-    /// The parenthesis there would be the 65th that is open.
+    /// The parenthesis there would be one more than [`MOST_OPEN`](crate::MOST_OPEN) that are open at once.
     #[error("more than 64 open parentheses at {at}")]
     Deep { at: usize },
     /// The number that begins there exceeds 2^32 - 1.

@@ -1,13 +1,13 @@
 //! Feed expressions: texts that mean a set of feedtypes.
 #![tactic(auto)]
 
-ghost use Rattle.std.specs.Prelude.{◌≡◌, ◌<◌, ◌≤◌, ◌↔◌, ℕ, List, length, Ok, Err, IfOk, IfErr, MatchResult};
+ghost use Rattle.std.specs.Prelude.{◌≡◌, ◌<◌, ◌≤◌, ◌↔◌, ℕ, List, length, Some, None, Ok, Err, IfOk, IfErr, MatchResult};
 ghost use Rattle.ldm_feedtype.specs.declared.fault.FeedFault.{FeedFault};
 ghost use Rattle.ldm_feedtype.specs.Faults.{IsFirstFault};
 ghost use Rattle.ldm_feedtype.specs.FeedSets.{FeedSet, set_of};
 ghost use Rattle.ldm_feedtype.specs.Grammar.{Spells, Expression};
 ghost use Rattle.ldm_feedtype.specs.Parts.{parts};
-ghost use Rattle.ldm_feedtype.specs.Reading.{feed_set, HasMembers};
+ghost use Rattle.ldm_feedtype.specs.Reading.{feed_set, feed_number, HasMembers};
 ghost use Rattle.ldm_feedtype.specs.Kept.{state_of, read_on, GoesOn};
 
 use crate::parts::{is_blank, word_length};
@@ -24,19 +24,21 @@ mod text;
 mod words;
 
 pub use fault::FeedFault;
+pub use reader::MOST_OPEN;
 pub use text::feed_text;
 
 /// The feedtypes that a text means, or the first fault from the left.
 ///
 /// An expression is a term, followed by any number of an operator and a term: `|` for either, `&` for both and
 /// `-` for the left without the right, none of which binds tighter. A term is a name in letters of either case, a
-/// decimal or hexadecimal number, `~` and a term, or an expression in parentheses. Spaces and tabs may stand
-/// between the parts.
+/// number, `~` and a term, or an expression in parentheses, of which [`MOST_OPEN`] may be open at once. A number is
+/// decimal digits, or `0x` and hexadecimal digits; zeros may lead either. Spaces and tabs may stand between the parts.
 pub fn read_feed(text: &[u8]) -> Result<Feed, FeedFault>
     ensures set { MatchResult result (λ feed. feed_set text.now ≡ Ok (set_of feed.0)) (λ fault. feed_set text.now ≡ Err fault) }
+    ensures number { MatchResult result (λ feed. feed_number text.now ≡ Some feed.0) (λ _. feed_number text.now ≡ None) }
     ensures members { IfOk result (λ feed. HasMembers feed.0 (feed_set text.now)) }
-    ensures expression { MatchResult result (λ feed. Spells Expression 64 (parts 0 text.now) (set_of feed.0))
-        (λ _. (set : FeedSet) → Spells Expression 64 (parts 0 text.now) set → ⊥) }
+    ensures expression { MatchResult result (λ feed. Spells Expression MOST_OPEN (parts 0 text.now) (set_of feed.0))
+        (λ _. (set : FeedSet) → Spells Expression MOST_OPEN (parts 0 text.now) set → ⊥) }
     ensures first { IfErr result (IsFirstFault (length text.now) (parts 0 text.now)) }
 {
     read(text)
@@ -74,7 +76,7 @@ fn take_part(reader: &mut Reader, text: &[u8], at: usize) -> Result<usize, FeedF
 
 /// A text is read exactly where the grammar's rules make an expression of its parts, and as the set that they give it.
 pub fn reads_the_grammar()
-    ensures { (text : List ℕ) (set : FeedSet) → (feed_set text ≡ Ok set) ↔ Spells Expression 64 (parts 0 text) set }
+    ensures { (text : List ℕ) (set : FeedSet) → (feed_set text ≡ Ok set) ↔ Spells Expression MOST_OPEN (parts 0 text) set }
 {}
 
 /// A fault stands at the first part that cannot continue an expression, by the grammar's rules, or at the end of a

@@ -11,6 +11,9 @@ use crate::words::word_value;
 use arrayvec::ArrayVec;
 use ldm_types::Feed;
 
+/// The most parentheses that are open at once.
+pub const MOST_OPEN: usize = 64;
+
 /// How a term joins what stands left of it.
 #[derive(Clone, Copy)]
 pub enum Operator {
@@ -53,7 +56,7 @@ pub enum Stage {
 #[derive(Drop)]
 pub struct Reader {
     // A place for each open parenthesis, the innermost last.
-    outer: ArrayVec<Pending, 64>,
+    outer: ArrayVec<Pending, MOST_OPEN>,
     stage: Stage,
 }
 

@@ -1,55 +1,11 @@
 use super::*;
 use std::test::Fail;
 
-// Each name, and a few in other cases.
-const NAMED: [(&[u8], u32); 51] = [
+// Names in upper case, lower case and both.
+const NAMED: [(&[u8], u32); 7] = [
     (b"NONE", 0),
-    (b"PPS", 1),
-    (b"DDS", 2),
-    (b"DOMESTIC", 2),
-    (b"DDPLUS", 3),
-    (b"HDS", 4),
-    (b"HRS", 4),
-    (b"IDS", 8),
-    (b"INTNL", 8),
-    (b"WMO", 15),
-    (b"SPARE", 16),
-    (b"UNIWISC", 32),
-    (b"MCIDAS", 32),
     (b"UNIDATA", 47),
-    (b"EXP", 0x40000000),
     (b"ANY", 0xffffffff),
-    (b"FT0", 1),
-    (b"FT1", 2),
-    (b"FT2", 4),
-    (b"FT3", 8),
-    (b"FT4", 16),
-    (b"FT5", 32),
-    (b"FT6", 64),
-    (b"FT7", 0x80),
-    (b"FT8", 0x100),
-    (b"FT9", 0x200),
-    (b"FT10", 0x400),
-    (b"FT11", 0x800),
-    (b"FT12", 0x1000),
-    (b"FT13", 0x2000),
-    (b"FT14", 0x4000),
-    (b"FT15", 0x8000),
-    (b"FT16", 0x10000),
-    (b"FT17", 0x20000),
-    (b"FT18", 0x40000),
-    (b"FT19", 0x80000),
-    (b"FT20", 0x100000),
-    (b"FT21", 0x200000),
-    (b"FT22", 0x400000),
-    (b"FT23", 0x800000),
-    (b"FT24", 0x1000000),
-    (b"FT25", 0x2000000),
-    (b"FT26", 0x4000000),
-    (b"FT27", 0x8000000),
-    (b"FT28", 0x10000000),
-    (b"FT29", 0x20000000),
-    (b"FT30", 0x40000000),
     (b"FT31", 0x80000000),
     (b"ids", 8),
     (b"UniData", 47),
@@ -57,7 +13,7 @@ const NAMED: [(&[u8], u32); 51] = [
 ];
 
 // Numbers, and what is none.
-const NUMBERS: [(&[u8], Result<u32, FeedFault>); 26] = [
+const NUMBERS: [(&[u8], Result<u32, FeedFault>); 31] = [
     (b"0", Ok(0)),
     (b"10", Ok(10)),
     (b"4294967295", Ok(0xffffffff)),
@@ -72,8 +28,13 @@ const NUMBERS: [(&[u8], Result<u32, FeedFault>); 26] = [
     (b"0xDeadBeef", Ok(0xdeadbeef)),
     (b"0xffffffff", Ok(0xffffffff)),
     (b"0x100000000", Err(FeedFault::Range { at: 0 })),
-    (b"007", Err(FeedFault::Syntax { at: 1 })),
-    (b"00", Err(FeedFault::Syntax { at: 1 })),
+    (b"007", Ok(7)),
+    (b"00", Ok(0)),
+    (b"0000000000000000000001", Ok(1)),
+    (b"04294967295", Ok(0xffffffff)),
+    (b"04294967296", Err(FeedFault::Range { at: 0 })),
+    (b"0_1", Err(FeedFault::Syntax { at: 1 })),
+    (b"00x1", Err(FeedFault::Syntax { at: 2 })),
     (b"0x", Err(FeedFault::Syntax { at: 2 })),
     (b"0xg", Err(FeedFault::Syntax { at: 2 })),
     (b"0x1g", Err(FeedFault::Syntax { at: 3 })),
@@ -112,9 +73,10 @@ const EXPRESSIONS: [(&[u8], Result<u32, FeedFault>); 18] = [
 ];
 
 // Blanks between parts.
-const BLANKS: [(&[u8], Result<u32, FeedFault>); 12] = [
+const BLANKS: [(&[u8], Result<u32, FeedFault>); 13] = [
     (b" PPS", Ok(1)),
     (b"PPS ", Ok(1)),
+    (b" 7 ", Ok(7)),
     (b"\tPPS\t|\t DDS ", Ok(3)),
     (b"~ PPS", Ok(0xfffffffe)),
     (b"( PPS )", Ok(1)),

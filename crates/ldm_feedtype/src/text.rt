@@ -1,8 +1,8 @@
 //! The text of a set of feedtypes.
-ghost use Rattle.std.specs.Prelude.{◌≡◌, ◌<◌, Ok};
+ghost use Rattle.std.specs.Prelude.{◌≡◌, ◌<◌, Some, Ok};
 ghost use Rattle.std.specs.Char.{digit_char};
 ghost use Rattle.ldm_feedtype.specs.FeedSets.{set_of};
-ghost use Rattle.ldm_feedtype.specs.Reading.{feed_set};
+ghost use Rattle.ldm_feedtype.specs.Reading.{feed_set, feed_number};
 ghost use Rattle.ldm_feedtype.specs.Text.{hex_digits, feed_digits};
 
 use arrayvec::ArrayVec;
@@ -11,7 +11,8 @@ use ldm_types::Feed;
 /// The text of a set of feedtypes: `0x` and eight lower-case hexadecimal digits.
 pub fn feed_text(feed: Feed) -> ArrayVec<u8, 16>
     ensures digits { result.items ≡ feed_digits feed.0 }
-    ensures read_back { feed_set result.items ≡ Ok (set_of feed.0) }
+    ensures set { feed_set result.items ≡ Ok (set_of feed.0) }
+    ensures read_back { feed_number result.items ≡ Some feed.0 }
 {
     let mut text = ArrayVec::new();
     text.push(b'0');

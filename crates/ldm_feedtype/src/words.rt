@@ -1,7 +1,7 @@
 //! What a word means: a name or a number.
 ghost use Rattle.std.specs.Prelude.{◌≡◌, ◌+◌, ◌^◌, ◌<◌, ◌≤◌, length, map};
 ghost use Rattle.std.specs.Str.{str_eq_ignore_ascii_case};
-ghost use Rattle.ldm_feedtype.specs.Words.{lookup, named, numeral, hexadecimal, after_zero, word_value};
+ghost use Rattle.ldm_feedtype.specs.Words.{lookup, named, numeral, hexadecimal, word_value};
 
 use crate::fault::FeedFault;
 use crate::names::NAMES;
@@ -11,15 +11,14 @@ pub fn word_value(at: usize, word: &[u8]) -> Result<u32, FeedFault>
     requires { at + length word.now < 2 ^ 64 }
     ensures { result ≡ word_value at word.now }
 {
-    match word.first() {
-        Some(b'A'..=b'Z' | b'a'..=b'z') => named(word).ok_or(FeedFault::Unknown { at }),
-        Some(b'0') => after_zero(at, &word[1..]),
-        Some(b'1'..=b'9') => numeral(10, at, at, word),
+    match word {
+        [b'A'..=b'Z' | b'a'..=b'z', ..] => named(word).ok_or(FeedFault::Unknown { at }),
+        [b'0', b'x', digits @ ..] => hexadecimal(at, digits),
+        [b'0'..=b'9', ..] => numeral(10, at, at, word),
         _ => Err(FeedFault::Syntax { at }),
     }
 }
 
-#[tactic(auto, unfolding(crate::specs::Words::named))]
 fn named(word: &[u8]) -> Option<u32>
     ensures { result ≡ named word.now }
 {
@@ -44,17 +43,7 @@ fn lookup(mut rows: &[(&[u8], u32)], word: &[u8]) -> Option<u32>
     None
 }
 
-fn after_zero(at: usize, rest: &[u8]) -> Result<u32, FeedFault>
-    requires { at + 1 + length rest.now < 2 ^ 64 }
-    ensures { result ≡ after_zero at rest.now }
-{
-    match rest.first() {
-        None => Ok(0),
-        Some(b'x') => hexadecimal(at, &rest[1..]),
-        Some(_) => Err(FeedFault::Syntax { at: at + 1 }),
-    }
-}
-
+// What follows `0x` at that place.
 fn hexadecimal(at: usize, digits: &[u8]) -> Result<u32, FeedFault>
     requires { at + 2 + length digits.now < 2 ^ 64 }
     ensures { result ≡ hexadecimal at digits.now }

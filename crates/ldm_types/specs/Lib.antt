@@ -2,3 +2,4 @@ pub mod Arena
 pub mod Feed
 pub mod Info
 pub mod InfoView
+pub mod Cursors

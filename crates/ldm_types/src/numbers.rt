@@ -3,7 +3,7 @@ ghost use Rattle.std.specs.Prelude.{◌≡◌, ◌<◌, SomeIff};
 
 use std::marker::Model;
 
-/// Who calls the queue: a number below 64.
+/// Who calls the queue: a number below [`Actor::COUNT`].
 #[derive(Clone, Copy, Debug, PartialEq, Eq, PartialOrd, Ord, Hash)]
 pub struct Actor {
     number: u32,
@@ -11,12 +11,13 @@ pub struct Actor {
 
 impl Model for Actor {
     ghost use Rattle.std.specs.Prelude.{ℕ, ◌<◌};
+    ghost use Rattle.ldm_types.specs.declared.numbers.TheConstants.Actor.{COUNT};
 
     ghost Value = { ℕ };
 
     ghost view = { λ actor. actor.number };
 
-    ghost invariant = { λ actor. actor.number < 64 };
+    ghost invariant = { λ actor. actor.number < COUNT };
 
     ghost inverse = { λ n. record { number = n } };
 }
@@ -25,9 +26,9 @@ impl Actor {
     /// How many actors there are.
     pub const COUNT: u32 = 64;
 
-    /// The actor of that number. `None` exactly where the number is 64 or more.
+    /// The actor of that number. `None` exactly where the number is [`Actor::COUNT`] or more.
     pub fn new(n: u32) -> Option<Actor>
-        ensures { SomeIff result (n < 64) n }
+        ensures { SomeIff result (n < Actor.COUNT) n }
     {
         if n < Actor::COUNT {
             Some(Actor { number: n })
@@ -39,13 +40,13 @@ impl Actor {
     /// The number.
     pub fn get(self) -> u32
         ensures value { result ≡ self }
-        ensures bound { self < 64 }
+        ensures bound { self < Actor.COUNT }
     {
         self.number
     }
 }
 
-/// One of the 64 cursor places of a queue.
+/// One of the cursor places of a queue: a number below [`CursorNo::COUNT`].
 #[derive(Clone, Copy, Debug, PartialEq, Eq, PartialOrd, Ord, Hash)]
 pub struct CursorNo {
     number: u32,
@@ -53,12 +54,13 @@ pub struct CursorNo {
 
 impl Model for CursorNo {
     ghost use Rattle.std.specs.Prelude.{ℕ, ◌<◌};
+    ghost use Rattle.ldm_types.specs.declared.numbers.TheConstants.CursorNo.{COUNT};
 
     ghost Value = { ℕ };
 
     ghost view = { λ cursor. cursor.number };
 
-    ghost invariant = { λ cursor. cursor.number < 64 };
+    ghost invariant = { λ cursor. cursor.number < COUNT };
 
     ghost inverse = { λ n. record { number = n } };
 }
@@ -67,9 +69,9 @@ impl CursorNo {
     /// How many cursor places a queue has.
     pub const COUNT: u32 = 64;
 
-    /// The cursor place of that number. `None` exactly where the number is 64 or more.
+    /// The cursor place of that number. `None` exactly where the number is [`CursorNo::COUNT`] or more.
     pub fn new(n: u32) -> Option<CursorNo>
-        ensures { SomeIff result (n < 64) n }
+        ensures { SomeIff result (n < CursorNo.COUNT) n }
     {
         if n < CursorNo::COUNT {
             Some(CursorNo { number: n })
@@ -81,7 +83,7 @@ impl CursorNo {
     /// The number.
     pub fn get(self) -> u32
         ensures value { result ≡ self }
-        ensures bound { self < 64 }
+        ensures bound { self < CursorNo.COUNT }
     {
         self.number
     }

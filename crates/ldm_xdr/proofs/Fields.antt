@@ -83,10 +83,12 @@ unsigned_found bytes at next n fits next_is e =
     let field_fits : IsBytes (take 4 (drop at bytes)) = IsBytes-take 4 (drop at bytes) (IsBytes-drop at bytes fits) in
     let len : length (take 4 (drop at bytes)) ≡ 4 = omega (arith, length-take 4 (drop at bytes), length-drop at bytes) in
     let spelled : to_be_bytes w32 n ≡ take 4 (drop at bytes) = be_bytes_4 (take 4 (drop at bytes)) n len field_fits (sym g.1) in
-    let parts : drop at bytes ≡ take 4 (drop at bytes) ++ drop next bytes = sym (take-append-drop 4 (drop at bytes)) ∙ ap (λ (x : List ℕ). take 4 (drop at bytes) ++ x) (drop-drop 4 at bytes ∙ ap (λ m. drop m bytes) (sym next_is)) in
+    let parts : drop at bytes ≡ take 4 (drop at bytes) ++ drop next bytes = sym (take-append-drop 4 (drop at bytes))
+    ∙ ap (λ (x : List ℕ). take 4 (drop at bytes) ++ x) (drop-drop 4 at bytes ∙ ap (λ m. drop m bytes) (sym next_is)) in
     (record { within = omega arith; parts = parts ∙ ap (λ (x : List ℕ). x ++ drop next bytes) (sym spelled) }, omega (arith, g.1, field_fits 0, field_fits 1, field_fits 2, field_fits 3))
 
-pub unsigned_again : (bytes : List ℕ) (at next n : ℕ) (tail : List ℕ) → n < 2 ^ 32 → next ≡ at + 4 → drop at bytes ≡ unsigned n ++ tail → (unsigned_at bytes at ≡ Ok n) × (drop next bytes ≡ tail) × (next ≤ length bytes)
+pub unsigned_again : (bytes : List ℕ) (at next n : ℕ) (tail : List ℕ) → n < 2 ^ 32 → next ≡ at + 4 → drop at bytes ≡ unsigned n ++ tail
+    → (unsigned_at bytes at ≡ Ok n) × (drop next bytes ≡ tail) × (next ≤ length bytes)
 unfolding unsigned_at
 unsigned_again bytes at next n tail lt next_is parts =
     let t = there bytes at next (to_be_bytes w32 n) tail parts next_is (omega arith) in
@@ -102,7 +104,8 @@ micros_found bytes at next n fits next_is e =
     let field = unsigned_found bytes at next n fits next_is (b.1 ∙ ap (λ m. Ok m) g.1) in
     (field.0, omega (arith, g.1, ltb-true b.0 1000000 g.0))
 
-pub micros_again : (bytes : List ℕ) (at next n : ℕ) (tail : List ℕ) → n < 1000000 → next ≡ at + 4 → drop at bytes ≡ unsigned n ++ tail → (micros_at bytes at ≡ Ok n) × (drop next bytes ≡ tail) × (next ≤ length bytes)
+pub micros_again : (bytes : List ℕ) (at next n : ℕ) (tail : List ℕ) → n < 1000000 → next ≡ at + 4 → drop at bytes ≡ unsigned n ++ tail
+    → (micros_at bytes at ≡ Ok n) × (drop next bytes ≡ tail) × (next ≤ length bytes)
 unfolding micros_at
 micros_again bytes at next n tail lt next_is parts =
     let field = unsigned_again bytes at next n tail (omega arith) next_is parts in
@@ -110,15 +113,22 @@ micros_again bytes at next n tail lt next_is parts =
 
 -- ---- the signature
 
-pub signature_found : (bytes : List ℕ) (at next : ℕ) (signature : List ℕ) → IsBytes bytes → next ≡ at + 16 → signature_at bytes at ≡ Ok signature → Stands bytes at next signature × (length signature ≡ 16) × All (λ byte. byte < 256) signature
+pub signature_found : (bytes : List ℕ) (at next : ℕ) (signature : List ℕ) → IsBytes bytes → next ≡ at + 16 → signature_at bytes at ≡ Ok signature
+    → Stands bytes at next signature × (length signature ≡ 16) × All (λ byte. byte < 256) signature
 unfolding signature_at
 signature_found bytes at next signature fits next_is e =
     let g = guard_ok (ltb (length bytes) (at + 16)) (Short at) (take 16 (drop at bytes)) signature e in
     let long : at + 16 ≤ length bytes = ltb-false _ _ g.0 in
-    let parts : drop at bytes ≡ take 16 (drop at bytes) ++ drop next bytes = sym (take-append-drop 16 (drop at bytes)) ∙ ap (λ (x : List ℕ). take 16 (drop at bytes) ++ x) (drop-drop 16 at bytes ∙ ap (λ m. drop m bytes) (sym next_is)) in
-    (record { within = omega arith; parts = parts ∙ ap (λ (x : List ℕ). x ++ drop next bytes) g.1 }, ap length (sym g.1) ∙ omega (arith, length-take 16 (drop at bytes), length-drop at bytes), subst (All (λ byte. byte < 256)) g.1 (below_256 (take 16 (drop at bytes)) (IsBytes-take 16 (drop at bytes) (IsBytes-drop at bytes fits))))
+    let parts : drop at bytes ≡ take 16 (drop at bytes) ++ drop next bytes = sym (take-append-drop 16 (drop at bytes))
+    ∙ ap (λ (x : List ℕ). take 16 (drop at bytes) ++ x) (drop-drop 16 at bytes ∙ ap (λ m. drop m bytes) (sym next_is)) in (
+      record { within = omega arith; parts = parts ∙ ap (λ (x : List ℕ). x ++ drop next bytes) g.1 },
+      ap length (sym g.1)
+          ∙ omega (arith, length-take 16 (drop at bytes), length-drop at bytes),
+      subst (All (λ byte. byte < 256)) g.1 (below_256 (take 16 (drop at bytes)) (IsBytes-take 16 (drop at bytes) (IsBytes-drop at bytes fits))),
+    )
 
-pub signature_again : (bytes : List ℕ) (at next : ℕ) (signature tail : List ℕ) → length signature ≡ 16 → next ≡ at + 16 → drop at bytes ≡ signature ++ tail → (signature_at bytes at ≡ Ok signature) × (drop next bytes ≡ tail) × (next ≤ length bytes)
+pub signature_again : (bytes : List ℕ) (at next : ℕ) (signature tail : List ℕ) → length signature ≡ 16 → next ≡ at + 16 → drop at bytes ≡ signature ++ tail
+    → (signature_at bytes at ≡ Ok signature) × (drop next bytes ≡ tail) × (next ≤ length bytes)
 unfolding signature_at
 signature_again bytes at next signature tail len next_is parts =
     let t = there bytes at next signature tail parts (omega arith) (omega arith) in
@@ -143,7 +153,8 @@ pub record IsText (limit : ℕ) (text : List ℕ) : Type 0 where
   pub no_nul : position (λ byte. eqb byte 0) text ≡ None
 
 -- a length, and behind it that many bytes and zeros up to a multiple of four, are a string
-string_parts : (bytes : List ℕ) (at next count : ℕ) (behind text : List ℕ) → drop at bytes ≡ unsigned count ++ behind → drop (at + 4) bytes ≡ behind → at + 4 + pad4 count ≤ length bytes → next ≡ at + 4 + pad4 count
+string_parts : (bytes : List ℕ) (at next count : ℕ) (behind text : List ℕ) → drop at bytes ≡ unsigned count ++ behind → drop (at + 4) bytes ≡ behind
+    → at + 4 + pad4 count ≤ length bytes → next ≡ at + 4 + pad4 count
     → take count behind ≡ text → position (λ byte. ltb 0 byte) (take (pad4 count - count) (drop count behind)) ≡ None → (length text ≡ count) × (drop at bytes ≡ string text ++ drop next bytes)
 string_parts bytes at next count behind text parts behind_is within next_is text_is clean =
     let residual = pad4 count - count in
@@ -152,14 +163,18 @@ string_parts bytes at next count behind text parts behind_is within next_is text
     let rest_len : length (drop count behind) ≡ length behind - count = length-drop count behind in
     let residual_len : length (take residual (drop count behind)) ≡ residual = omega (arith, length-take residual (drop count behind), pad4-ge count) in
     let zero : take residual (drop count behind) ≡ replicate residual 0 = zeros (take residual (drop count behind)) clean ∙ ap (λ n. replicate n 0) residual_len in
-    let last : drop residual (drop count behind) ≡ drop next bytes = drop-drop residual count behind ∙ ap (drop (count + residual)) (sym behind_is) ∙ drop-drop (count + residual) (at + 4) bytes ∙ ap (λ n. drop n bytes) (omega (arith, pad4-ge count)) in
-    let rest : drop count behind ≡ replicate residual 0 ++ drop next bytes = sym (take-append-drop residual (drop count behind)) ∙ ap (λ (x : List ℕ). x ++ drop residual (drop count behind)) zero ∙ ap (λ (x : List ℕ). replicate residual 0 ++ x) last in
-    let text_rest : behind ≡ text ++ (padding count ++ drop next bytes) = sym (take-append-drop count behind) ∙ ap (λ (x : List ℕ). x ++ drop count behind) text_is ∙ ap (λ (x : List ℕ). text ++ x) rest in
+    let last : drop residual (drop count behind) ≡ drop next bytes = drop-drop residual count behind ∙ ap (drop (count + residual)) (sym behind_is)
+    ∙ drop-drop (count + residual) (at + 4) bytes ∙ ap (λ n. drop n bytes) (omega (arith, pad4-ge count)) in
+    let rest : drop count behind ≡ replicate residual 0 ++ drop next bytes = sym (take-append-drop residual (drop count behind))
+    ∙ ap (λ (x : List ℕ). x ++ drop residual (drop count behind)) zero ∙ ap (λ (x : List ℕ). replicate residual 0 ++ x) last in
+    let text_rest : behind ≡ text ++ (padding count ++ drop next bytes) = sym (take-append-drop count behind)
+    ∙ ap (λ (x : List ℕ). x ++ drop count behind) text_is ∙ ap (λ (x : List ℕ). text ++ x) rest in
     let whole : drop at bytes ≡ unsigned count ++ (text ++ (padding count ++ drop next bytes)) = parts ∙ ap (λ (x : List ℕ). unsigned count ++ x) text_rest in
     let counted : drop at bytes ≡ unsigned (length text) ++ (text ++ (padding (length text) ++ drop next bytes)) = whole ∙ ap (λ n. unsigned n ++ (text ++ (padding n ++ drop next bytes))) (sym len) in
     (len, counted ∙ ap (λ (x : List ℕ). unsigned (length text) ++ x) (sym (append_assoc text (padding (length text)) (drop next bytes))))
 
-pub text_found : (limit : ℕ) (bytes : List ℕ) (at next : ℕ) (text : List ℕ) → IsBytes bytes → next ≡ at + 4 + pad4 (length text) → text_at limit bytes at ≡ Ok text → Stands bytes at next (string text) × IsText limit text × All (λ byte. byte < 256) text
+pub text_found : (limit : ℕ) (bytes : List ℕ) (at next : ℕ) (text : List ℕ) → IsBytes bytes → next ≡ at + 4 + pad4 (length text)
+    → text_at limit bytes at ≡ Ok text → Stands bytes at next (string text) × IsText limit text × All (λ byte. byte < 256) text
 unfolding text_at
 text_found limit bytes at next text fits next_is e =
     let a = bind_ok (unsigned_at bytes at) _ text e in
@@ -182,7 +197,8 @@ text_found limit bytes at next text fits next_is e =
       subst (All (λ byte. byte < 256)) (ap (take a.0) g.2 ∙ text_is) (below_256 (take a.0 (drop (at + 4) bytes)) (IsBytes-take a.0 (drop (at + 4) bytes) (IsBytes-drop (at + 4) bytes fits))),
     )
 
-pub text_again : (limit : ℕ) (bytes : List ℕ) (at next : ℕ) (text tail : List ℕ) → limit < 2 ^ 32 → IsText limit text → next ≡ at + 4 + pad4 (length text) → drop at bytes ≡ string text ++ tail → (text_at limit bytes at ≡ Ok text) × (drop next bytes ≡ tail) × (next ≤ length bytes)
+pub text_again : (limit : ℕ) (bytes : List ℕ) (at next : ℕ) (text tail : List ℕ) → limit < 2 ^ 32 → IsText limit text → next ≡ at + 4 + pad4 (length text)
+    → drop at bytes ≡ string text ++ tail → (text_at limit bytes at ≡ Ok text) × (drop next bytes ≡ tail) × (next ≤ length bytes)
 unfolding text_at
 text_again limit bytes at next text tail limit_fits fits next_is parts =
     let n = length text in

@@ -33,7 +33,13 @@ none_in_both test xs ys in_xs in_ys =
 pub none_in_first : (test : ℕ → Bool) (xs ys : List ℕ) → position test (xs ++ ys) ≡ None → position test xs ≡ None
 none_in_first test xs ys none =
     let both = all_clear test (xs ++ ys) none in
-    from_clear test xs (grind (arith, prefix_len-append (λ byte. not (test byte)) xs ys, length-append xs ys, prefix_len-le-length (λ byte. not (test byte)) xs, prefix_len-le-length (λ byte. not (test byte)) ys))
+    from_clear test xs (grind (
+      arith,
+      prefix_len-append (λ byte. not (test byte)) xs ys,
+      length-append xs ys,
+      prefix_len-le-length (λ byte. not (test byte)) xs,
+      prefix_len-le-length (λ byte. not (test byte)) ys,
+    ))
 
 pub none_in_second : (test : ℕ → Bool) (xs ys : List ℕ) → position test (xs ++ ys) ≡ None → position test ys ≡ None
 none_in_second test xs ys none =
@@ -57,13 +63,15 @@ pub none_in_zeros : (n : ℕ) → position not_zero (replicate n 0) ≡ None
 none_in_zeros n = from_clear not_zero (replicate n 0) (omega (arith, prefix_len-replicate (λ byte. not (not_zero byte)) n 0 refl, length-replicate {A = ℕ} n 0))
 
 -- texts within their limits and without a zero byte are those of some metadata
-pub texts_fit : (origin ident : List ℕ) → length origin ≤ 64 → length ident ≤ 255 → position (λ byte. eqb byte 0) origin ≡ None → position (λ byte. eqb byte 0) ident ≡ None → texts_fault origin ident ≡ None
+pub texts_fit : (origin ident : List ℕ) → length origin ≤ 64 → length ident ≤ 255 → position (λ byte. eqb byte 0) origin ≡ None
+    → position (λ byte. eqb byte 0) ident ≡ None → texts_fault origin ident ≡ None
 texts_fit origin ident origin_short ident_short in_origin in_ident =
     let a : ltb 64 (length origin) ≡ false = le-ltb _ _ origin_short in
     let b : ltb 255 (length ident) ≡ false = le-ltb _ _ ident_short in
     let c = none_in_both (λ byte. eqb byte 0) origin ident in_origin in_ident in
     rw (a, b, c) refl
 
-pub no_fault : (origin ident : List ℕ) (fault : InfoFault) → texts_fault origin ident ≡ Some fault → length origin ≤ 64 → length ident ≤ 255 → position (λ byte. eqb byte 0) origin ≡ None → position (λ byte. eqb byte 0) ident ≡ None → ⊥
+pub no_fault : (origin ident : List ℕ) (fault : InfoFault) → texts_fault origin ident ≡ Some fault → length origin ≤ 64 → length ident ≤ 255
+    → position (λ byte. eqb byte 0) origin ≡ None → position (λ byte. eqb byte 0) ident ≡ None → ⊥
 no_fault origin ident fault faulty origin_short ident_short in_origin in_ident =
     let fits = texts_fit origin ident origin_short ident_short in_origin in_ident in absurd cc

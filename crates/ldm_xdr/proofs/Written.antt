@@ -29,7 +29,8 @@ unwritten old at le =
     record { is = sym (take-append-drop at old) ∙ ap (λ k. take at old ++ drop k old) (sym len); room = omega (arith, length-take at old) }
 
 -- a field that was written from the front's end on; what the write may reach ends there or behind the field
-pub put_more : (old front now field part : List ℕ) (at width : ℕ) → IsWritten old front now → length front ≡ at → length field ≤ width → at + length field ≤ length old → part ≡ field ++ drop (length field) (mid_of at width now)
+pub put_more : (old front now field part : List ℕ) (at width : ℕ) → IsWritten old front now → length front ≡ at → length field ≤ width
+    → at + length field ≤ length old → part ≡ field ++ drop (length field) (mid_of at width now)
     → IsWritten old (front ++ field) (put_mid at width now part)
 put_more old front now field part at width written at_is fits room part_is =
     let n = length field in
@@ -37,14 +38,18 @@ put_more old front now field part at width written at_is fits room part_is =
     let before : take at now ≡ front = ap (take at) written.is ∙ take_at front (drop (length front) old) at at_is in
     let same : drop at now ≡ drop at old = behind old front now at written at_is in
     let long : n ≤ length (take width (drop at now)) = omega (arith, length-take width (drop at now), length-drop at now, length-written old front now written) in
-    let kept : drop n (take width (drop at now)) ++ drop width (drop at now) ≡ drop n (drop at now) = sym (drop-append-le n (take width (drop at now)) (drop width (drop at now)) long) ∙ ap (drop n) (take-append-drop width (drop at now)) in
-    let part_end : part ++ drop width (drop at now) ≡ field ++ drop n (drop at now) = ap (λ (x : List ℕ). x ++ drop width (drop at now)) part_is ∙ append_assoc field (drop n (take width (drop at now))) (drop width (drop at now)) ∙ ap (λ (x : List ℕ). field ++ x) kept in
+    let kept : drop n (take width (drop at now)) ++ drop width (drop at now) ≡ drop n (drop at now) =
+    sym (drop-append-le n (take width (drop at now)) (drop width (drop at now)) long) ∙ ap (drop n) (take-append-drop width (drop at now)) in
+    let part_end : part ++ drop width (drop at now) ≡ field ++ drop n (drop at now) = ap (λ (x : List ℕ). x ++ drop width (drop at now)) part_is
+    ∙ append_assoc field (drop n (take width (drop at now))) (drop width (drop at now)) ∙ ap (λ (x : List ℕ). field ++ x) kept in
     let last : drop n (drop at now) ≡ drop (length (front ++ field)) old = ap (drop n) same ∙ drop-drop n at old ∙ ap (λ k. drop k old) (omega (arith, length-append front field)) in
-    let whole : put_mid at width now part ≡ front ++ (field ++ drop (length (front ++ field)) old) = ap (λ (x : List ℕ). x ++ (part ++ drop width (drop at now))) before ∙ ap (λ (x : List ℕ). front ++ x) (part_end ∙ ap (λ (x : List ℕ). field ++ x) last) in
+    let whole : put_mid at width now part ≡ front ++ (field ++ drop (length (front ++ field)) old) =
+    ap (λ (x : List ℕ). x ++ (part ++ drop width (drop at now))) before ∙ ap (λ (x : List ℕ). front ++ x) (part_end ∙ ap (λ (x : List ℕ). field ++ x) last) in
     record { is = whole ∙ sym (append_assoc front field (drop (length (front ++ field)) old)); room = omega (arith, length-append front field) }
 
 -- the same where the write may reach only the field
-pub put_exactly : (old front now field part : List ℕ) (at width : ℕ) → IsWritten old front now → length front ≡ at → length field ≡ width → at + width ≤ length old → part ≡ field → IsWritten old (front ++ field) (put_mid at width now part)
+pub put_exactly : (old front now field part : List ℕ) (at width : ℕ) → IsWritten old front now → length front ≡ at → length field ≡ width
+    → at + width ≤ length old → part ≡ field → IsWritten old (front ++ field) (put_mid at width now part)
 put_exactly old front now field part at width written at_is fits room part_is =
     let none : drop (length field) (mid_of at width now) ≡ [] = drop_all (length field) (mid_of at width now) (omega (arith, length-mid old front now at width written at_is room)) in
     put_more old front now field part at width written at_is (omega arith) (omega arith) (part_is ∙ sym (append-nil field) ∙ ap (λ (x : List ℕ). field ++ x) (sym none))
@@ -55,18 +60,21 @@ put_at-from_written old field now at le written =
     written.is ∙ ap (λ k. take at old ++ field ++ drop k old) (length-append (take at old) field ∙ ap (λ k. k + length field) (length-take-le at old le))
 
 -- one field more, at the end of the front
-pub then_put : (old front now field new : List ℕ) (at : ℕ) → IsWritten old front now → length front ≡ at → at + length field ≤ length old → new ≡ put_at at field now → IsWritten old (front ++ field) new
+pub then_put : (old front now field new : List ℕ) (at : ℕ) → IsWritten old front now → length front ≡ at → at + length field ≤ length old
+    → new ≡ put_at at field now → IsWritten old (front ++ field) new
 then_put old front now field new at written at_is room new_is =
     let len = length-written old front now written in
     let before : take at now ≡ front = ap (take at) written.is ∙ take_at front (drop (length front) old) at at_is in
     let last : drop (at + length field) now ≡ drop (length (front ++ field)) old =
-    sym (drop-drop (length field) at now) ∙ ap (drop (length field)) (behind old front now at written at_is) ∙ drop-drop (length field) at old ∙ ap (λ k. drop k old) (omega (arith, length-append front field)) in
+    sym (drop-drop (length field) at now) ∙ ap (drop (length field)) (behind old front now at written at_is) ∙ drop-drop (length field) at old
+    ∙ ap (λ k. drop k old) (omega (arith, length-append front field)) in
     record { is = new_is ∙ ap (λ (x : List ℕ). x ++ field ++ drop (at + length field) now) before ∙ ap (λ (x : List ℕ). front ++ field ++ x) last; room = omega (arith, length-append front field) }
 
 -- the parts of a string, behind a front
 pub whole_string : (old front text now : List ℕ) → IsWritten old (front ++ unsigned (length text) ++ text ++ padding (length text)) now → IsWritten old (front ++ string text) now
 whole_string old front text now written =
-    let same : front ++ unsigned (length text) ++ text ++ padding (length text) ≡ front ++ string text = ap (λ (x : List ℕ). x ++ padding (length text)) (append_assoc front (unsigned (length text)) text) ∙ append_assoc front (unsigned (length text) ++ text) (padding (length text)) in
+    let same : front ++ unsigned (length text) ++ text ++ padding (length text) ≡ front ++ string text =
+    ap (λ (x : List ℕ). x ++ padding (length text)) (append_assoc front (unsigned (length text)) text) ∙ append_assoc front (unsigned (length text) ++ text) (padding (length text)) in
     subst (λ (x : List ℕ). IsWritten old x now) same written
 
 -- a front that ends at a place, and one field more behind it
@@ -74,7 +82,8 @@ pub record EndsAt (old front now : List ℕ) (at : ℕ) : Type 0 where
   pub written : IsWritten old front now
   pub end : length front ≡ at
 
-pub one_put : (old front now field new : List ℕ) (at next : ℕ) → EndsAt old front now at → at + length field ≤ length old → new ≡ put_at at field now → next ≡ at + length field → EndsAt old (front ++ field) new next
+pub one_put : (old front now field new : List ℕ) (at next : ℕ) → EndsAt old front now at → at + length field ≤ length old → new ≡ put_at at field now
+    → next ≡ at + length field → EndsAt old (front ++ field) new next
 one_put old front now field new at next done room new_is next_is =
     record { written = then_put old front now field new at done.written done.end room new_is; end = length-append front field ∙ ap (λ k. k + length field) done.end ∙ sym next_is }
 

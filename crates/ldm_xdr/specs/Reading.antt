@@ -2,6 +2,7 @@
 -- is met. Each field is read at its place, the number of bytes before it.
 use Rattle.std.specs.Prelude.{ℕ, ◌+◌, ◌-◌, ◌*◌, List, length, take, drop, Bool, Option, Some, None, Result, Ok, Err, nat_lt, ◌==◌, position, if◌then◌else◌}
 use Rattle.std.specs.Int.{w32, from_be_bytes}
+use Rattle.ldm_types.specs.declared.limits.TheConstants.{LONGEST_IDENT, LONGEST_ORIGIN}
 use Rattle.ldm_types.specs.Info.{Metadata, pad4}
 use Rattle.ldm_xdr.specs.declared.fault.XdrFault.{XdrFault}
 use Rattle.ldm_xdr.specs.declared.fault.XdrFault.TheVariants.{Short, TooLong, Padding, Micros, Nul}
@@ -52,10 +53,10 @@ metadata_at_front bytes = do
   seconds ← unsigned_at bytes 0
   micros ← micros_at bytes 4
   signature ← signature_at bytes 8
-  origin ← text_at 64 bytes 24
+  origin ← text_at LONGEST_ORIGIN bytes 24
   feed ← unsigned_at bytes (28 + pad4 (length origin))
   seqno ← unsigned_at bytes (32 + pad4 (length origin))
-  ident ← text_at 255 bytes (36 + pad4 (length origin))
+  ident ← text_at LONGEST_IDENT bytes (36 + pad4 (length origin))
   size ← unsigned_at bytes (40 + pad4 (length origin) + pad4 (length ident))
   Ok (
     record {

@@ -1,6 +1,7 @@
 -- The one spelling of the metadata of a product, in XDR (RFC 4506), this project's profile.
 use Rattle.std.specs.Prelude.{◌≡◌, ℕ, ◌-◌, ◌/◌, ◌%◌, ◌^◌, ◌<◌, ◌≤◌, List, ◌++◌, length, replicate, All}
 use Rattle.std.specs.Int.{w32, to_be_bytes}
+use Rattle.ldm_types.specs.declared.limits.TheConstants.{GREATEST_INSTANT}
 use Rattle.ldm_types.specs.Info.{Metadata, TextsFit, pad4}
 
 -- an unsigned integer (section 4.2): four bytes, the highest first
@@ -28,9 +29,9 @@ spelling info =
     ++ string info.ident
     ++ unsigned info.size
 
--- what has a spelling: the seconds of the arrival are below 2 ^ 32, as the other numbers are
+-- what has a spelling: the seconds of the greatest instant, as the other numbers, are below 2 ^ 32
 pub record Fits (info : Metadata) : Type 0 where
-  pub arrival : info.arrival ≤ 4294967295999999
+  pub arrival : info.arrival ≤ GREATEST_INSTANT
   pub signature : length info.signature ≡ 16
   pub feed : info.feed < 2 ^ 32
   pub seqno : info.seqno < 2 ^ 32

@@ -11,7 +11,7 @@ pub enum XdrFault {
     /// The bytes end within the field that begins at this place.
     #[error("the field at byte {at} is cut short")]
     Short { at: usize },
-    /// The length of the string at this place exceeds its limit: 64 for the origin, 255 for the ident.
+    /// The length of the string at this place exceeds its limit: `LONGEST_ORIGIN` or `LONGEST_IDENT`.
     #[error("the text at byte {at} is too long")]
     TooLong { at: usize },
     /// A byte behind a text, at this place, is not zero (RFC 4506, section 3).

@@ -6,11 +6,7 @@ ghost use Rattle.ldm_xdr.specs.Reading.{unsigned_at, micros_at, signature_at, te
 
 use crate::fault::XdrFault;
 use crate::length::padded;
-use ldm_types::{Feed, Info, Micros, Signature};
-
-const ORIGIN_LIMIT: u32 = 64;
-
-const IDENT_LIMIT: u32 = 255;
+use ldm_types::{Feed, Info, LONGEST_IDENT, LONGEST_ORIGIN, Micros, Signature};
 
 /// Reads the metadata at the front of the bytes, and answers how many bytes they take. Bytes may follow
 /// them. An `Err` is the fault of the first field that cannot be read, from the left.
@@ -34,11 +30,11 @@ fn read_fields(bytes: &[u8]) -> Result<(Info, usize), XdrFault>
     let seconds = read_unsigned(bytes, 0)?;
     let micros = read_micros(bytes, 4)?;
     let signature = read_signature(bytes, 8)?;
-    let origin = read_text(bytes, 24, ORIGIN_LIMIT)?;
+    let origin = read_text(bytes, 24, LONGEST_ORIGIN)?;
     let feed_at = 28 + padded(origin.len());
     let feed = read_unsigned(bytes, feed_at)?;
     let seqno = read_unsigned(bytes, feed_at + 4)?;
-    let ident = read_text(bytes, feed_at + 8, IDENT_LIMIT)?;
+    let ident = read_text(bytes, feed_at + 8, LONGEST_IDENT)?;
     let size_at = feed_at + 12 + padded(ident.len());
     let size = read_unsigned(bytes, size_at)?;
     // The tests of the fields leave nothing to refuse.
@@ -95,18 +91,17 @@ fn read_signature(bytes: &[u8], at: usize) -> Result<Signature, XdrFault>
 
 // The text of a string of at most so many bytes.
 #[tactic(auto, using(std::proofs::lemmas::List::take_rest), unfolding(crate::specs::Reading::text_at))]
-fn read_text(bytes: &[u8], at: usize, limit: u32) -> Result<&[u8], XdrFault>
+fn read_text(bytes: &[u8], at: usize, limit: usize) -> Result<&[u8], XdrFault>
     requires { at ≤ length bytes.now }
     ensures value { MatchResult result (λ text. text_at limit bytes.now at ≡ Ok text.now) (λ fault. text_at limit bytes.now at ≡ Err fault) }
     ensures within { IfOk result (λ text. at + 4 + pad4 (length text.now) ≤ length bytes.now) }
     ensures short { IfOk result (λ text. length text.now ≤ limit) }
     ensures no_nul { IfOk result (λ text. position (λ byte. byte == 0) text.now ≡ None) }
 {
-    let count = read_unsigned(bytes, at)?;
+    let count = read_unsigned(bytes, at)? as usize;
     if count > limit {
         return Err(XdrFault::TooLong { at });
     }
-    let count = count as usize;
     let behind = &bytes[at + 4..];
     if behind.len() < padded(count) {
         return Err(XdrFault::Short { at });

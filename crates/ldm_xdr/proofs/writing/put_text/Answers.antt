@@ -23,11 +23,13 @@ returns-clause-written c =
     let counted_len : length (front ++ unsigned n) ≡ text_at = omega (arith, length-append front (unsigned n)) in
     let text_len : length (front ++ unsigned n ++ text) ≡ padding_at = omega (arith, length-append (front ++ unsigned n) text) in
     let counted = then_put old front old (unsigned n) c.put_unsigned-text_at.new.into at (unwritten old at (omega arith)) front_len (omega arith) c.put_unsigned-text_at.ensures.written in
-    let with_text = then_put old (front ++ unsigned n) c.put_unsigned-text_at.new.into text c.put_bytes-padding_at.new.into text_at counted counted_len (omega arith) c.put_bytes-padding_at.ensures.written in
+    let with_text = then_put old (front ++ unsigned n) c.put_unsigned-text_at.new.into text c.put_bytes-padding_at.new.into text_at counted counted_len
+    (omega arith) c.put_bytes-padding_at.ensures.written in
     let width = text_at + c.padded.result - padding_at in
     let width_is : width ≡ pad4 n - n = omega arith in
     let fits : padding_at + width ≤ length old = omega arith in
     let now = c.put_bytes-padding_at.new.into in
-    let filled : c.fill.new.self ≡ padding n = c.fill.ensures.after (λ y same. same) ∙ ap (λ k. replicate k 0) (length-mid old (front ++ unsigned n ++ text) now padding_at width with_text text_len fits ∙ width_is) in
+    let filled : c.fill.new.self ≡ padding n = c.fill.ensures.after (λ y same. same)
+    ∙ ap (λ k. replicate k 0) (length-mid old (front ++ unsigned n ++ text) now padding_at width with_text text_len fits ∙ width_is) in
     let whole = put_exactly old (front ++ unsigned n ++ text) now (padding n) c.fill.new.self padding_at width with_text text_len (length-padding n ∙ sym width_is) fits filled in
     put_at-from_written old (string text) _ at (omega arith) (whole_string old front text _ whole)

@@ -10,4 +10,5 @@ returns-clause-written c =
     let at = c.args.at in
     let room = c.requires in
     let field = unsigned c.args.n in
-    put_at-from_written old field _ at (omega arith) (put_more old (take at old) old field c.write_u32.new.buf at (length old - at) (unwritten old at (omega arith)) (length-take-le at old (omega arith)) (omega arith) room c.write_u32.ensures)
+    put_at-from_written old field _ at (omega arith) (put_more old (take at old) old field c.write_u32.new.buf at (length old - at)
+    (unwritten old at (omega arith)) (length-take-le at old (omega arith)) (omega arith) room c.write_u32.ensures)

@@ -29,6 +29,9 @@ returns-clause-written c =
     micros_at.new.into signature_at.new.into origin_at.new.into feed_at.new.into seqno_at.new.into ident_at.new.into size_at.new.into c.put_unsigned.new.into
     micros_at.result signature_at.result origin_at.result feed_at.result seqno_at.result ident_at.result size_at.result
     (omega arith)
-    micros_at.ensures.written micros_at.ensures.end signature_at.ensures.written signature_at.ensures.end origin_at.ensures.written origin_at.ensures.end feed_at.ensures.written (omega (arith, feed_at.ensures.end, origin_len))
-    seqno_at.ensures.written seqno_at.ensures.end ident_at.ensures.written ident_at.ensures.end size_at.ensures.written (omega (arith, size_at.ensures.end, ident_len)) c.put_unsigned.ensures.written in
-    as_spelled c.args.info.now old c.put_unsigned.new.into arrival signature origin feed c.seqno.result ident c.size.result (c.get-arrival.ensures.value ∙ c.arrival.ensures) c.signature.ensures c.origin.ensures.value c.feed.ensures c.seqno.ensures c.ident.ensures.value c.size.ensures len whole
+    micros_at.ensures.written micros_at.ensures.end signature_at.ensures.written signature_at.ensures.end origin_at.ensures.written origin_at.ensures.end
+    feed_at.ensures.written (omega (arith, feed_at.ensures.end, origin_len))
+    seqno_at.ensures.written seqno_at.ensures.end ident_at.ensures.written ident_at.ensures.end size_at.ensures.written
+    (omega (arith, size_at.ensures.end, ident_len)) c.put_unsigned.ensures.written in
+    as_spelled c.args.info.now old c.put_unsigned.new.into arrival signature origin feed c.seqno.result ident c.size.result (c.get-arrival.ensures.value
+    ∙ c.arrival.ensures) c.signature.ensures c.origin.ensures.value c.feed.ensures c.seqno.ensures c.ident.ensures.value c.size.ensures len whole
