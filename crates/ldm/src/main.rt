@@ -1,25 +1,13 @@
 //! `ldm`: a node that relays data products.
 //!
-//! [`run::run_ldm`] does what the words of the program ask for, and its contract says how that ends. Here are only the
-//! real streams, and the words.
+//! [`run_ldm`] does what the words of the program ask for, and its contract says how that ends. Here are only the real
+//! streams, and the words.
 #![tactic(auto)]
 
-mod answer;
-mod command;
-mod pending;
-mod play;
-mod player;
-mod run;
-mod script;
-mod status;
 mod streams;
-#[cfg(test)]
-mod tests;
-mod text;
 
-use crate::run::run_ldm;
-use crate::status::Status;
 use crate::streams::{RealSink, RealSource};
+use ldm_commands::{Status, run_ldm};
 use ldm_outside::World;
 use std::env;
 use std::io::{self, ErrorKind};

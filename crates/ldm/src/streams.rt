@@ -45,17 +45,15 @@ impl<R: Read> Source for RealSource<R> {
     ghost use Rattle.std.specs.Prelude.{◌<◌, Some, None, IfSome, length};
     ghost use Rattle.ldm_outside.specs.Io.{ReadGives};
 
-    ghost faults = { λ s. s.faults };
-
-    ghost ends = { λ s. s.ends };
-
-    ghost left = { λ _. None };
+    ghost tells = { λ s. record { left = None; faults = s.faults; ends = s.ends } };
 
     fn read(&mut self, into: &mut [u8]) -> Got
         requires { 0 < length into.old }
-        ensures given { ReadGives result into.new None None self.old.ends self.new.ends self.old.faults self.new.faults }
+        ensures given { ReadGives result into.new (record { left = None; faults = self.old.faults; ends = self.old.ends }) (record { left = None; faults = self.new.faults; ends = self.new.ends }) }
         ensures faults_kept { self.old.faults ≤ self.new.faults }
-        ensures known { IfSome (R.remaining self.old.reader) (λ left. ReadGives result into.new (Some left) (R.remaining self.new.reader) self.old.ends self.new.ends self.old.faults self.new.faults) }
+        ensures known { IfSome (R.remaining self.old.reader) (λ left. ReadGives result into.new
+            (record { left = Some left; faults = self.old.faults; ends = self.old.ends })
+            (record { left = R.remaining self.new.reader; faults = self.new.faults; ends = self.new.ends })) }
     {
         let got = told_of_read(read_uninterrupted(&mut self.reader, into));
         match got {
@@ -80,14 +78,14 @@ impl<W: Write> Sink for RealSink<W> {
     ghost use Rattle.std.specs.Prelude.{Some, None, IfSome};
     ghost use Rattle.ldm_outside.specs.Io.{WriteGives};
 
-    ghost faults = { λ s. s.faults };
-
-    ghost written = { λ _. None };
+    ghost tells = { λ s. record { written = None; faults = s.faults } };
 
     fn write(&mut self, piece: &[u8]) -> Put
-        ensures taken { WriteGives result piece.now None None self.old.faults self.new.faults }
+        ensures taken { WriteGives result piece.now (record { written = None; faults = self.old.faults }) (record { written = None; faults = self.new.faults }) }
         ensures faults_kept { self.old.faults ≤ self.new.faults }
-        ensures known { IfSome (W.contents self.old.writer) (λ before. WriteGives result piece.now (Some before) (W.contents self.new.writer) self.old.faults self.new.faults) }
+        ensures known { IfSome (W.contents self.old.writer) (λ before. WriteGives result piece.now
+            (record { written = Some before; faults = self.old.faults })
+            (record { written = W.contents self.new.writer; faults = self.new.faults })) }
     {
         let put = told_of_write(write_uninterrupted(&mut self.writer, piece), piece.len());
         match put {

@@ -3,7 +3,7 @@ use Rattle.std.specs.Prelude.{◌≡◌, ◌<◌}
 use Rattle.std.specs.List.{Contains}
 use Rattle.ldm_model.specs.declared.event.Reply.{Reply}
 use Rattle.ldm_model.specs.declared.event.Reply.TheVariants as reply
-use Rattle.ldm_model.specs.Insert.{Outcome}
+use Rattle.ldm_model.specs.Outcome.{Outcome}
 use Rattle.ldm_book.specs.declared.replies.InsertReply.{InsertReply}
 use Rattle.ldm_book.specs.declared.replies.InsertReply.TheVariants as insert
 use Rattle.ldm_book.specs.declared.replies.LookReply.{LookReply}

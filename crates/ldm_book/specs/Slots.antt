@@ -6,6 +6,7 @@ use Rattle.std.specs.Option.{option_map}
 use Rattle.std.specs.Vec.{vec_capacity}
 use Rattle.ldm_types.specs.Arena.{Region}
 use Rattle.ldm_types.specs.Info.{Metadata}
+use Rattle.ldm_types.specs.declared.limits.TheConstants.{LARGEST_ARENA, MOST_SLOTS}
 use Rattle.ldm_model.specs.Product.{extent_of}
 use Rattle.ldm_model.specs.Stat.{extents}
 use Rattle.ldm_regions.specs.Layout.{Tiles}
@@ -90,5 +91,5 @@ pub record IsSlotted (p : Inside) : Type 0 where
   -- so that a push takes no memory
   pub roomy : p.regions.slots ≤ vec_capacity p.free
   pub used : p.used ≡ extents (map kept_region (kept_entries p.slots.items p.by_number.entries))
-  pub few : p.regions.slots ≤ 1048576
-  pub small : p.regions.arena ≤ 1073741824
+  pub few : p.regions.slots ≤ MOST_SLOTS
+  pub small : p.regions.arena ≤ LARGEST_ARENA

@@ -2,6 +2,7 @@
 use Rattle.std.specs.Prelude.{◌≡◌, ℕ, ◌+◌, ◌≤◌, ◌<◌, List, [], Option, Some, None}
 use Rattle.std.specs.List.{All}
 use Rattle.std.specs.Vec.{vec_len}
+use Rattle.ldm_types.specs.declared.limits.TheConstants.{LARGEST_ARENA, MOST_SLOTS}
 use Rattle.ldm_book.specs.declared.book.Book.TheInside.{Inside}
 use Rattle.ldm_book.specs.View.{BookView, Kept}
 use Rattle.ldm_book.specs.Products.{LieApart}
@@ -25,6 +26,6 @@ pub record IsSound (b : Inside) : Type 0 where
   pub arena : vec_len b.arena ≡ b.products.arena
   pub timed : IsTimed b.last b.admitted b.products.rows
   pub apart : LieApart b.products.arena b.products.rows
-  pub arena_small : vec_len b.arena ≤ 1073741824
-  pub slots_small : b.products.slots ≤ 1048576
+  pub arena_small : vec_len b.arena ≤ LARGEST_ARENA
+  pub slots_small : b.products.slots ≤ MOST_SLOTS
   pub some_slot : 0 < b.products.slots

@@ -14,7 +14,9 @@ ghost use Rattle.ldm_book.specs.Products.{LieApart};
 use crate::products::Products;
 use crate::replies::{CreateFault, ExpireReply, InsertReply, LookReply, Stat};
 use crate::row::extent;
-use ldm_types::{Actor, Info, Micros, Signature};
+use ldm_types::{
+    ARENA_UNIT, Actor, Info, LARGEST_ARENA, MOST_SLOTS, Micros, SMALLEST_ARENA, Signature,
+};
 use ldm_xdr::info_len;
 use std::alloc::Global;
 use std::marker::Model;
@@ -45,41 +47,26 @@ impl Book {
     ghost use Rattle.ldm_book.specs.Answers.{IfRefused, IfNothing, KeepsPlaces, Follows, insert_answer, look_answer, expire_answer, stat_answer};
     ghost use Rattle.ldm_book.specs.Limits.{IsGoodArena, IsGoodSlots, IsFaultOf};
 
-    /// The least arena, in bytes.
-    pub const LEAST_ARENA: u64 = 64;
-
-    /// The greatest arena, in bytes.
-    pub const GREATEST_ARENA: u64 = 1_073_741_824;
-
-    /// The greatest number of slots.
-    pub const MOST_SLOTS: u32 = 1_048_576;
-
     /// An empty queue with an arena of so many bytes and so many product slots. It takes all the memory that
     /// the queue will ever use.
     ///
-    /// In this project's profile the arena is a multiple of 8 from [`Book::LEAST_ARENA`] up to
-    /// [`Book::GREATEST_ARENA`], and the slots are from 1 up to [`Book::MOST_SLOTS`]. A fault of the arena is
-    /// told before one of the slots, and want of memory after both.
+    /// In this project's profile the arena is a multiple of [`ARENA_UNIT`] from [`SMALLEST_ARENA`] up to
+    /// [`LARGEST_ARENA`], and the slots are from 1 up to [`MOST_SLOTS`]. A fault of the arena is told before one
+    /// of the slots, and want of memory after both.
     pub fn create(alloc: Global, arena: u64, slots: u32) -> Result<Book, CreateFault>
         ensures stands { IfOk result (λ book. StandsFor book (empty arena slots)) }
         ensures limits { IfOk result (λ _. IsGoodArena arena × IsGoodSlots slots) }
         ensures faults { IfErr result (IsFaultOf arena slots) }
     {
-        if arena % 8 != 0 || arena < Book::LEAST_ARENA || arena > Book::GREATEST_ARENA {
+        if arena % ARENA_UNIT != 0 || arena < SMALLEST_ARENA || arena > LARGEST_ARENA {
             return Err(CreateFault::BadArena { arena });
         }
-        if slots == 0 || slots > Book::MOST_SLOTS {
+        if slots == 0 || slots > MOST_SLOTS {
             return Err(CreateFault::BadSlots { slots });
         }
-        let Ok(bytes) = vec![in alloc; 0u8; arena as usize] else {
-            return Err(CreateFault::OutOfMemory);
-        };
-        let Ok(products) = Products::create(alloc, arena, slots) else {
-            return Err(CreateFault::OutOfMemory);
-        };
         Ok(Book {
-            arena: bytes,
-            products,
+            arena: vec![in alloc; 0u8; arena as usize]?,
+            products: Products::create(alloc, arena, slots)?,
             admitted: 0,
             last: None,
         })
@@ -127,12 +114,13 @@ impl Book {
     }
 
     /// The queued product of that signature, if there is one.
-    pub fn look(&mut self, actor: Actor, signature: &Signature) -> LookReply
-        ensures answers { (s : State) → StandsFor self.old s → Follows (look_answer result) self.new (look_of s signature.now.0) }
+    // It changes nothing, and takes `&mut self` so that all events of a queue have one form.
+    pub fn look(&mut self, actor: Actor, s: &Signature) -> LookReply
+        ensures answers { (state : State) → StandsFor self.old state → Follows (look_answer result) self.new (look_of state s.now.0) }
         ensures unchanged { self.new ≡ self.old }
     {
         let _ = actor;
-        self.products.look(signature)
+        self.products.look(s)
     }
 
     /// Evicts the oldest product that no cursor holds, if there is one.
@@ -150,6 +138,7 @@ impl Book {
     }
 
     /// How full the queue is.
+    // It changes nothing either: `&mut self` for the same reason as in `look`.
     pub fn stat(&mut self, actor: Actor) -> Stat
         ensures answers { (s : State) → StandsFor self.old s → Follows (stat_answer result) self.new (stat_of s) }
         ensures unchanged { self.new ≡ self.old }

@@ -9,8 +9,6 @@ mod book;
 mod products;
 mod replies;
 mod row;
-#[cfg(test)]
-mod tests;
 
 pub use book::Book;
 pub use replies::{CreateFault, ExpireReply, InsertReply, LookReply, Stat};

@@ -14,7 +14,9 @@ use crate::row::{Row, extent};
 use ldm_regions::Regions;
 use ldm_sigindex::SigIndex;
 use ldm_timeindex::TimeIndex;
-use ldm_types::{Info, Micros, OutOfMemory, Signature};
+use ldm_types::{
+    ARENA_UNIT, Info, LARGEST_ARENA, MOST_SLOTS, Micros, OutOfMemory, SMALLEST_ARENA, Signature,
+};
 use std::alloc::Global;
 use std::marker::Model;
 
@@ -50,10 +52,10 @@ impl Products {
     /// No products, with all the memory that they will ever take but the arena's. An error only where there is
     /// too little of it.
     pub(crate) fn create(alloc: Global, arena: u64, slots: u32) -> Result<Products, OutOfMemory>
-        requires whole { arena % 8 ≡ 0 }
-        requires least { 64 ≤ arena }
-        requires greatest { arena ≤ 1073741824 }
-        requires slots { slots ≤ 1048576 }
+        requires whole { arena % ARENA_UNIT ≡ 0 }
+        requires least { SMALLEST_ARENA ≤ arena }
+        requires greatest { arena ≤ LARGEST_ARENA }
+        requires slots { slots ≤ MOST_SLOTS }
         ensures { IfOk result (λ products. products ≡ record { arena = arena; slots = slots; rows = [] }) }
     {
         let mut kept = Vec::with_capacity(alloc, slots as usize)?;
@@ -75,7 +77,7 @@ impl Products {
     /// How many there are.
     pub(crate) fn len(&self) -> u64
         ensures count { result ≡ length self.now.rows }
-        ensures few { result ≤ 1048576 }
+        ensures few { result ≤ MOST_SLOTS }
     {
         (self.slots.len() - self.free.len()) as u64
     }

@@ -1,6 +1,7 @@
 //! What the calls of a queue answer. Numbers of products count admitted products from 0.
 
-use ldm_types::Micros;
+use ldm_types::{Micros, OutOfMemory};
+use std::alloc::AllocError;
 
 /// Why no queue was made. The faults are tested in this order.
 #[derive(Clone, Copy, Debug, PartialEq, Eq)]
@@ -11,6 +12,28 @@ pub enum CreateFault {
     BadSlots { slots: u32 },
     /// There is no memory for the tables.
     OutOfMemory,
+}
+
+impl From<OutOfMemory> for CreateFault {
+    ghost use Rattle.std.specs.Prelude.{◌≡◌};
+    ghost use Rattle.ldm_book.specs.declared.replies.CreateFault.TheVariants as fault;
+
+    ghost from_gives = { λ _ made. made ≡ fault.OutOfMemory };
+
+    fn from(_error: OutOfMemory) -> CreateFault {
+        CreateFault::OutOfMemory
+    }
+}
+
+impl From<AllocError> for CreateFault {
+    ghost use Rattle.std.specs.Prelude.{◌≡◌};
+    ghost use Rattle.ldm_book.specs.declared.replies.CreateFault.TheVariants as fault;
+
+    ghost from_gives = { λ _ made. made ≡ fault.OutOfMemory };
+
+    fn from(_error: AllocError) -> CreateFault {
+        CreateFault::OutOfMemory
+    }
 }
 
 /// What inserting a product led to.

@@ -1,8 +1,8 @@
 -- Which products are held, and what evicting one does.
-use Rattle.std.specs.Prelude.{ℕ, zero, suc, Bool, false, not, ◌&&◌, ◌==◌, nat_le, List, [], ◌∷◌, ◌++◌, map, filter, Option, Some, None, if◌then◌else◌, slice_get}
-use Rattle.std.specs.List.{list_any}
+use Rattle.std.specs.Prelude.{ℕ, zero, suc, Bool, false, not, ◌&&◌, ◌==◌, nat_le, List, [], ◌∷◌, ◌++◌, length, map, filter, Option, Some, None, if◌then◌else◌, slice_get}
+use Rattle.std.specs.List.{list_any, range_with_len}
 use Rattle.ldm_types.specs.Feed.{feeds_meet}
-use Rattle.ldm_model.specs.State.{State, Row, Cursor, Queued, queued}
+use Rattle.ldm_model.specs.State.{State, Row, Cursor, Queued, end_of, queued}
 
 abbrev pub is_number : ℕ → Option ℕ → Bool
 is_number n None = false
@@ -22,16 +22,20 @@ numbers s = map (λ (q : Queued). q.number) (queued s)
 
 -- the numbers that open cursors hold, in ascending order and each once
 abbrev pub held : State → List ℕ
-held s = filter (is_held s) (numbers s)
+held s = filter (is_held s) (range_with_len 0 (end_of s))
 
--- the numbers of the other present rows, in ascending order
+-- how many products are held
+abbrev pub count_held : State → ℕ
+count_held s = length (held s)
+
+-- the numbers of the present rows that nobody holds, in ascending order
 abbrev pub unheld : State → List ℕ
 unheld s = filter (λ n. not (is_held s n)) (numbers s)
 
 -- these rows, of which the one at a place is evicted
 abbrev pub without_place : List Row → ℕ → List Row
 without_place [] n = []
-without_place (row ∷ rows) zero = record { product = row.product; time = row.time; place = None } ∷ rows
+without_place (row ∷ rows) zero = record row { place = None } ∷ rows
 without_place (row ∷ rows) (suc n) = row ∷ without_place rows n
 
 -- a cursor, after a row with these feedtypes was evicted: the loss is its own where its feedtypes meet the
@@ -45,12 +49,7 @@ with_loss n feed (Some cursor) =
 
 abbrev pub evict_row : State → ℕ → Option Row → State
 evict_row s n None = s
-evict_row s n (Some row) = record {
-  arena = s.arena;
-  slots = s.slots;
-  rows = without_place s.rows n;
-  cursors = map (with_loss n row.product.info.feed) s.cursors;
-}
+evict_row s n (Some row) = record s { rows = without_place s.rows n; cursors = map (with_loss n row.product.info.feed) s.cursors }
 
 -- the state after the row of that number is evicted
 abbrev pub evict : State → ℕ → State

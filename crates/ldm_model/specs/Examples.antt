@@ -1,12 +1,17 @@
 -- Sample products, events and states for the worked examples.
-use Rattle.std.specs.Prelude.{ℕ, List, [], ◌∷◌, replicate, Option, Some, None}
+use Rattle.std.specs.Prelude.{ℕ, ◌-◌, List, [], ◌∷◌, ◌++◌, length, map, take, drop, replicate, Option, Some, None}
 use Rattle.ldm_types.specs.Info.{Metadata}
 use Rattle.ldm_types.specs.Arena.{Region}
 use Rattle.ldm_model.specs.declared.event.Event.{Event}
-use Rattle.ldm_model.specs.declared.event.Event.TheVariants.{Insert, Look, Expire, Stat}
+use Rattle.ldm_model.specs.declared.event.Event.TheVariants.{Insert, OpenCursor, Step, Release, Tally, Look, Expire}
+use Rattle.ldm_model.specs.declared.event.Start.{Start}
+use Rattle.ldm_model.specs.declared.event.Start.TheVariants as start
+use Rattle.ldm_model.specs.declared.event.Entry.{Entry}
 use Rattle.ldm_model.specs.declared.event.Reply.{Reply}
 use Rattle.ldm_model.specs.State.{State, Cursor, empty}
-use Rattle.ldm_model.specs.Step.{next, replies}
+use Rattle.ldm_model.specs.Next.{Call, next, replies}
+use Rattle.ldm_model.specs.History.{entries_of}
+use Rattle.ldm_model.specs.Law.{Point}
 
 -- 16 times the same byte
 abbrev pub signature_of : ℕ → List ℕ
@@ -19,22 +24,48 @@ sample_info byte size = record { arrival = 100; signature = signature_of byte; o
 abbrev pub insert_of : ℕ → ℕ → ℕ → Event
 insert_of now byte size = Insert now (sample_info byte size) (replicate size 65)
 
+-- the same with other feedtypes
+abbrev pub insert_for : ℕ → ℕ → ℕ → Event
+insert_for feed byte size = Insert 100 (record (sample_info byte size) { feed = feed }) (replicate size 65)
+
+-- a product with a body of its own
+abbrev pub insert_body : ℕ → List ℕ → Event
+insert_body byte body = Insert 100 (sample_info byte (length body)) body
+
+-- a cursor for feed 2
+abbrev pub open_from : Start → Event
+open_from from = OpenCursor (record { 0 = 2 }) from
+
+abbrev pub after_signature : ℕ → Start
+after_signature byte = start.AfterSignature (record { 0 = signature_of byte })
+
+-- an actor's call
+abbrev pub by : ℕ → Event → Call
+by actor event = record { actor = actor; event = event }
+
 abbrev pub look_for : ℕ → Event
 look_for byte = Look (record { 0 = signature_of byte })
 
 abbrev pub expire_from : State → Reply
 expire_from s = (next s 0 Expire).reply
 
--- the replies of a new queue
-abbrev pub answers : ℕ → ℕ → List Event → List Reply
-answers arena slots events = replies (empty arena slots) 0 events
+-- the replies of a new queue, to calls and to actor 0
+abbrev pub answers_to : ℕ → ℕ → List Call → List Reply
+answers_to arena slots calls = replies (empty arena slots) calls
 
-abbrev pub after_events : State → List Event → State
-after_events s [] = s
-after_events s (event ∷ events) = after_events (next s 0 event).state events
+abbrev pub answers : ℕ → ℕ → List Event → List Reply
+answers arena slots events = answers_to arena slots (map (by 0) events)
+
+-- the last so many replies of a new queue
+abbrev pub last_answers : ℕ → List Call → List Reply
+last_answers n calls = drop (length calls - n) (answers_to 168 10 calls)
+
+abbrev pub after_calls : State → List Call → State
+after_calls s [] = s
+after_calls s (call ∷ calls) = after_calls (next s call.actor call.event).state calls
 
 abbrev pub state_after : ℕ → ℕ → List Event → State
-state_after arena slots events = after_events (empty arena slots) events
+state_after arena slots events = after_calls (empty arena slots) (map (by 0) events)
 
 abbrev pub insert_into : State → ℕ → ℕ → ℕ → Reply
 insert_into s now byte size = (next s 0 (insert_of now byte size)).reply
@@ -43,7 +74,7 @@ abbrev pub region : ℕ → ℕ → Region
 region start extent = record { start = start; extent = extent }
 
 abbrev pub with_cursor : Cursor → State → State
-with_cursor cursor s = record { arena = s.arena; slots = s.slots; rows = s.rows; cursors = Some cursor ∷ replicate 63 None }
+with_cursor cursor s = record s { cursors = Some cursor ∷ replicate 63 None }
 
 -- a cursor holds row 1
 abbrev pub holding_second : State → State
@@ -60,3 +91,37 @@ untold_of (Some cursor ∷ cursors) = cursor.untold
 
 abbrev pub untold_of_first : State → List ℕ
 untold_of_first s = untold_of s.cursors
+
+-- Three products of 56 bytes fill an arena of 168. Actor 1 has cursor 0 from the oldest product on, actor 2 has cursor 1
+-- behind the first and holds the second, and a fourth product evicts the first.
+abbrev pub two_readers : List Call
+two_readers =
+    by 0 (insert_of 100 1 4) ∷ by 0 (insert_of 100 2 4) ∷ by 0 (insert_of 100 3 4)
+    ∷ by 1 (open_from start.Oldest) ∷ by 2 (open_from (after_signature 1)) ∷ by 2 (Step 1) ∷ by 0 (insert_of 100 4 4) ∷ []
+
+-- Reader 1 is told of its loss, is given the second product, and holds it while a fifth one evicts the third.
+abbrev pub told_and_given : List Call
+told_and_given = by 1 (Step 0) ∷ by 1 (Step 0) ∷ by 1 (Tally 0) ∷ by 0 (insert_of 100 5 4) ∷ by 1 (Step 0) ∷ by 1 (Release 0) ∷ []
+
+-- It is told of the third, and given the fourth.
+abbrev pub told_again : List Call
+told_again = by 1 (Step 0) ∷ by 1 (Step 0) ∷ by 1 (Tally 0) ∷ []
+
+abbrev pub example_calls : List Call
+example_calls = two_readers ++ told_and_given ++ told_again
+
+abbrev pub example_entries : List Entry
+example_entries = entries_of (empty 168 10) example_calls
+
+-- reader 1, when so many entries have come since its opening
+abbrev pub reader : ℕ → Point
+reader n = record {
+  arena = 168;
+  slots = 10;
+  before = take 3 example_entries;
+  owner = 1;
+  feed = 2;
+  start = start.Oldest;
+  k = 0;
+  since = take n (drop 4 example_entries);
+}

@@ -3,7 +3,7 @@ use Rattle.std.specs.Prelude.{ℕ, List, [], ◌∷◌}
 use Rattle.ldm_model.specs.declared.event.Reply.TheVariants.{Expired, Nothing}
 use Rattle.ldm_model.specs.State.{State}
 use Rattle.ldm_model.specs.Evict.{unheld, evict}
-use Rattle.ldm_model.specs.Insert.{Outcome, unchanged}
+use Rattle.ldm_model.specs.Outcome.{Outcome, unchanged}
 
 -- the first of these rows is evicted
 abbrev pub expire_first : State → List ℕ → Outcome

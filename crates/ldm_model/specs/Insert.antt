@@ -2,25 +2,13 @@
 -- left, locked, admitted. In the first four nothing changes.
 use Rattle.std.specs.Prelude.{ℕ, ◌+◌, Bool, false, nat_lt, nat_le, [], ◌∷◌, ◌++◌, length, take, max, Option, Some, None, if◌then◌else◌}
 use Rattle.std.specs.List.{find, range_with_len}
-use Rattle.ldm_model.specs.declared.event.Reply.{Reply}
+use Rattle.ldm_types.specs.declared.limits.TheConstants.{GREATEST_INSTANT}
 use Rattle.ldm_model.specs.declared.event.Reply.TheVariants.{Admitted, TooBig, Duplicate, TimeEnd, Locked}
 use Rattle.ldm_model.specs.Product.{Product, extent_of}
-use Rattle.ldm_model.specs.State.{State, Queued, Row, end_of, last_time, queued, queued_with}
+use Rattle.ldm_model.specs.State.{State, Queued, end_of, last_time, queued, queued_with}
 use Rattle.ldm_model.specs.Room.{fit_in, has_room}
-use Rattle.ldm_model.specs.Evict.{held, unheld, evict_all}
-
--- what a call answers, and the state that it leaves
-pub record Outcome : Type 0 where
-  pub reply : Reply
-  pub state : State
-
--- a reply that changes nothing
-abbrev pub unchanged : State → Reply → Outcome
-unchanged s reply = record { reply = reply; state = s }
-
--- the greatest instant, in microseconds
-abbrev pub greatest_instant : ℕ
-greatest_instant = 4294967295999999
+use Rattle.ldm_model.specs.Outcome.{Outcome, unchanged}
+use Rattle.ldm_model.specs.Evict.{count_held, unheld, evict_all}
 
 -- the state after the first j of the rows that nobody holds are evicted
 abbrev pub after_evicting : State → ℕ → State
@@ -35,25 +23,25 @@ abbrev pub time_after : Option ℕ → ℕ → ℕ
 time_after None now = now
 time_after (Some last) now = max now (last + 1)
 
--- the new row: the product at the best fit
-abbrev pub new_row : State → ℕ → Product → Row
-new_row s now p = record { product = p; time = time_after (last_time s) now; place = fit_in s (extent_of p.info) }
+-- the state with a product admitted at a place, at the moment `now`
+abbrev pub admit : State → ℕ → Product → Option ℕ → State
+admit s now p place = record s { rows = s.rows ++ record { product = p; time = time_after (last_time s) now; place = place } ∷ [] }
 
--- admitted, after so many evictions led to this state
+-- admitted at the best fit, after so many evictions led to this state
 abbrev pub admitted : State → ℕ → Product → ℕ → Outcome
 admitted s now p evicted = record {
   reply = Admitted (end_of s) (time_after (last_time s) now) evicted;
-  state = record { arena = s.arena; slots = s.slots; rows = s.rows ++ new_row s now p ∷ []; cursors = s.cursors };
+  state = admit s now p (fit_in s (extent_of p.info));
 }
 
 -- the cases locked and admitted
 abbrev pub insert_by_evictions : State → ℕ → Product → Option ℕ → Outcome
-insert_by_evictions s now p None = unchanged s (Locked (length (held s)))
+insert_by_evictions s now p None = unchanged s (Locked (count_held s))
 insert_by_evictions s now p (Some j) = admitted (after_evicting s j) now p j
 
 abbrev pub is_last : Option ℕ → Bool
 is_last None = false
-is_last (Some last) = nat_le greatest_instant last
+is_last (Some last) = nat_le GREATEST_INSTANT last
 
 -- the case of no insertion time left, and those behind it
 abbrev pub insert_new : State → ℕ → Product → Outcome

@@ -3,9 +3,9 @@ use Rattle.std.specs.Prelude.{ℕ, ◌+◌, List, [], ◌∷◌, length}
 use Rattle.ldm_types.specs.Arena.{Region, gaps, longest}
 use Rattle.ldm_model.specs.declared.event.Reply.{Reply}
 use Rattle.ldm_model.specs.declared.event.Reply.TheVariants as reply
-use Rattle.ldm_model.specs.State.{State, end_of, occupied, slots_taken}
-use Rattle.ldm_model.specs.Evict.{held}
-use Rattle.ldm_model.specs.Insert.{Outcome, unchanged}
+use Rattle.ldm_model.specs.State.{State, end_of, occupied, queued}
+use Rattle.ldm_model.specs.Outcome.{Outcome, unchanged}
+use Rattle.ldm_model.specs.Evict.{count_held}
 
 -- the positions that these regions cover, where no two share one
 abbrev pub extents : List Region → ℕ
@@ -15,7 +15,7 @@ extents (region ∷ regions) = region.extent + extents regions
 -- how many products were admitted, are queued and are held, the bytes that the queued ones take, and the extent
 -- of the longest gap
 abbrev pub stat_reply : State → Reply
-stat_reply s = reply.Stat (end_of s) (slots_taken s) (length (held s)) (extents (occupied s)) (longest (gaps (occupied s) s.arena))
+stat_reply s = reply.Stat (end_of s) (length (queued s)) (count_held s) (extents (occupied s)) (longest (gaps (occupied s) s.arena))
 
 unfoldable pub stat : State → Outcome
 stat s = unchanged s (stat_reply s)

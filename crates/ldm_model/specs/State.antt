@@ -1,6 +1,7 @@
 -- The state of a queue.
-use Rattle.std.specs.Prelude.{ℕ, ◌+◌, Bool, List, [], ◌∷◌, length, map, replicate, Option, Some, None, bytes_eq}
+use Rattle.std.specs.Prelude.{ℕ, ◌+◌, Bool, List, [], ◌∷◌, length, map, replicate, Option, Some, None, is_some, slice_get, bytes_eq}
 use Rattle.std.specs.List.{find}
+use Rattle.std.specs.Option.{option_and_then}
 use Rattle.ldm_types.specs.Arena.{Region}
 use Rattle.ldm_model.specs.Product.{Product, extent_of}
 
@@ -77,6 +78,14 @@ has_signature signature q = bytes_eq q.product.info.signature signature
 -- the present row of that signature
 abbrev pub queued_with : List ℕ → List Queued → Option Queued
 queued_with signature rows = find (has_signature signature) rows
+
+-- where the row of a number begins, if there is one and it is present
+abbrev pub place_of_row : Option Row → Option ℕ
+place_of_row row = option_and_then (λ (r : Row). r.place) row
+
+-- whether the row of that number is present
+abbrev pub is_queued : State → ℕ → Bool
+is_queued s n = is_some (place_of_row (slice_get s.rows n))
 
 -- where a present row lies
 abbrev pub region_of : Queued → Region

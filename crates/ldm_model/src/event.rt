@@ -1,7 +1,7 @@
 //! Events of the queue, the replies to them, and the entries of a history.
 
 use crate::bytes::Bytes;
-use ldm_types::{Actor, Info, Micros, Signature};
+use ldm_types::{Actor, CursorNo, Feed, Info, Micros, Signature};
 
 /// Where a cursor begins.
 #[derive(Clone, Copy, Debug)]
@@ -25,18 +25,45 @@ pub enum Event {
         info: Info,
         body: Bytes,
     },
+    /// A cursor is opened for these feedtypes.
+    OpenCursor {
+        feed: Feed,
+        start: Start,
+    },
+    /// A cursor goes on to the next product of its feedtypes.
+    Step {
+        k: CursorNo,
+    },
+    /// At most `len` bytes of the body that a cursor holds are read, from `offset` on.
+    Read {
+        k: CursorNo,
+        offset: u32,
+        len: u32,
+    },
+    /// A cursor lets the product go that it holds.
+    Release {
+        k: CursorNo,
+    },
+    /// A cursor is closed.
+    Close {
+        k: CursorNo,
+    },
     /// A product is looked for by its signature.
     Look {
         signature: Signature,
     },
     /// The oldest product that no cursor holds is evicted.
     Expire,
+    /// What a cursor was given, what it lost, and what is left for it, is counted.
+    Tally {
+        k: CursorNo,
+    },
     /// How full the queue is.
     Stat,
 }
 
 /// What the queue answers. Numbers of products count admitted products from 0.
-#[derive(Clone, Copy, Debug)]
+#[derive(Drop)]
 pub enum Reply {
     /// The product is number `n` and got that insertion time; `evicted` products made room for it.
     Admitted {
@@ -59,6 +86,53 @@ pub enum Reply {
     Locked {
         held: u64,
     },
+    /// The cursor has place `k`.
+    Opened {
+        k: CursorNo,
+    },
+    /// All 64 cursor places are taken.
+    AllBusy,
+    /// No queued product has the signature that the cursor was to begin behind.
+    NotQueued,
+    /// The cursor is given product `n`, which was inserted at that time, and holds it.
+    Product {
+        n: u64,
+        time: Micros,
+        info: Info,
+    },
+    /// `count` products of the cursor's feedtypes were evicted before they were given to it, and it was not told yet:
+    /// the least of their numbers and the greatest.
+    Gap {
+        count: u64,
+        first: u64,
+        last: u64,
+    },
+    /// No product of the cursor's feedtypes is left. `at` is the number that the next admitted product will have.
+    End {
+        at: u64,
+    },
+    /// The place has no cursor of this actor.
+    NoCursor,
+    /// The cursor holds product `n`, so it is given no other one.
+    Holding {
+        n: u64,
+    },
+    /// The bytes that were read.
+    Bytes {
+        bytes: Bytes,
+    },
+    /// The cursor holds nothing.
+    NotHeld,
+    /// The offset lies behind the body, which has `size` bytes.
+    BadOffset {
+        size: u32,
+    },
+    /// The cursor let product `n` go.
+    Released {
+        n: u64,
+    },
+    /// The cursor is closed.
+    Closed,
     /// Queued product `n` has the signature, and was inserted at that time.
     Queued {
         n: u64,
@@ -72,6 +146,12 @@ pub enum Reply {
     },
     /// No product is queued that no cursor holds.
     Nothing,
+    /// How many products the cursor was given, how many it lost, told or not, and how many queued ones are left for it.
+    Tally {
+        given: u64,
+        lost: u64,
+        left: u64,
+    },
     /// How many products were admitted, are queued, and are held; the sum of the extents of those that are queued,
     /// and the extent of the longest gap, 0 where there is none. Both in bytes.
     Stat {

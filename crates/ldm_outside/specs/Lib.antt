@@ -1,3 +1,4 @@
 pub mod Count
 pub mod Io
+pub mod World
 pub mod Memory

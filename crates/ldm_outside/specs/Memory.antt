@@ -1,10 +1,11 @@
 -- What contracts see of the forms in memory, and what one call of theirs does.
-use Rattle.std.specs.Prelude.{◌≡◌, ℕ, ◌+◌, ◌-◌, ◌^◌, ◌==◌, Bool, true, false, List, [], ◌++◌, length, take, drop, min, max}
+use Rattle.std.specs.Prelude.{◌≡◌, ℕ, ◌+◌, ◌-◌, ◌^◌, ◌==◌, Bool, true, false, List, [], ◌++◌, length, take, drop, min, max, Some, None}
 use Rattle.std.specs.List.{list_any}
 use Rattle.ldm_outside.specs.declared.io.Got.{Got}
 use Rattle.ldm_outside.specs.declared.io.Got.TheVariants.{Bytes, End, Failed}
 use Rattle.ldm_outside.specs.declared.io.Put.{Put}
 use Rattle.ldm_outside.specs.declared.io.Put.TheVariants as put
+use Rattle.ldm_outside.specs.Io.{SourceRecord, SinkRecord}
 
 -- At which calls a form in memory fails, and how much a call moves.
 pub record Plan : Type 0 where
@@ -94,3 +95,17 @@ abbrev pub moved : Got → ℕ
 moved (Bytes n) = n
 moved End = 0
 moved Failed = 0
+
+-- what the forms in memory tell
+abbrev pub told_by_source : SourceState → SourceRecord
+told_by_source s = record { left = Some s.left; faults = s.faults; ends = s.ends }
+
+abbrev pub told_by_sure_source : SureState → SourceRecord
+told_by_sure_source s = record { left = Some s.left; faults = 0; ends = s.ends }
+
+abbrev pub told_by_sink : SinkState → SinkRecord
+told_by_sink s = record { written = Some s.written; faults = s.faults }
+
+-- a sink that never fails, and tells nothing of what it took
+abbrev pub told_by_sure_sink : SinkRecord
+told_by_sure_sink = record { written = None; faults = 0 }

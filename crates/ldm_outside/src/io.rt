@@ -1,6 +1,6 @@
 //! Streams of bytes: where they come from and where they go.
-ghost use Rattle.std.specs.Prelude.{◌≡◌, ◌<◌, ◌≤◌, ℕ, List, Option, length, take, MatchResult};
-ghost use Rattle.ldm_outside.specs.Io.{WritesAll};
+ghost use Rattle.std.specs.Prelude.{◌<◌, ◌≤◌, length};
+ghost use Rattle.ldm_outside.specs.Io.{SourceRecord, SinkRecord, WritesAll};
 
 /// What a source gave.
 #[derive(Clone, Copy, Debug, PartialEq, Eq)]
@@ -26,14 +26,9 @@ pub enum Put {
 pub trait Source {
     ghost use Rattle.ldm_outside.specs.Io.{ReadGives};
 
-    /// How often it failed. The count stands still at the end of `u64`.
-    ghost faults: { Self → ℕ };
-
-    /// How often it answered that it is at its end. The count stands still at the end of `u64`.
-    ghost ends: { Self → ℕ };
-
-    /// The bytes that it has left, where it tells.
-    ghost left: { Self → Option (List ℕ) };
+    /// What it tells: the bytes that it has left, if it tells these, and how often it failed and was at its end. A
+    /// count stands still at the end of `u64`.
+    ghost tells: { Self → SourceRecord };
 
     /// Reads some bytes into the front of the buffer, which has room for one at least.
     ///
@@ -41,26 +36,24 @@ pub trait Source {
     /// of it where none came, may hold anything.
     fn read(&mut self, into: &mut [u8]) -> Got
         requires { 0 < length into.old }
-        ensures given { ReadGives result into.new (left self.old) (left self.new) (ends self.old) (ends self.new) (faults self.old) (faults self.new) }
-        ensures faults_kept { faults self.old ≤ faults self.new };
+        ensures given { ReadGives result into.new (tells self.old) (tells self.new) }
+        ensures faults_kept { (tells self.old).faults ≤ (tells self.new).faults };
 }
 
 /// A stream that bytes are written to.
 pub trait Sink {
     ghost use Rattle.ldm_outside.specs.Io.{WriteGives};
 
-    /// How often it failed. The count stands still at the end of `u64`.
-    ghost faults: { Self → ℕ };
-
-    /// All bytes that it took, where it tells.
-    ghost written: { Self → Option (List ℕ) };
+    /// What it tells: all bytes that it took, if it tells these, and how often it failed. The count stands still at
+    /// the end of `u64`.
+    ghost tells: { Self → SinkRecord };
 
     /// Writes some bytes from the front of the piece: what is left of it is the caller's to write.
     ///
     /// Where it fails it took nothing, so a caller may write the piece again.
     fn write(&mut self, piece: &[u8]) -> Put
-        ensures taken { WriteGives result piece.now (written self.old) (written self.new) (faults self.old) (faults self.new) }
-        ensures faults_kept { faults self.old ≤ faults self.new };
+        ensures taken { WriteGives result piece.now (tells self.old) (tells self.new) }
+        ensures faults_kept { (tells self.old).faults ≤ (tells self.new).faults };
 }
 
 /// A sink failed, and its count of faults rose.
@@ -71,8 +64,8 @@ pub struct SinkFailed;
 ///
 /// [`SinkFailed`] comes at the first call that fails, after a front of the piece was taken.
 pub fn write_all<K: Sink>(sink: &mut K, piece: &[u8]) -> Result<(), SinkFailed>
-    ensures written { WritesAll result piece.now (K.written sink.old) (K.written sink.new) (K.faults sink.old) (K.faults sink.new) }
-    ensures faults_kept { K.faults sink.old ≤ K.faults sink.new }
+    ensures written { WritesAll result piece.now (K.tells sink.old) (K.tells sink.new) }
+    ensures faults_kept { (K.tells sink.old).faults ≤ (K.tells sink.new).faults }
 {
     let mut at = 0;
     while at < piece.len() {

@@ -2,7 +2,8 @@
 //! of these traits that live in memory.
 //!
 //! An object of the outside counts its faults. The count never falls, and a call answers `Failed` only where
-//! it rose. What an object holds, has left or was given is told by the forms in memory alone.
+//! it rose. For contracts each object tells one record: its counts, and what it has left or took, which only the forms
+//! in memory know. Lemmas on these records stand in the proof module `CallerLemmas`.
 #![tactic(auto)]
 
 mod io;

@@ -76,19 +76,14 @@ impl MemSource {
 }
 
 impl Source for MemSource {
-    ghost use Rattle.std.specs.Prelude.{Some};
     ghost use Rattle.ldm_outside.specs.Io.{ReadGives};
-    ghost use Rattle.ldm_outside.specs.Memory.{ReadsAsPlanned, moved};
+    ghost use Rattle.ldm_outside.specs.Memory.{told_by_source, ReadsAsPlanned, moved};
 
-    ghost faults = { λ s. s.faults };
-
-    ghost ends = { λ s. s.ends };
-
-    ghost left = { λ s. Some s.left };
+    ghost tells = { told_by_source };
 
     fn read(&mut self, into: &mut [u8]) -> Got
         requires { 0 < length into.old }
-        ensures given { ReadGives result into.new (Some self.old.left) (Some self.new.left) self.old.ends self.new.ends self.old.faults self.new.faults }
+        ensures given { ReadGives result into.new (told_by_source self.old) (told_by_source self.new) }
         ensures faults_kept { self.old.faults ≤ self.new.faults }
         ensures planned { ReadsAsPlanned result (length into.old) self.old self.new }
         ensures rest { drop (moved result) into.new ≡ drop (moved result) into.old }
@@ -185,16 +180,13 @@ impl MemSink {
 }
 
 impl Sink for MemSink {
-    ghost use Rattle.std.specs.Prelude.{Some};
     ghost use Rattle.ldm_outside.specs.Io.{WriteGives};
-    ghost use Rattle.ldm_outside.specs.Memory.{WritesAsPlanned};
+    ghost use Rattle.ldm_outside.specs.Memory.{told_by_sink, WritesAsPlanned};
 
-    ghost faults = { λ s. s.faults };
-
-    ghost written = { λ s. Some s.written };
+    ghost tells = { told_by_sink };
 
     fn write(&mut self, piece: &[u8]) -> Put
-        ensures taken { WriteGives result piece.now (Some self.old.written) (Some self.new.written) self.old.faults self.new.faults }
+        ensures taken { WriteGives result piece.now (told_by_sink self.old) (told_by_sink self.new) }
         ensures faults_kept { self.old.faults ≤ self.new.faults }
         ensures planned { WritesAsPlanned result piece.now self.old self.new }
     {

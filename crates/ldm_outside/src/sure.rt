@@ -40,19 +40,14 @@ impl SureSource {
 }
 
 impl Source for SureSource {
-    ghost use Rattle.std.specs.Prelude.{Some};
     ghost use Rattle.ldm_outside.specs.Io.{ReadGives};
-    ghost use Rattle.ldm_outside.specs.Memory.{ReadsSurely, moved};
+    ghost use Rattle.ldm_outside.specs.Memory.{told_by_sure_source, ReadsSurely, moved};
 
-    ghost faults = { λ _. 0 };
-
-    ghost ends = { λ s. s.ends };
-
-    ghost left = { λ s. Some s.left };
+    ghost tells = { told_by_sure_source };
 
     fn read(&mut self, into: &mut [u8]) -> Got
         requires { 0 < length into.old }
-        ensures given { ReadGives result into.new (Some self.old.left) (Some self.new.left) self.old.ends self.new.ends 0 0 }
+        ensures given { ReadGives result into.new (told_by_sure_source self.old) (told_by_sure_source self.new) }
         ensures sure { ReadsSurely result (length into.old) self.old self.new }
         ensures rest { drop (moved result) into.new ≡ drop (moved result) into.old }
     {
@@ -71,15 +66,13 @@ impl Source for SureSource {
 pub struct SureSink;
 
 impl Sink for SureSink {
-    ghost use Rattle.std.specs.Prelude.{None};
     ghost use Rattle.ldm_outside.specs.Io.{WriteGives};
+    ghost use Rattle.ldm_outside.specs.Memory.{told_by_sure_sink};
 
-    ghost faults = { λ _. 0 };
-
-    ghost written = { λ _. None };
+    ghost tells = { λ _. told_by_sure_sink };
 
     fn write(&mut self, piece: &[u8]) -> Put
-        ensures taken { WriteGives result piece.now None None 0 0 }
+        ensures taken { WriteGives result piece.now told_by_sure_sink told_by_sure_sink }
         ensures whole { result ≡ Put.Took (length piece.now) }
     {
         Put::Took(piece.len())

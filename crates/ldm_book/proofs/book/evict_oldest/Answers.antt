@@ -1,7 +1,7 @@
 use Rattle.std.proofs.Common.{◌∙◌, List, sym, ap}
 use Rattle.ldm_book.specs.View.{Kept}
 use Rattle.ldm_book.specs.Products.{ProductsView}
-use Rattle.ldm_book.proofs.Oldest.{first-at_zero, without_first-is}
+use Rattle.ldm_book.proofs.EvictOldestLemmas.{first-at_zero, without_first-is}
 use Rattle.ldm_book.proofs.book.evict_oldest.Goals as goal
 
 pub returns-clause-rest : goal.returns-clause-rest

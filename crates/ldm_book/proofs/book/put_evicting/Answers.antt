@@ -2,7 +2,7 @@ use Rattle.std.proofs.Common.{◌∙◌, drop, sym, ap, arith}
 use Rattle.ldm_model.specs.Product.{extent_of}
 use Rattle.ldm_book.specs.Lookup.{kept_with}
 use Rattle.ldm_book.specs.Products.{ProductsView}
-use Rattle.ldm_book.proofs.Making.{absent_drop, evicted_more}
+use Rattle.ldm_book.proofs.PutEvictingLemmas.{absent_drop, evicted_more}
 use Rattle.ldm_book.proofs.book.put_evicting.Goals as goal
 
 pub put-requires-clause-absent : goal.put-requires-clause-absent

@@ -1,5 +1,5 @@
 use Rattle.ldm_model.specs.Product.{extent_of}
-use Rattle.ldm_book.proofs.Making.{Evicted}
+use Rattle.ldm_book.proofs.PutEvictingLemmas.{Evicted}
 use Rattle.ldm_book.proofs.book.put_evicting.Given as goal
 
 abbrev pub invariant-loop-evicted : goal.invariant-loop-evicted

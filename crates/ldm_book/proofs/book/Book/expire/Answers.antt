@@ -7,9 +7,9 @@ use Rattle.ldm_book.specs.Products.{ProductsView}
 use Rattle.ldm_book.specs.Making.{first_number}
 use Rattle.ldm_book.specs.Answers.{Follows, expire_answer}
 use Rattle.ldm_book.specs.Sound.{view_of}
-use Rattle.ldm_book.proofs.Evicting.{without_oldest}
-use Rattle.ldm_book.proofs.Expiring.{expire_reply, expire-stands}
-use Rattle.ldm_book.proofs.Oldest.{contains_drop}
+use Rattle.ldm_book.proofs.EvictLemmas.{without_oldest}
+use Rattle.ldm_book.proofs.ExpireLemmas.{expire_reply, expire-stands}
+use Rattle.ldm_book.proofs.EvictOldestLemmas.{contains_drop}
 use Rattle.ldm_book.proofs.book.Book.expire.Goals as goal
 use Rattle.ldm_book.proofs.book.Book.expire.Goals.{in-Some, in-None}
 

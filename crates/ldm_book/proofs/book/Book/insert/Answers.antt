@@ -14,11 +14,11 @@ use Rattle.ldm_book.specs.Products.{ProductsView, LieApart, room_for, with_row}
 use Rattle.ldm_book.specs.Making.{without_first}
 use Rattle.ldm_book.specs.Sound.{view_of, IsTimed}
 use Rattle.ldm_book.specs.Stands.{StandsFor}
-use Rattle.ldm_book.proofs.Bodies.{written, length-written}
-use Rattle.ldm_book.proofs.Evicting.{products, without_oldest}
-use Rattle.ldm_book.proofs.Oldest.{contains_drop, contains_push}
-use Rattle.ldm_book.proofs.Timed.{timed_push}
-use Rattle.ldm_book.proofs.Inserting.{too_big, duplicate, time_end, kept_new, grown, admitted_after}
+use Rattle.ldm_book.proofs.HasBodiesLemmas.{written, length-written}
+use Rattle.ldm_book.proofs.EvictLemmas.{products, without_oldest}
+use Rattle.ldm_book.proofs.EvictOldestLemmas.{contains_drop, contains_push}
+use Rattle.ldm_book.proofs.IsTimedLemmas.{timed_push}
+use Rattle.ldm_book.proofs.InsertLemmas.{too_big, duplicate, time_end, kept_new, grown, admitted_after}
 use Rattle.ldm_book.proofs.book.Book.insert.Goals as goal
 
 pub returns-then-need-arena-clause-answers : goal.returns-then-need-arena-clause-answers

@@ -3,7 +3,7 @@ use Rattle.ldm_types.specs.Arena.{gaps, longest}
 use Rattle.ldm_model.specs.Stat.{extents, stat}
 use Rattle.ldm_book.specs.View.{BookView, Kept}
 use Rattle.ldm_book.specs.Products.{kept_region}
-use Rattle.ldm_book.proofs.Counting.{stat-stands}
+use Rattle.ldm_book.proofs.StatLemmas.{stat-stands}
 use Rattle.ldm_book.proofs.book.Book.stat.Goals as goal
 
 pub returns-clause-answers : goal.returns-clause-answers

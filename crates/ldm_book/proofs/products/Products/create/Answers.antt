@@ -1,7 +1,7 @@
 use Rattle.std.proofs.Common.{◌≡◌, ◌-◌, ◌++◌, ℕ, List, Option, [], ◌∷◌, None, replicate, refl, sym, ap, ◌∙◌, ◌+◌, append-nil, arith}
 use Rattle.std.proofs.lemmas.List.{replicate_more}
 use Rattle.ldm_book.specs.declared.row.Row.{Row}
-use Rattle.ldm_book.proofs.Begin.{down_from, down_more, slotted-none}
+use Rattle.ldm_book.proofs.CreateLemmas.{down_from, down_more, slotted-none}
 use Rattle.ldm_book.proofs.products.Products.create.Goals as goal
 
 pub loop-behind-preserved : goal.loop-behind-preserved

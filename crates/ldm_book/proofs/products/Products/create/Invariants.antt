@@ -1,5 +1,5 @@
 use Rattle.std.proofs.Common.{◌≡◌, ◌-◌, ◌≤◌, ◌++◌, replicate, None, vec_capacity}
-use Rattle.ldm_book.proofs.Begin.{down_from}
+use Rattle.ldm_book.proofs.CreateLemmas.{down_from}
 use Rattle.ldm_book.proofs.products.Products.create.Given as goal
 
 -- the slots so far have no product, and the free ones so far stand in front of those to come

@@ -2,8 +2,8 @@ use Rattle.std.proofs.Common.{ℕ, ap, subst, ◌∙◌}
 use Rattle.std.specs.Option.{option_map}
 use Rattle.ldm_book.specs.Products.{ProductsView, AreRising, LieApart, at_number, kept_number}
 use Rattle.std.specs.List.{find}
-use Rattle.ldm_book.proofs.Found.{first_kept, rising_kept}
-use Rattle.ldm_book.proofs.Apart.{lie_apart}
+use Rattle.ldm_book.proofs.FindLemmas.{first_kept, rising_kept}
+use Rattle.ldm_book.proofs.LieApartLemmas.{lie_apart}
 use Rattle.ldm_book.proofs.products.Products.first_at.Goals as goal
 
 pub returns-in-Some-clause-first : goal.returns-in-Some-clause-first

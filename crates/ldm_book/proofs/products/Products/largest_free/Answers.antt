@@ -1,7 +1,7 @@
 use Rattle.std.proofs.Common.{map, ap, ◌∙◌}
 use Rattle.ldm_types.specs.Arena.{gaps, longest}
 use Rattle.ldm_book.specs.Products.{ProductsView, kept_region}
-use Rattle.ldm_book.proofs.Coverage.{gaps_between}
+use Rattle.ldm_book.proofs.KeptRegionLemmas.{gaps_between}
 use Rattle.ldm_book.proofs.products.Products.largest_free.Goals as goal
 
 pub returns : goal.returns

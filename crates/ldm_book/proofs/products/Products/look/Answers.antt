@@ -4,7 +4,7 @@ use Rattle.ldm_sigindex.specs.Index.{Table, slot_of, IsOneToOne}
 use Rattle.ldm_book.specs.declared.row.Row.{Row}
 use Rattle.ldm_book.specs.Lookup.{kept_with, look_kept}
 use Rattle.ldm_book.specs.Products.{ProductsView}
-use Rattle.ldm_book.proofs.Found.{absent_kept, found_row, found_kept, row_read}
+use Rattle.ldm_book.proofs.FindLemmas.{absent_kept, found_row, found_kept, row_read}
 use Rattle.ldm_book.proofs.products.Products.look.Goals as goal
 
 pub returns-in_default : goal.returns-in_default

@@ -15,11 +15,11 @@ use Rattle.ldm_book.specs.Lookup.{kept_with}
 use Rattle.ldm_book.specs.View.{Kept}
 use Rattle.ldm_book.specs.Products.{ProductsView, LieApart, kept_region, room_for, with_row}
 use Rattle.ldm_book.specs.Slots.{row_at, row_region, signature_of, kept_entries, IsAt, HasSlot, AreFree}
-use Rattle.ldm_book.proofs.Rows.{later_entries, absent_from_slots}
-use Rattle.ldm_book.proofs.Coverage.{place_for}
-use Rattle.ldm_book.proofs.Free.{next_free, others_free, no_signature}
-use Rattle.ldm_book.proofs.Added.{rows-added, extents-added, entries-added, listed-added, owned-added, used-within, taken_within}
-use Rattle.ldm_book.proofs.Apart.{lie_apart}
+use Rattle.ldm_book.proofs.KeptEntryLemmas.{later_entries, absent_from_slots}
+use Rattle.ldm_book.proofs.KeptRegionLemmas.{place_for}
+use Rattle.ldm_book.proofs.AreFreeLemmas.{next_free, others_free, no_signature}
+use Rattle.ldm_book.proofs.PutLemmas.{rows-added, extents-added, entries-added, listed-added, owned-added, used-within, taken_within}
+use Rattle.ldm_book.proofs.LieApartLemmas.{lie_apart}
 use Rattle.ldm_book.proofs.products.Products.put.Goals as goal
 
 pub take-requires-clause-owner : goal.take-requires-clause-owner

@@ -8,9 +8,9 @@ use Rattle.ldm_book.specs.declared.row.Row.{Row}
 use Rattle.ldm_book.specs.declared.products.Products.TheInside.{Inside}
 use Rattle.ldm_book.specs.Slots.{row_region}
 use Rattle.ldm_book.specs.Products.{without}
-use Rattle.ldm_book.proofs.Filled.{filled_within}
-use Rattle.ldm_book.proofs.TakenOut.{IsNumbered, any_number, number_found, numbered, read, row_read, extents_left, slot_by_signature, HasLeft, slotted_left, products_left}
-use Rattle.ldm_book.proofs.Apart.{lie_apart}
+use Rattle.ldm_book.proofs.RowAtLemmas.{filled_within}
+use Rattle.ldm_book.proofs.TakeOutLemmas.{IsNumbered, any_number, number_found, numbered, read, row_read, extents_left, slot_by_signature, HasLeft, slotted_left, products_left}
+use Rattle.ldm_book.proofs.LieApartLemmas.{lie_apart}
 use Rattle.ldm_book.proofs.products.Products.take_out.Goals as goal
 
 pub unreachable-requires : goal.unreachable-requires

@@ -1,0 +1,128 @@
+-- What the queue does at each way out of inserting, by what the book keeps.
+use Rattle.std.proofs.Common.{◌≡◌, ℕ, ◌+◌, ◌<◌, ◌≤◌, Bool, true, false, cond, ltb, List, [], ◌∷◌, ◌++◌, length, map, drop, Option, Some, None, refl, sym, ap, subst, ◌∙◌, arith}
+use Rattle.std.proofs.lemmas.Bool.{lt-ltb, le-ltb}
+use Rattle.std.proofs.lemmas.List.{map-append, length-append}
+use Rattle.ldm_model.specs.Product.{Product, extent_of}
+use Rattle.ldm_model.specs.declared.event.Reply.{Reply}
+use Rattle.ldm_model.specs.declared.event.Reply.TheVariants as reply
+use Rattle.ldm_model.specs.State.{State, Row, Queued, end_of, last_time, latest, add_queued, queued, queued_from, queued_with}
+use Rattle.ldm_model.specs.Room.{fit_in}
+use Rattle.ldm_model.specs.Outcome.{Outcome, unchanged}
+use Rattle.ldm_model.specs.Insert.{after_evicting, evictions, time_after, admitted, insert_by_evictions, is_last, insert_new, insert_fitting, insert}
+use Rattle.ldm_book.specs.View.{BookView, Kept, kept, body_start, body_of}
+use Rattle.ldm_book.specs.Products.{LieApart, room_for}
+use Rattle.ldm_book.specs.Making.{without_first}
+use Rattle.ldm_book.specs.Stands.{HasBodies, StandsFor}
+use Rattle.ldm_book.specs.Lookup.{kept_with, look_kept}
+use Rattle.ldm_book.specs.Answers.{Follows}
+use Rattle.ldm_book.proofs.QueuedLemmas.{queued_from-append, look-from_kept, none_from_absent, some_from_queued}
+use Rattle.ldm_book.proofs.HasBodiesLemmas.{written, length-written, bodies_left, body_written, bodies_push}
+use Rattle.ldm_book.proofs.EvictLemmas.{products, without_oldest, StandsFor-evicting, room_place, evictions-are}
+
+-- a refusal
+Follows-unchanged : (book : BookView) (s : State) (r : Reply) → StandsFor book s → Follows r book (unchanged s r)
+Follows-unchanged book s r stands = record { reply = refl; state = stands }
+
+latest-append : (before : Option ℕ) (rows : List Row) (row : Row) → latest before (rows ++ row ∷ []) ≡ Some row.time
+latest-append before [] row = refl
+latest-append before (first ∷ rows) row = latest-append (Some first.time) rows row
+
+-- a new product, as it is kept
+abbrev pub kept_new : BookView → ℕ → Product → ℕ → Kept
+kept_new book now p place = record { number = book.admitted; info = p.info; time = time_after book.last now; place = place }
+
+-- a book with one product more, and an arena with its body
+abbrev pub grown : BookView → ℕ → Product → ℕ → List ℕ → BookView
+grown book now p place bytes = record { arena = book.arena; bytes = bytes; slots = book.slots; admitted = book.admitted + 1; last = Some (time_after book.last now); rows = book.rows ++ kept_new book now p place ∷ [] }
+
+-- the new row: the product at the best fit
+abbrev new_row : State → ℕ → Product → Row
+new_row s now p = record { product = p; time = time_after (last_time s) now; place = fit_in s (extent_of p.info) }
+
+-- the new row, as it is queued
+queued-new : (s : State) (now : ℕ) (p : Product) (m place : ℕ) → fit_in s (extent_of p.info) ≡ Some place → queued_from m (new_row s now p ∷ []) ≡ record { number = m; product = p; time = time_after (last_time s) now; place = place } ∷ []
+queued-new s now p m place fits = ap (λ (o : Option ℕ). add_queued m (new_row s now p) o []) fits
+
+-- admitting a product that fits
+StandsFor-grown : (book : BookView) (s : State) → StandsFor book s → (now : ℕ) (p : Product) (place evicted : ℕ) (bytes : List ℕ) → fit_in s (extent_of p.info) ≡ Some place
+    → length bytes ≡ length book.bytes → HasBodies bytes (queued s) → body_of bytes (kept_new book now p place) ≡ p.body
+    → Follows (reply.Admitted book.admitted (time_after book.last now) evicted) (grown book now p place bytes) (admitted s now p evicted)
+StandsFor-grown book s stands now p place evicted bytes fits as_many bodies body =
+    let number : book.admitted ≡ 0 + length s.rows = omega (arith, stands.admitted) in
+    let time : time_after book.last now ≡ time_after (last_time s) now = ap (λ (o : Option ℕ). time_after o now) stands.last in
+    let new : kept_new book now p place ∷ [] ≡ map kept (queued_from (0 + length s.rows) (new_row s now p ∷ [])) =
+    ap (λ (n : ℕ). row n (time_after book.last now) ∷ []) number ∙ ap (λ (t : ℕ). row (0 + length s.rows) t ∷ []) time ∙ ap (map kept) (sym (queued-new s now p (0 + length s.rows) place fits)) in
+    let longer = length-append s.rows (new_row s now p ∷ []) in
+    record {
+      reply = ap (λ (n : ℕ). reply.Admitted n (time_after book.last now) evicted) stands.admitted ∙ ap (λ (t : ℕ). reply.Admitted (end_of s) t evicted) time;
+      state = record {
+        arena = stands.arena;
+        sized = as_many ∙ stands.sized;
+        slots = stands.slots;
+        admitted = omega (arith, stands.admitted, longer);
+        last = ap (λ (t : ℕ). Some t) time ∙ sym (latest-append None s.rows (new_row s now p));
+        rows = ap (λ (ks : List Kept). ks ++ kept_new book now p place ∷ []) stands.rows ∙ ap (λ (ks : List Kept). map kept (queued s) ++ ks) new
+            ∙ sym (ap (map kept) (queued_from-append 0 s.rows (new_row s now p ∷ [])) ∙ map-append kept (queued_from 0 s.rows) (queued_from (0 + length s.rows) (new_row s now p ∷ [])));
+        bodies = subst (HasBodies bytes) (sym (queued_from-append 0 s.rows (new_row s now p ∷ []) ∙ ap (λ (qs : List Queued). queued s ++ qs) (queued-new s now p (0 + length s.rows) place fits)))
+            (bodies_push bytes (queued s) (record { number = 0 + length s.rows; product = p; time = time_after (last_time s) now; place = place }) bodies body);
+        cursors = stands.cursors;
+      };
+    }
+  where
+    row : ℕ → ℕ → Kept
+    row n t = record { number = n; info = p.info; time = t; place = place }
+
+module _ (book : BookView) (s : State) (stands : StandsFor book s) (now : ℕ) (p : Product) where
+  pub too_big : book.arena < extent_of p.info → Follows (reply.TooBig (extent_of p.info) book.arena) book (insert s now p)
+  unfolding insert
+  too_big big =
+      let test : ltb s.arena (extent_of p.info) ≡ true = lt-ltb s.arena (extent_of p.info) (omega (arith, stands.arena)) in
+      let same : insert s now p ≡ unchanged s (reply.TooBig (extent_of p.info) book.arena) =
+      ap (λ (b : Bool). cond b (unchanged s (reply.TooBig (extent_of p.info) s.arena)) (insert_fitting s now p (queued_with p.info.signature (queued s)))) test ∙ ap (λ (a : ℕ). unchanged s (reply.TooBig (extent_of p.info) a)) (sym stands.arena) in
+      subst (λ (o : Outcome). Follows (reply.TooBig (extent_of p.info) book.arena) book o) (sym same) (Follows-unchanged book s (reply.TooBig (extent_of p.info) book.arena) stands)
+
+  insert-fits : extent_of p.info ≤ book.arena → insert s now p ≡ insert_fitting s now p (queued_with p.info.signature (queued s))
+  unfolding insert
+  insert-fits fits =
+      let test : ltb s.arena (extent_of p.info) ≡ false = le-ltb s.arena (extent_of p.info) (omega (arith, stands.arena)) in
+      ap (λ (b : Bool). cond b (unchanged s (reply.TooBig (extent_of p.info) s.arena)) (insert_fitting s now p (queued_with p.info.signature (queued s)))) test
+
+  look-stands : look_kept (kept_with p.info.signature book.rows) ≡ look_kept (kept_with p.info.signature (map kept (queued s)))
+  look-stands = ap (λ (ks : List Kept). look_kept (kept_with p.info.signature ks)) stands.rows
+
+  pub duplicate : extent_of p.info ≤ book.arena → (n t : ℕ) → look_kept (kept_with p.info.signature book.rows) ≡ reply.Queued n t → Follows (reply.Duplicate n) book (insert s now p)
+  duplicate fits n t found =
+      let is = look-from_kept p.info.signature (queued s) ∙ sym look-stands ∙ found in
+      let q = some_from_queued (queued_with p.info.signature (queued s)) n t is in
+      let same : insert s now p ≡ unchanged s (reply.Duplicate n) = insert-fits fits ∙ ap (insert_fitting s now p) q.1 ∙ ap (λ (k : ℕ). unchanged s (reply.Duplicate k)) q.2 in
+      subst (λ (o : Outcome). Follows (reply.Duplicate n) book o) (sym same) (Follows-unchanged book s (reply.Duplicate n) stands)
+
+  insert-absent : extent_of p.info ≤ book.arena → look_kept (kept_with p.info.signature book.rows) ≡ reply.Absent → insert s now p ≡ insert_new s now p
+  insert-absent fits absent =
+      let is = look-from_kept p.info.signature (queued s) ∙ sym look-stands ∙ absent in
+      insert-fits fits ∙ ap (insert_fitting s now p) (none_from_absent (queued_with p.info.signature (queued s)) is)
+
+  pub time_end : extent_of p.info ≤ book.arena → look_kept (kept_with p.info.signature book.rows) ≡ reply.Absent → is_last book.last ≡ true → Follows reply.TimeEnd book (insert s now p)
+  time_end fits absent last =
+      let test : is_last (last_time s) ≡ true = ap is_last (sym stands.last) ∙ last in
+      let same : insert s now p ≡ unchanged s reply.TimeEnd = insert-absent fits absent ∙ ap (λ (b : Bool). cond b (unchanged s reply.TimeEnd) (insert_by_evictions s now p (evictions s (extent_of p.info)))) test in
+      subst (λ (o : Outcome). Follows reply.TimeEnd book o) (sym same) (Follows-unchanged book s reply.TimeEnd stands)
+
+  insert-in_time : extent_of p.info ≤ book.arena → look_kept (kept_with p.info.signature book.rows) ≡ reply.Absent → is_last book.last ≡ false → insert s now p ≡ insert_by_evictions s now p (evictions s (extent_of p.info))
+  insert-in_time fits absent last =
+      let test : is_last (last_time s) ≡ false = ap is_last (sym stands.last) ∙ last in
+      insert-absent fits absent ∙ ap (λ (b : Bool). cond b (unchanged s reply.TimeEnd) (insert_by_evictions s now p (evictions s (extent_of p.info)))) test
+
+  -- admitted, after the evictions that make room, with the body written to the arena
+  pub admitted_after : extent_of p.info ≤ book.arena → look_kept (kept_with p.info.signature book.rows) ≡ reply.Absent → is_last book.last ≡ false → (j place : ℕ) → j ≤ length book.rows
+      → ((i : ℕ) → i < j → room_for (without_first i (products book)) (extent_of p.info) ≡ None) → room_for (without_first j (products book)) (extent_of p.info) ≡ Some place
+      → length p.body ≡ p.info.size → body_start (kept_new book now p place) + length p.body ≤ length book.bytes → LieApart book.arena (drop j book.rows ++ kept_new book now p place ∷ [])
+      → Follows (reply.Admitted book.admitted (time_after book.last now) j) (grown (without_oldest j book) now p place (written book.bytes p.body (kept_new book now p place))) (insert s now p)
+  admitted_after fits absent last j place within none some size written_within apart =
+      let same : insert s now p ≡ admitted (after_evicting s j) now p j = insert-in_time fits absent last ∙ ap (insert_by_evictions s now p) (evictions-are book s (extent_of p.info) j stands within none place some) in
+      let after = StandsFor-evicting j book s stands in
+      let new = kept_new book now p place in
+      let bytes = written book.bytes p.body new in
+      let bodies = bodies_left book.bytes p.body new size written_within book.arena (queued (after_evicting s j)) (subst (λ (ks : List Kept). LieApart book.arena (ks ++ new ∷ [])) after.rows apart) after.bodies in
+      subst (λ (o : Outcome). Follows (reply.Admitted book.admitted (time_after book.last now) j) (grown (without_oldest j book) now p place bytes) o) (sym same)
+      (StandsFor-grown (without_oldest j book) (after_evicting s j) after now p place j bytes (room_place (without_oldest j book) (after_evicting s j) (extent_of p.info) place after some) (length-written book.bytes p.body new written_within) bodies (body_written book.bytes p.body new size written_within))

@@ -1,0 +1,141 @@
+-- One more product: the slots with its row, and the entries with its own.
+use Rattle.std.proofs.Common.{◌≡◌, ◌≢◌, ℕ, suc, ◌+◌, ◌*◌, ◌≤◌, inl, inr, ⊎_elim, cond, List, [], ◌∷◌, ◌++◌, length, map, set, Option, Some, None, refl, sym, ap, subst, ◌∙◌, arith, get_or-set_other, get_or-set_same}
+use Rattle.std.specs.Cmp.{nat_cmp_total, eq_by_cmp_equiv, Equal-is}
+use Rattle.std.specs.FinMap as fin
+use Rattle.std.specs.FinMap.{nat_cmp-IsAntisymmetric}
+use Rattle.std.specs.List.{AllByRecursion}
+use Rattle.std.specs.Option.{option_map}
+use Rattle.std.specs.Ordering.{nat_cmp, eq_by_cmp}
+use Rattle.std.proofs.lemmas.Bool.{cases_eq, false_from_ne_true}
+use Rattle.std.proofs.lemmas.List.{map_push}
+use Rattle.ldm_types.specs.Arena.{Region}
+use Rattle.ldm_types.specs.declared.limits.TheConstants.{LARGEST_ARENA}
+use Rattle.ldm_model.specs.Product.{extent_of}
+use Rattle.ldm_model.specs.Stat.{extents}
+use Rattle.ldm_regions.specs.Layout.{Layout, Tiles, with_region}
+use Rattle.ldm_timeindex.specs.Times.{Queued}
+use Rattle.ldm_book.specs.declared.products.Products.TheInside.{Inside}
+use Rattle.ldm_book.specs.declared.row.Row.{Row}
+use Rattle.ldm_book.specs.View.{Kept}
+use Rattle.ldm_book.specs.Products.{kept_region}
+use Rattle.ldm_book.specs.Slots.{Slots, row_at, row_region, info_of, place_of, kept_entry, kept_entries, IsAt, HasSlot, IsSlotted}
+use Rattle.ldm_book.proofs.KeptEntryLemmas.{kept_entry-row}
+use Rattle.ldm_book.proofs.AreFreeLemmas.{IsNext}
+
+-- a slot of an entry is still one with one more entry
+HasSlot-more : (k : ℕ) (entries : List Queued) (entry : Queued) → HasSlot k entries → HasSlot k (entries ++ entry ∷ [])
+HasSlot-more k [] entry has = absurd has
+HasSlot-more k (first ∷ entries) entry has = ⊎_elim (λ here. inl here) (λ there. inr (HasSlot-more k entries entry there)) has
+
+-- the slot of the last entry
+HasSlot-last : (entries : List Queued) (entry : Queued) → HasSlot entry.slot (entries ++ entry ∷ [])
+HasSlot-last [] entry = inl refl
+HasSlot-last (first ∷ entries) entry = inr (HasSlot-last entries entry)
+
+-- the extents with one more region
+extents-more : (regions : List Region) (region : Region) → extents (regions ++ region ∷ []) ≡ extents regions + region.extent
+extents-more [] region = omega arith
+extents-more (first ∷ regions) region = omega (arith, extents-more regions region)
+
+-- the entry of a row
+abbrev pub entry_of : ℕ → Row → Queued
+entry_of slot row = record { n = row.n; time = row.time; slot = slot }
+
+module _ (p : Inside) (kept : IsSlotted p) (slot : ℕ) (row : Row) (next : IsNext p slot) where
+  abbrev slots : Slots
+  slots = p.slots.items
+
+  abbrev filled : Slots
+  filled = set slots slot (Some row)
+
+  abbrev more : List Queued → List Queued
+  more entries = entries ++ entry_of slot row ∷ []
+
+  -- the slot has the row
+  here : row_at filled slot ≡ Some row
+  here = get_or-set_same slots slot (Some row) None next.inside
+
+  -- the other slots are as they were
+  other : (k : ℕ) → k ≢ slot → row_at filled k ≡ row_at slots k
+  other k apart = get_or-set_other slots slot k (Some row) None apart
+
+  -- a slot with a row keeps it
+  stays : (k : ℕ) (held : Row) → row_at slots k ≡ Some held → row_at filled k ≡ row_at slots k
+  stays k held at = other k (λ same. let both : None ≡ Some held = sym next.none ∙ ap (row_at slots) (sym same) ∙ at in absurd cc)
+
+  -- the entries are kept as they were
+  kept-same : (entries : List Queued) → AllByRecursion (IsAt slots) entries → kept_entries filled entries ≡ kept_entries slots entries
+  kept-same [] at = refl
+  kept-same (entry ∷ entries) at =
+      let held = stays entry.slot at.0.0 at.0.1 in
+      λ i. record { number = entry.n; info = info_of (held i); time = entry.time; place = place_of (held i) } ∷ kept-same entries at.1 i
+
+  -- each has a slot with its row, and the new one too
+  at-more : (entries : List Queued) → AllByRecursion (IsAt slots) entries → AllByRecursion (IsAt filled) (more entries)
+  at-more [] at = ((row, here, refl, refl), tt)
+  at-more (entry ∷ entries) at = ((at.0.0, stays entry.slot at.0.0 at.0.1 ∙ at.0.1, at.0.2, at.0.3), at-more entries at.1)
+
+  abbrev rows : List Kept
+  rows = kept_entries slots p.by_number.entries
+
+  abbrev added : Kept
+  added = record { number = row.n; info = row.info; time = row.time; place = row.place }
+
+  -- the kept rows are those from before, and the new one
+  pub rows-added : kept_entries filled (more p.by_number.entries) ≡ rows ++ added ∷ []
+  rows-added =
+      let new = kept_entry-row filled (entry_of slot row) row here in
+      map_push (kept_entry filled) p.by_number.entries (entry_of slot row) ∙ (λ i. kept-same p.by_number.entries kept.entries i ++ new i ∷ [])
+
+  -- and so are the extents
+  pub extents-added : extents (map kept_region (kept_entries filled (more p.by_number.entries))) ≡ extents (map kept_region rows) + extent_of row.info
+  extents-added =
+      ap (λ (rows : List Kept). extents (map kept_region rows)) rows-added
+      ∙ ap extents (map_push kept_region rows added) ∙ extents-more (map kept_region rows) (row_region row)
+
+  -- each entry has a slot with its row
+  pub entries-added : AllByRecursion (IsAt filled) (more p.by_number.entries)
+  entries-added = at-more p.by_number.entries kept.entries
+
+  -- each row has an entry
+  pub listed-added : (k : ℕ) (held : Row) → row_at filled k ≡ Some held → HasSlot k (more p.by_number.entries)
+  listed-added k held at =
+      elim (cases_eq k slot) [
+        | inl same ↦ subst (λ j. HasSlot j (more p.by_number.entries)) (sym same) (HasSlot-last p.by_number.entries (entry_of slot row))
+        | inr apart ↦ HasSlot-more k p.by_number.entries (entry_of slot row) (kept.listed k held (sym (other k apart) ∙ at))
+      ]
+
+  -- each slot owns the region of its row
+  pub owned-added : (k : ℕ) → fin.get (fin.insert p.regions.owned slot (row_region row)) k ≡ option_map row_region (row_at filled k)
+  owned-added k =
+      let owned = p.regions.owned in
+      fin.get-insert nat_cmp_total owned slot (row_region row) k
+      ∙ elim (cases_eq k slot) [
+        | inl same ↦ ap (λ b. cond b (Some (row_region row)) (fin.get owned k)) (ap (λ j. eq_by_cmp nat_cmp j slot) same ∙ (eq_by_cmp_equiv nat_cmp_total).refl slot)
+            ∙ ap (option_map row_region) (sym (ap (row_at filled) same ∙ here))
+        | inr apart ↦ ap (λ b. cond b (Some (row_region row)) (fin.get owned k)) (false_from_ne_true _ (λ tie. apart (nat_cmp-IsAntisymmetric k slot ((Equal-is (nat_cmp k slot)).0 tie))))
+            ∙ kept.owned k ∙ ap (option_map row_region) (sym (other k apart))
+      ]
+
+module _ (p : Inside) (kept : IsSlotted p) where
+  -- each extent is at most the arena's
+  extents-within : (entries : List Queued) → AllByRecursion (IsAt p.slots.items) entries → extents (map kept_region (kept_entries p.slots.items entries)) ≤ length entries * LARGEST_ARENA
+  extents-within [] at = omega arith
+  extents-within (entry ∷ entries) at =
+      let rest = extents-within entries at.1 in
+      let within = kept.tiles.within entry.slot (row_region at.0.0) (kept.owned entry.slot ∙ ap (option_map row_region) at.0.1) in
+      let extent = ap (λ (held : Option Row). extent_of (info_of held)) at.0.1 in
+      bounded (extent_of (info_of (row_at p.slots.items entry.slot))) (extent_of at.0.0.info) at.0.0.place (extents (map kept_region (kept_entries p.slots.items entries))) (length entries) p.regions.arena extent within kept.small rest
+    where
+      bounded : (one extent place rest count arena : ℕ) → one ≡ extent → place + extent ≤ arena → arena ≤ LARGEST_ARENA → rest ≤ count * LARGEST_ARENA → one + rest ≤ suc count * LARGEST_ARENA
+      bounded one extent place rest count arena same within small below = omega arith
+
+  -- the sum of the extents is at most the greatest arena for each product
+  pub used-within : p.used ≤ length p.by_number.entries * LARGEST_ARENA
+  used-within = omega (arith, kept.used, extents-within p.by_number.entries kept.entries)
+
+-- a region that was taken lies in the arena
+pub taken_within : (layout : Layout) (owner : ℕ) (region : Region) → Tiles (with_region layout owner region) → region.start + region.extent ≤ layout.arena
+taken_within layout owner region tiles =
+    tiles.within owner region
+    (fin.get-insert nat_cmp_total layout.owned owner region owner ∙ ap (λ b. cond b (Some region) (fin.get layout.owned owner)) ((eq_by_cmp_equiv nat_cmp_total).refl owner))

@@ -1,0 +1,143 @@
+-- A play that nothing hinders comes to the end of its script: for `Completes`.
+use Rattle.std.proofs.Common.{◌≡◌, ℕ, ◌<◌, ◌⊎◌, Bool, true, false, List, [], ◌∷◌, ◌++◌, length, Option, Some, None, IfSome, Ok, Err, Result, inl, inr, refl, sym, ap, subst, ◌∙◌, append_assoc, arith, length-append}
+use Rattle.std.specs.Option.{option_map}
+use Rattle.std.proofs.lemmas.Bool.{cases_lt}
+use Rattle.std.proofs.lemmas.List.{append-nil}
+use Rattle.std.proofs.lemmas.Option.{none-some, same_Some}
+use Rattle.ldm_outside.specs.Io.{SourceRecord, Gives}
+use Rattle.ldm_outside.specs.World.{WorldRecord}
+use Rattle.ldm_model.specs.State.{State, empty}
+use Rattle.ldm_book.specs.declared.replies.CreateFault.{CreateFault}
+use Rattle.ldm_book.specs.declared.replies.CreateFault.TheVariants as fault
+use Rattle.ldm_commands.specs.declared.play_command.ScriptEnd.{ScriptEnd}
+use Rattle.ldm_commands.specs.declared.play_command.ScriptEnd.TheVariants as script_end
+use Rattle.ldm_commands.specs.declared.play_command.TheConstants.{SCRIPT_LIMIT}
+use Rattle.ldm_commands.specs.declared.player.Stop.TheVariants as stop
+use Rattle.ldm_commands.specs.declared.script.line.TheConstants.{LONGEST_LINE}
+use Rattle.ldm_commands.specs.declared.status.Status.TheVariants as status
+use Rattle.ldm_commands.specs.declared.unbuilt.Unbuilt.{Unbuilt}
+use Rattle.ldm_commands.specs.Line.{unbuilt_of_line}
+use Rattle.ldm_commands.specs.Lines.{Cut, cut, whole_lines, lines_of, last_line, known_lines}
+use Rattle.ldm_commands.specs.Play.{Played, play_line, play}
+use Rattle.ldm_commands.specs.Ending.{Size, AtEnd, ScriptEnds, PlayEnds}
+use Rattle.ldm_commands.specs.Status.{code_of, Reports, status_of_script, status_of_play}
+use Rattle.ldm_commands.specs.Complete.{Unhindered}
+use Rattle.ldm_commands.proofs.CutLemmas.{both, joined, cut-append}
+use Rattle.ldm_commands.proofs.ReadLineLemmas.{read_line-long}
+use Rattle.ldm_commands.proofs.PlayLineLemmas.{stops_at}
+use Rattle.ldm_commands.proofs.GoesOnLemmas.{known_lines-short}
+use Rattle.ldm_commands.proofs.PlayLemmas.{first_on, followed-on, play-append}
+
+-- where a play does not stop, it does not stop at its first lines
+before_on : (lines : List (List ℕ)) (s : State) (more : List (List ℕ)) → (play s (lines ++ more)).stop ≡ None → (play s lines).stop ≡ None
+before_on [] s more h = refl
+before_on (line ∷ lines) s more h =
+    let first = play_line s line in
+    let on = first_on first (play first.state (lines ++ more)) h in
+    ap (λ (p : Played). p.stop) (followed-on first (play first.state lines) on.0) ∙ before_on lines first.state more on.1
+
+-- nor at a line behind them
+line_on : (lines : List (List ℕ)) (s : State) (line : List ℕ) (more : List (List ℕ)) → (play s (lines ++ line ∷ more)).stop ≡ None → (play_line (play s lines).state line).stop ≡ None
+line_on lines s line more h =
+    let last = play_line (play s lines).state line in
+    let behind : (play (play s lines).state (line ∷ more)).stop ≡ None =
+    sym (ap (λ (p : Played). p.stop) (play-append lines s (line ∷ more) (before_on lines s (line ∷ more) h))) ∙ h in
+    (first_on last (play last.state more) behind).0
+
+-- the play stops at a line that is too long
+long_stops : (s : State) (line : List ℕ) → LONGEST_LINE < length line → (play_line s line).stop ≡ None → ⊥
+long_stops s line long on = none-some (unbuilt_of_line line) (sym on ∙ stops_at s line (unbuilt_of_line line) (read_line-long line long))
+
+-- a line that is not empty counts, though no newline ends it
+last_line-some : (text : List ℕ) → 0 < length text → last_line text ≡ text ∷ []
+last_line-some [] some = absurd (omega (arith, some))
+last_line-some (byte ∷ bytes) some = refl
+
+abbrev lines_by : Cut → List (List ℕ)
+lines_by c = c.lines ++ last_line c.unfinished
+
+-- whatever follows what is unfinished, it stands at the front of a line
+behind_both : (first : Cut) (lines : List (List ℕ)) (rest : List ℕ) → 0 < length first.unfinished
+    → (end : List ℕ) × (more : List (List ℕ)) × (lines_by (both first (record { lines = lines; unfinished = rest })) ≡ first.lines ++ (first.unfinished ++ end) ∷ more)
+behind_both first [] rest some = (
+  rest,
+  [],
+  ap (λ (ls : List (List ℕ)). ls ++ last_line (first.unfinished ++ rest)) (append-nil first.lines)
+      ∙ ap (λ (ls : List (List ℕ)). first.lines ++ ls) (last_line-some (first.unfinished ++ rest) (omega (arith, some, length-append first.unfinished rest))),
+)
+behind_both first (line ∷ lines) rest some = (line, lines ++ last_line rest, append_assoc first.lines ((first.unfinished ++ line) ∷ lines) (last_line rest))
+
+-- the whole lines of a script stand before all that follows
+whole_before : (script rest : List ℕ) → (more : List (List ℕ)) × (lines_of (script ++ rest) ≡ whole_lines script ++ more)
+whole_before script rest =
+    let second = joined (cut script).unfinished (cut rest).lines (cut rest).unfinished in (
+      second.lines ++ last_line second.unfinished,
+      ap lines_by (cut-append script rest) ∙ append_assoc (whole_lines script) second.lines (last_line second.unfinished),
+    )
+
+-- where the play of a script does not stop, it does not stop at the lines that are known before its end
+known_on : (s : State) (script rest : List ℕ) → (play s (lines_of (script ++ rest))).stop ≡ None → (play s (known_lines false script)).stop ≡ None
+known_on s script rest on = elim (cases_lt LONGEST_LINE (length (cut script).unfinished)) [
+  | inl long ↦
+      let unfinished = (cut script).unfinished in
+      let behind = behind_both (cut script) (cut rest).lines (cut rest).unfinished (omega (arith, long)) in
+      let at_line = line_on (whole_lines script) s (unfinished ++ behind.0) behind.1
+      (sym (ap (λ (ls : List (List ℕ)). (play s ls).stop) (ap lines_by (cut-append script rest) ∙ behind.2)) ∙ on) in
+      absurd (long_stops (play s (whole_lines script)).state (unfinished ++ behind.0) (omega (arith, long, length-append unfinished behind.0)) at_line)
+  | inr short ↦
+      let before = whole_before script rest in
+      ap (λ (ls : List (List ℕ)). (play s ls).stop) (known_lines-short script short)
+      ∙ before_on (whole_lines script) s before.0 (sym (ap (λ (ls : List (List ℕ)). (play s ls).stop) before.1) ∙ on)
+]
+
+-- bytes in front of others that are left, if any are told
+abbrev before_rest : List ℕ → Option (List ℕ) → Option (List ℕ)
+before_rest bytes left = option_map (λ rest. bytes ++ rest) left
+
+-- what was taken of a script, and what is left of it
+parts : (script taken : List ℕ) (old new : SourceRecord) → old.left ≡ Some script → Gives old taken new → (rest : List ℕ) × (new.left ≡ Some rest) × (script ≡ taken ++ rest)
+parts script taken old new told gives = by_left new.left refl
+  where
+    by_left : (left : Option (List ℕ)) → new.left ≡ left → (rest : List ℕ) × (new.left ≡ Some rest) × (script ≡ taken ++ rest)
+    by_left None is = absurd (none-some script (sym (gives ∙ ap (before_rest taken) is) ∙ told))
+    by_left (Some rest) is = (rest, is, same_Some script (taken ++ rest) (sym told ∙ gives ∙ ap (before_rest taken) is))
+
+module _ (size : Size) (old new : WorldRecord) (free : Unhindered size old new) where
+  part : (taken : List ℕ) → Gives old.source taken new.source → (rest : List ℕ) × (new.source.left ≡ Some rest) × (free.script ≡ taken ++ rest)
+  part taken gives = parts free.script taken old.source new.source free.told gives
+
+  -- no more is taken than there is
+  short_taken : (taken : List ℕ) → Gives old.source taken new.source → length taken < SCRIPT_LIMIT
+  short_taken taken gives =
+      let p = part taken gives in
+      omega (arith, free.short, ap length p.2, length-append taken p.0)
+
+  -- the play does not stop for something that is not built
+  built : (what : Unbuilt) (ended : Bool) (taken : List ℕ) → Gives old.source taken new.source → (ended ≡ true → AtEnd old.source new.source) → (play (empty size.arena size.slots) (known_lines ended taken)).stop ≡ Some what → ⊥
+  built what true taken gives at_end stops =
+      let p = part taken gives in
+      let rest : p.0 ≡ [] = subst (λ (o : Option (List ℕ)). IfSome o (λ left. left ≡ [])) p.1 (at_end refl).1 in
+      let whole : free.script ≡ taken = p.2 ∙ ap (λ (t : List ℕ). taken ++ t) rest ∙ append-nil taken in
+      none-some what (sym free.built ∙ ap (λ (t : List ℕ). (play (empty size.arena size.slots) (lines_of t)).stop) whole ∙ stops)
+  built what false taken gives at_end stops =
+      let p = part taken gives in
+      none-some what (sym (known_on (empty size.arena size.slots) taken p.0 (sym (ap (λ (t : List ℕ). (play (empty size.arena size.slots) (lines_of t)).stop) p.2) ∙ free.built)) ∙ stops)
+
+  script_done : (ending : ScriptEnd) (taken : List ℕ) → Gives old.source taken new.source → ScriptEnds ending (empty size.arena size.slots) taken old new → status_of_script ending ≡ status.Done
+  script_done script_end.Done taken gives ends = refl
+  script_done script_end.StreamLimit taken gives ends = absurd (omega (arith, short_taken taken gives, ends.0))
+  script_done script_end.SourceFault taken gives ends = absurd (free.source_works ends.1)
+  script_done (script_end.Stopped (stop.NotBuilt what)) taken gives ends = absurd (built what ends.0 taken gives ends.1 ends.2.0)
+  script_done (script_end.Stopped stop.SinkFault) taken gives ends = absurd (free.sink_works ends.2.0)
+
+  comes_to_end : (ending : Result ScriptEnd CreateFault) → PlayEnds ending size old new → (status_of_play ending ≡ status.Done) ⊎ (status_of_play ending ≡ status.NoMemory)
+  comes_to_end (Ok ending) ends = inl (script_done ending ends.2.script ends.2.taken ends.2.ends)
+  comes_to_end (Err (fault.BadArena arena)) ends = absurd (ends.0.1 free.good_arena)
+  comes_to_end (Err (fault.BadSlots slots)) ends = absurd (ends.0.2 free.good_slots)
+  comes_to_end (Err fault.OutOfMemory) ends = inr refl
+
+  pub completes : (ending : Result ScriptEnd CreateFault) (code : ℕ) → PlayEnds ending size old new → Reports (status_of_play ending) code old.log new.log → (code ≡ 0) ⊎ (code ≡ 71)
+  completes ending code ends reports = elim reports [
+    | inl told ↦ elim (comes_to_end ending ends) [ inl done ↦ inl (told.0 ∙ ap code_of done) | inr no_memory ↦ inr (told.0 ∙ ap code_of no_memory) ]
+    | inr failed ↦ absurd (free.log_works failed.1)
+  ]

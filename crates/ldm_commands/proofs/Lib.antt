@@ -1,0 +1,9 @@
+pub mod NumberLemmas
+pub mod SplitLemmas
+pub mod ReadLineLemmas
+pub mod PlayLineLemmas
+pub mod CutLemmas
+pub mod PlayLemmas
+pub mod GoesOnLemmas
+pub mod PlaysScriptLemmas
+pub mod CompletesLemmas

@@ -1,0 +1,68 @@
+-- The statuses, with their log lines.
+use Rattle.std.specs.Prelude.{◌≡◌, ◌⊎◌, ℕ, ◌++◌, List, [], ◌∷◌, codes, decimal, Result, Ok, Err}
+use Rattle.ldm_outside.specs.Count.{Rose}
+use Rattle.ldm_outside.specs.Io.{SinkRecord, Takes, WritesFront}
+use Rattle.ldm_book.specs.declared.replies.CreateFault.{CreateFault}
+use Rattle.ldm_book.specs.declared.replies.CreateFault.TheVariants as fault
+use Rattle.ldm_commands.specs.declared.play_command.ScriptEnd.{ScriptEnd}
+use Rattle.ldm_commands.specs.declared.play_command.ScriptEnd.TheVariants as script_end
+use Rattle.ldm_commands.specs.declared.player.Stop.{Stop}
+use Rattle.ldm_commands.specs.declared.player.Stop.TheVariants as stop
+use Rattle.ldm_commands.specs.declared.status.TheConstants.{LOG_FAULT}
+use Rattle.ldm_commands.specs.declared.status.Status.{Status}
+use Rattle.ldm_commands.specs.declared.status.Status.TheVariants as status
+use Rattle.ldm_commands.specs.Unbuilt.{unbuilt_text}
+
+-- the number that the program ends with
+abbrev pub code_of : Status → ℕ
+code_of status.Done = 0
+code_of status.Usage = 64
+code_of status.StreamLimit = 66
+code_of (status.RefusedArena arena) = 67
+code_of (status.RefusedSlots slots) = 67
+code_of (status.NotBuilt what) = 68
+code_of status.NoMemory = 71
+code_of status.SourceFault = 74
+code_of status.SinkFault = 75
+
+-- the log line, with its newline: nothing where all went well
+abbrev pub log_line : Status → List ℕ
+log_line status.Done = []
+log_line status.Usage = codes "ldm: usage\n"
+log_line status.StreamLimit = codes "ldm: stream limit\n"
+log_line (status.RefusedArena arena) = codes "ldm: refused arena " ++ decimal arena ++ 10 ∷ []
+log_line (status.RefusedSlots slots) = codes "ldm: refused slots " ++ decimal slots ++ 10 ∷ []
+log_line (status.NotBuilt what) = codes "ldm: not built " ++ unbuilt_text what ++ 10 ∷ []
+log_line status.NoMemory = codes "ldm: no memory\n"
+log_line status.SourceFault = codes "ldm: source fault\n"
+log_line status.SinkFault = codes "ldm: sink fault\n"
+
+-- the status of a stop at a line
+abbrev pub status_of_stop : Stop → Status
+status_of_stop (stop.NotBuilt what) = status.NotBuilt what
+status_of_stop stop.SinkFault = status.SinkFault
+
+-- the status of how a script ended
+abbrev pub status_of_script : ScriptEnd → Status
+status_of_script script_end.Done = status.Done
+status_of_script script_end.StreamLimit = status.StreamLimit
+status_of_script script_end.SourceFault = status.SourceFault
+status_of_script (script_end.Stopped why) = status_of_stop why
+
+-- the status where no queue was made
+abbrev pub status_of_fault : CreateFault → Status
+status_of_fault (fault.BadArena arena) = status.RefusedArena arena
+status_of_fault (fault.BadSlots slots) = status.RefusedSlots slots
+status_of_fault fault.OutOfMemory = status.NoMemory
+
+-- the status of how a play ended
+abbrev pub status_of_play : Result ScriptEnd CreateFault → Status
+status_of_play (Ok ending) = status_of_script ending
+status_of_play (Err fault) = status_of_fault fault
+
+-- The number that ends the program, and what the log took: the status and its line; or 76, where the log failed,
+-- and a front of the line.
+abbrev pub Reports : Status → ℕ → SinkRecord → SinkRecord → Type 0
+Reports ending code old new =
+    ((code ≡ code_of ending) × Takes old (log_line ending) new)
+    ⊎ ((code ≡ LOG_FAULT) × Rose old.faults new.faults × WritesFront old (log_line ending) new)

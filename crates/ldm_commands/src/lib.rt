@@ -1,0 +1,20 @@
+//! The commands of the program.
+//!
+//! [`run_ldm`] does what the words of the program ask for: it reads them as a command and calls the public function of
+//! that command. Its contract says how that ends, by cases on the words.
+#![tactic(auto)]
+
+mod answer;
+mod command;
+mod pending;
+mod play_command;
+mod player;
+mod run;
+mod script;
+mod status;
+mod text;
+mod unbuilt;
+
+pub use play_command::play;
+pub use run::run_ldm;
+pub use status::Status;

@@ -1,0 +1,15 @@
+//! Texts cut at a byte.
+ghost use Rattle.std.specs.Prelude.{◌≡◌, ◌∷◌};
+ghost use Rattle.ldm_commands.specs.Split.{parts, parts_left};
+
+use memchr::memchr;
+
+/// The part of a text in front of the first separator, and what stands behind it, if there is a separator.
+pub fn split_first(text: &[u8], separator: u8) -> (&[u8], Option<&[u8]>)
+    ensures { parts separator text.now ≡ result.0.now ∷ parts_left separator result.1 }
+{
+    match memchr(separator, text) {
+        None => (text, None),
+        Some(at) => (&text[..at], Some(&text[at + 1..])),
+    }
+}

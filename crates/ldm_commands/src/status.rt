@@ -1,0 +1,141 @@
+//! How the program ends: statuses with their log lines.
+ghost use Rattle.std.specs.Prelude.{◌≡◌, ◌≤◌};
+
+use crate::play_command::ScriptEnd;
+use crate::player::Stop;
+use crate::text::{Text, put, put_number};
+use crate::unbuilt::Unbuilt;
+use ldm_book::CreateFault;
+use ldm_outside::{Sink, SinkFailed, write_all};
+
+/// How the program ends, its log apart.
+#[derive(Clone, Copy, Debug, PartialEq, Eq)]
+pub enum Status {
+    /// All input was read, and all owed text is written.
+    Done,
+    /// The words are no form of a command.
+    Usage,
+    /// As many bytes of a script were taken as are too many.
+    StreamLimit,
+    /// No queue has an arena of so many bytes.
+    RefusedArena(u64),
+    /// No queue has so many slots.
+    RefusedSlots(u32),
+    /// Something was asked for that is not built yet.
+    NotBuilt(Unbuilt),
+    /// There is no memory.
+    NoMemory,
+    /// The source failed.
+    SourceFault,
+    /// The sink failed.
+    SinkFault,
+}
+
+/// The status where the log line of another status could not be written.
+pub const LOG_FAULT: u8 = 76;
+
+impl From<Stop> for Status {
+    ghost use Rattle.ldm_commands.specs.Status.{status_of_stop};
+
+    ghost from_gives = { λ stop status. status ≡ status_of_stop stop };
+
+    fn from(stop: Stop) -> Status {
+        match stop {
+            Stop::NotBuilt(what) => Status::NotBuilt(what),
+            Stop::SinkFault => Status::SinkFault,
+        }
+    }
+}
+
+impl From<ScriptEnd> for Status {
+    ghost use Rattle.ldm_commands.specs.Status.{status_of_script};
+
+    ghost from_gives = { λ ending status. status ≡ status_of_script ending };
+
+    fn from(ending: ScriptEnd) -> Status {
+        match ending {
+            ScriptEnd::Done => Status::Done,
+            ScriptEnd::StreamLimit => Status::StreamLimit,
+            ScriptEnd::SourceFault => Status::SourceFault,
+            ScriptEnd::Stopped(stop) => Status::from(stop),
+        }
+    }
+}
+
+impl From<CreateFault> for Status {
+    ghost use Rattle.ldm_commands.specs.Status.{status_of_fault};
+
+    ghost from_gives = { λ fault status. status ≡ status_of_fault fault };
+
+    fn from(fault: CreateFault) -> Status {
+        match fault {
+            CreateFault::BadArena { arena } => Status::RefusedArena(arena),
+            CreateFault::BadSlots { slots } => Status::RefusedSlots(slots),
+            CreateFault::OutOfMemory => Status::NoMemory,
+        }
+    }
+}
+
+impl Status {
+    ghost use Rattle.ldm_commands.specs.Status.{code_of, log_line, Reports};
+
+    /// The number that the program ends with.
+    pub fn code(&self) -> u8
+        ensures { result ≡ code_of self.now }
+    {
+        match self {
+            Status::Done => 0,
+            Status::Usage => 64,
+            Status::StreamLimit => 66,
+            Status::RefusedArena(_) | Status::RefusedSlots(_) => 67,
+            Status::NotBuilt(_) => 68,
+            Status::NoMemory => 71,
+            Status::SourceFault => 74,
+            Status::SinkFault => 75,
+        }
+    }
+
+    /// Writes the log line, with its newline, over what the buffer had: nothing where all went well.
+    fn write_line(&self, out: &mut Text)
+        ensures { out.new.items ≡ log_line self.now }
+    {
+        out.clear();
+        match *self {
+            Status::Done => {}
+            Status::Usage => put(out, b"ldm: usage\n"),
+            Status::StreamLimit => put(out, b"ldm: stream limit\n"),
+            Status::RefusedArena(arena) => {
+                put(out, b"ldm: refused arena ");
+                put_number(out, arena);
+                put(out, b"\n");
+            }
+            Status::RefusedSlots(slots) => {
+                put(out, b"ldm: refused slots ");
+                put_number(out, u64::from(slots));
+                put(out, b"\n");
+            }
+            Status::NotBuilt(what) => {
+                put(out, b"ldm: not built ");
+                put(out, what.text());
+                put(out, b"\n");
+            }
+            Status::NoMemory => put(out, b"ldm: no memory\n"),
+            Status::SourceFault => put(out, b"ldm: source fault\n"),
+            Status::SinkFault => put(out, b"ldm: sink fault\n"),
+        }
+    }
+
+    /// Writes the log line to the log, and answers the number that the program ends with: that of the status, or
+    /// [`LOG_FAULT`] where the log failed.
+    pub fn report<E: Sink>(&self, log: &mut E) -> u8
+        ensures reports { Reports self.now result (E.tells log.old) (E.tells log.new) }
+        ensures faults_kept { (E.tells log.old).faults ≤ (E.tells log.new).faults }
+    {
+        let mut line = Text::new();
+        self.write_line(&mut line);
+        match write_all(log, line.as_slice()) {
+            Ok(()) => self.code(),
+            Err(SinkFailed) => LOG_FAULT,
+        }
+    }
+}

@@ -1,0 +1,22 @@
+mod Held
+mod HeldNext
+mod Appended
+pub mod Ascending
+pub mod Apart
+pub mod Rows
+pub mod Coming
+pub mod Reading
+pub mod ReadingMoves
+pub mod Points
+pub mod Evictable
+pub mod Tied
+pub mod TiedOthers
+pub mod Losses
+pub mod TiedOwn
+pub mod TiedOpened
+pub mod TiedPoints
+pub mod Served
+pub mod Answered
+pub mod Lawful
+pub mod Inserted
+pub mod Numbered
