@@ -1,0 +1,6 @@
+pub mod CallerLemmas
+pub mod FirstMark
+pub mod IsKept
+pub mod LeastEmpty
+pub mod PlacesOf
+pub mod WithLoss

@@ -1,0 +1,215 @@
+//! The cursors of a queue.
+ghost use Rattle.std.specs.Prelude.{◌≡◌, ℕ, ◌^◌, ◌<◌, ◌≤◌, ◌↔◌, IsTrue, IsSome, IsSomeAnd, IfOk, IfSome, MatchOption, None, length, map, replicate};
+ghost use Rattle.std.specs.Option.{option_map};
+ghost use Rattle.ldm_cursor.specs.Kept.{IsKept, kept_of, places_of};
+ghost use Rattle.ldm_cursor.specs.Places.{CountsBelow, after_hold, after_move, after_release, after_tell, cursor_at, least_empty, new_cursor, numbers_of, with_change, with_cursor, with_loss, without_cursor};
+
+use crate::cursor::Cursor;
+use crate::marks::Marks;
+use ldm_types::{Actor, CursorNo, Feed, OutOfMemory};
+use std::alloc::Global;
+use std::marker::Model;
+
+/// The 64 cursor places of a queue, each empty or with an open cursor.
+///
+/// A cursor is the place in the queue that one reader has come to. It belongs to an actor, is for a set of
+/// feedtypes, has a position, the least number that it may still be given, and may hold one product at a time. It
+/// keeps count of the products that it was given and of those that it lost: those that left the queue before they
+/// were given. Of the losses that the reader was not told yet it keeps how many there are, and the least and the
+/// greatest number.
+#[derive(Drop)]
+pub struct Cursors {
+    places: Vec<Option<Cursor>>,
+    // The places that have a cursor.
+    taken: Marks,
+}
+
+impl Model for Cursors {
+    ghost use Rattle.ldm_types.specs.Cursors.{Places};
+    ghost use Rattle.ldm_cursor.specs.Kept.{places_of, IsKept};
+
+    ghost Value = { Places };
+
+    ghost view = { λ cursors. places_of cursors.places.items };
+
+    ghost invariant = { λ cursors. IsKept (places_of cursors.places.items) cursors.taken.bits };
+}
+
+impl Cursors {
+    /// 64 empty places, all of whose memory is taken here. An error only where there is too little of it.
+    pub fn create(alloc: Global) -> Result<Cursors, OutOfMemory>
+        ensures { IfOk result (λ cursors. cursors ≡ replicate CursorNo.COUNT None) }
+    {
+        let mut places = Vec::with_capacity(alloc, CursorNo::COUNT as usize)?;
+        places.resize(CursorNo::COUNT as usize, None)?;
+        Ok(Cursors {
+            places,
+            taken: Marks::none(),
+        })
+    }
+
+    /// Opens a cursor at the least empty place, and answers which it is. `None` exactly where all places are
+    /// taken; nothing changes then.
+    pub fn seat(&mut self, actor: Actor, feed: Feed, position: u64) -> Option<CursorNo>
+        ensures place { result ≡ least_empty self.old }
+        ensures seated { MatchOption result (self.new ≡ self.old) (λ k. self.new ≡ with_cursor self.old k (new_cursor actor feed.0 position)) }
+        ensures many { length self.new ≡ CursorNo.COUNT }
+    {
+        let k = self.taken.first_unmarked()?;
+        self.places[k.get() as usize] = Some(Cursor::new(actor, feed, position));
+        self.taken.mark(k);
+        Some(k)
+    }
+
+    /// The product of that number and feed left the queue: counts it as lost at each cursor that it was still to
+    /// come to, which is at or before it and has a feedtype of it.
+    pub fn lose(&mut self, n: u64, feed: Feed)
+        requires number { n < 2 ^ 63 }
+        requires counts { CountsBelow (2 ^ 63) self.old }
+        ensures lost { self.new ≡ map (with_loss n feed.0) self.old }
+        ensures many { length self.new ≡ CursorNo.COUNT }
+    {
+        lose_each(&mut self.places, self.taken, n, feed);
+    }
+
+    /// Whether a place is open and its cursor is that actor's.
+    pub fn owned(&self, actor: Actor, k: CursorNo) -> bool
+        ensures owned { IsTrue result ↔ IsSomeAnd (cursor_at self.now k) (λ cursor. cursor.actor ≡ actor) }
+        ensures many { length self.now ≡ CursorNo.COUNT }
+    {
+        match &self.places[k.get() as usize] {
+            Some(cursor) => cursor.actor == actor,
+            None => false,
+        }
+    }
+
+    /// The least number that a cursor may still be given.
+    pub fn position(&self, k: CursorNo) -> u64
+        requires { IsSome (cursor_at self.now k) }
+        ensures value { IfSome (cursor_at self.now k) (λ cursor. result ≡ cursor.position) }
+        ensures many { length self.now ≡ CursorNo.COUNT }
+    {
+        self.cursor(k).position
+    }
+
+    /// The feedtypes that a cursor is for.
+    pub fn feed(&self, k: CursorNo) -> Feed
+        requires { IsSome (cursor_at self.now k) }
+        ensures value { IfSome (cursor_at self.now k) (λ cursor. result.0 ≡ cursor.feed) }
+        ensures many { length self.now ≡ CursorNo.COUNT }
+    {
+        self.cursor(k).feed
+    }
+
+    /// The number of the product that a cursor holds. `None` exactly where it holds none.
+    pub fn held(&self, k: CursorNo) -> Option<u64>
+        requires { IsSome (cursor_at self.now k) }
+        ensures value { IfSome (cursor_at self.now k) (λ cursor. result ≡ cursor.held) }
+        ensures many { length self.now ≡ CursorNo.COUNT }
+    {
+        self.cursor(k).held
+    }
+
+    /// How many products a cursor was given, and how many it lost, told or not.
+    pub fn counts(&self, k: CursorNo) -> (u64, u64)
+        requires { IsSome (cursor_at self.now k) }
+        ensures value { IfSome (cursor_at self.now k) (λ cursor. result ≡ (cursor.given, cursor.lost)) }
+        ensures many { length self.now ≡ CursorNo.COUNT }
+    {
+        let cursor = self.cursor(k);
+        (cursor.given, cursor.lost)
+    }
+
+    /// Gives a cursor that holds nothing the product of that number: it holds it, and goes on behind it.
+    pub fn hold(&mut self, k: CursorNo, n: u64)
+        requires number { n < 2 ^ 63 }
+        requires counts { CountsBelow (2 ^ 63) self.old }
+        requires opened { IsSome (cursor_at self.old k) }
+        requires free { IfSome (cursor_at self.old k) (λ cursor. cursor.held ≡ None) }
+        requires reached { IfSome (cursor_at self.old k) (λ cursor. cursor.position ≤ n) }
+        ensures held { self.new ≡ with_change self.old k (after_hold n) }
+        ensures many { length self.new ≡ CursorNo.COUNT }
+    {
+        let Some(cursor) = &mut self.places[k.get() as usize] else {
+            unreachable!()
+        };
+        cursor.hold(n);
+    }
+
+    /// Ends the hold of a cursor, and answers the number of the product that it held. `None` exactly where it
+    /// held none.
+    pub fn let_go(&mut self, k: CursorNo) -> Option<u64>
+        requires { IsSome (cursor_at self.old k) }
+        ensures value { IfSome (cursor_at self.old k) (λ cursor. result ≡ cursor.held) }
+        ensures released { self.new ≡ with_change self.old k after_release }
+        ensures many { length self.new ≡ CursorNo.COUNT }
+    {
+        let Some(cursor) = &mut self.places[k.get() as usize] else {
+            unreachable!()
+        };
+        cursor.let_go()
+    }
+
+    /// How many losses of a cursor were not told yet, and the least and the greatest of their numbers. They are
+    /// told from now on. `None` exactly where there are none.
+    pub fn tell(&mut self, k: CursorNo) -> Option<(u64, u64, u64)>
+        requires { IsSome (cursor_at self.old k) }
+        ensures value { IfSome (cursor_at self.old k) (λ cursor. result ≡ option_map numbers_of cursor.untold) }
+        ensures told { self.new ≡ with_change self.old k after_tell }
+        ensures many { length self.new ≡ CursorNo.COUNT }
+    {
+        let Some(cursor) = &mut self.places[k.get() as usize] else {
+            unreachable!()
+        };
+        cursor.tell()
+    }
+
+    /// Moves a cursor on to that number.
+    pub fn to_end(&mut self, k: CursorNo, at: u64)
+        requires opened { IsSome (cursor_at self.old k) }
+        requires ahead { IfSome (cursor_at self.old k) (λ cursor. cursor.position ≤ at) }
+        ensures moved { self.new ≡ with_change self.old k (after_move at) }
+        ensures many { length self.new ≡ CursorNo.COUNT }
+    {
+        let Some(cursor) = &mut self.places[k.get() as usize] else {
+            unreachable!()
+        };
+        cursor.position = at;
+    }
+
+    /// Closes a cursor: its place is empty.
+    pub fn leave(&mut self, k: CursorNo)
+        requires { IsSome (cursor_at self.old k) }
+        ensures left { self.new ≡ without_cursor self.old k }
+        ensures many { length self.new ≡ CursorNo.COUNT }
+    {
+        self.places[k.get() as usize] = None;
+        self.taken.unmark(k);
+    }
+
+    /// The cursor of an open place.
+    fn cursor(&self, k: CursorNo) -> &Cursor
+        requires { IsSome (cursor_at self.now k) }
+        ensures at { cursor_at self.now k ≡ Some (kept_of result.now) }
+        ensures many { length self.now ≡ CursorNo.COUNT }
+    {
+        let Some(cursor) = &self.places[k.get() as usize] else {
+            unreachable!()
+        };
+        cursor
+    }
+}
+
+/// Counts the product of that number and feed as lost at each cursor that it was still to come to.
+fn lose_each(places: &mut [Option<Cursor>], taken: Marks, n: u64, feed: Feed)
+    requires kept { IsKept (places_of places.old) taken.bits }
+    requires counts { CountsBelow (2 ^ 63) (places_of places.old) }
+    ensures { places_of places.new ≡ map (with_loss n feed.0) (places_of places.old) }
+{
+    let mut left = taken;
+    while let Some(k) = left.take_first() {
+        if let Some(cursor) = &mut places[k.get() as usize] {
+            cursor.lose(n, feed);
+        }
+    }
+}
