@@ -1,39 +1,34 @@
 -- Tables of signatures: where one is found, and that none stands twice.
-use Rattle.std.proofs.Common.{◌≡◌, ℕ, zero, suc, ◌<◌, ◌≤◌, ◌⊎◌, inl, inr, ⊎_elim, true, false, List, [], ◌∷◌, ◌++◌, ◌-◌, take, length, get_or, set, replicate, slice_get, bytes_eq, Option, Some, None, refl, sym, ap, ◌∙◌, arith}
+use Rattle.std.proofs.Common.{◌≡◌, ℕ, zero, suc, ◌<◌, ◌≤◌, ◌⊎◌, inl, inr, ⊎_elim, false, List, [], ◌∷◌, length}
+use Rattle.std.proofs.Common.{get_or, set, replicate, slice_get, bytes_eq, if◌then◌else◌, nat_lt, Option, Some, None, refl, sym, ap, ◌∙◌, arith}
 use Rattle.std.specs.List.{position_or_len}
-use Rattle.ldm_types.specs.declared.signature.Signature.{Signature}
-use Rattle.std.proofs.lemmas.Bool.{both_ways}
+use Rattle.std.proofs.lemmas.Bool.{both_ways, cond-false, cond-true, false_from_ne_true, le-ltb, lt-ltb}
 use Rattle.std.proofs.lemmas.Grind.{common_steps}
-use Rattle.std.proofs.lemmas.List.{length-map, take_all}
 use Rattle.std.proofs.lemmas.List.Sums.{position_or_len_is, fails_before_first}
-use Rattle.std.proofs.lemmas.Option.{slice_get_within, get_or_from_slice_get}
+use Rattle.std.proofs.lemmas.Option.{slice_get_within, get_or_from_slice_get, slice_get-get_or}
 use Rattle.std.proofs.lemmas.Slice.Eq.{bytes_eq-Decides}
 use Rattle.ldm_sigindex.specs.Index.{Table, has, slot_of, IsOneToOne}
-use Rattle.ldm_sigindex.specs.Scan.{bytes_of, table_of}
 
-held_at : (signatures : List (Option Signature)) (k : ℕ) → get_or (table_of signatures) k None ≡ bytes_of (get_or signatures k None)
-held_at [] k = refl
-held_at (held ∷ rest) zero = refl
-held_at (held ∷ rest) (suc k) = held_at rest k
+has_not : (bytes : List ℕ) (held : Option (List ℕ)) → (held ≡ Some bytes → ⊥) → has bytes held ≡ false
+has_not bytes None other = refl
+has_not bytes (Some held) other = false_from_ne_true _ (λ same. other (ap (λ b. Some b) ((bytes_eq-Decides held bytes).0 same)))
 
-first_at : (signatures : List (Option Signature)) (bytes : List ℕ) (i : ℕ) → i ≤ length signatures → ((k : ℕ) → k < i → has bytes (bytes_of (get_or signatures k None)) ≡ false) → (i < length signatures → has bytes (bytes_of (get_or signatures i None)) ≡ true) → position_or_len (has bytes) (table_of signatures) ≡ i
-first_at signatures bytes i within before here =
-    let len = length-map signatures bytes_of in
-    position_or_len_is (has bytes) (table_of signatures) i None (omega (arith, len))
-    (λ k lt. ap (has bytes) (held_at signatures k) ∙ before k lt)
-    (λ lt. ap (has bytes) (held_at signatures i) ∙ here (omega (arith, len)))
+-- a signature is found in the one slot that has it
+pub found : (table : Table) (bytes : List ℕ) (i : ℕ) → IsOneToOne table → slice_get table i ≡ Some (Some bytes) → slot_of table bytes ≡ Some i
+found table bytes i once at =
+    let inside = slice_get_within table i (Some bytes) at in
+    let first : position_or_len (has bytes) table ≡ i =
+    position_or_len_is (has bytes) table i None (omega arith)
+    (λ k lt. has_not bytes _ (λ same. absurd (omega (arith, once k i bytes (slice_get-get_or table k None (omega arith) ∙ ap (λ held. Some held) same) at))))
+    (λ _. ap (has bytes) (get_or_from_slice_get table i (Some bytes) None at) ∙ (bytes_eq-Decides bytes bytes).1 refl) in
+    ap (λ k. if nat_lt k (length table) then Some k else None) first ∙ cond-true _ _ _ (lt-ltb i (length table) inside)
 
-pub found : (signatures : List (Option Signature)) (bytes : List ℕ) (i : ℕ) → i < length signatures → ((k : ℕ) → k < i → has bytes (bytes_of (get_or signatures k None)) ≡ false) → has bytes (bytes_of (get_or signatures i None)) ≡ true → Some i ≡ slot_of (table_of signatures) bytes
-found signatures bytes i inside before here =
-    let first = first_at signatures bytes i (omega arith) before (λ _. here) in
-    let len = length-map signatures bytes_of in
-    grind (arith, common_steps)
-
-pub not_found : (signatures : List (Option Signature)) (bytes : List ℕ) → ((k : ℕ) → k < length signatures → has bytes (bytes_of (get_or signatures k None)) ≡ false) → None ≡ slot_of (table_of signatures) bytes
-not_found signatures bytes before =
-    let first = first_at signatures bytes (length signatures) (omega arith) before (λ lt. absurd (omega arith)) in
-    let len = length-map signatures bytes_of in
-    grind (arith, common_steps)
+-- a signature that no slot has is not found
+pub not_found : (table : Table) (bytes : List ℕ) → ((k : ℕ) → get_or table k None ≡ Some bytes → ⊥) → slot_of table bytes ≡ None
+not_found table bytes nowhere =
+    let first : position_or_len (has bytes) table ≡ length table =
+    position_or_len_is (has bytes) table (length table) None (omega arith) (λ k lt. has_not bytes _ (nowhere k)) (λ lt. absurd (omega arith)) in
+    cond-false _ _ _ (le-ltb (position_or_len (has bytes) table) (length table) (omega arith))
 
 -- a signature that is not found stands nowhere
 absent : (table : Table) (bytes : List ℕ) (k : ℕ) → slot_of table bytes ≡ None → slice_get table k ≡ Some (Some bytes) → ⊥
@@ -77,14 +72,16 @@ one_to_one-left table i once a b held at-a at-b = once a b held (was_left table 
 pub one_to_one-none : (slots : ℕ) → IsOneToOne (replicate slots None)
 one_to_one-none slots a b held at-a at-b = absurd (none_stands slots a held at-a)
 
-pub table_of-none : (slots : ℕ) → table_of (replicate slots None) ≡ replicate slots None
-table_of-none zero = refl
-table_of-none (suc slots) = ap (λ rest. None ∷ rest) (table_of-none slots)
+-- ---- slots that are free
 
--- a list with nothing in it, filled up
-pub filled : (signatures : List (Option Signature)) (count slots : ℕ) → signatures ≡ [] → count ≡ 0 → take slots signatures ++ replicate (slots - count) None ≡ replicate slots None
-filled signatures count slots nothing none =
-    let whole : slots - count ≡ slots = omega arith in
-    ap (λ (front : List (Option Signature)). take slots front ++ replicate (slots - count) None) nothing
-    ∙ ap (λ (front : List (Option Signature)). front ++ replicate (slots - count) None) (take_all slots [] (omega arith))
-    ∙ ap (λ n. replicate n None) whole
+pub all_free : (slots k : ℕ) → k < slots → slice_get (replicate {A = Option (List ℕ)} slots None) k ≡ Some None
+all_free zero k lt = absurd (omega arith)
+all_free (suc slots) zero lt = refl
+all_free (suc slots) (suc k) lt = all_free slots k (omega arith)
+
+pub get-set_other : {X : Type 0} (xs : List X) (i k : ℕ) (x : X) → (k ≡ i → ⊥) → slice_get (set xs i x) k ≡ slice_get xs k
+get-set_other [] i k x apart = refl
+get-set_other (one ∷ rest) zero zero x apart = absurd (apart refl)
+get-set_other (one ∷ rest) zero (suc k) x apart = refl
+get-set_other (one ∷ rest) (suc i) zero x apart = refl
+get-set_other (one ∷ rest) (suc i) (suc k) x apart = get-set_other rest i k x (λ same. apart (ap suc same))

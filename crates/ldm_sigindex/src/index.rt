@@ -2,7 +2,7 @@
 ghost use Rattle.std.specs.Prelude.{◌≡◌, IfOk, IfSome, IsSome, None, Some, replicate, set, slice_get};
 ghost use Rattle.ldm_sigindex.specs.Index.{IsOneToOne, slot_of};
 
-use crate::scan;
+use crate::chain::{self, END, Slot};
 use ldm_types::{OutOfMemory, Signature};
 use std::alloc::Global;
 use std::marker::Model;
@@ -13,18 +13,20 @@ use std::marker::Model;
 /// slots have the same one.
 #[derive(Drop)]
 pub struct SigIndex {
-    signatures: Vec<Option<Signature>>,
+    /// The first slot of each chain, or `END`.
+    heads: Vec<u32>,
+    slots: Vec<Slot>,
 }
 
 impl Model for SigIndex {
     ghost use Rattle.ldm_sigindex.specs.Index.{Table};
-    ghost use Rattle.ldm_sigindex.specs.Scan.{table_of, IsKept};
+    ghost use Rattle.ldm_sigindex.specs.Chains.{table_of, IsKept};
 
     ghost Value = { Table };
 
-    ghost view = { λ index. table_of index.signatures.items };
+    ghost view = { λ index. table_of index.slots.items };
 
-    ghost invariant = { λ index. IsKept index.signatures.items };
+    ghost invariant = { λ index. IsKept index.heads.items index.slots.items };
 }
 
 impl SigIndex {
@@ -33,9 +35,9 @@ impl SigIndex {
     pub fn create(alloc: Global, slots: u32) -> Result<SigIndex, OutOfMemory>
         ensures { IfOk result (λ index. index ≡ replicate slots None) }
     {
-        let mut signatures = Vec::with_capacity(alloc, slots as usize)?;
-        signatures.resize(slots as usize, None)?;
-        Ok(SigIndex { signatures })
+        let heads = vec![in alloc; END; (slots as usize).next_power_of_two()]?;
+        let slots = chain::empty_slots(alloc, slots)?;
+        Ok(SigIndex { heads, slots })
     }
 
     /// Gives a slot that has none a signature that no slot has.
@@ -45,7 +47,12 @@ impl SigIndex {
         ensures put { self.new ≡ set self.old slot (Some s.0) }
         ensures one_to_one { IsOneToOne self.new }
     {
-        self.signatures[slot as usize] = Some(s);
+        let home = chain::home(&s, self.heads.len());
+        self.slots[slot as usize] = Slot {
+            signature: s,
+            next: self.heads[home],
+        };
+        self.heads[home] = slot;
     }
 
     /// Takes a signature from the slot that has it.
@@ -54,10 +61,15 @@ impl SigIndex {
         ensures taken { IfSome (slot_of self.old s.now.0) (λ slot. self.new ≡ set self.old slot None) }
         ensures one_to_one { IsOneToOne self.new }
     {
-        let Some(slot) = scan::first_with(&self.signatures, s) else {
-            unreachable!()
-        };
-        self.signatures[slot] = None;
+        let (home, place) = chain::locate(&self.heads, &self.slots, s);
+        let taken = &mut self.slots[place.slot as usize];
+        let next = taken.next;
+        taken.next = place.slot;
+        if place.before == END {
+            self.heads[home] = next;
+        } else {
+            self.slots[place.before as usize].next = next;
+        }
     }
 
     /// The slot that has a signature. `None` exactly where no slot has it.
@@ -65,9 +77,11 @@ impl SigIndex {
         ensures slot { result ≡ slot_of self.now s.now.0 }
         ensures one_to_one { IsOneToOne self.now }
     {
-        match scan::first_with(&self.signatures, s) {
-            Some(slot) => Some(slot as u32),
-            None => None,
+        let (_, place) = chain::locate(&self.heads, &self.slots, s);
+        if place.slot == END {
+            None
+        } else {
+            Some(place.slot)
         }
     }
 }

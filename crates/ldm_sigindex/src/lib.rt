@@ -1,8 +1,8 @@
 //! Which slot of a queue holds the product of a signature.
 #![tactic(auto)]
 
+mod chain;
 mod index;
-mod scan;
 #[cfg(test)]
 mod tests;
 

@@ -1,22 +1,24 @@
-use Rattle.std.proofs.Common.{Some, set, sym, ap, ◌∙◌, subst, arith}
-use Rattle.std.proofs.lemmas.List.{map-set, length-set}
-use Rattle.ldm_sigindex.specs.Index.{Table, IsOneToOne}
-use Rattle.ldm_sigindex.specs.Scan.{bytes_of}
-use Rattle.ldm_sigindex.proofs.Tables.{one_to_one-put}
+use Rattle.std.proofs.Common.{slice_get, ap, ◌∙◌, arith}
+use Rattle.ldm_sigindex.specs.Index.{Table}
+use Rattle.ldm_sigindex.proofs.Put.{has_room, is_put}
 use Rattle.ldm_sigindex.proofs.index.SigIndex.put.Goals as goal
+
+pub index_mut-requires : goal.index_mut-requires
+index_mut-requires c =
+    let room = has_room c.self.inside.slots.items c.args.slot (ap (λ (table : Table). slice_get table c.args.slot) c.self.view_is ∙ c.requires.free) in
+    omega arith
+
+pub invariant_of-self : goal.invariant_of-self
+invariant_of-self c =
+    (is_put c.self.inside.heads.items c.self.inside.slots.items c.args.s c.home-home.result c.args.slot c.index.result.now c.len.result c.args.self.now c.self.invariant
+    c.self.view_is (omega (arith, c.len.ensures)) c.home-home.ensures.within c.home-home.ensures.home c.index.ensures c.requires.free c.requires.absent).kept
 
 pub returns-clause-put : goal.returns-clause-put
 returns-clause-put c =
-    map-set bytes_of c.self.inside.signatures.items c.args.slot (Some c.args.s)
-    ∙ ap (λ (table : Table). set table c.args.slot (Some c.args.s.0)) c.self.view_is
+    (is_put c.self.inside.heads.items c.self.inside.slots.items c.args.s c.home-home.result c.args.slot c.index.result.now c.len.result c.args.self.now c.self.invariant
+    c.self.view_is (omega (arith, c.len.ensures)) c.home-home.ensures.within c.home-home.ensures.home c.index.ensures c.requires.free c.requires.absent).view
 
 pub returns-clause-one_to_one : goal.returns-clause-one_to_one
 returns-clause-one_to_one c =
-    subst IsOneToOne (sym (returns-clause-put c))
-    (one_to_one-put c.args.self.now c.args.slot c.args.s.0 c.requires.absent (subst IsOneToOne c.self.view_is c.self.invariant.one_to_one))
-
-pub invariant_of-self : goal.invariant_of-self
-invariant_of-self c = record {
-  one_to_one = returns-clause-one_to_one c;
-  within = omega (arith, length-set c.self.inside.signatures.items c.args.slot (Some c.args.s), c.self.invariant.within);
-}
+    (is_put c.self.inside.heads.items c.self.inside.slots.items c.args.s c.home-home.result c.args.slot c.index.result.now c.len.result c.args.self.now c.self.invariant
+    c.self.view_is (omega (arith, c.len.ensures)) c.home-home.ensures.within c.home-home.ensures.home c.index.ensures c.requires.free c.requires.absent).one_to_one
