@@ -1,5 +1,5 @@
 -- The first pair of a rising list that a bound does not pass is the least that is long enough.
-use Rattle.std.proofs.Common.{◌≡◌, ℕ, ◌<◌, ◌≤◌, Bool, true, false, cond, ◌||◌, List, [], ◌∷◌, Option, Some, None, refl, sym, ap, ◌∙◌, arith}
+use Rattle.std.proofs.Common.{◌≡◌, ℕ, ◌<◌, ◌≤◌, Bool, true, false, cond, ◌||◌, List, [], ◌∷◌, ◌++◌, length, Option, Some, None, refl, sym, ap, ◌∙◌, arith}
 use Rattle.std.specs.FinSet as set
 use Rattle.std.specs.List.{AllByRecursion}
 use Rattle.std.specs.List.Sorted.{IsStrictlySortedBy}
@@ -9,7 +9,7 @@ use Rattle.std.proofs.lemmas.Cmp.{tied_itself}
 use Rattle.std.proofs.lemmas.Bool.{both_ways, or_right}
 use Rattle.std.proofs.lemmas.Bool.Decides.{nat_tests}
 use Rattle.std.proofs.lemmas.Map.Keys.{sorted_head, sorted_tail}
-use Rattle.ldm_freelist.specs.Pairs.{pair_cmp, first_from_bound, IsBest, IsLongEnough}
+use Rattle.ldm_freelist.specs.Pairs.{pair_cmp, first_from_bound, IsBest, IsGreatest, IsLongEnough}
 use Rattle.ldm_freelist.proofs.Sorted.{pairs_total, exact_pair, turned}
 
 -- what precedes (need, 0) is too short, and nothing else is
@@ -57,3 +57,22 @@ first_is need y ys false e up rest = (
 pub first_best : (need : ℕ) (pairs : List (ℕ × ℕ)) → IsStrictlySortedBy pair_cmp pairs → IsBest need (set.from_list pairs) (first_from_bound (need, 0) pairs)
 first_best need [] up = λ p long. both_ways _ (set.contains-empty pair_cmp p) long.0
 first_best need (y ∷ ys) up = first_is need y ys (is_lt (pair_cmp y (need, 0))) refl up (first_best need ys (sorted_tail pair_cmp y ys up))
+
+-- the last of rising pairs is the greatest
+pub last_greatest : (front : List (ℕ × ℕ)) (last : ℕ × ℕ) → IsStrictlySortedBy pair_cmp (front ++ last ∷ []) → IsGreatest (set.from_list (front ++ last ∷ [])) (Some last)
+last_greatest [] last up = (
+  there_first last [],
+  λ p there less. split last [] p ⊥ there (λ is. both_ways (is_lt (pair_cmp last p)) (ap (λ q. is_lt (pair_cmp last q)) is ∙ ap is_lt (tied_itself pairs_total last)) (ap is_lt less))
+      (λ there. both_ways _ (set.contains-empty pair_cmp p) there),
+)
+last_greatest (y ∷ ys) last up =
+    let rest = last_greatest ys last (sorted_tail pair_cmp y (ys ++ last ∷ []) up) in
+    let above = turned pairs_total last y Less (less_than_others y (ys ++ last ∷ []) last (sorted_head pair_cmp y (ys ++ last ∷ []) up) rest.0) in (
+      still_there y (ys ++ last ∷ []) last rest.0,
+      λ p there less. split y (ys ++ last ∷ []) p ⊥ there (λ is. both_ways (is_lt (pair_cmp last p)) (ap (λ q. is_lt (pair_cmp last q)) is ∙ ap is_lt above) (ap is_lt less))
+          (λ there. rest.1 p there less),
+    )
+
+pub none_greatest : (pairs : List (ℕ × ℕ)) → length pairs ≡ 0 → IsGreatest (set.from_list pairs) None
+none_greatest [] h = λ p. set.contains-empty pair_cmp p
+none_greatest (y ∷ ys) h = absurd (omega (arith, h))

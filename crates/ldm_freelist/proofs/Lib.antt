@@ -1,2 +1,17 @@
 pub mod Sorted
 pub mod Best
+pub mod Order
+pub mod Spelled
+pub mod RaiseLeft
+pub mod RaiseLeftInner
+pub mod RaiseRight
+pub mod RaiseRightInner
+pub mod Lean
+pub mod Level
+pub mod Insert
+pub mod Take
+pub mod Search
+pub mod Bound
+pub mod Held
+pub mod Kept
+pub mod Tried

@@ -1,8 +1,7 @@
 -- Sets of pairs of an extent and an offset, in the order of extents and, among equal ones, of offsets.
-use Rattle.std.specs.Prelude.{◌≡◌, ◌≢◌, ℕ, ◌≤◌, true, List, [], ◌∷◌, length, if◌then◌else◌, Option, Some, None, refl}
+use Rattle.std.specs.Prelude.{◌≡◌, ◌≢◌, ℕ, ◌≤◌, true, false, List, [], ◌∷◌, if◌then◌else◌, Option, Some, None, refl}
 use Rattle.std.specs.Coded.{Coded, code_by, coded×, coded_ℕ}
 use Rattle.std.specs.FinSet as set
-use Rattle.std.specs.List.Sorted.{IsStrictlySortedBy}
 use Rattle.std.specs.Ordering.{nat_cmp, ordering_then, is_lt}
 use Rattle.std.specs.declared.cmp.Ordering.{Ordering}
 use Rattle.std.specs.declared.cmp.Ordering.TheVariants.{Less}
@@ -30,11 +29,11 @@ IsBest need members None = (pair : ℕ × ℕ) → ¬ IsLongEnough need members 
 IsBest need members (Some best) =
     IsLongEnough need members best × ((pair : ℕ × ℕ) → IsLongEnough need members pair → pair_cmp pair best ≢ Less)
 
--- pairs that rise, in a memory that has room for as many as are promised
-pub record IsKept (pairs : List (ℕ × ℕ)) (room capacity : ℕ) : Type 0 where
-  pub rising : IsStrictlySortedBy pair_cmp pairs
-  pub within : length pairs ≤ room
-  pub held : room ≤ capacity
+-- a member that no member follows, or none where there is no member
+abbrev pub IsGreatest : set.FinSet pair_cmp → Option (ℕ × ℕ) → Type 0
+IsGreatest members None = (pair : ℕ × ℕ) → set.contains members pair ≡ false
+IsGreatest members (Some greatest) =
+    (set.contains members greatest ≡ true) × ((pair : ℕ × ℕ) → set.contains members pair ≡ true → pair_cmp greatest pair ≢ Less)
 
 -- the first pair of a list that does not precede a bound
 abbrev pub first_from_bound : ℕ × ℕ → List (ℕ × ℕ) → Option (ℕ × ℕ)

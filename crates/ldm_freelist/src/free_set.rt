@@ -1,36 +1,45 @@
 //! A set of free regions.
-ghost use Rattle.std.specs.Prelude.{◌≡◌, ℕ, ◌+◌, ◌^◌, ◌<◌, ◌≤◌, IfOk, false, true, length, nat_le};
-ghost use Rattle.std.specs.Ordering.{is_lt};
+ghost use Rattle.std.specs.Prelude.{◌≡◌, ◌+◌, ◌-◌, ◌^◌, ◌<◌, ◌≤◌, ◌≢◌, IfOk, false, true};
 ghost use Rattle.std.specs.FinSet as set;
-ghost use Rattle.ldm_freelist.specs.Pairs.{pair_cmp, IsBest, first_from_bound};
+ghost use Rattle.ldm_freelist.specs.Pairs.{IsBest, IsGreatest};
+ghost use Rattle.ldm_freelist.specs.Nodes.{height_at};
+ghost use Rattle.ldm_freelist.specs.Tree.{Tree, IsAddable, Adds, IsLow, HasPair, Takes};
 
+use crate::node_table::{NONE, NodeTable, number_before};
 use crate::steps::Steps;
+use crate::tree::{detach, first_from, insert, last};
 use ldm_types::OutOfMemory;
 use std::alloc::Global;
-use std::marker::Model;
-use std::sync::ledger::Ledger;
+use std::marker::{Brand, Model};
+use std::sync::ledger::{Blank, Ledger};
 
 /// Pairs of an extent and an offset, each of them in the set once, with room for a fixed number.
 ///
 /// A pair precedes another if its extent is smaller or, where the extents are equal, its offset.
+///
+/// The pairs stand in a balanced search tree, so each call takes time in the logarithm of their number.
 #[derive(Drop)]
 pub struct FreeSet {
-    room: u32,
-    pairs: Vec<(u64, u64)>,
+    table: NodeTable,
+    root: u32,
+    free: u32,
 }
 
 impl Model for FreeSet {
-    ghost use Rattle.std.specs.Prelude.{vec_capacity};
+    ghost use Rattle.std.specs.Prelude.{ℕ, List, length};
     ghost use Rattle.std.specs.FinSet as set;
-    ghost use Rattle.ldm_freelist.specs.Pairs.{Pairs, pairs_code, IsKept};
+    ghost use Rattle.ldm_freelist.specs.Pairs.{Pairs, pairs_code};
 
     ghost Value = { Pairs };
 
     ghost coded = { pairs_code };
 
-    ghost view = { λ s. record { room = s.room; members = set.from_list s.pairs.items } };
+    ghost use Rattle.ldm_freelist.specs.Tree.{Tree, pairs_of};
+    ghost use Rattle.ldm_freelist.specs.Held.{tree_at, IsHeld};
 
-    ghost invariant = { λ s. IsKept s.pairs.items s.room (vec_capacity s.pairs) };
+    ghost view = { λ s. record { room = length s.table; members = set.from_list (pairs_of (tree_at s.table s.root)) } };
+
+    ghost invariant = { λ s. (tree : Tree) × ((chain : List ℕ) × IsHeld s.table s.root s.free tree chain) };
 }
 
 impl FreeSet {
@@ -39,8 +48,9 @@ impl FreeSet {
         ensures { IfOk result (λ s. s ≡ record { room = room; members = set.empty }) }
     {
         Ok(FreeSet {
-            room,
-            pairs: Vec::with_capacity(alloc, room as usize)?,
+            table: NodeTable::create(alloc, room)?,
+            root: NONE,
+            free: number_before(room),
         })
     }
 
@@ -51,13 +61,10 @@ impl FreeSet {
         ensures room { self.new.room ≡ self.old.room }
         ensures members { self.new.members ≡ set.insert self.old.members (extent, offset) }
     {
+        let fresh = self.free;
+        self.free = self.table.fill(fresh, extent, offset);
         let pair = (extent, offset);
-        let Err(at) = self.pairs.binary_search(&pair) else {
-            unreachable!()
-        };
-        let Ok(()) = self.pairs.insert(at, pair) else {
-            unreachable!()
-        };
+        self.root = insert_alone::<Brand>(&mut self.table, self.root, fresh, pair, Blank::new(1));
     }
 
     /// Takes a pair out.
@@ -66,10 +73,11 @@ impl FreeSet {
         ensures room { self.new.room ≡ self.old.room }
         ensures members { self.new.members ≡ set.remove self.old.members (extent, offset) }
     {
-        let Ok(at) = self.pairs.binary_search(&(extent, offset)) else {
-            unreachable!()
-        };
-        let _pair = self.pairs.remove(at);
+        let pair = (extent, offset);
+        let (root, node) = detach_alone::<Brand>(&mut self.table, self.root, pair, Blank::new(1));
+        self.table.clear(node, self.free);
+        self.root = root;
+        self.free = node;
     }
 
     /// The first pair whose extent is at least the one that is needed. `None` exactly where there is none.
@@ -80,73 +88,63 @@ impl FreeSet {
         ensures best { IsBest need self.now.members result }
         ensures steps { steps.old ≤ steps.new }
         ensures few { steps.new < 2 ^ 63 }
+        ensures logarithm { 2 ^ (steps.new - steps.old) ≤ (set.len self.now.members + 1) ^ 2 }
     {
-        first_from(&self.pairs, (need, 0), steps)
+        first_from(&self.table, self.root, need, None, steps)
     }
-}
 
-/// Whether a pair precedes another, which is one step.
-fn precedes<L: Ledger>(a: (u64, u64), b: (u64, u64), steps: &mut Steps<L>) -> bool
-    ensures order { result ≡ is_lt (pair_cmp a b) }
-    ensures step { steps.new ≡ steps.old + 1 }
-{
-    steps.tick();
-    a.cmp(&b).is_lt()
-}
-
-/// The first of the pairs that does not precede a bound.
-fn first_from<L: Ledger>(
-    pairs: &[(u64, u64)],
-    bound: (u64, u64),
-    steps: &mut Steps<L>,
-) -> Option<(u64, u64)>
-    ensures first { result ≡ first_from_bound bound pairs.now }
-    ensures steps { steps.old ≤ steps.new }
-    ensures few { steps.new ≤ steps.old + length pairs.now }
-{
-    for pair in pairs {
-        if !precedes(*pair, bound, steps) {
-            return Some(*pair);
-        }
-    }
-    None
-}
-
-#[cfg(test)]
-mod tests {
-    use super::FreeSet;
-    use crate::steps::Steps;
-    use std::marker::Brand;
-    use std::sync::ledger::{Blank, Ledger};
-    use std::test::Fail;
-
-    fn best_of<L: Ledger>(set: &FreeSet, need: u64, blank: Blank) -> Option<(u64, u64)>
-        requires name { blank.name ≡ L.name }
-        requires parts { blank.parts ≡ L.parts }
-        requires some { 0 < blank.parts }
+    /// The pair that no pair follows. `None` exactly where there is none.
+    ///
+    /// A step is one comparison of pairs.
+    pub fn greatest<L: Ledger>(&self, steps: &mut Steps<L>) -> Option<(u64, u64)>
+        requires { steps.old < 2 ^ 62 }
+        ensures greatest { IsGreatest self.now.members result }
+        ensures steps { steps.old ≤ steps.new }
+        ensures few { steps.new < 2 ^ 63 }
+        ensures logarithm { 2 ^ (steps.new - steps.old) ≤ (set.len self.now.members + 1) ^ 2 }
     {
-        let mut steps = Steps::<L>::new(blank);
-        set.best(need, &mut steps)
-    }
-
-    #[test]
-    #[tactic(auto, using(crate::proofs::Sorted::pair_members))]
-    fn answers_the_least_that_is_long_enough(rt: HostRuntime) -> Result<(), Fail> {
-        let mut set = FreeSet::create(rt.alloc(), 3)?;
-        set.add(64, 0);
-        set.add(56, 200);
-        set.add(56, 120);
-        let expected = [
-            (1, Some((56, 120))),
-            (56, Some((56, 120))),
-            (57, Some((64, 0))),
-            (65, None),
-        ];
-        for (need, best) in expected {
-            assert_eq!(rt; best_of::<Brand>(&set, need, Blank::new(1)), best);
+        if self.root == NONE {
+            return None;
         }
-        set.remove(56, 120);
-        assert_eq!(rt; best_of::<Brand>(&set, 56, Blank::new(1)), Some((56, 200)));
-        Ok(())
+        let node = last(&self.table, self.root);
+        let (_, extent, offset) = self.table.compare(node, 0, 0, steps);
+        Some((extent, offset))
     }
+}
+
+/// Inserts with a counter of its own.
+fn insert_alone<L: Ledger>(
+    table: &mut NodeTable,
+    root: u32,
+    fresh: u32,
+    pair: (u64, u64),
+    blank: Blank,
+) -> u32
+    requires name { blank.name ≡ L.name }
+    requires parts { blank.parts ≡ L.parts }
+    requires some { 0 < blank.parts }
+    requires addable { (tree : Tree) × IsAddable table.old root fresh pair tree }
+    requires low { height_at table.old root < 200 }
+    ensures { Adds table.old table.new root fresh pair result }
+{
+    let mut steps = Steps::<L>::new(blank);
+    insert(table, root, fresh, pair, &mut steps)
+}
+
+/// Detaches with a counter of its own.
+fn detach_alone<L: Ledger>(
+    table: &mut NodeTable,
+    root: u32,
+    pair: (u64, u64),
+    blank: Blank,
+) -> (u32, u32)
+    requires name { blank.name ≡ L.name }
+    requires parts { blank.parts ≡ L.parts }
+    requires some { 0 < blank.parts }
+    requires there { (tree : Tree) × IsLow table.old root tree × HasPair pair tree }
+    requires low { height_at table.old root < 200 }
+    ensures { Takes table.old table.new root pair result }
+{
+    let mut steps = Steps::<L>::new(blank);
+    detach(table, root, pair, &mut steps)
 }

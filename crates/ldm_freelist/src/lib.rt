@@ -2,7 +2,11 @@
 #![tactic(auto)]
 
 mod free_set;
+mod node_table;
 mod steps;
+#[cfg(test)]
+mod tests;
+mod tree;
 
 pub use free_set::FreeSet;
 pub use steps::Steps;

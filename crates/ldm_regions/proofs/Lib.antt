@@ -1,5 +1,15 @@
-pub mod Best
-pub mod Gaps
+pub mod Each
+pub mod Lies
+pub mod Spaces
 pub mod Owners
 pub mod Laid
+pub mod Sets
+pub mod Seams
+pub mod Found
+pub mod Rings
+pub mod Arenas
+pub mod Cut
+pub mod Joint
+pub mod Ways
+pub mod Whole
 pub mod Tried

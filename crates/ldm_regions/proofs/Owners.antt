@@ -1,17 +1,17 @@
 -- The regions of owners, as a list in the order in which they lie and as a map.
-use Rattle.std.proofs.Common.{◌≡◌, ℕ, zero, suc, ◌<◌, ◌≢◌, Bool, true, false, cond, ◌||◌, List, [], ◌∷◌, length, get_or, map, Option, Some, None, is_some, T, refl, sym, ap, subst, ◌∙◌, arith}
+use Rattle.std.proofs.Common.{◌≡◌, ℕ, ◌≢◌, Bool, true, false, cond, ◌||◌, List, [], ◌∷◌, ◌++◌, length, map, Option, Some, None, is_some, T, refl, sym, ap, subst, ◌∙◌, arith}
 use Rattle.std.specs.Cmp.{nat_cmp_total, eq_by_cmp_equiv, Equal-is}
 use Rattle.std.proofs.lemmas.Bool.{both_ways}
 use Rattle.std.specs.FinMap as fin
 use Rattle.std.specs.FinMap.{find, put, nat_cmp-IsAntisymmetric}
 use Rattle.std.specs.FinMap.Entries.{by_order}
-use Rattle.std.specs.List.{All, list_any, insert, remove, filter}
+use Rattle.std.specs.List.{AllByRecursion, list_any, filter}
 use Rattle.std.specs.Ordering.{nat_cmp, eq_by_cmp, is_eq}
 use Rattle.std.specs.declared.cmp.Ordering.TheVariants.{Less, Equal, Greater}
 use Rattle.ldm_types.specs.Arena.{Region}
 use Rattle.ldm_regions.specs.Layout.{Owned, occupied}
-use Rattle.ldm_regions.specs.Walk.{region_of, entry_of, HaveOwners}
-use Rattle.ldm_regions.specs.declared.walk.Used.{Used}
+use Rattle.ldm_regions.specs.Order.{Used, region_of, entry_of, HaveOwners}
+use Rattle.ldm_regions.proofs.Each.{or_swap}
 
 -- what is found for an owner, one region after another
 abbrev pub region_at : ℕ → List Used → Option Region
@@ -48,42 +48,78 @@ swapped false true x y whole rest e apart = refl
 swapped false false x y whole rest e apart = e
 
 -- one more
-pub region_at-insert : (u : Used) (used : List Used) (i owner : ℕ) → region_at u.owner used ≡ None → region_at owner (insert used i u) ≡ cond (eq_by_cmp nat_cmp owner u.owner) (Some (region_of u)) (region_at owner used)
-region_at-insert u used zero owner none = refl
-region_at-insert u [] (suc i) owner none = refl
-region_at-insert u (v ∷ vs) (suc i) owner none =
-    let parts = none_parts (eq_by_cmp nat_cmp u.owner v.owner) (region_of v) (region_at u.owner vs) none in
-    swapped (eq_by_cmp nat_cmp owner u.owner) (eq_by_cmp nat_cmp owner v.owner) (Some (region_of u)) (Some (region_of v)) _ (region_at owner vs) (region_at-insert u vs i owner parts.1)
+region_at-more : (front : List Used) (u : Used) (behind : List Used) (owner : ℕ) → region_at u.owner (front ++ behind) ≡ None → region_at owner (front ++ u ∷ behind) ≡ cond (eq_by_cmp nat_cmp owner u.owner) (Some (region_of u)) (region_at owner (front ++ behind))
+region_at-more [] u behind owner none = refl
+region_at-more (v ∷ vs) u behind owner none =
+    let parts = none_parts (eq_by_cmp nat_cmp u.owner v.owner) (region_of v) (region_at u.owner (vs ++ behind)) none in
+    swapped (eq_by_cmp nat_cmp owner u.owner) (eq_by_cmp nat_cmp owner v.owner) (Some (region_of u)) (Some (region_of v)) _ (region_at owner (vs ++ behind)) (region_at-more vs u behind owner parts.1)
     (λ p q. both_ways _ parts.0 (ap (λ n. eq_by_cmp nat_cmp n v.owner) (sym (same_owner owner u.owner p)) ∙ q))
 
-pub owned_by-insert : (u : Used) (used : List Used) (i : ℕ) → region_at u.owner used ≡ None → owned_by (insert used i u) ≡ fin.insert (owned_by used) u.owner (region_of u)
-owned_by-insert u used i none = same_owned _ _ (λ owner.
-    get-owned_by (insert used i u) owner ∙ region_at-insert u used i owner none
-    ∙ sym (fin.get-insert nat_cmp_total (owned_by used) u.owner (region_of u) owner ∙ ap (cond (eq_by_cmp nat_cmp owner u.owner) (Some (region_of u))) (get-owned_by used owner)))
+pub owned_by-more : (front : List Used) (u : Used) (behind : List Used) → region_at u.owner (front ++ behind) ≡ None → owned_by (front ++ u ∷ behind) ≡ fin.insert (owned_by (front ++ behind)) u.owner (region_of u)
+owned_by-more front u behind none = same_owned _ _ (λ owner.
+    get-owned_by (front ++ u ∷ behind) owner ∙ region_at-more front u behind owner none
+    ∙ sym (fin.get-insert nat_cmp_total (owned_by (front ++ behind)) u.owner (region_of u) owner ∙ ap (cond (eq_by_cmp nat_cmp owner u.owner) (Some (region_of u))) (get-owned_by (front ++ behind) owner)))
 
-pub region_at-there : (used : List Used) (i : ℕ) (d : Used) (owner : ℕ) → i < length used → (get_or used i d).owner ≡ owner → region_at owner used ≡ None → ⊥
-region_at-there [] i d owner h is none = absurd (omega arith)
-region_at-there (v ∷ vs) zero d owner h is none = both_ways _ (none_parts (eq_by_cmp nat_cmp owner v.owner) (region_of v) (region_at owner vs) none).0 (ap (eq_by_cmp nat_cmp owner) is ∙ itself owner)
-region_at-there (v ∷ vs) (suc i) d owner h is none = region_at-there vs i d owner (omega arith) is (none_parts (eq_by_cmp nat_cmp owner v.owner) (region_of v) (region_at owner vs) none).1
+-- each owner still stands once
+pub HaveOwners-more : (front : List Used) (u : Used) (behind : List Used) → region_at u.owner (front ++ behind) ≡ None → HaveOwners (front ++ behind) → HaveOwners (front ++ u ∷ behind)
+HaveOwners-more [] u behind none have = (none, have)
+HaveOwners-more (v ∷ vs) u behind none have =
+    let parts = none_parts (eq_by_cmp nat_cmp u.owner v.owner) (region_of v) (region_at u.owner (vs ++ behind)) none in
+    (region_at-more vs u behind v.owner parts.1 ∙ ap (λ b. cond b (Some (region_of u)) (region_at v.owner (vs ++ behind))) (turned v.owner u.owner ∙ parts.0) ∙ have.0, HaveOwners-more vs u behind parts.1 have.1)
+
+-- an owner that none of some regions has
+record NoneOf (front : List Used) (u : Used) (behind : List Used) (owner : ℕ) : Type 0 where
+  other : eq_by_cmp nat_cmp owner u.owner ≡ false
+  rest : region_at owner (front ++ behind) ≡ None
+
+none_of : (front : List Used) (u : Used) (behind : List Used) (owner : ℕ) → region_at owner (front ++ u ∷ behind) ≡ None → NoneOf front u behind owner
+none_of [] u behind owner none =
+    let parts = none_parts (eq_by_cmp nat_cmp owner u.owner) (region_of u) (region_at owner behind) none in
+    record { other = parts.0; rest = parts.1 }
+none_of (v ∷ vs) u behind owner none =
+    let parts = none_parts (eq_by_cmp nat_cmp owner v.owner) (region_of v) (region_at owner (vs ++ u ∷ behind)) none in
+    let rest = none_of vs u behind owner parts.1 in
+    record { other = rest.other; rest = ap (λ b. cond b (Some (region_of v)) (region_at owner (vs ++ behind))) parts.0 ∙ rest.rest }
+
+pub HaveOwners-less : (front : List Used) (u : Used) (behind : List Used) → HaveOwners (front ++ u ∷ behind) → HaveOwners (front ++ behind)
+HaveOwners-less [] u behind have = have.1
+HaveOwners-less (v ∷ vs) u behind have = ((none_of vs u behind v.owner have.0).rest, HaveOwners-less vs u behind have.1)
+
+-- the owner of one region has no other
+pub owner_once : (front : List Used) (u : Used) (behind : List Used) → HaveOwners (front ++ u ∷ behind) → region_at u.owner (front ++ behind) ≡ None
+owner_once [] u behind have = have.0
+owner_once (v ∷ vs) u behind have =
+    ap (λ b. cond b (Some (region_of v)) (region_at u.owner (vs ++ behind))) (turned u.owner v.owner ∙ (none_of vs u behind v.owner have.0).other) ∙ owner_once vs u behind have.1
 
 gone : (b : Bool) (x rest : Option Region) → (b ≡ true → rest ≡ None) → rest ≡ cond b None (cond b x rest)
 gone true x rest none = none refl
 gone false x rest none = refl
 
 -- one less
-pub region_at-remove : (used : List Used) (i : ℕ) (d : Used) (owner other : ℕ) → i < length used → (get_or used i d).owner ≡ owner → HaveOwners used → region_at other (remove used i) ≡ cond (eq_by_cmp nat_cmp other owner) None (region_at other used)
-region_at-remove [] i d owner other h is have = absurd (omega arith)
-region_at-remove (v ∷ vs) zero d owner other h is have =
-    gone (eq_by_cmp nat_cmp other v.owner) (Some (region_of v)) (region_at other vs) (λ e. ap (λ n. region_at n vs) (same_owner other v.owner e) ∙ have.0)
-    ∙ ap (λ n. cond (eq_by_cmp nat_cmp other n) None (region_at other (v ∷ vs))) is
-region_at-remove (v ∷ vs) (suc i) d owner other h is have =
-    swapped (eq_by_cmp nat_cmp other owner) (eq_by_cmp nat_cmp other v.owner) None (Some (region_of v)) _ (region_at other vs) (region_at-remove vs i d owner other (omega arith) is have.1)
-    (λ p q. region_at-there vs i d v.owner (omega arith) (is ∙ sym (same_owner other owner p) ∙ same_owner other v.owner q) have.0)
+pub owned_by-less : (front : List Used) (u : Used) (behind : List Used) → HaveOwners (front ++ u ∷ behind) → owned_by (front ++ behind) ≡ fin.remove (owned_by (front ++ u ∷ behind)) u.owner
+owned_by-less front u behind have =
+    let none = owner_once front u behind have in
+    same_owned _ _ (λ owner.
+    get-owned_by (front ++ behind) owner
+    ∙ gone (eq_by_cmp nat_cmp owner u.owner) (Some (region_of u)) (region_at owner (front ++ behind)) (λ e. ap (λ n. region_at n (front ++ behind)) (same_owner owner u.owner e) ∙ none)
+    ∙ sym (fin.get-remove nat_cmp_total (owned_by (front ++ u ∷ behind)) u.owner owner
+    ∙ ap (cond (eq_by_cmp nat_cmp owner u.owner) None) (get-owned_by (front ++ u ∷ behind) owner ∙ region_at-more front u behind owner none)))
 
-pub owned_by-remove : (used : List Used) (i : ℕ) (d : Used) (owner : ℕ) → i < length used → (get_or used i d).owner ≡ owner → HaveOwners used → owned_by (remove used i) ≡ fin.remove (owned_by used) owner
-owned_by-remove used i d owner h is have = same_owned _ _ (λ other.
-    get-owned_by (remove used i) other ∙ region_at-remove used i d owner other h is have
-    ∙ sym (fin.get-remove nat_cmp_total (owned_by used) owner other ∙ ap (cond (eq_by_cmp nat_cmp other owner) None) (get-owned_by used other)))
+-- where the region of an owner stands among the others
+pub record Place (used : List Used) (owner : ℕ) : Type 0 where
+  pub front : List Used
+  pub mid : Used
+  pub behind : List Used
+  pub whole : used ≡ front ++ mid ∷ behind
+  pub owner_is : owner ≡ mid.owner
+
+pub place_of : (used : List Used) (owner : ℕ) → is_some (region_at owner used) ≡ true → Place used owner
+place_of [] owner there = absurd (both_ways false refl there)
+place_of (v ∷ vs) owner there =
+    elim (eq_by_cmp nat_cmp owner v.owner) as (λ b. eq_by_cmp nat_cmp owner v.owner ≡ b → is_some (cond b (Some (region_of v)) (region_at owner vs)) ≡ true → Place (v ∷ vs) owner) [
+      | true ↦ λ e _. record { front = []; mid = v; behind = vs; whole = refl; owner_is = same_owner owner v.owner e }
+      | false ↦ λ e rest. let place = place_of vs owner rest in record { front = v ∷ place.front; mid = place.mid; behind = place.behind; whole = ap (λ us. v ∷ us) place.whole; owner_is = place.owner_is }
+    ] refl there
 
 -- those that pass a test of the owner
 filtered : (m pq pv e : Bool) (r whole rest : Option Region) → whole ≡ cond pq rest None → (e ≡ true → pq ≡ pv) → pv ≡ m → cond m (cond e r whole) whole ≡ cond pq (cond e r rest) None
@@ -111,28 +147,6 @@ owned_by-filter p used = same_owned _ _ (λ owner.
     get-owned_by (filter (λ u. p u.owner) used) owner ∙ region_at-filter p used owner
     ∙ sym (fin.get-retain_keys (owned_by used) p owner (λ other tie. ap p (sym (nat_cmp-IsAntisymmetric owner other tie))) ∙ ap (λ o. cond (p owner) o None) (get-owned_by used owner)))
 
--- each owner still stands once
-pub HaveOwners-insert : (u : Used) (used : List Used) (i : ℕ) → region_at u.owner used ≡ None → HaveOwners used → HaveOwners (insert used i u)
-HaveOwners-insert u used zero none have = (none, have)
-HaveOwners-insert u [] (suc i) none have = (refl, tt)
-HaveOwners-insert u (v ∷ vs) (suc i) none have =
-    let parts = none_parts (eq_by_cmp nat_cmp u.owner v.owner) (region_of v) (region_at u.owner vs) none in
-    (region_at-insert u vs i v.owner parts.1 ∙ ap (λ b. cond b (Some (region_of u)) (region_at v.owner vs)) (turned v.owner u.owner ∙ parts.0) ∙ have.0, HaveOwners-insert u vs i parts.1 have.1)
-
-none-remove : (used : List Used) (i owner : ℕ) → region_at owner used ≡ None → region_at owner (remove used i) ≡ None
-none-remove [] zero owner none = refl
-none-remove [] (suc i) owner none = refl
-none-remove (v ∷ vs) zero owner none = (none_parts (eq_by_cmp nat_cmp owner v.owner) (region_of v) (region_at owner vs) none).1
-none-remove (v ∷ vs) (suc i) owner none =
-    let parts = none_parts (eq_by_cmp nat_cmp owner v.owner) (region_of v) (region_at owner vs) none in
-    ap (λ b. cond b (Some (region_of v)) (region_at owner (remove vs i))) parts.0 ∙ none-remove vs i owner parts.1
-
-pub HaveOwners-remove : (used : List Used) (i : ℕ) → HaveOwners used → HaveOwners (remove used i)
-HaveOwners-remove [] zero have = tt
-HaveOwners-remove [] (suc i) have = tt
-HaveOwners-remove (v ∷ vs) zero have = have.1
-HaveOwners-remove (v ∷ vs) (suc i) have = (none-remove vs i v.owner have.0, HaveOwners-remove vs i have.1)
-
 none-filter : (p : ℕ → Bool) (used : List Used) (owner : ℕ) → region_at owner used ≡ None → region_at owner (filter (λ u. p u.owner) used) ≡ None
 none-filter p used owner none = region_at-filter p used owner ∙ ap (λ o. cond (p owner) o None) none ∙ sym (nothing (p owner))
 
@@ -147,11 +161,6 @@ HaveOwners-filter p (v ∷ vs) have =
 no_length : {A : Type 0} (es : List A) → length es ≡ 0 → es ≡ []
 no_length [] e = refl
 no_length (x ∷ es) e = absurd (omega arith)
-
-or_swap : (a b c : Bool) → (a || (b || c)) ≡ (b || (a || c))
-or_swap true true c = refl
-or_swap true false c = refl
-or_swap false b c = refl
 
 any_put : (f : Region → Bool) (owner : ℕ) (region : Region) (es : List (ℕ × Region)) → find nat_cmp owner es ≡ None → list_any f (map (λ e. e.1) (put nat_cmp owner region es)) ≡ (f region || list_any f (map (λ e. e.1) es))
 any_put f owner region [] none = refl
@@ -171,11 +180,12 @@ any-owned_by f (v ∷ vs) have =
     ∙ any_put f v.owner (region_of v) (fin.entries (owned_by vs)) (sym (fin.get-entries (owned_by vs) v.owner) ∙ get-owned_by vs v.owner ∙ have.0)
     ∙ ap (λ b. f (region_of v) || b) (any-owned_by f vs have.1)
 
--- an owner that no region has
-pub region_at-none : (used : List Used) (owner : ℕ) → All (λ u. u.owner ≢ owner) used → region_at owner used ≡ None
-region_at-none [] owner all = refl
-region_at-none (v ∷ vs) owner all =
-    elim (eq_by_cmp nat_cmp owner v.owner) as (λ b. eq_by_cmp nat_cmp owner v.owner ≡ b → cond b (Some (region_of v)) (region_at owner vs) ≡ None) [
-      | true ↦ λ e. absurd (all zero v (omega arith) (sym (same_owner owner v.owner e)))
-      | false ↦ λ _. region_at-none vs owner (λ k d h. all (suc k) d (omega arith))
-    ] refl
+-- an owner is none of the owners of some regions
+abbrev pub Lacks : ℕ → List Used → Type 0
+Lacks owner used = AllByRecursion (λ u. owner ≢ u.owner) used
+
+pub none_lacks : (owner : ℕ) (used : List Used) → region_at owner used ≡ None → Lacks owner used
+none_lacks owner [] none = tt
+none_lacks owner (v ∷ vs) none =
+    let parts = none_parts (eq_by_cmp nat_cmp owner v.owner) (region_of v) (region_at owner vs) none in
+    (λ e. both_ways _ parts.0 (ap (eq_by_cmp nat_cmp owner) (sym e) ∙ itself owner), none_lacks owner vs parts.1)

@@ -1,2 +1,5 @@
 pub mod Layout
-pub mod Walk
+pub mod Order
+pub mod Links
+pub mod Gaps
+pub mod Kept

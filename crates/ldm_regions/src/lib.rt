@@ -1,9 +1,10 @@
 //! The tiling of a queue's arena: which owner has which region, and where a new region goes.
 #![tactic(auto)]
 
+mod gaps;
+mod links;
 mod regions;
 #[cfg(test)]
 mod tests;
-mod walk;
 
 pub use regions::Regions;

@@ -4,8 +4,9 @@ ghost use Rattle.std.specs.FinMap as map;
 ghost use Rattle.ldm_types.specs.Arena.{gaps, fit, longest};
 ghost use Rattle.ldm_regions.specs.Layout.{Tiles, occupied, marked_only, with_region, without_owner};
 
-use crate::walk;
-use crate::walk::Used;
+use crate::gaps::{Gap, Gaps};
+use crate::links;
+use crate::links::Node;
 use ldm_types::{MOST_SLOTS, OutOfMemory, SMALLEST_ARENA};
 use std::alloc::Global;
 use std::marker::Model;
@@ -19,24 +20,26 @@ use std::marker::Model;
 pub struct Regions {
     arena: u64,
     slots: u32,
-    used: Vec<Used>,
-    // The extent of the longest free region, 0 where there is none.
-    longest: u64,
+    // By owner, linked in the order in which they lie, and the wall behind the last of them.
+    nodes: Vec<Node>,
+    gaps: Gaps,
 }
 
 impl Model for Regions {
-    ghost use Rattle.std.specs.Prelude.{map as each, vec_capacity};
+    ghost use Rattle.std.specs.Prelude.{map as each};
     ghost use Rattle.std.specs.FinMap as map;
     ghost use Rattle.ldm_regions.specs.Layout.{Layout, layout_code};
-    ghost use Rattle.ldm_regions.specs.Walk.{entry_of, IsKept};
+    ghost use Rattle.ldm_regions.specs.Order.{entry_of};
+    ghost use Rattle.ldm_regions.specs.Links.{in_order};
+    ghost use Rattle.ldm_regions.specs.Kept.{IsKept};
 
     ghost Value = { Layout };
 
     ghost coded = { layout_code };
 
-    ghost view = { λ r. record { arena = r.arena; slots = r.slots; owned = map.from_entries (each entry_of r.used.items) } };
+    ghost view = { λ r. record { arena = r.arena; slots = r.slots; owned = map.from_entries (each entry_of (in_order r.nodes.items r.slots)) } };
 
-    ghost invariant = { λ r. IsKept r.used.items r.arena r.slots (vec_capacity r.used) r.longest };
+    ghost invariant = { λ r. IsKept r.nodes.items r.arena r.slots r.gaps.extents r.gaps.fronts };
 }
 
 impl Regions {
@@ -48,11 +51,24 @@ impl Regions {
         ensures empty { IfOk result (λ r. r ≡ record { arena = arena; slots = slots; owned = map.empty }) }
         ensures tiles { IfOk result Tiles }
     {
+        let wall = Node {
+            start: arena,
+            end: 0,
+            front: slots,
+            behind: slots,
+        };
+        let nodes = vec![in alloc; wall; slots as usize + 1]?;
+        let mut gaps = Gaps::create(alloc, slots + 1)?;
+        gaps.add(Gap {
+            start: 0,
+            end: arena,
+            front: slots,
+        });
         Ok(Regions {
             arena,
             slots,
-            used: Vec::with_capacity(alloc, slots as usize)?,
-            longest: arena,
+            nodes,
+            gaps,
         })
     }
 
@@ -66,18 +82,16 @@ impl Regions {
         ensures owned { MatchOption result (self.new ≡ self.old) (λ start. self.new ≡ with_region self.old owner (record { start = start; extent = need })) }
         ensures tiles { Tiles self.new }
     {
-        let space = walk::best_space(&self.used, self.arena, need)?;
-        let place = walk::place_of(&self.used, space.start);
-        let region = Used {
-            start: space.start,
-            extent: need,
-            owner,
-        };
-        let Ok(()) = self.used.insert(place, region) else {
-            unreachable!()
-        };
-        self.longest = walk::longest_space(&self.used, self.arena);
-        Some(space.start)
+        let gap = self.gaps.best(need)?;
+        let end = gap.start + need;
+        self.gaps.remove(gap);
+        links::link(&mut self.nodes, owner, gap.start, end, gap.front);
+        self.gaps.add(Gap {
+            start: end,
+            end: gap.end,
+            front: owner,
+        });
+        Some(gap.start)
     }
 
     /// Takes an owner's region back: it is free, and one with the free regions that it touches.
@@ -86,11 +100,25 @@ impl Regions {
         ensures owned { self.new ≡ without_owner self.old owner }
         ensures tiles { Tiles self.new }
     {
-        let Some(place) = walk::find_owner(&self.used, owner) else {
-            unreachable!()
-        };
-        let _region = self.used.remove(place);
-        self.longest = walk::longest_space(&self.used, self.arena);
+        let node = self.nodes[owner as usize];
+        let start = self.nodes[node.front as usize].end;
+        let end = self.nodes[node.behind as usize].start;
+        self.gaps.remove(Gap {
+            start,
+            end: node.start,
+            front: node.front,
+        });
+        self.gaps.remove(Gap {
+            start: node.end,
+            end,
+            front: owner,
+        });
+        links::unlink(&mut self.nodes, owner);
+        self.gaps.add(Gap {
+            start,
+            end,
+            front: node.front,
+        });
     }
 
     /// The extent of the longest free region, 0 where there is none.
@@ -98,7 +126,7 @@ impl Regions {
         ensures longest { result ≡ longest (gaps (occupied self.now.owned) self.now.arena) }
         ensures tiles { Tiles self.now }
     {
-        self.longest
+        self.gaps.longest()
     }
 
     /// The extent of the longest free region that there would be if every owner that is not marked gave its
@@ -108,6 +136,6 @@ impl Regions {
         ensures longest { result ≡ longest (gaps (occupied (marked_only kept.now self.now.owned)) self.now.arena) }
         ensures tiles { Tiles self.now }
     {
-        walk::longest_space_if(&self.used, self.arena, kept)
+        links::longest_space_if(&self.nodes, self.arena, kept)
     }
 }

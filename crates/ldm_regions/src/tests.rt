@@ -3,7 +3,8 @@ ghost use Rattle.std.specs.Prelude.{◌≡◌, ℕ, ◌%◌, ◌≤◌, false, l
 ghost use Rattle.std.specs.FinMap as map;
 
 use crate::regions::Regions;
-use std::alloc::{AllocError, Global};
+use ldm_types::OutOfMemory;
+use std::alloc::Global;
 use std::test::Fail;
 
 /// Regions, and who owns one.
@@ -16,7 +17,7 @@ struct Tried {
 }
 
 impl Tried {
-    fn create(alloc: Global, arena: u64, slots: u32) -> Result<Tried, AllocError>
+    fn create(alloc: Global, arena: u64, slots: u32) -> Result<Tried, OutOfMemory>
         requires whole { arena % 8 ≡ 0 }
         requires least { 64 ≤ arena }
         requires slots { slots ≤ 1048576 }
@@ -83,13 +84,15 @@ fn begins(cells: &[u32], start: usize) -> bool {
 fn shortest(cells: &[u32], need: u64) -> Option<u64> {
     let mut best = None;
     for start in 0..cells.len() {
-        let length = free_from(cells, start);
-        let shorter = match best {
-            Some((_, least)) => length < least,
-            None => true,
-        };
-        if begins(cells, start) && length >= need && shorter {
-            best = Some((start as u64, length));
+        if begins(cells, start) {
+            let length = free_from(cells, start);
+            let shorter = match best {
+                Some((_, least)) => length < least,
+                None => true,
+            };
+            if length >= need && shorter {
+                best = Some((start as u64, length));
+            }
         }
     }
     best.map(|(start, _)| start)
@@ -99,7 +102,9 @@ fn shortest(cells: &[u32], need: u64) -> Option<u64> {
 fn longest(cells: &[u32]) -> u64 {
     let mut longest = 0u64;
     for start in 0..cells.len() {
-        longest = longest.max(free_from(cells, start));
+        if begins(cells, start) {
+            longest = longest.max(free_from(cells, start));
+        }
     }
     longest
 }
@@ -113,42 +118,97 @@ fn change(cells: &mut [u32], from: u32, to: u32) {
     }
 }
 
+/// One step of a fixed generator: an owner gives its region back, or is given one.
+fn take_turns(tried: &mut Tried, cells: &mut [u32], state: u64) -> bool {
+    let owner = ((state >> 33) % 8) as u32;
+    let need = (state >> 40) % 32 + 1;
+    if tried.owns(owner) {
+        tried.give_back(owner);
+        change(cells, owner + 1, 0);
+        return true;
+    }
+    let start = tried.take(need, owner);
+    if start != shortest(cells, need) {
+        return false;
+    }
+    if let Some(start) = start {
+        for cell in cells.iter_mut().skip(start as usize).take(need as usize) {
+            *cell = owner + 1;
+        }
+    }
+    true
+}
+
 #[test]
 fn places_as_an_array_of_cells_does(rt: HostRuntime) -> Result<(), Fail> {
-    let mut tried = Tried::create(rt.alloc(), 256, 8)?;
-    let mut cells = vec![in rt.alloc(); 0u32; 256]?;
     let mut state = 1u64;
-    for _round in 0..200 {
-        state = state
-            .wrapping_mul(6364136223846793005)
-            .wrapping_add(1442695040888963407);
-        let owner = ((state >> 33) % 8) as u32;
-        let need = (state >> 40) % 64 + 1;
-        if tried.owns(owner) {
-            tried.give_back(owner);
-            change(&mut cells, owner + 1, 0);
-        } else {
-            let start = tried.take(need, owner);
-            assert_eq!(rt; start, shortest(&cells, need));
-            if let Some(start) = start {
-                for cell in cells.iter_mut().skip(start as usize).take(need as usize) {
-                    *cell = owner + 1;
+    for arena in [64u64, 72, 80, 96] {
+        let mut tried = Tried::create(rt.alloc(), arena, 8)?;
+        let mut cells = vec![in rt.alloc(); 0u32; arena as usize]?;
+        for round in 0..5_000u32 {
+            state = state
+                .wrapping_mul(6364136223846793005)
+                .wrapping_add(1442695040888963407);
+            assert!(rt;
+                take_turns(&mut tried, &mut cells, state),
+                "{arena} {round}"
+            );
+            assert_eq!(rt; tried.regions.largest(), longest(&cells));
+
+            let mut kept = [false; 8];
+            for (place, mark) in kept.iter_mut().enumerate() {
+                *mark = (state >> place) & 1 == 1;
+            }
+            let mut left = cells.to_vec(rt.alloc())?;
+            for (place, mark) in kept.iter().enumerate() {
+                if !*mark {
+                    change(&mut left, place as u32 + 1, 0);
                 }
             }
+            assert_eq!(rt; tried.largest_if(&kept), Some(longest(&left)));
         }
-        assert_eq!(rt; tried.regions.largest(), longest(&cells));
+    }
+    Ok(())
+}
 
-        let mut kept = [false; 8];
-        for (place, mark) in kept.iter_mut().enumerate() {
-            *mark = (state >> place) & 1 == 1;
+/// Fills an arena of 64 positions, and takes its five regions out in the order of a number below 120.
+fn fill_and_empty(tried: &mut Tried, cells: &mut [u32], order: u32) -> bool {
+    for (owner, start, extent) in [
+        (0u32, 0u64, 8u64),
+        (1, 8, 16),
+        (2, 24, 24),
+        (3, 48, 8),
+        (4, 56, 8),
+    ] {
+        if tried.take(extent, owner) != Some(start) {
+            return false;
         }
-        let mut left = cells.to_vec(rt.alloc())?;
-        for (place, mark) in kept.iter().enumerate() {
-            if !*mark {
-                change(&mut left, place as u32 + 1, 0);
-            }
+        for cell in cells.iter_mut().skip(start as usize).take(extent as usize) {
+            *cell = owner + 1;
         }
-        assert_eq!(rt; tried.largest_if(&kept), Some(longest(&left)));
+    }
+    let mut order = order;
+    for count in [5u32, 4, 3, 2, 1] {
+        let place = (order % count) as usize;
+        order /= count;
+        let Some(owner) = (0..5u32).filter(|owner| tried.owns(*owner)).nth(place) else {
+            return false;
+        };
+        tried.give_back(owner);
+        change(cells, owner.wrapping_add(1), 0);
+        if tried.regions.largest() != longest(cells) {
+            return false;
+        }
+    }
+    tried.regions.largest() == 64
+}
+
+#[test]
+fn empties_in_every_order(rt: HostRuntime) -> Result<(), Fail> {
+    let mut tried = Tried::create(rt.alloc(), 64, 5)?;
+    let mut cells = vec![in rt.alloc(); 0u32; 64]?;
+    for order in 0..120u32 {
+        assert!(rt; fill_and_empty(&mut tried, &mut cells, order), "{order}");
     }
     Ok(())
 }

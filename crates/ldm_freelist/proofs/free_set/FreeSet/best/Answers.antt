@@ -1,11 +1,18 @@
-use Rattle.std.proofs.Common.{sym, ap, ◌∙◌, subst}
-use Rattle.std.specs.FinSet as set
-use Rattle.ldm_freelist.specs.Pairs.{Pairs, IsBest, first_from_bound}
-use Rattle.ldm_freelist.proofs.Best.{first_best}
+use Rattle.std.proofs.Common.{◌-◌, arith}
+use Rattle.ldm_freelist.proofs.Kept.{root_low, few, some_tree, best}
 use Rattle.ldm_freelist.proofs.free_set.FreeSet.best.Goals as goal
 
+pub first_from-requires-clause-tree : goal.first_from-requires-clause-tree
+first_from-requires-clause-tree g c = some_tree c.self.inside.table c.self.inside.root c.self.inside.free c.self.invariant c.args.self.now c.self.view_is
+
+pub first_from-requires-clause-few : goal.first_from-requires-clause-few
+first_from-requires-clause-few g c = omega (arith, root_low c.self.inside.table c.self.inside.root c.self.inside.free c.self.invariant c.args.self.now c.self.view_is, c.requires)
+
 pub returns-clause-best : goal.returns-clause-best
-returns-clause-best g c =
-    let is = sym (c.first_from.ensures.first ∙ ap (first_from_bound (c.args.need, 0)) c.deref.ensures.value) in
-    subst (λ (s : Pairs). IsBest c.args.need s.members c.first_from.result) c.self.view_is
-    (subst (IsBest c.args.need (set.from_list c.self.inside.pairs.items)) is (first_best c.args.need c.self.inside.pairs.items c.self.invariant.rising))
+returns-clause-best g c = best c.self.inside.table c.self.inside.root c.self.inside.free c.self.invariant c.args.self.now c.self.view_is c.args.need c.first_from.result c.first_from.ensures.found
+
+pub returns-clause-few : goal.returns-clause-few
+returns-clause-few g c = omega (arith, root_low c.self.inside.table c.self.inside.root c.self.inside.free c.self.invariant c.args.self.now c.self.view_is, c.requires, c.first_from.ensures.few)
+
+pub returns-clause-logarithm : goal.returns-clause-logarithm
+returns-clause-logarithm g c = few c.self.inside.table c.self.inside.root c.self.inside.free c.self.invariant c.args.self.now c.self.view_is (c.first_from.new.steps - c.args.steps.now) (omega (arith, c.first_from.ensures.few))

@@ -1,54 +1,140 @@
-use Rattle.std.proofs.Common.{List, sym, ap, ◌∙◌, subst, arith, length, get_or, ◌≢◌, is_some, vec_capacity}
-use Rattle.std.specs.List.{All}
+use Rattle.std.proofs.Common.{◌≡◌, ◌<◌, List, is_some, sym, ap, ◌∙◌, subst, arith, length}
 use Rattle.std.specs.FinMap as map
-use Rattle.std.proofs.lemmas.Bool.{both_ways}
-use Rattle.ldm_types.specs.Arena.{longest}
+use Rattle.std.specs.Vec.{with_items}
+use Rattle.std.proofs.lemmas.List.{with_items_is}
 use Rattle.ldm_regions.specs.Layout.{Layout, Owned, without_owner}
-use Rattle.ldm_regions.specs.Walk.{Lie, spaces, IsLaidOut}
-use Rattle.ldm_regions.specs.declared.walk.Used.{Used}
-use Rattle.ldm_regions.proofs.Owners.{get-owned_by, owned_by, owned_by-remove, region_at-none}
-use Rattle.ldm_regions.proofs.Laid.{tiles, laid-remove}
+use Rattle.ldm_regions.specs.Gaps.{by_extent, by_front}
+use Rattle.ldm_regions.specs.Kept.{IsKept}
+use Rattle.ldm_regions.specs.Links.{node_at, in_order, unlinked}
+use Rattle.ldm_regions.specs.declared.links.Node.{Node}
+use Rattle.ldm_regions.specs.declared.gaps.Gap.{Gap}
+use Rattle.ldm_regions.proofs.Owners.{owned_by}
+use Rattle.ldm_regions.proofs.Sets.{extent_tells, front_tells}
+use Rattle.ldm_regions.proofs.Arenas.{tiles_kept, kept_from}
+use Rattle.ldm_regions.proofs.Joint.{Joint, in_table, front_read, behind_read, joint_of, joint_owned, one_there, two_there, both_new, both_in}
 use Rattle.ldm_regions.proofs.regions.Regions.give_back.Goals as goal
-use Rattle.ldm_regions.proofs.regions.Regions.give_back.Goals.{After-deref-2}
+use Rattle.ldm_regions.proofs.regions.Regions.give_back.Goals.{After-index-2, After-add}
 
-pub unreachable-requires : goal.unreachable-requires
-unreachable-requires c =
-    let items = c.self.inside.used.items in
-    let owner = c.args.owner in
-    let none = subst (All (λ (u : Used). u.owner ≢ owner)) c.deref.ensures.value c.in_default.ensures in
-    let absent = sym (ap (λ (layout : Layout). map.get layout.owned owner) c.self.view_is) ∙ get-owned_by items owner ∙ region_at-none items owner none in
-    both_ways (is_some (map.get c.args.self.now.owned owner)) (ap is_some absent) c.requires
-
--- the regions that are left are laid out as before
-left : (c : After-deref-2) → IsLaidOut c.remove-region.new.self.items c.self.inside.arena c.self.inside.slots (vec_capacity c.remove-region.new.self)
-left c =
+pub index-node-requires : goal.index-node-requires
+index-node-requires c =
     let inside = c.self.inside in
-    let laid = laid-remove inside.used.items c.in-Some.place inside.arena inside.slots (vec_capacity inside.used) c.self.invariant.laid in
-    subst (λ n. IsLaidOut c.remove-region.new.self.items inside.arena inside.slots n) (sym c.remove-region.ensures.capacity)
-    (subst (λ (used : List Used). IsLaidOut used inside.arena inside.slots (vec_capacity inside.used)) (sym c.remove-region.ensures.items) laid)
+    let there = ap (λ (layout : Layout). is_some (map.get layout.owned c.args.owner)) c.self.view_is ∙ c.requires in
+    let within = (in_table inside.nodes.items inside.arena inside.slots c.args.owner c.self.invariant.ring there).inside in
+    omega (arith, inside.nodes.ok.0)
 
-pub longest_space-self-inside-requires : goal.longest_space-self-inside-requires
-longest_space-self-inside-requires c = subst (λ (used : List Used). Lie 0 used c.self.inside.arena) (sym c.deref-2.ensures.value) (left c).lie
+pub index-requires : goal.index-requires
+index-requires c =
+    let inside = c.self.inside in
+    let there = ap (λ (layout : Layout). is_some (map.get layout.owned c.args.owner)) c.self.view_is ∙ c.requires in
+    let within = front_read inside.nodes.items inside.arena inside.slots c.args.owner c.self.invariant.ring there c.index-node.result.now c.index-node.ensures in
+    omega (arith, inside.nodes.ok.0)
+
+pub index-requires-2 : goal.index-requires-2
+index-requires-2 c =
+    let inside = c.self.inside in
+    let there = ap (λ (layout : Layout). is_some (map.get layout.owned c.args.owner)) c.self.view_is ∙ c.requires in
+    let within = behind_read inside.nodes.items inside.arena inside.slots c.args.owner c.self.invariant.ring there c.index-node.result.now c.index-node.ensures in
+    omega (arith, inside.nodes.ok.0)
+
+-- the gaps in front and behind, and what they become
+abbrev one_of : After-index-2 → Gap
+one_of c = record { start = c.index.result.now.end; end = c.index-node.result.now.start; front = c.index-node.result.now.front }
+
+abbrev two_of : After-index-2 → Gap
+two_of c = record { start = c.index-node.result.now.end; end = c.index-2.result.now.start; front = c.args.owner }
+
+abbrev both_of : After-index-2 → Gap
+both_of c = record { start = c.index.result.now.end; end = c.index-2.result.now.start; front = c.index-node.result.now.front }
+
+joint : (c : After-index-2) → Joint c.self.inside.nodes.items c.self.inside.arena c.self.inside.slots c.args.owner (one_of c) (two_of c) (both_of c)
+joint c =
+    let inside = c.self.inside in
+    let there = ap (λ (layout : Layout). is_some (map.get layout.owned c.args.owner)) c.self.view_is ∙ c.requires in
+    joint_of inside.nodes.items inside.arena inside.slots c.args.owner c.self.invariant.ring there
+    c.index-node.result.now c.index-node.ensures c.index.result.now c.index-2.result.now c.index.ensures c.index-2.ensures
+
+pub remove-requires-clause-extents : goal.remove-requires-clause-extents
+remove-requires-clause-extents c =
+    let inside = c.self.inside in
+    let at = (goal.at.remove-requires-clause-extents c).After-index-2 in
+    one_there inside.nodes.items inside.arena inside.slots c.args.owner (one_of at) (two_of at) (both_of at) (joint at) by_extent extent_tells inside.gaps.extents c.self.invariant.by_extents
+
+pub remove-requires-2-clause-extents : goal.remove-requires-2-clause-extents
+remove-requires-2-clause-extents c =
+    let inside = c.self.inside in
+    let at = (goal.at.remove-requires-2-clause-extents c).After-index-2 in
+    two_there inside.nodes.items inside.arena inside.slots c.args.owner (one_of at) (two_of at) (both_of at) (joint at) by_extent extent_tells inside.gaps.extents c.self.invariant.by_extents
+    c.remove.new.self.extents c.remove.ensures.extents
+
+pub add-requires-clause-extents : goal.add-requires-clause-extents
+add-requires-clause-extents c =
+    let inside = c.self.inside in
+    let at = (goal.at.add-requires-clause-extents c).After-index-2 in
+    both_new inside.nodes.items inside.arena inside.slots c.args.owner (one_of at) (two_of at) (both_of at) (joint at) by_extent extent_tells inside.gaps.extents c.self.invariant.by_extents
+    c.remove.new.self.extents c.remove.ensures.extents c.remove-2.new.self.extents c.remove-2.ensures.extents
+
+pub remove-requires-clause-fronts : goal.remove-requires-clause-fronts
+remove-requires-clause-fronts c =
+    let inside = c.self.inside in
+    let at = (goal.at.remove-requires-clause-fronts c).After-index-2 in
+    one_there inside.nodes.items inside.arena inside.slots c.args.owner (one_of at) (two_of at) (both_of at) (joint at) by_front front_tells inside.gaps.fronts c.self.invariant.by_fronts
+
+pub remove-requires-2-clause-fronts : goal.remove-requires-2-clause-fronts
+remove-requires-2-clause-fronts c =
+    let inside = c.self.inside in
+    let at = (goal.at.remove-requires-2-clause-fronts c).After-index-2 in
+    two_there inside.nodes.items inside.arena inside.slots c.args.owner (one_of at) (two_of at) (both_of at) (joint at) by_front front_tells inside.gaps.fronts c.self.invariant.by_fronts
+    c.remove.new.self.fronts c.remove.ensures.fronts
+
+pub add-requires-clause-fronts : goal.add-requires-clause-fronts
+add-requires-clause-fronts c =
+    let inside = c.self.inside in
+    let at = (goal.at.add-requires-clause-fronts c).After-index-2 in
+    both_new inside.nodes.items inside.arena inside.slots c.args.owner (one_of at) (two_of at) (both_of at) (joint at) by_front front_tells inside.gaps.fronts c.self.invariant.by_fronts
+    c.remove.new.self.fronts c.remove.ensures.fronts c.remove-2.new.self.fronts c.remove-2.ensures.fronts
+
+pub unlink-requires-clause-owner : goal.unlink-requires-clause-owner
+unlink-requires-clause-owner c =
+    let within = (joint (goal.at.unlink-requires-clause-owner c).After-index-2).inside in
+    omega (arith, ap length c.deref_mut.ensures.value)
+
+pub unlink-requires-clause-front : goal.unlink-requires-clause-front
+unlink-requires-clause-front c =
+    let within = (joint (goal.at.unlink-requires-clause-front c).After-index-2).front_inside in
+    subst (λ (nodes : List Node). (node_at nodes c.args.owner).front < length nodes) (sym c.deref_mut.ensures.value) within
+
+pub unlink-requires-clause-behind : goal.unlink-requires-clause-behind
+unlink-requires-clause-behind c =
+    let within = (joint (goal.at.unlink-requires-clause-behind c).After-index-2).behind_inside in
+    subst (λ (nodes : List Node). (node_at nodes c.args.owner).behind < length nodes) (sym c.deref_mut.ensures.value) within
+
+-- the table as it is written back
+table : (c : After-add) → (with_items c.self.inside.nodes c.unlink.new.nodes).items ≡ unlinked c.self.inside.nodes.items c.args.owner
+table c =
+    with_items_is c.self.inside.nodes c.unlink.new.nodes (omega (arith, c.unlink.auto.nodes, ap length c.deref_mut.ensures.value, c.self.inside.nodes.ok.0))
+    ∙ c.unlink.ensures ∙ ap (λ (nodes : List Node). unlinked nodes c.args.owner) c.deref_mut.ensures.value
 
 pub invariant_of-self : goal.invariant_of-self
-invariant_of-self c = record {
-  laid = left (goal.at.invariant_of-self c).After-deref-2;
-  measured = c.longest_space-self-inside.ensures ∙ ap (λ (used : List Used). longest (spaces 0 used c.self.inside.arena)) c.deref-2.ensures.value;
-}
+invariant_of-self c =
+    let inside = c.self.inside in
+    let at = (goal.at.invariant_of-self c).After-index-2 in
+    let left = joint at in
+    subst (λ (nodes : List Node). IsKept nodes inside.arena inside.slots c.add.new.self.extents c.add.new.self.fronts) (sym (table c))
+    (kept_from (unlinked inside.nodes.items c.args.owner) inside.arena inside.slots c.add.new.self.extents c.add.new.self.fronts left.left left.ring
+    (both_in inside.nodes.items inside.arena inside.slots c.args.owner (one_of at) (two_of at) (both_of at) left by_extent extent_tells inside.gaps.extents c.self.invariant.by_extents
+    c.remove.new.self.extents c.remove.ensures.extents c.remove-2.new.self.extents c.remove-2.ensures.extents c.add.new.self.extents c.add.ensures.extents)
+    (both_in inside.nodes.items inside.arena inside.slots c.args.owner (one_of at) (two_of at) (both_of at) left by_front front_tells inside.gaps.fronts c.self.invariant.by_fronts
+    c.remove.new.self.fronts c.remove.ensures.fronts c.remove-2.new.self.fronts c.remove-2.ensures.fronts c.add.new.self.fronts c.add.ensures.fronts))
 
 pub returns-clause-owned : goal.returns-clause-owned
 returns-clause-owned c =
     let inside = c.self.inside in
-    let owner = c.args.owner in
-    let place = c.in-Some.place in
-    let d : Used = record { start = 0; extent = 0; owner = 0 } in
-    let there = c.in-Some.ensures.0 in
-    let is = ap (λ (used : List Used). (get_or used place d).owner) (sym c.deref.ensures.value) ∙ c.in-Some.ensures.1 d in
+    let at = (goal.at.returns-clause-owned c).After-index-2 in
     ap (λ (owned : Owned). record { arena = inside.arena; slots = inside.slots; owned = owned })
-    (ap owned_by c.remove-region.ensures.items ∙ owned_by-remove inside.used.items place d owner (omega (arith, ap length c.deref.ensures.value, there)) is c.self.invariant.laid.owners)
-    ∙ ap (λ (layout : Layout). without_owner layout owner) c.self.view_is
+    (ap (λ (nodes : List Node). owned_by (in_order nodes inside.slots)) (table c) ∙ joint_owned inside.nodes.items inside.arena inside.slots c.args.owner (one_of at) (two_of at) (both_of at) (joint at))
+    ∙ ap (λ (layout : Layout). without_owner layout c.args.owner) c.self.view_is
 
 pub returns-clause-tiles : goal.returns-clause-tiles
 returns-clause-tiles c =
     let inside = c.self.inside in
-    tiles c.remove-region.new.self.items inside.arena inside.slots (vec_capacity c.remove-region.new.self) (left (goal.at.returns-clause-tiles c).After-deref-2)
+    tiles_kept (with_items inside.nodes c.unlink.new.nodes).items inside.arena inside.slots c.add.new.self.extents c.add.new.self.fronts (invariant_of-self c)

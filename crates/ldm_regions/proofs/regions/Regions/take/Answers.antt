@@ -1,90 +1,103 @@
-use Rattle.std.proofs.Common.{List, sym, ap, ◌∙◌, subst, arith, length, vec_capacity}
+use Rattle.std.proofs.Common.{◌≡◌, ◌+◌, ◌<◌, None, List, sym, ap, ◌∙◌, subst, arith, length}
 use Rattle.std.specs.FinMap as map
-use Rattle.std.specs.List.{insert}
-use Rattle.std.specs.Option.{option_map}
-use Rattle.ldm_types.specs.Arena.{Region, best_gap, fit, longest}
+use Rattle.std.specs.Vec.{with_items}
+use Rattle.std.proofs.lemmas.List.{with_items_is}
+use Rattle.ldm_types.specs.Arena.{fit}
 use Rattle.ldm_regions.specs.Layout.{Layout, Owned, Tiles, occupied, with_region}
-use Rattle.ldm_regions.specs.Walk.{Lie, IsLaidOut, spaces, count_before, gap_of}
-use Rattle.ldm_regions.specs.declared.walk.Used.{Used}
-use Rattle.ldm_regions.proofs.Owners.{get-owned_by, owned_by, owned_by-insert}
-use Rattle.ldm_regions.proofs.Laid.{tiles, fit_of, laid-insert, room_for, count_before-le}
+use Rattle.ldm_regions.specs.Kept.{IsKept}
+use Rattle.ldm_regions.specs.Links.{node_at, in_order, linked}
+use Rattle.ldm_regions.specs.declared.links.Node.{Node}
+use Rattle.ldm_regions.proofs.Owners.{region_at, owned_by, get-owned_by}
+use Rattle.ldm_regions.proofs.Arenas.{tiles_kept, matched, none_fits, gap_fits}
+use Rattle.ldm_regions.proofs.Cut.{Cut, cut_of, cut_owned, cut_kept, rest_extents, rest_fronts}
 use Rattle.ldm_regions.proofs.regions.Regions.take.Goals as goal
-use Rattle.ldm_regions.proofs.regions.Regions.take.Goals.{After-deref-3}
+use Rattle.ldm_regions.proofs.regions.Regions.take.Goals.{After-remove, After-add}
 
-pub returns-in_err-space-clause-place : goal.returns-in_err-space-clause-place
-returns-in_err-space-clause-place c =
+pub best-requires : goal.best-requires
+best-requires c =
     let inside = c.self.inside in
-    let need = c.args.need in
+    matched inside.nodes.items inside.arena inside.slots inside.gaps.extents inside.gaps.fronts c.self.invariant (omega arith) (omega arith)
+
+pub returns-in_err-gap-clause-place : goal.returns-in_err-gap-clause-place
+returns-in_err-gap-clause-place c =
+    let inside = c.self.inside in
     c.from_residual.ensures
-    ∙ ap (option_map (λ (gap : Region). gap.start)) (c.in_err-space.ensures ∙ ap (λ (used : List Used). best_gap need (spaces 0 used inside.arena)) c.deref.ensures.value)
-    ∙ fit_of need inside.used.items inside.arena inside.slots (vec_capacity inside.used) c.self.invariant.laid
-    ∙ ap (λ (layout : Layout). fit need (occupied layout.owned) layout.arena) c.self.view_is
+    ∙ none_fits inside.nodes.items inside.arena inside.slots inside.gaps.extents inside.gaps.fronts c.self.invariant c.args.need c.in_err-gap.ensures
+    ∙ ap (λ (layout : Layout). fit c.args.need (occupied layout.owned) layout.arena) c.self.view_is
 
-pub returns-in_err-space-clause-tiles : goal.returns-in_err-space-clause-tiles
-returns-in_err-space-clause-tiles c =
+pub returns-in_err-gap-clause-tiles : goal.returns-in_err-gap-clause-tiles
+returns-in_err-gap-clause-tiles c =
     let inside = c.self.inside in
-    subst Tiles c.self.view_is (tiles inside.used.items inside.arena inside.slots (vec_capacity inside.used) c.self.invariant.laid)
+    subst Tiles c.self.view_is (tiles_kept inside.nodes.items inside.arena inside.slots inside.gaps.extents inside.gaps.fronts c.self.invariant)
 
-pub insert-requires : goal.insert-requires
-insert-requires c = omega (arith, c.place_of-place.ensures, count_before-le c.in_ok-space.space.start c.deref-2.result.now, c.deref-2.ensures.len)
+-- the owner is below the wall, and has no region yet
+is_below : (c : After-remove) → c.args.owner < c.self.inside.slots
+is_below c = let slots = ap (λ (layout : Layout). layout.slots) c.self.view_is in let below = c.requires.owner in omega (arith, slots, below)
 
-pub unreachable-requires : goal.unreachable-requires
-unreachable-requires c =
+is_none : (c : After-remove) → region_at c.args.owner (in_order c.self.inside.nodes.items c.self.inside.slots) ≡ None
+is_none c =
+    sym (get-owned_by (in_order c.self.inside.nodes.items c.self.inside.slots) c.args.owner) ∙ ap (λ (layout : Layout). map.get layout.owned c.args.owner) c.self.view_is ∙ c.requires.none
+
+cut : (c : After-remove) → Cut c.self.inside.nodes.items c.self.inside.arena c.self.inside.slots c.in_ok-gap.gap c.args.need c.args.owner
+cut c =
     let inside = c.self.inside in
-    let items = inside.used.items in
-    let owner = c.args.owner in
-    let slots = ap (λ (layout : Layout). layout.slots) c.self.view_is in
-    let none = sym (get-owned_by items owner) ∙ ap (λ (layout : Layout). map.get layout.owned owner) c.self.view_is ∙ c.requires.none in
-    let room = room_for items owner inside.slots none (omega (arith, slots, c.requires.owner)) c.self.invariant.laid.owners c.self.invariant.laid.below in
-    omega (arith, room, c.self.invariant.laid.held, c.in_default.ensures.full, c.deref.ensures.len, ap length c.deref.ensures.value)
+    cut_of inside.nodes.items inside.arena inside.slots inside.gaps.extents inside.gaps.fronts c.self.invariant c.args.need c.args.owner c.in_ok-gap.gap c.requires.need (is_below c) (is_none c) c.in_ok-gap.ensures
 
--- with one region more, they are laid out as before
-more : (c : After-deref-3) → IsLaidOut c.insert.new.self.items c.self.inside.arena c.self.inside.slots (vec_capacity c.insert.new.self)
-more c =
+pub link-requires-clause-front : goal.link-requires-clause-front
+link-requires-clause-front c =
+    let inside = (cut (goal.at.link-requires-clause-front c).After-remove).front_inside in
+    omega (arith, inside, ap length c.deref_mut.ensures.value)
+
+pub link-requires-clause-behind : goal.link-requires-clause-behind
+link-requires-clause-behind c =
+    let inside = (cut (goal.at.link-requires-clause-behind c).After-remove).behind_inside in
+    subst (λ (nodes : List Node). (node_at nodes c.in_ok-gap.gap.front).behind < length nodes) (sym c.deref_mut.ensures.value) inside
+
+pub add-requires-clause-extents : goal.add-requires-clause-extents
+add-requires-clause-extents c =
     let inside = c.self.inside in
-    let items = inside.used.items in
-    let need = c.args.need in
-    let owner = c.args.owner in
-    let gap = gap_of c.in_ok-space.space in
-    let slots = ap (λ (layout : Layout). layout.slots) c.self.view_is in
-    let none = sym (get-owned_by items owner) ∙ ap (λ (layout : Layout). map.get layout.owned owner) c.self.view_is ∙ c.requires.none in
-    let best = sym (c.in_ok-space.ensures ∙ ap (λ (used : List Used). best_gap need (spaces 0 used inside.arena)) c.deref.ensures.value) in
-    let place = c.place_of-place.ensures ∙ ap (count_before gap.start) c.deref-2.ensures.value in
-    let capacity = vec_capacity c.insert.new.self in
-    let laid = laid-insert need owner items inside.arena inside.slots (vec_capacity inside.used) capacity gap c.requires.need (omega (arith, slots, c.requires.owner)) none best c.in-Ok.ensures.capacity c.self.invariant.laid in
-    let u : Used = record { start = gap.start; extent = need; owner = owner } in
-    subst (λ (used : List Used). IsLaidOut used inside.arena inside.slots capacity) (ap (λ i. insert items i u) (sym place) ∙ sym c.in-Ok.ensures.items) laid
+    let at = (goal.at.add-requires-clause-extents c).After-remove in
+    rest_extents inside.nodes.items inside.arena inside.slots inside.gaps.extents inside.gaps.fronts c.self.invariant c.args.need c.args.owner c.in_ok-gap.gap c.requires.need (is_below at) (is_none at) c.in_ok-gap.ensures
+    c.remove.new.self.extents c.remove.new.self.fronts c.remove.ensures.extents c.remove.ensures.fronts
 
-pub longest_space-self-inside-requires : goal.longest_space-self-inside-requires
-longest_space-self-inside-requires c = subst (λ (used : List Used). Lie 0 used c.self.inside.arena) (sym c.deref-3.ensures.value) (more c).lie
+pub add-requires-clause-fronts : goal.add-requires-clause-fronts
+add-requires-clause-fronts c =
+    let inside = c.self.inside in
+    let at = (goal.at.add-requires-clause-fronts c).After-remove in
+    rest_fronts inside.nodes.items inside.arena inside.slots inside.gaps.extents inside.gaps.fronts c.self.invariant c.args.need c.args.owner c.in_ok-gap.gap c.requires.need (is_below at) (is_none at) c.in_ok-gap.ensures
+    c.remove.new.self.extents c.remove.new.self.fronts c.remove.ensures.extents c.remove.ensures.fronts
+
+-- the table as it is written back
+table : (c : After-add) → (with_items c.self.inside.nodes c.link.new.nodes).items ≡ linked c.self.inside.nodes.items c.args.owner c.in_ok-gap.gap.start (c.in_ok-gap.gap.start + c.args.need) c.in_ok-gap.gap.front
+table c =
+    let gap = c.in_ok-gap.gap in
+    with_items_is c.self.inside.nodes c.link.new.nodes (omega (arith, c.link.auto.nodes, ap length c.deref_mut.ensures.value, c.self.inside.nodes.ok.0))
+    ∙ c.link.ensures ∙ ap (λ (nodes : List Node). linked nodes c.args.owner gap.start (gap.start + c.args.need) gap.front) c.deref_mut.ensures.value
 
 pub invariant_of-self : goal.invariant_of-self
-invariant_of-self c = record {
-  laid = more (goal.at.invariant_of-self c).After-deref-3;
-  measured = c.longest_space-self-inside.ensures ∙ ap (λ (used : List Used). longest (spaces 0 used c.self.inside.arena)) c.deref-3.ensures.value;
-}
+invariant_of-self c =
+    let inside = c.self.inside in
+    let at = (goal.at.invariant_of-self c).After-remove in
+    subst (λ (nodes : List Node). IsKept nodes inside.arena inside.slots c.add.new.self.extents c.add.new.self.fronts) (sym (table c))
+    (cut_kept inside.nodes.items inside.arena inside.slots inside.gaps.extents inside.gaps.fronts c.self.invariant c.args.need c.args.owner c.in_ok-gap.gap c.requires.need (is_below at) (is_none at) c.in_ok-gap.ensures
+    c.remove.new.self.extents c.remove.new.self.fronts c.remove.ensures.extents c.remove.ensures.fronts c.add.new.self.extents c.add.new.self.fronts c.add.ensures.extents c.add.ensures.fronts)
 
 pub returns-clause-place : goal.returns-clause-place
 returns-clause-place c =
     let inside = c.self.inside in
-    let need = c.args.need in
-    ap (option_map (λ (gap : Region). gap.start)) (c.in_ok-space.ensures ∙ ap (λ (used : List Used). best_gap need (spaces 0 used inside.arena)) c.deref.ensures.value)
-    ∙ fit_of need inside.used.items inside.arena inside.slots (vec_capacity inside.used) c.self.invariant.laid
-    ∙ ap (λ (layout : Layout). fit need (occupied layout.owned) layout.arena) c.self.view_is
+    gap_fits inside.nodes.items inside.arena inside.slots inside.gaps.extents inside.gaps.fronts c.self.invariant c.args.need c.in_ok-gap.gap c.in_ok-gap.ensures
+    ∙ ap (λ (layout : Layout). fit c.args.need (occupied layout.owned) layout.arena) c.self.view_is
 
 pub returns-clause-owned : goal.returns-clause-owned
 returns-clause-owned c =
     let inside = c.self.inside in
-    let items = inside.used.items in
-    let owner = c.args.owner in
-    let region : Region = record { start = c.in_ok-space.space.start; extent = c.args.need } in
-    let u : Used = record { start = c.in_ok-space.space.start; extent = c.args.need; owner = owner } in
-    let none = sym (get-owned_by items owner) ∙ ap (λ (layout : Layout). map.get layout.owned owner) c.self.view_is ∙ c.requires.none in
+    let at = (goal.at.returns-clause-owned c).After-remove in
     ap (λ (owned : Owned). record { arena = inside.arena; slots = inside.slots; owned = owned })
-    (ap owned_by c.in-Ok.ensures.items ∙ owned_by-insert u items c.place_of-place.result none)
-    ∙ ap (λ (layout : Layout). with_region layout owner region) c.self.view_is
+    (ap (λ (nodes : List Node). owned_by (in_order nodes inside.slots)) (table c)
+    ∙ cut_owned inside.nodes.items inside.arena inside.slots inside.gaps.extents inside.gaps.fronts c.self.invariant c.args.need c.args.owner c.in_ok-gap.gap c.requires.need (is_below at) (is_none at) c.in_ok-gap.ensures)
+    ∙ ap (λ (layout : Layout). with_region layout c.args.owner (record { start = c.in_ok-gap.gap.start; extent = c.args.need })) c.self.view_is
 
 pub returns-clause-tiles : goal.returns-clause-tiles
 returns-clause-tiles c =
     let inside = c.self.inside in
-    tiles c.insert.new.self.items inside.arena inside.slots (vec_capacity c.insert.new.self) (more (goal.at.returns-clause-tiles c).After-deref-3)
+    tiles_kept (with_items inside.nodes c.link.new.nodes).items inside.arena inside.slots c.add.new.self.extents c.add.new.self.fronts (invariant_of-self c)
