@@ -20,7 +20,8 @@ long_enough : (need extent offset : ℕ) → is_lt (pair_cmp (extent, offset) (n
 long_enough need extent offset h = grind (arith, nat_tests, h)
 
 -- one more member: it, or one of the others
-split : (y : ℕ × ℕ) (ys : List (ℕ × ℕ)) (p : ℕ × ℕ) (P : Type 0) → set.contains (set.from_list {R = pair_cmp} (y ∷ ys)) p ≡ true → (p ≡ y → P) → (set.contains (set.from_list {R = pair_cmp} ys) p ≡ true → P) → P
+split : (y : ℕ × ℕ) (ys : List (ℕ × ℕ)) (p : ℕ × ℕ) (P : Type 0) → set.contains (set.from_list {R = pair_cmp} (y ∷ ys)) p ≡ true → (p ≡ y → P) →
+    (set.contains (set.from_list {R = pair_cmp} ys) p ≡ true → P) → P
 split y ys p P there here later =
     elim (pair_cmp p y) as (λ r. pair_cmp p y ≡ r → (is_eq r || set.contains (set.from_list {R = pair_cmp} ys) p) ≡ true → P) [
       | Less ↦ λ e rest. later rest
@@ -39,19 +40,25 @@ less_than_others : (y : ℕ × ℕ) (ys : List (ℕ × ℕ)) (p : ℕ × ℕ) �
 less_than_others y [] p all there = absurd (both_ways _ (set.contains-empty pair_cmp p) there)
 less_than_others y (z ∷ zs) p all there = split z zs p _ there (λ e. ap (pair_cmp y) e ∙ all.0) (λ rest. less_than_others y zs p all.1 rest)
 
-skip : (need : ℕ) (s t : set.FinSet pair_cmp) (answer : Option (ℕ × ℕ)) → ((p : ℕ × ℕ) → IsLongEnough need t p → IsLongEnough need s p) → ((p : ℕ × ℕ) → IsLongEnough need s p → IsLongEnough need t p) → IsBest need s answer → IsBest need t answer
+skip : (need : ℕ) (s t : set.FinSet pair_cmp) (answer : Option (ℕ × ℕ)) → ((p : ℕ × ℕ) → IsLongEnough need t p → IsLongEnough need s p) →
+    ((p : ℕ × ℕ) → IsLongEnough need s p → IsLongEnough need t p) → IsBest need s answer → IsBest need t answer
 skip need s t None there back best = λ p long. best p (there p long)
 skip need s t (Some p) there back best = (back p best.0, λ q long. best.1 q (there q long))
 
-first_is : (need : ℕ) (y : ℕ × ℕ) (ys : List (ℕ × ℕ)) (b : Bool) → is_lt (pair_cmp y (need, 0)) ≡ b → IsStrictlySortedBy pair_cmp (y ∷ ys) → IsBest need (set.from_list ys) (first_from_bound (need, 0) ys) → IsBest need (set.from_list (y ∷ ys)) (cond b (first_from_bound (need, 0) ys) (Some y))
+first_is : (need : ℕ) (y : ℕ × ℕ) (ys : List (ℕ × ℕ)) (b : Bool) → is_lt (pair_cmp y (need, 0)) ≡ b → IsStrictlySortedBy pair_cmp (y ∷ ys) →
+    IsBest need (set.from_list ys) (first_from_bound (need, 0) ys) → IsBest need (set.from_list (y ∷ ys)) (cond b (first_from_bound (need, 0) ys) (Some y))
 first_is need y ys true e up rest =
     skip need (set.from_list ys) (set.from_list (y ∷ ys)) (first_from_bound (need, 0) ys)
-    (λ p long. (split y ys p _ long.0 (λ is. absurd (let short = too_short need y.0 y.1 e in let enough = long.1 in let same = ap (λ (q : ℕ × ℕ). q.0) is in omega (arith, short, enough, same))) (λ there. there), long.1))
+    (λ p long. (
+      split y ys p _ long.0 (λ is. absurd (let short = too_short need y.0 y.1 e in let enough = long.1 in let same =
+          ap (λ (q : ℕ × ℕ). q.0) is in omega (arith, short, enough, same))) (λ there. there),
+      long.1,
+    ))
     (λ p long. (still_there y ys p long.0, long.1)) rest
 first_is need y ys false e up rest = (
   (there_first y ys, long_enough need y.0 y.1 e),
   λ p long less. split y ys p ⊥ long.0 (λ is. both_ways (is_lt (pair_cmp p y)) (ap (λ q. is_lt (pair_cmp q y)) is ∙ ap is_lt (tied_itself pairs_total y)) (ap is_lt less))
-      (λ there. both_ways (is_lt (pair_cmp p y)) (ap is_lt (turned pairs_total p y Less (less_than_others y ys p (sorted_head pair_cmp y ys up) there))) (ap is_lt less)),
+      (λ there. both_ways (is_lt (pair_cmp p y)) (ap is_lt (turned p y Less (less_than_others y ys p (sorted_head pair_cmp y ys up) there))) (ap is_lt less)),
 )
 
 pub first_best : (need : ℕ) (pairs : List (ℕ × ℕ)) → IsStrictlySortedBy pair_cmp pairs → IsBest need (set.from_list pairs) (first_from_bound (need, 0) pairs)
@@ -67,7 +74,7 @@ last_greatest [] last up = (
 )
 last_greatest (y ∷ ys) last up =
     let rest = last_greatest ys last (sorted_tail pair_cmp y (ys ++ last ∷ []) up) in
-    let above = turned pairs_total last y Less (less_than_others y (ys ++ last ∷ []) last (sorted_head pair_cmp y (ys ++ last ∷ []) up) rest.0) in (
+    let above = turned last y Less (less_than_others y (ys ++ last ∷ []) last (sorted_head pair_cmp y (ys ++ last ∷ []) up) rest.0) in (
       still_there y (ys ++ last ∷ []) last rest.0,
       λ p there less. split y (ys ++ last ∷ []) p ⊥ there (λ is. both_ways (is_lt (pair_cmp last p)) (ap (λ q. is_lt (pair_cmp last q)) is ∙ ap is_lt above) (ap is_lt less))
           (λ there. rest.1 p there less),

@@ -1,5 +1,6 @@
 -- The tree and the chain of a set's nodes, and what an addition and a removal leave of them.
-use Rattle.std.proofs.Common.{◌≡◌, ◌≢◌, ℕ, zero, suc, Bool, true, false, not, ◌&&◌, ◌||◌, inl, inr, ◌+◌, ◌<◌, ◌≤◌, cond, List, [], ◌∷◌, ◌++◌, length, slice_set, refl, sym, ap, ◌∙◌, subst, length-append, arith}
+use Rattle.std.proofs.Common.{◌≡◌, ◌≢◌, ℕ, zero, suc, Bool, true, false, not, ◌&&◌, ◌||◌, inl, inr, ◌+◌, ◌<◌}
+use Rattle.std.proofs.Common.{◌≤◌, cond, List, [], ◌∷◌, ◌++◌, length, slice_set, refl, sym, ap, ◌∙◌, subst, length-append, arith}
 use Rattle.std.specs.FinSet as set
 use Rattle.std.specs.List.{AllByRecursion, list_any}
 use Rattle.std.specs.List.Sorted.{IsStrictlySortedBy}
@@ -38,10 +39,12 @@ tree_within_is (suc levels) nodes (Fork k p l r) s h =
 pub tree_at_is : (nodes : List Node) (root : ℕ) (t : Tree) → IsTree nodes root t → tree_at nodes root ≡ t
 unfolding tree_at
 tree_at_is nodes root t is =
-    ap (λ i. tree_within (height_at nodes i) nodes i) is.root_is ∙ ap (λ n. tree_within n nodes (root_of t)) (height_at-root nodes t is.spelled) ∙ tree_within_is (height t) nodes t is.spelled (omega arith)
+    ap (λ i. tree_within (height_at nodes i) nodes i) is.root_is ∙ ap (λ n. tree_within n nodes (root_of t)) (height_at-root nodes t is.spelled)
+    ∙ tree_within_is (height t) nodes t is.spelled (omega arith)
 
 -- a chain none of whose nodes changes stays
-chain_kept : (old new : List Node) (first : ℕ) (chain : List ℕ) → length old ≤ length new → AllByRecursion (λ j. node_at new j ≡ node_at old j) chain → IsChain old first chain → IsChain new first chain
+chain_kept : (old new : List Node) (first : ℕ) (chain : List ℕ) → length old ≤ length new → AllByRecursion (λ j. node_at new j ≡ node_at old j) chain → IsChain old first chain →
+    IsChain new first chain
 chain_kept old new first [] long same is = is
 chain_kept old new first (i ∷ rest) long same is = (
   is.0,
@@ -52,7 +55,8 @@ chain_kept old new first (i ∷ rest) long same is = (
 )
 
 -- what holds of each node that is free holds of each of the chain
-chain_each : (nodes : List Node) (P Q : ℕ → Type 0) (first : ℕ) (chain : List ℕ) → ((j : ℕ) → (node_at nodes j).height ≡ 0 → P j → Q j) → AllByRecursion P chain → IsChain nodes first chain → AllByRecursion Q chain
+chain_each : (nodes : List Node) (P Q : ℕ → Type 0) (first : ℕ) (chain : List ℕ) → ((j : ℕ) → (node_at nodes j).height ≡ 0 → P j → Q j) → AllByRecursion P chain → IsChain nodes first chain →
+    AllByRecursion Q chain
 chain_each nodes P Q first [] each all is = tt
 chain_each nodes P Q first (i ∷ rest) each all is = (each i is.2 all.0, chain_each nodes P Q (node_at nodes i).left rest each all.1 is.4)
 
@@ -75,7 +79,8 @@ not_free nodes t i s free has = omega (arith, free, node_in_use nodes t i s has)
 
 pub list_any-with : (p : ℕ × ℕ → Bool) (pair : ℕ × ℕ) (more less : List (ℕ × ℕ)) → IsWith pair more less → list_any p more ≡ (p pair || list_any p less)
 list_any-with p pair more less w =
-    ap (list_any p) w.more_is ∙ list_any-append p w.front (pair ∷ w.back) ∙ swapped (list_any p w.front) (p pair) (list_any p w.back) ∙ ap (λ b. p pair || b) (sym (ap (list_any p) w.less_is ∙ list_any-append p w.front w.back)) where
+    ap (list_any p) w.more_is ∙ list_any-append p w.front (pair ∷ w.back) ∙ swapped (list_any p w.front) (p pair) (list_any p w.back)
+    ∙ ap (λ b. p pair || b) (sym (ap (list_any p) w.less_is ∙ list_any-append p w.front w.back)) where
       swapped : (a b c : Bool) → (a || (b || c)) ≡ (b || (a || c))
       swapped true true c = refl
       swapped true false c = refl
@@ -99,7 +104,8 @@ none_other pair (x ∷ xs) all =
       | Greater ↦ λ e. none_other pair xs all.1
     ] refl
 
-without : (q x : ℕ × ℕ) (rest : List (ℕ × ℕ)) → list_any (eq_by_cmp pair_cmp x) rest ≡ false → list_any (eq_by_cmp pair_cmp q) rest ≡ (not (eq_by_cmp pair_cmp q x) && (eq_by_cmp pair_cmp q x || list_any (eq_by_cmp pair_cmp q) rest))
+without : (q x : ℕ × ℕ) (rest : List (ℕ × ℕ)) → list_any (eq_by_cmp pair_cmp x) rest ≡ false →
+    list_any (eq_by_cmp pair_cmp q) rest ≡ (not (eq_by_cmp pair_cmp q x) && (eq_by_cmp pair_cmp q x || list_any (eq_by_cmp pair_cmp q) rest))
 without q x rest none =
     elim (pair_cmp q x) as (λ r. pair_cmp q x ≡ r → list_any (eq_by_cmp pair_cmp q) rest ≡ (not (is_eq r) && (is_eq r || list_any (eq_by_cmp pair_cmp q) rest))) [
       | Less ↦ λ e. refl
@@ -126,7 +132,8 @@ members_without pair more less w up =
     let none = none_other pair less (apart_in pair more less w up) in
     set.same_set pairs_total exact_pair _ _ (λ q.
     set.contains-from_list pairs_total less q ∙ without q pair less none
-    ∙ sym (set.contains-remove pairs_total (set.from_list more) pair q ∙ ap (λ b. not (eq_by_cmp pair_cmp q pair) && b) (set.contains-from_list pairs_total more q ∙ list_any-with (eq_by_cmp pair_cmp q) pair more less w)))
+    ∙ sym (set.contains-remove pairs_total (set.from_list more) pair q ∙ ap (λ b. not (eq_by_cmp pair_cmp q pair) && b)
+    (set.contains-from_list pairs_total more q ∙ list_any-with (eq_by_cmp pair_cmp q) pair more less w)))
 
 -- a member is a pair of the tree
 pub member_pair : (pair : ℕ × ℕ) (t : Tree) → set.contains (set.from_list {R = pair_cmp} (pairs_of t)) pair ≡ true → HasPair pair t
@@ -135,7 +142,8 @@ member_pair pair t there = among t (sym (set.contains-from_list pairs_total (pai
   among Leaf any = both_ways false refl any
   among (Fork k p l r) any =
       let parts = sym (list_any-append (eq_by_cmp pair_cmp pair) (pairs_of l) (p ∷ pairs_of r)) ∙ any in
-      elim (list_any (eq_by_cmp pair_cmp pair) (pairs_of l)) as (λ b. list_any (eq_by_cmp pair_cmp pair) (pairs_of l) ≡ b → (b || (eq_by_cmp pair_cmp pair p || list_any (eq_by_cmp pair_cmp pair) (pairs_of r))) ≡ true → HasPair pair (Fork k p l r)) [
+      elim (list_any (eq_by_cmp pair_cmp pair) (pairs_of l)) as (λ b. list_any (eq_by_cmp pair_cmp pair) (pairs_of l) ≡ b →
+      (b || (eq_by_cmp pair_cmp pair p || list_any (eq_by_cmp pair_cmp pair) (pairs_of r))) ≡ true → HasPair pair (Fork k p l r)) [
         | true ↦ λ e _. inr (inl (among l e))
         | false ↦ λ _ rest. elim (pair_cmp pair p) as (λ o. pair_cmp pair p ≡ o → (is_eq o || list_any (eq_by_cmp pair_cmp pair) (pairs_of r)) ≡ true → HasPair pair (Fork k p l r)) [
           | Less ↦ λ _ in_r. inr (inr (among r in_r))
@@ -221,7 +229,7 @@ made_held room h = record {
 module _ (nodes : List Node) (root free : ℕ) (tree : Tree) (chain : List ℕ) (held : IsHeld nodes root free tree chain) where
   -- the set has as many pairs as the tree
   pub count_is : set.len (set.from_list {R = pair_cmp} (pairs_of (tree_at nodes root))) ≡ length (pairs_of tree)
-  count_is = ap (λ t. set.len (set.from_list {R = pair_cmp} (pairs_of t))) (tree_at_is nodes root tree held.tree_is) ∙ len-from_sorted pairs_total (pairs_of tree) held.tree_is.rising
+  count_is = ap (λ t. set.len (set.from_list {R = pair_cmp} (pairs_of t))) (tree_at_is nodes root tree held.tree_is) ∙ len-from_sorted (pairs_of tree) held.tree_is.rising
 
   pub held_low : height tree ≤ 64
   held_low = height_low tree held.tree_is.balanced (omega (arith, held.whole, held.numbered))
@@ -298,7 +306,8 @@ module _ (nodes : List Node) (root free : ℕ) (tree : Tree) (chain : List ℕ) 
     node_within = omega (arith, node_number.within, taken.kept.as_long)
 
     node_out : ¬ Has node rest
-    node_out has = pair_of_node mid (λ x. x ≢ pair) rest node taken.tree_is.spelled (apart_in pair (pairs_of tree) (pairs_of rest) taken_with held.tree_is.rising) has (taken.kept.same_pairs node ∙ is_pair)
+    node_out has = pair_of_node mid (λ x. x ≢ pair) rest node taken.tree_is.spelled (apart_in pair (pairs_of tree) (pairs_of rest) taken_with held.tree_is.rising) has
+        (taken.kept.same_pairs node ∙ is_pair)
 
     other_cleared : (i : ℕ) → i ≢ node → node_at cleared i ≡ node_at mid i
     other_cleared i apart = get_or-set_other mid node i (free_node free) (free_node NONE) apart

@@ -156,7 +156,11 @@ module _ (nodes : List Node) (root fresh : ℕ) (pair : ℕ × ℕ) (l r : Tree)
       right_tree = record {
         root_is = told_right right is_right;
         spelled = spells_outside nodes mid (λ i. (i ≡ fresh) ⊎ Has i l) r added.kept
-            (λ i in_r out. elim out [ inl e ↦ can.apart (inr (inr (subst (λ j. Has j r) e in_r))) | inr in_l ↦ apart_sides nodes l r (pair_at nodes root) i can.tree_is.spelled.2 can.tree_is.spelled.3 around in_l in_r ])
+            (λ i in_r out. elim out [
+              | inl e ↦ can.apart (inr (inr (subst (λ j. Has j r) e in_r)))
+              | inr in_l ↦ apart_sides nodes l r (pair_at nodes root) i can.tree_is.spelled.2
+                  can.tree_is.spelled.3 around in_l in_r
+            ])
             can.tree_is.spelled.3;
         balanced = can.tree_is.balanced.2;
         rising = around.back;
@@ -178,7 +182,11 @@ module _ (nodes : List Node) (root fresh : ℕ) (pair : ℕ × ℕ) (l r : Tree)
       left_tree = record {
         root_is = told_left left is_left;
         spelled = spells_outside nodes mid (λ i. (i ≡ fresh) ⊎ Has i r) l added.kept
-            (λ i in_l out. elim out [ inl e ↦ can.apart (inr (inl (subst (λ j. Has j l) e in_l))) | inr in_r ↦ apart_sides nodes l r (pair_at nodes root) i can.tree_is.spelled.2 can.tree_is.spelled.3 around in_l in_r ])
+            (λ i in_l out. elim out [
+              | inl e ↦ can.apart (inr (inl (subst (λ j. Has j l) e in_l)))
+              | inr in_r ↦ apart_sides nodes l r (pair_at nodes root) i can.tree_is.spelled.2
+                  can.tree_is.spelled.3 around in_l in_r
+            ])
             can.tree_is.spelled.2;
         balanced = can.tree_is.balanced.1;
         rising = around.front;

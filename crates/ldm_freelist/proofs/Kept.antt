@@ -14,7 +14,8 @@ use Rattle.ldm_freelist.proofs.Bound.{few_steps}
 use Rattle.ldm_freelist.proofs.Lean.{tree_height}
 use Rattle.ldm_freelist.proofs.Spelled.{number_of_node}
 use Rattle.ldm_freelist.proofs.Insert.{empty_at, some_at}
-use Rattle.ldm_freelist.proofs.Held.{tree_at_is, count_is, held_low, held_root_low, members_are, held_first, free_within, addable, added_held, detachable, node_within, taken_with, taken_held, members_with, members_without, member_pair, not_member, node_in_use}
+use Rattle.ldm_freelist.proofs.Held.{tree_at_is, count_is, held_low, held_root_low, members_are, held_first, free_within, addable, added_held}
+use Rattle.ldm_freelist.proofs.Held.{detachable, node_within, taken_with, taken_held, members_with, members_without, member_pair, not_member, node_in_use}
 
 -- what a set of these nodes is kept as
 abbrev pub IsKeptAs : List Node → ℕ → ℕ → Type 0

@@ -68,11 +68,13 @@ module _ (nodes : List Node) (number left right : ℕ) (less more : Tree) (loose
   pub left_inner_within : (i : ℕ) → i ≡ (node_at nodes left).right → i ≢ NONE → i < length nodes
   left_inner_within i i_is = side_within nodes i inner_left leaning_left.loose.left_tree.spelled.3 (left_inner i i_is)
 
-  pub balanced_left : (new : List Node) (root : ℕ) → height inner_left ≤ height outer_left → RaisesLeft nodes new number left right root → (made : Tree) × IsBalancedOver nodes new number root less more made
+  pub balanced_left : (new : List Node) (root : ℕ) → height inner_left ≤ height outer_left → RaisesLeft nodes new number left right root →
+      (made : Tree) × IsBalancedOver nodes new number root less more made
   balanced_left new root high raises =
       subst (λ t. (made : Tree) × IsBalancedOver nodes new number root t more made) (sym less_is) (raises outer_left inner_left more leaning_left high)
 
-  pub balanced_left_inner : (new : List Node) (root : ℕ) → height outer_left < height inner_left → RaisesLeftInner nodes new number left right root → (made : Tree) × IsBalancedOver nodes new number root less more made
+  pub balanced_left_inner : (new : List Node) (root : ℕ) → height outer_left < height inner_left → RaisesLeftInner nodes new number left right root →
+      (made : Tree) × IsBalancedOver nodes new number root less more made
   balanced_left_inner new root high raises =
       subst (λ t. (made : Tree) × IsBalancedOver nodes new number root t more made) (sym less_is) (raises outer_left inner_left more leaning_left high)
 
@@ -120,10 +122,12 @@ module _ (nodes : List Node) (number left right : ℕ) (less more : Tree) (loose
   pub right_inner_within : (i : ℕ) → i ≡ (node_at nodes right).left → i ≢ NONE → i < length nodes
   right_inner_within i i_is = side_within nodes i inner_right leaning_right.loose.right_tree.spelled.2 (right_inner i i_is)
 
-  pub balanced_right : (new : List Node) (root : ℕ) → height inner_right ≤ height outer_right → RaisesRight nodes new number left right root → (made : Tree) × IsBalancedOver nodes new number root less more made
+  pub balanced_right : (new : List Node) (root : ℕ) → height inner_right ≤ height outer_right → RaisesRight nodes new number left right root →
+      (made : Tree) × IsBalancedOver nodes new number root less more made
   balanced_right new root high raises =
       subst (λ t. (made : Tree) × IsBalancedOver nodes new number root less t made) (sym more_is) (raises less inner_right outer_right leaning_right high)
 
-  pub balanced_right_inner : (new : List Node) (root : ℕ) → height outer_right < height inner_right → RaisesRightInner nodes new number left right root → (made : Tree) × IsBalancedOver nodes new number root less more made
+  pub balanced_right_inner : (new : List Node) (root : ℕ) → height outer_right < height inner_right → RaisesRightInner nodes new number left right root →
+      (made : Tree) × IsBalancedOver nodes new number root less more made
   balanced_right_inner new root high raises =
       subst (λ t. (made : Tree) × IsBalancedOver nodes new number root less t made) (sym more_is) (raises less inner_right outer_right leaning_right high)

@@ -181,7 +181,8 @@ pub record IsReadLeft (nodes : List Node) (left o i a b : ℕ) : Type 0 where
   pub a_is : a ≡ (node_at nodes i).left
   pub b_is : b ≡ (node_at nodes i).right
 
-module _ (nodes : List Node) (number left right k : ℕ) (outer c d more : Tree) (lean : IsLeaningLeft nodes number left right outer (Fork k (pair_at nodes k) c d) more) (o i a b : ℕ) (told : IsReadLeft nodes left o i a b) where
+module _ (nodes : List Node) (number left right k : ℕ) (outer c d more : Tree) (lean : IsLeaningLeft nodes number left right outer (Fork k (pair_at nodes k) c d) more) (o i a b : ℕ)
+    (told : IsReadLeft nodes left o i a b) where
   join_first_at : CanJoin nodes left o a
   join_first_at =
       subst (λ j. CanJoin nodes left j a) (sym (told_outer nodes number left right k outer c d more lean o told.o_is))
@@ -213,7 +214,8 @@ module _ (nodes : List Node) (number left right k : ℕ) (outer c d more : Tree)
       height outer < height (Fork k (pair_at nodes k) c d) → (made : Tree) × IsBalancedOver nodes n3 number i (Fork left (pair_at nodes left) outer (Fork k (pair_at nodes k) c d)) more made
   raise_at n1 n2 n3 is1 is2 is3 high =
       let here = told_inner nodes number left right k outer c d more lean i told.i_is in
-      let is : n3 ≡ third nodes number left right k outer c d more lean = is3 ∙ ap (λ ns. joined ns i left number) (second_is n1 n2 is1 is2) ∙ ap (λ j. joined (second nodes number left right k outer c d more lean) j left number) here in
+      let is : n3 ≡ third nodes number left right k outer c d more lean = is3 ∙ ap (λ ns. joined ns i left number) (second_is n1 n2 is1 is2)
+      ∙ ap (λ j. joined (second nodes number left right k outer c d more lean) j left number) here in
       let made = twice nodes number left right k outer c d more lean in
       let less = Fork left (pair_at nodes left) outer (Fork k (pair_at nodes k) c d) in (
         made,

@@ -183,11 +183,13 @@ pub record IsReadRight (nodes : List Node) (right i o a b : ℕ) : Type 0 where
   pub a_is : a ≡ (node_at nodes i).left
   pub b_is : b ≡ (node_at nodes i).right
 
-module _ (nodes : List Node) (number left right k : ℕ) (less c d outer : Tree) (lean : IsLeaningRight nodes number left right less (Fork k (pair_at nodes k) c d) outer) (i o a b : ℕ) (told : IsReadRight nodes right i o a b) where
+module _ (nodes : List Node) (number left right k : ℕ) (less c d outer : Tree) (lean : IsLeaningRight nodes number left right less (Fork k (pair_at nodes k) c d) outer) (i o a b : ℕ)
+    (told : IsReadRight nodes right i o a b) where
   join_first_at : CanJoin nodes right b o
   join_first_at =
       subst (CanJoin nodes right b) (sym (told_outer nodes number left right k less c d outer lean o told.o_is))
-      (subst (λ j. CanJoin nodes right j (root_of outer)) (sym (told_d nodes number left right k less c d outer lean i b told.i_is told.b_is)) (can_first nodes number left right k less c d outer lean))
+      (subst (λ j. CanJoin nodes right j (root_of outer)) (sym (told_d nodes number left right k less c d outer lean i b told.i_is told.b_is))
+      (can_first nodes number left right k less c d outer lean))
 
   first_is : (n1 : List Node) → n1 ≡ joined nodes right b o → n1 ≡ joined nodes right (root_of d) (root_of outer)
   first_is n1 is =
@@ -198,7 +200,8 @@ module _ (nodes : List Node) (number left right k : ℕ) (less c d outer : Tree)
   join_second_at n1 is =
       subst (λ ns. CanJoin ns number left a) (sym (first_is n1 is))
       (subst (λ j. CanJoin (joined nodes right (root_of d) (root_of outer)) number j a) (sym lean.loose.left_tree.root_is)
-      (subst (CanJoin (joined nodes right (root_of d) (root_of outer)) number (root_of less)) (sym (told_c nodes number left right k less c d outer lean i a told.i_is told.a_is)) (can_second nodes number left right k less c d outer lean)))
+      (subst (CanJoin (joined nodes right (root_of d) (root_of outer)) number (root_of less)) (sym (told_c nodes number left right k less c d outer lean i a told.i_is told.a_is))
+      (can_second nodes number left right k less c d outer lean)))
 
   second_is : (n1 n2 : List Node) → n1 ≡ joined nodes right b o → n2 ≡ joined n1 number left a → n2 ≡ joined (joined nodes right (root_of d) (root_of outer)) number (root_of less) (root_of c)
   second_is n1 n2 is1 is2 =
@@ -215,7 +218,8 @@ module _ (nodes : List Node) (number left right k : ℕ) (less c d outer : Tree)
       height outer < height (Fork k (pair_at nodes k) c d) → (made : Tree) × IsBalancedOver nodes n3 number i less (Fork right (pair_at nodes right) (Fork k (pair_at nodes k) c d) outer) made
   raise_at n1 n2 n3 is1 is2 is3 high =
       let here = told_inner nodes number left right k less c d outer lean i told.i_is in
-      let is : n3 ≡ third nodes number left right k less c d outer lean = is3 ∙ ap (λ ns. joined ns i number right) (second_is n1 n2 is1 is2) ∙ ap (λ j. joined (second nodes number left right k less c d outer lean) j number right) here in
+      let is : n3 ≡ third nodes number left right k less c d outer lean = is3 ∙ ap (λ ns. joined ns i number right) (second_is n1 n2 is1 is2)
+      ∙ ap (λ j. joined (second nodes number left right k less c d outer lean) j number right) here in
       let made = twice nodes number left right k less c d outer lean in
       let more = Fork right (pair_at nodes right) (Fork k (pair_at nodes k) c d) outer in (
         made,

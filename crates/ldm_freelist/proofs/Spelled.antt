@@ -76,7 +76,8 @@ pub joined-other : (nodes : List Node) (i left right k : ℕ) → k ≢ i → no
 unfolding joined
 joined-other nodes i left right k other = get_or-set_other nodes i k _ (free_node NONE) other
 
-pub joined-same : (nodes : List Node) (i left right : ℕ) → i < length nodes → node_at (joined nodes i left right) i ≡ record (node_at nodes i) { left = left; right = right; height = max (height_at nodes left) (height_at nodes right) + 1 }
+pub joined-same : (nodes : List Node) (i left right : ℕ) → i < length nodes → node_at (joined nodes i left right) i ≡ record (node_at nodes i)
+    { left = left; right = right; height = max (height_at nodes left) (height_at nodes right) + 1 }
 unfolding joined
 joined-same nodes i left right within = get_or-set_same nodes i _ (free_node NONE) within
 

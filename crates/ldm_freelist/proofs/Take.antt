@@ -10,7 +10,8 @@ use Rattle.ldm_freelist.specs.Pairs.{pair_cmp}
 use Rattle.ldm_freelist.specs.Nodes.{node_at, pair_at, height_at}
 use Rattle.ldm_freelist.specs.declared.node_table.Node.{Node}
 use Rattle.ldm_freelist.specs.declared.node_table.TheConstants.{NONE}
-use Rattle.ldm_freelist.specs.Tree.{Tree, Leaf, Fork, height, root_of, pairs_of, Has, HasPair, IsTree, IsLoose, IsHeightOver, DifferByAtMost, Balances, IsWith, IsLow, IsTaken, TakesFirst, TakesTop, Takes}
+use Rattle.ldm_freelist.specs.Tree.{Tree, Leaf, Fork, height, root_of, pairs_of, Has, HasPair, IsTree}
+use Rattle.ldm_freelist.specs.Tree.{IsLoose, IsHeightOver, DifferByAtMost, Balances, IsWith, IsLow, IsTaken, TakesFirst, TakesTop, Takes}
 use Rattle.ldm_freelist.proofs.Sorted.{pairs_total, exact_pair}
 use Rattle.ldm_freelist.proofs.Order.{Rises, IsCut, cut, uncut, uncut_less, parts_of_all}
 use Rattle.ldm_freelist.proofs.Spelled.{number_kept, number_of_node, apart_sides, kept_more, kept_twice, spells_outside, not_less}
@@ -140,7 +141,8 @@ module _ (nodes : List Node) (root : ℕ) (l r : Tree) (low : IsLow nodes root (
           over.0,
           record {
             tree_is = over.1.tree;
-            less = without_same (pair_at nodes taken) (pairs_of l ++ k ∷ pairs_of r) (pairs_of l' ++ k ∷ pairs_of r) (pairs_of over.0) same (with_left (pair_at nodes taken) (pairs_of l) (pairs_of l') k (pairs_of r) gone.less);
+            less = without_same (pair_at nodes taken) (pairs_of l ++ k ∷ pairs_of r) (pairs_of l' ++ k ∷ pairs_of r) (pairs_of over.0) same
+                (with_left (pair_at nodes taken) (pairs_of l) (pairs_of l') k (pairs_of r) gone.less);
             inside = λ i h. elim (over.1.inside i h) [ inl e ↦ inl e | inr (inl in_l) ↦ inr (inl (gone.inside i in_l)) | inr (inr in_r) ↦ inr (inr in_r) ];
             taken_is = inr (inl gone.taken_is);
             kept = kept_twice (kept_more (λ i h. inr (inl h)) gone.kept)
@@ -158,7 +160,8 @@ module _ (nodes : List Node) (root : ℕ) (l r : Tree) (low : IsLow nodes root (
           over.0,
           record {
             tree_is = over.1.tree;
-            less = without_same (pair_at nodes taken) (pairs_of l ++ k ∷ pairs_of r) (pairs_of l ++ k ∷ pairs_of r') (pairs_of over.0) same (with_right (pair_at nodes taken) (pairs_of r) (pairs_of r') k (pairs_of l) gone.less);
+            less = without_same (pair_at nodes taken) (pairs_of l ++ k ∷ pairs_of r) (pairs_of l ++ k ∷ pairs_of r') (pairs_of over.0) same
+                (with_right (pair_at nodes taken) (pairs_of r) (pairs_of r') k (pairs_of l) gone.less);
             inside = λ i h. elim (over.1.inside i h) [ inl e ↦ inl e | inr (inl in_l) ↦ inr (inl in_l) | inr (inr in_r) ↦ inr (inr (gone.inside i in_r)) ];
             taken_is = inr (inr gone.taken_is);
             kept = kept_twice (kept_more (λ i h. inr (inr h)) gone.kept)
@@ -178,7 +181,8 @@ module _ (nodes : List Node) (root : ℕ) (l r : Tree) (low : IsLow nodes root (
       low = omega (arith, low.low, gone.height_is);
     }
 
-    pub shrunk_top : (new : List Node) (left top : ℕ) → left ≡ root_of l → (r' : Tree) → IsTaken nodes mid cut_root taken r r' → pairs_of r ≡ pair_at nodes taken ∷ pairs_of r' → Balances mid new taken left cut_root top →
+    pub shrunk_top : (new : List Node) (left top : ℕ) → left ≡ root_of l → (r' : Tree) → IsTaken nodes mid cut_root taken r r' → pairs_of r ≡ pair_at nodes taken ∷ pairs_of r' →
+        Balances mid new taken left cut_root top →
         (made : Tree) × IsTaken nodes new top root (Fork root k l r) made
     shrunk_top new left top is r' gone first balances =
         let over = balances l r' (loose_top left is r' gone first) in (
@@ -317,21 +321,24 @@ module _ (nodes : List Node) (root : ℕ) (t : Tree) (low : IsLow nodes root t) 
     pub there_top : (trees : Tree × Tree) × IsLow nodes root (Fork root (pair_at nodes root) trees.0 trees.1) × (left ≡ root_of trees.0) × (right ≡ root_of trees.1)
     there_top = ((l, r), open_low, left_root, right_root)
 
-    pub loose_after_left : (mid : List Node) (pair : ℕ × ℕ) (answer : ℕ × ℕ) → pair_cmp (pair_at nodes root) pair ≡ Greater → HasPair pair t → Takes nodes mid left pair answer → (trees : Tree × Tree) × IsLoose mid root answer.0 right trees.0 trees.1
+    pub loose_after_left : (mid : List Node) (pair : ℕ × ℕ) (answer : ℕ × ℕ) → pair_cmp (pair_at nodes root) pair ≡ Greater → HasPair pair t → Takes nodes mid left pair answer →
+        (trees : Tree × Tree) × IsLoose mid root answer.0 right trees.0 trees.1
     unfolding there_left
     loose_after_left mid pair answer order has takes =
         let s = there_left pair order has in
         let gone = takes l s.1 s.2 in
         ((gone.0, r), loose_left nodes root l r open_low mid answer.0 answer.1 right right_root gone.0 gone.1)
 
-    pub loose_after_right : (mid : List Node) (pair : ℕ × ℕ) (answer : ℕ × ℕ) → pair_cmp (pair_at nodes root) pair ≡ Less → HasPair pair t → Takes nodes mid right pair answer → (trees : Tree × Tree) × IsLoose mid root left answer.0 trees.0 trees.1
+    pub loose_after_right : (mid : List Node) (pair : ℕ × ℕ) (answer : ℕ × ℕ) → pair_cmp (pair_at nodes root) pair ≡ Less → HasPair pair t → Takes nodes mid right pair answer →
+        (trees : Tree × Tree) × IsLoose mid root left answer.0 trees.0 trees.1
     unfolding there_right
     loose_after_right mid pair answer order has takes =
         let s = there_right pair order has in
         let gone = takes r s.1 s.2 in
         ((l, gone.0), loose_right nodes root l r open_low mid answer.0 answer.1 left left_root gone.0 gone.1)
 
-    pub took_left : (mid new : List Node) (pair : ℕ × ℕ) (answer : ℕ × ℕ) (top : ℕ) → pair_cmp (pair_at nodes root) pair ≡ Greater → HasPair pair t → Takes nodes mid left pair answer → Balances mid new root answer.0 right top →
+    pub took_left : (mid new : List Node) (pair : ℕ × ℕ) (answer : ℕ × ℕ) (top : ℕ) → pair_cmp (pair_at nodes root) pair ≡ Greater → HasPair pair t → Takes nodes mid left pair answer →
+        Balances mid new root answer.0 right top →
         (rest : Tree) × IsTaken nodes new top answer.1 t rest × (pair_at nodes answer.1 ≡ pair)
     unfolding there_left
     took_left mid new pair answer top order has takes balances =
@@ -340,7 +347,8 @@ module _ (nodes : List Node) (root : ℕ) (t : Tree) (low : IsLow nodes root t) 
         let done = shrunk_left nodes root l r open_low mid answer.0 answer.1 new right top right_root gone.0 gone.1 balances in
         (done.0, subst (λ s. IsTaken nodes new top answer.1 s done.0) (sym t_is) done.1, gone.2)
 
-    pub took_right : (mid new : List Node) (pair : ℕ × ℕ) (answer : ℕ × ℕ) (top : ℕ) → pair_cmp (pair_at nodes root) pair ≡ Less → HasPair pair t → Takes nodes mid right pair answer → Balances mid new root left answer.0 top →
+    pub took_right : (mid new : List Node) (pair : ℕ × ℕ) (answer : ℕ × ℕ) (top : ℕ) → pair_cmp (pair_at nodes root) pair ≡ Less → HasPair pair t → Takes nodes mid right pair answer →
+        Balances mid new root left answer.0 top →
         (rest : Tree) × IsTaken nodes new top answer.1 t rest × (pair_at nodes answer.1 ≡ pair)
     unfolding there_right
     took_right mid new pair answer top order has takes balances =
@@ -349,7 +357,8 @@ module _ (nodes : List Node) (root : ℕ) (t : Tree) (low : IsLow nodes root t) 
         let done = shrunk_right nodes root l r open_low mid answer.0 answer.1 new left top left_root gone.0 gone.1 balances in
         (done.0, subst (λ s. IsTaken nodes new top answer.1 s done.0) (sym t_is) done.1, gone.2)
 
-    pub took_top : (new : List Node) (pair : ℕ × ℕ) (top : ℕ) → pair_cmp (pair_at nodes root) pair ≡ Equal → TakesTop nodes new root left right top → (rest : Tree) × IsTaken nodes new top root t rest × (pair_at nodes root ≡ pair)
+    pub took_top : (new : List Node) (pair : ℕ × ℕ) (top : ℕ) → pair_cmp (pair_at nodes root) pair ≡ Equal → TakesTop nodes new root left right top →
+        (rest : Tree) × IsTaken nodes new top root t rest × (pair_at nodes root ≡ pair)
     took_top new pair top order takes =
         let done = takes l r open_low left_root right_root in
         (done.0, subst (λ s. IsTaken nodes new top root s done.0) (sym t_is) done.1, exact_pair (pair_at nodes root) pair order)

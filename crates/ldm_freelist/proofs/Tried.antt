@@ -1,5 +1,6 @@
 -- What a set has besides a plain table of it, where a pair goes in or out.
-use Rattle.std.proofs.Common.{◌≡◌, ◌≢◌, ℕ, Bool, true, false, inl, inr, ◌||◌, ◌&&◌, not, cond, ◌+◌, ◌*◌, ◌/◌, ◌%◌, ◌<◌, ◌≤◌, List, length, get_or, replicate, zero, suc, ◌-◌, slice_set, refl, sym, ap, ◌∙◌, subst, arith}
+use Rattle.std.proofs.Common.{◌≡◌, ◌≢◌, ℕ, Bool, true, false, inl, inr, ◌||◌, ◌&&◌, not, cond, ◌+◌, ◌*◌, ◌/◌, ◌%◌}
+use Rattle.std.proofs.Common.{◌<◌, List, length, get_or, replicate, zero, suc, ◌-◌, slice_set, refl, sym, ap, ◌∙◌, arith}
 use Rattle.std.specs.FinSet as set
 use Rattle.std.specs.Ordering.{eq_by_cmp, is_eq}
 use Rattle.std.specs.declared.cmp.Ordering.TheVariants.{Less, Equal, Greater}
@@ -45,13 +46,15 @@ Agree has members = (place : ℕ) → get_or has place false ≡ set.contains me
 
 pub agree_added : (has : List Bool) (members : set.FinSet pair_cmp) (place : ℕ) → place < length has → Agree has members → Agree (slice_set has place true) (set.insert members (at place))
 agree_added has members place within agree k = elim (cases_eq k place) [
-  | inl e ↦ ap (λ j. get_or (slice_set has place true) j false) e ∙ get_or-set_same has place true false within ∙ sym (ap (λ j. set.contains (set.insert members (at place)) (at j)) e ∙ is_added members (at place))
+  | inl e ↦ ap (λ j. get_or (slice_set has place true) j false) e ∙ get_or-set_same has place true false within
+      ∙ sym (ap (λ j. set.contains (set.insert members (at place)) (at j)) e ∙ is_added members (at place))
   | inr apart ↦ get_or-set_other has place k true false apart ∙ agree k ∙ sym (stays_added members (at place) (at k) (at_apart k place apart))
 ]
 
 pub agree_removed : (has : List Bool) (members : set.FinSet pair_cmp) (place : ℕ) → place < length has → Agree has members → Agree (slice_set has place false) (set.remove members (at place))
 agree_removed has members place within agree k = elim (cases_eq k place) [
-  | inl e ↦ ap (λ j. get_or (slice_set has place false) j false) e ∙ get_or-set_same has place false false within ∙ sym (ap (λ j. set.contains (set.remove members (at place)) (at j)) e ∙ is_removed members (at place))
+  | inl e ↦ ap (λ j. get_or (slice_set has place false) j false) e ∙ get_or-set_same has place false false within
+      ∙ sym (ap (λ j. set.contains (set.remove members (at place)) (at j)) e ∙ is_removed members (at place))
   | inr apart ↦ get_or-set_other has place k false false apart ∙ agree k ∙ sym (stays_removed members (at place) (at k) (at_apart k place apart))
 ]
 

@@ -135,8 +135,14 @@ fn agrees_with_a_plain_table(rt: HostRuntime) -> Result<(), Fail> {
             .wrapping_add(1442695040888963407);
         tried.toggle(((state >> 33) % 1024) as u32);
         let need = (state >> 43) % 2100;
-        assert_eq!(rt; best_of::<Brand>(&tried.tree, need, Blank::new(1)), tried.best(need));
-        assert_eq!(rt; greatest_of::<Brand>(&tried.tree, Blank::new(1)), tried.greatest());
+        assert_eq!(rt;
+            best_of::<Brand>(&tried.tree, need, Blank::new(1)),
+            tried.best(need)
+        );
+        assert_eq!(rt;
+            greatest_of::<Brand>(&tried.tree, Blank::new(1)),
+            tried.greatest()
+        );
     }
     Ok(())
 }
@@ -157,8 +163,14 @@ fn agrees_in_every_order(rt: HostRuntime) -> Result<(), Fail> {
                 tried.toggle(rest % 6);
                 rest /= 6;
                 let need = 8 * round;
-                assert_eq!(rt; best_of::<Brand>(&tried.tree, need, Blank::new(1)), tried.best(need));
-                assert_eq!(rt; greatest_of::<Brand>(&tried.tree, Blank::new(1)), tried.greatest());
+                assert_eq!(rt;
+                    best_of::<Brand>(&tried.tree, need, Blank::new(1)),
+                    tried.best(need)
+                );
+                assert_eq!(rt;
+                    greatest_of::<Brand>(&tried.tree, Blank::new(1)),
+                    tried.greatest()
+                );
             }
         }
     }
@@ -172,7 +184,10 @@ fn finds_nothing_above_many_of_one_extent(rt: HostRuntime) -> Result<(), Fail> {
         set.add(8, 16 * number);
     }
     assert_eq!(rt; best_of::<Brand>(&set, 16, Blank::new(1)), None);
-    assert_eq!(rt; greatest_of::<Brand>(&set, Blank::new(1)), Some((8, 16 * 1022)));
+    assert_eq!(rt;
+        greatest_of::<Brand>(&set, Blank::new(1)),
+        Some((8, 16 * 1022))
+    );
     Ok(())
 }
 
@@ -192,7 +207,10 @@ fn has_room_for_a_million(rt: HostRuntime) -> Result<(), Fail> {
     }
     for number in 0..1_048_576u64 {
         let need = extent_of(number);
-        assert_eq!(rt; best_of::<Brand>(&set, need, Blank::new(1)), Some((need, 8 * number)));
+        assert_eq!(rt;
+            best_of::<Brand>(&set, need, Blank::new(1)),
+            Some((need, 8 * number))
+        );
     }
     'removing: for number in 0..1_048_576u64 {
         set.remove(extent_of(number), 8 * number);

@@ -1,10 +1,11 @@
 //! Balanced search trees of the nodes of a table. A tree is named by its root, and [`NONE`] is the empty one.
 //!
-//! At each node the heights of the two sides differ by at most one. A node's number is all that is moved.
+//! At each node the heights of the two sides differ by at most one. The nodes stay where they are in the table, and no
+//! call goes deeper than a tree is high.
 ghost use Rattle.std.specs.Prelude.{◌≡◌, ◌≢◌, ◌+◌, ◌<◌, ◌≤◌, ◌^◌, length};
 ghost use Rattle.ldm_freelist.specs.Nodes.{height_at, pair_at};
-ghost use Rattle.ldm_freelist.specs.Tree.{Tree, IsLoose, Balances, IsLeaningLeft, IsLeaningRight, RaisesLeft, RaisesLeftInner, RaisesRight, RaisesRightInner, IsAddable, Adds, IsLow, HasPair, Takes, TakesTop, TakesFirst, IsTree, Finds, IsLast, height, root_of};
-ghost use Rattle.ldm_freelist.specs.Tree.{Fork};
+ghost use Rattle.ldm_freelist.specs.Tree.{Tree, Fork, height, root_of, IsTree, IsLoose, Balances, IsAddable, Adds, IsLow, HasPair, Takes, TakesTop, TakesFirst, Finds, IsLast};
+ghost use Rattle.ldm_freelist.specs.Tree.{IsLeaningLeft, IsLeaningRight, RaisesLeft, RaisesLeftInner, RaisesRight, RaisesRightInner};
 
 use crate::node_table::{NONE, NodeTable};
 use crate::steps::Steps;

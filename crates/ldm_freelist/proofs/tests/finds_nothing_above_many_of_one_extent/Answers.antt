@@ -1,4 +1,4 @@
-use Rattle.std.proofs.Common.{◌≡◌, ◌≢◌, ℕ, ◌+◌, ◌*◌, sym, ap, ◌∙◌, arith}
+use Rattle.std.proofs.Common.{◌≡◌, ◌≢◌, ℕ, ◌+◌, ◌*◌, ap, ◌∙◌, arith}
 use Rattle.std.specs.FinSet as set
 use Rattle.ldm_freelist.specs.Pairs.{Pairs, pair_cmp}
 use Rattle.ldm_freelist.proofs.Tried.{stays_added, count_added}

@@ -1,4 +1,4 @@
-use Rattle.std.proofs.Common.{◌≡◌, ◌≢◌, ℕ, inl, inr, ◌+◌, ◌*◌, refl, sym, ap, ◌∙◌, arith}
+use Rattle.std.proofs.Common.{ℕ, inl, inr, ◌+◌, ◌*◌, refl, ap, ◌∙◌, arith}
 use Rattle.std.specs.FinSet as set
 use Rattle.std.proofs.lemmas.Bool.{cases_eq}
 use Rattle.ldm_freelist.specs.Pairs.{Pairs, pair_cmp}
@@ -24,10 +24,12 @@ adding-preserved g c =
     record {
       room = c.add.ensures.room ∙ held.room;
       count = ap set.len now ∙ count_added before (numbered n) (held.later (numbered n).0 n (omega arith)) ∙ ap (λ k. k + 1) held.count;
-      later = λ e j h. ap (λ s. set.contains s (e, 8 * j)) now ∙ stays_added before (numbered n) (e, 8 * j) (apart_by_offset e (numbered n) j n refl (omega (arith, h))) ∙ held.later e j (omega (arith, h));
+      later = λ e j h. ap (λ s. set.contains s (e, 8 * j)) now ∙ stays_added before (numbered n) (e, 8 * j) (apart_by_offset e (numbered n) j n refl (omega (arith, h)))
+          ∙ held.later e j (omega (arith, h));
       there = λ j h. elim (cases_eq j n) [
         | inl e ↦ ap (λ k. set.contains c.add.new.self.members (numbered k)) e ∙ ap (λ s. set.contains s (numbered n)) now ∙ is_added before (numbered n)
-        | inr other ↦ ap (λ s. set.contains s (numbered j)) now ∙ stays_added before (numbered n) (numbered j) (apart_by_offset (numbered j).0 (numbered n) j n refl other) ∙ held.there j (omega (arith, h, other))
+        | inr other ↦ ap (λ s. set.contains s (numbered j)) now ∙ stays_added before (numbered n) (numbered j) (apart_by_offset (numbered j).0 (numbered n) j n refl other)
+            ∙ held.there j (omega (arith, h, other))
       ];
     }
 
@@ -36,4 +38,5 @@ removing-preserved g c = λ j low high.
     let n = c.removing.number in
     let before = c.removing.set.members in
     let now = c.remove.ensures.members ∙ ap (λ (e : ℕ). set.remove before (e, 8 * n)) c.extent_of-in-removing.ensures in
-    ap (λ s. set.contains s (numbered j)) now ∙ stays_removed before (numbered n) (numbered j) (apart_by_offset (numbered j).0 (numbered n) j n refl (omega (arith, low))) ∙ c.removing.invariant j (omega (arith, low)) high
+    ap (λ s. set.contains s (numbered j)) now ∙ stays_removed before (numbered n) (numbered j) (apart_by_offset (numbered j).0 (numbered n) j n refl (omega (arith, low)))
+    ∙ c.removing.invariant j (omega (arith, low)) high

@@ -23,7 +23,8 @@ pub balance-requires : goal.balance-requires
 balance-requires t c =
     let sides = c.sides-left in
     let is = c.requires.tree in
-    loose_after_first c.args.table.now c.args.root is.0 is.1 c.requires.some sides.result.0 sides.result.1 sides.ensures.left sides.ensures.right c.take_first-left.new.table c.take_first-left.result c.take_first-left.ensures
+    loose_after_first c.args.table.now c.args.root is.0 is.1 c.requires.some sides.result.0 sides.result.1 sides.ensures.left sides.ensures.right c.take_first-left.new.table
+    c.take_first-left.result c.take_first-left.ensures
 
 pub returns : goal.returns
 returns t c tree low =

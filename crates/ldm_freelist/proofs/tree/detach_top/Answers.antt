@@ -4,7 +4,8 @@ use Rattle.ldm_freelist.proofs.tree.detach_top.Goals as goal
 
 pub returns-then-right-eq-NONE : goal.returns-then-right-eq-NONE
 returns-then-right-eq-NONE c less more low left_is right_is =
-    top_alone c.args.table.now c.args.node less more low c.args.left left_is (empty_at c.args.table.now c.args.right more (right_tree c.args.table.now c.args.node less more low c.args.right right_is) c.if-right-eq-NONE.true)
+    top_alone c.args.table.now c.args.node less more low c.args.left left_is (empty_at c.args.table.now c.args.right more
+    (right_tree c.args.table.now c.args.node less more low c.args.right right_is) c.if-right-eq-NONE.true)
 
 pub take_first-right-requires-clause-tree : goal.take_first-right-requires-clause-tree
 take_first-right-requires-clause-tree c =

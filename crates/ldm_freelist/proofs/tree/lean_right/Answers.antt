@@ -1,5 +1,6 @@
 use Rattle.std.proofs.Common.{arith}
-use Rattle.ldm_freelist.proofs.Lean.{outer_right, inner_right, leaning_right, right_within, right_outer_height, right_inner_height, right_outer_within, right_inner_within, balanced_right, balanced_right_inner}
+use Rattle.ldm_freelist.proofs.Lean.{outer_right, inner_right, leaning_right, right_within, right_outer_height}
+use Rattle.ldm_freelist.proofs.Lean.{right_inner_height, right_outer_within, right_inner_within, balanced_right, balanced_right_inner}
 use Rattle.ldm_freelist.proofs.tree.lean_right.Goals as goal
 
 pub sides-inner-requires : goal.sides-inner-requires

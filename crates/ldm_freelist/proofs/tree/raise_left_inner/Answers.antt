@@ -14,7 +14,8 @@ join-requires c =
     let t = c.requires.0 in
     let sides = c.sides-outer.result in
     let inner = c.sides-inner_left.result in
-    let told : IsReadLeft c.args.table.now c.args.left sides.0 sides.1 inner.0 inner.1 = record { o_is = c.sides-outer.ensures.left; i_is = c.sides-outer.ensures.right; a_is = c.sides-inner_left.ensures.left; b_is = c.sides-inner_left.ensures.right } in
+    let told : IsReadLeft c.args.table.now c.args.left sides.0 sides.1 inner.0 inner.1 = record
+    { o_is = c.sides-outer.ensures.left; i_is = c.sides-outer.ensures.right; a_is = c.sides-inner_left.ensures.left; b_is = c.sides-inner_left.ensures.right } in
     join_first c.args.table.now c.args.node c.args.left c.args.right t.0 t.1 t.2 c.requires.1 c.requires.2 sides.0 sides.1 inner.0 inner.1 told
 
 pub join-requires-2 : goal.join-requires-2
@@ -22,7 +23,8 @@ join-requires-2 c =
     let t = c.requires.0 in
     let sides = c.sides-outer.result in
     let inner = c.sides-inner_left.result in
-    let told : IsReadLeft c.args.table.now c.args.left sides.0 sides.1 inner.0 inner.1 = record { o_is = c.sides-outer.ensures.left; i_is = c.sides-outer.ensures.right; a_is = c.sides-inner_left.ensures.left; b_is = c.sides-inner_left.ensures.right } in
+    let told : IsReadLeft c.args.table.now c.args.left sides.0 sides.1 inner.0 inner.1 = record
+    { o_is = c.sides-outer.ensures.left; i_is = c.sides-outer.ensures.right; a_is = c.sides-inner_left.ensures.left; b_is = c.sides-inner_left.ensures.right } in
     join_second c.args.table.now c.args.node c.args.left c.args.right t.0 t.1 t.2 c.requires.1 c.requires.2 sides.0 sides.1 inner.0 inner.1 told c.join.new.self c.join.ensures
 
 pub join-requires-3 : goal.join-requires-3
@@ -30,8 +32,10 @@ join-requires-3 c =
     let t = c.requires.0 in
     let sides = c.sides-outer.result in
     let inner = c.sides-inner_left.result in
-    let told : IsReadLeft c.args.table.now c.args.left sides.0 sides.1 inner.0 inner.1 = record { o_is = c.sides-outer.ensures.left; i_is = c.sides-outer.ensures.right; a_is = c.sides-inner_left.ensures.left; b_is = c.sides-inner_left.ensures.right } in
-    join_third c.args.table.now c.args.node c.args.left c.args.right t.0 t.1 t.2 c.requires.1 c.requires.2 sides.0 sides.1 inner.0 inner.1 told c.join.new.self c.join-2.new.self c.join.ensures c.join-2.ensures
+    let told : IsReadLeft c.args.table.now c.args.left sides.0 sides.1 inner.0 inner.1 = record
+    { o_is = c.sides-outer.ensures.left; i_is = c.sides-outer.ensures.right; a_is = c.sides-inner_left.ensures.left; b_is = c.sides-inner_left.ensures.right } in
+    join_third c.args.table.now c.args.node c.args.left c.args.right t.0 t.1 t.2 c.requires.1 c.requires.2 sides.0 sides.1 inner.0 inner.1 told c.join.new.self c.join-2.new.self
+    c.join.ensures c.join-2.ensures
 
 pub returns : goal.returns
 returns c outer inner more lean high =

@@ -15,4 +15,5 @@ pub returns-clause-few : goal.returns-clause-few
 returns-clause-few g c = omega (arith, root_low c.self.inside.table c.self.inside.root c.self.inside.free c.self.invariant c.args.self.now c.self.view_is, c.requires, c.first_from.ensures.few)
 
 pub returns-clause-logarithm : goal.returns-clause-logarithm
-returns-clause-logarithm g c = few c.self.inside.table c.self.inside.root c.self.inside.free c.self.invariant c.args.self.now c.self.view_is (c.first_from.new.steps - c.args.steps.now) (omega (arith, c.first_from.ensures.few))
+returns-clause-logarithm g c = few c.self.inside.table c.self.inside.root c.self.inside.free c.self.invariant c.args.self.now c.self.view_is (c.first_from.new.steps - c.args.steps.now)
+    (omega (arith, c.first_from.ensures.few))

@@ -26,4 +26,5 @@ returns c =
     let seen : List Node → Pairs = λ ns. record { room = length ns; members = set.from_list {R = pair_cmp} (pairs_of (tree_at ns NONE)) } in
     ap seen c.in_ok-create.ensures
     ∙ ap (λ (n : ℕ). let s : Pairs = record { room = n; members = set.from_list {R = pair_cmp} (pairs_of (tree_at (free_nodes c.args.room) NONE)) } in s) (length-free_nodes c.args.room)
-    ∙ ap (λ t. let s : Pairs = record { room = c.args.room; members = set.from_list {R = pair_cmp} (pairs_of t) } in s) (tree_at_is (free_nodes c.args.room) NONE Leaf (made_held c.args.room room).tree_is)
+    ∙ ap (λ t. let s : Pairs = record { room = c.args.room; members = set.from_list {R = pair_cmp} (pairs_of t) } in s)
+    (tree_at_is (free_nodes c.args.room) NONE Leaf (made_held c.args.room room).tree_is)

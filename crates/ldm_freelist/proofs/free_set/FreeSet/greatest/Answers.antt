@@ -28,4 +28,5 @@ returns-clause-greatest g c =
 pub returns-clause-logarithm : goal.returns-clause-logarithm
 returns-clause-logarithm g c =
     let one : c.compare-extent.new.steps - c.args.steps.now ≡ 1 = omega (arith, c.compare-extent.ensures.step) in
-    subst (λ n. 2 ^ n ≤ (set.len c.args.self.now.members + 1) ^ 2) (sym one) (one_step c.self.inside.table c.self.inside.root c.self.inside.free c.self.invariant c.args.self.now c.self.view_is c.if-self.false)
+    subst (λ n. 2 ^ n ≤ (set.len c.args.self.now.members + 1) ^ 2) (sym one) (one_step c.self.inside.table c.self.inside.root c.self.inside.free c.self.invariant c.args.self.now
+    c.self.view_is c.if-self.false)

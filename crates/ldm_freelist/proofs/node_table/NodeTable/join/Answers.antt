@@ -11,7 +11,8 @@ pub returns : goal.returns
 unfolding joined put
 returns c =
     let nodes = c.args.self.now in
-    let high : c.max-height.result ≡ max (height_at nodes c.args.left) (height_at nodes c.args.right) = c.max-height.ensures ∙ ap (λ h. max h c.height-2.result) c.height.ensures ∙ ap (max (height_at nodes c.args.left)) c.height-2.ensures in
+    let high : c.max-height.result ≡ max (height_at nodes c.args.left) (height_at nodes c.args.right) = c.max-height.ensures ∙ ap (λ h. max h c.height-2.result) c.height.ensures
+    ∙ ap (max (height_at nodes c.args.left)) c.height-2.ensures in
     ap (λ (ns : List Node). put ns c.args.node c.args.left c.args.right c.node-stored.result c.max-height.result) c.self.view_is
     ∙ ap (λ (n : Node). put nodes c.args.node c.args.left c.args.right n c.max-height.result) c.node-stored.ensures
     ∙ ap (λ h. put nodes c.args.node c.args.left c.args.right (node_at nodes c.args.node) h) high

@@ -1,4 +1,4 @@
-use Rattle.std.proofs.Common.{◌≡◌, ℕ, Bool, false, get_or, sym, ap, ◌∙◌}
+use Rattle.std.proofs.Common.{false, get_or, sym, ap, ◌∙◌}
 use Rattle.std.specs.FinSet as set
 use Rattle.ldm_freelist.specs.Pairs.{Pairs, pair_cmp}
 use Rattle.ldm_freelist.proofs.Tried.{at, none_marked}

@@ -1,7 +1,6 @@
-use Rattle.std.proofs.Common.{◌≡◌, ℕ, true, false, ◌+◌, ◌-◌, ◌<◌, length, slice_set, sym, ap, ◌∙◌, subst, arith}
+use Rattle.std.proofs.Common.{true, false, ◌+◌, ◌-◌, ◌<◌, length, slice_set, sym, ap, ◌∙◌, subst, arith}
 use Rattle.std.specs.FinSet as set
 use Rattle.std.proofs.lemmas.List.{get_or_read}
-use Rattle.ldm_freelist.specs.Pairs.{pair_cmp}
 use Rattle.ldm_freelist.proofs.Tried.{at, Agree, agree_added, agree_removed, count_added, count_removed, told}
 use Rattle.ldm_freelist.proofs.tests.Tried.toggle.Goals as goal
 
