@@ -1,0 +1,4 @@
+pub mod Building
+pub mod Left
+pub mod Meanings
+pub mod Searches

@@ -1,0 +1,12 @@
+pub mod Access
+pub mod ClassFaults
+pub mod ClassView
+pub mod Classes
+pub mod LineView
+pub mod Lines
+pub mod PatternView
+pub mod Patterns
+pub mod PolicyFaults
+pub mod PolicyView
+pub mod Refusals
+pub mod Searches

@@ -1,0 +1,9 @@
+-- The searches of a class.
+use Rattle.std.specs.Prelude.{Option, Some, None, if◌then◌else◌}
+use Rattle.ldm_types.specs.declared.class.Spec.{Spec}
+use Rattle.ldm_class.specs.Classes.{is_resumption, pattern_of}
+use Rattle.ldm_class.specs.declared.search.Search.{Search}
+
+-- what is searched for by a specification, if it has a pattern
+abbrev pub search_of : Spec → Option Search
+search_of spec = if is_resumption spec then None else Some (record { feed = spec.feed; pattern = pattern_of spec })

@@ -1,0 +1,32 @@
+//! What a policy answers.
+
+use ldm_types::ClassSpec;
+
+/// Whether a host may be fed a product, or push it.
+#[derive(Clone, Copy, Debug, PartialEq, Eq)]
+pub enum Verdict {
+    /// It may.
+    Yes {
+        /// The number, from 1, of the first line that passes.
+        rule: u64,
+    },
+    /// It may not.
+    No {
+        /// The number, from 1, of the first line that meets the host and the product, or 0 where none meets.
+        rule: u64,
+    },
+}
+
+/// What is left of a class that a host asks for.
+#[derive(Debug, PartialEq, Eq, Drop)]
+pub enum Reduced {
+    /// All of it, unchanged.
+    Same,
+    /// A part of it.
+    Fewer(ClassSpec),
+    /// Nothing.
+    Nothing {
+        /// The number, from 1, of the first line whose host pattern is found in the host, or 0 where there is none.
+        rule: u64,
+    },
+}

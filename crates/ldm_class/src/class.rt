@@ -1,0 +1,155 @@
+//! Classes that are built.
+ghost use Rattle.std.specs.Prelude.{◌≡◌, ◌≤◌, length, IfOk, IsSome, None, MatchResult};
+ghost use Rattle.std.specs.List.{filter_map};
+ghost use Rattle.std.specs.Option.{option_map};
+ghost use Rattle.ldm_class.specs.Classes.{bad_place, resumed, wants};
+ghost use Rattle.ldm_class.specs.ClassFaults.{IsClassFaultOf, IsBuildFaultOf};
+ghost use Rattle.ldm_class.specs.Patterns.{pattern_meaning};
+ghost use Rattle.ldm_class.specs.Searches.{search_of};
+
+use crate::copy::copy_of;
+use crate::pattern::{Pattern, Refusal};
+use crate::search::{Search, resumption};
+use ldm_types::{ClassSpec, Info, MOST_SPECS, OutOfMemory, Signature, Spec};
+use std::alloc::{AllocError, AllocFailed, Global};
+use std::marker::Model;
+use thiserror::Error;
+
+/// Why a class is not built.
+#[derive(Clone, Copy, Debug, PartialEq, Eq, Error)]
+pub enum ClassFault {
+    /// A pattern is not UTF-8, the grammar of `regex` reads no pattern in it, or it nests too deep.
+    #[error("the pattern of specification {spec} is no pattern")]
+    BadPattern {
+        /// The place of the first such specification, from 0.
+        spec: u32,
+    },
+    /// There is too little memory, or a pattern would take more than `regex` allows one.
+    #[error("no memory")]
+    OutOfMemory,
+}
+
+impl From<AllocError> for ClassFault {
+    ghost use Rattle.std.specs.Prelude.{◌≡◌};
+    ghost use Rattle.ldm_class.specs.declared.class.ClassFault.TheVariants.{OutOfMemory};
+
+    ghost from_gives = { λ _ fault. fault ≡ OutOfMemory };
+
+    fn from(_error: AllocError) -> ClassFault {
+        ClassFault::OutOfMemory
+    }
+}
+
+impl From<AllocFailed<Search>> for ClassFault {
+    ghost use Rattle.std.specs.Prelude.{◌≡◌};
+    ghost use Rattle.ldm_class.specs.declared.class.ClassFault.TheVariants.{OutOfMemory};
+
+    ghost from_gives = { λ _ fault. fault ≡ OutOfMemory };
+
+    fn from(_error: AllocFailed<Search>) -> ClassFault {
+        ClassFault::OutOfMemory
+    }
+}
+
+/// A class whose patterns are built. Contracts see what it was built of.
+#[derive(Drop)]
+pub struct Class {
+    spec: ClassSpec,
+    // The specifications that are patterns, in order.
+    searches: Vec<Search>,
+}
+
+impl Model for Class {
+    ghost use Rattle.ldm_types.specs.declared.class.ClassSpec.{ClassSpec};
+
+    ghost Value = { ClassSpec };
+
+    ghost use Rattle.ldm_class.specs.ClassView.{HasSearches};
+
+    ghost view = { λ class. class.spec };
+
+    ghost invariant = { HasSearches };
+}
+
+impl Class {
+    /// Builds the patterns of a class, each once. A specification of feed NONE with the pattern `SIG=` and 32
+    /// hexadecimal digits names a signature and is not built.
+    ///
+    /// `BadPattern` comes only where a pattern is not UTF-8, the grammar of `regex` reads none in it, or it nests
+    /// deeper than 250. A pattern that is read and would take more than `regex` allows one is `OutOfMemory`.
+    pub fn build(alloc: Global, spec: &ClassSpec) -> Result<Class, ClassFault>
+        ensures { MatchResult result (λ class. (class ≡ spec.now) × (bad_place spec.now.specs.items ≡ None)) (IsClassFaultOf spec.now.specs.items) }
+    {
+        let searches = searches_of(alloc, spec.specs.as_slice())?;
+        Ok(Class {
+            spec: copy_of(spec),
+            searches,
+        })
+    }
+
+    /// What the class was built of.
+    pub fn spec(&self) -> &ClassSpec
+        ensures { result.now ≡ self.now }
+    {
+        &self.spec
+    }
+
+    /// The signature of the product to go on behind: that of the first specification of feed NONE with the pattern
+    /// `SIG=` and 32 hexadecimal digits of either case. `None` exactly where there is no such specification.
+    pub fn resume(&self) -> Option<Signature>
+        ensures { option_map (λ signature. signature.0) result ≡ resumed self.now.specs.items }
+    {
+        for spec in self.spec.specs.as_slice() {
+            if let Some(signature) = resumption(spec) {
+                return Some(signature);
+            }
+        }
+        None
+    }
+
+    /// Whether the class wants a product: the feedtypes of some specification meet the product's, and its pattern is
+    /// found in the ident. When the product was inserted is not asked.
+    pub fn wants(&self, alloc: Global, info: &Info) -> Result<bool, OutOfMemory>
+        ensures { IfOk result (λ wanted. wanted ≡ wants self.now info.now) }
+    {
+        for search in self.searches.as_slice() {
+            if search.feed.meets(info.feed()) && search.pattern.is_in(alloc, info.ident())? {
+                return Ok(true);
+            }
+        }
+        Ok(false)
+    }
+}
+
+// A search for each specification with a pattern, in order.
+fn searches_of(alloc: Global, specs: &[Spec]) -> Result<Vec<Search>, ClassFault>
+    requires { length specs.now ≤ MOST_SPECS }
+    ensures { MatchResult result
+        (λ searches. (searches.items ≡ filter_map search_of specs.now) × (bad_place specs.now ≡ None))
+        (IsClassFaultOf specs.now) }
+{
+    let mut searches = Vec::new(alloc);
+    for (place, spec) in specs.iter().enumerate() {
+        if resumption(spec).is_none() {
+            let pattern = build(alloc, spec.pattern.as_slice(), place as u32)?;
+            searches.push(Search {
+                feed: spec.feed,
+                pattern,
+            })?;
+        }
+    }
+    Ok(searches)
+}
+
+// The pattern of the specification at a place.
+fn build(alloc: Global, pattern: &[u8], place: u32) -> Result<Pattern, ClassFault>
+    ensures { MatchResult result
+        (λ built. (built ≡ pattern.now) × IsSome (pattern_meaning pattern.now))
+        (IsBuildFaultOf pattern.now place) }
+{
+    match Pattern::build(alloc, pattern) {
+        Ok(built) => Ok(built),
+        Err(Refusal::Meaningless) => Err(ClassFault::BadPattern { spec: place }),
+        Err(Refusal::OutOfMemory) => Err(ClassFault::OutOfMemory),
+    }
+}
