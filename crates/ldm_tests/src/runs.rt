@@ -345,11 +345,7 @@ const OTHER_WORDS: [(&[&str], u8, &str); 26] = [
     (&["play", "168", "1a"], 64, "ldm: usage\n"),
     (&["play", "+168", "10"], 64, "ldm: usage\n"),
     // Both are one above the greatest number of the type.
-    (
-        &["play", "18446744073709551616", "10"],
-        64,
-        "ldm: usage\n",
-    ),
+    (&["play", "18446744073709551616", "10"], 64, "ldm: usage\n"),
     (&["play", "168", "4294967296"], 64, "ldm: usage\n"),
     (&["PLAY", "168", "10"], 64, "ldm: usage\n"),
     (&["plays", "168", "10"], 64, "ldm: usage\n"),
