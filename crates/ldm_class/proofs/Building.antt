@@ -1,6 +1,6 @@
 -- One step of building the searches of a class.
-use Rattle.std.proofs.Common.{◌≡◌, ℕ, ◌+◌, ◌<◌, ◌≤◌, true, false, List, [], ◌∷◌, ◌++◌, length, get_or, drop, Option, None, Some, IsSome, is_none, refl, sym, ap, ◌∙◌, append_assoc}
-use Rattle.std.proofs.lemmas.List.{at_drop_all, drop_more}
+use Rattle.std.proofs.Common.{◌≡◌, ℕ, ◌+◌, ◌<◌, true, false, List, [], ◌∷◌, ◌++◌, length, get_or, drop, Option, None, Some, IsSome, is_none, refl, sym, ap, ◌∙◌, append_assoc}
+use Rattle.std.proofs.lemmas.List.{drop_more}
 use Rattle.std.specs.List.{filter_map, position_from}
 use Rattle.ldm_types.specs.declared.class.Spec.{Spec}
 use Rattle.ldm_class.specs.Classes.{bad_place, is_bad, is_resumption, pattern_of}

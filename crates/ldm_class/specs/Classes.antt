@@ -1,5 +1,5 @@
 -- Classes of products: which products a site wants, and behind which product it goes on.
-use Rattle.std.specs.Prelude.{ℕ, Bool, ◌==◌, ◌&&◌, not, List, [], ◌∷◌, drop, Option, Some, None, is_some, is_none, if◌then◌else◌, codes, nat_eq}
+use Rattle.std.specs.Prelude.{ℕ, Bool, ◌==◌, ◌&&◌, not, List, [], ◌∷◌, drop, Option, None, is_some, is_none, if◌then◌else◌, codes, nat_eq}
 use Rattle.std.specs.List.{list_any, starts_with, position_from}
 use Rattle.std.specs.Option.{option_or}
 use Rattle.ldm_types.specs.Feed.{feeds_meet}

@@ -1,6 +1,5 @@
-use Rattle.std.proofs.Common.{◌≡◌, ◌∙◌, IsUtf8}
+use Rattle.std.proofs.Common.{◌∙◌, IsUtf8}
 use Rattle.regex.specs.Bytes.{regex_source}
-use Rattle.ldm_class.specs.Patterns.{byte_config, pattern_meaning}
 use Rattle.ldm_class.proofs.Meanings.{built_is_pattern, nothing_of_other_bytes, nothing_of_refused}
 use Rattle.ldm_class.proofs.pattern.Pattern.build.Goals as goal
 

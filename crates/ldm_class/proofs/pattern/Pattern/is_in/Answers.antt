@@ -1,4 +1,4 @@
-use Rattle.std.proofs.Common.{◌≡◌, ◌∙◌, ap, is_some, arith}
+use Rattle.std.proofs.Common.{◌∙◌, ap, is_some, arith}
 use Rattle.regex.specs.Patterns.{Re, find}
 use Rattle.ldm_class.proofs.Meanings.{finds}
 use Rattle.ldm_class.proofs.pattern.Pattern.is_in.Goals as goal
