@@ -1,0 +1,11 @@
+use Rattle.std.proofs.Common.{◌≡◌, true, false, Bool, List, ℕ, codes, cond, [], Option, Some, None, sym, ap, ◌∙◌}
+use Rattle.std.specs.Prelude.{bytes_eq}
+use Rattle.std.specs.Option.{option_map}
+use Rattle.ldm_script.specs.Texts.{if_text, unspelled}
+use Rattle.ldm_script.proofs.Unspelling.{if_text-unread}
+use Rattle.ldm_script.proofs.texts.read_text.Goals as goal
+
+pub returns-in_err-text-clause-value : goal.returns-in_err-text-clause-value
+returns-in_err-text-clause-value c =
+    let other : bytes_eq c.args.field.now (codes "-") ≡ false = cc in
+    rw c.from_residual.ensures (sym (ap (λ (b : Bool). cond b (Some []) (if_text c.args.most c.args.field.now (unspelled c.args.field.now))) other ∙ if_text-unread c.args.most c.args.field.now (unspelled c.args.field.now) c.in_err-text.ensures))

@@ -1,0 +1,154 @@
+-- The grammar of script lines.
+use Rattle.std.specs.Prelude.{ℕ, ◌+◌, ◌-◌, ◌^◌, ◌==◌, Bool, true, nat_le, nat_lt, List, [], ◌∷◌, length, codes, bytes_eq, unwrap_or, Option, Some, None, option_map, Result, Ok, Err, if◌then◌else◌}
+use Rattle.std.specs.List.{list_any}
+use Rattle.md5.specs.Md5.{md5}
+use Rattle.ldm_types.specs.declared.limits.TheConstants.{GREATEST_INSTANT, LONGEST_ORIGIN, LONGEST_IDENT}
+use Rattle.ldm_types.specs.Info.{Metadata}
+use Rattle.ldm_signature.specs.HexSignature.{hex_signature}
+use Rattle.ldm_feedtype.specs.Reading.{feed_number}
+use Rattle.ldm_model.specs.declared.event.Start.{Start}
+use Rattle.ldm_model.specs.declared.event.Start.TheVariants as start
+use Rattle.ldm_model.specs.declared.event.Event.{Event}
+use Rattle.ldm_model.specs.declared.event.Event.TheVariants as event
+use Rattle.ldm_script.specs.declared.line.TheConstants.{LONGEST_LINE, LONGEST_READ}
+use Rattle.ldm_script.specs.declared.order.Place.{Place}
+use Rattle.ldm_script.specs.declared.order.Place.TheVariants as place
+use Rattle.ldm_script.specs.declared.word.LineWord.{LineWord}
+use Rattle.ldm_script.specs.declared.word.LineWord.TheVariants as word
+use Rattle.ldm_script.specs.declared.word.StartWord.{StartWord}
+use Rattle.ldm_script.specs.declared.word.StartWord.TheVariants as start_word
+use Rattle.ldm_script.specs.Number.{number_up_to, number_below}
+use Rattle.ldm_script.specs.Word.{word_of_text, start_word_of_text}
+use Rattle.ldm_script.specs.Texts.{text_up_to}
+use Rattle.ldm_script.specs.Bodies.{body_of}
+use Rattle.ldm_script.specs.Fields.{◌>>=◌, Left, field, no_more}
+use Rattle.ldm_script.specs.Order.{Order, Asked, Plain, OnCursor}
+
+-- a number of four bytes
+abbrev pub four_bytes : List ℕ → Option ℕ
+four_bytes field = number_up_to (2 ^ 32 - 1) field
+
+abbrev pub instant_of : List ℕ → Option ℕ
+instant_of field = number_up_to GREATEST_INSTANT field
+
+-- a feed expression without blanks
+abbrev pub feed_of : List ℕ → Option ℕ
+feed_of field = if list_any (λ byte. byte == 9) field then None else feed_number field
+
+-- `.` is the cursor that the actor opened last
+abbrev pub place_of : List ℕ → Option Place
+place_of field = if bytes_eq field (codes ".") then Some place.Last else option_map (λ k. place.At k) (number_up_to 63 field)
+
+-- a signature by its digits, or none for `md5`, which is that of the body
+abbrev pub signature_of : List ℕ → Option (Option (List ℕ))
+signature_of field = if bytes_eq field (codes "md5") then Some None else option_map (λ signature. Some signature) (hex_signature field)
+
+-- `NOW SIG FEED SEQNO ORIGIN IDENT BODY`: the arrival is NOW, and the size is the body's
+unfoldable pub read_insert : Left → Result Asked ℕ
+read_insert left = do
+  now ← field instant_of left
+  signature ← field signature_of now.1
+  feed ← field feed_of signature.1
+  seqno ← field four_bytes feed.1
+  origin ← field (text_up_to LONGEST_ORIGIN) seqno.1
+  ident ← field (text_up_to LONGEST_IDENT) origin.1
+  body ← field body_of ident.1
+  end ← no_more body.1
+  Ok (Plain (event.Insert now.0 (record {
+    arrival = now.0;
+    signature = unwrap_or signature.0 (md5 body.0);
+    origin = origin.0;
+    feed = feed.0;
+    seqno = seqno.0;
+    ident = ident.0;
+    size = length body.0;
+  }) body.0))
+
+-- `oldest`, `next`, `after MICROS`, `sig SIG`
+abbrev pub read_start : StartWord → Left → Result (Start × Left) ℕ
+read_start start_word.Oldest left = Ok (start.Oldest, left)
+read_start start_word.Next left = Ok (start.Next, left)
+read_start start_word.After left = do
+  time ← field instant_of left
+  Ok (start.After time.0, time.1)
+read_start start_word.Sig left = do
+  signature ← field hex_signature left
+  Ok (start.AfterSignature (record { 0 = signature.0 }), signature.1)
+
+-- `FEED START`
+unfoldable pub read_open : Left → Result Asked ℕ
+read_open left = do
+  feed ← field feed_of left
+  begins ← field start_word_of_text feed.1
+  from ← read_start begins.0 begins.1
+  end ← no_more from.1
+  Ok (Plain (event.OpenCursor (record { 0 = feed.0 }) from.0))
+
+-- `K`
+unfoldable pub read_on_cursor : (ℕ → Event) → Left → Result Asked ℕ
+read_on_cursor act left = do
+  k ← field place_of left
+  end ← no_more k.1
+  Ok (OnCursor k.0 act)
+
+-- `K OFFSET LEN`
+unfoldable pub read_read : Left → Result Asked ℕ
+read_read left = do
+  k ← field place_of left
+  offset ← field four_bytes k.1
+  len ← field (number_up_to LONGEST_READ) offset.1
+  end ← no_more len.1
+  Ok (OnCursor k.0 (λ place. event.Read place offset.0 len.0))
+
+-- `SIG`
+unfoldable pub read_look : Left → Result Asked ℕ
+read_look left = do
+  signature ← field hex_signature left
+  end ← no_more signature.1
+  Ok (Plain (event.Look (record { 0 = signature.0 })))
+
+-- nothing
+abbrev pub read_alone : Event → Left → Result Asked ℕ
+read_alone alone left = do
+  end ← no_more left
+  Ok (Plain alone)
+
+-- what stands behind the word
+abbrev pub read_act : LineWord → Left → Result Asked ℕ
+read_act word.Insert left = read_insert left
+read_act word.Open left = read_open left
+read_act word.Step left = read_on_cursor (λ k. event.Step k) left
+read_act word.Read left = read_read left
+read_act word.Release left = read_on_cursor (λ k. event.Release k) left
+read_act word.Close left = read_on_cursor (λ k. event.Close k) left
+read_act word.Look left = read_look left
+read_act word.Expire left = read_alone event.Expire left
+read_act word.Tally left = read_on_cursor (λ k. event.Tally k) left
+read_act word.Stat left = read_alone event.Stat left
+
+-- `ACTOR WORD ..`, the actor a number below that of actors
+unfoldable pub read_order : ℕ → Left → Result Order ℕ
+read_order actors left = do
+  actor ← field (number_below actors) left
+  w ← field word_of_text actor.1
+  asked ← read_act w.0 w.1
+  Ok (record { actor = actor.0; asked = asked })
+
+-- an empty line, or one that begins with `#`
+abbrev pub is_comment : List ℕ → Bool
+is_comment [] = true
+is_comment (byte ∷ bytes) = byte == 35
+
+-- the column, from 1, of a place in a line of that length, by the bytes from there to the end
+abbrev pub column_of : ℕ → ℕ → ℕ
+column_of len left = len + 1 - left
+
+abbrev pub at_column : ℕ → Result Order ℕ → Result (Option Order) ℕ
+at_column len (Ok order) = Ok (Some order)
+at_column len (Err left) = Err (column_of len left)
+
+-- What a line is, without its newline: skipped; an order; or not in the grammar, and the column of its first fault.
+unfoldable pub read_line : ℕ → List ℕ → Result (Option Order) ℕ
+read_line actors line =
+    if nat_lt LONGEST_LINE (length line) then Err (LONGEST_LINE + 1)
+    else (if is_comment line then Ok None else at_column (length line) (read_order actors (Some line)))

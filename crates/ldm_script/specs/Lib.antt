@@ -1,0 +1,16 @@
+pub mod Number
+pub mod Word
+pub mod Texts
+pub mod TextReads
+pub mod Bodies
+pub mod Split
+pub mod Fields
+pub mod FieldsView
+pub mod FieldReads
+pub mod Order
+pub mod Grammar
+pub mod Answer
+pub mod AnswerView
+pub mod OrderView
+pub mod Spelling
+pub mod Resolve

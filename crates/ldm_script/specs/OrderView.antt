@@ -1,0 +1,42 @@
+-- Orders that were read, as contracts see them.
+use Rattle.std.specs.Prelude.{◌≡◌, ℕ, ◌≤◌, List, [], length, replicate, unwrap_or, Option, Some, None, IsSome}
+use Rattle.ldm_model.specs.declared.event.Event.TheVariants as event
+use Rattle.ldm_script.specs.declared.body.Body.{Body}
+use Rattle.ldm_script.specs.declared.body.Body.TheVariants.{Hex, Fill}
+use Rattle.ldm_script.specs.declared.body.TheConstants.{LONGEST_BODY}
+use Rattle.ldm_script.specs.declared.line.TheConstants.{LONGEST_LINE}
+use Rattle.ldm_script.specs.declared.order.Act.{Act}
+use Rattle.ldm_script.specs.declared.order.Act.TheVariants as act
+use Rattle.ldm_script.specs.declared.order.Order.{Order as ReadOrder}
+use Rattle.ldm_script.specs.Bodies.{digits_of}
+use Rattle.ldm_script.specs.Order.{Order, Asked, Plain, OnCursor}
+
+-- the bytes of a body
+abbrev pub bytes_of : Body → List ℕ
+bytes_of (Hex digits) = unwrap_or (digits_of digits.now) []
+bytes_of (Fill count byte) = replicate count byte
+
+-- A body that a line can spell: an even number of digits, no more than a line has bytes; or at most so many bytes.
+abbrev pub IsBody : Body → Type 0
+IsBody (Hex digits) = IsSome (digits_of digits.now) × (length digits.now ≤ LONGEST_LINE)
+IsBody (Fill count byte) = count ≤ LONGEST_BODY
+
+abbrev pub asked_of : Act → Asked
+asked_of (act.Insert now info body) = Plain (event.Insert now info (bytes_of body))
+asked_of (act.OpenCursor feed start) = Plain (event.OpenCursor feed start)
+asked_of (act.Step k) = OnCursor k (λ place. event.Step place)
+asked_of (act.Read k offset len) = OnCursor k (λ place. event.Read place offset len)
+asked_of (act.Release k) = OnCursor k (λ place. event.Release place)
+asked_of (act.Close k) = OnCursor k (λ place. event.Close place)
+asked_of (act.Look signature) = Plain (event.Look signature)
+asked_of act.Expire = Plain event.Expire
+asked_of (act.Tally k) = OnCursor k (λ place. event.Tally place)
+asked_of act.Stat = Plain event.Stat
+
+abbrev pub order_of : ReadOrder → Order
+order_of order = record { actor = order.actor; asked = asked_of order.act }
+
+-- what an order carries can be inserted as it says: its body was read, and has the size that the metadata tell
+abbrev pub IsWhole : Act → Type 0
+IsWhole (act.Insert now info body) = IsBody body × (length (bytes_of body) ≡ info.size) × (info.size ≤ LONGEST_BODY)
+IsWhole _ = Unit {0}

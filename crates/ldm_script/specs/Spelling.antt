@@ -1,0 +1,43 @@
+-- The canonical spelling of an order.
+use Rattle.std.specs.Prelude.{ℕ, List, ◌∷◌, ◌++◌, codes, decimal}
+use Rattle.hex.specs.Hex.{encode_lower}
+use Rattle.ldm_feedtype.specs.Text.{feed_digits}
+use Rattle.ldm_model.specs.declared.event.Start.{Start}
+use Rattle.ldm_model.specs.declared.event.Start.TheVariants as start
+use Rattle.ldm_script.specs.declared.order.Place.{Place}
+use Rattle.ldm_script.specs.declared.order.Place.TheVariants as place
+use Rattle.ldm_script.specs.declared.order.Act.{Act}
+use Rattle.ldm_script.specs.declared.order.Act.TheVariants as act
+use Rattle.ldm_script.specs.declared.order.Order.{Order as ReadOrder}
+use Rattle.ldm_script.specs.Answer.{blank_field, blank_number}
+use Rattle.ldm_script.specs.Texts.{spelled}
+use Rattle.ldm_script.specs.Bodies.{body_text}
+use Rattle.ldm_script.specs.OrderView.{bytes_of}
+
+abbrev pub place_text : Place → List ℕ
+place_text (place.At k) = decimal k
+place_text place.Last = codes "."
+
+abbrev pub start_text : Start → List ℕ
+start_text start.Oldest = codes "oldest"
+start_text start.Next = codes "next"
+start_text (start.After time) = codes "after" ++ blank_number time
+start_text (start.AfterSignature signature) = codes "sig" ++ blank_field (encode_lower signature.0)
+
+abbrev pub act_text : Act → List ℕ
+act_text (act.Insert now info body) =
+    codes "insert" ++ blank_number now ++ blank_field (encode_lower info.signature) ++ blank_field (feed_digits info.feed) ++ blank_number info.seqno
+    ++ blank_field (spelled info.origin) ++ blank_field (spelled info.ident) ++ blank_field (body_text (bytes_of body))
+act_text (act.OpenCursor feed start) = codes "open" ++ blank_field (feed_digits feed.0) ++ blank_field (start_text start)
+act_text (act.Step k) = codes "step" ++ blank_field (place_text k)
+act_text (act.Read k offset len) = codes "read" ++ blank_field (place_text k) ++ blank_number offset ++ blank_number len
+act_text (act.Release k) = codes "release" ++ blank_field (place_text k)
+act_text (act.Close k) = codes "close" ++ blank_field (place_text k)
+act_text (act.Look signature) = codes "look" ++ blank_field (encode_lower signature.0)
+act_text act.Expire = codes "expire"
+act_text (act.Tally k) = codes "tally" ++ blank_field (place_text k)
+act_text act.Stat = codes "stat"
+
+-- the line of an order: lower-case digits, the body as digits, and the cursor as in the order
+unfoldable pub spelling : ReadOrder → List ℕ
+spelling order = decimal order.actor ++ blank_field (act_text order.act)

@@ -1,0 +1,280 @@
+//! Answers of the queue, as lines.
+ghost use Rattle.std.specs.Prelude.{◌≡◌, ◌+◌, ◌*◌, ◌≤◌, ◌++◌, length, []};
+ghost use Rattle.arrayvec.specs.ArrayVec.{array_vec_len};
+ghost use Rattle.ldm_model.specs.declared.event.Reply.TheVariants as reply;
+ghost use Rattle.ldm_script.specs.Answer.{blank_field, blank_number, info_text, reply_text};
+ghost use Rattle.ldm_script.specs.AnswerView.{reply_of, FitsAnswer};
+ghost use Rattle.ldm_script.specs.Bodies.{body_text};
+ghost use Rattle.ldm_script.specs.Texts.{spelled};
+ghost use Rattle.ldm_script.specs.declared.line.TheConstants.{LONGEST_READ};
+
+use crate::line::LONGEST_READ;
+use crate::texts::{put, put_number, spell};
+use arrayvec::ArrayVec;
+use ldm_feedtype::feed_text;
+use ldm_signature::write_hex;
+use ldm_types::{CursorNo, Info, Micros};
+
+/// The most bytes of an answer, without its newline.
+pub const LONGEST_ANSWER: usize = 16_384;
+
+/// A line that is written: an answer, or a part of one.
+pub type Text = ArrayVec<u8, LONGEST_ANSWER>;
+
+/// What the queue answered. Numbers of products count admitted products from 0.
+#[derive(Drop)]
+pub enum Answer<'a> {
+    /// `admitted N TIME EVICTED`
+    Admitted {
+        n: u64,
+        time: Micros,
+        evicted: u64,
+    },
+    /// `toobig NEED ARENA`, both in bytes
+    TooBig {
+        need: u64,
+        arena: u64,
+    },
+    /// `duplicate N`
+    Duplicate {
+        n: u64,
+    },
+    /// `timeend`
+    TimeEnd,
+    /// `locked HELD`
+    Locked {
+        held: u64,
+    },
+    /// `opened K`
+    Opened {
+        k: CursorNo,
+    },
+    /// `allbusy`
+    AllBusy,
+    /// `notqueued`
+    NotQueued,
+    /// `product N TIME ARRIVAL SIG FEED SEQNO ORIGIN IDENT SIZE`
+    Product {
+        n: u64,
+        time: Micros,
+        info: Info,
+    },
+    /// `gap COUNT FIRST LAST`
+    Gap {
+        count: u64,
+        first: u64,
+        last: u64,
+    },
+    /// `end AT`
+    End {
+        at: u64,
+    },
+    /// `nocursor`
+    NoCursor,
+    /// `holding N`
+    Holding {
+        n: u64,
+    },
+    /// `bytes BODY`: digits, or `-` for none
+    Bytes {
+        bytes: &'a [u8],
+    },
+    /// `notheld`
+    NotHeld,
+    /// `badoffset SIZE`
+    BadOffset {
+        size: u32,
+    },
+    /// `released N`
+    Released {
+        n: u64,
+    },
+    /// `closed`
+    Closed,
+    /// `queued N TIME`
+    Queued {
+        n: u64,
+        time: Micros,
+    },
+    /// `absent`
+    Absent,
+    /// `expired N`
+    Expired {
+        n: u64,
+    },
+    /// `nothing`
+    Nothing,
+    /// `tally GIVEN LOST LEFT`
+    Tally {
+        given: u64,
+        lost: u64,
+        left: u64,
+    },
+    /// `stat ADMITTED QUEUED HELD USED LARGEST`, the last two in bytes
+    Stat {
+        admitted: u64,
+        queued: u64,
+        held: u64,
+        used: u64,
+        largest_free: u64,
+    },
+}
+
+/// Writes an answer over what the buffer had: one line, without its newline.
+#[tactic(auto, unfolding(crate::specs::Answer::reply_text))]
+pub fn write_reply(answer: &Answer, out: &mut Text)
+    requires { FitsAnswer answer.now }
+    ensures { out.new.items ≡ reply_text (reply_of answer.now) }
+{
+    out.clear();
+    match answer {
+        Answer::Admitted { n, time, evicted } => put_three(
+            out,
+            b"admitted",
+            *n,
+            time.get(),
+            *evicted,
+        ),
+        Answer::TooBig { need, arena } => put_two(out, b"toobig", *need, *arena),
+        Answer::Duplicate { n } => put_one(out, b"duplicate", *n),
+        Answer::TimeEnd => put(out, b"timeend"),
+        Answer::Locked { held } => put_one(out, b"locked", *held),
+        Answer::Opened { k } => put_one(out, b"opened", u64::from(k.get())),
+        Answer::AllBusy => put(out, b"allbusy"),
+        Answer::NotQueued => put(out, b"notqueued"),
+        Answer::Product { n, time, info } => put_product(out, *n, *time, info),
+        Answer::Gap { count, first, last } => put_three(out, b"gap", *count, *first, *last),
+        Answer::End { at } => put_one(out, b"end", *at),
+        Answer::NoCursor => put(out, b"nocursor"),
+        Answer::Holding { n } => put_one(out, b"holding", *n),
+        Answer::Bytes { bytes } => put_read(out, bytes),
+        Answer::NotHeld => put(out, b"notheld"),
+        Answer::BadOffset { size } => put_one(out, b"badoffset", u64::from(*size)),
+        Answer::Released { n } => put_one(out, b"released", *n),
+        Answer::Closed => put(out, b"closed"),
+        Answer::Queued { n, time } => put_two(out, b"queued", *n, time.get()),
+        Answer::Absent => put(out, b"absent"),
+        Answer::Expired { n } => put_one(out, b"expired", *n),
+        Answer::Nothing => put(out, b"nothing"),
+        Answer::Tally { given, lost, left } => put_three(out, b"tally", *given, *lost, *left),
+        Answer::Stat {
+            admitted,
+            queued,
+            held,
+            used,
+            largest_free,
+        } => {
+            put_three(out, b"stat", *admitted, *queued, *held);
+            put_blank_number(out, *used);
+            put_blank_number(out, *largest_free);
+        }
+    }
+}
+
+// Each of these appends to what is written already: a word with its numbers, a blank in front of each.
+
+fn put_one(out: &mut Text, word: &[u8], a: u64)
+    requires { array_vec_len out.old + length word.now + 100 ≤ LONGEST_ANSWER }
+    ensures text { out.new.items ≡ out.old.items ++ (word.now ++ blank_number a) }
+    ensures len { array_vec_len out.new ≤ array_vec_len out.old + length word.now + 21 }
+{
+    put(out, word);
+    put_blank_number(out, a);
+}
+
+fn put_two(out: &mut Text, word: &[u8], a: u64, b: u64)
+    requires { array_vec_len out.old + length word.now + 100 ≤ LONGEST_ANSWER }
+    ensures text { out.new.items ≡ out.old.items ++ (word.now ++ blank_number a ++ blank_number b) }
+    ensures len { array_vec_len out.new ≤ array_vec_len out.old + length word.now + 42 }
+{
+    put_one(out, word, a);
+    put_blank_number(out, b);
+}
+
+fn put_three(out: &mut Text, word: &[u8], a: u64, b: u64, c: u64)
+    requires { array_vec_len out.old + length word.now + 100 ≤ LONGEST_ANSWER }
+    ensures text { out.new.items ≡ out.old.items ++ (word.now ++ blank_number a ++ blank_number b ++ blank_number c) }
+    ensures len { array_vec_len out.new ≤ array_vec_len out.old + length word.now + 63 }
+{
+    put_two(out, word, a, b);
+    put_blank_number(out, c);
+}
+
+#[tactic(auto, unfolding(crate::specs::Answer::reply_text))]
+fn put_product(out: &mut Text, n: u64, time: Micros, info: &Info)
+    requires { out.old.items ≡ [] }
+    ensures { out.new.items ≡ reply_text (reply.Product n time info.now) }
+{
+    put_two(out, b"product", n, time.get());
+    put_info(out, info);
+}
+
+fn put_info(out: &mut Text, info: &Info)
+    requires { array_vec_len out.old ≤ 100 }
+    ensures { out.new.items ≡ out.old.items ++ info_text info.now }
+{
+    put_blank_number(out, info.arrival().get());
+    put_blank(out, write_hex(&info.signature()).as_slice());
+    put_blank(out, feed_text(info.feed()).as_slice());
+    put_blank_number(out, u64::from(info.seqno()));
+    put_blank_text(out, info.origin());
+    put_blank_text(out, info.ident());
+    put_blank_number(out, u64::from(info.size()));
+}
+
+// The bytes that were read, as digits, or `-` for none.
+#[tactic(auto, unfolding(crate::specs::Answer::reply_text))]
+fn put_read(out: &mut Text, bytes: &[u8])
+    requires empty { out.old.items ≡ [] }
+    requires few { length bytes.now ≤ LONGEST_READ }
+    ensures { out.new.items ≡ reply_text (reply.Bytes bytes.now) }
+{
+    put(out, b"bytes");
+    if bytes.is_empty() {
+        put_blank(out, b"-");
+        return;
+    }
+    let mut digits = [0; 2 * LONGEST_READ as usize];
+    let digits = &mut digits[..2 * bytes.len()];
+    if hex::encode_to_slice(bytes, digits).is_err() {
+        unreachable!();
+    }
+    put_blank(out, digits);
+}
+
+fn put_blank(out: &mut Text, field: &[u8])
+    requires { array_vec_len out.old + length field.now + 1 ≤ LONGEST_ANSWER }
+    ensures text { out.new.items ≡ out.old.items ++ blank_field field.now }
+    ensures len { array_vec_len out.new ≡ array_vec_len out.old + length field.now + 1 }
+{
+    out.push(b' ');
+    put(out, field);
+}
+
+fn put_blank_text(out: &mut Text, text: &[u8])
+    requires { array_vec_len out.old + 3 * length text.now + 2 ≤ LONGEST_ANSWER }
+    ensures text { out.new.items ≡ out.old.items ++ blank_field (spelled text.now) }
+    ensures len { array_vec_len out.new ≤ array_vec_len out.old + 3 * length text.now + 2 }
+{
+    out.push(b' ');
+    spell(text, out);
+}
+
+fn put_blank_number(out: &mut Text, n: u64)
+    requires { array_vec_len out.old + 21 ≤ LONGEST_ANSWER }
+    ensures text { out.new.items ≡ out.old.items ++ blank_number n }
+    ensures len { array_vec_len out.new ≤ array_vec_len out.old + 21 }
+{
+    out.push(b' ');
+    put_number(out, n);
+}
+
+/// Appends the spelling of a text: bytes from 0x21 to 0x7E for themselves, and `%` with two upper-case hexadecimal
+/// digits for each other one and for `%`; `-` for the empty text, and `%2D` for the text `-`.
+pub fn text_into(text: &[u8], out: &mut Text)
+    requires { array_vec_len out.old + 3 * length text.now + 1 ≤ LONGEST_ANSWER }
+    ensures text { out.new.items ≡ out.old.items ++ spelled text.now }
+    ensures len { array_vec_len out.new ≤ array_vec_len out.old + 3 * length text.now + 1 }
+{
+    spell(text, out);
+}

@@ -1,0 +1,67 @@
+//! What script lines ask for.
+
+use crate::body::Body;
+use ldm_model::Start;
+use ldm_types::{Actor, CursorNo, Feed, Info, Micros, Signature};
+
+/// A cursor, as a line names it.
+#[derive(Clone, Copy, Debug, PartialEq, Eq)]
+pub enum Place {
+    /// The cursor of that place.
+    At(CursorNo),
+    /// The place that the actor was last answered `opened`.
+    Last,
+}
+
+/// What a line asks the queue for, and who asks. It borrows the line.
+#[derive(Drop)]
+pub struct Order<'a> {
+    pub actor: Actor,
+    pub act: Act<'a>,
+}
+
+/// What a line asks for: the events of the queue.
+#[derive(Drop)]
+pub enum Act<'a> {
+    /// `insert NOW SIG FEED SEQNO ORIGIN IDENT BODY`: the arrival is NOW, and the size is the body's.
+    Insert {
+        now: Micros,
+        info: Info,
+        body: Body<'a>,
+    },
+    /// `open FEED oldest`, `open FEED next`, `open FEED after MICROS`, `open FEED sig SIG`
+    OpenCursor {
+        feed: Feed,
+        start: Start,
+    },
+    /// `step K`
+    Step {
+        k: Place,
+    },
+    /// `read K OFFSET LEN`
+    Read {
+        k: Place,
+        offset: u32,
+        len: u32,
+    },
+    /// `release K`
+    Release {
+        k: Place,
+    },
+    /// `close K`
+    Close {
+        k: Place,
+    },
+    /// `look SIG`
+    Look {
+        signature: Signature,
+    },
+    /// `expire`
+    Expire,
+    /// `tally K`
+    Tally {
+        k: Place,
+    },
+    /// `stat`
+    Stat,
+}
