@@ -1,5 +1,5 @@
 -- What is written for a reply: one line, without its newline.
-use Rattle.std.specs.Prelude.{ℕ, List, [], ◌∷◌, ◌++◌, codes, decimal}
+use Rattle.std.specs.Prelude.{ℕ, List, ◌∷◌, ◌++◌, codes, decimal}
 use Rattle.hex.specs.Hex.{encode_lower}
 use Rattle.ldm_types.specs.Info.{Metadata}
 use Rattle.ldm_feedtype.specs.Text.{feed_digits}

@@ -1,9 +1,8 @@
 -- The grammar of script lines.
-use Rattle.std.specs.Prelude.{ℕ, ◌+◌, ◌-◌, ◌^◌, ◌==◌, Bool, true, nat_le, nat_lt, List, [], ◌∷◌, length, codes, bytes_eq, unwrap_or, Option, Some, None, option_map, Result, Ok, Err, if◌then◌else◌}
+use Rattle.std.specs.Prelude.{ℕ, ◌+◌, ◌-◌, ◌^◌, ◌==◌, Bool, true, nat_lt, List, [], ◌∷◌, length, codes, bytes_eq, unwrap_or, Option, Some, None, option_map, Result, Ok, Err, if◌then◌else◌}
 use Rattle.std.specs.List.{list_any}
 use Rattle.md5.specs.Md5.{md5}
 use Rattle.ldm_types.specs.declared.limits.TheConstants.{GREATEST_INSTANT, LONGEST_ORIGIN, LONGEST_IDENT}
-use Rattle.ldm_types.specs.Info.{Metadata}
 use Rattle.ldm_signature.specs.HexSignature.{hex_signature}
 use Rattle.ldm_feedtype.specs.Reading.{feed_number}
 use Rattle.ldm_model.specs.declared.event.Start.{Start}

@@ -1,5 +1,5 @@
 -- Orders that were read, as contracts see them.
-use Rattle.std.specs.Prelude.{◌≡◌, ℕ, ◌≤◌, List, [], length, replicate, unwrap_or, Option, Some, None, IsSome}
+use Rattle.std.specs.Prelude.{◌≡◌, ℕ, ◌≤◌, List, [], length, replicate, unwrap_or, IsSome}
 use Rattle.ldm_model.specs.declared.event.Event.TheVariants as event
 use Rattle.ldm_script.specs.declared.body.Body.{Body}
 use Rattle.ldm_script.specs.declared.body.Body.TheVariants.{Hex, Fill}

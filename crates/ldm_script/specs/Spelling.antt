@@ -1,5 +1,5 @@
 -- The canonical spelling of an order.
-use Rattle.std.specs.Prelude.{ℕ, List, ◌∷◌, ◌++◌, codes, decimal}
+use Rattle.std.specs.Prelude.{ℕ, List, ◌++◌, codes, decimal}
 use Rattle.hex.specs.Hex.{encode_lower}
 use Rattle.ldm_feedtype.specs.Text.{feed_digits}
 use Rattle.ldm_model.specs.declared.event.Start.{Start}

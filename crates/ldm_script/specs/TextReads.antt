@@ -1,5 +1,5 @@
 -- What calls say that read and write texts.
-use Rattle.std.specs.Prelude.{◌≡◌, ℕ, ◌+◌, ◌<◌, ◌≤◌, List, [], ◌∷◌, length, drop, Option, Some, None, MatchOption}
+use Rattle.std.specs.Prelude.{◌≡◌, ℕ, ◌<◌, ◌≤◌, List, [], ◌∷◌, length, drop, Option, Some, None, MatchOption}
 use Rattle.ldm_script.specs.Texts.{with_byte, unspelled}
 
 -- the bytes that a field stands for were found; or there are none, or more than so many

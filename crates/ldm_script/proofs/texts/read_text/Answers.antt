@@ -1,6 +1,5 @@
-use Rattle.std.proofs.Common.{◌≡◌, true, false, Bool, List, ℕ, codes, cond, [], Option, Some, None, sym, ap, ◌∙◌}
+use Rattle.std.proofs.Common.{◌≡◌, false, Bool, codes, cond, [], Some, sym, ap, ◌∙◌}
 use Rattle.std.specs.Prelude.{bytes_eq}
-use Rattle.std.specs.Option.{option_map}
 use Rattle.ldm_script.specs.Texts.{if_text, unspelled}
 use Rattle.ldm_script.proofs.Unspelling.{if_text-unread}
 use Rattle.ldm_script.proofs.texts.read_text.Goals as goal
