@@ -45,7 +45,8 @@ by_parts (byte ∷ bytes) some other = ap (λ (b : Bool). cond b (Some []) (body
 pub digits_body : (field front : List ℕ) → (length field ≡ 0 → ⊥) → bytes_eq field (codes "-") ≡ false → Cuts 42 field front None → body_of field ≡ digits_of field
 digits_body field front some other cuts = by_parts field some other ∙ ap body_of_parts (parts-none 42 field front cuts)
 
-pub fill_body : (field front byte : List ℕ) (behind : Bor (List ℕ)) (others : Option (Bor (List ℕ))) → (length field ≡ 0 → ⊥) → bytes_eq field (codes "-") ≡ false → Cuts 42 field front (Some behind) → Cuts 42 behind.now byte others → is_some others ≡ false
+pub fill_body : (field front byte : List ℕ) (behind : Bor (List ℕ)) (others : Option (Bor (List ℕ))) → (length field ≡ 0 → ⊥) → bytes_eq field (codes "-") ≡ false
+    → Cuts 42 field front (Some behind) → Cuts 42 behind.now byte others → is_some others ≡ false
     → body_of field ≡ filled (number_up_to LONGEST_BODY front) (result_ok (decode_sized byte 1))
 fill_body field front byte behind None some other cuts last none =
     by_parts field some other
@@ -57,7 +58,8 @@ three : (count byte : List ℕ) (more : List (List ℕ)) → (length more ≡ 0 
 three count byte [] some = absurd (some refl)
 three count byte (part ∷ parts) some = refl
 
-pub no_body : (field front byte : List ℕ) (behind : Bor (List ℕ)) (others : Option (Bor (List ℕ))) → (length field ≡ 0 → ⊥) → bytes_eq field (codes "-") ≡ false → Cuts 42 field front (Some behind) → Cuts 42 behind.now byte others → is_some others ≡ true → body_of field ≡ None
+pub no_body : (field front byte : List ℕ) (behind : Bor (List ℕ)) (others : Option (Bor (List ℕ))) → (length field ≡ 0 → ⊥) → bytes_eq field (codes "-") ≡ false
+    → Cuts 42 field front (Some behind) → Cuts 42 behind.now byte others → is_some others ≡ true → body_of field ≡ None
 no_body field front byte behind None some other cuts last more = cc more
 no_body field front byte behind (Some rest) some other cuts last more =
     by_parts field some other

@@ -24,13 +24,15 @@ found_none test xs free (Some i) is =
     let at = position-Some test xs i 0 is in
     absurd (false≢true (sym (free_at test xs i free at.0) ∙ at.1))
 
-pub texts_fit : (origin ident : List ℕ) → length origin ≤ 64 → length ident ≤ 255 → list_any (λ byte. eqb byte 0) origin ≡ false → list_any (λ byte. eqb byte 0) ident ≡ false → texts_fault origin ident ≡ None
+pub texts_fit : (origin ident : List ℕ) → length origin ≤ 64 → length ident ≤ 255 → list_any (λ byte. eqb byte 0) origin ≡ false
+    → list_any (λ byte. eqb byte 0) ident ≡ false → texts_fault origin ident ≡ None
 texts_fit origin ident origin_short ident_short in_origin in_ident =
     let a : ltb 64 (length origin) ≡ false = le-ltb _ _ origin_short in
     let b : ltb 255 (length ident) ≡ false = le-ltb _ _ ident_short in
     let c = found_none (λ byte. eqb byte 0) (origin ++ ident) (free_both (λ byte. eqb byte 0) origin ident in_origin in_ident) (position (λ byte. eqb byte 0) (origin ++ ident)) refl in
     rw (a, b, c) refl
 
-pub no_fault : (origin ident : List ℕ) (fault : InfoFault) → texts_fault origin ident ≡ Some fault → length origin ≤ 64 → length ident ≤ 255 → list_any (λ byte. eqb byte 0) origin ≡ false → list_any (λ byte. eqb byte 0) ident ≡ false → ⊥
+pub no_fault : (origin ident : List ℕ) (fault : InfoFault) → texts_fault origin ident ≡ Some fault → length origin ≤ 64 → length ident ≤ 255
+    → list_any (λ byte. eqb byte 0) origin ≡ false → list_any (λ byte. eqb byte 0) ident ≡ false → ⊥
 no_fault origin ident fault faulty origin_short ident_short in_origin in_ident =
     let fits = texts_fit origin ident origin_short ident_short in_origin in_ident in absurd cc

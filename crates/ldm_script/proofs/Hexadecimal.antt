@@ -160,11 +160,13 @@ first_some : (done : List ℕ) (p q o : Option (List ℕ)) → joined (Some done
 first_some done None q o e some = cc (sym e, some)
 first_some done (Some x) q o e some = refl
 
-pub piece_some : (d done : List ℕ) (at end : ℕ) → at ≤ end → end ≤ length d → (end - at) % 2 ≡ 0 → joined (Some done) (digits_of (drop at d)) ≡ digits_of d → IsSome (digits_of d) → IsSome (digits_of (take (end - at) (drop at d)))
+pub piece_some : (d done : List ℕ) (at end : ℕ) → at ≤ end → end ≤ length d → (end - at) % 2 ≡ 0 → joined (Some done) (digits_of (drop at d)) ≡ digits_of d
+    → IsSome (digits_of d) → IsSome (digits_of (take (end - at) (drop at d)))
 piece_some d done at end le within even so_far some =
     first_some done (digits_of (take (end - at) (drop at d))) (digits_of (drop end d)) (digits_of d) (ap (joined (Some done)) (sym (piece_digits d at end le within even)) ∙ so_far) some
 
-pub one_piece : (d done x : List ℕ) (at end : ℕ) → at ≤ end → end ≤ length d → (end - at) % 2 ≡ 0 → Some x ≡ digits_of (take (end - at) (drop at d)) → joined (Some done) (digits_of (drop at d)) ≡ digits_of d
+pub one_piece : (d done x : List ℕ) (at end : ℕ) → at ≤ end → end ≤ length d → (end - at) % 2 ≡ 0 → Some x ≡ digits_of (take (end - at) (drop at d))
+    → joined (Some done) (digits_of (drop at d)) ≡ digits_of d
     → joined (Some (done ++ x)) (digits_of (drop end d)) ≡ digits_of d
 one_piece d done x at end le within even is so_far =
     sym (joined-assoc (Some done) (Some x) (digits_of (drop end d)))

@@ -24,7 +24,8 @@ pub one_digit : (n byte : ℕ) (bytes : List ℕ) → is_digit byte ≡ true →
 one_digit n byte bytes h = ap (λ (b : Bool). cond b (digits_from (10 * n + (byte - 48)) bytes) None) h
 
 -- a digit that makes the number too large
-pub too_large_at : (most number : ℕ) (text : List ℕ) (i : ℕ) → i < length text → digits_from number (drop i text) ≡ digits_from 0 text → is_digit (get_or text i 0) ≡ true → most < 10 * number + (get_or text i 0 - 48) → up_to most (digits_from 0 text) ≡ None
+pub too_large_at : (most number : ℕ) (text : List ℕ) (i : ℕ) → i < length text → digits_from number (drop i text) ≡ digits_from 0 text → is_digit (get_or text i 0) ≡ true
+    → most < 10 * number + (get_or text i 0 - 48) → up_to most (digits_from 0 text) ≡ None
 too_large_at most number text i within so_far digit large =
     let byte = get_or text i 0 in
     let behind = drop (i + 1) text in

@@ -3,7 +3,8 @@ use Rattle.std.proofs.Common.{◌≡◌, ℕ, List, Option, Some, None, Ok, Err,
 use Rattle.ldm_script.specs.Fields.{Left, or_bad, field}
 use Rattle.ldm_script.specs.FieldReads.{TakesField}
 
-pub field_reads : {A : Type 0} (read : List ℕ → Option A) (old : Left) (text : List ℕ) (left : ℕ) (new : Left) (x : A) → TakesField old text left new → read text ≡ Some x → field read old ≡ Ok (x, new)
+pub field_reads : {A : Type 0} (read : List ℕ → Option A) (old : Left) (text : List ℕ) (left : ℕ) (new : Left) (x : A) → TakesField old text left new → read text ≡ Some x
+    → field read old ≡ Ok (x, new)
 field_reads {A} read old text left new x taken is =
     ap (field read) taken.old_is ∙ ap (λ (o : Option A). or_bad taken.rest o) (ap read (sym taken.text_is) ∙ is) ∙ ap (λ (n : Left). Ok (x, n)) (sym taken.new_is)
 

@@ -39,7 +39,8 @@ unspelled-escape (byte ∷ high ∷ low ∷ rest) long percent =
 
 -- ---- the byte at a place
 
-pub plain_at : (field : List ℕ) (at : ℕ) → at < length field → (get_or field at 0 ≡ 37 → ⊥) → unspelled (drop at field) ≡ with_byte (Some (get_or field at 0 ∷ [])) (unspelled (drop (at + 1) field))
+pub plain_at : (field : List ℕ) (at : ℕ) → at < length field → (get_or field at 0 ≡ 37 → ⊥)
+    → unspelled (drop at field) ≡ with_byte (Some (get_or field at 0 ∷ [])) (unspelled (drop (at + 1) field))
 plain_at field at within plain = ap unspelled (drop_more field at 0 within) ∙ unspelled-plain (get_or field at 0) (drop (at + 1) field) (ne_eqb (get_or field at 0) 37 plain)
 
 first_of : (field : List ℕ) (at : ℕ) → get_or field at 0 ≡ 37 → get_or (drop at field) 0 0 ≡ 37
@@ -50,7 +51,8 @@ short_at field at within short percent =
     let size = length-drop at field in
     unspelled-short (drop at field) (omega arith) (omega arith) (first_of field at percent)
 
-pub escape_at : (field : List ℕ) (at : ℕ) → at + 3 ≤ length field → get_or field at 0 ≡ 37 → unspelled (drop at field) ≡ with_byte (result_ok (decode_sized (take 2 (drop (at + 1) field)) 1)) (unspelled (drop (at + 3) field))
+pub escape_at : (field : List ℕ) (at : ℕ) → at + 3 ≤ length field → get_or field at 0 ≡ 37
+    → unspelled (drop at field) ≡ with_byte (result_ok (decode_sized (take 2 (drop (at + 1) field)) 1)) (unspelled (drop (at + 3) field))
 escape_at field at within percent =
     let size = length-drop at field in
     unspelled-escape (drop at field) (omega arith) (first_of field at percent)
@@ -64,11 +66,13 @@ with_two xs y None = refl
 with_two xs y (Some rest) = ap (λ (l : List ℕ). Some l) (sym (append_assoc xs (y ∷ []) rest))
 
 -- what was read so far, and what is left
-pub one_more : (field text : List ℕ) (at byte next : ℕ) → with_byte (Some text) (unspelled (drop at field)) ≡ unspelled field → unspelled (drop at field) ≡ with_byte (Some (byte ∷ [])) (unspelled (drop next field))
+pub one_more : (field text : List ℕ) (at byte next : ℕ) → with_byte (Some text) (unspelled (drop at field)) ≡ unspelled field
+    → unspelled (drop at field) ≡ with_byte (Some (byte ∷ [])) (unspelled (drop next field))
     → with_byte (Some (text ++ byte ∷ [])) (unspelled (drop next field)) ≡ unspelled field
 one_more field text at byte next so_far is = sym (with_two text byte (unspelled (drop next field))) ∙ ap (with_byte (Some text)) (sym is) ∙ so_far
 
-pub none_more : (most : ℕ) (field text : List ℕ) (at : ℕ) → with_byte (Some text) (unspelled (drop at field)) ≡ unspelled field → unspelled (drop at field) ≡ None → IsUnspelled most (unspelled field) None
+pub none_more : (most : ℕ) (field text : List ℕ) (at : ℕ) → with_byte (Some text) (unspelled (drop at field)) ≡ unspelled field → unspelled (drop at field) ≡ None
+    → IsUnspelled most (unspelled field) None
 none_more most field text at so_far none =
     let is : None ≡ unspelled field = ap (with_byte (Some text)) (sym none) ∙ so_far in
     let P : Option (List ℕ) → Type 0 = λ o. MatchOption o (Unit {0}) (λ text. most < length text) in
@@ -114,7 +118,8 @@ if_text-nul most field text nul =
     by_last true false z e = refl
     by_last false y z e = refl
 
-pub if_text-is : (most : ℕ) (field text : List ℕ) → bytes_eq (spelled text) field ≡ true → length text ≤ most → list_any (λ byte. byte == 0) text ≡ false → if_text most field (Some text) ≡ Some text
+pub if_text-is : (most : ℕ) (field text : List ℕ) → bytes_eq (spelled text) field ≡ true → length text ≤ most → list_any (λ byte. byte == 0) text ≡ false
+    → if_text most field (Some text) ≡ Some text
 if_text-is most field text same short free =
     by_all (bytes_eq (spelled text) field) (nat_le (length text) most) (list_any (λ byte. byte == 0) text) same (le-leb (length text) most short) free
   where
@@ -144,7 +149,8 @@ escape_found field at bytes within percent read =
     ∙ ap (λ (r : Result (List ℕ) FromHexError). with_byte (result_ok r) (unspelled (drop (at + 3) field))) read
     ∙ ap (λ (l : List ℕ). with_byte (Some l) (unspelled (drop (at + 3) field))) (one_byte (take 2 (drop (at + 1) field)) bytes read)
 
-pub spelled_escape : (byte high low : ℕ) → is_plain byte ≡ false → high ≡ slice_index upper_digits (byte / 16) → low ≡ slice_index upper_digits (byte % 16) → 37 ∷ high ∷ low ∷ [] ≡ spelled_byte byte
+pub spelled_escape : (byte high low : ℕ) → is_plain byte ≡ false → high ≡ slice_index upper_digits (byte / 16) → low ≡ slice_index upper_digits (byte % 16)
+    → 37 ∷ high ∷ low ∷ [] ≡ spelled_byte byte
 spelled_escape byte high low plain high_is low_is =
     ap (λ (h : ℕ). 37 ∷ h ∷ low ∷ []) high_is ∙ ap (λ (l : ℕ). 37 ∷ slice_index upper_digits (byte / 16) ∷ l ∷ []) low_is
     ∙ ap (λ (l : List ℕ). 37 ∷ l) (sym (escaped byte)) ∙ sym (cond-false (is_plain byte) (byte ∷ []) (37 ∷ encode_upper (byte ∷ [])) plain)

@@ -2,11 +2,10 @@
 ghost use Rattle.std.specs.Prelude.{◌≡◌, ◌≤◌, ℕ, Ok, Err, IfOk, IfSome, MatchResult, unwrap_or};
 ghost use Rattle.std.specs.Option.{option_map};
 ghost use Rattle.ldm_model.specs.declared.event.Event.{Event};
-ghost use Rattle.ldm_model.specs.declared.event.Event.TheVariants as event;
-ghost use Rattle.ldm_script.specs.Order.{Plain, OnCursor};
-ghost use Rattle.ldm_script.specs.Fields.{Left};
+ghost use Rattle.ldm_script.specs.Order.{OnCursor};
 ghost use Rattle.ldm_script.specs.FieldReads.{Gives};
-ghost use Rattle.ldm_script.specs.Grammar.{read_line as reading, read_order as order_at, read_act as act_at, read_insert as insert_at, read_open as open_at, read_start as start_at, read_read as read_at, read_look as look_at, read_on_cursor as on_cursor_at, read_alone as alone_at};
+ghost use Rattle.ldm_script.specs.Grammar.{read_line as reading, read_order as order_at, read_act as act_at, read_insert as insert_at, read_open as open_at};
+ghost use Rattle.ldm_script.specs.Grammar.{read_start as start_at, read_read as read_at, read_look as look_at, read_on_cursor as on_cursor_at};
 ghost use Rattle.ldm_script.specs.OrderView.{order_of, asked_of, bytes_of, IsBody, IsWhole};
 ghost use Rattle.md5.specs.Md5.{md5};
 

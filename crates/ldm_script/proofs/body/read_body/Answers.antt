@@ -29,7 +29,8 @@ returns-then-is_some-clause-value c =
     let other : bytes_eq c.args.field.now (codes "-") ≡ false = cc in
     let some = eqb-false (length c.args.field.now) 0 (sym c.is_empty.ensures ∙ c.if-is_empty.false) in
     let cuts = subst (λ (o : Option (Bor (List ℕ))). Cuts 42 c.args.field.now c.split_first.result.0.now o) c.in-Some.is c.split_first.ensures in
-    sym (no_body c.args.field.now c.split_first.result.0.now c.split_first-2.result.0.now c.in-Some.behind c.split_first-2.result.1 some other cuts c.split_first-2.ensures (sym c.is_some.ensures ∙ c.if-is_some.true))
+    sym (no_body c.args.field.now c.split_first.result.0.now c.split_first-2.result.0.now
+    c.in-Some.behind c.split_first-2.result.1 some other cuts c.split_first-2.ensures (sym c.is_some.ensures ∙ c.if-is_some.true))
 
 pub returns-clause-value : goal.returns-clause-value
 returns-clause-value c =
@@ -37,4 +38,5 @@ returns-clause-value c =
     let some = eqb-false (length c.args.field.now) 0 (sym c.is_empty.ensures ∙ c.if-is_empty.false) in
     let cuts = subst (λ (o : Option (Bor (List ℕ))). Cuts 42 c.args.field.now c.split_first.result.0.now o) c.in-Some.is c.split_first.ensures in
     c.read_fill.ensures.value
-    ∙ sym (fill_body c.args.field.now c.split_first.result.0.now c.split_first-2.result.0.now c.in-Some.behind c.split_first-2.result.1 some other cuts c.split_first-2.ensures (sym c.is_some.ensures ∙ c.if-is_some.false))
+    ∙ sym (fill_body c.args.field.now c.split_first.result.0.now c.split_first-2.result.0.now
+    c.in-Some.behind c.split_first-2.result.1 some other cuts c.split_first-2.ensures (sym c.is_some.ensures ∙ c.if-is_some.false))

@@ -7,4 +7,6 @@ use Rattle.ldm_script.proofs.texts.read_text.Goals as goal
 pub returns-in_err-text-clause-value : goal.returns-in_err-text-clause-value
 returns-in_err-text-clause-value c =
     let other : bytes_eq c.args.field.now (codes "-") ≡ false = cc in
-    rw c.from_residual.ensures (sym (ap (λ (b : Bool). cond b (Some []) (if_text c.args.most c.args.field.now (unspelled c.args.field.now))) other ∙ if_text-unread c.args.most c.args.field.now (unspelled c.args.field.now) c.in_err-text.ensures))
+    let meant = unspelled c.args.field.now in
+    let unread = if_text-unread c.args.most c.args.field.now meant c.in_err-text.ensures in
+    rw c.from_residual.ensures (sym (ap (λ (b : Bool). cond b (Some []) (if_text c.args.most c.args.field.now meant)) other ∙ unread))
