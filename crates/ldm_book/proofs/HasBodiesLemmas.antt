@@ -1,6 +1,7 @@
 -- The bodies in the arena, where one more is written.
-use Rattle.std.proofs.Common.{◌≡◌, ◌⊎◌, ℕ, zero, suc, ◌+◌, ◌-◌, ◌≤◌, List, [], ◌∷◌, ◌++◌, length, map, drop, take, refl, sym, ap, ◌∙◌, inl, inr, arith}
+use Rattle.std.proofs.Common.{◌≡◌, ◌⊎◌, ℕ, ◌+◌, ◌-◌, ◌≤◌, List, [], ◌∷◌, ◌++◌, length, map, drop, take, Bool, true, false, cond, refl, sym, ap, ◌∙◌, inl, inr, arith}
 use borrow.Rule.Slice.PartMut.{put_mid, same_len_mid}
+use Rattle.std.specs.Prelude.{filter}
 use Rattle.std.specs.List.{AllByRecursion, between}
 use Rattle.std.proofs.lemmas.List.{length-take-le, length-drop}
 use Rattle.std.proofs.lemmas.Slice.{between_is, take-put_mid_below, drop-put_mid, between-put_mid}
@@ -8,6 +9,7 @@ use Rattle.ldm_types.specs.Arena.{AreApart}
 use Rattle.ldm_model.specs.State.{Queued}
 use Rattle.ldm_book.specs.View.{Kept, kept, body_start, body_of}
 use Rattle.ldm_book.specs.Products.{kept_region, LieApart}
+use Rattle.ldm_book.specs.Making.{written}
 use Rattle.ldm_book.specs.Stands.{HasBodies}
 
 -- a part that ends before what is written, or begins behind it, is as it was
@@ -16,10 +18,6 @@ between_apart xs ys a i j within order (inl before) =
     between_is (put_mid a (length ys) xs ys) i j ∙ ap (drop i) (take-put_mid_below a (length ys) xs ys j before (omega arith)) ∙ sym (between_is xs i j)
 between_apart xs ys a i j within order (inr behind) =
     ap (take (j - i)) (drop-put_mid a (length ys) xs ys i behind (omega arith) refl)
-
--- the arena with the body of one product more
-abbrev pub written : List ℕ → List ℕ → Kept → List ℕ
-written bytes body new = put_mid (body_start new) (length body) bytes body
 
 -- which has as many bytes
 pub length-written : (bytes body : List ℕ) (new : Kept) → body_start new + length body ≤ length bytes → length (written bytes body new) ≡ length bytes
@@ -60,10 +58,13 @@ module _ (bytes body : List ℕ) (new : Kept) (size : length body ≡ new.info.s
   bodies_left arena qs apart = bodies_kept qs (apart_from_last arena (map kept qs) new apart)
 
 -- fewer products have their bodies
-pub bodies_drop : (bytes : List ℕ) (j : ℕ) (qs : List Queued) → HasBodies bytes qs → HasBodies bytes (drop j qs)
-bodies_drop bytes zero qs bodies = bodies
-bodies_drop bytes (suc j) [] bodies = tt
-bodies_drop bytes (suc j) (q ∷ qs) bodies = bodies_drop bytes j qs bodies.1
+pub bodies_filter : (bytes : List ℕ) (test : Queued → Bool) (qs : List Queued) → HasBodies bytes qs → HasBodies bytes (filter test qs)
+bodies_filter bytes test [] bodies = tt
+bodies_filter bytes test (q ∷ qs) bodies = by_test (test q) (bodies_filter bytes test qs bodies.1)
+  where
+    by_test : (b : Bool) → HasBodies bytes (filter test qs) → HasBodies bytes (cond b (q ∷ filter test qs) (filter test qs))
+    by_test true rest = (bodies.0, rest)
+    by_test false rest = rest
 
 -- and one product more
 pub bodies_push : (bytes : List ℕ) (qs : List Queued) (q : Queued) → HasBodies bytes qs → body_of bytes (kept q) ≡ q.product.body → HasBodies bytes (qs ++ q ∷ [])

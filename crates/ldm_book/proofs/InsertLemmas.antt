@@ -1,5 +1,6 @@
 -- What the queue does at each way out of inserting, by what the book keeps.
-use Rattle.std.proofs.Common.{◌≡◌, ℕ, ◌+◌, ◌<◌, ◌≤◌, Bool, true, false, cond, ltb, List, [], ◌∷◌, ◌++◌, length, map, drop, Option, Some, None, refl, sym, ap, subst, ◌∙◌, arith}
+use Rattle.std.proofs.Common.{◌≡◌, ℕ, ◌+◌, ◌<◌, ◌≤◌, Bool, true, false, cond, ltb, List, [], ◌∷◌, ◌++◌, length, map, take, Option, Some, None, refl, sym, ap, subst, ◌∙◌, arith}
+use Rattle.std.specs.Prelude.{is_some}
 use Rattle.std.proofs.lemmas.Bool.{lt-ltb, le-ltb}
 use Rattle.std.proofs.lemmas.List.{map-append, length-append}
 use Rattle.ldm_model.specs.Product.{Product, extent_of}
@@ -9,15 +10,18 @@ use Rattle.ldm_model.specs.State.{State, Row, Queued, end_of, last_time, latest,
 use Rattle.ldm_model.specs.Room.{fit_in}
 use Rattle.ldm_model.specs.Outcome.{Outcome, unchanged}
 use Rattle.ldm_model.specs.Insert.{after_evicting, evictions, time_after, admitted, insert_by_evictions, is_last, insert_new, insert_fitting, insert}
-use Rattle.ldm_book.specs.View.{BookView, Kept, kept, body_start, body_of}
-use Rattle.ldm_book.specs.Products.{LieApart, room_for}
-use Rattle.ldm_book.specs.Making.{without_first}
+use Rattle.ldm_book.specs.View.{BookView, Kept, kept, body_start}
+use Rattle.ldm_book.specs.Products.{AreRising, LieApart, room_for}
+use Rattle.ldm_book.specs.Making.{grown, new_kept, written}
+use Rattle.ldm_book.specs.Readers.{held_products, products, unheld_numbers, without_oldest}
+use Rattle.ldm_model.specs.Evict.{count_held}
 use Rattle.ldm_book.specs.Stands.{HasBodies, StandsFor}
 use Rattle.ldm_book.specs.Lookup.{kept_with, look_kept}
 use Rattle.ldm_book.specs.Answers.{Follows}
 use Rattle.ldm_book.proofs.QueuedLemmas.{queued_from-append, look-from_kept, none_from_absent, some_from_queued}
-use Rattle.ldm_book.proofs.HasBodiesLemmas.{written, length-written, bodies_left, body_written, bodies_push}
-use Rattle.ldm_book.proofs.EvictLemmas.{products, without_oldest, StandsFor-evicting, room_place, evictions-are}
+use Rattle.ldm_book.proofs.HasBodiesLemmas.{length-written, bodies_left, body_written, bodies_push}
+use Rattle.ldm_book.proofs.UnheldLemmas.{StandsFor-evicting, room_place, evictions-are, evictions-none}
+use Rattle.ldm_book.proofs.RoomLemmas.{alike_all, no_room}
 
 -- a refusal
 Follows-unchanged : (book : BookView) (s : State) (r : Reply) → StandsFor book s → Follows r book (unchanged s r)
@@ -26,14 +30,6 @@ Follows-unchanged book s r stands = record { reply = refl; state = stands }
 latest-append : (before : Option ℕ) (rows : List Row) (row : Row) → latest before (rows ++ row ∷ []) ≡ Some row.time
 latest-append before [] row = refl
 latest-append before (first ∷ rows) row = latest-append (Some first.time) rows row
-
--- a new product, as it is kept
-abbrev pub kept_new : BookView → ℕ → Product → ℕ → Kept
-kept_new book now p place = record { number = book.admitted; info = p.info; time = time_after book.last now; place = place }
-
--- a book with one product more, and an arena with its body
-abbrev pub grown : BookView → ℕ → Product → ℕ → List ℕ → BookView
-grown book now p place bytes = record { arena = book.arena; bytes = bytes; slots = book.slots; admitted = book.admitted + 1; last = Some (time_after book.last now); rows = book.rows ++ kept_new book now p place ∷ [] }
 
 -- the new row: the product at the best fit
 abbrev new_row : State → ℕ → Product → Row
@@ -44,24 +40,28 @@ queued-new : (s : State) (now : ℕ) (p : Product) (m place : ℕ) → fit_in s 
 queued-new s now p m place fits = ap (λ (o : Option ℕ). add_queued m (new_row s now p) o []) fits
 
 -- admitting a product that fits
-StandsFor-grown : (book : BookView) (s : State) → StandsFor book s → (now : ℕ) (p : Product) (place evicted : ℕ) (bytes : List ℕ) → fit_in s (extent_of p.info) ≡ Some place
-    → length bytes ≡ length book.bytes → HasBodies bytes (queued s) → body_of bytes (kept_new book now p place) ≡ p.body
-    → Follows (reply.Admitted book.admitted (time_after book.last now) evicted) (grown book now p place bytes) (admitted s now p evicted)
-StandsFor-grown book s stands now p place evicted bytes fits as_many bodies body =
+StandsFor-grown : (book : BookView) (s : State) → StandsFor book s → (now : ℕ) (p : Product) (place evicted : ℕ) → fit_in s (extent_of p.info) ≡ Some place
+    → length p.body ≡ p.info.size → body_start (new_kept book (time_after book.last now) p.info place) + length p.body ≤ length book.bytes → LieApart book.arena (book.rows ++ new_kept book (time_after book.last now) p.info place ∷ [])
+    → Follows (reply.Admitted book.admitted (time_after book.last now) evicted) (grown book (time_after book.last now) p.info p.body place) (admitted s now p evicted)
+StandsFor-grown book s stands now p place evicted fits size inside apart =
+    let k = new_kept book (time_after book.last now) p.info place in
+    let bytes = written book.bytes p.body k in
+    let bodies = bodies_left book.bytes p.body k size inside book.arena (queued s) (subst (λ (ks : List Kept). LieApart book.arena (ks ++ k ∷ [])) stands.rows apart) stands.bodies in
+    let body = body_written book.bytes p.body k size inside in
     let number : book.admitted ≡ 0 + length s.rows = omega (arith, stands.admitted) in
     let time : time_after book.last now ≡ time_after (last_time s) now = ap (λ (o : Option ℕ). time_after o now) stands.last in
-    let new : kept_new book now p place ∷ [] ≡ map kept (queued_from (0 + length s.rows) (new_row s now p ∷ [])) =
+    let new : k ∷ [] ≡ map kept (queued_from (0 + length s.rows) (new_row s now p ∷ [])) =
     ap (λ (n : ℕ). row n (time_after book.last now) ∷ []) number ∙ ap (λ (t : ℕ). row (0 + length s.rows) t ∷ []) time ∙ ap (map kept) (sym (queued-new s now p (0 + length s.rows) place fits)) in
     let longer = length-append s.rows (new_row s now p ∷ []) in
     record {
       reply = ap (λ (n : ℕ). reply.Admitted n (time_after book.last now) evicted) stands.admitted ∙ ap (λ (t : ℕ). reply.Admitted (end_of s) t evicted) time;
       state = record {
         arena = stands.arena;
-        sized = as_many ∙ stands.sized;
+        sized = length-written book.bytes p.body k inside ∙ stands.sized;
         slots = stands.slots;
         admitted = omega (arith, stands.admitted, longer);
         last = ap (λ (t : ℕ). Some t) time ∙ sym (latest-append None s.rows (new_row s now p));
-        rows = ap (λ (ks : List Kept). ks ++ kept_new book now p place ∷ []) stands.rows ∙ ap (λ (ks : List Kept). map kept (queued s) ++ ks) new
+        rows = ap (λ (ks : List Kept). ks ++ k ∷ []) stands.rows ∙ ap (λ (ks : List Kept). map kept (queued s) ++ ks) new
             ∙ sym (ap (map kept) (queued_from-append 0 s.rows (new_row s now p ∷ [])) ∙ map-append kept (queued_from 0 s.rows) (queued_from (0 + length s.rows) (new_row s now p ∷ [])));
         bodies = subst (HasBodies bytes) (sym (queued_from-append 0 s.rows (new_row s now p ∷ []) ∙ ap (λ (qs : List Queued). queued s ++ qs) (queued-new s now p (0 + length s.rows) place fits)))
             (bodies_push bytes (queued s) (record { number = 0 + length s.rows; product = p; time = time_after (last_time s) now; place = place }) bodies body);
@@ -113,16 +113,31 @@ module _ (book : BookView) (s : State) (stands : StandsFor book s) (now : ℕ) (
       let test : is_last (last_time s) ≡ false = ap is_last (sym stands.last) ∙ last in
       insert-absent fits absent ∙ ap (λ (b : Bool). cond b (unchanged s reply.TimeEnd) (insert_by_evictions s now p (evictions s (extent_of p.info)))) test
 
+  -- what nobody holds does not make room
+  pub locked : AreRising book.rows → 0 < extent_of p.info → extent_of p.info ≤ book.arena → look_kept (kept_with p.info.signature book.rows) ≡ reply.Absent → is_last book.last ≡ false
+      → is_some (room_for (held_products book) (extent_of p.info)) ≡ false → (held : ℕ) → held ≡ count_held s → Follows (reply.Locked held) book (insert s now p)
+  locked rising some fits absent last none held count =
+      let evicted = evictions-none book s (extent_of p.info) rising stands (λ i. no_room book (extent_of p.info) i some rising none) in
+      let same : insert s now p ≡ unchanged s (reply.Locked held) =
+      insert-in_time fits absent last ∙ ap (insert_by_evictions s now p) evicted ∙ ap (λ (n : ℕ). unchanged s (reply.Locked n)) (sym count) in
+      subst (λ (o : Outcome). Follows (reply.Locked held) book o) (sym same) (Follows-unchanged book s (reply.Locked held) stands)
+
   -- admitted, after the evictions that make room, with the body written to the arena
-  pub admitted_after : extent_of p.info ≤ book.arena → look_kept (kept_with p.info.signature book.rows) ≡ reply.Absent → is_last book.last ≡ false → (j place : ℕ) → j ≤ length book.rows
-      → ((i : ℕ) → i < j → room_for (without_first i (products book)) (extent_of p.info) ≡ None) → room_for (without_first j (products book)) (extent_of p.info) ≡ Some place
-      → length p.body ≡ p.info.size → body_start (kept_new book now p place) + length p.body ≤ length book.bytes → LieApart book.arena (drop j book.rows ++ kept_new book now p place ∷ [])
-      → Follows (reply.Admitted book.admitted (time_after book.last now) j) (grown (without_oldest j book) now p place (written book.bytes p.body (kept_new book now p place))) (insert s now p)
-  admitted_after fits absent last j place within none some size written_within apart =
-      let same : insert s now p ≡ admitted (after_evicting s j) now p j = insert-in_time fits absent last ∙ ap (insert_by_evictions s now p) (evictions-are book s (extent_of p.info) j stands within none place some) in
-      let after = StandsFor-evicting j book s stands in
-      let new = kept_new book now p place in
-      let bytes = written book.bytes p.body new in
-      let bodies = bodies_left book.bytes p.body new size written_within book.arena (queued (after_evicting s j)) (subst (λ (ks : List Kept). LieApart book.arena (ks ++ new ∷ [])) after.rows apart) after.bodies in
-      subst (λ (o : Outcome). Follows (reply.Admitted book.admitted (time_after book.last now) j) (grown (without_oldest j book) now p place bytes) o) (sym same)
-      (StandsFor-grown (without_oldest j book) (after_evicting s j) after now p place j bytes (room_place (without_oldest j book) (after_evicting s j) (extent_of p.info) place after some) (length-written book.bytes p.body new written_within) bodies (body_written book.bytes p.body new size written_within))
+  pub admitted_after : AreRising book.rows → extent_of p.info ≤ book.arena → look_kept (kept_with p.info.signature book.rows) ≡ reply.Absent → is_last book.last ≡ false → (j place : ℕ) → j ≤ length (unheld_numbers book)
+      → ((i : ℕ) → i < j → room_for (products (without_oldest i book)) (extent_of p.info) ≡ None) → room_for (products (without_oldest j book)) (extent_of p.info) ≡ Some place
+      → length p.body ≡ p.info.size → place + extent_of p.info ≤ length book.bytes → LieApart book.arena (grown (without_oldest j book) (time_after book.last now) p.info p.body place).rows
+      → Follows (reply.Admitted book.admitted (time_after book.last now) j) (grown (without_oldest j book) (time_after book.last now) p.info p.body place) (insert s now p)
+  admitted_after rising fits absent last j place within none some size inside apart =
+      let same : insert s now p ≡ admitted (after_evicting s j) now p j = insert-in_time fits absent last ∙ ap (insert_by_evictions s now p) (evictions-are book s (extent_of p.info) j rising stands within none place some) in
+      let after = without_oldest j book in
+      let there = StandsFor-evicting j book s rising stands in
+      let alike = alike_all (take j (unheld_numbers book)) book in
+      let time : time_after after.last now ≡ time_after book.last now = ap (λ (o : Option ℕ). time_after o now) alike.last in
+      let bytes = ap (λ (bs : List ℕ). length bs) alike.bytes in
+      subst (λ (o : Outcome). Follows (reply.Admitted book.admitted (time_after book.last now) j) (grown after (time_after book.last now) p.info p.body place) o) (sym same)
+      (subst (λ (n : ℕ). Follows (reply.Admitted n (time_after book.last now) j) (grown after (time_after book.last now) p.info p.body place) (admitted (after_evicting s j) now p j)) alike.admitted
+      (subst (λ (t : ℕ). Follows (reply.Admitted after.admitted t j) (grown after t p.info p.body place) (admitted (after_evicting s j) now p j)) time
+      (StandsFor-grown after (after_evicting s j) there now p place j (room_place after (after_evicting s j) (extent_of p.info) place there some) size
+      (omega (arith, bytes, size, inside))
+      (subst (λ (a : ℕ). LieApart a (grown after (time_after after.last now) p.info p.body place).rows) (sym alike.arena)
+      (subst (λ (t : ℕ). LieApart book.arena (grown after t p.info p.body place).rows) (sym time) apart)))))

@@ -1,15 +1,18 @@
 -- The present rows of a state, and what a book keeps of them.
-use Rattle.std.proofs.Common.{◌≡◌, ℕ, zero, suc, ◌+◌, ◌<◌, Bool, true, false, cond, List, [], ◌∷◌, ◌++◌, length, map, replicate, take, drop, Option, Some, None, refl, ap, ◌∙◌, arith}
+use Rattle.std.proofs.Common.{◌≡◌, ℕ, zero, suc, ◌+◌, ◌<◌, Bool, true, false, cond, List, [], ◌∷◌, ◌++◌, length, map, not, ◌||◌, Option, Some, None, refl, sym, ap, ◌∙◌, inl, inr, arith}
 use Rattle.std.proofs.Math.Nat.{add-zero}
-use Rattle.std.specs.Prelude.{slice_get}
+use Rattle.std.specs.Prelude.{◌==◌, filter, slice_get}
+use Rattle.std.specs.List.{find, list_any}
+use Rattle.std.proofs.lemmas.Bool.{false≢true, cases_eq, eq-eqb, ne_eqb, le-leb, lt-leb}
 use Rattle.std.specs.Option.{option_map}
 use Rattle.ldm_types.specs.Arena.{Region}
 use Rattle.ldm_model.specs.declared.event.Reply.TheVariants as reply
-use Rattle.ldm_model.specs.State.{State, Row, Queued, Cursor, end_of, last_time, latest, add_queued, queued_from, queued, has_signature, queued_with, region_of}
-use Rattle.ldm_model.specs.Evict.{without_place, with_loss, evict_row, evict, evict_all}
+use Rattle.ldm_model.specs.State.{Row, Queued, latest, add_queued, queued_from, has_signature, queued_with, region_of}
+use Rattle.ldm_model.specs.Evict.{without_place}
 use Rattle.ldm_model.specs.Look.{look_reply}
 use Rattle.ldm_book.specs.View.{kept}
-use Rattle.ldm_book.specs.Products.{kept_region}
+use Rattle.ldm_book.specs.Products.{kept_region, at_number, has_number}
+use Rattle.ldm_book.specs.Readers.{feed_of}
 use Rattle.ldm_book.specs.Lookup.{kept_with, look_kept}
 
 add_queued-append : (n : ℕ) (row : Row) (place : Option ℕ) (behind more : List Queued) → add_queued n row place (behind ++ more) ≡ add_queued n row place behind ++ more
@@ -53,96 +56,98 @@ pub regions-kept : (qs : List Queued) → map region_of qs ≡ map kept_region (
 regions-kept [] = refl
 regions-kept (q ∷ qs) = ap (λ (rs : List Region). region_of q ∷ rs) (regions-kept qs)
 
--- evicting the first present row leaves the others
-pub record FirstAt (n : ℕ) (rows : List Row) (q : Queued) (qs : List Queued) : Type 0 where
+-- whether a present row has another number
+abbrev pub other_number : ℕ → Queued → Bool
+other_number n q = not (q.number == n)
+
+-- rows behind a number have others
+filter_above : (n m : ℕ) (rows : List Row) → n < m → filter (other_number n) (queued_from m rows) ≡ queued_from m rows
+filter_above n m [] h = refl
+filter_above n m (row ∷ rows) h = by_place (filter_above n (m + 1) rows (omega arith)) row.place
+  where
+    by_place : filter (other_number n) (queued_from (m + 1) rows) ≡ queued_from (m + 1) rows → (place : Option ℕ) → filter (other_number n) (add_queued m row place (queued_from (m + 1) rows)) ≡ add_queued m row place (queued_from (m + 1) rows)
+    by_place rest None = rest
+    by_place rest (Some at) =
+        let q : Queued = record { number = m; product = row.product; time = row.time; place = at } in
+        ap (λ (b : Bool). cond (not b) (q ∷ filter (other_number n) (queued_from (m + 1) rows)) (filter (other_number n) (queued_from (m + 1) rows))) (ne_eqb m n (λ e. omega (arith, e)))
+        ∙ ap (λ (qs : List Queued). q ∷ qs) rest
+
+-- evicting a row leaves the others
+pub queued-without : (i m : ℕ) (rows : List Row) → queued_from m (without_place rows i) ≡ filter (other_number (m + i)) (queued_from m rows)
+queued-without i m [] = refl
+queued-without zero m (row ∷ rows) = by_place row.place
+  where
+    by_place : (place : Option ℕ) → queued_from (m + 1) rows ≡ filter (other_number (m + 0)) (add_queued m row place (queued_from (m + 1) rows))
+    by_place None = sym (filter_above (m + 0) (m + 1) rows (omega arith))
+    by_place (Some at) =
+        let q : Queued = record { number = m; product = row.product; time = row.time; place = at } in
+        sym (ap (λ (b : Bool). cond (not b) (q ∷ filter (other_number (m + 0)) (queued_from (m + 1) rows)) (filter (other_number (m + 0)) (queued_from (m + 1) rows))) (eq-eqb m (m + 0) (omega arith))
+        ∙ filter_above (m + 0) (m + 1) rows (omega arith))
+queued-without (suc i) m (row ∷ rows) =
+    let number : m + 1 + i ≡ m + suc i = omega arith in
+    by_place (queued-without i (m + 1) rows ∙ ap (λ (n : ℕ). filter (other_number n) (queued_from (m + 1) rows)) number) row.place
+  where
+    by_place : queued_from (m + 1) (without_place rows i) ≡ filter (other_number (m + suc i)) (queued_from (m + 1) rows) → (place : Option ℕ) → add_queued m row place (queued_from (m + 1) (without_place rows i)) ≡ filter (other_number (m + suc i)) (add_queued m row place (queued_from (m + 1) rows))
+    by_place rest None = rest
+    by_place rest (Some at) =
+        let q : Queued = record { number = m; product = row.product; time = row.time; place = at } in
+        ap (λ (qs : List Queued). q ∷ qs) rest
+        ∙ sym (ap (λ (b : Bool). cond (not b) (q ∷ filter (other_number (m + suc i)) (queued_from (m + 1) rows)) (filter (other_number (m + suc i)) (queued_from (m + 1) rows))) (ne_eqb m (m + suc i) (λ e. omega (arith, e))))
+
+-- a kept row stands among the rows, the first of which has that number, and its feedtypes are those of the row
+pub record IsPresent (n m : ℕ) (rows : List Row) : Type 0 where
   pub index : ℕ
-  pub number : q.number ≡ n + index
-  pub within : index < length rows
-  pub left : queued_from n (without_place rows index) ≡ qs
+  pub row : Row
+  pub number : n ≡ m + index
+  pub at : slice_get rows index ≡ Some row
+  pub feed : feed_of (find (at_number n) (map kept (queued_from m rows))) ≡ row.product.info.feed
 
-abbrev cons_queued : Queued → List Queued → List Queued
-cons_queued q qs = q ∷ qs
-
-first_by_place : (n : ℕ) (row : Row) (rows : List Row) (q : Queued) (qs : List Queued) (place : Option ℕ) → row.place ≡ place → (queued_from (n + 1) rows ≡ q ∷ qs → FirstAt (n + 1) rows q qs) → add_queued n row place (queued_from (n + 1) rows) ≡ q ∷ qs → FirstAt n (row ∷ rows) q qs
-first_by_place n row rows q qs None is behind e =
-    let rest = behind e in
-    record {
-      index = suc rest.index;
-      number = omega (arith, rest.number);
-      within = omega (arith, rest.within);
-      left = ap (λ (p : Option ℕ). add_queued n row p (queued_from (n + 1) (without_place rows rest.index))) is ∙ rest.left;
-    }
-first_by_place n row rows q qs (Some at) is behind e =
-    let first : Queued = record { number = n; product = row.product; time = row.time; place = at } in
-    let same : cons_queued first (queued_from (n + 1) rows) ≡ cons_queued q qs = e in
-    let head : first ≡ q = cc in
-    let tail : queued_from (n + 1) rows ≡ qs = cc in
-    let number : n ≡ q.number = ap (λ (x : Queued). x.number) head in
-    record {
-      index = 0;
-      number = omega arith;
-      within = omega arith;
-      left = tail;
-    }
-
-first_at : (n : ℕ) (rows : List Row) (q : Queued) (qs : List Queued) → queued_from n rows ≡ q ∷ qs → FirstAt n rows q qs
-first_at n [] q qs e = absurd cc
-first_at n (row ∷ rows) q qs e = first_by_place n row rows q qs row.place refl (first_at (n + 1) rows q qs) e
-
-get_within : (rows : List Row) (i : ℕ) → i < length rows → (row : Row) × (slice_get rows i ≡ Some row)
-get_within [] i h = absurd (omega arith)
-get_within (row ∷ rows) zero h = (row, refl)
-get_within (row ∷ rows) (suc i) h = get_within rows i (omega arith)
-
-pub queued-evict_first : (s : State) (q : Queued) (qs : List Queued) → queued s ≡ q ∷ qs → queued (evict s q.number) ≡ qs
-queued-evict_first s q qs e =
-    let first = first_at 0 s.rows q qs e in
-    let number : q.number ≡ first.index = first.number ∙ omega arith in
-    let found = get_within s.rows first.index first.within in
-    ap (λ (n : ℕ). queued (evict s n)) number ∙ (ap (λ (o : Option Row). queued (evict_row s first.index o)) found.1 ∙ first.left)
-
--- evicting the first present rows leaves the others
-pub queued-evict_first_ones : (j : ℕ) (qs : List Queued) (s : State) → queued s ≡ qs → queued (evict_all s (take j (map (λ (q : Queued). q.number) qs))) ≡ drop j qs
-queued-evict_first_ones zero qs s e = e
-queued-evict_first_ones (suc j) [] s e = e
-queued-evict_first_ones (suc j) (q ∷ qs) s e = queued-evict_first_ones j qs (evict s q.number) (queued-evict_first s q qs e)
+pub is_present : (n m : ℕ) (rows : List Row) → list_any (has_number n) (map kept (queued_from m rows)) ≡ true → IsPresent n m rows
+is_present n m [] h = absurd (false≢true h)
+is_present n m (row ∷ rows) h = by_place (is_present n (m + 1) rows) row.place refl h
+  where
+    by_place : (list_any (has_number n) (map kept (queued_from (m + 1) rows)) ≡ true → IsPresent n (m + 1) rows) → (place : Option ℕ) → row.place ≡ place
+        → list_any (has_number n) (map kept (add_queued m row place (queued_from (m + 1) rows))) ≡ true → IsPresent n m (row ∷ rows)
+    by_place more None is h =
+        let rest = more h in
+        record {
+          index = suc rest.index;
+          row = rest.row;
+          number = omega (arith, rest.number);
+          at = rest.at;
+          feed = ap (λ (p : Option ℕ). feed_of (find (at_number n) (map kept (add_queued m row p (queued_from (m + 1) rows))))) is ∙ rest.feed;
+        }
+    by_place more (Some at) is h =
+        let q : Queued = record { number = m; product = row.product; time = row.time; place = at } in
+        elim (cases_eq m n) [
+          | inl same ↦ record {
+            index = 0;
+            row = row;
+            number = omega arith;
+            at = refl;
+            feed = ap (λ (p : Option ℕ). feed_of (find (at_number n) (map kept (add_queued m row p (queued_from (m + 1) rows))))) is
+                ∙ ap (λ (b : Bool). feed_of (cond b (Some (kept q)) (find (at_number n) (map kept (queued_from (m + 1) rows))))) (le-leb n m (omega arith));
+          }
+          | inr other ↦
+              let rest = more (ap (λ (b : Bool). b || list_any (has_number n) (map kept (queued_from (m + 1) rows))) (sym (ne_eqb m n other)) ∙ h) in
+              record {
+                index = suc rest.index;
+                row = rest.row;
+                number = omega (arith, rest.number);
+                at = rest.at;
+                feed = ap (λ (p : Option ℕ). feed_of (find (at_number n) (map kept (add_queued m row p (queued_from (m + 1) rows))))) is
+                    ∙ ap (λ (b : Bool). feed_of (cond b (Some (kept q)) (find (at_number n) (map kept (queued_from (m + 1) rows))))) (lt-leb n m (omega (arith, rest.number)))
+                    ∙ rest.feed;
+              }
+        ]
 
 -- evicting changes neither the end nor the times
-length-without_place : (rows : List Row) (n : ℕ) → length (without_place rows n) ≡ length rows
+pub length-without_place : (rows : List Row) (n : ℕ) → length (without_place rows n) ≡ length rows
 length-without_place [] n = refl
 length-without_place (row ∷ rows) zero = refl
 length-without_place (row ∷ rows) (suc n) = ap suc (length-without_place rows n)
 
-latest-without_place : (rows : List Row) (before : Option ℕ) (n : ℕ) → latest before (without_place rows n) ≡ latest before rows
+pub latest-without_place : (rows : List Row) (before : Option ℕ) (n : ℕ) → latest before (without_place rows n) ≡ latest before rows
 latest-without_place [] before n = refl
 latest-without_place (row ∷ rows) before zero = refl
 latest-without_place (row ∷ rows) before (suc n) = latest-without_place rows (Some row.time) n
-
-with_loss-none : (n feed k : ℕ) → map (with_loss n feed) (replicate k None) ≡ replicate k None
-with_loss-none n feed zero = refl
-with_loss-none n feed (suc k) = ap (λ (cs : List (Option Cursor)). None ∷ cs) (with_loss-none n feed k)
-
--- what evicting leaves as it was, where no cursor is open
-pub record Alike (t s : State) : Type 0 where
-  pub arena : t.arena ≡ s.arena
-  pub slots : t.slots ≡ s.slots
-  pub end : end_of t ≡ end_of s
-  pub last : last_time t ≡ last_time s
-  pub cursors : t.cursors ≡ replicate 64 None
-
-evict_row-alike : (s : State) (n : ℕ) (found : Option Row) → s.cursors ≡ replicate 64 None → Alike (evict_row s n found) s
-evict_row-alike s n None none = record { arena = refl; slots = refl; end = refl; last = refl; cursors = none }
-evict_row-alike s n (Some row) none = record {
-  arena = refl;
-  slots = refl;
-  end = length-without_place s.rows n;
-  last = latest-without_place s.rows None n;
-  cursors = ap (map (with_loss n row.product.info.feed)) none ∙ with_loss-none n row.product.info.feed 64;
-}
-
-pub evict_all-alike : (ns : List ℕ) (s : State) → s.cursors ≡ replicate 64 None → Alike (evict_all s ns) s
-evict_all-alike [] s none = record { arena = refl; slots = refl; end = refl; last = refl; cursors = none }
-evict_all-alike (n ∷ ns) s none =
-    let one = evict_row-alike s n (slice_get s.rows n) none in
-    let rest = evict_all-alike ns (evict s n) one.cursors in
-    record { arena = rest.arena ∙ one.arena; slots = rest.slots ∙ one.slots; end = rest.end ∙ one.end; last = rest.last ∙ one.last; cursors = rest.cursors }

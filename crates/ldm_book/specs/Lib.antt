@@ -7,3 +7,6 @@ pub mod Limits
 pub mod Answers
 pub mod Sound
 pub mod Making
+pub mod RowKept
+pub mod Readers
+pub mod Spans

@@ -1,25 +1,62 @@
--- Making room for a product by evicting the oldest ones.
-use Rattle.std.specs.Prelude.{◌≡◌, ℕ, ◌+◌, ◌<◌, ◌≤◌, List, [], ◌∷◌, length, drop, Option, Some, None}
+-- Where a cursor begins, and making room for a product by evicting the oldest ones that nobody holds.
+use Rattle.std.specs.Prelude.{◌≡◌, ℕ, ◌+◌, ◌<◌, ◌≤◌, true, List, [], ◌∷◌, ◌++◌, length, Option, Some, None}
+use Rattle.std.specs.List.{find}
+use Rattle.std.specs.Option.{option_map}
+use borrow.Rule.Slice.PartMut.{put_mid}
 use Rattle.ldm_types.specs.Info.{Metadata}
 use Rattle.ldm_model.specs.Product.{extent_of}
-use Rattle.ldm_book.specs.declared.book.Put.{Put}
-use Rattle.ldm_book.specs.View.{Kept}
-use Rattle.ldm_book.specs.Products.{ProductsView, room_for, with_row}
+use Rattle.ldm_model.specs.declared.event.Start.{Start}
+use Rattle.ldm_model.specs.declared.event.Start.TheVariants.{Oldest, Next, After, AfterSignature}
+use Rattle.ldm_book.specs.View.{BookView, Kept, body_start}
+use Rattle.ldm_book.specs.Lookup.{kept_with}
+use Rattle.ldm_book.specs.Products.{room_for, is_later}
+use Rattle.ldm_book.specs.Readers.{products, unheld_numbers, without_oldest}
 
--- the number of the first product
-abbrev pub first_number : List Kept → Option ℕ
-first_number [] = None
-first_number (k ∷ ks) = Some k.number
+-- the number of a kept product, or the end where there is none
+abbrev pub number_or_end : BookView → Option Kept → ℕ
+number_or_end book None = book.admitted
+number_or_end book (Some k) = k.number
 
--- without the first so many products
-abbrev pub without_first : ℕ → ProductsView → ProductsView
-without_first j p = record p { rows = drop j p.rows }
+-- the number behind a kept product
+abbrev pub number_behind : Kept → ℕ
+number_behind k = k.number + 1
 
--- A product was put in: there was no room for it until so many products were evicted, the oldest first, and then it
--- went where there was room.
-pub record PutEvicting (put : Put) (info : Metadata) (n time : ℕ) (old new : ProductsView) : Type 0 where
-  pub queued : put.evicted ≤ length old.rows
-  pub needed : (i : ℕ) → i < put.evicted → room_for (without_first i old) (extent_of info) ≡ None
-  pub place : room_for (without_first put.evicted old) (extent_of info) ≡ Some put.place
-  pub within : put.place + extent_of info ≤ old.arena
-  pub rows : new ≡ with_row (without_first put.evicted old) (record { number = n; info = info; time = time; place = put.place })
+-- where a cursor begins, unless the product that it is to begin behind is not kept
+abbrev pub start_at : BookView → Start → Option ℕ
+start_at book Oldest = Some (number_or_end book (find (λ k. true) book.rows))
+start_at book Next = Some book.admitted
+start_at book (After time) = Some (number_or_end book (find (is_later time) book.rows))
+start_at book (AfterSignature signature) = option_map number_behind (kept_with signature.0 book.rows)
+
+-- an insertion time that comes after the last one
+abbrev pub IsTimely : Option ℕ → ℕ → Type 0
+IsTimely None time = Unit {0}
+IsTimely (Some last) time = last < time
+
+-- the product that is put in at a place
+abbrev pub new_kept : BookView → ℕ → Metadata → ℕ → Kept
+new_kept book time info place = record { number = book.admitted; info = info; time = time; place = place }
+
+-- the arena with the body of a product
+abbrev pub written : List ℕ → List ℕ → Kept → List ℕ
+written bytes body k = put_mid (body_start k) (length body) bytes body
+
+-- a book with one product more, behind the others, and with its body
+abbrev pub grown : BookView → ℕ → Metadata → List ℕ → ℕ → BookView
+grown book time info body place = record book {
+  bytes = written book.bytes body (new_kept book time info place);
+  admitted = book.admitted + 1;
+  last = Some time;
+  rows = book.rows ++ new_kept book time info place ∷ [];
+}
+
+-- A product was put in: there was no room for it until so many products were evicted, the oldest first of those that
+-- nobody holds, and then it went where there was room.
+pub record PutEvicting (evicted time : ℕ) (info : Metadata) (body : List ℕ) (old new : BookView) : Type 0 where
+  pub free : evicted ≤ length (unheld_numbers old)
+  pub needed : (i : ℕ) → i < evicted → room_for (products (without_oldest i old)) (extent_of info) ≡ None
+  pub place : ℕ
+  pub room : room_for (products (without_oldest evicted old)) (extent_of info) ≡ Some place
+  pub within : place + extent_of info ≤ old.arena
+  pub sized : length old.bytes ≡ old.arena
+  pub new_is : new ≡ grown (without_oldest evicted old) time info body place

@@ -1,6 +1,7 @@
 -- What a contract sees of the products of a queue.
-use Rattle.std.specs.Prelude.{ℕ, ◌+◌, ◌<◌, ◌≤◌, Bool, not, ◌==◌, nat_le, nat_lt, List, [], ◌∷◌, ◌++◌, length, map, filter, Option, None, if◌then◌else◌}
+use Rattle.std.specs.Prelude.{ℕ, ◌+◌, ◌<◌, ◌≤◌, Bool, not, ◌==◌, ◌&&◌, nat_le, nat_lt, List, [], ◌∷◌, ◌++◌, length, map, filter, Option, None, if◌then◌else◌}
 use Rattle.std.specs.List.{AllByRecursion}
+use Rattle.ldm_types.specs.Feed.{feeds_meet}
 use Rattle.ldm_types.specs.Arena.{Region, fit, AreApart}
 use Rattle.ldm_model.specs.Product.{extent_of}
 use Rattle.ldm_book.specs.View.{Kept}
@@ -27,6 +28,18 @@ kept_number k = k.number
 -- whether a product has that number or a greater one
 abbrev pub at_number : ℕ → Kept → Bool
 at_number n k = nat_le n k.number
+
+-- whether a product was inserted later than that
+abbrev pub is_later : ℕ → Kept → Bool
+is_later time k = nat_lt time k.time
+
+-- whether a product has that number or a greater one, and feedtypes that meet these
+abbrev pub awaits : ℕ → ℕ → Kept → Bool
+awaits n feed k = nat_le n k.number && feeds_meet feed k.info.feed
+
+-- whether a product has that very number
+abbrev pub has_number : ℕ → Kept → Bool
+has_number n k = k.number == n
 
 -- whether a product has another number
 abbrev pub is_other : ℕ → Kept → Bool

@@ -1,11 +1,12 @@
 -- What a book keeps, and what is always true of it.
-use Rattle.std.specs.Prelude.{◌≡◌, ℕ, ◌+◌, ◌≤◌, ◌<◌, List, [], Option, Some, None}
+use Rattle.std.specs.Prelude.{◌≡◌, ℕ, ◌+◌, ◌≤◌, ◌<◌, List, [], length, Option, Some, None}
 use Rattle.std.specs.List.{All}
 use Rattle.std.specs.Vec.{vec_len}
-use Rattle.ldm_types.specs.declared.limits.TheConstants.{LARGEST_ARENA, MOST_SLOTS}
+use Rattle.ldm_types.specs.declared.limits.TheConstants.{GREATEST_INSTANT, LARGEST_ARENA, MOST_SLOTS}
 use Rattle.ldm_book.specs.declared.book.Book.TheInside.{Inside}
 use Rattle.ldm_book.specs.View.{BookView, Kept}
-use Rattle.ldm_book.specs.Products.{LieApart}
+use Rattle.ldm_book.specs.Products.{AreRising, LieApart}
+use Rattle.ldm_book.specs.Readers.{AreReading}
 
 abbrev pub view_of : Inside → BookView
 view_of b = record {
@@ -15,6 +16,7 @@ view_of b = record {
   admitted = b.admitted;
   last = b.last;
   rows = b.products.rows;
+  cursors = b.cursors;
 }
 
 -- no product was admitted after the last insertion time, and times rise by one at least
@@ -25,7 +27,12 @@ IsTimed (Some last) admitted rows = (admitted ≤ last + 1) × All (λ k. (k.num
 pub record IsSound (b : Inside) : Type 0 where
   pub arena : vec_len b.arena ≡ b.products.arena
   pub timed : IsTimed b.last b.admitted b.products.rows
+  pub rising : AreRising b.products.rows
   pub apart : LieApart b.products.arena b.products.rows
   pub arena_small : vec_len b.arena ≤ LARGEST_ARENA
   pub slots_small : b.products.slots ≤ MOST_SLOTS
   pub some_slot : 0 < b.products.slots
+  -- numbers stay far below 2 ^ 63
+  pub admitted_small : b.admitted ≤ GREATEST_INSTANT + 1
+  pub few : length b.products.rows ≤ b.admitted
+  pub readers : AreReading b.admitted b.products.rows b.cursors

@@ -1,12 +1,36 @@
 -- When a book stands for a state of the queue.
-use Rattle.std.specs.Prelude.{◌≡◌, ℕ, List, length, map, replicate, None}
+use Rattle.std.specs.Prelude.{◌≡◌, ℕ, ◌+◌, List, [], ◌∷◌, length, map, Option, Some, None}
 use Rattle.std.specs.List.{AllByRecursion}
-use Rattle.ldm_model.specs.State.{State, Queued, end_of, last_time, queued}
+use Rattle.std.specs.Option.{option_map}
+use Rattle.ldm_types.specs.Cursors.{Losses, KeptCursor}
+use Rattle.ldm_model.specs.State.{State, Cursor, Queued, end_of, last_time, queued}
+use Rattle.ldm_model.specs.Step.{least_of, greatest_of}
 use Rattle.ldm_book.specs.View.{BookView, kept, body_of}
 
 -- the arena has the bodies of these rows
 abbrev pub HasBodies : List ℕ → List Queued → Type 0
 HasBodies bytes rows = AllByRecursion (λ q. body_of bytes (kept q) ≡ q.product.body) rows
+
+-- what is kept of losses: their number, and the least and the greatest of them
+abbrev pub losses_of : List ℕ → Option Losses
+losses_of [] = None
+losses_of (n ∷ ns) = Some (record { count = length (n ∷ ns); least = least_of n ns; greatest = greatest_of n ns })
+
+-- what is kept of a cursor
+abbrev pub kept_cursor : Cursor → KeptCursor
+kept_cursor cursor = record {
+  actor = cursor.actor;
+  feed = cursor.feed;
+  position = cursor.position;
+  held = cursor.held;
+  untold = losses_of cursor.untold;
+  given = length cursor.given;
+  lost = length cursor.told + length cursor.untold;
+}
+
+-- and of a cursor place
+abbrev pub kept_place : Option Cursor → Option KeptCursor
+kept_place place = option_map kept_cursor place
 
 pub record StandsFor (book : BookView) (s : State) : Type 0 where
   pub arena : book.arena ≡ s.arena
@@ -19,5 +43,5 @@ pub record StandsFor (book : BookView) (s : State) : Type 0 where
   pub rows : book.rows ≡ map kept (queued s)
   -- whose bodies the arena has
   pub bodies : HasBodies book.bytes (queued s)
-  -- no cursor is open
-  pub cursors : s.cursors ≡ replicate 64 None
+  -- the kept cursors are the cursors, place by place
+  pub cursors : book.cursors ≡ map kept_place s.cursors

@@ -2,6 +2,7 @@
 use Rattle.std.specs.Prelude.{ℕ, ◌+◌, List, Option}
 use Rattle.std.specs.List.{between}
 use Rattle.ldm_types.specs.Info.{Metadata, metadata_len}
+use Rattle.ldm_types.specs.Cursors.{Places}
 use Rattle.ldm_model.specs.State.{Queued}
 
 -- A kept product: its number, its metadata, its insertion time, and where it begins in the arena.
@@ -20,7 +21,10 @@ pub record BookView : Type 0 where
   pub admitted : ℕ
   -- the insertion time of the last of them
   pub last : Option ℕ
+  -- the queued products, in the order of their numbers
   pub rows : List Kept
+  -- the 64 cursor places
+  pub cursors : Places
 
 -- what a book keeps of a present row
 abbrev pub kept : Queued → Kept

@@ -6,9 +6,15 @@
 #![tactic(auto)]
 
 mod book;
+mod laws;
 mod products;
 mod replies;
 mod row;
+mod spans;
 
 pub use book::Book;
-pub use replies::{CreateFault, ExpireReply, InsertReply, LookReply, Stat};
+pub use laws::{fifo, runs_are_legal};
+pub use replies::{
+    CloseReply, CreateFault, ExpireReply, InsertReply, LookReply, OpenReply, ReadReply,
+    ReleaseReply, Stat, StepReply, TallyReply,
+};

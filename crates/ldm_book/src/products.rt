@@ -1,5 +1,5 @@
 //! The products of a queue, each in a slot of its own.
-ghost use Rattle.std.specs.Prelude.{◌≡◌, ◌%◌, ◌+◌, ◌<◌, ◌≤◌, ℕ, None, Some, [], length, map, IfOk, MatchOption};
+ghost use Rattle.std.specs.Prelude.{◌≡◌, ◌%◌, ◌+◌, ◌^◌, ◌<◌, ◌≤◌, ℕ, count_by, None, Some, [], length, map, IfOk, MatchOption};
 ghost use Rattle.std.specs.List.{All, Any, find};
 ghost use Rattle.std.specs.Option.{option_map};
 ghost use Rattle.ldm_types.specs.Arena.{gaps, longest};
@@ -7,7 +7,8 @@ ghost use Rattle.ldm_model.specs.Product.{extent_of};
 ghost use Rattle.ldm_model.specs.Stat.{extents};
 ghost use Rattle.ldm_book.specs.Answers.{look_answer};
 ghost use Rattle.ldm_book.specs.Lookup.{kept_with, look_kept};
-ghost use Rattle.ldm_book.specs.Products.{kept_region, at_number, kept_number, AreRising, LieApart, room_for, with_row, without};
+ghost use Rattle.ldm_book.specs.Products.{kept_region, at_number, awaits, is_later, kept_number, AreRising, LieApart, room_for, with_row, without};
+ghost use Rattle.ldm_book.specs.RowKept.{row_kept};
 
 use crate::replies::LookReply;
 use crate::row::{Row, extent};
@@ -15,7 +16,8 @@ use ldm_regions::Regions;
 use ldm_sigindex::SigIndex;
 use ldm_timeindex::TimeIndex;
 use ldm_types::{
-    ARENA_UNIT, Info, LARGEST_ARENA, MOST_SLOTS, Micros, OutOfMemory, SMALLEST_ARENA, Signature,
+    ARENA_UNIT, Feed, Info, LARGEST_ARENA, MOST_SLOTS, Micros, OutOfMemory, SMALLEST_ARENA,
+    Signature,
 };
 use std::alloc::Global;
 use std::marker::Model;
@@ -122,6 +124,66 @@ impl Products {
             Some((found, _)) => Some(found),
             None => None,
         }
+    }
+
+    /// The product of at least that number, of these the first. `None` exactly where there is none.
+    pub(crate) fn first_row(&self, n: u64) -> Option<&Row>
+        ensures first { option_map row_kept result ≡ find (at_number n) self.now.rows }
+        ensures rising { AreRising self.now.rows }
+    {
+        let (_, slot) = self.by_number.first_at(n)?;
+        match &self.slots[slot as usize] {
+            Some(row) => Some(row),
+            None => unreachable!(),
+        }
+    }
+
+    /// The number of the first product that was inserted later than that. `None` exactly where there is none.
+    pub(crate) fn first_after(&self, time: Micros) -> Option<u64>
+        ensures { result ≡ option_map kept_number (find (is_later time) self.now.rows) }
+    {
+        match self.by_number.first_after(time) {
+            Some((found, _)) => Some(found),
+            None => None,
+        }
+    }
+
+    /// The first product of at least that number whose feedtypes meet these. `None` exactly where there is none.
+    pub(crate) fn first_meeting(&self, n: u64, feed: Feed) -> Option<&Row>
+        requires { All (λ k. k.number < 2 ^ 63) self.now.rows }
+        ensures { option_map row_kept result ≡ find (awaits n feed.0) self.now.rows }
+    {
+        let mut at = n;
+        while let Some(row) = self.first_row(at) {
+            if feed.meets(row.info.feed()) {
+                return Some(row);
+            }
+            at = row.n + 1;
+        }
+        None
+    }
+
+    /// How many products have at least that number and feedtypes that meet these.
+    pub(crate) fn count_meeting(&self, n: u64, feed: Feed) -> u64
+        requires { All (λ k. k.number < 2 ^ 63) self.now.rows }
+        ensures { result ≡ count_by (awaits n feed.0) self.now.rows }
+    {
+        let mut count = 0;
+        let mut at = n;
+        while let Some(row) = self.first_row(at) {
+            if feed.meets(row.info.feed()) {
+                count += 1;
+            }
+            at = row.n + 1;
+        }
+        count
+    }
+
+    /// How many slots there are.
+    pub(crate) fn slots(&self) -> u64
+        ensures { result ≡ self.now.slots }
+    {
+        self.slots.len() as u64
     }
 
     /// Puts a product in behind all others: into a free slot, at the start of the shortest gap that is long enough,

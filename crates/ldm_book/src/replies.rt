@@ -1,6 +1,6 @@
 //! What the calls of a queue answer. Numbers of products count admitted products from 0.
 
-use ldm_types::{Micros, OutOfMemory};
+use ldm_types::{CursorNo, Info, Micros, OutOfMemory};
 use std::alloc::AllocError;
 
 /// Why no queue was made. The faults are tested in this order.
@@ -49,6 +49,76 @@ pub enum InsertReply {
     TimeEnd,
     /// Evicting every product that no cursor holds would not make room. `held` products are held.
     Locked { held: u64 },
+}
+
+/// What opening a cursor led to.
+#[derive(Clone, Copy, Debug, PartialEq, Eq)]
+pub enum OpenReply {
+    /// The cursor has place `k`, the least that was empty.
+    Opened { k: CursorNo },
+    /// All 64 cursor places are taken.
+    AllBusy,
+    /// No queued product has the signature that the cursor was to begin behind.
+    NotQueued,
+}
+
+/// What a step of a cursor led to. The answers are tried in this order.
+#[derive(Debug, Drop)]
+pub enum StepReply {
+    /// The place has no cursor of this actor.
+    NoCursor,
+    /// The cursor holds product `n`.
+    Holding { n: u64 },
+    /// `count` products of the cursor's feedtypes, at or past its position, were evicted and were not told until now. The
+    /// least of their numbers is `first`, the greatest `last`.
+    Gap { count: u64, first: u64, last: u64 },
+    /// The first queued product at or past the position whose feedtypes meet the cursor's. The cursor holds it from now on.
+    Product { n: u64, time: Micros, info: Info },
+    /// There is no such product. The position is the end now, which is `at`: how many products were admitted.
+    End { at: u64 },
+}
+
+/// What reading from a held product led to.
+#[derive(Clone, Copy, Debug, PartialEq, Eq)]
+pub enum ReadReply {
+    /// The place has no cursor of this actor.
+    NoCursor,
+    /// The cursor holds nothing.
+    NotHeld,
+    /// The offset is above the size of the body, in bytes.
+    BadOffset { size: u32 },
+    /// So many bytes of the body are at the front of the buffer: as many as it has room for, or as are left.
+    Bytes { len: u32 },
+}
+
+/// What releasing a held product led to.
+#[derive(Clone, Copy, Debug, PartialEq, Eq)]
+pub enum ReleaseReply {
+    /// The place has no cursor of this actor.
+    NoCursor,
+    /// The cursor holds nothing.
+    NotHeld,
+    /// The cursor held product `n`, and does not hold it any more.
+    Released { n: u64 },
+}
+
+/// What closing a cursor led to.
+#[derive(Clone, Copy, Debug, PartialEq, Eq)]
+pub enum CloseReply {
+    /// The place has no cursor of this actor.
+    NoCursor,
+    /// The place is empty. If the cursor held a product, it does not any more.
+    Closed,
+}
+
+/// What counting for a cursor led to.
+#[derive(Clone, Copy, Debug, PartialEq, Eq)]
+pub enum TallyReply {
+    /// The place has no cursor of this actor.
+    NoCursor,
+    /// How many products the cursor was given, how many it lost, told or not, and how many queued ones at or past its
+    /// position have feedtypes that meet its own.
+    Tally { given: u64, lost: u64, left: u64 },
 }
 
 /// What looking for a product led to.

@@ -1,6 +1,6 @@
 -- The cursors of a queue by their places, and what each call makes of them.
-use Rattle.std.specs.Prelude.{ℕ, ◌+◌, ◌<◌, min, max, nat_le, Bool, ◌&&◌, List, set, slice_index_or, Option, Some, None, is_none, if◌then◌else◌}
-use Rattle.std.specs.List.{All, position}
+use Rattle.std.specs.Prelude.{ℕ, ◌+◌, ◌<◌, min, max, nat_le, Bool, false, not, ◌==◌, ◌&&◌, [], ◌∷◌, set, slice_index_or, Option, Some, None, is_none, if◌then◌else◌}
+use Rattle.std.specs.List.{All, list_any, position}
 use Rattle.std.specs.Option.{option_map, IfSome}
 use Rattle.ldm_types.specs.Cursors.{Losses, KeptCursor, Places}
 use Rattle.ldm_types.specs.Feed.{feeds_meet}
@@ -8,6 +8,36 @@ use Rattle.ldm_types.specs.Feed.{feeds_meet}
 -- the cursor of a place, if it is open
 abbrev pub cursor_at : Places → ℕ → Option KeptCursor
 cursor_at places k = slice_index_or places k None
+
+-- the number that the cursor of a place holds
+abbrev pub held_of : Option KeptCursor → Option ℕ
+held_of None = None
+held_of (Some cursor) = cursor.held
+
+abbrev pub held_at : Places → ℕ → Option ℕ
+held_at places k = held_of (cursor_at places k)
+
+abbrev pub is_number : ℕ → Option ℕ → Bool
+is_number n None = false
+is_number n (Some m) = m == n
+
+-- whether the cursor of a place holds the product of that number
+abbrev pub holds : ℕ → Option KeptCursor → Bool
+holds n place = is_number n (held_of place)
+
+-- whether a cursor holds the product of that number
+abbrev pub is_held : ℕ → Places → Bool
+is_held n places = list_any (holds n) places
+
+-- whether a product is held, and not by one of those behind
+abbrev pub is_last_hold : Option ℕ → Places → Bool
+is_last_hold None behind = false
+is_last_hold (Some n) behind = not (is_held n behind)
+
+-- how many products are held, each counted once
+abbrev pub count_held : Places → ℕ
+count_held [] = 0
+count_held (place ∷ behind) = (if is_last_hold (held_of place) behind then 1 else 0) + count_held behind
 
 -- the least place that is empty, if one is
 abbrev pub least_empty : Places → Option ℕ

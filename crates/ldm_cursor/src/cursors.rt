@@ -1,8 +1,8 @@
 //! The cursors of a queue.
 ghost use Rattle.std.specs.Prelude.{◌≡◌, ℕ, ◌^◌, ◌<◌, ◌≤◌, ◌↔◌, IsTrue, IsSome, IsSomeAnd, IfOk, IfSome, MatchOption, None, length, map, replicate};
 ghost use Rattle.std.specs.Option.{option_map};
-ghost use Rattle.ldm_cursor.specs.Kept.{IsKept, kept_of, places_of};
-ghost use Rattle.ldm_cursor.specs.Places.{CountsBelow, after_hold, after_move, after_release, after_tell, cursor_at, least_empty, new_cursor, numbers_of, with_change, with_cursor, with_loss, without_cursor};
+ghost use Rattle.ldm_cursor.specs.Kept.{IsKept, kept_of, place_of, places_of};
+ghost use Rattle.ldm_cursor.specs.Places.{CountsBelow, after_hold, after_move, after_release, after_tell, count_held, cursor_at, held_at, held_of, is_held, is_last_hold, least_empty, new_cursor, numbers_of, with_change, with_cursor, with_loss, without_cursor};
 
 use crate::cursor::Cursor;
 use crate::marks::Marks;
@@ -59,6 +59,42 @@ impl Cursors {
         self.places[k.get() as usize] = Some(Cursor::new(actor, feed, position));
         self.taken.mark(k);
         Some(k)
+    }
+
+    /// Whether all places are taken.
+    pub fn is_full(&self) -> bool
+        ensures full { IsTrue result ↔ (least_empty self.now ≡ None) }
+    {
+        match self.taken.first_unmarked() {
+            Some(_) => false,
+            None => true,
+        }
+    }
+
+    /// Whether a cursor holds the product of that number.
+    pub fn holds(&self, n: u64) -> bool
+        ensures { result ≡ is_held n self.now }
+    {
+        any_holds(&self.places, n)
+    }
+
+    /// The number of the product that the cursor of a place holds. `None` where the place is empty, too.
+    pub fn held_at(&self, k: CursorNo) -> Option<u64>
+        ensures held { result ≡ held_at self.now k }
+        ensures many { length self.now ≡ CursorNo.COUNT }
+    {
+        match &self.places[k.get() as usize] {
+            Some(cursor) => cursor.held,
+            None => None,
+        }
+    }
+
+    /// How many products are held, each counted once.
+    pub fn count_held(&self) -> u64
+        ensures count { result ≡ count_held self.now }
+        ensures many { length self.now ≡ CursorNo.COUNT }
+    {
+        count_last_holds(&self.places)
     }
 
     /// The product of that number and feed left the queue: counts it as lost at each cursor that it was still to
@@ -198,6 +234,46 @@ impl Cursors {
         };
         cursor
     }
+}
+
+/// Whether one of these cursors holds the product of that number.
+fn any_holds(places: &[Option<Cursor>], n: u64) -> bool
+    ensures { result ≡ is_held n (places_of places.now) }
+{
+    for place in places {
+        if let Some(cursor) = place
+            && cursor.held == Some(n)
+        {
+            return true;
+        }
+    }
+    false
+}
+
+/// Whether a cursor holds a product that none of those behind it holds.
+fn is_last_hold(place: &Option<Cursor>, behind: &[Option<Cursor>]) -> bool
+    ensures { result ≡ is_last_hold (held_of (place_of place.now)) (places_of behind.now) }
+{
+    match place {
+        Some(cursor) => match cursor.held {
+            Some(n) => !any_holds(behind, n),
+            None => false,
+        },
+        None => false,
+    }
+}
+
+/// How many products these cursors hold, each counted once.
+fn count_last_holds(places: &[Option<Cursor>]) -> u64
+    ensures { result ≡ count_held (places_of places.now) }
+{
+    let mut count = 0;
+    for (k, place) in places.iter().enumerate() {
+        if is_last_hold(place, &places[k + 1..]) {
+            count += 1;
+        }
+    }
+    count
 }
 
 /// Counts the product of that number and feed as lost at each cursor that it was still to come to.

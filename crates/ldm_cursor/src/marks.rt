@@ -21,7 +21,8 @@ impl Marks {
 
     /// The least place that is not marked. `None` exactly where all are.
     pub fn first_unmarked(self) -> Option<CursorNo>
-        ensures { MatchOption result ((i : ℕ) → i < 64 → bit_at self.bits i ≡ 1) (IsFirstUnmarked self.bits) }
+        ensures first { MatchOption result ((i : ℕ) → i < 64 → bit_at self.bits i ≡ 1) (IsFirstUnmarked self.bits) }
+        ensures bound { IfSome result (λ k. k < 64) }
     {
         CursorNo::new(self.bits.trailing_ones())
     }

@@ -1,6 +1,6 @@
 mod Held
 mod HeldNext
-mod Appended
+pub mod Appended
 pub mod Ascending
 pub mod Apart
 pub mod Rows

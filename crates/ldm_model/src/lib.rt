@@ -16,5 +16,4 @@ pub use event::{Entry, Event, Reply, Start};
 pub use examples::{worked_example_of_the_law, worked_examples, worked_examples_of_cursors};
 pub use laws::{
     admissions_are_numbered, held_products_are_queued, histories_append, products_were_inserted,
-    readers_are_served_in_order,
 };

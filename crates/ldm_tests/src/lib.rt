@@ -7,4 +7,6 @@ mod access;
 #[cfg(test)]
 mod book;
 #[cfg(test)]
+mod readers;
+#[cfg(test)]
 mod runs;

@@ -1,40 +1,33 @@
-use Rattle.std.proofs.Common.{◌≡◌, ◌∙◌, List, drop, sym, ap, subst}
+use Rattle.std.proofs.Common.{sym, subst}
 use Rattle.std.specs.List.{Contains}
-use Rattle.ldm_model.specs.declared.event.Reply.{Reply}
+use Rattle.ldm_model.specs.declared.event.Reply.TheVariants as reply
 use Rattle.ldm_model.specs.Expire.{expire}
-use Rattle.ldm_book.specs.View.{BookView, Kept}
-use Rattle.ldm_book.specs.Products.{ProductsView}
-use Rattle.ldm_book.specs.Making.{first_number}
-use Rattle.ldm_book.specs.Answers.{Follows, expire_answer}
-use Rattle.ldm_book.specs.Sound.{view_of}
-use Rattle.ldm_book.proofs.EvictLemmas.{without_oldest}
-use Rattle.ldm_book.proofs.ExpireLemmas.{expire_reply, expire-stands}
-use Rattle.ldm_book.proofs.EvictOldestLemmas.{contains_drop}
+use Rattle.ldm_book.specs.View.{BookView}
+use Rattle.ldm_book.specs.Products.{is_other}
+use Rattle.ldm_book.specs.Answers.{Follows}
+use Rattle.ldm_book.proofs.ExpireLemmas.{contains_filter, expired, nothing}
+use Rattle.ldm_book.proofs.FreeLemmas.{ahead_zero, first-there}
 use Rattle.ldm_book.proofs.book.Book.expire.Goals as goal
-use Rattle.ldm_book.proofs.book.Book.expire.Goals.{in-Some, in-None}
 
--- a book with other products
-abbrev with_products : BookView → ProductsView → BookView
-with_products book products = record { arena = book.arena; bytes = book.bytes; slots = products.slots; admitted = book.admitted; last = book.last; rows = products.rows }
+pub first_free-requires : goal.first_free-requires
+first_free-requires c = ahead_zero c.args.self.now.cursors c.args.self.now.rows
 
-pub returns-clause-answers : goal.returns-clause-answers
-unfolding expire
-returns-clause-answers c = λ s stands.
-    let rows = ap (λ (b : BookView). b.rows) c.self.view_is in
-    let answer : expire_reply c.evict_oldest.result ≡ expire_answer c.match-evict_oldest.result =
-    elim c.match-evict_oldest.branch [
-      | in-Some w ↦ ap expire_reply w.in-Some.is ∙ ap expire_answer (sym w.result-is)
-      | in-None w ↦ ap expire_reply w.in-None.is ∙ ap expire_answer (sym w.result-is)
-    ] in
-    let first : expire_reply (first_number c.args.self.now.rows) ≡ expire_answer c.match-evict_oldest.result =
-    ap (λ (ks : List Kept). expire_reply (first_number ks)) (sym rows) ∙ ap expire_reply (sym c.evict_oldest.ensures.first) ∙ answer in
-    let new : with_products (view_of c.self.inside) c.evict_oldest.new.products ≡ without_oldest 1 c.args.self.now =
-    ap (with_products (view_of c.self.inside)) c.evict_oldest.ensures.rest ∙ ap (without_oldest 1) c.self.view_is in
-    subst (λ (b : BookView). Follows (expire_answer c.match-evict_oldest.result) b (expire s)) (sym new)
-    (subst (λ (r : Reply). Follows r (without_oldest 1 c.args.self.now) (expire s)) first (expire-stands c.args.self.now s stands))
+pub evict-requires-clause-queued : goal.evict-requires-clause-queued
+evict-requires-clause-queued c = (first-there c.args.self.now.cursors c.args.self.now.rows c.in-Some.n (sym c.in-Some.ensures.first)).0
 
-pub returns-clause-places : goal.returns-clause-places
-returns-clause-places c = λ k in_new below.
-    let rows = ap (λ (b : BookView). b.rows) c.self.view_is in
-    let left = ap (λ (p : ProductsView). p.rows) c.evict_oldest.ensures.rest in
-    contains_drop 1 c.args.self.now.rows k (subst (λ (ks : List Kept). Contains ks k) (left ∙ ap (drop 1) rows) in_new)
+pub evict-requires-clause-free : goal.evict-requires-clause-free
+evict-requires-clause-free c = (first-there c.args.self.now.cursors c.args.self.now.rows c.in-Some.n (sym c.in-Some.ensures.first)).1
+
+pub returns-in-Some-clause-answers : goal.returns-in-Some-clause-answers
+returns-in-Some-clause-answers c = λ s stands.
+    subst (λ (b : BookView). Follows (reply.Expired c.in-Some.n) b (expire s)) (sym c.evict.ensures.evicted) (expired c.args.self.now s stands c.in-Some.n c.in-Some.ensures.first)
+
+pub returns-in-Some-clause-places : goal.returns-in-Some-clause-places
+returns-in-Some-clause-places c = λ k in_new below.
+    contains_filter (is_other c.in-Some.n) c.args.self.now.rows k (subst (λ (b : BookView). Contains b.rows k) c.evict.ensures.evicted in_new)
+
+pub returns-in-None-clause-answers : goal.returns-in-None-clause-answers
+returns-in-None-clause-answers c = λ s stands. nothing c.args.self.now s stands c.in-None.ensures.first
+
+pub returns-in-None-clause-apart : goal.returns-in-None-clause-apart
+returns-in-None-clause-apart c = c.in-None.ensures.apart

@@ -1,24 +1,23 @@
-use Rattle.std.proofs.Common.{◌≡◌, ◌∙◌, ℕ, ◌+◌, ◌-◌, ◌≤◌, List, [], ◌∷◌, ◌++◌, drop, length, Some, refl, sym, ap, subst, arith, inl, inr, rules}
-use borrow.Rule.Slice.PartMut.{put_mid}
+use Rattle.std.proofs.Common.{◌≡◌, ◌∙◌, ℕ, ◌+◌, ◌<◌, ◌≤◌, true, false, List, take, length, Option, Some, None, sym, ap, subst, arith, inl, inr}
+use Rattle.std.specs.Prelude.{is_some}
 use Rattle.std.specs.List.{Contains}
-use Rattle.std.specs.Vec.{vec_len, with_items}
-use Rattle.std.proofs.lemmas.List.{with_items_is}
-use Rattle.ldm_types.specs.Info.{Metadata}
+use Rattle.std.specs.Option.{IfSome, MatchOption}
 use Rattle.ldm_model.specs.Product.{Product, extent_of}
 use Rattle.ldm_model.specs.declared.event.Reply.TheVariants as reply
 use Rattle.ldm_model.specs.Insert.{is_last, time_after as time_of, insert as insert_of}
 use Rattle.ldm_book.specs.Answers.{Follows}
-use Rattle.ldm_book.specs.View.{BookView, Kept, body_start}
+use Rattle.ldm_book.specs.View.{BookView, Kept}
 use Rattle.ldm_book.specs.Lookup.{kept_with, look_kept}
-use Rattle.ldm_book.specs.Products.{ProductsView, LieApart, room_for, with_row}
-use Rattle.ldm_book.specs.Making.{without_first}
-use Rattle.ldm_book.specs.Sound.{view_of, IsTimed}
+use Rattle.ldm_book.specs.Products.{LieApart, room_for}
+use Rattle.ldm_book.specs.Readers.{held_products, products, unheld_numbers, without_oldest}
+use Rattle.ldm_book.specs.Making.{grown, new_kept}
+use Rattle.ldm_book.specs.Sound.{view_of}
 use Rattle.ldm_book.specs.Stands.{StandsFor}
-use Rattle.ldm_book.proofs.HasBodiesLemmas.{written, length-written}
-use Rattle.ldm_book.proofs.EvictLemmas.{products, without_oldest}
-use Rattle.ldm_book.proofs.EvictOldestLemmas.{contains_drop, contains_push}
-use Rattle.ldm_book.proofs.IsTimedLemmas.{timed_push}
-use Rattle.ldm_book.proofs.InsertLemmas.{too_big, duplicate, time_end, kept_new, grown, admitted_after}
+use Rattle.ldm_book.proofs.CountLemmas.{count-stands}
+use Rattle.ldm_book.proofs.ExpireLemmas.{contains_all, contains_push}
+use Rattle.ldm_book.proofs.InsertLemmas.{too_big, duplicate, time_end, locked, admitted_after}
+use Rattle.ldm_book.proofs.IsTimedLemmas.{timed_below}
+use Rattle.ldm_book.proofs.RoomLemmas.{alike_all, was_full, was_put}
 use Rattle.ldm_book.proofs.book.Book.insert.Goals as goal
 
 pub returns-then-need-arena-clause-answers : goal.returns-then-need-arena-clause-answers
@@ -43,77 +42,86 @@ returns-in_default-time_after-clause-answers c = λ s stands.
     let rows = ap (λ (b : BookView). b.rows) c.self.view_is in
     let last = ap (λ (b : BookView). b.last) c.self.view_is in
     let absent = rw c.signature.ensures at c.in_default.ensures ∙ ap (λ (ks : List Kept). look_kept (kept_with c.args.info.now.signature ks)) rows in
-    time_end c.args.self.now s stands c.args.now p (omega (arith, c.extent-need.ensures, c.len-arena.ensures, arena, c.if-need-arena.false)) (sym absent) (ap is_last (sym last) ∙ c.in_default-time_after.ensures)
+    time_end c.args.self.now s stands c.args.now p (omega (arith, c.extent-need.ensures, c.len-arena.ensures, arena, c.if-need-arena.false)) (sym absent) (ap is_last (sym last) ∙ c.in_default-time_after.ensures.time)
 
--- the product that is put in
-abbrev new_row : ℕ → Metadata → ℕ → ℕ → Kept
-new_row n info time place = record { number = n; info = info; time = time; place = place }
+pub returns-then-put-clause-answers : goal.returns-then-put-clause-answers
+returns-then-put-clause-answers c = λ s stands.
+    let book = view_of c.self.inside in
+    let here = subst (λ (b : BookView). StandsFor b s) (sym c.self.view_is) stands in
+    let p : Product = record { info = c.args.info.now; body = c.args.body.now } in
+    let need = extent_of p.info in
+    let put = was_put (c.put.new.self ≡ book) (λ place. c.put.new.self ≡ grown book c.in-Some.time p.info p.body place) (room_for (products book) need) c.put.result c.if-put.true (subst (λ (b : BookView). MatchOption (room_for (products b) (extent_of c.args.info.now)) ((c.put.result ≡ false) × (c.put.new.self ≡ b)) (λ place. (c.put.result ≡ true) × (c.put.new.self ≡ grown b c.in-Some.time c.args.info.now c.args.body.now place))) (sym c.self.view_is) c.put.ensures.put) in
+    let within = subst (λ (o : Option ℕ). IfSome o (λ place. place + need ≤ book.arena)) put.1 (subst (λ (b : BookView). IfSome (room_for (products b) need) (λ place. place + need ≤ b.arena)) (sym c.self.view_is) c.put.ensures.within) in
+    let time : c.in-Some.time ≡ time_of book.last c.args.now = c.in-Some.ensures.time.1 in
+    let new_is : c.put.new.self ≡ grown book (time_of book.last c.args.now) p.info p.body put.0 = put.2 ∙ ap (λ (t : ℕ). grown book t p.info p.body put.0) time in
+    let apart = subst (λ (b : BookView). LieApart b.arena b.rows) new_is c.put.ensures.apart in
+    let follows = admitted_after book s here c.args.now p c.self.invariant.rising (omega (arith, c.extent-need.ensures, c.len-arena.ensures, c.if-need-arena.false)) (sym (rw c.signature.ensures at c.in_default.ensures)) c.in-Some.ensures.time.0 0 put.0 (omega arith)
+    (λ i h. absurd (omega arith)) put.1 c.requires (omega (arith, within, subst (λ (b : BookView). length b.bytes ≡ b.arena) (sym c.self.view_is) c.put.ensures.sized)) apart in
+    subst (λ (b : BookView). Follows (reply.Admitted book.admitted c.in-Some.time 0) b (insert_of s c.args.now p)) (sym new_is)
+    (subst (λ (t : ℕ). Follows (reply.Admitted book.admitted t 0) (grown book (time_of book.last c.args.now) p.info p.body put.0) (insert_of s c.args.now p)) (sym time) follows)
 
--- a book with other products and one insertion more
-abbrev with_products : BookView → List ℕ → ℕ → ProductsView → BookView
-with_products book bytes time products = record { arena = book.arena; bytes = bytes; slots = products.slots; admitted = book.admitted + 1; last = Some time; rows = products.rows }
+pub returns-then-put-clause-places : goal.returns-then-put-clause-places
+returns-then-put-clause-places c = λ k in_new below.
+    let book = view_of c.self.inside in
+    let put = was_put (c.put.new.self ≡ book) (λ place. c.put.new.self ≡ grown book c.in-Some.time c.args.info.now c.args.body.now place) (room_for (products book) (extent_of c.args.info.now)) c.put.result c.if-put.true (subst (λ (b : BookView). MatchOption (room_for (products b) (extent_of c.args.info.now)) ((c.put.result ≡ false) × (c.put.new.self ≡ b)) (λ place. (c.put.result ≡ true) × (c.put.new.self ≡ grown b c.in-Some.time c.args.info.now c.args.body.now place))) (sym c.self.view_is) c.put.ensures.put) in
+    let rows = ap (λ (b : BookView). b.rows) c.self.view_is in
+    let admitted = ap (λ (b : BookView). b.admitted) c.self.view_is in
+    elim (contains_push book.rows (new_kept book c.in-Some.time c.args.info.now put.0) k (subst (λ (b : BookView). Contains b.rows k) put.2 in_new)) [
+      | inl there ↦ subst (λ (ks : List Kept). Contains ks k) rows there
+      | inr same ↦ (let number = ap (λ (x : Kept). x.number) same in absurd (omega (arith, number, admitted, below)))
+    ]
 
-pub invariant_of-self : goal.invariant_of-self
-invariant_of-self c =
-    let put = c.put_evicting-put.result in
-    let time : time_of c.self.inside.last c.args.now ≡ c.in-Some.time = sym c.in-Some.ensures.1 in
-    let new = new_row c.self.inside.admitted c.args.info.now c.in-Some.time put.place in
-    let rows = ap (λ (p : ProductsView). p.rows) c.put_evicting-put.ensures.put.rows in
-    let timed = timed_push c.self.inside.last c.self.inside.admitted c.args.now put.evicted c.self.inside.products.rows new c.self.invariant.timed refl c.in-Some.ensures.1 in
-    record {
-      arena = search rules;
-      timed = subst (λ (ks : List Kept). IsTimed (Some c.in-Some.time) (c.self.inside.admitted + 1) ks) (sym rows)
-          (subst (λ (t : ℕ). IsTimed (Some t) (c.self.inside.admitted + 1) (drop put.evicted c.self.inside.products.rows ++ new ∷ [])) time timed);
-      apart = search rules;
-      arena_small = search rules;
-      slots_small = search rules;
-      some_slot = search rules;
-    }
+pub returns-then-not-has_room_beside_held-clause-answers : goal.returns-then-not-has_room_beside_held-clause-answers
+returns-then-not-has_room_beside_held-clause-answers c = λ s stands.
+    let book = view_of c.self.inside in
+    let p : Product = record { info = c.args.info.now; body = c.args.body.now } in
+    let need = extent_of p.info in
+    let here = subst (λ (b : BookView). StandsFor b s) (sym c.self.view_is) stands in
+    let full = was_full (c.put.new.self ≡ book) (λ place. c.put.new.self ≡ grown book c.in-Some.time p.info p.body place) (room_for (products book) need) c.put.result c.if-put.false (subst (λ (b : BookView). MatchOption (room_for (products b) (extent_of c.args.info.now)) ((c.put.result ≡ false) × (c.put.new.self ≡ b)) (λ place. (c.put.result ≡ true) × (c.put.new.self ≡ grown b c.in-Some.time c.args.info.now c.args.body.now place))) (sym c.self.view_is) c.put.ensures.put) in
+    let same : view_of c.self-2.inside ≡ book = c.self-2.view_is ∙ full.1 in
+    let there = subst (λ (b : BookView). StandsFor b s) (sym same) here in
+    let count = c.count_held.ensures.count ∙ count-stands (view_of c.self-2.inside) s there (timed_below c.self-2.inside.last c.self-2.inside.admitted c.self-2.inside.products.rows c.self-2.invariant.timed) c.self-2.invariant.readers in
+    let no : is_some (room_for (held_products c.put.new.self) c.extent-need.result) ≡ false = sym c.has_room_beside_held.ensures ∙ c.if-not-has_room_beside_held.true in
+    let none : is_some (room_for (held_products book) need) ≡ false = ap (λ (b : BookView). is_some (room_for (held_products b) need)) (sym full.1) ∙ ap (λ (n : ℕ). is_some (room_for (held_products c.put.new.self) n)) (sym c.extent-need.ensures) ∙ no in
+    subst (λ (b : BookView). Follows (reply.Locked c.count_held.result) b (insert_of s c.args.now p)) (sym full.1)
+    (locked book s here c.args.now p c.self.invariant.rising (omega arith) (omega (arith, c.extent-need.ensures, c.len-arena.ensures, c.if-need-arena.false)) (sym (rw c.signature.ensures at c.in_default.ensures)) c.in-Some.ensures.time.0 none c.count_held.result count)
 
 pub returns-clause-answers : goal.returns-clause-answers
 returns-clause-answers c = λ s stands.
-    let inside = c.self.inside in
-    let book = view_of inside in
+    let book = view_of c.self.inside in
     let p : Product = record { info = c.args.info.now; body = c.args.body.now } in
-    let put = c.put_evicting-put.result in
-    let done = c.put_evicting-put.ensures.put in
-    let new = kept_new book c.args.now p put.place in
-    let time : c.in-Some.time ≡ time_of inside.last c.args.now = c.in-Some.ensures.1 in
-    let same : products book ≡ inside.products = ap (λ (a : ℕ). record inside.products { arena = a }) c.self.invariant.arena in
-    let bytes : length inside.arena.items ≡ vec_len inside.arena = omega (arith, inside.arena.ok.0) in
-    let within : body_start new + length p.body ≤ length inside.arena.items = omega (arith, bytes, c.self.invariant.arena, done.within, c.requires) in
-    let apart : LieApart book.arena (drop put.evicted book.rows ++ new ∷ []) =
-    subst (λ (a : ℕ). LieApart a (drop put.evicted book.rows ++ new ∷ [])) (sym c.self.invariant.arena)
-    (subst (λ (t : ℕ). LieApart inside.products.arena (drop put.evicted book.rows ++ new_row inside.admitted p.info t put.place ∷ [])) time
-    (subst (λ (q : ProductsView). LieApart q.arena q.rows) done.rows c.put_evicting-put.ensures.apart)) in
-    let follows = admitted_after book s (subst (λ (b : BookView). StandsFor b s) (sym c.self.view_is) stands) c.args.now p
-    (omega (arith, c.extent-need.ensures, c.len-arena.ensures, c.if-need-arena.false)) (sym (rw c.signature.ensures at c.in_default.ensures)) c.in-Some.ensures.0 put.evicted put.place done.queued
-    (λ i h. ap (λ (q : ProductsView). room_for (without_first i q) (extent_of p.info)) same ∙ done.needed i h)
-    (ap (λ (q : ProductsView). room_for (without_first put.evicted q) (extent_of p.info)) same ∙ done.place)
-    c.requires within apart in
-    let front : put.place + c.info_len.result ≡ body_start new = ap (λ (n : ℕ). put.place + n) c.info_len.ensures.value in
-    let count : put.place + c.info_len.result + length p.body - (put.place + c.info_len.result) ≡ length p.body = omega arith in
-    let wrote : put_mid (put.place + c.info_len.result) (put.place + c.info_len.result + length p.body - (put.place + c.info_len.result)) c.deref_mut.result.now c.copy_from_slice.new.self ≡ written inside.arena.items p.body new =
-    λ i. put_mid (front i) (count i) (c.deref_mut.ensures.value i) (c.copy_from_slice.ensures.after i) in
-    let items = with_items_is inside.arena (written inside.arena.items p.body new) (length-written inside.arena.items p.body new within ∙ bytes) in
-    let view : with_products book (with_items inside.arena (put_mid (put.place + c.info_len.result) (put.place + c.info_len.result + length p.body - (put.place + c.info_len.result)) c.deref_mut.result.now c.copy_from_slice.new.self)).items c.in-Some.time c.put_evicting-put.new.products
-    ≡ grown (without_oldest put.evicted book) c.args.now p put.place (written inside.arena.items p.body new) =
-    ap (λ (bs : List ℕ). with_products book (with_items inside.arena bs).items c.in-Some.time c.put_evicting-put.new.products) wrote
-    ∙ ap (λ (bs : List ℕ). with_products book bs c.in-Some.time c.put_evicting-put.new.products) items
-    ∙ ap (with_products book (written inside.arena.items p.body new) c.in-Some.time) done.rows
-    ∙ ap (λ (t : ℕ). with_products book (written inside.arena.items p.body new) t (with_row (without_first put.evicted inside.products) (new_row inside.admitted p.info t put.place))) time in
-    subst (λ (b : BookView). Follows (reply.Admitted inside.admitted c.in-Some.time put.evicted) b (insert_of s c.args.now p)) (sym view)
-    (subst (λ (t : ℕ). Follows (reply.Admitted inside.admitted t put.evicted) (grown (without_oldest put.evicted book) c.args.now p put.place (written inside.arena.items p.body new)) (insert_of s c.args.now p)) (sym time) follows)
+    let need = extent_of p.info in
+    let here = subst (λ (b : BookView). StandsFor b s) (sym c.self.view_is) stands in
+    let full = was_full (c.put.new.self ≡ book) (λ place. c.put.new.self ≡ grown book c.in-Some.time p.info p.body place) (room_for (products book) need) c.put.result c.if-put.false (subst (λ (b : BookView). MatchOption (room_for (products b) (extent_of c.args.info.now)) ((c.put.result ≡ false) × (c.put.new.self ≡ b)) (λ place. (c.put.result ≡ true) × (c.put.new.self ≡ grown b c.in-Some.time c.args.info.now c.args.body.now place))) (sym c.self.view_is) c.put.ensures.put) in
+    let done = c.put_evicting-evicted.ensures.put in
+    let j = c.put_evicting-evicted.result in
+    let time : c.in-Some.time ≡ time_of book.last c.args.now = c.in-Some.ensures.time.1 in
+    let needed : (i : ℕ) → i < j → room_for (products (without_oldest i book)) need ≡ None = λ i h. ap (λ (b : BookView). room_for (products (without_oldest i b)) need) (sym full.1) ∙ done.needed i h in
+    let room : room_for (products (without_oldest j book)) need ≡ Some done.place = ap (λ (b : BookView). room_for (products (without_oldest j b)) need) (sym full.1) ∙ done.room in
+    let free : j ≤ length (unheld_numbers book) = subst (λ (b : BookView). j ≤ length (unheld_numbers b)) full.1 done.free in
+    let new_is : c.put_evicting-evicted.new.self ≡ grown (without_oldest j book) (time_of book.last c.args.now) p.info p.body done.place =
+    done.new_is ∙ ap (λ (b : BookView). grown (without_oldest j b) c.in-Some.time p.info p.body done.place) full.1 ∙ ap (λ (t : ℕ). grown (without_oldest j book) t p.info p.body done.place) time in
+    let sized = ap (λ (b : BookView). length b.bytes) full.1 in
+    let arena = ap (λ (b : BookView). b.arena) full.1 in
+    let alike = alike_all (take j (unheld_numbers book)) book in
+    let apart = subst (λ (b : BookView). LieApart b.arena b.rows) new_is c.put_evicting-evicted.ensures.apart in
+    let apart_in : LieApart book.arena (grown (without_oldest j book) (time_of book.last c.args.now) p.info p.body done.place).rows = subst (λ (a : ℕ). LieApart a (grown (without_oldest j book) (time_of book.last c.args.now) p.info p.body done.place).rows) alike.arena apart in
+    let inside : done.place + need ≤ length book.bytes = omega (arith, done.within, done.sized, sized, arena) in
+    let follows = admitted_after book s here c.args.now p c.self.invariant.rising (omega (arith, c.extent-need.ensures, c.len-arena.ensures, c.if-need-arena.false)) (sym (rw c.signature.ensures at c.in_default.ensures)) c.in-Some.ensures.time.0 j done.place free needed room c.requires inside apart_in in
+    subst (λ (b : BookView). Follows (reply.Admitted book.admitted c.in-Some.time j) b (insert_of s c.args.now p)) (sym new_is)
+    (subst (λ (t : ℕ). Follows (reply.Admitted book.admitted t j) (grown (without_oldest j book) (time_of book.last c.args.now) p.info p.body done.place) (insert_of s c.args.now p)) (sym time) follows)
 
 pub returns-clause-places : goal.returns-clause-places
 returns-clause-places c = λ k in_new below.
-    let put = c.put_evicting-put.result in
-    let old = c.self.inside.products.rows in
-    let new = new_row c.self.inside.admitted c.args.info.now c.in-Some.time put.place in
-    let rows = ap (λ (b : BookView). b.rows) c.self.view_is in
-    let admitted = ap (λ (b : BookView). b.admitted) c.self.view_is in
-    let left = ap (λ (p : ProductsView). p.rows) c.put_evicting-put.ensures.put.rows in
-    elim (contains_push (drop put.evicted old) new k (subst (λ (ks : List Kept). Contains ks k) left in_new)) [
-      | inl kept ↦ subst (λ (ks : List Kept). Contains ks k) rows (contains_drop put.evicted old k kept)
-      | inr same ↦ (let number = ap (λ (x : Kept). x.number) same in absurd (omega (arith, number, admitted, below)))
+    let book = view_of c.self.inside in
+    let need = extent_of c.args.info.now in
+    let full = was_full (c.put.new.self ≡ book) (λ place. c.put.new.self ≡ grown book c.in-Some.time c.args.info.now c.args.body.now place) (room_for (products book) need) c.put.result c.if-put.false (subst (λ (b : BookView). MatchOption (room_for (products b) (extent_of c.args.info.now)) ((c.put.result ≡ false) × (c.put.new.self ≡ b)) (λ place. (c.put.result ≡ true) × (c.put.new.self ≡ grown b c.in-Some.time c.args.info.now c.args.body.now place))) (sym c.self.view_is) c.put.ensures.put) in
+    let done = c.put_evicting-evicted.ensures.put in
+    let j = c.put_evicting-evicted.result in
+    let after = without_oldest j c.put.new.self in
+    let alike = alike_all (take j (unheld_numbers c.put.new.self)) c.put.new.self in
+    let admitted = ap (λ (b : BookView). b.admitted) (full.1 ∙ c.self.view_is) in
+    elim (contains_push after.rows (new_kept after c.in-Some.time c.args.info.now done.place) k (subst (λ (b : BookView). Contains b.rows k) done.new_is in_new)) [
+      | inl there ↦ subst (λ (b : BookView). Contains b.rows k) (full.1 ∙ c.self.view_is) (contains_all (take j (unheld_numbers c.put.new.self)) c.put.new.self k there)
+      | inr same ↦ (let number = ap (λ (x : Kept). x.number) same in absurd (omega (arith, number, admitted, alike.admitted, below)))
     ]

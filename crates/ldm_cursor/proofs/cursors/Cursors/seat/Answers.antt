@@ -10,12 +10,12 @@ use Rattle.ldm_cursor.proofs.cursors.Cursors.seat.Goals as goal
 pub returns-in_err-k-clause-place : goal.returns-in_err-k-clause-place
 returns-in_err-k-clause-place c =
     let kept = subst (λ places. IsKept places c.self.inside.taken.bits) c.self.view_is c.self.invariant in
-    c.from_residual.ensures ∙ least_empty-none c.args.self.now c.self.inside.taken.bits kept c.in_err-k.ensures
+    c.from_residual.ensures ∙ least_empty-none c.args.self.now c.self.inside.taken.bits kept c.in_err-k.ensures.first
 
 pub returns-clause-place : goal.returns-clause-place
 returns-clause-place c =
     let kept = subst (λ places. IsKept places c.self.inside.taken.bits) c.self.view_is c.self.invariant in
-    least_empty-unmarked c.args.self.now c.self.inside.taken.bits c.in_ok-k.k kept c.get.ensures.bound c.in_ok-k.ensures
+    least_empty-unmarked c.args.self.now c.self.inside.taken.bits c.in_ok-k.k kept c.get.ensures.bound c.in_ok-k.ensures.first
 
 pub returns-clause-seated : goal.returns-clause-seated
 returns-clause-seated c =

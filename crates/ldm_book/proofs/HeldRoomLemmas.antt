@@ -1,0 +1,143 @@
+-- Whether there is room beside the held products, by where they lie.
+use Rattle.std.proofs.Common.{◌≡◌, ℕ, ◌+◌, ◌<◌, ◌≤◌, ◌||◌, Bool, true, false, cond, leb, ltb, max, List, [], ◌∷◌, map, Option, Some, None, refl, sym, ap, subst, ◌∙◌, inl, inr, arith}
+use Rattle.std.specs.Prelude.{◌&&◌, filter, is_some}
+use Rattle.std.specs.List.{AllByRecursion, find, list_any}
+use Rattle.std.specs.Option.{IfSome}
+use Rattle.std.proofs.lemmas.Bool.{true≢false, false≢true, or_left, or_right, le-leb, lt-leb, le-ltb, lt-ltb, cases_lt, cases_eq, eq-eqb, ne_eqb}
+use Rattle.ldm_types.specs.Arena.{covers, fit, is_covered}
+use Rattle.ldm_types.specs.Cursors.{KeptCursor, Places}
+use Rattle.ldm_cursor.specs.Places.{held_of, holds, is_held, is_number}
+use Rattle.ldm_model.specs.Product.{extent_of}
+use Rattle.ldm_book.specs.View.{Kept}
+use Rattle.ldm_book.specs.Products.{AreRising, at_number, has_number, kept_region}
+use Rattle.ldm_book.specs.Readers.{AreReading, IsPlaceReading, is_kept_held}
+use Rattle.ldm_book.specs.Spans.{has_gap, held_span, span_at, span_of}
+use Rattle.ldm_book.proofs.SpaceLemmas.{fit-space, space-fit}
+use Rattle.ldm_book.proofs.SpanLemmas.{IsBeside, gap-found, room-found}
+
+-- each product is found by its number
+find_later : (k : Kept) (ks rs : List Kept) → AllByRecursion (λ (r : Kept). k.number < r.number) rs → AllByRecursion (λ (r : Kept). find (at_number r.number) ks ≡ Some r) rs → AllByRecursion (λ (r : Kept). find (at_number r.number) (k ∷ ks) ≡ Some r) rs
+find_later k ks [] above all = tt
+find_later k ks (r ∷ rs) above all = (ap (λ (b : Bool). cond b (Some k) (find (at_number r.number) ks)) (lt-leb r.number k.number above.0) ∙ all.0, find_later k ks rs above.1 all.1)
+
+find_self : (rows : List Kept) → AreRising rows → AllByRecursion (λ (r : Kept). find (at_number r.number) rows ≡ Some r) rows
+find_self [] rising = tt
+find_self (k ∷ ks) rising = (ap (λ (b : Bool). cond b (Some k) (find (at_number k.number) ks)) (le-leb k.number k.number (omega arith)), find_later k ks ks rising.0 (find_self ks rising.1))
+
+above_any : (n m : ℕ) (rows : List Kept) → AllByRecursion (λ (r : Kept). m < r.number) rows → list_any (has_number n) rows ≡ true → m < n
+above_any n m [] above h = absurd (false≢true h)
+above_any n m (k ∷ ks) above h = elim (cases_eq k.number n) [
+  | inl same ↦ omega (arith, same, above.0)
+  | inr other ↦ above_any n m ks above.1 (ap (λ (b : Bool). b || list_any (has_number n) ks) (sym (ne_eqb k.number n other)) ∙ h)
+]
+
+find_number : (n : ℕ) (rows : List Kept) → AreRising rows → list_any (has_number n) rows ≡ true → (k : Kept) × (find (at_number n) rows ≡ Some k) × (k.number ≡ n)
+find_number n [] rising h = absurd (false≢true h)
+find_number n (k ∷ ks) rising h = elim (cases_eq k.number n) [
+  | inl same ↦ (k, ap (λ (b : Bool). cond b (Some k) (find (at_number n) ks)) (le-leb n k.number (omega arith)), same)
+  | inr other ↦
+      let behind = ap (λ (b : Bool). b || list_any (has_number n) ks) (sym (ne_eqb k.number n other)) ∙ h in
+      let rest = find_number n ks rising.1 behind in
+      (rest.0, ap (λ (b : Bool). cond b (Some k) (find (at_number n) ks)) (lt-leb n k.number (above_any n k.number ks rising.0 behind)) ∙ rest.1, rest.2)
+]
+
+-- what a span does not meet its product does not cover, and the other way
+covers-not : (p need i : ℕ) (k : Kept) → IsBeside p need (span_of (Some k)) → p ≤ i → i < p + need → covers i (kept_region k) ≡ false
+covers-not p need i k (inl before) low high = ap (λ (b : Bool). b && ltb i (k.place + extent_of k.info)) (lt-leb k.place i (omega arith))
+covers-not p need i k (inr behind) low high = nor (leb k.place i) (ltb i (k.place + extent_of k.info)) (le-ltb i (k.place + extent_of k.info) (omega arith))
+  where
+    nor : (a b : Bool) → b ≡ false → (a && b) ≡ false
+    nor true b e = e
+    nor false b e = refl
+
+beside-from : (p need : ℕ) (k : Kept) → 0 < need → 0 < extent_of k.info → ((i : ℕ) → p ≤ i → i < p + need → covers i (kept_region k) ≡ false) → IsBeside p need (span_of (Some k))
+beside-from p need k some extent none = elim (cases_lt k.place (p + need)) [
+  | inr before ↦ inl before
+  | inl meets ↦ elim (cases_lt p (k.place + extent_of k.info)) [
+    | inr behind ↦ inr behind
+    | inl meets_too ↦
+        let i = max p k.place in
+        let yes_low = le-leb k.place i (omega arith) in
+        let yes_high = lt-ltb i (k.place + extent_of k.info) (omega arith) in
+        absurd (true≢false (sym (ap (λ (b : Bool). b && ltb i (k.place + extent_of k.info)) yes_low ∙ yes_high) ∙ none i (omega arith) (omega arith)))
+  ]
+]
+
+or_false : (a b : Bool) → (a || b) ≡ false → (a ≡ false) × (b ≡ false)
+or_false true b e = absurd (true≢false e)
+or_false false b e = (refl, e)
+
+-- a held product that is found covers nothing that the held ones do not
+not_covered : (cs : Places) (test : Kept → Bool) (i : ℕ) (rows : List Kept) (k : Kept) → find test rows ≡ Some k → is_kept_held cs k ≡ true → is_covered (map kept_region (filter (is_kept_held cs) rows)) i ≡ false → covers i (kept_region k) ≡ false
+not_covered cs test i [] k e held none = absurd cc
+not_covered cs test i (r ∷ rs) k e held none = by_test (test r) (is_kept_held cs r) refl (not_covered cs test i rs k) e none
+  where
+    by_test : (t b : Bool) → is_kept_held cs r ≡ b → (find test rs ≡ Some k → is_kept_held cs k ≡ true → is_covered (map kept_region (filter (is_kept_held cs) rs)) i ≡ false → covers i (kept_region k) ≡ false)
+        → cond t (Some r) (find test rs) ≡ Some k → is_covered (map kept_region (cond b (r ∷ filter (is_kept_held cs) rs) (filter (is_kept_held cs) rs))) i ≡ false → covers i (kept_region k) ≡ false
+    by_test true true is more e none =
+        let same : r ≡ k = cc in
+        ap (λ (x : Kept). covers i (kept_region x)) (sym same) ∙ (or_false (covers i (kept_region r)) (is_covered (map kept_region (filter (is_kept_held cs) rs)) i) none).0
+    by_test true false is more e none =
+        let same : r ≡ k = cc in
+        absurd (true≢false (sym held ∙ ap (is_kept_held cs) (sym same) ∙ is))
+    by_test false true is more e none = more e held (or_false (covers i (kept_region r)) (is_covered (map kept_region (filter (is_kept_held cs) rs)) i) none).1
+    by_test false false is more e none = more e held none
+
+module _ (cs : Places) (a arena need : ℕ) (rows : List Kept) (rising : AreRising rows) (all : AreReading a rows cs) (some : 0 < need) where
+  -- where the held products leave so much free, no span is met
+  spans_beside : (p : ℕ) → ((i : ℕ) → p ≤ i → i < p + need → is_covered (map kept_region (filter (is_kept_held cs) rows)) i ≡ false) → (few : Places) → ((n : ℕ) → is_held n few ≡ true → is_held n cs ≡ true) → AreReading a rows few → AllByRecursion (IsBeside p need) (map (held_span rows) few)
+  spans_beside p free [] among reading = tt
+  spans_beside p free (place ∷ few) among reading =
+      (at_place place (λ n e. among n (or_left (holds n place) (is_held n few) e)) reading.0, spans_beside p free few (λ n e. among n (or_right (holds n place) (is_held n few) e)) reading.1)
+    where
+      at_held : (o : Option ℕ) → ((n : ℕ) → is_number n o ≡ true → is_held n cs ≡ true) → IfSome o (λ m. list_any (has_number m) rows ≡ true) → IsBeside p need (span_at rows o)
+      at_held None is there = inr (omega arith)
+      at_held (Some m) is there =
+          let found = find_number m rows rising there in
+          let k = found.0 in
+          let held : is_kept_held cs k ≡ true = ap (λ (n : ℕ). is_held n cs) found.2 ∙ is m (eq-eqb m m refl) in
+          subst (λ (o : Option Kept). IsBeside p need (span_of o)) (sym found.1)
+          (beside-from p need k some (omega arith) (λ i low high. not_covered cs (at_number m) i rows k found.1 held (free i low high)))
+
+      at_place : (place : Option KeptCursor) → ((n : ℕ) → holds n place ≡ true → is_held n cs ≡ true) → IsPlaceReading a rows place → IsBeside p need (held_span rows place)
+      at_place None is reading = inr (omega arith)
+      at_place (Some c) is reading = at_held c.held is reading.held
+
+  -- where no span is met, the held products leave so much free
+  span_of_held : (p n : ℕ) (few : Places) → is_held n few ≡ true → AllByRecursion (IsBeside p need) (map (held_span rows) few) → IsBeside p need (span_at rows (Some n))
+  span_of_held p n [] h beside = absurd (false≢true h)
+  span_of_held p n (place ∷ few) h beside = by_held (held_of place) (λ x. x) h beside.0 (λ e. span_of_held p n few e beside.1)
+    where
+      by_held : (o : Option ℕ) → (ℕ → ℕ) → (is_number n o || is_held n few) ≡ true → IsBeside p need (span_at rows o) → (is_held n few ≡ true → IsBeside p need (span_at rows (Some n))) → IsBeside p need (span_at rows (Some n))
+      by_held None f h here more = more h
+      by_held (Some m) f h here more = elim (cases_eq m n) [
+        | inl same ↦ subst (λ (x : ℕ). IsBeside p need (span_at rows (Some x))) same here
+        | inr other ↦ more (ap (λ (b : Bool). b || is_held n few) (sym (ne_eqb m n other)) ∙ h)
+      ]
+
+  rows_free : (p i : ℕ) → p ≤ i → i < p + need → AllByRecursion (IsBeside p need) (map (held_span rows) cs) → (rs : List Kept) → AllByRecursion (λ (r : Kept). find (at_number r.number) rows ≡ Some r) rs → is_covered (map kept_region (filter (is_kept_held cs) rs)) i ≡ false
+  rows_free p i low high beside [] found = refl
+  rows_free p i low high beside (r ∷ rs) found = by_test (is_kept_held cs r) refl (rows_free p i low high beside rs found.1)
+    where
+      by_test : (b : Bool) → is_kept_held cs r ≡ b → is_covered (map kept_region (filter (is_kept_held cs) rs)) i ≡ false → is_covered (map kept_region (cond b (r ∷ filter (is_kept_held cs) rs) (filter (is_kept_held cs) rs))) i ≡ false
+      by_test true held rest =
+          let span = subst (λ (o : Option Kept). IsBeside p need (span_of o)) found.0 (span_of_held p r.number cs held beside) in
+          ap (λ (b : Bool). b || is_covered (map kept_region (filter (is_kept_held cs) rs)) i) (covers-not p need i r span low high) ∙ rest
+      by_test false free rest = rest
+
+  same_bool : (x y : Bool) → (x ≡ true → y ≡ true) → (y ≡ true → x ≡ true) → x ≡ y
+  same_bool true y f g = sym (f refl)
+  same_bool false true f g = g refl
+  same_bool false false f g = refl
+
+  -- a gap is found exactly where there is room beside the held products
+  pub gap-is : has_gap need arena (map (held_span rows) cs) ≡ is_some (fit need (map kept_region (filter (is_kept_held cs) rows)) arena)
+  gap-is =
+      same_bool (has_gap need arena (map (held_span rows) cs)) (is_some (fit need (map kept_region (filter (is_kept_held cs) rows)) arena))
+      (λ gap.
+      let room = room-found need arena (map (held_span rows) cs) gap in
+      space-fit need arena (map kept_region (filter (is_kept_held cs) rows)) some
+      (record { start = room.start; above = omega arith; within = room.within; free = λ i low high. rows_free room.start i low high room.beside rows (find_self rows rising) }))
+      (λ fits.
+      let space = fit-space need arena (map kept_region (filter (is_kept_held cs) rows)) fits in
+      gap-found space.start need arena (map (held_span rows) cs) space.within (spans_beside space.start space.free cs (λ n e. e) all))
