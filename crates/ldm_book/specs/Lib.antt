@@ -9,4 +9,5 @@ pub mod Sound
 pub mod Making
 pub mod RowKept
 pub mod Readers
+pub mod Runs
 pub mod Spans

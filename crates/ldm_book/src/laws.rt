@@ -1,5 +1,5 @@
 //! Laws of the queue: what the contracts of its calls amount to over whole runs.
-ghost use Rattle.std.specs.Prelude.{◌≡◌, ◌≢◌, ◌↔◌, ◌++◌, ◌∷◌, ◌<◌, [], ℕ, List, true, length, All, Contains, IfSome, Some, is_some};
+ghost use Rattle.std.specs.Prelude.{◌≡◌, ◌≢◌, ◌↔◌, ◌++◌, ◌∷◌, [], ℕ, List, true, length, All, Contains, IfSome, Some, is_some};
 ghost use Rattle.std.specs.List.Sorted.{IsStrictlyIncreasing};
 ghost use Rattle.std.specs.Option.{option_map};
 ghost use Rattle.ldm_types.specs.Info.{Metadata};
@@ -7,12 +7,12 @@ ghost use Rattle.ldm_model.specs.declared.event.Event.TheVariants.{Read};
 ghost use Rattle.ldm_model.specs.declared.event.Reply.TheVariants as reply;
 ghost use Rattle.ldm_model.specs.declared.event.Entry.{Entry};
 ghost use Rattle.ldm_model.specs.State.{empty, place_of_row};
-ghost use Rattle.ldm_model.specs.History.{after, next_entry, IsLegal, IsPossible};
+ghost use Rattle.ldm_model.specs.History.{after, IsLegal};
 ghost use Rattle.ldm_model.specs.Law.{Point, Hold, row_of, is_step, due, given, lost, left, hold_of};
 ghost use Rattle.ldm_model.specs.Law.{GivesNext, TellsLosses, HasAll, ReadsHeld, PassesOverNone, GivesQueued, TellsOnce, GivesInserted, ReadsInserted, ObeysLaw, AtEveryPoint, AtEveryCall};
 ghost use Rattle.ldm_book.specs.View.{BookView};
-ghost use Rattle.ldm_book.specs.Answers.{Follows};
 ghost use Rattle.ldm_book.specs.Stands.{StandsFor};
+ghost use Rattle.ldm_book.specs.Runs.{Made, IsCall, IsRun, entries};
 
 /// The first-in-first-out law: whatever is inserted, held, released, evicted and stepped over, each reader is given the
 /// queued products of its feeds whole, in insertion order and each once, and is told exactly how many were evicted unread
@@ -51,14 +51,18 @@ pub fn fifo()
         entry.event ≡ Read p.k offset len → entry.reply ≡ reply.Bytes bytes → ReadsInserted p offset len bytes) }
 {}
 
-/// A run of a book is a legal history. A new book stands for the state after no entry. If a book stands for the state after a
-/// legal history, and a call is answered as its clause `answers` says of that state, then the history with that entry behind it
-/// is legal, and the book stands for the state after it. So [`fifo`] holds of the replies of every run.
+/// A run of a book is a legal history: calls of a new book, each answered as its clause `answers` says by the book that the
+/// call before it left. So [`fifo`] holds of the replies of every run.
+///
+/// A caller who makes one call after another keeps to `start` and `call`. A new book stands for the state after no entry. If a
+/// book stands for the state after a legal history, then the history with the entry of one more call behind it is legal, and
+/// the book that the call leaves stands for the state after it.
 pub fn runs_are_legal()
+    ensures run { (arena slots : ℕ) (book : BookView) (calls : List Made) → StandsFor book (empty arena slots) → IsRun book calls →
+        IsLegal arena slots (entries calls) }
     ensures start { (arena slots : ℕ) (book : BookView) → StandsFor book (empty arena slots) →
         IsLegal arena slots [] × StandsFor book (after arena slots []) }
-    ensures call { (arena slots : ℕ) (history : List Entry) (entry : Entry) (new : BookView) →
-        IsLegal arena slots history → entry.actor < 64 → IsPossible entry.event →
-        Follows entry.reply new (next_entry (after arena slots history) entry) →
-        IsLegal arena slots (history ++ entry ∷ []) × StandsFor new (after arena slots (history ++ entry ∷ [])) }
+    ensures call { (arena slots : ℕ) (history : List Entry) (book : BookView) (made : Made) →
+        IsLegal arena slots history → StandsFor book (after arena slots history) → IsCall book made →
+        IsLegal arena slots (history ++ made.entry ∷ []) × StandsFor made.book (after arena slots (history ++ made.entry ∷ [])) }
 {}
