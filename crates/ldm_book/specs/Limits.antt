@@ -1,8 +1,8 @@
 -- Which arenas and numbers of slots a queue can have.
 use Rattle.std.specs.Prelude.{◌≡◌, ℕ, ◌%◌, ◌<◌, ◌≤◌}
 use Rattle.ldm_types.specs.declared.limits.TheConstants.{ARENA_UNIT, LARGEST_ARENA, MOST_SLOTS, SMALLEST_ARENA}
-use Rattle.ldm_book.specs.declared.replies.CreateFault.{CreateFault}
-use Rattle.ldm_book.specs.declared.replies.CreateFault.TheVariants.{BadArena, BadSlots, OutOfMemory}
+use Rattle.ldm_book.specs.declared.fault.CreateFault.{CreateFault}
+use Rattle.ldm_book.specs.declared.fault.CreateFault.TheVariants.{BadArena, BadSlots, OutOfMemory}
 
 -- bytes of an arena
 pub record IsGoodArena (arena : ℕ) : Type 0 where

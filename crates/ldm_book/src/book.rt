@@ -18,15 +18,15 @@ ghost use Rattle.ldm_book.specs.Products.{AreRising, LieApart, has_number, room_
 ghost use Rattle.ldm_book.specs.Spans.{held_span};
 ghost use Rattle.ldm_book.specs.Making.{IsTimely, PutEvicting, grown, start_at};
 
+use crate::fault::CreateFault;
 use crate::products::Products;
-use crate::replies::{
-    CloseReply, CreateFault, ExpireReply, InsertReply, LookReply, OpenReply, ReadReply,
-    ReleaseReply, Stat, StepReply, TallyReply,
-};
 use crate::row::extent;
 use crate::spans::{Span, has_gap};
 use ldm_cursor::Cursors;
-use ldm_model::Start;
+use ldm_model::{
+    CloseReply, ExpireReply, InsertReply, LookReply, OpenReply, ReadReply, ReleaseReply, Start,
+    Stat, StepReply, TallyReply,
+};
 use ldm_types::{
     ARENA_UNIT, Actor, CursorNo, Feed, Info, LARGEST_ARENA, MOST_SLOTS, Micros, SMALLEST_ARENA,
     Signature,
@@ -59,8 +59,9 @@ impl Model for Book {
 
 impl Book {
     ghost use Rattle.ldm_book.specs.Stands.{StandsFor};
-    ghost use Rattle.ldm_book.specs.Answers.{IfRefused, IfNothing, IfNotOpened, IfNotStepped, IfNotReleased, IfNotClosed, KeepsPlaces, Follows, insert_answer, look_answer, expire_answer, stat_answer};
-    ghost use Rattle.ldm_book.specs.Answers.{open_answer, step_answer, read_answer, release_answer, close_answer, tally_answer, asked_bytes, bytes_read};
+    ghost use Rattle.ldm_book.specs.Answers.{KeepsPlaces, Follows};
+    ghost use Rattle.ldm_model.specs.Answers.{IfRefused, IfNothing, IfNotOpened, IfNotStepped, IfNotReleased, IfNotClosed};
+    ghost use Rattle.ldm_model.specs.Answers.{insert_answer, look_answer, expire_answer, stat_answer, open_answer, step_answer, read_answer, release_answer, close_answer, tally_answer, asked_bytes, bytes_read};
     ghost use Rattle.ldm_book.specs.Readers.{AreAhead, first_of, held_products, products, unheld_numbers, without_product};
     ghost use Rattle.ldm_book.specs.Limits.{IsGoodArena, IsGoodSlots, IsFaultOf};
 

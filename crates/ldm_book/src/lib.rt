@@ -6,15 +6,16 @@
 #![tactic(auto)]
 
 mod book;
+mod fault;
 mod laws;
 mod products;
-mod replies;
 mod row;
 mod spans;
 
 pub use book::Book;
+pub use fault::CreateFault;
 pub use laws::{fifo, runs_are_legal};
-pub use replies::{
-    CloseReply, CreateFault, ExpireReply, InsertReply, LookReply, OpenReply, ReadReply,
-    ReleaseReply, Stat, StepReply, TallyReply,
+pub use ldm_model::{
+    CloseReply, ExpireReply, InsertReply, LookReply, OpenReply, ReadReply, ReleaseReply, Stat,
+    StepReply, TallyReply,
 };

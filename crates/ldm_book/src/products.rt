@@ -5,12 +5,12 @@ ghost use Rattle.std.specs.Option.{option_map};
 ghost use Rattle.ldm_types.specs.Arena.{gaps, longest};
 ghost use Rattle.ldm_model.specs.Product.{extent_of};
 ghost use Rattle.ldm_model.specs.Stat.{extents};
-ghost use Rattle.ldm_book.specs.Answers.{look_answer};
+ghost use Rattle.ldm_model.specs.Answers.{look_answer};
 ghost use Rattle.ldm_book.specs.Lookup.{kept_with, look_kept};
 ghost use Rattle.ldm_book.specs.Products.{kept_region, at_number, awaits, is_later, kept_number, AreRising, LieApart, room_for, with_row, without};
 ghost use Rattle.ldm_book.specs.RowKept.{row_kept};
 
-use crate::replies::LookReply;
+use ldm_model::LookReply;
 use crate::row::{Row, extent};
 use ldm_regions::Regions;
 use ldm_sigindex::SigIndex;

@@ -7,8 +7,8 @@ use Rattle.std.proofs.lemmas.Option.{none-some, same_Some}
 use Rattle.ldm_outside.specs.Io.{SourceRecord, Gives}
 use Rattle.ldm_outside.specs.World.{WorldRecord}
 use Rattle.ldm_model.specs.State.{State, empty}
-use Rattle.ldm_book.specs.declared.replies.CreateFault.{CreateFault}
-use Rattle.ldm_book.specs.declared.replies.CreateFault.TheVariants as fault
+use Rattle.ldm_book.specs.declared.fault.CreateFault.{CreateFault}
+use Rattle.ldm_book.specs.declared.fault.CreateFault.TheVariants as fault
 use Rattle.ldm_commands.specs.declared.play_command.ScriptEnd.{ScriptEnd}
 use Rattle.ldm_commands.specs.declared.play_command.ScriptEnd.TheVariants as script_end
 use Rattle.ldm_commands.specs.declared.play_command.TheConstants.{SCRIPT_LIMIT}

@@ -5,7 +5,7 @@ use Rattle.ldm_outside.specs.Io.{SourceRecord, SinkRecord, Gives, Takes, WritesF
 use Rattle.ldm_outside.specs.World.{WorldRecord, IsUntouched}
 use Rattle.ldm_model.specs.State.{State, empty}
 use Rattle.ldm_book.specs.Limits.{IsGoodArena, IsGoodSlots, IsFaultOf}
-use Rattle.ldm_book.specs.declared.replies.CreateFault.{CreateFault}
+use Rattle.ldm_book.specs.declared.fault.CreateFault.{CreateFault}
 use Rattle.ldm_commands.specs.declared.play_command.TheConstants.{SCRIPT_LIMIT}
 use Rattle.ldm_commands.specs.declared.play_command.ScriptEnd.{ScriptEnd}
 use Rattle.ldm_commands.specs.declared.play_command.ScriptEnd.TheVariants as script_end

@@ -1,7 +1,7 @@
 -- How the program ends, by what its words ask for.
 use Rattle.std.specs.Prelude.{ℕ, Option, Some, None, Result}
 use Rattle.ldm_outside.specs.World.{WorldRecord, IsUntouched}
-use Rattle.ldm_book.specs.declared.replies.CreateFault.{CreateFault}
+use Rattle.ldm_book.specs.declared.fault.CreateFault.{CreateFault}
 use Rattle.ldm_commands.specs.declared.command.Command.{Command}
 use Rattle.ldm_commands.specs.declared.command.Command.TheVariants as command
 use Rattle.ldm_commands.specs.declared.play_command.ScriptEnd.{ScriptEnd}

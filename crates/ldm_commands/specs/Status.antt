@@ -2,8 +2,8 @@
 use Rattle.std.specs.Prelude.{◌≡◌, ◌⊎◌, ℕ, ◌++◌, List, [], ◌∷◌, codes, decimal, Result, Ok, Err}
 use Rattle.ldm_outside.specs.Count.{Rose}
 use Rattle.ldm_outside.specs.Io.{SinkRecord, Takes, WritesFront}
-use Rattle.ldm_book.specs.declared.replies.CreateFault.{CreateFault}
-use Rattle.ldm_book.specs.declared.replies.CreateFault.TheVariants as fault
+use Rattle.ldm_book.specs.declared.fault.CreateFault.{CreateFault}
+use Rattle.ldm_book.specs.declared.fault.CreateFault.TheVariants as fault
 use Rattle.ldm_commands.specs.declared.play_command.ScriptEnd.{ScriptEnd}
 use Rattle.ldm_commands.specs.declared.play_command.ScriptEnd.TheVariants as script_end
 use Rattle.ldm_commands.specs.declared.player.Stop.{Stop}

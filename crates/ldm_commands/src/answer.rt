@@ -3,7 +3,7 @@ ghost use Rattle.std.specs.Prelude.{◌≡◌, ◌+◌, ◌≤◌, ◌++◌, []}
 ghost use Rattle.arrayvec.specs.ArrayVec.{array_vec_len};
 ghost use Rattle.ldm_commands.specs.Answer.{blank_number, reply_text, answer_line};
 ghost use Rattle.ldm_commands.specs.AnswerView.{reply_of};
-ghost use Rattle.ldm_book.specs.Answers.{insert_answer, look_answer, expire_answer, stat_answer};
+ghost use Rattle.ldm_model.specs.Answers.{insert_answer, look_answer, expire_answer, stat_answer};
 
 use crate::text::{Text, put, put_number};
 use ldm_book::{ExpireReply, InsertReply, LookReply, Stat};

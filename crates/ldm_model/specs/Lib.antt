@@ -1,6 +1,7 @@
 pub mod Product
 pub mod State
 pub mod Outcome
+pub mod Answers
 pub mod Room
 pub mod Evict
 pub mod Insert

@@ -2,18 +2,23 @@
 //!
 //! The definitions stand in `specs/`: products, states, gaps and the best fit, eviction, insertion, cursors with
 //! opening, stepping, reading, releasing and closing, looking, expiring, counting, one event and legal histories, and the
-//! law that every reader's history obeys. The types here are those of the definitions: no running call makes a value of
-//! them.
+//! law that every reader's history obeys. `Event`, `Reply` and `Entry` are types of the definitions: no running call makes a
+//! value of them. What a call of a queue answers has a type of its own, and `specs/Answers.antt` says which reply it is.
 #![tactic(auto)]
 
 mod bytes;
 mod event;
 mod examples;
 mod laws;
+mod replies;
 
 pub use bytes::Bytes;
 pub use event::{Entry, Event, Reply, Start};
 pub use examples::{worked_example_of_the_law, worked_examples, worked_examples_of_cursors};
 pub use laws::{
     admissions_are_numbered, held_products_are_queued, histories_append, products_were_inserted,
+};
+pub use replies::{
+    CloseReply, ExpireReply, InsertReply, LookReply, OpenReply, ReadReply, ReleaseReply, Stat,
+    StepReply, TallyReply,
 };

@@ -13,6 +13,7 @@ mod fields;
 mod line;
 mod number;
 mod order;
+mod replies;
 mod split;
 #[cfg(test)]
 mod tests;
@@ -22,4 +23,5 @@ mod word;
 pub use answer::{Answer, LONGEST_ANSWER, Text, text_into, write_reply};
 pub use body::{Body, LONGEST_BODY, body_into};
 pub use line::{BadLine, LONGEST_LINE, LONGEST_READ, read_line};
+pub use number::read_number;
 pub use order::{Act, Order, Place};

@@ -4,7 +4,7 @@ ghost use Rattle.ldm_script.specs.Number.{number_up_to, number_below, up_to, dig
 
 /// The number, at most `most`, that a text spells: decimal digits without a sign or a leading zero, `0` itself
 /// apart. `None` exactly where the text is no such number.
-pub(crate) fn read_number(text: &[u8], most: u64) -> Option<u64>
+pub fn read_number(text: &[u8], most: u64) -> Option<u64>
     ensures value { result ≡ number_up_to most text.now }
     ensures bound { IfSome result (λ n. n ≤ most) }
 {

@@ -6,9 +6,10 @@ use Rattle.ldm_model.specs.Open.{open_cursor}
 use Rattle.ldm_book.specs.View.{BookView}
 use Rattle.ldm_book.specs.Sound.{view_of}
 use Rattle.ldm_book.specs.Making.{start_at}
-use Rattle.ldm_book.specs.declared.replies.OpenReply.{OpenReply}
+use Rattle.ldm_model.specs.declared.replies.OpenReply.{OpenReply}
 use Rattle.ldm_book.proofs.book.Book.open_cursor.Goals.{in-Some-seat, in-None}
-use Rattle.ldm_book.specs.Answers.{Follows, open_answer}
+use Rattle.ldm_book.specs.Answers.{Follows}
+use Rattle.ldm_model.specs.Answers.{open_answer}
 use Rattle.ldm_book.specs.Stands.{StandsFor}
 use Rattle.ldm_book.proofs.CursorsLemmas.{with_cursors}
 use Rattle.ldm_book.proofs.OpenLemmas.{all_busy, is_least, not_queued, opened}

@@ -11,7 +11,7 @@ use Rattle.ldm_book.proofs.CursorsLemmas.{is_cursor, no_cursor}
 use Rattle.ldm_book.proofs.CallLemmas.{at_cursor, some_cursor}
 use Rattle.std.specs.Prelude.{take, drop}
 use Rattle.ldm_book.specs.Products.{at_number}
-use Rattle.ldm_book.specs.Answers.{asked_bytes}
+use Rattle.ldm_model.specs.Answers.{asked_bytes}
 use Rattle.ldm_model.specs.Read.{read}
 use Rattle.ldm_book.specs.RowKept.{row_kept}
 use Rattle.ldm_book.proofs.FoundLemmas.{lie_found}

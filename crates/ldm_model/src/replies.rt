@@ -1,40 +1,6 @@
 //! What the calls of a queue answer. Numbers of products count admitted products from 0.
 
-use ldm_types::{CursorNo, Info, Micros, OutOfMemory};
-use std::alloc::AllocError;
-
-/// Why no queue was made. The faults are tested in this order.
-#[derive(Clone, Copy, Debug, PartialEq, Eq)]
-pub enum CreateFault {
-    /// The arena is not a multiple of 8, below 64 bytes, or above 1,073,741,824 bytes.
-    BadArena { arena: u64 },
-    /// There are 0 slots, or more than 1,048,576.
-    BadSlots { slots: u32 },
-    /// There is no memory for the tables.
-    OutOfMemory,
-}
-
-impl From<OutOfMemory> for CreateFault {
-    ghost use Rattle.std.specs.Prelude.{◌≡◌};
-    ghost use Rattle.ldm_book.specs.declared.replies.CreateFault.TheVariants as fault;
-
-    ghost from_gives = { λ _ made. made ≡ fault.OutOfMemory };
-
-    fn from(_error: OutOfMemory) -> CreateFault {
-        CreateFault::OutOfMemory
-    }
-}
-
-impl From<AllocError> for CreateFault {
-    ghost use Rattle.std.specs.Prelude.{◌≡◌};
-    ghost use Rattle.ldm_book.specs.declared.replies.CreateFault.TheVariants as fault;
-
-    ghost from_gives = { λ _ made. made ≡ fault.OutOfMemory };
-
-    fn from(_error: AllocError) -> CreateFault {
-        CreateFault::OutOfMemory
-    }
-}
+use ldm_types::{CursorNo, Info, Micros};
 
 /// What inserting a product led to.
 #[derive(Clone, Copy, Debug, PartialEq, Eq)]
