@@ -4,7 +4,7 @@ use Rattle.std.proofs.lemmas.List.{drop_more}
 use Rattle.std.specs.List.{filter_map, position_from}
 use Rattle.ldm_types.specs.declared.class.Spec.{Spec}
 use Rattle.ldm_class.specs.Classes.{bad_place, is_bad, is_resumption, pattern_of}
-use Rattle.ldm_class.specs.Patterns.{pattern_meaning}
+use Rattle.ldm_pattern.specs.Patterns.{pattern_meaning}
 use Rattle.ldm_class.specs.Searches.{search_of}
 use Rattle.ldm_class.specs.declared.search.Search.{Search}
 

@@ -1,4 +1,3 @@
 pub mod Building
 pub mod Left
-pub mod Meanings
 pub mod Searches

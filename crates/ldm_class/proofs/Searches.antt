@@ -9,7 +9,7 @@ use Rattle.ldm_types.specs.declared.class.ClassSpec.{ClassSpec}
 use Rattle.ldm_types.specs.declared.class.Spec.{Spec}
 use Rattle.ldm_class.specs.Classes.{is_resumption, pattern_of, spec_wants, wants}
 use Rattle.ldm_class.specs.Searches.{search_of}
-use Rattle.ldm_class.specs.Patterns.{found}
+use Rattle.ldm_pattern.specs.Patterns.{found}
 use Rattle.ldm_class.specs.declared.search.Search.{Search}
 
 -- whether a search wants a product

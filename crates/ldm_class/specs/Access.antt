@@ -7,7 +7,7 @@ use Rattle.ldm_types.specs.Info.{Metadata}
 use Rattle.ldm_types.specs.declared.class.ClassSpec.{ClassSpec}
 use Rattle.ldm_types.specs.declared.class.Spec.{Spec}
 use Rattle.ldm_class.specs.Classes.{is_resumption}
-use Rattle.ldm_class.specs.Patterns.{found}
+use Rattle.ldm_pattern.specs.Patterns.{found}
 use Rattle.ldm_class.specs.declared.answers.Reduced.{Reduced}
 use Rattle.ldm_class.specs.declared.answers.Reduced.TheVariants.{Same, Fewer, Nothing}
 use Rattle.ldm_class.specs.declared.answers.Verdict.{Verdict}

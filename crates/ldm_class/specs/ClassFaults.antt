@@ -2,7 +2,7 @@
 use Rattle.std.specs.Prelude.{◌≡◌, ℕ, List, Some, None}
 use Rattle.ldm_types.specs.declared.class.Spec.{Spec}
 use Rattle.ldm_class.specs.Classes.{bad_place}
-use Rattle.ldm_class.specs.Patterns.{pattern_meaning}
+use Rattle.ldm_pattern.specs.Patterns.{pattern_meaning}
 use Rattle.ldm_class.specs.declared.class.ClassFault.{ClassFault}
 use Rattle.ldm_class.specs.declared.class.ClassFault.TheVariants.{BadPattern, OutOfMemory}
 

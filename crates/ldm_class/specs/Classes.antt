@@ -7,7 +7,7 @@ use Rattle.ldm_types.specs.Info.{Metadata}
 use Rattle.ldm_types.specs.declared.class.ClassSpec.{ClassSpec}
 use Rattle.ldm_types.specs.declared.class.Spec.{Spec}
 use Rattle.ldm_signature.specs.HexSignature.{hex_signature}
-use Rattle.ldm_class.specs.Patterns.{pattern_meaning, found}
+use Rattle.ldm_pattern.specs.Patterns.{pattern_meaning, found}
 
 -- the bytes of a specification's pattern
 abbrev pub pattern_of : Spec → List ℕ

@@ -4,9 +4,6 @@ pub mod ClassView
 pub mod Classes
 pub mod LineView
 pub mod Lines
-pub mod PatternView
-pub mod Patterns
 pub mod PolicyFaults
 pub mod PolicyView
-pub mod Refusals
 pub mod Searches

@@ -2,7 +2,7 @@
 use Rattle.std.specs.Prelude.{◌≡◌, ℕ, List, ◌∷◌, ◌++◌, Option, Some, is_none}
 use Rattle.std.specs.List.{position_from}
 use Rattle.std.specs.Option.{option_to_list}
-use Rattle.ldm_class.specs.Patterns.{pattern_meaning}
+use Rattle.ldm_pattern.specs.Patterns.{pattern_meaning}
 use Rattle.ldm_class.specs.declared.policy.PolicyFault.{PolicyFault}
 use Rattle.ldm_class.specs.declared.policy.PolicyFault.TheVariants.{BadPattern, OutOfMemory}
 

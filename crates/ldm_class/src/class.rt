@@ -4,12 +4,12 @@ ghost use Rattle.std.specs.List.{filter_map};
 ghost use Rattle.std.specs.Option.{option_map};
 ghost use Rattle.ldm_class.specs.Classes.{bad_place, resumed, wants};
 ghost use Rattle.ldm_class.specs.ClassFaults.{IsClassFaultOf, IsBuildFaultOf};
-ghost use Rattle.ldm_class.specs.Patterns.{pattern_meaning};
+ghost use Rattle.ldm_pattern.specs.Patterns.{pattern_meaning};
 ghost use Rattle.ldm_class.specs.Searches.{search_of};
 
 use crate::copy::copy_of;
-use crate::pattern::{Pattern, Refusal};
 use crate::search::{Search, resumption};
+use ldm_pattern::{Pattern, Refusal};
 use ldm_types::{ClassSpec, Info, MOST_SPECS, OutOfMemory, Signature, Spec};
 use std::alloc::{AllocError, AllocFailed, Global};
 use std::marker::Model;

@@ -8,7 +8,6 @@ mod answers;
 mod class;
 mod copy;
 mod line;
-mod pattern;
 mod policy;
 mod reduce;
 mod search;

@@ -2,7 +2,7 @@
 ghost use Rattle.std.specs.Prelude.{◌≡◌, IfOk};
 ghost use Rattle.ldm_class.specs.Access.{found_or, is_about, meets, passes};
 
-use crate::pattern::Pattern;
+use ldm_pattern::Pattern;
 use ldm_types::{Feed, Info, OutOfMemory};
 use std::alloc::Global;
 use std::marker::Model;

@@ -7,9 +7,9 @@ ghost use Rattle.ldm_class.specs.PolicyFaults.{IsFaultFrom, allow_patterns, bad_
 
 use crate::answers::{Reduced, Verdict};
 use crate::line::Line;
-use crate::pattern::{Pattern, Refusal};
 use crate::reduce::reduction_of;
 use crate::verdict::verdict_of;
+use ldm_pattern::{Pattern, Refusal};
 use ldm_types::{ClassSpec, Feed, Info, OutOfMemory};
 use std::alloc::{AllocFailed, Global};
 use std::marker::Model;

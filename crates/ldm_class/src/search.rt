@@ -3,7 +3,7 @@ ghost use Rattle.std.specs.Prelude.{◌≡◌, is_some};
 ghost use Rattle.std.specs.Option.{option_map};
 ghost use Rattle.ldm_class.specs.Classes.{is_resumption, signature_in};
 
-use crate::pattern::Pattern;
+use ldm_pattern::Pattern;
 use ldm_signature::read_hex;
 use ldm_types::{Feed, Signature, Spec};
 

@@ -18,7 +18,7 @@ use Rattle.regex_syntax.specs.Grammar.{Names, group_count, read}
 use Rattle.regex_syntax.specs.Verdict.{Reads, Refuses}
 use Rattle.regex_syntax.specs.declared.error.Error as parser
 use Rattle.regex_syntax.specs.declared.error.ErrorKind.TheVariants.{OutOfMemory}
-use Rattle.ldm_class.specs.Patterns.{byte_config, if_shallow, pattern_meaning, is_found, found}
+use Rattle.ldm_pattern.specs.Patterns.{byte_config, if_shallow, pattern_meaning, is_found, found}
 
 shallow_as : (o : Option (Nested Re × Names)) (a : Re) (names : Names) →
     IsSomeAnd o (λ (re, found). (re.depth ≤ byte_config.nest_limit) × SameCaptures a re.value × (names ≡ found) × (group_count a ≤ length names)) →

@@ -1,7 +1,7 @@
 use Rattle.std.proofs.Common.{◌∙◌, ap, is_some, arith}
 use Rattle.regex.specs.Patterns.{Re, find}
-use Rattle.ldm_class.proofs.Meanings.{finds}
-use Rattle.ldm_class.proofs.pattern.Pattern.is_in.Goals as goal
+use Rattle.ldm_pattern.proofs.Meanings.{finds}
+use Rattle.ldm_pattern.proofs.pattern.Pattern.is_in.Goals as goal
 
 pub returns : goal.returns
 returns c =

@@ -1,7 +1,7 @@
 //! Patterns that are built.
 ghost use Rattle.std.specs.Prelude.{◌≡◌, IfOk, None, IsSome, MatchResult};
-ghost use Rattle.ldm_class.specs.Patterns.{pattern_meaning, found};
-ghost use Rattle.ldm_class.specs.Refusals.{IsRefusedFor};
+ghost use Rattle.ldm_pattern.specs.Patterns.{pattern_meaning, found};
+ghost use Rattle.ldm_pattern.specs.Refusals.{IsRefusedFor};
 
 use ldm_types::OutOfMemory;
 use regex::Error;
@@ -20,7 +20,7 @@ pub enum Refusal {
 
 impl From<AllocError> for Refusal {
     ghost use Rattle.std.specs.Prelude.{◌≡◌};
-    ghost use Rattle.ldm_class.specs.declared.pattern.Refusal.TheVariants.{OutOfMemory};
+    ghost use Rattle.ldm_pattern.specs.declared.pattern.Refusal.TheVariants.{OutOfMemory};
 
     ghost from_gives = { λ _ refusal. refusal ≡ OutOfMemory };
 
@@ -40,7 +40,7 @@ impl Model for Pattern {
 
     ghost Value = { List ℕ };
 
-    ghost use Rattle.ldm_class.specs.PatternView.{source_of, IsBuilt};
+    ghost use Rattle.ldm_pattern.specs.PatternView.{source_of, IsBuilt};
 
     ghost view = { source_of };
 

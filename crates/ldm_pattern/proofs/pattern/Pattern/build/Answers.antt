@@ -1,7 +1,7 @@
 use Rattle.std.proofs.Common.{◌∙◌, IsUtf8}
 use Rattle.regex.specs.Bytes.{regex_source}
-use Rattle.ldm_class.proofs.Meanings.{built_is_pattern, nothing_of_other_bytes, nothing_of_refused}
-use Rattle.ldm_class.proofs.pattern.Pattern.build.Goals as goal
+use Rattle.ldm_pattern.proofs.Meanings.{built_is_pattern, nothing_of_other_bytes, nothing_of_refused}
+use Rattle.ldm_pattern.proofs.pattern.Pattern.build.Goals as goal
 
 pub returns-in_default : goal.returns-in_default
 returns-in_default c = nothing_of_other_bytes c.args.source.now c.in_default.ensures.cases.0

@@ -2,8 +2,8 @@
 use Rattle.std.specs.Prelude.{◌≡◌, ℕ, List}
 use Rattle.std.specs.Str.{IsUtf8}
 use Rattle.regex.specs.Bytes.{regex_config, regex_source, IsReadFromSource}
-use Rattle.ldm_class.specs.Patterns.{byte_config}
-use Rattle.ldm_class.specs.declared.pattern.Pattern.TheInside.{Inside}
+use Rattle.ldm_pattern.specs.Patterns.{byte_config}
+use Rattle.ldm_pattern.specs.declared.pattern.Pattern.TheInside.{Inside}
 
 -- the bytes of the pattern
 abbrev pub source_of : Inside → List ℕ

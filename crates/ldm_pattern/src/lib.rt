@@ -1,0 +1,10 @@
+//! Patterns that are searched for in hosts and idents.
+//!
+//! Patterns are those of the crate `regex` on bytes. Each is built once, where the text that has it is read.
+#![tactic(auto)]
+
+mod pattern;
+#[cfg(test)]
+mod tests;
+
+pub use pattern::{Pattern, Refusal};
