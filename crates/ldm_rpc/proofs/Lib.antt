@@ -1,0 +1,10 @@
+pub mod Steps
+pub mod Pushed
+pub mod Joined
+pub mod Spelled
+pub mod Once
+pub mod Contents
+pub mod Found
+pub mod Split
+pub mod Pending
+pub mod CallerLemmas

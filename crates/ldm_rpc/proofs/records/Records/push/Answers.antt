@@ -1,0 +1,24 @@
+use Rattle.std.proofs.Common.{arith}
+use Rattle.ldm_rpc.proofs.Pushed.{HasTaken, all_taken, answers, end_taken}
+use Rattle.ldm_rpc.proofs.records.Records.push.Goals as goal
+use Rattle.ldm_rpc.proofs.records.Records.push.Goals.{then-loop-taken-test+else-is_open, else-loop-taken-test}
+
+pub returns : goal.returns
+returns c =
+    let old = c.args.self.now in
+    let now = c.loop-taken.self in
+    let piece = c.args.piece.now in
+    let n = c.loop-taken.taken in
+    let ended : HasTaken old piece n now = elim c.loop-taken-test.branch [
+      | then-loop-taken-test+else-is_open w ↦ end_taken old now piece n (grind arith) c.loop-taken.invariant
+      | else-loop-taken-test w ↦ all_taken old now piece n (omega arith) c.loop-taken.invariant
+    ] in
+    let answer = answers old now piece n c.answer.result c.requires ended c.answer.ensures in
+    record {
+      after = answer.after;
+      taken = answer.taken;
+      moves = answer.moves;
+      ends = answer.ends;
+      fault = answer.fault;
+      stays = answer.stays;
+    }

@@ -1,0 +1,6 @@
+pub mod Reading
+pub mod RecordsView
+pub mod Taking
+pub mod Spelling
+pub mod Streams
+pub mod Fronts

@@ -1,0 +1,21 @@
+-- What contracts see of a reader, and what it keeps.
+use Rattle.std.specs.Prelude.{ℕ, ◌+◌, ◌^◌, ◌<◌, ◌≤◌, length}
+use Rattle.ldm_rpc.specs.declared.stage.Stage.{Stage}
+use Rattle.ldm_rpc.specs.declared.stage.Stage.TheVariants.{Header, Fragment, Whole, Faulty}
+use Rattle.ldm_rpc.specs.declared.records.Records.TheInside.{Inside}
+use Rattle.ldm_rpc.specs.Reading.{Reading}
+
+abbrev pub reading_of : Inside → Reading
+reading_of r = record { limit = r.limit; content = r.content.items; next_header_at = r.next_header_at; stage = r.stage }
+
+-- Fewer than four bytes of a header came. The fragment in hand has bytes to come, for which there is room behind
+-- those of the content so far.
+abbrev pub StageFits : Stage → ℕ → ℕ → Type 0
+StageFits (Header came number) len limit = (came < 4) × (number < 256 ^ came)
+StageFits (Fragment left last) len limit = (0 < left) × (len + left ≤ limit)
+StageFits Whole len limit = Unit {0}
+StageFits (Faulty fault) len limit = Unit {0}
+
+pub record IsKept (r : Inside) : Type 0 where
+  pub within : length r.content.items ≤ r.limit
+  pub stage : StageFits r.stage (length r.content.items) r.limit

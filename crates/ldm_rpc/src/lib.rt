@@ -1,0 +1,21 @@
+//! Records of a byte stream: the record marking of RFC 5531, section 11.
+//!
+//! A record is one or more fragments. A fragment is a header of four bytes and then its bytes. The header is a
+//! number, its highest byte first: the top bit says that the fragment is the record's last, and the other 31 bits
+//! are the number of its bytes, which may be zero. The content of a record is the bytes of its fragments, joined.
+#![tactic(auto)]
+
+mod fault;
+mod laws;
+mod records;
+mod stage;
+
+pub use fault::RpcFault;
+pub use laws::{
+    no_record_begins_another, pending_from_the_first_byte, pieces_join, pushes_read_the_stream,
+    records_are_read, too_long_at_the_header, what_is_read_is_spelled,
+};
+pub use records::Records;
+
+#[cfg(test)]
+mod tests;

@@ -1,0 +1,188 @@
+//! The records of a stream that comes in pieces.
+ghost use Rattle.std.specs.Prelude.{◌≡◌, ◌^◌, ◌≤◌, ◌<◌, IfOk, IfErr, OnErr, Err, length, true, false};
+ghost use Rattle.std.specs.Option.{option_copied};
+ghost use Rattle.ldm_rpc.specs.declared.fault.RpcFault.{RpcFault};
+ghost use Rattle.ldm_rpc.specs.declared.stage.Stage.TheVariants.{Faulty};
+ghost use Rattle.ldm_rpc.specs.Reading.{after, after_byte, after_header, begun, bytes_taken, is_faulty, is_open, is_pending, is_whole, next_of, whole_of};
+ghost use Rattle.ldm_rpc.specs.Taking.{IsFaultOf, TakesFront, answer_at};
+
+use crate::fault::RpcFault;
+use crate::stage::{LAST_FRAGMENT, Stage, stage_before};
+use std::alloc::{AllocError, Global};
+use std::marker::Model;
+
+/// A reader of records (RFC 5531, section 11), to which a stream is given in pieces of any size.
+///
+/// It holds the content of one record at a time. Its memory grows with the bytes that came, whatever a header
+/// announces, and is kept for the next record.
+#[derive(Debug, Drop)]
+pub struct Records {
+    limit: u32,
+    content: Vec<u8>,
+    next_header_at: u64,
+    stage: Stage,
+}
+
+impl Model for Records {
+    ghost use Rattle.ldm_rpc.specs.Reading.{Reading};
+
+    ghost Value = { Reading };
+
+    ghost use Rattle.ldm_rpc.specs.RecordsView.{reading_of, IsKept};
+
+    ghost view = { reading_of };
+
+    ghost invariant = { IsKept };
+}
+
+impl Records {
+    /// A reader before the first byte of a stream, of records whose content has at most `limit` bytes. It takes no
+    /// memory.
+    pub fn create(alloc: Global, limit: u32) -> Records
+        ensures { result ≡ begun limit }
+    {
+        Records {
+            limit,
+            content: Vec::new(alloc),
+            next_header_at: 0,
+            stage: Stage::Header { came: 0, number: 0 },
+        }
+    }
+
+    /// Takes bytes of a piece up to the last byte of the record in hand, or all of them, and answers how many.
+    ///
+    /// Each byte of content is copied once. After a fault, every call answers that fault and takes nothing.
+    pub fn push(&mut self, piece: &[u8]) -> Result<usize, RpcFault>
+        requires { is_whole self.old ≡ false }
+        ensures after { IfOk result (λ _. (self.new ≡ after self.old piece.now) × (is_faulty self.new ≡ false)) }
+        ensures taken { IfOk result (λ n. (n ≡ bytes_taken self.old piece.now) × (n ≤ length piece.now)) }
+        ensures moves { IfOk result (λ n. 0 < length piece.now → 0 < n) }
+        ensures ends { IfOk result (λ n. n < length piece.now → is_whole self.new ≡ true) }
+        ensures fault { IfErr result (IsFaultOf self.old piece.now self.new) }
+        ensures stays { (fault : RpcFault) → self.old.stage ≡ Faulty fault → (result ≡ Err fault) × (self.new ≡ self.old) }
+    {
+        let mut taken = 0;
+        while taken < piece.len() && self.is_open() {
+            match self.take(&piece[taken..]) {
+                Ok(n) => taken += n,
+                Err(_) => return Err(RpcFault::OutOfMemory),
+            }
+        }
+        self.answer(taken)
+    }
+
+    /// The content of a complete record, without its fragment headers. `None` exactly where no record is complete.
+    pub fn whole(&self) -> Option<&[u8]>
+        ensures { option_copied result ≡ whole_of self.now }
+    {
+        match self.stage {
+            Stage::Whole => Some(self.content.as_slice()),
+            _ => None,
+        }
+    }
+
+    /// Forgets a complete record, and does nothing where none is complete.
+    pub fn next(&mut self)
+        ensures after { self.new ≡ next_of self.old }
+        ensures ready { is_whole self.new ≡ false }
+    {
+        if let Stage::Whole = self.stage {
+            self.content.clear();
+            self.next_header_at = 0;
+            self.stage = Stage::Header { came: 0, number: 0 };
+        }
+    }
+
+    /// Whether a record or a fragment header was begun and is not complete. After a fault it is so.
+    pub fn pending(&self) -> bool
+        ensures { result ≡ is_pending self.now }
+    {
+        match self.stage {
+            Stage::Header { came, .. } => came > 0 || self.next_header_at > 0,
+            Stage::Fragment { .. } => true,
+            Stage::Whole => false,
+            Stage::Faulty(_) => true,
+        }
+    }
+
+    // What a push answers that has taken so many bytes.
+    fn answer(&self, taken: usize) -> Result<usize, RpcFault>
+        ensures { result ≡ answer_at self.now.stage taken }
+    {
+        match self.stage {
+            Stage::Faulty(fault) => Err(fault),
+            _ => Ok(taken),
+        }
+    }
+
+    fn is_open(&self) -> bool
+        ensures { result ≡ is_open self.now }
+    {
+        matches!(self.stage, Stage::Header { .. } | Stage::Fragment { .. })
+    }
+
+    // Takes the front of a piece: one byte of a header, or all that is there of a fragment.
+    fn take(&mut self, piece: &[u8]) -> Result<usize, AllocError>
+        requires unended { is_open self.old ≡ true }
+        requires some { 0 < length piece.now }
+        ensures taken { IfOk result (λ n. TakesFront self.old piece.now n self.new) }
+        ensures fault { OnErr result (self.new.stage ≡ Faulty RpcFault.OutOfMemory) }
+    {
+        match self.stage {
+            Stage::Header { came, number } => {
+                self.take_header_byte(came, number, piece[0]);
+                Ok(1)
+            }
+            Stage::Fragment { left, last } => self.take_content(left, last, piece),
+            _ => unreachable!(),
+        }
+    }
+
+    #[tactic(auto, using(crate::proofs::Steps::one_more_digit), unfolding(crate::specs::Reading::after_byte))]
+    fn take_header_byte(&mut self, came: u8, number: u32, byte: u8)
+        requires stage { self.old.stage ≡ Stage.Header came number }
+        requires small { (came < 4) × (number < 256 ^ came) }
+        ensures { self.new ≡ after_byte self.old byte }
+    {
+        let number = number * 256 + u32::from(byte);
+        if came == 3 {
+            self.begin_fragment(number);
+        } else {
+            self.stage = Stage::Header {
+                came: came + 1,
+                number,
+            };
+        }
+    }
+
+    // What a header says, of which all four bytes came.
+    fn begin_fragment(&mut self, number: u32)
+        ensures { self.new ≡ after_header self.old number }
+    {
+        let len = number % LAST_FRAGMENT;
+        if len > self.limit - self.content.len() as u32 {
+            self.stage = Stage::Faulty(RpcFault::TooLong {
+                at: self.next_header_at,
+            });
+        } else {
+            self.next_header_at = self.next_header_at.saturating_add(4 + u64::from(len));
+            self.stage = stage_before(len, number >= LAST_FRAGMENT);
+        }
+    }
+
+    // Bytes of the fragment in hand, in one copy.
+    fn take_content(&mut self, left: u32, last: bool, piece: &[u8]) -> Result<usize, AllocError>
+        requires stage { self.old.stage ≡ Stage.Fragment left last }
+        requires some { 0 < length piece.now }
+        ensures taken { IfOk result (λ n. TakesFront self.old piece.now n self.new) }
+        ensures fault { OnErr result (self.new.stage ≡ Faulty RpcFault.OutOfMemory) }
+    {
+        let count = piece.len().min(left as usize);
+        if self.content.extend_from_slice(&piece[..count]).is_err() {
+            self.stage = Stage::Faulty(RpcFault::OutOfMemory);
+            return Err(AllocError);
+        }
+        self.stage = stage_before(left - count as u32, last);
+        Ok(count)
+    }
+}
