@@ -6,15 +6,59 @@
 //! in memory know. Lemmas on these records stand in the proof module `CallerLemmas`.
 #![tactic(auto)]
 
+mod clock;
+mod dial;
+mod door;
+mod fault;
+mod gate;
 mod io;
+mod launcher;
+mod link;
+mod mem_back;
+mod mem_clock;
+mod mem_dial;
+mod mem_door;
+mod mem_gate;
+mod mem_launcher;
+mod mem_link;
+mod mem_net;
+mod mem_store;
 mod memory;
+mod net;
+mod plan;
+mod store;
 mod sure;
 mod world;
 
+pub use clock::Clock;
+pub use dial::{Dial, Dialled};
+pub use door::{Came, Door, LONGEST_HOST};
+pub use fault::Failed;
+pub use gate::{Gate, Go};
 pub use io::{Got, Put, Sink, SinkFailed, Source, write_all};
+pub use launcher::{ChildNo, Launcher};
+pub use link::{Link, LinkFailed, send_all};
+pub use mem_clock::MemClock;
+pub use mem_dial::{DialCall, MemDial};
+pub use mem_door::{MemDoor, MemPeer};
+pub use mem_gate::{GateCall, MemGate, OpenGate};
+pub use mem_launcher::{MemInput, MemLauncher};
+pub use mem_link::{LinkScript, MemLink};
+pub use mem_net::{MemNet, MemStation, StationScript, StationsCall};
+pub use mem_store::{MemFile, MemStore};
 pub use memory::{MemSink, MemSource};
+pub use net::{Manned, Net, Station};
+pub use store::{FileNo, FileRead, Store};
 pub use sure::{SureSink, SureSource};
 pub use world::World;
 
+#[cfg(test)]
+mod door_tests;
+#[cfg(test)]
+mod gate_tests;
+#[cfg(test)]
+mod link_tests;
+#[cfg(test)]
+mod store_tests;
 #[cfg(test)]
 mod tests;

@@ -3,6 +3,7 @@ ghost use Rattle.std.specs.Prelude.{◌≡◌, ◌<◌, ◌≤◌, [], length, t
 ghost use Rattle.ldm_outside.specs.Memory.{first_plan, with_most};
 
 use crate::io::{Got, Put, Sink, Source};
+use crate::plan::CallPlan;
 use std::alloc::Global;
 use std::marker::Model;
 
@@ -14,9 +15,7 @@ use std::marker::Model;
 pub struct MemSource {
     bytes: Vec<u8>,
     at: usize,
-    most: usize,
-    calls: u64,
-    failing: Vec<u64>,
+    plan: CallPlan,
     faults: u64,
     ends: u64,
 }
@@ -31,10 +30,10 @@ impl Model for MemSource {
       left = drop s.at s.bytes.items;
       faults = s.faults;
       ends = s.ends;
-      plan = record { calls = s.calls; failing = s.failing.items; most = s.most };
+      plan = s.plan;
     } };
 
-    ghost invariant = { λ s. (s.at ≤ length s.bytes.items) × (0 < s.most) };
+    ghost invariant = { λ s. s.at ≤ length s.bytes.items };
 }
 
 impl MemSource {
@@ -45,9 +44,7 @@ impl MemSource {
         MemSource {
             bytes,
             at: 0,
-            most: usize::MAX,
-            calls: 0,
-            failing,
+            plan: CallPlan::new(failing),
             faults: 0,
             ends: 0,
         }
@@ -57,7 +54,7 @@ impl MemSource {
     pub fn limit_pieces(&mut self, most: usize)
         ensures { self.new ≡ record self.old { plan = with_most most self.old.plan } }
     {
-        self.most = most.max(1);
+        self.plan.limit_pieces(most);
     }
 
     /// How often it failed.
@@ -88,12 +85,11 @@ impl Source for MemSource {
         ensures planned { ReadsAsPlanned result (length into.old) self.old self.new }
         ensures rest { drop (moved result) into.new ≡ drop (moved result) into.old }
     {
-        self.calls = self.calls.saturating_add(1);
-        if self.failing.contains(&self.calls) {
+        if self.plan.next() {
             self.faults = self.faults.saturating_add(1);
             return Got::Failed;
         }
-        let n = copy_front(&self.bytes[self.at..], self.most, into);
+        let n = copy_front(&self.bytes[self.at..], self.plan.most(), into);
         if n == 0 {
             self.ends = self.ends.saturating_add(1);
             return Got::End;
@@ -122,9 +118,7 @@ pub(crate) fn copy_front(bytes: &[u8], most: usize, into: &mut [u8]) -> usize
 #[derive(Debug, Drop)]
 pub struct MemSink {
     written: Vec<u8>,
-    most: usize,
-    calls: u64,
-    failing: Vec<u64>,
+    plan: CallPlan,
     faults: u64,
 }
 
@@ -137,10 +131,8 @@ impl Model for MemSink {
     ghost view = { λ s. record {
       written = s.written.items;
       faults = s.faults;
-      plan = record { calls = s.calls; failing = s.failing.items; most = s.most };
+      plan = s.plan;
     } };
-
-    ghost invariant = { λ s. 0 < s.most };
 }
 
 impl MemSink {
@@ -150,9 +142,7 @@ impl MemSink {
     {
         MemSink {
             written: Vec::new(alloc),
-            most: usize::MAX,
-            calls: 0,
-            failing,
+            plan: CallPlan::new(failing),
             faults: 0,
         }
     }
@@ -161,7 +151,7 @@ impl MemSink {
     pub fn limit_pieces(&mut self, most: usize)
         ensures { self.new ≡ record self.old { plan = with_most most self.old.plan } }
     {
-        self.most = most.max(1);
+        self.plan.limit_pieces(most);
     }
 
     /// All bytes that it took.
@@ -190,11 +180,9 @@ impl Sink for MemSink {
         ensures faults_kept { self.old.faults ≤ self.new.faults }
         ensures planned { WritesAsPlanned result piece.now self.old self.new }
     {
-        self.calls = self.calls.saturating_add(1);
-        let n = piece.len().min(self.most);
-        if self.failing.contains(&self.calls)
-            || self.written.extend_from_slice(&piece[..n]).is_err()
-        {
+        let fails = self.plan.next();
+        let n = piece.len().min(self.plan.most());
+        if fails || self.written.extend_from_slice(&piece[..n]).is_err() {
             self.faults = self.faults.saturating_add(1);
             return Put::Failed;
         }

@@ -9,6 +9,6 @@ returns-clause-given c =
     let left : drop c.self.inside.at c.self.inside.bytes.items ≡ c.args.self.now.left = ap (λ (s : SourceState). s.left) c.self.view_is in (
       omega arith,
       omega arith,
-      ap (λ (xs : List ℕ). Some xs) (sym left ∙ drop-copied c.self.inside.bytes.items c.copy_front-n.new.into c.self.inside.at c.copy_front-n.result (rw (take_rest, c.deref-2.ensures.value) at c.copy_front-n.ensures.front)),
+      ap (λ (xs : List ℕ). Some xs) (sym left ∙ drop-copied c.self.inside.bytes.items c.copy_front-n.new.into c.self.inside.at c.copy_front-n.result (rw (take_rest, c.deref.ensures.value) at c.copy_front-n.ensures.front)),
       ap (λ (s : SourceState). s.ends) c.self.view_is,
     )

@@ -1,0 +1,20 @@
+-- Lemmas on the stations that a net in memory hands out.
+use Rattle.std.proofs.Common.{◌≡◌, ◌∙◌, ℕ, ◌+◌, List, [], ◌∷◌, ◌++◌, take, drop, map, get_or, All, refl, sym, ap}
+use Rattle.std.proofs.Math.Seq.{take-add}
+use Rattle.std.proofs.lemmas.List.{map-append}
+use Rattle.std.proofs.lemmas.List.Elements.{All-map}
+use Rattle.ldm_outside.specs.declared.mem_net.StationScript.{StationScript}
+use Rattle.ldm_outside.specs.Station.{IsNew}
+use Rattle.ldm_outside.specs.MemNet.{StationState, first_station, told_by_station}
+
+-- one element more, which is the next
+pub map-take-next : {A B : Type 0} (f : A → B) (xs : List A) (i : ℕ) → map f (take (i + 1) xs) ≡ map f (take i xs) ++ map f (take 1 (drop i xs))
+map-take-next f xs i = ap (map f) (take-add i 1 xs) ∙ map-append f (take i xs) (take 1 (drop i xs))
+
+-- a station at its beginning is new
+IsNew-first : (script : StationScript) → IsNew (told_by_station (first_station script))
+IsNew-first script = record { door = (refl, refl); dial = (refl, refl); log = (refl, refl); clock = refl; gate = refl }
+
+-- all stations at their beginning are new
+pub All-IsNew-first : (scripts : List StationScript) → All (λ (station : StationState). IsNew (told_by_station station)) (map first_station scripts)
+All-IsNew-first scripts = All-map (λ (station : StationState). IsNew (told_by_station station)) first_station scripts (λ k script below. IsNew-first (get_or scripts k script))

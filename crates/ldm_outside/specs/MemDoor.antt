@@ -1,0 +1,81 @@
+-- What contracts see of a door in memory, and what one call of it does.
+use Rattle.std.specs.Prelude.{◌≡◌, ℕ, Bool, true, false, List, [], ◌∷◌, ◌++◌, map, Some}
+use Rattle.ldm_outside.specs.declared.door.Came.{Came}
+use Rattle.ldm_outside.specs.declared.door.Came.TheVariants.{Peer, Closed, Failed}
+use Rattle.ldm_outside.specs.declared.mem_door.MemPeer.{MemPeer}
+use Rattle.ldm_outside.specs.Door.{DoorRecord}
+use Rattle.ldm_outside.specs.Memory.{Plan, raised, next_fails, after_call, first_plan}
+use Rattle.ldm_outside.specs.MemLink.{LinkState, first_link}
+use Rattle.ldm_outside.specs.MemBack.{link_was, counted}
+
+-- a door that lets in the peers of a list
+pub record DoorState : Type 0 where
+  -- the peers that are still to come
+  pub waiting : List MemPeer
+  -- the hosts that came
+  pub hosts : List (List ℕ)
+  -- the links that were given back
+  pub back : List LinkState
+  pub faults : ℕ
+  pub peers : ℕ
+  pub closings : ℕ
+  pub ended : ℕ
+  pub failed : ℕ
+  pub out : Bool
+  -- the calls of `accept`
+  pub plan : Plan
+
+-- the door at its beginning
+abbrev pub first_door : List MemPeer → List ℕ → DoorState
+first_door waiting failing = record {
+  waiting = waiting;
+  hosts = [];
+  back = [];
+  faults = 0;
+  peers = 0;
+  closings = 0;
+  ended = 0;
+  failed = 0;
+  out = false;
+  plan = first_plan failing;
+}
+
+-- What one call of `accept` did. Without memory for the host that it is to keep and for the link, a call fails too.
+abbrev pub AcceptsAsPlanned : Came LinkState → DoorState → DoorState → Type 0
+-- the next peer comes
+AcceptsAsPlanned (Peer host link) old new =
+    (next_fails old.plan ≡ false)
+    × ((peer : MemPeer) × (old.waiting ≡ peer ∷ new.waiting) × (host ≡ peer.host) × (link ≡ first_link peer.script))
+    × (new ≡ record old {
+      waiting = new.waiting;
+      hosts = old.hosts ++ host.items ∷ [];
+      peers = raised old.peers;
+      out = true;
+      plan = after_call old.plan;
+    })
+-- all peers came
+AcceptsAsPlanned Closed old new =
+    (next_fails old.plan ≡ false) × (old.waiting ≡ [])
+    × (new ≡ record old { closings = raised old.closings; plan = after_call old.plan })
+AcceptsAsPlanned Failed old new = new ≡ record old { faults = raised old.faults; plan = after_call old.plan }
+
+-- the door after a link was given back
+abbrev pub after_back : LinkState → DoorState → DoorState
+after_back link s = record s {
+  back = s.back ++ link ∷ [];
+  ended = counted link.ends s.ended;
+  failed = counted link.faults s.failed;
+  out = false;
+}
+
+-- what a door in memory tells
+abbrev pub told_by_door : DoorState → DoorRecord
+told_by_door s = record {
+  faults = s.faults;
+  peers = s.peers;
+  closings = s.closings;
+  ended = s.ended;
+  failed = s.failed;
+  out = s.out;
+  told = Some (record { hosts = s.hosts; back = map link_was s.back });
+}

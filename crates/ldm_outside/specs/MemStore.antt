@@ -1,0 +1,93 @@
+-- What contracts see of a store in memory, and what one call of it does.
+use Rattle.std.specs.Prelude.{◌≡◌, ℕ, ◌<◌, ◌≤◌, ◌⊎◌, Bool, true, false, List, [], ◌∷◌, ◌++◌, length, take, min, Option, Some, None, Result, Ok, Err, bytes_eq, position}
+use Rattle.ldm_outside.specs.declared.fault.Failed.{Failed}
+use Rattle.ldm_outside.specs.declared.io.Put.{Put}
+use Rattle.ldm_outside.specs.declared.io.Put.TheVariants as put
+use Rattle.ldm_outside.specs.declared.store.FileNo.{FileNo}
+use Rattle.ldm_outside.specs.declared.store.FileRead.{FileRead}
+use Rattle.ldm_outside.specs.declared.store.FileRead.TheVariants as read
+use Rattle.ldm_outside.specs.Memory.{Plan, raised, next_fails, after_call}
+use Rattle.ldm_outside.specs.Store.{File, OpenFile, StoreRecord, bytes_under, with_made, with_changed, opened_at, with_shut}
+
+-- a store that fails at chosen calls
+pub record StoreState : Type 0 where
+  pub faults : ℕ
+  -- how often a file was too long to be read
+  pub long : ℕ
+  -- all files that it opened
+  pub opened : List OpenFile
+  -- all files that there are
+  pub files : List File
+  pub plan : Plan
+
+-- what it tells
+abbrev pub told_by_store : StoreState → StoreRecord
+told_by_store s = record { faults = s.faults; long = s.long; opened = s.opened; files = Some s.files }
+
+-- the place of the first file under a path
+abbrev pub place_under : List ℕ → List File → Option ℕ
+place_under path files = position (λ file. bytes_eq file.path path) files
+
+-- What reading the file under a path among these gives: it fails where there is none.
+abbrev pub ReadsFiles : FileRead → List ℕ → ℕ → List File → Type 0
+ReadsFiles (read.Bytes bytes) path limit files = (bytes_under path files ≡ Some bytes.items) × (length bytes.items ≤ limit)
+ReadsFiles read.TooLong path limit files = (bytes : List ℕ) × (bytes_under path files ≡ Some bytes) × (limit < length bytes)
+ReadsFiles read.Failed path limit files = bytes_under path files ≡ None
+ReadsFiles read.OutOfMemory path limit files = Unit {0}
+
+-- the store after a call that changed nothing
+abbrev pub store_called : StoreState → StoreState
+store_called old = record old { plan = after_call old.plan }
+
+-- the store after a call that failed
+abbrev pub store_failed : StoreState → StoreState
+store_failed old = record old { faults = raised old.faults; plan = after_call old.plan }
+
+-- the store after a call that changed the bytes of an open file
+abbrev pub store_changed : FileNo → (List ℕ → List ℕ) → StoreState → StoreState
+store_changed file change old =
+    record old { files = with_changed (opened_at file old.opened).path change old.files; plan = after_call old.plan }
+
+-- How a call begins: it is counted, and where its number is on the list of those that fail it fails.
+abbrev pub BeginsCall : Result (Unit {0}) Failed → StoreState → StoreState → Type 0
+BeginsCall (Ok done) old new = (next_fails old.plan ≡ false) × (new ≡ store_called old)
+BeginsCall (Err failed) old new = (next_fails old.plan ≡ true) × (new ≡ store_failed old)
+
+-- What one call of `read_file` did: it fails where its plan says so, and where there is no file.
+abbrev pub ReadsFileAsPlanned : FileRead → List ℕ → ℕ → StoreState → StoreState → Type 0
+ReadsFileAsPlanned (read.Bytes bytes) path limit old new =
+    (next_fails old.plan ≡ false) × ReadsFiles (read.Bytes bytes) path limit old.files × (new ≡ store_called old)
+ReadsFileAsPlanned read.TooLong path limit old new =
+    (next_fails old.plan ≡ false)
+    × ReadsFiles read.TooLong path limit old.files
+    × (new ≡ record old { long = raised old.long; plan = after_call old.plan })
+ReadsFileAsPlanned read.Failed path limit old new =
+    ((next_fails old.plan ≡ true) ⊎ ReadsFiles read.Failed path limit old.files) × (new ≡ store_failed old)
+ReadsFileAsPlanned read.OutOfMemory path limit old new = (next_fails old.plan ≡ false) × (new ≡ store_called old)
+
+-- What one call of `append_to` did. Without memory for what it keeps a call fails too.
+abbrev pub OpensFileAsPlanned : Result FileNo Failed → List ℕ → StoreState → StoreState → Type 0
+OpensFileAsPlanned (Ok file) path old new =
+    (next_fails old.plan ≡ false)
+    × (file.0 ≡ length old.opened)
+    × (new ≡ record old { opened = old.opened ++ record { path = path; shut = false } ∷ []; files = with_made path old.files; plan = after_call old.plan })
+OpensFileAsPlanned (Err failed) path old new = new ≡ store_failed old
+
+-- What one call of `empty` did.
+abbrev pub EmptiesFileAsPlanned : Result (Unit {0}) Failed → FileNo → StoreState → StoreState → Type 0
+EmptiesFileAsPlanned (Ok done) file old new = (next_fails old.plan ≡ false) × (new ≡ store_changed file (λ _. []) old)
+EmptiesFileAsPlanned (Err failed) file old new = (next_fails old.plan ≡ true) × (new ≡ store_failed old)
+
+-- What one call of `write` did: it takes all that it may. Without memory for the bytes a call fails too.
+abbrev pub WritesFileAsPlanned : Put → FileNo → List ℕ → StoreState → StoreState → Type 0
+WritesFileAsPlanned (put.Took n) file piece old new =
+    (next_fails old.plan ≡ false)
+    × (n ≡ min (length piece) old.plan.most)
+    × (new ≡ store_changed file (λ bytes. bytes ++ take n piece) old)
+WritesFileAsPlanned put.Failed file piece old new = new ≡ store_failed old
+
+-- What one call of `shut` did.
+abbrev pub ShutsFileAsPlanned : Result (Unit {0}) Failed → FileNo → StoreState → StoreState → Type 0
+ShutsFileAsPlanned (Ok done) file old new =
+    (next_fails old.plan ≡ false) × (new ≡ record old { opened = with_shut file old.opened; plan = after_call old.plan })
+ShutsFileAsPlanned (Err failed) file old new = (next_fails old.plan ≡ true) × (new ≡ store_failed old)

@@ -1,0 +1,112 @@
+-- What a store of files tells, and what each call of it does.
+use Rattle.std.specs.Prelude.{◌≡◌, ℕ, ◌<◌, ◌≤◌, Bool, true, false, List, [], ◌∷◌, ◌++◌, length, take, Option, Some, None, IfSome, option_map, Result, Ok, Err, slice_index_or, slice_set, bytes_eq, if◌then◌else◌}
+use Rattle.ldm_outside.specs.declared.fault.Failed.{Failed}
+use Rattle.ldm_outside.specs.declared.io.Put.{Put}
+use Rattle.ldm_outside.specs.declared.io.Put.TheVariants as put
+use Rattle.ldm_outside.specs.declared.store.FileNo.{FileNo}
+use Rattle.ldm_outside.specs.declared.store.FileRead.{FileRead}
+use Rattle.ldm_outside.specs.declared.store.FileRead.TheVariants as read
+use Rattle.ldm_outside.specs.Count.{Rose}
+
+-- A file that was opened.
+pub record OpenFile : Type 0 where
+  pub path : List ℕ
+  pub shut : Bool
+
+-- What stands under a path.
+pub record File : Type 0 where
+  pub path : List ℕ
+  pub bytes : List ℕ
+
+-- What a store tells at a moment.
+pub record StoreRecord : Type 0 where
+  -- how often it failed
+  pub faults : ℕ
+  -- how often a file was too long to be read
+  pub long : ℕ
+  -- all files that it opened, in order: the number of a file is its place here
+  pub opened : List OpenFile
+  -- all files that there are, in the order in which they were made, where it tells them
+  pub files : Option (List File)
+
+-- the bytes under a path: those of the first file that has it
+abbrev pub bytes_under : List ℕ → List File → Option (List ℕ)
+bytes_under path [] = None
+bytes_under path (file ∷ rest) = if bytes_eq file.path path then Some file.bytes else bytes_under path rest
+
+-- the files with an empty one behind them, where the path had none
+abbrev pub with_made : List ℕ → List File → List File
+with_made path [] = record { path = path; bytes = [] } ∷ []
+with_made path (file ∷ rest) = if bytes_eq file.path path then file ∷ rest else file ∷ with_made path rest
+
+-- the files after the bytes under a path were changed
+abbrev pub with_changed : List ℕ → (List ℕ → List ℕ) → List File → List File
+with_changed path change [] = []
+with_changed path change (file ∷ rest) =
+    if bytes_eq file.path path then record file { bytes = change file.bytes } ∷ rest else file ∷ with_changed path change rest
+
+-- the file that a number stands for; a number that was not given stands for one that is shut
+abbrev pub opened_at : FileNo → List OpenFile → OpenFile
+opened_at file opened = slice_index_or opened file.0 (record { path = []; shut = true })
+
+-- the number was given, and its file is not shut
+abbrev pub IsOpen : FileNo → List OpenFile → Type 0
+IsOpen file opened = (file.0 < length opened) × ((opened_at file opened).shut ≡ false)
+
+-- the opened files after one of them was shut
+abbrev pub with_shut : FileNo → List OpenFile → List OpenFile
+with_shut file opened = slice_set opened file.0 (record { path = (opened_at file opened).path; shut = true })
+
+-- the store failed: nothing changed but its count
+abbrev pub StoreFails : StoreRecord → StoreRecord → Type 0
+StoreFails old new = Rose old.faults new.faults × (new ≡ record old { faults = new.faults })
+
+-- the bytes of an open file were changed, and nothing else
+abbrev pub ChangesFile : FileNo → (List ℕ → List ℕ) → StoreRecord → StoreRecord → Type 0
+ChangesFile file change old new =
+    new ≡ record old { files = option_map (with_changed (opened_at file old.opened).path change) old.files }
+
+-- What one call of `read_file` did.
+abbrev pub ReadsFile : FileRead → List ℕ → ℕ → StoreRecord → StoreRecord → Type 0
+-- all bytes of the file came
+ReadsFile (read.Bytes bytes) path limit old new =
+    (length bytes.items ≤ limit) × IfSome old.files (λ files. bytes_under path files ≡ Some bytes.items) × (new ≡ old)
+-- the file is above the limit
+ReadsFile read.TooLong path limit old new =
+    Rose old.long new.long
+    × (new ≡ record old { long = new.long })
+    × IfSome old.files (λ files. (bytes : List ℕ) × (bytes_under path files ≡ Some bytes) × (limit < length bytes))
+-- there is no such file, or the store failed
+ReadsFile read.Failed path limit old new = StoreFails old new
+-- nothing changed
+ReadsFile read.OutOfMemory path limit old new = new ≡ old
+
+-- What one call of `append_to` did.
+abbrev pub OpensFile : Result FileNo Failed → List ℕ → StoreRecord → StoreRecord → Type 0
+-- the next number was given, and a file is there
+OpensFile (Ok file) path old new =
+    (file.0 ≡ length old.opened)
+    × (new ≡ record old { opened = old.opened ++ record { path = path; shut = false } ∷ []; files = option_map (with_made path) old.files })
+OpensFile (Err failed) path old new = StoreFails old new
+
+-- What one call of `empty` did.
+abbrev pub EmptiesFile : Result (Unit {0}) Failed → FileNo → StoreRecord → StoreRecord → Type 0
+EmptiesFile (Ok done) file old new = ChangesFile file (λ _. []) old new
+EmptiesFile (Err failed) file old new = StoreFails old new
+
+-- What one call of `write` did.
+abbrev pub WritesFile : Put → FileNo → List ℕ → StoreRecord → StoreRecord → Type 0
+-- the front of the piece stands at the end of the file
+WritesFile (put.Took n) file piece old new =
+    (n ≤ length piece) × (0 < length piece → 0 < n) × ChangesFile file (λ bytes. bytes ++ take n piece) old new
+WritesFile put.Failed file piece old new = StoreFails old new
+
+-- What one call of `flush` did.
+abbrev pub FlushesFile : Result (Unit {0}) Failed → StoreRecord → StoreRecord → Type 0
+FlushesFile (Ok done) old new = new ≡ old
+FlushesFile (Err failed) old new = StoreFails old new
+
+-- What one call of `shut` did.
+abbrev pub ShutsFile : Result (Unit {0}) Failed → FileNo → StoreRecord → StoreRecord → Type 0
+ShutsFile (Ok done) file old new = new ≡ record old { opened = with_shut file old.opened }
+ShutsFile (Err failed) file old new = StoreFails old new

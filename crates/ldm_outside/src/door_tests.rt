@@ -1,0 +1,202 @@
+ghost use Rattle.std.specs.Prelude.{◌≡◌, false};
+ghost use Rattle.ldm_outside.specs.Link.{IsOpen};
+
+use super::*;
+use arrayvec::ArrayVec;
+use std::alloc::{AllocError, Global};
+use std::process::Abort;
+use std::test::Fail;
+
+// A link that gives these bytes, and whose calls of the given numbers fail.
+fn script(alloc: Global, bytes: &[u8], failing: &[u64]) -> Result<LinkScript, AllocError> {
+    Ok(LinkScript {
+        bytes: bytes.to_vec(alloc)?,
+        pieces: Vec::new(alloc),
+        has_end: true,
+        most_sent: usize::MAX,
+        failing: failing.to_vec(alloc)?,
+    })
+}
+
+// Of three links the first gives bytes, the second ends and the third fails.
+fn scripts(alloc: Global) -> Result<Vec<LinkScript>, AllocError> {
+    let mut scripts = Vec::with_capacity(alloc, 3)?;
+    scripts.push(script(alloc, b"hello", &[])?)?;
+    scripts.push(script(alloc, b"", &[])?)?;
+    scripts.push(script(alloc, b"", &[1])?)?;
+    Ok(scripts)
+}
+
+fn peers(alloc: Global) -> Result<Vec<MemPeer>, Fail> {
+    let mut peers = Vec::with_capacity(alloc, 3)?;
+    for script in scripts(alloc)? {
+        let host = ArrayVec::try_from(b"peer".as_slice())?;
+        peers.push(MemPeer { host, script })?;
+    }
+    Ok(peers)
+}
+
+// What a session over a link came to: one call of `recv`.
+fn session<K: Link>(link: &mut K) -> Got
+    requires { IsOpen (K.tells link.old) }
+{
+    let mut buffer = [0; 8];
+    link.recv(&mut buffer)
+}
+
+// Lets a peer in, for one session.
+fn visit<D: Door>(door: &mut D) -> Option<Got>
+    requires { (D.tells door.old).out ≡ false }
+    ensures { (D.tells door.new).out ≡ false }
+{
+    match door.accept() {
+        Came::Peer { mut link, .. } => {
+            let got = session(&mut link);
+            door.give_back(link);
+            Some(got)
+        }
+        Came::Closed | Came::Failed => None,
+    }
+}
+
+// Connects, for one session.
+fn call<I: Dial>(dial: &mut I) -> Option<Got>
+    requires { (I.tells dial.old).out ≡ false }
+    ensures { (I.tells dial.new).out ≡ false }
+{
+    match dial.connect(b"host", 388) {
+        Dialled::Linked(mut link) => {
+            let got = session(&mut link);
+            dial.give_back(link);
+            Some(got)
+        }
+        Dialled::Failed => None,
+    }
+}
+
+// Takes stations and hands them back. How many came, where any did.
+fn man<N: Net>(net: &mut N, count: u32) -> Option<usize> {
+    match net.stations(388, count, Some(3)) {
+        Manned::Stations(stations) => {
+            let count = stations.len();
+            net.keep(stations);
+            Some(count)
+        }
+        Manned::Failed | Manned::OutOfMemory => None,
+    }
+}
+
+// What five visits came to.
+fn visits<D: Door>(alloc: Global, door: &mut D) -> Result<Vec<Got>, AllocError>
+    requires { (D.tells door.old).out ≡ false }
+{
+    let mut came = Vec::new(alloc);
+    for _ in 0..5 {
+        if let Some(got) = visit(door) {
+            came.push(got)?;
+        }
+    }
+    Ok(came)
+}
+
+// What five calls came to.
+fn calls<I: Dial>(alloc: Global, dial: &mut I) -> Result<Vec<Got>, AllocError>
+    requires { (I.tells dial.old).out ≡ false }
+{
+    let mut came = Vec::new(alloc);
+    for _ in 0..5 {
+        if let Some(got) = call(dial) {
+            came.push(got)?;
+        }
+    }
+    Ok(came)
+}
+
+const CAME: [Got; 3] = [Got::Bytes(5), Got::End, Got::Failed];
+
+// Of five visits the one of that number fails.
+fn expect_visits(rt: &impl Abort, alloc: Global, failing: u64) -> Result<(), Fail> {
+    let mut door = MemDoor::new(alloc, peers(alloc)?, [failing].to_vec(alloc)?);
+    assert_eq!(rt; visits(alloc, &mut door)?.as_slice(), CAME.as_slice());
+    assert_eq!(rt; (door.peers(), door.closings(), door.faults()), (3, 1, 1));
+    assert_eq!(rt; (door.ended(), door.failed(), door.back().len()), (1, 1, 3));
+    for host in door.hosts() {
+        assert_eq!(rt; host.as_slice(), b"peer".as_slice());
+    }
+    Ok(())
+}
+
+// Of five calls the one of that number fails, and the last finds no link either.
+fn expect_calls(rt: &impl Abort, alloc: Global, failing: u64) -> Result<(), Fail> {
+    let mut dial = MemDial::new(alloc, scripts(alloc)?, [failing].to_vec(alloc)?);
+    assert_eq!(rt; calls(alloc, &mut dial)?.as_slice(), CAME.as_slice());
+    assert_eq!(rt; (dial.faults(), dial.ended(), dial.failed()), (2, 1, 1));
+    assert_eq!(rt; (dial.asked().len(), dial.back().len()), (5, 3));
+    for asked in dial.asked() {
+        assert_eq!(rt; asked.host.as_slice(), b"host".as_slice());
+        assert_eq!(rt; asked.port, 388);
+    }
+    Ok(())
+}
+
+#[test]
+fn doors_and_dials_hand_out_each_link_once(rt: HostRuntime) -> Result<(), Fail> {
+    for failing in 1..6 {
+        expect_visits(&rt, rt.alloc(), failing)?;
+        expect_calls(&rt, rt.alloc(), failing)?;
+    }
+    Ok(())
+}
+
+fn station(alloc: Global) -> StationScript {
+    StationScript {
+        peers: Vec::new(alloc),
+        door_failing: Vec::new(alloc),
+        links: Vec::new(alloc),
+        dial_failing: Vec::new(alloc),
+        log_failing: Vec::new(alloc),
+        instants: Vec::new(alloc),
+        stopping: Vec::new(alloc),
+    }
+}
+
+// A net with two stations, whose call of that number fails.
+fn net(alloc: Global, failing: u64) -> Result<MemNet, Fail> {
+    let dial = MemDial::new(alloc, scripts(alloc)?, [failing].to_vec(alloc)?);
+    let mut ready = Vec::with_capacity(alloc, 2)?;
+    ready.push(station(alloc))?;
+    ready.push(station(alloc))?;
+    Ok(MemNet::new(alloc, dial, ready))
+}
+
+#[test]
+fn nets_hand_out_stations(rt: HostRuntime) -> Result<(), Fail> {
+    // Three are too many, and behind two there is no third.
+    let mut whole = net(rt.alloc(), 9)?;
+    assert_eq!(rt;
+        [man(&mut whole, 3), man(&mut whole, 2), man(&mut whole, 1)],
+        [None, Some(2), None]
+    );
+    assert_eq!(rt; (whole.kept().len(), whole.dial().faults()), (2, 2));
+
+    // The second call fails, and takes none.
+    let mut failing = net(rt.alloc(), 2)?;
+    assert_eq!(rt;
+        [
+            man(&mut failing, 1),
+            man(&mut failing, 1),
+            man(&mut failing, 1)
+        ],
+        [Some(1), None, Some(1)]
+    );
+    assert_eq!(rt; failing.asked().map(|asked| asked.count), Some(1));
+    Ok(())
+}
+
+#[test]
+fn nets_connect(rt: HostRuntime) -> Result<(), Fail> {
+    let dial = MemDial::new(rt.alloc(), scripts(rt.alloc())?, Vec::new(rt.alloc()));
+    let mut net = MemNet::new(rt.alloc(), dial, Vec::new(rt.alloc()));
+    assert_eq!(rt; calls(rt.alloc(), &mut net)?.as_slice(), CAME.as_slice());
+    Ok(())
+}

@@ -1,0 +1,194 @@
+//! Dials in memory, which connect the links of a list.
+ghost use Rattle.std.specs.Prelude.{◌≡◌, true, false, ◌<◌, [], ◌∷◌, ◌++◌, map, OnOk, OnErr, MatchOption, IfSome, vec_len, vec_capacity};
+ghost use Rattle.ldm_outside.specs.MemDial.{asked_by};
+
+use crate::dial::{Dial, Dialled};
+use crate::link::Link;
+use crate::mem_back::raised_where;
+use crate::mem_link::{LinkScript, MemLink};
+use crate::plan::CallPlan;
+use std::alloc::{AllocError, Global};
+use std::collections::VecDeque;
+use std::marker::Model;
+
+/// Whom a dial was asked for.
+#[derive(Debug, Drop)]
+pub struct DialCall {
+    /// The host.
+    pub host: Vec<u8>,
+    /// The port.
+    pub port: u16,
+}
+
+/// A dial that connects the links of a list, one after another; behind the last each call fails. Its calls of
+/// `connect` are numbered from 1, and those of the numbers in a list fail and connect none.
+///
+/// It keeps whom it was asked for and the links that were given back. Without memory for these a call fails too.
+#[derive(Debug, Drop)]
+pub struct MemDial {
+    scripts: VecDeque<LinkScript>,
+    asked: Vec<DialCall>,
+    lost: bool,
+    back: Vec<MemLink>,
+    out: bool,
+    plan: CallPlan,
+    faults: u64,
+    ended: u64,
+    failed: u64,
+}
+
+impl Model for MemDial {
+    ghost use Rattle.std.specs.Prelude.{◌≡◌, true, ◌<◌, map, vec_len, vec_capacity};
+    ghost use Rattle.ldm_outside.specs.MemDial.{DialState, asked_by};
+
+    ghost Value = { DialState };
+
+    ghost view = { λ s. record {
+      scripts = s.scripts.items;
+      asked = map asked_by s.asked.items;
+      lost = s.lost;
+      back = s.back.items;
+      faults = s.faults;
+      ended = s.ended;
+      failed = s.failed;
+      out = s.out;
+      plan = s.plan;
+    } };
+
+    // There is room for the link that is out.
+    ghost invariant = { λ s. s.out ≡ true → vec_len s.back < vec_capacity s.back };
+}
+
+impl MemDial {
+    ghost use Rattle.ldm_outside.specs.Count.{Rose};
+    ghost use Rattle.ldm_outside.specs.Memory.{raised, next_fails, after_call};
+    ghost use Rattle.ldm_outside.specs.MemDial.{first_dial};
+
+    /// A dial that connects links which do as these scripts say, and whose calls of `connect` of the given numbers
+    /// fail. The numbers are in any order.
+    pub fn new(alloc: Global, scripts: Vec<LinkScript>, failing: Vec<u64>) -> MemDial
+        ensures { result ≡ first_dial scripts.items failing.items }
+    {
+        MemDial {
+            scripts: VecDeque::from(scripts),
+            asked: Vec::new(alloc),
+            lost: false,
+            back: Vec::new(alloc),
+            out: false,
+            plan: CallPlan::new(failing),
+            faults: 0,
+            ended: 0,
+            failed: 0,
+        }
+    }
+
+    /// Counts a call, and says whether it is to fail.
+    pub(crate) fn count_call(&mut self) -> bool
+        ensures planned { result ≡ next_fails self.old.plan }
+        ensures counted { self.new ≡ record self.old { plan = after_call self.old.plan } }
+    {
+        self.plan.next()
+    }
+
+    /// Counts a fault.
+    pub(crate) fn count_fault(&mut self)
+        ensures counted { self.new ≡ record self.old { faults = raised self.old.faults } }
+        ensures rose { Rose self.old.faults self.new.faults }
+    {
+        self.faults = self.faults.saturating_add(1);
+    }
+
+    /// Whom it was asked for, in order. One that it had no memory to keep is not there.
+    pub fn asked(&self) -> &[DialCall]
+        ensures { map asked_by result.now ≡ self.now.asked }
+    {
+        self.asked.as_slice()
+    }
+
+    /// The links that were given back, in order.
+    pub fn back(&self) -> &[MemLink]
+        ensures { result.now ≡ self.now.back }
+    {
+        self.back.as_slice()
+    }
+
+    /// How often it failed.
+    pub fn faults(&self) -> u64
+        ensures { result ≡ self.now.faults }
+    {
+        self.faults
+    }
+
+    /// How many links were given back that had ended.
+    pub fn ended(&self) -> u64
+        ensures { result ≡ self.now.ended }
+    {
+        self.ended
+    }
+
+    /// How many links were given back that had failed.
+    pub fn failed(&self) -> u64
+        ensures { result ≡ self.now.failed }
+    {
+        self.failed
+    }
+}
+
+impl Dial for MemDial {
+    ghost use Rattle.ldm_outside.specs.Dial.{ConnectGives, DialTakesBack};
+    ghost use Rattle.ldm_outside.specs.MemLink.{told_by_link};
+    ghost use Rattle.ldm_outside.specs.MemDial.{told_by_dial, ConnectsAsPlanned, after_back};
+
+    type Link = MemLink;
+
+    ghost tells = { told_by_dial };
+
+    fn connect(&mut self, host: &[u8], port: u16) -> Dialled<MemLink>
+        requires { self.old.out ≡ false }
+        ensures dialled { ConnectGives told_by_link result (record { host = host.now; port = port }) (told_by_dial self.old) (told_by_dial self.new) }
+        ensures planned { ConnectsAsPlanned result (record { host = host.now; port = port }) self.old self.new }
+    {
+        let fails = self.plan.next();
+        if keep_asked(&mut self.asked, host, port).is_err() {
+            self.lost = true;
+            self.faults = self.faults.saturating_add(1);
+            return Dialled::Failed;
+        }
+        if fails || self.back.reserve(1).is_err() {
+            self.faults = self.faults.saturating_add(1);
+            return Dialled::Failed;
+        }
+        match self.scripts.pop_front() {
+            Some(script) => {
+                self.out = true;
+                Dialled::Linked(MemLink::new(*self.back.allocator(), script))
+            }
+            None => {
+                self.faults = self.faults.saturating_add(1);
+                Dialled::Failed
+            }
+        }
+    }
+
+    fn give_back(&mut self, link: MemLink)
+        requires { self.old.out ≡ true }
+        ensures given_back { DialTakesBack (told_by_link link) (told_by_dial self.old) (told_by_dial self.new) }
+        ensures planned { self.new ≡ after_back link self.old }
+    {
+        self.ended = raised_where(link.ends(), self.ended);
+        self.failed = raised_where(link.faults(), self.failed);
+        self.back.push_reserved(link);
+        self.out = false;
+    }
+}
+
+// Keeps whom a call was for, behind the others. Without memory they stay as they were.
+fn keep_asked(asked: &mut Vec<DialCall>, host: &[u8], port: u16) -> Result<(), AllocError>
+    ensures ok { OnOk result (map asked_by asked.new.items ≡ map asked_by asked.old.items ++ record { host = host.now; port = port } ∷ []) }
+    ensures err { OnErr result (asked.new.items ≡ asked.old.items) }
+{
+    asked.reserve(1)?;
+    let host = host.to_vec(*asked.allocator())?;
+    asked.push_reserved(DialCall { host, port });
+    Ok(())
+}

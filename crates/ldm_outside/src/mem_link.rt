@@ -1,0 +1,199 @@
+//! Links in memory, which do as a script says.
+ghost use Rattle.std.specs.Prelude.{◌≡◌, true, ◌<◌, ◌≤◌, length, drop};
+ghost use Rattle.ldm_outside.specs.MemLink.{next_piece};
+
+use crate::io::{Got, Put};
+use crate::link::Link;
+use crate::memory::copy_front;
+use crate::plan::CallPlan;
+use std::alloc::Global;
+use std::collections::VecDeque;
+use std::marker::Model;
+
+/// What a link in memory is to do. Its calls of `recv` and `send` are numbered together, from 1.
+#[derive(Debug, Drop)]
+pub struct LinkScript {
+    /// All bytes that it gives.
+    pub bytes: Vec<u8>,
+    /// The most bytes that each call of `recv` gives, in turn; behind the last, as many as the buffer holds. A call
+    /// gives at least one byte, and one that fails or is at the end takes no turn.
+    pub pieces: Vec<usize>,
+    /// Whether the other side sends no more behind these bytes. Else each call there fails.
+    pub has_end: bool,
+    /// The most bytes that a call of `send` takes, which takes at least one where there is one.
+    pub most_sent: usize,
+    /// The numbers of the calls that fail, in any order.
+    pub failing: Vec<u64>,
+}
+
+/// A link that does as its script says, and keeps what it was sent.
+///
+/// Without memory for what it is to keep, a call of `send` fails too.
+#[derive(Debug, Drop)]
+pub struct MemLink {
+    bytes: Vec<u8>,
+    at: usize,
+    pieces: VecDeque<usize>,
+    has_end: bool,
+    sent: Vec<u8>,
+    plan: CallPlan,
+    faults: u64,
+    ends: u64,
+    closed: bool,
+}
+
+impl Model for MemLink {
+    ghost use Rattle.std.specs.Prelude.{◌≤◌, take, drop, length};
+    ghost use Rattle.ldm_outside.specs.MemLink.{LinkState};
+
+    ghost Value = { LinkState };
+
+    ghost view = { λ s. record {
+      sent = s.sent.items;
+      given = take s.at s.bytes.items;
+      left = drop s.at s.bytes.items;
+      pieces = s.pieces.items;
+      has_end = s.has_end;
+      ends = s.ends;
+      faults = s.faults;
+      closed = s.closed;
+      plan = s.plan;
+    } };
+
+    ghost invariant = { λ s. s.at ≤ length s.bytes.items };
+}
+
+impl MemLink {
+    ghost use Rattle.ldm_outside.specs.MemLink.{first_link};
+
+    /// A link that does as the script says.
+    pub fn new(alloc: Global, script: LinkScript) -> MemLink
+        ensures { result ≡ first_link script }
+    {
+        let LinkScript {
+            bytes,
+            pieces,
+            has_end,
+            most_sent,
+            failing,
+        } = script;
+        let mut plan = CallPlan::new(failing);
+        plan.limit_pieces(most_sent);
+        MemLink {
+            bytes,
+            at: 0,
+            pieces: VecDeque::from(pieces),
+            has_end,
+            sent: Vec::new(alloc),
+            plan,
+            faults: 0,
+            ends: 0,
+            closed: false,
+        }
+    }
+
+    /// All bytes that it was sent.
+    pub fn sent(&self) -> &[u8]
+        ensures { result.now ≡ self.now.sent }
+    {
+        self.sent.as_slice()
+    }
+
+    /// All bytes that it gave.
+    pub fn given(&self) -> &[u8]
+        ensures { result.now ≡ self.now.given }
+    {
+        &self.bytes[..self.at]
+    }
+
+    /// How often it failed.
+    pub fn faults(&self) -> u64
+        ensures { result ≡ self.now.faults }
+    {
+        self.faults
+    }
+
+    /// How often it answered that it is at its end.
+    pub fn ends(&self) -> u64
+        ensures { result ≡ self.now.ends }
+    {
+        self.ends
+    }
+
+    /// Whether it was closed.
+    pub fn is_closed(&self) -> bool
+        ensures { result ≡ self.now.closed }
+    {
+        self.closed
+    }
+}
+
+impl Link for MemLink {
+    ghost use Rattle.ldm_outside.specs.Link.{IsOpen, RecvGives, SendGives};
+    ghost use Rattle.ldm_outside.specs.Memory.{moved};
+    ghost use Rattle.ldm_outside.specs.MemLink.{told_by_link, RecvsAsPlanned, SendsAsPlanned};
+
+    ghost tells = { told_by_link };
+
+    fn recv(&mut self, into: &mut [u8]) -> Got
+        requires room { 0 < length into.old }
+        requires not_closed { IsOpen (told_by_link self.old) }
+        ensures given { RecvGives result into.new (told_by_link self.old) (told_by_link self.new) }
+        ensures faults_kept { self.old.faults ≤ self.new.faults }
+        ensures ends_kept { self.old.ends ≤ self.new.ends }
+        ensures still_open { IsOpen (told_by_link self.new) }
+        ensures planned { RecvsAsPlanned result (length into.old) self.old self.new }
+        ensures rest { drop (moved result) into.new ≡ drop (moved result) into.old }
+    {
+        if self.plan.next() {
+            self.faults = self.faults.saturating_add(1);
+            return Got::Failed;
+        }
+        if self.at == self.bytes.len() {
+            if self.has_end {
+                self.ends = self.ends.saturating_add(1);
+                return Got::End;
+            }
+            self.faults = self.faults.saturating_add(1);
+            return Got::Failed;
+        }
+        let most = take_piece(&mut self.pieces);
+        let n = copy_front(&self.bytes[self.at..], most, into);
+        self.at += n;
+        Got::Bytes(n)
+    }
+
+    fn send(&mut self, piece: &[u8]) -> Put
+        requires not_closed { IsOpen (told_by_link self.old) }
+        ensures sent { SendGives result piece.now (told_by_link self.old) (told_by_link self.new) }
+        ensures faults_kept { self.old.faults ≤ self.new.faults }
+        ensures still_open { IsOpen (told_by_link self.new) }
+        ensures planned { SendsAsPlanned result piece.now self.old self.new }
+    {
+        let fails = self.plan.next();
+        let n = piece.len().min(self.plan.most());
+        if fails || self.sent.extend_from_slice(&piece[..n]).is_err() {
+            self.faults = self.faults.saturating_add(1);
+            return Put::Failed;
+        }
+        Put::Took(n)
+    }
+
+    fn close(&mut self)
+        ensures closed { self.new ≡ record self.old { closed = true } }
+    {
+        self.closed = true;
+    }
+}
+
+// The most bytes that this call gives, and those of the later calls stay.
+fn take_piece(pieces: &mut VecDeque<usize>) -> usize
+    ensures most { result ≡ next_piece pieces.old.items }
+    ensures rest { pieces.new.items ≡ drop 1 pieces.old.items }
+    ensures some { 0 < result }
+{
+    match pieces.pop_front() {
+        Some(most) => most.max(1),
+        None => usize::MAX,
+    }
+}

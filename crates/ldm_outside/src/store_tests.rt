@@ -1,0 +1,158 @@
+ghost use Rattle.std.specs.Prelude.{◌<◌, length};
+
+use super::*;
+use std::alloc::{AllocError, Global};
+use std::process::Abort;
+use std::test::Fail;
+
+// Opens a file, writes `ab`, empties it, writes `cd`, flushes and shuts it. It answers the number of the call that failed,
+// or 0.
+fn rewrite<F: Store>(store: &mut F, path: &str) -> u64 {
+    let Ok(file) = store.append_to(path) else {
+        return 1;
+    };
+    if store.write(file, b"ab") == Put::Failed {
+        return 2;
+    }
+    if store.empty(file).is_err() {
+        return 3;
+    }
+    if store.write(file, b"cd") == Put::Failed {
+        return 4;
+    }
+    if store.flush(file).is_err() {
+        return 5;
+    }
+    if store.shut(file).is_err() {
+        return 6;
+    }
+    0
+}
+
+fn read<F: Store>(store: &mut F, alloc: Global, path: &str, limit: u64) -> FileRead {
+    store.read_file(alloc, path, limit)
+}
+
+fn store(alloc: Global, failing: &[u64]) -> Result<MemStore, AllocError> {
+    let old = MemFile::new(String::from_str(alloc, "old")?, b"abc".to_vec(alloc)?);
+    Ok(MemStore::new(
+        alloc,
+        Vec::from_array(alloc, [old])?,
+        failing.to_vec(alloc)?,
+    ))
+}
+
+// What the last file of the store has, under the path `new`.
+fn bytes_of_new(store: &MemStore) -> Option<&[u8]> {
+    let last = store.files().last()?;
+    if last.path() == "new" {
+        Some(last.bytes())
+    } else {
+        None
+    }
+}
+
+// Each call fails in turn, and what was done before it stands.
+#[test]
+fn stores_fail_at_their_calls(rt: HostRuntime) -> Result<(), Fail> {
+    let wanted: [(u64, u64, Option<&[u8]>); 7] = [
+        (0, 0, Some(b"cd")),
+        (1, 1, None),
+        (2, 1, Some(b"")),
+        (3, 1, Some(b"ab")),
+        (4, 1, Some(b"")),
+        (5, 1, Some(b"cd")),
+        (6, 1, Some(b"cd")),
+    ];
+    for (failing, faults, bytes) in wanted {
+        let mut store = store(rt.alloc(), &[failing])?;
+        assert_eq!(rt; rewrite(&mut store, "new"), failing);
+        assert_eq!(rt; store.faults(), faults);
+        assert_eq!(rt; bytes_of_new(&store), bytes);
+    }
+    Ok(())
+}
+
+#[test]
+fn stores_read_up_to_a_limit(rt: HostRuntime) -> Result<(), Fail> {
+    let mut store = store(rt.alloc(), &[4])?;
+    let whole = read(&mut store, rt.alloc(), "old", 3);
+    assert_eq!(rt; whole, FileRead::Bytes(b"abc".to_vec(rt.alloc())?));
+    assert_eq!(rt; read(&mut store, rt.alloc(), "old", 2), FileRead::TooLong);
+    assert_eq!(rt; read(&mut store, rt.alloc(), "new", 2), FileRead::Failed);
+    assert_eq!(rt; read(&mut store, rt.alloc(), "old", 3), FileRead::Failed);
+    assert_eq!(rt; (store.faults(), store.long()), (2, 1));
+
+    // A file that is there keeps its bytes, and a write takes what the limit allows.
+    store.limit_pieces(1);
+    let file = store.append_to("old").ok().expect(&rt, "a file");
+    assert_eq!(rt; store.write(file, b"de"), Put::Took(1));
+    let bytes = store.files().first().map(|old| old.bytes());
+    assert_eq!(rt; bytes, Some(b"abcd".as_slice()));
+    Ok(())
+}
+
+// Starts a child, writes `ab` and `c` to it, shuts its input and waits for it. It answers its status, or the number of the
+// call that failed.
+fn run<L: Launcher>(launcher: &mut L, words: &[String]) -> Result<u32, u64>
+    requires { 0 < length words.now }
+{
+    let Ok(child) = launcher.start(words, true) else {
+        return Err(1);
+    };
+    if launcher.write(child, b"ab") == Put::Failed {
+        return Err(2);
+    }
+    if launcher.write(child, b"c") == Put::Failed {
+        return Err(3);
+    }
+    if launcher.shut(child).is_err() {
+        return Err(4);
+    }
+    launcher.wait(child).map_err(|_| 5)
+}
+
+// What the child of number 0 was given.
+fn given(launcher: &MemLauncher) -> Option<&[u8]> {
+    Some(launcher.inputs().first()?.bytes())
+}
+
+fn word(alloc: Global, text: &str) -> Result<[String; 1], AllocError> {
+    Ok([String::from_str(alloc, text)?])
+}
+
+#[test]
+fn launchers_fail_at_their_calls(rt: HostRuntime) -> Result<(), Fail> {
+    let words = word(rt.alloc(), "cat")?;
+    let wanted: [(u64, Result<u32, u64>, Option<&[u8]>); 6] = [
+        (0, Ok(7), Some(b"abc")),
+        (1, Err(1), None),
+        (2, Err(2), Some(b"")),
+        (3, Err(3), Some(b"ab")),
+        (4, Err(4), Some(b"abc")),
+        (5, Err(5), Some(b"abc")),
+    ];
+    for (failing, answer, bytes) in wanted {
+        let statuses = [7].to_vec(rt.alloc())?;
+        let mut launcher = MemLauncher::new(rt.alloc(), statuses, [failing].to_vec(rt.alloc())?);
+        assert_eq!(rt; run(&mut launcher, &words), answer);
+        assert_eq!(rt; launcher.faults(), failing.min(1));
+        assert_eq!(rt; given(&launcher), bytes);
+    }
+    Ok(())
+}
+
+// A child that is not piped takes nothing, and the statuses are over.
+#[test]
+fn launchers_need_a_pipe(rt: HostRuntime) -> Result<(), Fail> {
+    let words = word(rt.alloc(), "cat")?;
+    let mut launcher = MemLauncher::new(rt.alloc(), Vec::new(rt.alloc()), Vec::new(rt.alloc()));
+    let child = launcher.start(&words, false).ok().expect(&rt, "a child");
+    assert_eq!(rt; launcher.write(child, b"ab"), Put::Failed);
+    assert_eq!(rt; launcher.wait(child), Ok(0));
+    assert_eq!(rt;
+        (launcher.faults(), given(&launcher)),
+        (1, Some(b"".as_slice()))
+    );
+    Ok(())
+}
