@@ -1,0 +1,9 @@
+pub mod Specs
+pub mod Appending
+pub mod Lengths
+pub mod FieldsAgain
+pub mod ClassesAgain
+pub mod MessagesAgain
+pub mod FieldsFound
+pub mod ClassesFound
+pub mod MessagesFound

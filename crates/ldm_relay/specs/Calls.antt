@@ -1,0 +1,81 @@
+-- The bodies of calls, by their procedures.
+use Rattle.std.specs.Prelude.{ℕ, ◌-◌, List, length, drop, Result, Ok, Err}
+use Rattle.ldm_types.specs.Info.{Metadata}
+use Rattle.ldm_xdr.specs.Reading.{metadata_at_front}
+use Rattle.ldm_xdr.specs.declared.fault.XdrFault.{XdrFault}
+use Rattle.ldm_xdr.specs.declared.fault.XdrFault.TheVariants as xdr
+use Rattle.ldm_relay.specs.declared.message.TheConstants.{LARGEST_BLOCK}
+use Rattle.ldm_relay.specs.declared.procedure.Procedure.{Procedure}
+use Rattle.ldm_relay.specs.declared.procedure.Procedure.TheVariants as procedure
+use Rattle.ldm_relay.specs.Sent.{Sent}
+use Rattle.ldm_relay.specs.Sent as sent
+use Rattle.ldm_relay.specs.Fields.{◌>>=◌, unsigned_in, fixed_in, opaque_in}
+use Rattle.ldm_relay.specs.Classes.{class_in}
+
+-- the place, within metadata, that a fault names
+abbrev pub place_of : XdrFault → ℕ
+place_of (xdr.Short at) = at
+place_of (xdr.TooLong at) = at
+place_of (xdr.Padding at) = at
+place_of (xdr.Micros at) = at
+place_of (xdr.Nul at) = at
+
+-- metadata that are read in front of what is left, and what is behind them
+abbrev pub with_rest : List ℕ → Result (Metadata × ℕ) XdrFault → Result (Metadata × List ℕ) ℕ
+with_rest left (Ok found) = Ok (found.0, drop found.1 left)
+with_rest left (Err fault) = Err (length left - place_of fault)
+
+unfoldable pub info_in : List ℕ → Result (Metadata × List ℕ) ℕ
+info_in left = with_rest left (metadata_at_front left)
+
+unfoldable pub feedme_in : ℕ → List ℕ → Result (Sent × List ℕ) ℕ
+feedme_in xid left = do
+  class ← class_in left
+  max_hereis ← unsigned_in class.1
+  Ok (sent.Feedme xid class.0 max_hereis.0, max_hereis.1)
+
+unfoldable pub hiya_in : ℕ → List ℕ → Result (Sent × List ℕ) ℕ
+hiya_in xid left = do
+  class ← class_in left
+  Ok (sent.Hiya xid class.0, class.1)
+
+-- metadata, and as many bytes as they say
+unfoldable pub product_in : List ℕ → Result ((Metadata × List ℕ) × List ℕ) ℕ
+product_in left = do
+  info ← info_in left
+  body ← fixed_in info.0.size info.1
+  Ok ((info.0, body.0), body.1)
+
+unfoldable pub hereis_in : ℕ → List ℕ → Result (Sent × List ℕ) ℕ
+hereis_in xid left = do
+  product ← product_in left
+  Ok (sent.Hereis xid product.0.0 product.0.1, product.1)
+
+unfoldable pub put_in : ℕ → List ℕ → Result (Sent × List ℕ) ℕ
+put_in xid left = do
+  product ← product_in left
+  Ok (sent.Put xid product.0.0 product.0.1, product.1)
+
+unfoldable pub comingsoon_in : ℕ → List ℕ → Result (Sent × List ℕ) ℕ
+comingsoon_in xid left = do
+  info ← info_in left
+  block_size ← unsigned_in info.1
+  Ok (sent.Comingsoon xid info.0 block_size.0, block_size.1)
+
+unfoldable pub blkdata_in : ℕ → List ℕ → Result (Sent × List ℕ) ℕ
+blkdata_in xid left = do
+  signature ← fixed_in 16 left
+  number ← unsigned_in signature.1
+  block ← opaque_in LARGEST_BLOCK number.1
+  Ok (sent.Blkdata xid signature.0 number.0 block.0, block.1)
+
+-- what stands behind the header of a call
+abbrev pub call_in : Procedure → ℕ → List ℕ → Result (Sent × List ℕ) ℕ
+call_in procedure.Hereis xid left = hereis_in xid left
+call_in procedure.Feedme xid left = feedme_in xid left
+call_in procedure.Hiya xid left = hiya_in xid left
+call_in procedure.Comingsoon xid left = comingsoon_in xid left
+call_in procedure.Blkdata xid left = blkdata_in xid left
+call_in procedure.Isalive xid left = Ok (sent.Isalive xid, left)
+call_in procedure.Qstat xid left = Ok (sent.Qstat xid, left)
+call_in procedure.Put xid left = put_in xid left

@@ -1,0 +1,61 @@
+-- Which plain data are messages: each field is within the bounds of its type, and each body has the size that its metadata
+-- tell.
+use Rattle.std.specs.Prelude.{◌≡◌, ℕ, ◌<◌, ◌≤◌, ◌^◌, List, length, Option, Some, None}
+use Rattle.std.specs.List.{AllByRecursion}
+use Rattle.ldm_types.specs.declared.limits.TheConstants.{GREATEST_INSTANT, LONGEST_PATTERN, MOST_SPECS}
+use Rattle.ldm_types.specs.declared.class.ClassSpec.{ClassSpec}
+use Rattle.ldm_types.specs.declared.class.Spec.{Spec}
+use Rattle.ldm_xdr.specs.Spelling.{Fits as InfoFits}
+use Rattle.ldm_relay.specs.declared.message.ClassAnswer.{ClassAnswer}
+use Rattle.ldm_relay.specs.declared.message.ClassAnswer.TheVariants as class_answer
+use Rattle.ldm_relay.specs.declared.message.PutAnswer.{PutAnswer}
+use Rattle.ldm_relay.specs.declared.message.PutAnswer.TheVariants as put_answer
+use Rattle.ldm_relay.specs.declared.message.TheConstants.{LARGEST_BLOCK}
+use Rattle.ldm_relay.specs.Sent.{Sent}
+use Rattle.ldm_relay.specs.Sent as sent
+
+abbrev pub Is32 : ℕ → Type 0
+Is32 n = n < 2 ^ 32
+
+abbrev pub Is64 : ℕ → Type 0
+Is64 n = n < 2 ^ 64
+
+abbrev pub SpecFits : Spec → Type 0
+SpecFits spec = Is32 spec.feed.0 × (length spec.pattern.items ≤ LONGEST_PATTERN)
+
+pub record ClassFits (class : ClassSpec) : Type 0 where
+  pub from : class.from ≤ GREATEST_INSTANT
+  pub to : class.to ≤ GREATEST_INSTANT
+  pub few : length class.specs.items ≤ MOST_SPECS
+  pub each : AllByRecursion SpecFits class.specs.items
+
+abbrev pub ClassAnswerFits : ClassAnswer → Type 0
+ClassAnswerFits (class_answer.Reclass class) = ClassFits class
+ClassAnswerFits _ = Unit {0}
+
+abbrev pub StatFits : Option (List ℕ) → Type 0
+StatFits (Some figures) = (length figures ≡ 5) × AllByRecursion Is64 figures
+StatFits None = Unit {0}
+
+abbrev pub PutAnswerFits : PutAnswer → Type 0
+PutAnswerFits (put_answer.Admitted n time evicted) = Is64 n × Is64 time × Is64 evicted
+PutAnswerFits (put_answer.TooBig need arena) = Is64 need × Is64 arena
+PutAnswerFits (put_answer.Duplicate n) = Is64 n
+PutAnswerFits put_answer.TimeEnd = Unit {0}
+PutAnswerFits (put_answer.Locked held) = Is64 held
+PutAnswerFits put_answer.Denied = Unit {0}
+
+abbrev pub Fits : Sent → Type 0
+Fits (sent.Feedme xid class max_hereis) = Is32 xid × ClassFits class × Is32 max_hereis
+Fits (sent.FeedmeReply xid answer) = Is32 xid × ClassAnswerFits answer
+Fits (sent.Hiya xid class) = Is32 xid × ClassFits class
+Fits (sent.HiyaReply xid max_hereis answer) = Is32 xid × Is32 max_hereis × ClassAnswerFits answer
+Fits (sent.Hereis xid info body) = Is32 xid × InfoFits info × (length body ≡ info.size)
+Fits (sent.Comingsoon xid info block_size) = Is32 xid × InfoFits info × Is32 block_size
+Fits (sent.ComingsoonReply xid answer) = Is32 xid
+Fits (sent.Blkdata xid signature number block) = Is32 xid × (length signature ≡ 16) × Is32 number × (length block ≤ LARGEST_BLOCK)
+Fits (sent.Isalive xid) = Is32 xid
+Fits (sent.Qstat xid) = Is32 xid
+Fits (sent.QstatReply xid stat) = Is32 xid × StatFits stat
+Fits (sent.Put xid info body) = Is32 xid × InfoFits info × (length body ≡ info.size)
+Fits (sent.PutReply xid answer) = Is32 xid × PutAnswerFits answer

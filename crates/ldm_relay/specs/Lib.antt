@@ -1,0 +1,15 @@
+pub mod Procedure
+pub mod Fields
+pub mod FieldReads
+pub mod FieldsView
+pub mod Sent
+pub mod MessageView
+pub mod Headers
+pub mod Classes
+pub mod Calls
+pub mod Replies
+pub mod Reading
+pub mod Spelling
+pub mod Writable
+pub mod Appends
+pub mod Fits

@@ -1,0 +1,69 @@
+-- What the content of a record says: a message, or the first of its faults, with its kind and its place.
+use Rattle.std.specs.Prelude.{◌≡◌, ℕ, ◌-◌, List, length, ◌==◌, ◌&&◌, Option, Some, None, Result, Ok, Err, MatchResult, if◌then◌else◌}
+use Rattle.ldm_relay.specs.declared.fault.RelayFault.{RelayFault}
+use Rattle.ldm_relay.specs.declared.fault.RelayFault.TheVariants.{NotRpc, WrongProgram, WrongProcedure, BadMessage}
+use Rattle.ldm_relay.specs.declared.header.CallHeader.{CallHeader}
+use Rattle.ldm_relay.specs.declared.procedure.Procedure.{Procedure}
+use Rattle.ldm_relay.specs.declared.procedure.Procedure.TheVariants as procedure
+use Rattle.ldm_relay.specs.declared.procedure.TheConstants.{PROGRAM, VERSION}
+use Rattle.ldm_relay.specs.Sent.{Sent}
+use Rattle.ldm_relay.specs.Sent as sent
+use Rattle.ldm_relay.specs.Procedure.{number_of, numbered, answered}
+use Rattle.ldm_relay.specs.Fields.{◌>>=◌, no_more}
+use Rattle.ldm_relay.specs.Headers.{call_header_in, reply_header_in}
+use Rattle.ldm_relay.specs.Calls.{call_in}
+use Rattle.ldm_relay.specs.Replies.{accepted_in}
+
+-- nothing is behind what was read
+unfoldable pub whole : Result (Sent × List ℕ) ℕ → Result Sent ℕ
+whole reading = do
+  message ← reading
+  end ← no_more message.1
+  Ok message.0
+
+-- a reading of a part of a record, or a fault of that kind with the place in the record where it stopped
+abbrev pub or_at : {A : Type 0} → (ℕ → RelayFault) → List ℕ → Result A ℕ → Result A RelayFault
+or_at fault bytes (Ok x) = Ok x
+or_at fault bytes (Err left) = Err (fault (length bytes - left))
+
+-- the procedure of a number, where there is one
+abbrev pub or_wrong : {A : Type 0} → ℕ → Option A → Result A RelayFault
+or_wrong number (Some procedure) = Ok procedure
+or_wrong number None = Err (WrongProcedure number)
+
+-- the procedure that a header names
+abbrev pub called : CallHeader → Result Procedure RelayFault
+called header =
+    if (header.program == PROGRAM) && (header.version == VERSION) then or_wrong header.procedure (numbered header.procedure)
+    else Err (WrongProgram header.program header.version)
+
+unfoldable pub call_of : List ℕ → Result Sent RelayFault
+call_of bytes = do
+  header ← or_at NotRpc bytes (call_header_in bytes)
+  procedure ← called header.0
+  or_at BadMessage bytes (whole (call_in procedure header.0.xid header.1))
+
+-- a reply to a call of that procedure
+unfoldable pub reply_of : ℕ → List ℕ → Result Sent RelayFault
+reply_of number bytes = do
+  header ← or_at NotRpc bytes (reply_header_in bytes)
+  procedure ← or_wrong number (answered number)
+  or_at BadMessage bytes (whole (accepted_in procedure header.0 header.1))
+
+-- the procedure to whose call a message is the reply, or None for a call
+abbrev pub reply_to : Sent → Option Procedure
+reply_to (sent.FeedmeReply xid answer) = Some procedure.Feedme
+reply_to (sent.HiyaReply xid max_hereis answer) = Some procedure.Hiya
+reply_to (sent.ComingsoonReply xid answer) = Some procedure.Comingsoon
+reply_to (sent.QstatReply xid stat) = Some procedure.Qstat
+reply_to (sent.PutReply xid answer) = Some procedure.Put
+reply_to _ = None
+
+-- what some bytes say, read as a call, or as a reply to a call of a procedure
+abbrev pub read_as : Option Procedure → List ℕ → Result Sent RelayFault
+read_as None bytes = call_of bytes
+read_as (Some p) bytes = reply_of (number_of p) bytes
+
+-- a call answers what is read, seen so
+abbrev pub Answers : {X A E : Type 0} → (X → A) → Result X E → Result A E → Type 0
+Answers seen result reading = MatchResult result (λ x. reading ≡ Ok (seen x)) (λ fault. reading ≡ Err fault)

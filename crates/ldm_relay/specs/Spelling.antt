@@ -1,0 +1,112 @@
+-- The one spelling of each message: what a writer writes (RFC 4506, RFC 5531), in this project's profile.
+use Rattle.std.specs.Prelude.{ℕ, ◌+◌, ◌-◌, ◌/◌, ◌%◌, ◌^◌, List, ◌++◌, length, replicate, Option, Some, None}
+use Rattle.std.specs.Int.{Width, w32, w64, to_be_bytes}
+use Rattle.std.specs.List.{flat_map}
+use Rattle.ldm_types.specs.Info.{pad4}
+use Rattle.ldm_types.specs.declared.class.ClassSpec.{ClassSpec}
+use Rattle.ldm_types.specs.declared.class.Spec.{Spec}
+use Rattle.ldm_xdr.specs.Spelling.{spelling}
+use Rattle.ldm_relay.specs.declared.header.TheConstants.{CALL, REPLY, RPC_VERSION, ACCEPTED, SUCCESS, NO_AUTHENTICATION}
+use Rattle.ldm_relay.specs.declared.message.ClassAnswer.{ClassAnswer}
+use Rattle.ldm_relay.specs.declared.message.ClassAnswer.TheVariants as class_answer
+use Rattle.ldm_relay.specs.declared.message.SoonAnswer.{SoonAnswer}
+use Rattle.ldm_relay.specs.declared.message.SoonAnswer.TheVariants as soon_answer
+use Rattle.ldm_relay.specs.declared.message.PutAnswer.{PutAnswer}
+use Rattle.ldm_relay.specs.declared.message.PutAnswer.TheVariants as put_answer
+use Rattle.ldm_relay.specs.declared.procedure.Procedure.{Procedure}
+use Rattle.ldm_relay.specs.declared.procedure.Procedure.TheVariants as procedure
+use Rattle.ldm_relay.specs.declared.procedure.TheConstants.{PROGRAM, VERSION}
+use Rattle.ldm_relay.specs.Procedure.{number_of}
+use Rattle.ldm_relay.specs.Sent.{Sent}
+use Rattle.ldm_relay.specs.Sent as sent
+
+-- a number of a width, the highest byte first (RFC 4506, sections 4.2 and 4.5)
+unfoldable pub number : Width → ℕ → List ℕ
+number width n = to_be_bytes width n
+
+abbrev pub unsigned : ℕ → List ℕ
+unsigned n = number w32 n
+
+abbrev pub hyper : ℕ → List ℕ
+hyper n = number w64 n
+
+-- a fixed opaque (section 4.9): its bytes, and zero bytes up to a multiple of four
+abbrev pub padded : List ℕ → List ℕ
+padded bytes = bytes ++ replicate (pad4 (length bytes) - length bytes) 0
+
+-- an opaque (section 4.10): its length, its bytes and their padding
+unfoldable pub opaque : List ℕ → List ℕ
+opaque bytes = unsigned (length bytes) ++ padded bytes
+
+-- ---- classes
+
+unfoldable pub instant_bytes : ℕ → List ℕ
+instant_bytes micros = unsigned (micros / 1000000) ++ unsigned (micros % 1000000)
+
+unfoldable pub spec_bytes : Spec → List ℕ
+spec_bytes spec = unsigned spec.feed.0 ++ opaque spec.pattern.items
+
+unfoldable pub class_bytes : ClassSpec → List ℕ
+class_bytes class = instant_bytes class.from ++ instant_bytes class.to ++ unsigned (length class.specs.items) ++ flat_map spec_bytes class.specs.items
+
+abbrev pub class_answer_bytes : ClassAnswer → List ℕ
+class_answer_bytes class_answer.Ok = unsigned 0
+class_answer_bytes (class_answer.Reclass class) = unsigned 1 ++ class_bytes class
+class_answer_bytes class_answer.Denied = unsigned 2
+class_answer_bytes class_answer.BadPattern = unsigned 3
+class_answer_bytes class_answer.Busy = unsigned 4
+
+-- ---- other answers
+
+abbrev pub soon_answer_bytes : SoonAnswer → List ℕ
+soon_answer_bytes soon_answer.Ok = unsigned 0
+soon_answer_bytes soon_answer.DontSend = unsigned 1
+
+abbrev pub stat_bytes : Option (List ℕ) → List ℕ
+stat_bytes (Some figures) = unsigned 0 ++ flat_map hyper figures
+stat_bytes None = unsigned 2
+
+abbrev pub put_answer_bytes : PutAnswer → List ℕ
+put_answer_bytes (put_answer.Admitted n time evicted) = unsigned 0 ++ hyper n ++ hyper time ++ hyper evicted
+put_answer_bytes (put_answer.TooBig need arena) = unsigned 1 ++ hyper need ++ hyper arena
+put_answer_bytes (put_answer.Duplicate n) = unsigned 2 ++ hyper n
+put_answer_bytes put_answer.TimeEnd = unsigned 3
+put_answer_bytes (put_answer.Locked held) = unsigned 4 ++ hyper held
+put_answer_bytes put_answer.Denied = unsigned 5
+
+-- ---- headers (RFC 5531, section 9)
+
+-- a credential or verifier that proves nothing, with an empty body
+unfoldable pub no_authentication : List ℕ
+no_authentication = unsigned NO_AUTHENTICATION ++ unsigned 0
+
+unfoldable pub call_header : ℕ → Procedure → List ℕ
+call_header xid p =
+    unsigned xid ++ unsigned CALL ++ unsigned RPC_VERSION ++ unsigned PROGRAM ++ unsigned VERSION ++ unsigned (number_of p)
+    ++ no_authentication ++ no_authentication
+
+unfoldable pub reply_header : ℕ → List ℕ
+reply_header xid = unsigned xid ++ unsigned REPLY ++ unsigned ACCEPTED ++ no_authentication ++ unsigned SUCCESS
+
+-- ---- messages
+
+-- the content of the record in which a message is written
+unfoldable pub written : Sent → List ℕ
+written (sent.Feedme xid class max_hereis) = call_header xid procedure.Feedme ++ (class_bytes class ++ unsigned max_hereis)
+written (sent.FeedmeReply xid answer) = reply_header xid ++ class_answer_bytes answer
+written (sent.Hiya xid class) = call_header xid procedure.Hiya ++ class_bytes class
+written (sent.HiyaReply xid max_hereis answer) = reply_header xid ++ (unsigned max_hereis ++ class_answer_bytes answer)
+written (sent.Hereis xid info body) = call_header xid procedure.Hereis ++ (spelling info ++ padded body)
+written (sent.Comingsoon xid info block_size) = call_header xid procedure.Comingsoon ++ (spelling info ++ unsigned block_size)
+written (sent.ComingsoonReply xid answer) = reply_header xid ++ soon_answer_bytes answer
+written (sent.Blkdata xid signature n block) = call_header xid procedure.Blkdata ++ (signature ++ unsigned n ++ opaque block)
+written (sent.Isalive xid) = call_header xid procedure.Isalive
+written (sent.Qstat xid) = call_header xid procedure.Qstat
+written (sent.QstatReply xid stat) = reply_header xid ++ stat_bytes stat
+written (sent.Put xid info body) = call_header xid procedure.Put ++ (spelling info ++ padded body)
+written (sent.PutReply xid answer) = reply_header xid ++ put_answer_bytes answer
+
+-- A record of one fragment (RFC 5531, section 11): a header of four bytes whose highest bit says that it is the last, and
+-- whose other bits are the length of the content; and the content.
+abbrev pub record_of : List ℕ → List ℕ
+record_of content = unsigned (2 ^ 31 + length content) ++ content

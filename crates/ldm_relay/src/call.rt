@@ -1,0 +1,182 @@
+//! Reading calls.
+ghost use Rattle.std.specs.Prelude.{◌≡◌, length, IfOk};
+ghost use Rattle.ldm_relay.specs.MessageView.{sent_of};
+ghost use Rattle.ldm_relay.specs.Calls.{call_in, feedme_in, hiya_in, product_in, hereis_in, put_in, comingsoon_in, blkdata_in};
+ghost use Rattle.ldm_relay.specs.Fields.{fixed_in};
+ghost use Rattle.ldm_relay.specs.FieldReads.{Gives};
+ghost use Rattle.ldm_relay.specs.Writable.{IsSized};
+ghost use Rattle.ldm_relay.specs.Reading.{Answers, whole, call_of};
+
+use crate::class::read_class;
+use crate::fault::RelayFault;
+use crate::fields::Fields;
+use crate::header::read_call_header;
+use crate::message::{
+    Blkdata, Comingsoon, Feedme, Hereis, Hiya, Isalive, LARGEST_BLOCK, Message, Put, Qstat,
+};
+use crate::procedure::{PROGRAM, Procedure, VERSION};
+use ldm_types::{Info, Signature};
+
+/// The call that is the whole content of a record. It borrows the bytes that it carries. It takes no memory.
+///
+/// The credential and the verifier must be of flavour 0 and have at most 400 bytes, which are not looked at.
+#[tactic(auto, unfolding(crate::specs::Reading::call_of))]
+pub fn read_call(bytes: &[u8]) -> Result<Message<'_>, RelayFault>
+    ensures read { Answers sent_of result (call_of bytes.now) }
+    ensures sized { IfOk result (λ m. IsSized (sent_of m)) }
+{
+    let mut fields = Fields::of(bytes);
+    let header = match read_call_header(&mut fields) {
+        Ok(header) => header,
+        Err(left) => {
+            return Err(RelayFault::NotRpc {
+                at: bytes.len().saturating_sub(left),
+            });
+        }
+    };
+    if header.program != PROGRAM || header.version != VERSION {
+        return Err(RelayFault::WrongProgram {
+            program: header.program,
+            version: header.version,
+        });
+    }
+    let Some(procedure) = Procedure::of_number(header.procedure) else {
+        return Err(RelayFault::WrongProcedure {
+            procedure: header.procedure,
+        });
+    };
+    match read_rest(procedure, header.xid, fields) {
+        Ok(message) => Ok(message),
+        Err(left) => Err(RelayFault::BadMessage {
+            at: bytes.len().saturating_sub(left),
+        }),
+    }
+}
+
+// Where one of these cannot read a field, the error is how many bytes there are from it to the end of the record.
+
+// The body, and nothing behind it.
+#[tactic(auto, unfolding(crate::specs::Reading::whole))]
+fn read_rest(procedure: Procedure, xid: u32, mut fields: Fields<'_>) -> Result<Message<'_>, usize>
+    ensures read { Answers sent_of result (whole (call_in procedure xid fields.entry)) }
+    ensures sized { IfOk result (λ m. IsSized (sent_of m)) }
+{
+    let message = read_body(procedure, xid, &mut fields)?;
+    fields.end()?;
+    Ok(message)
+}
+
+fn read_body<'a>(
+    procedure: Procedure,
+    xid: u32,
+    fields: &mut Fields<'a>,
+) -> Result<Message<'a>, usize>
+    ensures read { Gives sent_of result (call_in procedure xid fields.old) fields.new }
+    ensures sized { IfOk result (λ m. IsSized (sent_of m)) }
+{
+    match procedure {
+        Procedure::Hereis => read_hereis(xid, fields),
+        Procedure::Feedme => read_feedme(xid, fields),
+        Procedure::Hiya => read_hiya(xid, fields),
+        Procedure::Comingsoon => read_comingsoon(xid, fields),
+        Procedure::Blkdata => read_blkdata(xid, fields),
+        Procedure::Isalive => Ok(Message::Isalive(Isalive { xid })),
+        Procedure::Qstat => Ok(Message::Qstat(Qstat { xid })),
+        Procedure::Put => read_put(xid, fields),
+    }
+}
+
+#[tactic(auto, unfolding(crate::specs::Calls::feedme_in))]
+fn read_feedme<'a>(xid: u32, fields: &mut Fields<'a>) -> Result<Message<'a>, usize>
+    ensures read { Gives sent_of result (feedme_in xid fields.old) fields.new }
+    ensures sized { IfOk result (λ m. IsSized (sent_of m)) }
+{
+    let class = read_class(fields)?;
+    let max_hereis = fields.unsigned()?;
+    Ok(Message::Feedme(Feedme {
+        xid,
+        class,
+        max_hereis,
+    }))
+}
+
+#[tactic(auto, unfolding(crate::specs::Calls::hiya_in))]
+fn read_hiya<'a>(xid: u32, fields: &mut Fields<'a>) -> Result<Message<'a>, usize>
+    ensures read { Gives sent_of result (hiya_in xid fields.old) fields.new }
+    ensures sized { IfOk result (λ m. IsSized (sent_of m)) }
+{
+    let class = read_class(fields)?;
+    Ok(Message::Hiya(Hiya { xid, class }))
+}
+
+struct Product<'a> {
+    info: Info,
+    body: &'a [u8],
+}
+
+#[tactic(auto, unfolding(crate::specs::Calls::product_in))]
+fn read_product<'a>(fields: &mut Fields<'a>) -> Result<Product<'a>, usize>
+    ensures read { Gives (λ product. (product.info, product.body.now)) result (product_in fields.old) fields.new }
+    ensures sized { IfOk result (λ product. length product.body.now ≡ product.info.size) }
+{
+    let info = fields.info()?;
+    let body = fields.fixed(info.size())?;
+    Ok(Product { info, body })
+}
+
+#[tactic(auto, unfolding(crate::specs::Calls::hereis_in))]
+fn read_hereis<'a>(xid: u32, fields: &mut Fields<'a>) -> Result<Message<'a>, usize>
+    ensures read { Gives sent_of result (hereis_in xid fields.old) fields.new }
+    ensures sized { IfOk result (λ m. IsSized (sent_of m)) }
+{
+    let Product { info, body } = read_product(fields)?;
+    Ok(Message::Hereis(Hereis { xid, info, body }))
+}
+
+#[tactic(auto, unfolding(crate::specs::Calls::put_in))]
+fn read_put<'a>(xid: u32, fields: &mut Fields<'a>) -> Result<Message<'a>, usize>
+    ensures read { Gives sent_of result (put_in xid fields.old) fields.new }
+    ensures sized { IfOk result (λ m. IsSized (sent_of m)) }
+{
+    let Product { info, body } = read_product(fields)?;
+    Ok(Message::Put(Put { xid, info, body }))
+}
+
+#[tactic(auto, unfolding(crate::specs::Calls::comingsoon_in))]
+fn read_comingsoon<'a>(xid: u32, fields: &mut Fields<'a>) -> Result<Message<'a>, usize>
+    ensures read { Gives sent_of result (comingsoon_in xid fields.old) fields.new }
+    ensures sized { IfOk result (λ m. IsSized (sent_of m)) }
+{
+    let info = fields.info()?;
+    let block_size = fields.unsigned()?;
+    Ok(Message::Comingsoon(Comingsoon {
+        xid,
+        info,
+        block_size,
+    }))
+}
+
+#[tactic(auto, unfolding(crate::specs::Calls::blkdata_in))]
+fn read_blkdata<'a>(xid: u32, fields: &mut Fields<'a>) -> Result<Message<'a>, usize>
+    ensures read { Gives sent_of result (blkdata_in xid fields.old) fields.new }
+    ensures sized { IfOk result (λ m. IsSized (sent_of m)) }
+{
+    let signature = read_signature(fields)?;
+    let number = fields.unsigned()?;
+    let block = fields.opaque(LARGEST_BLOCK as u32)?;
+    Ok(Message::Blkdata(Blkdata {
+        xid,
+        signature,
+        number,
+        block,
+    }))
+}
+
+fn read_signature(fields: &mut Fields) -> Result<Signature, usize>
+    ensures { Gives (λ signature. signature.0) result (fixed_in 16 fields.old) fields.new }
+{
+    let bytes = fields.fixed(16)?;
+    let mut signature = [0; 16];
+    signature.copy_from_slice(bytes);
+    Ok(Signature(signature))
+}

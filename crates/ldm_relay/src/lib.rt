@@ -1,0 +1,34 @@
+//! The messages that nodes exchange: remote procedure calls and replies (RFC 5531) with bodies in XDR (RFC 4506), in
+//! this project's profile.
+//!
+//! [`read_call`] and [`read_reply`] read the content of one record, and [`write_message`] writes a whole record. What is
+//! read borrows the record: no body is copied, and reading takes no memory.
+#![tactic(auto)]
+
+mod call;
+mod class;
+mod fault;
+mod fields;
+mod header;
+mod laws;
+mod length;
+mod message;
+mod procedure;
+mod record;
+mod reply;
+mod write;
+
+pub use call::read_call;
+pub use fault::RelayFault;
+pub use laws::{what_is_read_is_written, what_is_written_is_read};
+pub use message::{
+    Blkdata, ClassAnswer, Comingsoon, ComingsoonReply, Feedme, FeedmeReply, Hereis, Hiya,
+    HiyaReply, Isalive, LARGEST_BLOCK, LARGEST_CONTENT, Message, Put, PutAnswer, PutReply, Qstat,
+    QstatReply, SoonAnswer,
+};
+pub use procedure::{PROGRAM, VERSION};
+pub use record::write_message;
+pub use reply::read_reply;
+
+#[cfg(test)]
+mod tests;

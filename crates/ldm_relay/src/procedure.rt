@@ -1,0 +1,106 @@
+//! The procedures of the program.
+ghost use Rattle.std.specs.Prelude.{◌≡◌};
+ghost use Rattle.ldm_relay.specs.Procedure.{number_of, numbered, procedure_of, answered};
+
+/// The number of the program that nodes call.
+pub const PROGRAM: u32 = 300_029;
+
+/// The version of the program.
+pub const VERSION: u32 = 6;
+
+/// A procedure: what a call asks for.
+#[derive(Clone, Copy, Debug, PartialEq, Eq)]
+pub(crate) enum Procedure {
+    Hereis,
+    Feedme,
+    Hiya,
+    Comingsoon,
+    Blkdata,
+    Isalive,
+    Qstat,
+    Put,
+}
+
+impl Procedure {
+    const ALL: [Procedure; 8] = [
+        Procedure::Hereis,
+        Procedure::Feedme,
+        Procedure::Hiya,
+        Procedure::Comingsoon,
+        Procedure::Blkdata,
+        Procedure::Isalive,
+        Procedure::Qstat,
+        Procedure::Put,
+    ];
+
+    /// Its number.
+    pub fn number(self) -> u32
+        ensures { result ≡ number_of self }
+    {
+        match self {
+            Procedure::Hereis => 1,
+            Procedure::Feedme => 4,
+            Procedure::Hiya => 5,
+            Procedure::Comingsoon => 12,
+            Procedure::Blkdata => 13,
+            Procedure::Isalive => 14,
+            Procedure::Qstat => 100,
+            Procedure::Put => 101,
+        }
+    }
+
+    /// The procedure of that number.
+    #[tactic(auto, unfolding(crate::specs::Procedure::numbered))]
+    pub fn of_number(number: u32) -> Option<Procedure>
+        ensures { result ≡ numbered number }
+    {
+        Procedure::ALL
+            .iter()
+            .copied()
+            .find(|procedure| procedure.number() == number)
+    }
+}
+
+/// A procedure that has a reply.
+#[derive(Clone, Copy, Debug, PartialEq, Eq)]
+pub(crate) enum Answered {
+    Feedme,
+    Hiya,
+    Comingsoon,
+    Qstat,
+    Put,
+}
+
+impl Answered {
+    const ALL: [Answered; 5] = [
+        Answered::Feedme,
+        Answered::Hiya,
+        Answered::Comingsoon,
+        Answered::Qstat,
+        Answered::Put,
+    ];
+
+    /// The procedure.
+    pub fn procedure(self) -> Procedure
+        ensures { result ≡ procedure_of self }
+    {
+        match self {
+            Answered::Feedme => Procedure::Feedme,
+            Answered::Hiya => Procedure::Hiya,
+            Answered::Comingsoon => Procedure::Comingsoon,
+            Answered::Qstat => Procedure::Qstat,
+            Answered::Put => Procedure::Put,
+        }
+    }
+
+    /// The procedure of that number, where it has a reply.
+    #[tactic(auto, unfolding(crate::specs::Procedure::answered))]
+    pub fn of_number(number: u32) -> Option<Answered>
+        ensures { result ≡ answered number }
+    {
+        Answered::ALL
+            .iter()
+            .copied()
+            .find(|answered| answered.procedure().number() == number)
+    }
+}

@@ -1,0 +1,32 @@
+//! Writing a message as a record.
+ghost use Rattle.std.specs.Prelude.{◌≡◌, ◌++◌, OnOk, OnErr};
+ghost use Rattle.ldm_relay.specs.MessageView.{sent_of};
+ghost use Rattle.ldm_relay.specs.Spelling.{written, record_of};
+ghost use Rattle.ldm_relay.specs.Writable.{IsWritable};
+
+use crate::length::content_len;
+use crate::message::Message;
+use crate::write::{put_message, put_unsigned};
+use ldm_types::OutOfMemory;
+
+// The bit of a fragment's header that says that no other fragment follows (RFC 5531, section 11).
+const LAST_FRAGMENT: u32 = 0x8000_0000;
+
+/// Appends the record of the message: a header of four bytes, and the content as one fragment. The credential and the
+/// verifier are empty. The body is copied once.
+///
+/// The body of a [`Hereis`](crate::Hereis) or [`Put`](crate::Put) must have `info.size()` bytes and leave the content
+/// within [`LARGEST_CONTENT`](crate::LARGEST_CONTENT), and a block must have at most
+/// [`LARGEST_BLOCK`](crate::LARGEST_BLOCK). After an `Err`, `out` is as before.
+#[tactic(auto, using(crate::proofs::Appending::appending, crate::proofs::Lengths::lengths))]
+pub fn write_message(message: &Message, out: &mut Vec<u8>) -> Result<(), OutOfMemory>
+    requires { IsWritable (sent_of message.now) }
+    ensures ok { OnOk result (out.new.items ≡ out.old.items ++ record_of (written (sent_of message.now))) }
+    ensures err { OnErr result (out.new.items ≡ out.old.items) }
+{
+    let len = content_len(message);
+    out.reserve(4 + len)?;
+    put_unsigned(out, LAST_FRAGMENT + len as u32);
+    put_message(out, message);
+    Ok(())
+}

@@ -1,0 +1,368 @@
+//! Writing messages.
+ghost use Rattle.std.specs.Prelude.{◌≡◌, ◌<◌, ◌≤◌, ◌+◌, ◌-◌, ◌^◌, ◌++◌, ℕ, length, replicate, OnOk, OnErr};
+ghost use Rattle.std.specs.Int.{w32, w64};
+ghost use Rattle.std.specs.List.{flat_map};
+ghost use Rattle.ldm_types.specs.Info.{pad4};
+ghost use Rattle.ldm_xdr.specs.Spelling.{spelling};
+ghost use Rattle.ldm_relay.specs.Sent as sent;
+ghost use Rattle.ldm_relay.specs.MessageView.{sent_of};
+ghost use Rattle.ldm_relay.specs.Spelling.{number, hyper, padded, opaque, instant_bytes, spec_bytes, class_bytes, class_answer_bytes, soon_answer_bytes, stat_bytes};
+ghost use Rattle.ldm_relay.specs.Spelling.{put_answer_bytes, no_authentication, call_header, reply_header, written, record_of};
+ghost use Rattle.ldm_relay.specs.Writable.{IsWritable};
+ghost use Rattle.ldm_relay.specs.Appends.{HasRoom, Appends};
+ghost use Rattle.ldm_relay.specs.declared.message.TheConstants.{LARGEST_BLOCK};
+
+use crate::header::{ACCEPTED, CALL, NO_AUTHENTICATION, REPLY, RPC_VERSION, SUCCESS};
+use crate::length::LONGEST_METADATA;
+use crate::message::{Blkdata, ClassAnswer, Message, PutAnswer, SoonAnswer};
+use crate::procedure::{PROGRAM, Procedure, VERSION};
+use byteorder::{BigEndian, ByteOrder};
+use ldm_types::{ClassSpec, Info, Micros, Spec};
+use ldm_xdr::{info_len, write_info};
+
+// Each of these appends what there is room for.
+
+/// Writes the content of the record of a message.
+#[tactic(auto, unfolding(crate::specs::Spelling::written))]
+pub(crate) fn put_message(out: &mut Vec<u8>, message: &Message)
+    requires writable { IsWritable (sent_of message.now) }
+    requires room { HasRoom out.old (written (sent_of message.now)) }
+    ensures { Appends out.old out.new (written (sent_of message.now)) }
+{
+    match message {
+        Message::Feedme(m) => put_feedme(out, m.xid, &m.class, m.max_hereis),
+        Message::FeedmeReply(m) => put_feedme_reply(out, m.xid, &m.answer),
+        Message::Hiya(m) => put_hiya(out, m.xid, &m.class),
+        Message::HiyaReply(m) => put_hiya_reply(out, m.xid, m.max_hereis, &m.answer),
+        Message::Hereis(m) => put_product(out, m.xid, Procedure::Hereis, &m.info, m.body),
+        Message::Comingsoon(m) => put_comingsoon(out, m.xid, &m.info, m.block_size),
+        Message::ComingsoonReply(m) => put_comingsoon_reply(out, m.xid, m.answer),
+        Message::Blkdata(m) => put_blkdata(out, m),
+        Message::Isalive(m) => put_call_header(out, m.xid, Procedure::Isalive),
+        Message::Qstat(m) => put_call_header(out, m.xid, Procedure::Qstat),
+        Message::QstatReply(m) => put_qstat_reply(out, m.xid, &m.stat),
+        Message::Put(m) => put_product(out, m.xid, Procedure::Put, &m.info, m.body),
+        Message::PutReply(m) => put_put_reply(out, m.xid, m.answer),
+    }
+}
+
+#[tactic(auto, using(crate::proofs::Appending::appending), unfolding(crate::specs::Spelling::written))]
+fn put_feedme(out: &mut Vec<u8>, xid: u32, class: &ClassSpec, max_hereis: u32)
+    requires { HasRoom out.old (written (sent.Feedme xid class.now max_hereis)) }
+    ensures { Appends out.old out.new (written (sent.Feedme xid class.now max_hereis)) }
+{
+    put_call_header(out, xid, Procedure::Feedme);
+    put_class(out, class);
+    put_unsigned(out, max_hereis);
+}
+
+#[tactic(auto, using(crate::proofs::Appending::appending), unfolding(crate::specs::Spelling::written))]
+fn put_feedme_reply(out: &mut Vec<u8>, xid: u32, answer: &ClassAnswer)
+    requires { HasRoom out.old (written (sent.FeedmeReply xid answer.now)) }
+    ensures { Appends out.old out.new (written (sent.FeedmeReply xid answer.now)) }
+{
+    put_reply_header(out, xid);
+    put_class_answer(out, answer);
+}
+
+#[tactic(auto, using(crate::proofs::Appending::appending), unfolding(crate::specs::Spelling::written))]
+fn put_hiya(out: &mut Vec<u8>, xid: u32, class: &ClassSpec)
+    requires { HasRoom out.old (written (sent.Hiya xid class.now)) }
+    ensures { Appends out.old out.new (written (sent.Hiya xid class.now)) }
+{
+    put_call_header(out, xid, Procedure::Hiya);
+    put_class(out, class);
+}
+
+#[tactic(auto, using(crate::proofs::Appending::appending), unfolding(crate::specs::Spelling::written))]
+fn put_hiya_reply(out: &mut Vec<u8>, xid: u32, max_hereis: u32, answer: &ClassAnswer)
+    requires { HasRoom out.old (written (sent.HiyaReply xid max_hereis answer.now)) }
+    ensures { Appends out.old out.new (written (sent.HiyaReply xid max_hereis answer.now)) }
+{
+    put_reply_header(out, xid);
+    put_unsigned(out, max_hereis);
+    put_class_answer(out, answer);
+}
+
+// A call with a product: its metadata, and its body with padding.
+#[tactic(auto, using(crate::proofs::Appending::appending))]
+fn put_product(out: &mut Vec<u8>, xid: u32, procedure: Procedure, info: &Info, body: &[u8])
+    requires { HasRoom out.old (call_header xid procedure ++ (spelling info.now ++ padded body.now)) }
+    ensures { Appends out.old out.new (call_header xid procedure ++ (spelling info.now ++ padded body.now)) }
+{
+    put_call_header(out, xid, procedure);
+    put_info(out, info);
+    put_padded(out, body);
+}
+
+#[tactic(auto, using(crate::proofs::Appending::appending), unfolding(crate::specs::Spelling::written))]
+fn put_comingsoon(out: &mut Vec<u8>, xid: u32, info: &Info, block_size: u32)
+    requires { HasRoom out.old (written (sent.Comingsoon xid info.now block_size)) }
+    ensures { Appends out.old out.new (written (sent.Comingsoon xid info.now block_size)) }
+{
+    put_call_header(out, xid, Procedure::Comingsoon);
+    put_info(out, info);
+    put_unsigned(out, block_size);
+}
+
+#[tactic(auto, using(crate::proofs::Appending::appending), unfolding(crate::specs::Spelling::written))]
+fn put_comingsoon_reply(out: &mut Vec<u8>, xid: u32, answer: SoonAnswer)
+    requires { HasRoom out.old (written (sent.ComingsoonReply xid answer)) }
+    ensures { Appends out.old out.new (written (sent.ComingsoonReply xid answer)) }
+{
+    put_reply_header(out, xid);
+    put_soon_answer(out, answer);
+}
+
+#[tactic(auto, using(crate::proofs::Appending::appending), unfolding(crate::specs::Spelling::written))]
+fn put_blkdata(out: &mut Vec<u8>, message: &Blkdata)
+    requires short { length message.now.block.now ≤ LARGEST_BLOCK }
+    requires room { HasRoom out.old (written (sent.Blkdata message.now.xid message.now.signature.0 message.now.number message.now.block.now)) }
+    ensures { Appends out.old out.new (written (sent.Blkdata message.now.xid message.now.signature.0 message.now.number message.now.block.now)) }
+{
+    put_call_header(out, message.xid, Procedure::Blkdata);
+    put(out, &message.signature.0);
+    put_unsigned(out, message.number);
+    put_opaque(out, message.block);
+}
+
+#[tactic(auto, using(crate::proofs::Appending::appending), unfolding(crate::specs::Spelling::written))]
+fn put_qstat_reply(out: &mut Vec<u8>, xid: u32, stat: &Option<[u64; 5]>)
+    requires { HasRoom out.old (written (sent.QstatReply xid stat.now)) }
+    ensures { Appends out.old out.new (written (sent.QstatReply xid stat.now)) }
+{
+    put_reply_header(out, xid);
+    put_stat(out, stat);
+}
+
+#[tactic(auto, using(crate::proofs::Appending::appending), unfolding(crate::specs::Spelling::written))]
+fn put_put_reply(out: &mut Vec<u8>, xid: u32, answer: PutAnswer)
+    requires { HasRoom out.old (written (sent.PutReply xid answer)) }
+    ensures { Appends out.old out.new (written (sent.PutReply xid answer)) }
+{
+    put_reply_header(out, xid);
+    put_put_answer(out, answer);
+}
+
+#[tactic(auto, using(crate::proofs::Appending::appending), unfolding(crate::specs::Spelling::call_header))]
+fn put_call_header(out: &mut Vec<u8>, xid: u32, procedure: Procedure)
+    requires { HasRoom out.old (call_header xid procedure) }
+    ensures { Appends out.old out.new (call_header xid procedure) }
+{
+    put_unsigned(out, xid);
+    put_unsigned(out, CALL);
+    put_unsigned(out, RPC_VERSION);
+    put_unsigned(out, PROGRAM);
+    put_unsigned(out, VERSION);
+    put_unsigned(out, procedure.number());
+    put_no_authentication(out);
+    put_no_authentication(out);
+}
+
+#[tactic(auto, using(crate::proofs::Appending::appending), unfolding(crate::specs::Spelling::reply_header))]
+fn put_reply_header(out: &mut Vec<u8>, xid: u32)
+    requires { HasRoom out.old (reply_header xid) }
+    ensures { Appends out.old out.new (reply_header xid) }
+{
+    put_unsigned(out, xid);
+    put_unsigned(out, REPLY);
+    put_unsigned(out, ACCEPTED);
+    put_no_authentication(out);
+    put_unsigned(out, SUCCESS);
+}
+
+#[tactic(auto, using(crate::proofs::Appending::appending), unfolding(crate::specs::Spelling::no_authentication))]
+fn put_no_authentication(out: &mut Vec<u8>)
+    requires { HasRoom out.old no_authentication }
+    ensures { Appends out.old out.new no_authentication }
+{
+    put_unsigned(out, NO_AUTHENTICATION);
+    put_unsigned(out, 0);
+}
+
+#[tactic(auto, using(crate::proofs::Appending::appending))]
+fn put_class_answer(out: &mut Vec<u8>, answer: &ClassAnswer)
+    requires { HasRoom out.old (class_answer_bytes answer.now) }
+    ensures { Appends out.old out.new (class_answer_bytes answer.now) }
+{
+    match answer {
+        ClassAnswer::Ok => put_unsigned(out, 0),
+        ClassAnswer::Reclass(class) => {
+            put_unsigned(out, 1);
+            put_class(out, class);
+        }
+        ClassAnswer::Denied => put_unsigned(out, 2),
+        ClassAnswer::BadPattern => put_unsigned(out, 3),
+        ClassAnswer::Busy => put_unsigned(out, 4),
+    }
+}
+
+fn put_soon_answer(out: &mut Vec<u8>, answer: SoonAnswer)
+    requires { HasRoom out.old (soon_answer_bytes answer) }
+    ensures { Appends out.old out.new (soon_answer_bytes answer) }
+{
+    match answer {
+        SoonAnswer::Ok => put_unsigned(out, 0),
+        SoonAnswer::DontSend => put_unsigned(out, 1),
+    }
+}
+
+#[tactic(auto, using(crate::proofs::Appending::appending))]
+fn put_stat(out: &mut Vec<u8>, stat: &Option<[u64; 5]>)
+    requires { HasRoom out.old (stat_bytes stat.now) }
+    ensures { Appends out.old out.new (stat_bytes stat.now) }
+{
+    match stat {
+        Some(figures) => {
+            put_unsigned(out, 0);
+            put_figures(out, figures);
+        }
+        None => put_unsigned(out, 2),
+    }
+}
+
+fn put_figures(out: &mut Vec<u8>, figures: &[u64])
+    requires { HasRoom out.old (flat_map hyper figures.now) }
+    ensures { Appends out.old out.new (flat_map hyper figures.now) }
+{
+    for figure in figures {
+        put_hyper(out, *figure);
+    }
+}
+
+#[tactic(auto, using(crate::proofs::Appending::appending))]
+fn put_put_answer(out: &mut Vec<u8>, answer: PutAnswer)
+    requires { HasRoom out.old (put_answer_bytes answer) }
+    ensures { Appends out.old out.new (put_answer_bytes answer) }
+{
+    match answer {
+        PutAnswer::Admitted { n, time, evicted } => {
+            put_unsigned(out, 0);
+            put_hyper(out, n);
+            put_hyper(out, time);
+            put_hyper(out, evicted);
+        }
+        PutAnswer::TooBig { need, arena } => {
+            put_unsigned(out, 1);
+            put_hyper(out, need);
+            put_hyper(out, arena);
+        }
+        PutAnswer::Duplicate { n } => {
+            put_unsigned(out, 2);
+            put_hyper(out, n);
+        }
+        PutAnswer::TimeEnd => put_unsigned(out, 3),
+        PutAnswer::Locked { held } => {
+            put_unsigned(out, 4);
+            put_hyper(out, held);
+        }
+        PutAnswer::Denied => put_unsigned(out, 5),
+    }
+}
+
+#[tactic(auto, using(crate::proofs::Appending::appending), unfolding(crate::specs::Spelling::class_bytes))]
+fn put_class(out: &mut Vec<u8>, class: &ClassSpec)
+    requires { HasRoom out.old (class_bytes class.now) }
+    ensures { Appends out.old out.new (class_bytes class.now) }
+{
+    let specs = class.specs.as_slice();
+    put_instant(out, class.from);
+    put_instant(out, class.to);
+    put_unsigned(out, specs.len() as u32);
+    put_specs(out, specs);
+}
+
+fn put_specs(out: &mut Vec<u8>, specs: &[Spec])
+    requires { HasRoom out.old (flat_map spec_bytes specs.now) }
+    ensures { Appends out.old out.new (flat_map spec_bytes specs.now) }
+{
+    for spec in specs {
+        put_spec(out, spec);
+    }
+}
+
+#[tactic(auto, using(crate::proofs::Appending::appending), unfolding(crate::specs::Spelling::spec_bytes))]
+fn put_spec(out: &mut Vec<u8>, spec: &Spec)
+    requires { HasRoom out.old (spec_bytes spec.now) }
+    ensures { Appends out.old out.new (spec_bytes spec.now) }
+{
+    put_unsigned(out, spec.feed.0);
+    put_opaque(out, spec.pattern.as_slice());
+}
+
+#[tactic(auto, using(crate::proofs::Appending::appending), unfolding(crate::specs::Spelling::instant_bytes))]
+fn put_instant(out: &mut Vec<u8>, instant: Micros)
+    requires { HasRoom out.old (instant_bytes instant) }
+    ensures { Appends out.old out.new (instant_bytes instant) }
+{
+    let micros = instant.get();
+    put_unsigned(out, (micros / 1_000_000) as u32);
+    put_unsigned(out, (micros % 1_000_000) as u32);
+}
+
+fn put_info(out: &mut Vec<u8>, info: &Info)
+    requires { HasRoom out.old (spelling info.now) }
+    ensures { Appends out.old out.new (spelling info.now) }
+{
+    let mut bytes = [0; LONGEST_METADATA];
+    let len = info_len(info);
+    write_info(info, &mut bytes);
+    put(out, &bytes[..len]);
+}
+
+#[tactic(auto, using(crate::proofs::Appending::appending), unfolding(crate::specs::Spelling::opaque))]
+fn put_opaque(out: &mut Vec<u8>, bytes: &[u8])
+    requires short { length bytes.now < 2 ^ 32 }
+    requires room { HasRoom out.old (opaque bytes.now) }
+    ensures { Appends out.old out.new (opaque bytes.now) }
+{
+    put_unsigned(out, bytes.len() as u32);
+    put_padded(out, bytes);
+}
+
+#[tactic(auto, using(crate::proofs::Appending::appending))]
+fn put_padded(out: &mut Vec<u8>, bytes: &[u8])
+    requires { HasRoom out.old (padded bytes.now) }
+    ensures { Appends out.old out.new (padded bytes.now) }
+{
+    put(out, bytes);
+    put_zeros(out, (4 - bytes.len() % 4) % 4);
+}
+
+// At most three zero bytes.
+fn put_zeros(out: &mut Vec<u8>, count: usize)
+    requires few { count ≤ 3 }
+    requires room { HasRoom out.old (replicate count 0) }
+    ensures { Appends out.old out.new (replicate count 0) }
+{
+    put(out, &[0; 3][..count]);
+}
+
+#[tactic(auto, unfolding(crate::specs::Spelling::number))]
+pub(crate) fn put_unsigned(out: &mut Vec<u8>, n: u32)
+    requires { HasRoom out.old (number w32 n) }
+    ensures { Appends out.old out.new (number w32 n) }
+{
+    let mut bytes = [0; 4];
+    BigEndian::write_u32(&mut bytes, n);
+    put(out, &bytes);
+}
+
+#[tactic(auto, unfolding(crate::specs::Spelling::number))]
+fn put_hyper(out: &mut Vec<u8>, n: u64)
+    requires { HasRoom out.old (number w64 n) }
+    ensures { Appends out.old out.new (number w64 n) }
+{
+    let mut bytes = [0; 8];
+    BigEndian::write_u64(&mut bytes, n);
+    put(out, &bytes);
+}
+
+fn put(out: &mut Vec<u8>, bytes: &[u8])
+    requires { HasRoom out.old bytes.now }
+    ensures { Appends out.old out.new bytes.now }
+{
+    if out.extend_from_slice(bytes).is_err() {
+        unreachable!();
+    }
+}
