@@ -4,9 +4,9 @@ use Rattle.std.specs.List.{AllByRecursion}
 use Rattle.std.specs.Option.{option_map}
 use Rattle.std.proofs.lemmas.List.{take_more, take_all}
 use Rattle.std.proofs.lemmas.Option.{slice_get_within, get_or_from_slice_get, slice_get-map, slice_get-get_or}
+use Rattle.ldm_book.specs.View.{Kept}
 use Rattle.ldm_book.specs.declared.products.Products.TheInside.{Inside}
-use Rattle.ldm_book.specs.declared.row.Row.{Row}
-use Rattle.ldm_book.specs.Slots.{Slots, row_at, signature_of, AreFree, IsSlotted}
+use Rattle.ldm_book.specs.Slots.{Slots, row_at, signature_of, slots_of, AreFree, IsSlotted}
 
 -- the free slots but the last
 abbrev pub but_last : List ℕ → List ℕ
@@ -14,11 +14,11 @@ but_last free = take (length free - 1) free
 
 -- a slot is the last of the free ones
 pub record IsNext (p : Inside) (k : ℕ) : Type 0 where
-  pub inside : k < length p.slots.items
-  pub none : row_at p.slots.items k ≡ None
+  pub inside : k < length (slots_of p)
+  pub none : row_at (slots_of p) k ≡ None
   pub some : 0 < length p.free.items
   pub apart : AllByRecursion (λ other. other ≢ k) (but_last p.free.items)
-  pub left : AreFree p.slots.items (but_last p.free.items)
+  pub left : AreFree (slots_of p) (but_last p.free.items)
 
 -- what a free slot behind others has, and what they have
 abbrev Parts : Slots → List ℕ → ℕ → Type 0
@@ -51,22 +51,22 @@ next_free p kept read k is same =
     let free = p.free.items in
     let last = is ∙ ap (λ (ks : List ℕ). slice_get ks (length ks - 1)) same in
     let inside = slice_get_within free (length free - 1) k (sym last) in
-    let parts = free_parts p.slots.items (but_last free) k (subst (AreFree p.slots.items) (sym (last_behind free k last)) kept.free) in
+    let parts = free_parts (slots_of p) (but_last free) k (subst (AreFree (slots_of p)) (sym (last_behind free k last)) kept.free) in
     record { inside = parts.0; none = parts.1; some = omega arith; apart = parts.2; left = parts.3 }
 
 -- free slots stay free when another gets a product
-free-set : (slots : Slots) (ks : List ℕ) (k : ℕ) (held : Option Row) → AllByRecursion (λ other. other ≢ k) ks → AreFree slots ks → AreFree (set slots k held) ks
+free-set : (slots : Slots) (ks : List ℕ) (k : ℕ) (held : Option Kept) → AllByRecursion (λ other. other ≢ k) ks → AreFree slots ks → AreFree (set slots k held) ks
 free-set slots [] k held apart free = tt
 free-set slots (x ∷ xs) k held apart free =
     (omega (arith, free.0, length-set slots k held), get_or-set_other slots k x held None apart.0 ∙ free.1, free.2, free-set slots xs k held apart.1 free.3)
 
 module _ (p : Inside) (k : ℕ) (next : IsNext p k) where
   -- the others stay free when it gets a product
-  pub others_free : (row : Row) → AreFree (set p.slots.items k (Some row)) (but_last p.free.items)
-  others_free row = free-set p.slots.items (but_last p.free.items) k (Some row) next.apart next.left
+  pub others_free : (row : Kept) → AreFree (set (slots_of p) k (Some row)) (but_last p.free.items)
+  others_free row = free-set (slots_of p) (but_last p.free.items) k (Some row) next.apart next.left
 
   -- it has no signature
-  pub no_signature : slice_get (map signature_of p.slots.items) k ≡ Some None
+  pub no_signature : slice_get (map signature_of (slots_of p)) k ≡ Some None
   no_signature =
-      slice_get-map signature_of p.slots.items k
-      ∙ ap (λ (held : Option (Option Row)). option_map signature_of held) (slice_get-get_or p.slots.items k None next.inside ∙ ap (λ (held : Option Row). Some held) next.none)
+      slice_get-map signature_of (slots_of p) k
+      ∙ ap (λ (held : Option (Option Kept)). option_map signature_of held) (slice_get-get_or (slots_of p) k None next.inside ∙ ap (λ (held : Option Kept). Some held) next.none)

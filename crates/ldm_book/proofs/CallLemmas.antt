@@ -1,10 +1,11 @@
 -- What the queue does at the calls on a cursor, by what the book keeps.
-use Rattle.std.proofs.Common.{◌≡◌, ℕ, ◌+◌, Bool, true, false, cond, List, [], ◌∷◌, ◌++◌, length, map, set, Option, Some, None, refl, sym, ap, subst, ◌∙◌, arith}
+use Rattle.std.proofs.Common.{◌≡◌, ℕ, ◌+◌, cond, List, [], ◌∷◌, ◌++◌, length, map, set, Option, Some, None, refl, sym, ap, subst, ◌∙◌, arith}
 use Rattle.std.specs.Prelude.{count_by}
 use Rattle.std.specs.List.{find}
 use Rattle.std.specs.Option.{option_map, IfSome, IsSomeAnd}
 use Rattle.std.proofs.lemmas.List.{set-get_or, length-append}
 use Rattle.ldm_types.specs.Cursors.{KeptCursor, Losses, Places}
+use Rattle.ldm_types.specs.Info.{Metadata}
 use Rattle.ldm_cursor.specs.Places.{cursor_at, with_change, without_cursor, numbers_of}
 use Rattle.ldm_cursor.specs.Places as kept_places
 use Rattle.ldm_model.specs.declared.event.Reply.{Reply}
@@ -19,6 +20,8 @@ use Rattle.ldm_book.specs.View.{BookView, Kept, kept}
 use Rattle.ldm_book.specs.Products as products
 use Rattle.ldm_book.specs.Stands.{StandsFor, kept_cursor, kept_place, losses_of}
 use Rattle.ldm_book.specs.Answers.{Follows}
+use Rattle.ldm_book.specs.Stored.{IsStored}
+use Rattle.ldm_book.proofs.EveryLemmas.{every_found, find-map}
 use Rattle.ldm_book.proofs.MeetingLemmas.{count_cons}
 use Rattle.ldm_book.proofs.CursorsLemmas.{IsCursor, with_cursors, StandsFor-place}
 
@@ -154,39 +157,31 @@ module _ (book : BookView) (s : State) (stands : StandsFor book s) (actor k : �
   none_untold [] e = refl
   none_untold (n ∷ ns) e = absurd cc
 
-  find-kept : (cursor : Cursor) (qs : List Queued) → find (products.awaits cursor.position cursor.feed) (map kept qs) ≡ option_map kept (find (awaits cursor) qs)
-  find-kept cursor [] = refl
-  find-kept cursor (q ∷ qs) = by_test (awaits cursor q) (find-kept cursor qs)
-    where
-      by_test : (b : Bool) → find (products.awaits cursor.position cursor.feed) (map kept qs) ≡ option_map kept (find (awaits cursor) qs)
-          → cond b (Some (kept q)) (find (products.awaits cursor.position cursor.feed) (map kept qs)) ≡ option_map kept (cond b (Some q) (find (awaits cursor) qs))
-      by_test true rest = refl
-      by_test false rest = rest
-
   find-stands : (cursor : Cursor) → find (products.awaits cursor.position cursor.feed) book.rows ≡ option_map kept (find (awaits cursor) (queued s))
-  find-stands cursor = ap (λ (ks : List Kept). find (products.awaits cursor.position cursor.feed) ks) stands.rows ∙ find-kept cursor (queued s)
+  find-stands cursor = ap (λ (ks : List Kept). find (products.awaits cursor.position cursor.feed) ks) stands.rows ∙ find-map kept (products.awaits cursor.position cursor.feed) (queued s)
 
   -- the next product is given
-  given : (is : IsCursor book s actor k) (o : Option Queued) (row : Kept) → option_map kept o ≡ Some row
-      → Follows (reply.Product row.number row.time row.info) (with_cursors book (with_change book.cursors k (kept_places.after_hold row.number))) (step_to s k is.cursor o)
-  given is None row e = absurd cc
-  given is (Some q) row e =
+  given : (is : IsCursor book s actor k) (o : Option Queued) (row : Kept) (info : Metadata) → option_map kept o ≡ Some row → IfSome o (IsStored book.bytes)
+      → ((q : Queued) → IsStored book.bytes q → kept q ≡ row → info ≡ q.product.info) → Follows (reply.Product row.number row.time info) (with_cursors book (with_change book.cursors k (kept_places.after_hold row.number))) (step_to s k is.cursor o)
+  given is None row info e stored reads = absurd cc
+  given is (Some q) row info e stored reads =
       let same : kept q ≡ row = cc in
       let c = is.cursor in
       let count : length (c.given ++ q.number ∷ []) ≡ length c.given + 1 = length-append c.given (q.number ∷ []) in
       let after : kept_places.after_hold q.number (kept_cursor c) ≡ kept_cursor (after_give q.number c) =
       λ i. record { actor = c.actor; feed = c.feed; position = q.number + 1; held = Some q.number; untold = losses_of c.untold; given = sym count i; lost = length c.told + length c.untold } in
-      subst (λ (r : Kept). Follows (reply.Product r.number r.time r.info) (with_cursors book (with_change book.cursors k (kept_places.after_hold r.number))) (step_to s k c (Some q))) same
+      subst (λ (r : Kept). Follows (reply.Product r.number r.time info) (with_cursors book (with_change book.cursors k (kept_places.after_hold r.number))) (step_to s k c (Some q))) same
+      (subst (λ (m : Metadata). Follows (reply.Product q.number q.time m) (with_cursors book (with_change book.cursors k (kept_places.after_hold q.number))) (step_to s k c (Some q))) (sym (reads q stored same))
       (record {
         reply = refl;
         state = StandsFor-place book s k (Some (after_give q.number c)) (option_map (kept_places.after_hold q.number) (cursor_at book.cursors k)) stands (changed book.cursors k c (after_give q.number c) (kept_places.after_hold q.number) is.kept after);
-      })
+      }))
 
-  pub step-product : (is : IsCursor book s actor k) (row : Kept) → is.cursor.held ≡ None → option_map numbers_of (losses_of is.cursor.untold) ≡ None → Some row ≡ find (products.awaits is.cursor.position is.cursor.feed) book.rows
-      → Follows (reply.Product row.number row.time row.info) (with_cursors book (with_change book.cursors k (kept_places.after_hold row.number))) (step s actor k)
-  step-product is row free none found =
-      step-free (reply.Product row.number row.time row.info) (with_cursors book (with_change book.cursors k (kept_places.after_hold row.number))) is [] free (none_untold is.cursor.untold none)
-      (given is (find (awaits is.cursor) (queued s)) row (sym (find-stands is.cursor) ∙ sym found))
+  pub step-product : (is : IsCursor book s actor k) (row : Kept) (info : Metadata) → is.cursor.held ≡ None → option_map numbers_of (losses_of is.cursor.untold) ≡ None → Some row ≡ find (products.awaits is.cursor.position is.cursor.feed) book.rows
+      → ((q : Queued) → IsStored book.bytes q → kept q ≡ row → info ≡ q.product.info) → Follows (reply.Product row.number row.time info) (with_cursors book (with_change book.cursors k (kept_places.after_hold row.number))) (step s actor k)
+  step-product is row info free none found reads =
+      step-free (reply.Product row.number row.time info) (with_cursors book (with_change book.cursors k (kept_places.after_hold row.number))) is [] free (none_untold is.cursor.untold none)
+      (given is (find (awaits is.cursor) (queued s)) row info (sym (find-stands is.cursor) ∙ sym found) (every_found (IsStored book.bytes) (awaits is.cursor) (queued s) stands.stored) reads)
 
   ended : (is : IsCursor book s actor k) (o : Option Queued) → option_map kept o ≡ None
       → Follows (reply.End book.admitted) (with_cursors book (with_change book.cursors k (kept_places.after_move book.admitted))) (step_to s k is.cursor o)

@@ -3,7 +3,7 @@ use Rattle.std.proofs.Common.{◌≡◌, ℕ, zero, suc, ◌+◌, ◌<◌, ◌�
 use Rattle.std.specs.Prelude.{◌==◌, filter}
 use Rattle.std.specs.List.{All, AllByRecursion, list_any, range_with_len}
 use Rattle.std.specs.Option.{IfSome}
-use Rattle.std.proofs.lemmas.Bool.{true≢false, false≢true, or_cases, eq-eqb, eqb-true, ne_eqb, cases_eq}
+use Rattle.std.proofs.lemmas.Bool.{true≢false, false≢true, or_cases, eq-eqb, eqb-true, ne_eqb, cases_eq, or_right}
 use Rattle.ldm_types.specs.Cursors.{KeptCursor, Places}
 use Rattle.ldm_cursor.specs.Places.{count_held, held_of, holds, is_held, is_last_hold, is_number}
 use Rattle.ldm_model.specs.State.{State}
@@ -72,10 +72,6 @@ held_below a rows (place ∷ cs) n below all h = elim (or_cases (holds n place) 
     at_place None e reading = absurd (false≢true e)
     at_place (Some c) e reading = at_number c.held e reading.held
 
-or_more : (x y : Bool) → y ≡ true → (x || y) ≡ true
-or_more true y e = refl
-or_more false y e = e
-
 count-range : (a : ℕ) (cs : Places) → ((n : ℕ) → is_held n cs ≡ true → n < a) → count_held cs ≡ length (filter (λ n. is_held n cs) (range_with_len 0 a))
 count-range a [] below = sym (ap (λ (ns : List ℕ). length ns) (nothing (range_with_len 0 a)))
   where
@@ -83,7 +79,7 @@ count-range a [] below = sym (ap (λ (ns : List ℕ). length ns) (nothing (range
     nothing [] = refl
     nothing (n ∷ ns) = nothing ns
 count-range a (place ∷ behind) below =
-    let rest = count-range a behind (λ n h. below n (or_more (holds n place) (is_held n behind) h)) in
+    let rest = count-range a behind (λ n h. below n (or_right (holds n place) (is_held n behind) h)) in
     by_held (held_of place) (λ n h. below n h) rest
   where
     by_held : (o : Option ℕ) → ((n : ℕ) → (is_number n o || is_held n behind) ≡ true → n < a) → count_held behind ≡ length (filter (λ n. is_held n behind) (range_with_len 0 a))

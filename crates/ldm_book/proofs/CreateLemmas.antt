@@ -12,10 +12,11 @@ use Rattle.ldm_types.specs.declared.limits.TheConstants.{LARGEST_ARENA, MOST_SLO
 use Rattle.ldm_regions.specs.Layout.{Layout, Tiles}
 use Rattle.ldm_sigindex.specs.Index.{IsOneToOne}
 use Rattle.ldm_timeindex.specs.Times.{Times, Queued, IsRising}
-use Rattle.ldm_book.specs.declared.row.Row.{Row}
+use Rattle.ldm_book.specs.View.{Kept}
+use Rattle.ldm_book.proofs.SlotsLemmas.{slots-none}
 use Rattle.ldm_book.specs.declared.products.Products.TheInside.{Inside}
 use Rattle.ldm_book.specs.Products.{kept_region}
-use Rattle.ldm_book.specs.Slots.{Slots, row_at, row_region, signature_of, kept_entries, IsAt, AreFree, IsSlotted}
+use Rattle.ldm_book.specs.Slots.{Slots, row_at, signature_of, slots_from, slots_of, kept_entries, IsAt, AreFree, IsSlotted}
 
 -- the numbers below one, from the greatest down to 0
 abbrev pub down_from : ℕ → List ℕ
@@ -49,7 +50,7 @@ others_below m (suc k) h = ((λ e. omega (arith, e)), others_below m k (omega ar
 free-down_from : (n k : ℕ) → k ≤ n → AreFree (replicate n None) (down_from k)
 free-down_from n zero h = tt
 free-down_from n (suc k) h =
-    (omega (arith, length-replicate {A = Option Row} n None), none_at n k, others_below k k (omega arith), free-down_from n k (omega arith))
+    (omega (arith, length-replicate {A = Option Kept} n None), none_at n k, others_below k k (omega arith), free-down_from n k (omega arith))
 
 -- slots without products have no signatures
 signatures-none : (n : ℕ) → map signature_of (replicate n None) ≡ replicate n None
@@ -62,28 +63,30 @@ one_to_one-none n a b signature at-a at-b = absurd (none-some signature (sym (no
 
 -- slots, none of which has a product, are kept as they should be
 pub slotted-none : (p : Inside) (n arena : ℕ) →
-    p.slots.items ≡ replicate n None → p.free.items ≡ down_from n → n ≤ vec_capacity p.free →
+    length p.slots.items ≡ n → p.free.items ≡ down_from n → n ≤ vec_capacity p.free →
     p.regions ≡ record { arena = arena; slots = n; owned = fin.empty } → Tiles p.regions →
     p.by_signature ≡ replicate n None → p.by_number ≡ record { slots = n; entries = [] } → p.used ≡ 0 →
     n ≤ MOST_SLOTS → arena ≤ LARGEST_ARENA → IsSlotted p
-slotted-none p n arena slots free roomy regions tiled signatures numbers used few small =
+slotted-none p n arena rows free roomy regions tiled signatures numbers used few small =
     let as_many = ap (λ (layout : Layout). layout.slots) regions in
+    let slots : slots_of p ≡ replicate n None = ap (slots_from p.slots.items) signatures ∙ slots-none p.slots.items n rows in
     let no_entries = ap (λ (times : Times). times.entries) numbers in
     let nothing = λ (k : ℕ). ap (λ (rows : Slots). row_at rows k) slots ∙ none_at n k in
     record {
       as_many = ap length slots ∙ length-replicate n None ∙ sym as_many;
+      rowed = rows ∙ sym as_many;
       numbered = ap (λ (times : Times). times.slots) numbers ∙ sym as_many;
       rising = subst IsRising (sym no_entries) tt;
-      entries = subst (AllByRecursion (IsAt p.slots.items)) (sym no_entries) tt;
+      entries = subst (AllByRecursion (IsAt (slots_of p))) (sym no_entries) tt;
       listed = λ k row at. absurd (none-some row (sym (nothing k) ∙ at));
       signatures = signatures ∙ sym (ap (map signature_of) slots ∙ signatures-none n);
       one_to_one = subst IsOneToOne (sym signatures) (one_to_one-none n);
-      owned = λ k. ap (λ (layout : Layout). fin.get layout.owned k) regions ∙ fin.get-empty nat_cmp k ∙ ap (option_map row_region) (sym (nothing k));
+      owned = λ k. ap (λ (layout : Layout). fin.get layout.owned k) regions ∙ fin.get-empty nat_cmp k ∙ ap (option_map kept_region) (sym (nothing k));
       tiles = tiled;
       free = subst (λ (rows : Slots). AreFree rows p.free.items) (sym slots) (subst (AreFree (replicate n None)) (sym free) (free-down_from n n (omega arith)));
       count = ap (λ (ks : List ℕ). length ks + length p.by_number.entries) free ∙ ap (λ (entries : List Queued). length (down_from n) + length entries) no_entries ∙ omega (arith, length-down_from n, as_many);
       roomy = omega (arith, as_many);
-      used = used ∙ ap (λ (entries : List Queued). extents (map kept_region (kept_entries p.slots.items entries))) (sym no_entries);
+      used = used ∙ ap (λ (entries : List Queued). extents (map kept_region (kept_entries (slots_of p) entries))) (sym no_entries);
       few = omega (arith, as_many);
       small = let same = ap (λ (layout : Layout). layout.arena) regions in omega arith;
     }

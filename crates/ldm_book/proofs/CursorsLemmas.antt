@@ -127,6 +127,6 @@ StandsFor-place book s k place kept stands is =
       admitted = stands.admitted;
       last = stands.last;
       rows = stands.rows;
-      bodies = stands.bodies;
+      stored = stands.stored;
       cursors = ap (λ (cs : Places). set cs k kept) stands.cursors ∙ ap (λ (o : Option KeptCursor). set (map kept_place s.cursors) k o) is ∙ sym (map-set kept_place s.cursors k place);
     }

@@ -2,12 +2,11 @@
 use Rattle.std.proofs.Common.{◌≡◌, ◌≢◌, ◌⊎◌, ℕ, zero, suc, ◌+◌, ◌<◌, not, ◌==◌, List, [], ◌∷◌, ◌++◌, length, map, get_or, Some, refl, sym, ap, subst, ◌∙◌, inl, inr, ⊎_elim, arith}
 use Rattle.std.specs.List.{AllByRecursion, Any, filter, find}
 use Rattle.std.proofs.lemmas.Bool.{cases_eq, cond-true, cond-false, eq-eqb, ne_eqb, le-leb, lt-leb, not_from_true, not_from_false}
-use Rattle.ldm_model.specs.Product.{extent_of}
 use Rattle.ldm_model.specs.Stat.{extents}
 use Rattle.ldm_timeindex.specs.Times.{Queued, Precedes, IsRising, at_number}
 use Rattle.ldm_book.specs.View.{Kept}
-use Rattle.ldm_book.specs.Products.{is_other, kept_region}
-use Rattle.ldm_book.specs.Slots.{Slots, row_at, info_of, kept_entry, kept_entries, HasSlot}
+use Rattle.ldm_book.specs.Products.{is_other, kept_extent, kept_region}
+use Rattle.ldm_book.specs.Slots.{Slots, row_at, kept_or_none, kept_entry, kept_entries, HasSlot}
 
 -- the entries of other numbers
 abbrev pub others : ℕ → List Queued → List Queued
@@ -115,9 +114,9 @@ slot_middle k [] e ys has = has
 slot_middle k (x ∷ xs) e ys has = ⊎_elim (λ is. inr (inl is)) (λ rest. ⊎_elim (λ is. inl is) (λ there. inr (inr there)) (slot_middle k xs e ys rest)) has
 
 -- the extents of all are the extent of one and those of the rest
-pub extents_middle : (slots : Slots) (xs : List Queued) (e : Queued) (ys : List Queued) → extents (map kept_region (kept_entries slots (xs ++ e ∷ ys))) ≡ extent_of (info_of (row_at slots e.slot)) + extents (map kept_region (kept_entries slots (xs ++ ys)))
+pub extents_middle : (slots : Slots) (xs : List Queued) (e : Queued) (ys : List Queued) → extents (map kept_region (kept_entries slots (xs ++ e ∷ ys))) ≡ kept_extent (kept_or_none (row_at slots e.slot)) + extents (map kept_region (kept_entries slots (xs ++ ys)))
 extents_middle slots [] e ys = refl
 extents_middle slots (x ∷ xs) e ys =
-    let front = extent_of (info_of (row_at slots x.slot)) in
+    let front = kept_extent (kept_or_none (row_at slots x.slot)) in
     let rest = extents_middle slots xs e ys in
     ap (λ sum. front + sum) rest ∙ omega arith

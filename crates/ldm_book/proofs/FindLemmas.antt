@@ -1,5 +1,5 @@
 -- What is found among the kept rows, by a number and by a signature.
-use Rattle.std.proofs.Common.{◌≡◌, ℕ, zero, suc, ◌<◌, ◌≤◌, inl, inr, true, false, cond, leb, List, [], ◌∷◌, length, map, get_or, bytes_eq, Option, Some, None, refl, sym, ap, ◌∙◌, arith}
+use Rattle.std.proofs.Common.{◌≡◌, ℕ, ◌<◌, ◌≤◌, inl, inr, true, false, cond, leb, List, [], ◌∷◌, length, map, bytes_eq, Option, Some, None, refl, sym, ap, ◌∙◌, arith}
 use Rattle.std.specs.List.{AllByRecursion, find, position_or_len}
 use Rattle.std.specs.Option.{option_map}
 use Rattle.std.proofs.lemmas.Bool.{both_ways}
@@ -11,11 +11,10 @@ use Rattle.std.proofs.lemmas.Slice.Eq.{bytes_eq-Decides}
 use Rattle.ldm_model.specs.declared.event.Reply.TheVariants as reply
 use Rattle.ldm_sigindex.specs.Index.{Table, has, slot_of, IsOneToOne}
 use Rattle.ldm_timeindex.specs.Times.{Queued, Precedes, IsRising, number_and_slot, at_number as at_entry}
-use Rattle.ldm_book.specs.declared.row.Row.{Row}
 use Rattle.ldm_book.specs.View.{Kept}
 use Rattle.ldm_book.specs.Lookup.{kept_with, look_kept}
 use Rattle.ldm_book.specs.Products.{at_number, kept_number, AreRising}
-use Rattle.ldm_book.specs.Slots.{Slots, row_at, signature_of, info_of, kept_entry, kept_entries, IsAt, HasSlot}
+use Rattle.ldm_book.specs.Slots.{Slots, row_at, signature_of, kept_or_none, kept_entry, kept_entries, IsAt, HasSlot}
 use Rattle.ldm_book.proofs.RowAtLemmas.{filled_within}
 use Rattle.ldm_book.proofs.SlotOfLemmas.{signature_at, stands_at}
 
@@ -35,24 +34,18 @@ pub rising_kept : (slots : Slots) (entries : List Queued) → IsRising entries �
 rising_kept slots [] rising = tt
 rising_kept slots (entry ∷ entries) rising = (below_kept slots entry entries rising.0, rising_kept slots entries rising.1)
 
--- a slot with a product is read alike with each default
-pub row_read : (slots : Slots) (k : ℕ) (row : Row) (d : Option Row) → row_at slots k ≡ Some row → get_or slots k d ≡ Some row
-row_read [] k row d at = cc
-row_read (first ∷ slots) zero row d at = at
-row_read (first ∷ slots) (suc k) row d at = row_read slots k row d at
-
 -- what the slot has that is found for a signature: a product of that signature
-pub found_row : (table : Table) (slots : Slots) (signature : List ℕ) (k : ℕ) → table ≡ map signature_of slots → Some k ≡ slot_of table signature → (row : Row) × (row_at slots k ≡ Some row) × (row.info.signature ≡ signature)
+pub found_row : (table : Table) (slots : Slots) (signature : List ℕ) (k : ℕ) → table ≡ map signature_of slots → Some k ≡ slot_of table signature → (row : Kept) × (row_at slots k ≡ Some row) × (row.signature ≡ signature)
 found_row table slots signature k is found =
     let there = position-Some (has signature) (map signature_of slots) k None (sym (found ∙ ap (λ (t : Table). slot_of t signature) is)) in
     held (row_at slots k) refl (sym (ap (has signature) (signature_at slots k)) ∙ there.1)
   where
-    held : (o : Option Row) → row_at slots k ≡ o → has signature (signature_of o) ≡ true → (row : Row) × (row_at slots k ≡ Some row) × (row.info.signature ≡ signature)
+    held : (o : Option Kept) → row_at slots k ≡ o → has signature (signature_of o) ≡ true → (row : Kept) × (row_at slots k ≡ Some row) × (row.signature ≡ signature)
     held None at same = absurd (both_ways false refl same)
-    held (Some row) at same = (row, at, (bytes_eq-Decides row.info.signature signature).0 same)
+    held (Some row) at same = (row, at, (bytes_eq-Decides row.signature signature).0 same)
 
 -- a signature that no slot has is that of no product
-absent_row : (slots : Slots) (signature : List ℕ) (k : ℕ) (row : Row) → slot_of (map signature_of slots) signature ≡ None → row_at slots k ≡ Some row → bytes_eq row.info.signature signature ≡ false
+absent_row : (slots : Slots) (signature : List ℕ) (k : ℕ) (row : Kept) → slot_of (map signature_of slots) signature ≡ None → row_at slots k ≡ Some row → bytes_eq row.signature signature ≡ false
 absent_row slots signature k row none at =
     let table = map signature_of slots in
     let len = length-map slots signature_of in
@@ -64,33 +57,33 @@ absent_row slots signature k row none at =
 pub absent_kept : (slots : Slots) (signature : List ℕ) (entries : List Queued) → None ≡ slot_of (map signature_of slots) signature → AllByRecursion (IsAt slots) entries → kept_with signature (kept_entries slots entries) ≡ None
 absent_kept slots signature [] none all = refl
 absent_kept slots signature (entry ∷ entries) none all =
-    let here = ap (λ (o : Option Row). bytes_eq (info_of o).signature signature) all.0.1 ∙ absent_row slots signature entry.slot all.0.0 (sym none) all.0.1 in
+    let here = ap (λ (o : Option Kept). bytes_eq (kept_or_none o).signature signature) all.0.1 ∙ absent_row slots signature entry.slot all.0.0 (sym none) all.0.1 in
     ap (λ b. cond b (Some (kept_entry slots entry)) (kept_with signature (kept_entries slots entries))) here ∙ absent_kept slots signature entries none all.1
 
 -- products of one signature are one product
-same_row : (slots : Slots) (j k : ℕ) (one other : Row) → IsOneToOne (map signature_of slots) → row_at slots j ≡ Some one → row_at slots k ≡ Some other → one.info.signature ≡ other.info.signature → one ≡ other
+same_row : (slots : Slots) (j k : ℕ) (one other : Kept) → IsOneToOne (map signature_of slots) → row_at slots j ≡ Some one → row_at slots k ≡ Some other → one.signature ≡ other.signature → one ≡ other
 same_row slots j k one other once at there same =
-    let slot = once j k other.info.signature (stands_at slots j one at ∙ ap (λ s. Some (Some s)) same) (stands_at slots k other there) in
+    let slot = once j k other.signature (stands_at slots j one at ∙ ap (λ s. Some (Some s)) same) (stands_at slots k other there) in
     cc (ap (row_at slots) slot)
 
 -- the first kept row of the signature of a product has its number and its time
-pub found_kept : (slots : Slots) (signature : List ℕ) (k : ℕ) (row : Row) (entries : List Queued) → IsOneToOne (map signature_of slots) → row_at slots k ≡ Some row → row.info.signature ≡ signature → AllByRecursion (IsAt slots) entries → HasSlot k entries → look_kept (kept_with signature (kept_entries slots entries)) ≡ reply.Queued row.n row.time
+pub found_kept : (slots : Slots) (signature : List ℕ) (k : ℕ) (row : Kept) (entries : List Queued) → IsOneToOne (map signature_of slots) → row_at slots k ≡ Some row → row.signature ≡ signature → AllByRecursion (IsAt slots) entries → HasSlot k entries → look_kept (kept_with signature (kept_entries slots entries)) ≡ reply.Queued row.number row.time
 found_kept slots signature k row [] once at same all there = absurd there
 found_kept slots signature k row (entry ∷ entries) once at same all there =
     let other = all.0.0 in
     let is = all.0.1 in
     let rest = kept_with signature (kept_entries slots entries) in
-    ap (λ (o : Option Row). look_kept (cond (bytes_eq (info_of o).signature signature) (Some (kept_entry slots entry)) rest)) is
-    ∙ elim (bytes_eq other.info.signature signature) as (λ b. bytes_eq other.info.signature signature ≡ b → look_kept (cond b (Some (kept_entry slots entry)) rest) ≡ reply.Queued row.n row.time) [
+    ap (λ (o : Option Kept). look_kept (cond (bytes_eq (kept_or_none o).signature signature) (Some (kept_entry slots entry)) rest)) is
+    ∙ elim (bytes_eq other.signature signature) as (λ b. bytes_eq other.signature signature ≡ b → look_kept (cond b (Some (kept_entry slots entry)) rest) ≡ reply.Queued row.number row.time) [
       | true ↦ λ e.
-          let one = same_row slots entry.slot k other row once is at ((bytes_eq-Decides other.info.signature signature).0 e ∙ sym same) in
-          let number : entry.n ≡ row.n = sym all.0.2 ∙ ap (λ (r : Row). r.n) one in
-          let time : entry.time ≡ row.time = sym all.0.3 ∙ ap (λ (r : Row). r.time) one in
+          let one = same_row slots entry.slot k other row once is at ((bytes_eq-Decides other.signature signature).0 e ∙ sym same) in
+          let number : entry.n ≡ row.number = sym all.0.2 ∙ ap (λ (r : Kept). r.number) one in
+          let time : entry.time ≡ row.time = sym all.0.3 ∙ ap (λ (r : Kept). r.time) one in
           cc
       | false ↦ λ e. elim there [
         | inl here ↦
             let one : Some other ≡ Some row = sym is ∙ ap (row_at slots) here ∙ at in
-            absurd (both_ways _ e ((bytes_eq-Decides other.info.signature signature).1 (ap (λ (o : Option Row). (info_of o).signature) one ∙ same)))
+            absurd (both_ways _ e ((bytes_eq-Decides other.signature signature).1 (ap (λ (o : Option Kept). (kept_or_none o).signature) one ∙ same)))
         | inr behind ↦ found_kept slots signature k row entries once at same all.1 behind
       ]
     ] refl

@@ -1,15 +1,14 @@
 -- The first kept product at a number or behind a time, by the entries of the index.
-use Rattle.std.proofs.Common.{◌≡◌, ℕ, Bool, true, false, cond, leb, ltb, List, [], ◌∷◌, Option, Some, None, refl, sym, ap, subst, ◌∙◌}
-use Rattle.std.specs.List.{AllByRecursion, find}
+use Rattle.std.proofs.Common.{◌≡◌, ℕ, true, false, cond, leb, ltb, List, [], ◌∷◌, Option, Some, None, refl, sym, ap, ◌∙◌}
+use Rattle.std.specs.List.{find}
 use Rattle.std.specs.Option.{option_map}
 use Rattle.ldm_timeindex.specs.Times.{Queued, number_and_slot, at_number as at_entry, behind_time}
 use Rattle.ldm_book.specs.View.{Kept}
 use Rattle.ldm_book.specs.Products.{at_number, is_later, kept_number}
-use Rattle.ldm_book.specs.RowKept.{kept_row}
-use Rattle.ldm_book.specs.declared.row.Row.{Row}
 use Rattle.ldm_book.specs.declared.products.Products.TheInside.{Inside}
-use Rattle.ldm_book.specs.Slots.{Slots, kept_entry, kept_entries, row_at, IsAt, IsSlotted}
-use Rattle.ldm_book.proofs.KeptEntryLemmas.{kept_entry-row}
+use Rattle.ldm_book.specs.Slots.{Slots, slots_of, kept_entry, kept_entries, row_at, IsAt, IsSlotted}
+use Rattle.ldm_book.proofs.EveryLemmas.{found_of}
+use Rattle.ldm_book.proofs.KeptEntryLemmas.{kept_entry-whole}
 
 -- the first kept product is that of the first entry
 pub find_kept : (slots : Slots) (n : ℕ) (entries : List Queued) → find (at_number n) (kept_entries slots entries) ≡ option_map (kept_entry slots) (find (at_entry n) entries)
@@ -30,30 +29,20 @@ pub found_entry : {p : ℕ × ℕ} (o : Option Queued) → option_map number_and
 found_entry None e = absurd cc
 found_entry (Some entry) e = (entry, refl, cc)
 
--- what holds of all entries holds of the one that is found
-pub all_found : (P : Queued → Type 0) (n : ℕ) (entries : List Queued) (entry : Queued) → AllByRecursion P entries → find (at_entry n) entries ≡ Some entry → P entry
-all_found P n [] entry all e = absurd cc
-all_found P n (first ∷ entries) entry all e = by_test (leb n first.n) (all_found P n entries entry all.1) e
-  where
-    by_test : (b : Bool) → (find (at_entry n) entries ≡ Some entry → P entry) → cond b (Some first) (find (at_entry n) entries) ≡ Some entry → P entry
-    by_test true rest e = let same : first ≡ entry = cc in subst P same all.0
-    by_test false rest e = rest e
-
 -- the slot of the first entry has its row
 pub record IsFirstRow (p : Inside) (n slot : ℕ) : Type 0 where
-  pub row : Row
-  pub at : row_at p.slots.items slot ≡ Some row
-  pub found : find (at_number n) (kept_entries p.slots.items p.by_number.entries) ≡ Some (kept_row row)
+  pub row : Kept
+  pub at : row_at (slots_of p) slot ≡ Some row
+  pub found : find (at_number n) (kept_entries (slots_of p) p.by_number.entries) ≡ Some row
 
 pub is_first_row : (p : Inside) (n x slot : ℕ) → IsSlotted p → Some (x, slot) ≡ option_map number_and_slot (find (at_entry n) p.by_number.entries) → IsFirstRow p n slot
 is_first_row p n x slot kept e =
-    let slots = p.slots.items in
+    let slots = slots_of p in
     let there = found_entry {p = (x, slot)} (find (at_entry n) p.by_number.entries) (sym e) in
     let entry = there.0 in
-    let at = all_found (IsAt slots) n p.by_number.entries entry kept.entries there.1 in
+    let at = found_of (IsAt slots) (at_entry n) p.by_number.entries entry kept.entries there.1 in
     let row = at.0 in
-    let same : kept_entry slots entry ≡ kept_row row =
-    kept_entry-row slots entry row at.1 ∙ ap (λ (m : ℕ). record { number = m; info = row.info; time = entry.time; place = row.place }) (sym at.2) ∙ ap (λ (t : ℕ). record { number = row.n; info = row.info; time = t; place = row.place }) (sym at.3) in
+    let same = kept_entry-whole slots entry row at.1 at.2 at.3 in
     record {
       row = row;
       at = ap (row_at slots) (sym there.2) ∙ at.1;

@@ -3,18 +3,17 @@ use Rattle.std.proofs.Common.{◌≡◌, ℕ, zero, suc, ◌+◌, ◌≤◌, Boo
 use Rattle.std.specs.List.{All, find}
 use Rattle.ldm_types.specs.Cursors.{Places}
 use Rattle.ldm_cursor.specs.Places.{held_of}
-use Rattle.ldm_model.specs.Product.{extent_of}
 use Rattle.ldm_book.specs.declared.spans.Span.{Span}
 use Rattle.ldm_book.specs.View.{Kept}
-use Rattle.ldm_book.specs.Products.{LieApart, at_number}
+use Rattle.ldm_book.specs.Products.{LieApart, at_number, kept_extent}
 use Rattle.ldm_book.specs.Spans.{held_span, span_at, span_of}
 
-pub lie_found : (arena : ℕ) (test : Kept → Bool) (rows : List Kept) (k : Kept) → LieApart arena rows → find test rows ≡ Some k → k.place + extent_of k.info ≤ arena
+pub lie_found : (arena : ℕ) (test : Kept → Bool) (rows : List Kept) (k : Kept) → LieApart arena rows → find test rows ≡ Some k → k.place + kept_extent k ≤ arena
 lie_found arena test [] k apart e = absurd cc
 lie_found arena test (r ∷ rs) k apart e = by_test (test r) (lie_found arena test rs k apart.2) e
   where
-    by_test : (b : Bool) → (find test rs ≡ Some k → k.place + extent_of k.info ≤ arena) → cond b (Some r) (find test rs) ≡ Some k → k.place + extent_of k.info ≤ arena
-    by_test true more e = let same : r ≡ k = cc in subst (λ (x : Kept). x.place + extent_of x.info ≤ arena) same apart.0
+    by_test : (b : Bool) → (find test rs ≡ Some k → k.place + kept_extent k ≤ arena) → cond b (Some r) (find test rs) ≡ Some k → k.place + kept_extent k ≤ arena
+    by_test true more e = let same : r ≡ k = cc in subst (λ (x : Kept). x.place + kept_extent x ≤ arena) same apart.0
     by_test false more e = more e
 
 span_within : (arena : ℕ) (rows : List Kept) (o : Option ℕ) → LieApart arena rows → (span_at rows o).back ≤ arena

@@ -3,12 +3,13 @@ use Rattle.std.proofs.Common.{◌≡◌, ℕ, suc, ◌+◌, ◌<◌, ◌≤◌, 
 use Rattle.std.specs.Prelude.{◌==◌, ◌&&◌, filter, nat_le}
 use Rattle.std.specs.List.{All, AllByRecursion, find, list_any}
 use Rattle.std.specs.Option.{option_map}
-use Rattle.std.proofs.lemmas.Bool.{true≢false, eq-eqb, ne_eqb, le-leb, lt-leb, cases_lt, cases_eq}
+use Rattle.std.proofs.lemmas.Bool.{true≢false, eq-eqb, ne_eqb, le-leb, cases_lt, cases_eq, or_right}
 use Rattle.ldm_types.specs.Cursors.{KeptCursor, Places}
 use Rattle.ldm_types.specs.Feed.{feeds_meet}
 use Rattle.ldm_cursor.specs.Places.{cursor_with_loss, holds, is_held, with_loss}
 use Rattle.ldm_book.specs.View.{BookView, Kept}
 use Rattle.ldm_book.specs.Products.{AreRising, at_number, has_number, is_other, kept_number}
+use Rattle.ldm_book.proofs.MeetingLemmas.{found_later, found_now}
 use Rattle.ldm_book.specs.Readers.{AreAhead, feed_of, first_of, free_numbers, is_kept_free, is_kept_held, unheld_numbers, without_product}
 
 -- the number that is found is that of a product
@@ -20,10 +21,6 @@ pub no_number : (o : Option Kept) → None ≡ option_map kept_number o → o �
 no_number None e = refl
 no_number (Some k) e = absurd cc
 
-or_more : (a b : Bool) → b ≡ true → (a || b) ≡ true
-or_more true b e = refl
-or_more false b e = e
-
 module _ (cs : Places) where
   abbrev free_rows : List Kept → List Kept
   free_rows rows = filter (is_kept_free cs) rows
@@ -32,15 +29,6 @@ module _ (cs : Places) where
   above_ahead : (n : ℕ) (rows : List Kept) → AllByRecursion (λ (other : Kept). n < other.number) rows → AreAhead (n + 1) cs rows
   above_ahead n [] above = tt
   above_ahead n (k ∷ ks) above = (λ free. omega (arith, above.0), above_ahead n ks above.1)
-
-  -- what is at a number is found at once
-  found_now : (at : ℕ) (k : Kept) (rows : List Kept) (found : Kept) → at ≤ k.number → find (at_number at) (k ∷ rows) ≡ Some found → k ≡ found
-  found_now at k rows found h e =
-      let now : find (at_number at) (k ∷ rows) ≡ Some k = ap (λ (b : Bool). cond b (Some k) (find (at_number at) rows)) (le-leb at k.number h) in
-      cc
-
-  found_later : (at : ℕ) (k : Kept) (rows : List Kept) → k.number < at → find (at_number at) (k ∷ rows) ≡ find (at_number at) rows
-  found_later at k rows h = ap (λ (b : Bool). cond b (Some k) (find (at_number at) rows)) (lt-leb at k.number h)
 
   -- a product in front of all that are ahead is held
   behind_held : (at : ℕ) (k : Kept) → (is_kept_held cs k ≡ false → at ≤ k.number) → k.number < at → is_kept_held cs k ≡ true
@@ -123,7 +111,7 @@ module _ (cs : Places) where
           (ap (λ (b : Bool). b || list_any (has_number n) ks) (eq-eqb k.number n number), ap (λ (m : ℕ). is_held m cs) (sym number) ∙ free)
       by_test more true held =
           let rest = more (sym (ap (λ (rs : List Kept). first_of (map kept_number rs)) (free_later k ks held)) ∙ e) in
-          (or_more (k.number == n) (list_any (has_number n) ks) rest.0, rest.1)
+          (or_right (k.number == n) (list_any (has_number n) ks) rest.0, rest.1)
 
 -- a loss ends no hold
 holds-loss : (n feed m : ℕ) (place : Option KeptCursor) → holds m (with_loss n feed place) ≡ holds m place

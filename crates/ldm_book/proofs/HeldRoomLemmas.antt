@@ -3,15 +3,15 @@ use Rattle.std.proofs.Common.{◌≡◌, ℕ, ◌+◌, ◌<◌, ◌≤◌, ◌||
 use Rattle.std.specs.Prelude.{◌&&◌, filter, is_some}
 use Rattle.std.specs.List.{AllByRecursion, find, list_any}
 use Rattle.std.specs.Option.{IfSome}
-use Rattle.std.proofs.lemmas.Bool.{true≢false, false≢true, or_left, or_right, le-leb, lt-leb, le-ltb, lt-ltb, cases_lt, cases_eq, eq-eqb, ne_eqb}
+use Rattle.std.proofs.lemmas.Bool.{true≢false, false≢true, or_left, or_right, le-leb, lt-leb, le-ltb, lt-ltb, cases_lt, cases_eq, eq-eqb, ne_eqb, or_parts}
 use Rattle.ldm_types.specs.Arena.{covers, fit, is_covered}
 use Rattle.ldm_types.specs.Cursors.{KeptCursor, Places}
 use Rattle.ldm_cursor.specs.Places.{held_of, holds, is_held, is_number}
-use Rattle.ldm_model.specs.Product.{extent_of}
 use Rattle.ldm_book.specs.View.{Kept}
-use Rattle.ldm_book.specs.Products.{AreRising, at_number, has_number, kept_region}
+use Rattle.ldm_book.specs.Products.{AreRising, at_number, has_number, kept_extent, kept_region}
 use Rattle.ldm_book.specs.Readers.{AreReading, IsPlaceReading, is_kept_held}
 use Rattle.ldm_book.specs.Spans.{has_gap, held_span, span_at, span_of}
+use Rattle.ldm_book.proofs.EveryLemmas.{found_of}
 use Rattle.ldm_book.proofs.SpaceLemmas.{fit-space, space-fit}
 use Rattle.ldm_book.proofs.SpanLemmas.{IsBeside, gap-found, room-found}
 
@@ -43,29 +43,25 @@ find_number n (k ∷ ks) rising h = elim (cases_eq k.number n) [
 
 -- what a span does not meet its product does not cover, and the other way
 covers-not : (p need i : ℕ) (k : Kept) → IsBeside p need (span_of (Some k)) → p ≤ i → i < p + need → covers i (kept_region k) ≡ false
-covers-not p need i k (inl before) low high = ap (λ (b : Bool). b && ltb i (k.place + extent_of k.info)) (lt-leb k.place i (omega arith))
-covers-not p need i k (inr behind) low high = nor (leb k.place i) (ltb i (k.place + extent_of k.info)) (le-ltb i (k.place + extent_of k.info) (omega arith))
+covers-not p need i k (inl before) low high = ap (λ (b : Bool). b && ltb i (k.place + kept_extent k)) (lt-leb k.place i (omega arith))
+covers-not p need i k (inr behind) low high = nor (leb k.place i) (ltb i (k.place + kept_extent k)) (le-ltb i (k.place + kept_extent k) (omega arith))
   where
     nor : (a b : Bool) → b ≡ false → (a && b) ≡ false
     nor true b e = e
     nor false b e = refl
 
-beside-from : (p need : ℕ) (k : Kept) → 0 < need → 0 < extent_of k.info → ((i : ℕ) → p ≤ i → i < p + need → covers i (kept_region k) ≡ false) → IsBeside p need (span_of (Some k))
+beside-from : (p need : ℕ) (k : Kept) → 0 < need → 0 < kept_extent k → ((i : ℕ) → p ≤ i → i < p + need → covers i (kept_region k) ≡ false) → IsBeside p need (span_of (Some k))
 beside-from p need k some extent none = elim (cases_lt k.place (p + need)) [
   | inr before ↦ inl before
-  | inl meets ↦ elim (cases_lt p (k.place + extent_of k.info)) [
+  | inl meets ↦ elim (cases_lt p (k.place + kept_extent k)) [
     | inr behind ↦ inr behind
     | inl meets_too ↦
         let i = max p k.place in
         let yes_low = le-leb k.place i (omega arith) in
-        let yes_high = lt-ltb i (k.place + extent_of k.info) (omega arith) in
-        absurd (true≢false (sym (ap (λ (b : Bool). b && ltb i (k.place + extent_of k.info)) yes_low ∙ yes_high) ∙ none i (omega arith) (omega arith)))
+        let yes_high = lt-ltb i (k.place + kept_extent k) (omega arith) in
+        absurd (true≢false (sym (ap (λ (b : Bool). b && ltb i (k.place + kept_extent k)) yes_low ∙ yes_high) ∙ none i (omega arith) (omega arith)))
   ]
 ]
-
-or_false : (a b : Bool) → (a || b) ≡ false → (a ≡ false) × (b ≡ false)
-or_false true b e = absurd (true≢false e)
-or_false false b e = (refl, e)
 
 -- a held product that is found covers nothing that the held ones do not
 not_covered : (cs : Places) (test : Kept → Bool) (i : ℕ) (rows : List Kept) (k : Kept) → find test rows ≡ Some k → is_kept_held cs k ≡ true → is_covered (map kept_region (filter (is_kept_held cs) rows)) i ≡ false → covers i (kept_region k) ≡ false
@@ -76,14 +72,14 @@ not_covered cs test i (r ∷ rs) k e held none = by_test (test r) (is_kept_held 
         → cond t (Some r) (find test rs) ≡ Some k → is_covered (map kept_region (cond b (r ∷ filter (is_kept_held cs) rs) (filter (is_kept_held cs) rs))) i ≡ false → covers i (kept_region k) ≡ false
     by_test true true is more e none =
         let same : r ≡ k = cc in
-        ap (λ (x : Kept). covers i (kept_region x)) (sym same) ∙ (or_false (covers i (kept_region r)) (is_covered (map kept_region (filter (is_kept_held cs) rs)) i) none).0
+        ap (λ (x : Kept). covers i (kept_region x)) (sym same) ∙ (or_parts (covers i (kept_region r)) (is_covered (map kept_region (filter (is_kept_held cs) rs)) i) none).0
     by_test true false is more e none =
         let same : r ≡ k = cc in
         absurd (true≢false (sym held ∙ ap (is_kept_held cs) (sym same) ∙ is))
-    by_test false true is more e none = more e held (or_false (covers i (kept_region r)) (is_covered (map kept_region (filter (is_kept_held cs) rs)) i) none).1
+    by_test false true is more e none = more e held (or_parts (covers i (kept_region r)) (is_covered (map kept_region (filter (is_kept_held cs) rs)) i) none).1
     by_test false false is more e none = more e held none
 
-module _ (cs : Places) (a arena need : ℕ) (rows : List Kept) (rising : AreRising rows) (all : AreReading a rows cs) (some : 0 < need) where
+module _ (cs : Places) (a arena need : ℕ) (rows : List Kept) (rising : AreRising rows) (all : AreReading a rows cs) (headed : AllByRecursion (λ (k : Kept). 0 < k.head) rows) (some : 0 < need) where
   -- where the held products leave so much free, no span is met
   spans_beside : (p : ℕ) → ((i : ℕ) → p ≤ i → i < p + need → is_covered (map kept_region (filter (is_kept_held cs) rows)) i ≡ false) → (few : Places) → ((n : ℕ) → is_held n few ≡ true → is_held n cs ≡ true) → AreReading a rows few → AllByRecursion (IsBeside p need) (map (held_span rows) few)
   spans_beside p free [] among reading = tt
@@ -97,7 +93,7 @@ module _ (cs : Places) (a arena need : ℕ) (rows : List Kept) (rising : AreRisi
           let k = found.0 in
           let held : is_kept_held cs k ≡ true = ap (λ (n : ℕ). is_held n cs) found.2 ∙ is m (eq-eqb m m refl) in
           subst (λ (o : Option Kept). IsBeside p need (span_of o)) (sym found.1)
-          (beside-from p need k some (omega arith) (λ i low high. not_covered cs (at_number m) i rows k found.1 held (free i low high)))
+          (beside-from p need k some (omega (arith, found_of (λ (x : Kept). 0 < x.head) (at_number m) rows k headed found.1)) (λ i low high. not_covered cs (at_number m) i rows k found.1 held (free i low high)))
 
       at_place : (place : Option KeptCursor) → ((n : ℕ) → holds n place ≡ true → is_held n cs ≡ true) → IsPlaceReading a rows place → IsBeside p need (held_span rows place)
       at_place None is reading = inr (omega arith)

@@ -1,6 +1,7 @@
 -- What the queue does at each way out of inserting, by what the book keeps.
 use Rattle.std.proofs.Common.{◌≡◌, ℕ, ◌+◌, ◌<◌, ◌≤◌, Bool, true, false, cond, ltb, List, [], ◌∷◌, ◌++◌, length, map, take, Option, Some, None, refl, sym, ap, subst, ◌∙◌, arith}
 use Rattle.std.specs.Prelude.{is_some}
+use Rattle.std.specs.List.{Contains}
 use Rattle.std.proofs.lemmas.Bool.{lt-ltb, le-ltb}
 use Rattle.std.proofs.lemmas.List.{map-append, length-append}
 use Rattle.ldm_model.specs.Product.{Product, extent_of}
@@ -10,16 +11,19 @@ use Rattle.ldm_model.specs.State.{State, Row, Queued, end_of, last_time, latest,
 use Rattle.ldm_model.specs.Room.{fit_in}
 use Rattle.ldm_model.specs.Outcome.{Outcome, unchanged}
 use Rattle.ldm_model.specs.Insert.{after_evicting, evictions, time_after, admitted, insert_by_evictions, is_last, insert_new, insert_fitting, insert}
-use Rattle.ldm_book.specs.View.{BookView, Kept, kept, body_start}
+use Rattle.ldm_book.specs.View.{BookView, Kept, kept, kept_of, stored_bytes}
 use Rattle.ldm_book.specs.Products.{AreRising, LieApart, room_for}
 use Rattle.ldm_book.specs.Making.{grown, new_kept, written}
 use Rattle.ldm_book.specs.Readers.{held_products, products, unheld_numbers, without_oldest}
 use Rattle.ldm_model.specs.Evict.{count_held}
-use Rattle.ldm_book.specs.Stands.{HasBodies, StandsFor}
+use Rattle.ldm_xdr.specs.Spelling.{Fits}
+use Rattle.ldm_book.specs.Stored.{IsStored, AreStored, bytes_of}
+use Rattle.ldm_book.specs.Stands.{StandsFor}
 use Rattle.ldm_book.specs.Lookup.{kept_with, look_kept}
-use Rattle.ldm_book.specs.Answers.{Follows}
+use Rattle.ldm_book.specs.Answers.{Follows, Stays}
 use Rattle.ldm_book.proofs.QueuedLemmas.{queued_from-append, look-from_kept, none_from_absent, some_from_queued}
-use Rattle.ldm_book.proofs.HasBodiesLemmas.{length-written, bodies_left, body_written, bodies_push}
+use Rattle.ldm_book.proofs.EveryLemmas.{every_push}
+use Rattle.ldm_book.proofs.StoredLemmas.{length-bytes_of, length-written, stored_left, stored_new, product_stays}
 use Rattle.ldm_book.proofs.UnheldLemmas.{StandsFor-evicting, room_place, evictions-are, evictions-none}
 use Rattle.ldm_book.proofs.RoomLemmas.{alike_all, no_room}
 
@@ -41,13 +45,16 @@ queued-new s now p m place fits = ap (λ (o : Option ℕ). add_queued m (new_row
 
 -- admitting a product that fits
 StandsFor-grown : (book : BookView) (s : State) → StandsFor book s → (now : ℕ) (p : Product) (place evicted : ℕ) → fit_in s (extent_of p.info) ≡ Some place
-    → length p.body ≡ p.info.size → body_start (new_kept book (time_after book.last now) p.info place) + length p.body ≤ length book.bytes → LieApart book.arena (book.rows ++ new_kept book (time_after book.last now) p.info place ∷ [])
+    → Fits p.info → length p.body ≡ p.info.size → place + extent_of p.info ≤ length book.bytes → LieApart book.arena (book.rows ++ new_kept book (time_after book.last now) p.info place ∷ [])
     → Follows (reply.Admitted book.admitted (time_after book.last now) evicted) (grown book (time_after book.last now) p.info p.body place) (admitted s now p evicted)
-StandsFor-grown book s stands now p place evicted fits size inside apart =
+StandsFor-grown book s stands now p place evicted fits spelled size inside apart =
     let k = new_kept book (time_after book.last now) p.info place in
-    let bytes = written book.bytes p.body k in
-    let bodies = bodies_left book.bytes p.body k size inside book.arena (queued s) (subst (λ (ks : List Kept). LieApart book.arena (ks ++ k ∷ [])) stands.rows apart) stands.bodies in
-    let body = body_written book.bytes p.body k size inside in
+    let q : Queued = record { number = 0 + length s.rows; product = p; time = time_after (last_time s) now; place = place } in
+    let long = length-bytes_of p spelled size in
+    let within : place + length (bytes_of p) ≤ length book.bytes = omega (arith, long, inside) in
+    let bytes = written book.bytes (bytes_of p) place in
+    let stored = stored_left book.bytes (bytes_of p) k long within book.arena (queued s) (subst (λ (ks : List Kept). LieApart book.arena (ks ++ k ∷ [])) stands.rows apart) stands.stored in
+    let new_stored = stored_new book.bytes q spelled size (omega (arith, inside)) in
     let number : book.admitted ≡ 0 + length s.rows = omega (arith, stands.admitted) in
     let time : time_after book.last now ≡ time_after (last_time s) now = ap (λ (o : Option ℕ). time_after o now) stands.last in
     let new : k ∷ [] ≡ map kept (queued_from (0 + length s.rows) (new_row s now p ∷ [])) =
@@ -57,20 +64,20 @@ StandsFor-grown book s stands now p place evicted fits size inside apart =
       reply = ap (λ (n : ℕ). reply.Admitted n (time_after book.last now) evicted) stands.admitted ∙ ap (λ (t : ℕ). reply.Admitted (end_of s) t evicted) time;
       state = record {
         arena = stands.arena;
-        sized = length-written book.bytes p.body k inside ∙ stands.sized;
+        sized = length-written book.bytes (bytes_of p) place within ∙ stands.sized;
         slots = stands.slots;
         admitted = omega (arith, stands.admitted, longer);
         last = ap (λ (t : ℕ). Some t) time ∙ sym (latest-append None s.rows (new_row s now p));
         rows = ap (λ (ks : List Kept). ks ++ k ∷ []) stands.rows ∙ ap (λ (ks : List Kept). map kept (queued s) ++ ks) new
             ∙ sym (ap (map kept) (queued_from-append 0 s.rows (new_row s now p ∷ [])) ∙ map-append kept (queued_from 0 s.rows) (queued_from (0 + length s.rows) (new_row s now p ∷ [])));
-        bodies = subst (HasBodies bytes) (sym (queued_from-append 0 s.rows (new_row s now p ∷ []) ∙ ap (λ (qs : List Queued). queued s ++ qs) (queued-new s now p (0 + length s.rows) place fits)))
-            (bodies_push bytes (queued s) (record { number = 0 + length s.rows; product = p; time = time_after (last_time s) now; place = place }) bodies body);
+        stored = subst (AreStored bytes) (sym (queued_from-append 0 s.rows (new_row s now p ∷ []) ∙ ap (λ (qs : List Queued). queued s ++ qs) (queued-new s now p (0 + length s.rows) place fits)))
+            (every_push (IsStored bytes) (queued s) q stored new_stored);
         cursors = stands.cursors;
       };
     }
   where
     row : ℕ → ℕ → Kept
-    row n t = record { number = n; info = p.info; time = t; place = place }
+    row n t = kept_of n t place p.info
 
 module _ (book : BookView) (s : State) (stands : StandsFor book s) (now : ℕ) (p : Product) where
   pub too_big : book.arena < extent_of p.info → Follows (reply.TooBig (extent_of p.info) book.arena) book (insert s now p)
@@ -125,9 +132,9 @@ module _ (book : BookView) (s : State) (stands : StandsFor book s) (now : ℕ) (
   -- admitted, after the evictions that make room, with the body written to the arena
   pub admitted_after : AreRising book.rows → extent_of p.info ≤ book.arena → look_kept (kept_with p.info.signature book.rows) ≡ reply.Absent → is_last book.last ≡ false → (j place : ℕ) → j ≤ length (unheld_numbers book)
       → ((i : ℕ) → i < j → room_for (products (without_oldest i book)) (extent_of p.info) ≡ None) → room_for (products (without_oldest j book)) (extent_of p.info) ≡ Some place
-      → length p.body ≡ p.info.size → place + extent_of p.info ≤ length book.bytes → LieApart book.arena (grown (without_oldest j book) (time_after book.last now) p.info p.body place).rows
+      → Fits p.info → length p.body ≡ p.info.size → place + extent_of p.info ≤ length book.bytes → LieApart book.arena (grown (without_oldest j book) (time_after book.last now) p.info p.body place).rows
       → Follows (reply.Admitted book.admitted (time_after book.last now) j) (grown (without_oldest j book) (time_after book.last now) p.info p.body place) (insert s now p)
-  admitted_after rising fits absent last j place within none some size inside apart =
+  admitted_after rising fits absent last j place within none some spelled size inside apart =
       let same : insert s now p ≡ admitted (after_evicting s j) now p j = insert-in_time fits absent last ∙ ap (insert_by_evictions s now p) (evictions-are book s (extent_of p.info) j rising stands within none place some) in
       let after = without_oldest j book in
       let there = StandsFor-evicting j book s rising stands in
@@ -137,7 +144,21 @@ module _ (book : BookView) (s : State) (stands : StandsFor book s) (now : ℕ) (
       subst (λ (o : Outcome). Follows (reply.Admitted book.admitted (time_after book.last now) j) (grown after (time_after book.last now) p.info p.body place) o) (sym same)
       (subst (λ (n : ℕ). Follows (reply.Admitted n (time_after book.last now) j) (grown after (time_after book.last now) p.info p.body place) (admitted (after_evicting s j) now p j)) alike.admitted
       (subst (λ (t : ℕ). Follows (reply.Admitted after.admitted t j) (grown after t p.info p.body place) (admitted (after_evicting s j) now p j)) time
-      (StandsFor-grown after (after_evicting s j) there now p place j (room_place after (after_evicting s j) (extent_of p.info) place there some) size
+      (StandsFor-grown after (after_evicting s j) there now p place j (room_place after (after_evicting s j) (extent_of p.info) place there some) spelled size
       (omega (arith, bytes, size, inside))
       (subst (λ (a : ℕ). LieApart a (grown after (time_after after.last now) p.info p.body place).rows) (sym alike.arena)
       (subst (λ (t : ℕ). LieApart book.arena (grown after t p.info p.body place).rows) (sym time) apart)))))
+
+-- what was queued before one product more stays
+pub stays-grown : (old after new : BookView) (time place : ℕ) (p : Product) (k : Kept) → after.bytes ≡ old.bytes → new ≡ grown after time p.info p.body place → Fits p.info → length p.body ≡ p.info.size
+    → place + extent_of p.info ≤ length after.bytes → LieApart new.arena new.rows → Contains after.rows k → Contains old.rows k → Stays old new k
+stays-grown old after new time place p k bytes is spelled size inside apart there before =
+    let long = length-bytes_of p spelled size in
+    let added = new_kept after time p.info place in
+    record {
+      queued = before;
+      bytes =
+          ap (λ (b : BookView). stored_bytes b.bytes k) is
+          ∙ product_stays after.bytes (bytes_of p) added long (omega (arith, long, inside)) after.arena after.rows k (subst (λ (b : BookView). LieApart b.arena b.rows) is apart) there
+          ∙ ap (λ (bs : List ℕ). stored_bytes bs k) bytes;
+    }

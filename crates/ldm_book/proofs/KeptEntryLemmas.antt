@@ -7,22 +7,26 @@ use Rattle.std.proofs.lemmas.Option.{same_Some}
 use Rattle.ldm_types.specs.Arena.{Region}
 use Rattle.ldm_sigindex.specs.Index.{has, slot_of}
 use Rattle.ldm_timeindex.specs.Times.{Queued}
-use Rattle.ldm_book.specs.declared.row.Row.{Row}
+use Rattle.ldm_book.specs.Products.{kept_region}
 use Rattle.ldm_book.specs.View.{Kept}
 use Rattle.ldm_book.specs.Lookup.{kept_signature, kept_with}
-use Rattle.ldm_book.specs.Slots.{Slots, row_at, signature_of, row_region, info_of, place_of, kept_entry, kept_entries, HasSlot}
+use Rattle.ldm_book.specs.Slots.{Slots, row_at, signature_of, with_entry, kept_entry, kept_entries, HasSlot}
 use Rattle.ldm_book.proofs.SlotOfLemmas.{signature_at, no_slot}
 
 -- what is kept of an entry whose slot has a row
-pub kept_entry-row : (slots : Slots) (entry : Queued) (row : Row) → row_at slots entry.slot ≡ Some row → kept_entry slots entry ≡ record { number = entry.n; info = row.info; time = entry.time; place = row.place }
-kept_entry-row slots entry row at = ap (λ (o : Option Row). record { number = entry.n; info = info_of o; time = entry.time; place = place_of o }) at
+pub kept_entry-row : (slots : Slots) (entry : Queued) (row : Kept) → row_at slots entry.slot ≡ Some row → kept_entry slots entry ≡ with_entry entry (Some row)
+kept_entry-row slots entry row at = ap (with_entry entry) at
+
+-- where the row has the number and the time of the entry, the row itself
+pub kept_entry-whole : (slots : Slots) (entry : Queued) (row : Kept) → row_at slots entry.slot ≡ Some row → row.number ≡ entry.n → row.time ≡ entry.time → kept_entry slots entry ≡ row
+kept_entry-whole slots entry row at number time = kept_entry-row slots entry row at ∙ (λ i. record row { number = sym number i; time = sym time i })
 
 -- products of different numbers stand in different slots
-pub other_slot : (slots : Slots) (j k : ℕ) (row other : Row) → row_at slots j ≡ Some row → row_at slots k ≡ Some other → row.n ≢ other.n → j ≢ k
-other_slot slots j k row other at there apart same = apart (ap (λ (r : Row). r.n) (same_Some row other (sym at ∙ ap (row_at slots) same ∙ there)))
+pub other_slot : (slots : Slots) (j k : ℕ) (row other : Kept) → row_at slots j ≡ Some row → row_at slots k ≡ Some other → row.number ≢ other.number → j ≢ k
+other_slot slots j k row other at there apart same = apart (ap (λ (r : Kept). r.number) (same_Some row other (sym at ∙ ap (row_at slots) same ∙ there)))
 
 -- a region of a slot is that of its row
-pub row_of_region : (held : Option Row) (region : Region) → option_map row_region held ≡ Some region → (row : Row) × (held ≡ Some row) × (row_region row ≡ region)
+pub row_of_region : (held : Option Kept) (region : Region) → option_map kept_region held ≡ Some region → (row : Kept) × (held ≡ Some row) × (kept_region row ≡ region)
 row_of_region None region e = absurd cc
 row_of_region (Some row) region e = (row, refl, cc)
 
@@ -38,7 +42,7 @@ not_first true k rest e = absurd cc
 not_first false k rest e = (refl, e)
 
 -- where no kept row has a signature, the row of no entry has it
-other_signature : (slots : Slots) (signature : List ℕ) (entries : List Queued) (k : ℕ) (row : Row) → kept_with signature (kept_entries slots entries) ≡ None → HasSlot k entries → row_at slots k ≡ Some row → bytes_eq row.info.signature signature ≡ false
+other_signature : (slots : Slots) (signature : List ℕ) (entries : List Queued) (k : ℕ) (row : Kept) → kept_with signature (kept_entries slots entries) ≡ None → HasSlot k entries → row_at slots k ≡ Some row → bytes_eq row.signature signature ≡ false
 other_signature slots signature [] k row none listed at = absurd listed
 other_signature slots signature (entry ∷ entries) k row none listed at =
     let parts = not_first (kept_signature signature (kept_entry slots entry)) (kept_entry slots entry) _ none in
@@ -48,9 +52,9 @@ other_signature slots signature (entry ∷ entries) k row none listed at =
     listed
 
 -- where no kept row has a signature, no slot has it
-pub absent_from_slots : (slots : Slots) (entries : List Queued) (signature : List ℕ) → ((k : ℕ) (row : Row) → row_at slots k ≡ Some row → HasSlot k entries) → kept_with signature (kept_entries slots entries) ≡ None → slot_of (map signature_of slots) signature ≡ None
+pub absent_from_slots : (slots : Slots) (entries : List Queued) (signature : List ℕ) → ((k : ℕ) (row : Kept) → row_at slots k ≡ Some row → HasSlot k entries) → kept_with signature (kept_entries slots entries) ≡ None → slot_of (map signature_of slots) signature ≡ None
 absent_from_slots slots entries signature listed none = no_slot (map signature_of slots) signature (λ k. ap (has signature) (signature_at slots k) ∙ by_row k (row_at slots k) refl)
   where
-    by_row : (k : ℕ) (held : Option Row) → row_at slots k ≡ held → has signature (signature_of held) ≡ false
+    by_row : (k : ℕ) (held : Option Kept) → row_at slots k ≡ held → has signature (signature_of held) ≡ false
     by_row k None at = refl
     by_row k (Some row) at = other_signature slots signature entries k row none (listed k row at) at

@@ -16,10 +16,9 @@ use Rattle.ldm_types.specs.Arena.{Region, covers, is_covered, with_free, free_ru
 use Rattle.ldm_timeindex.specs.Times.{Queued}
 use Rattle.ldm_regions.specs.Layout.{Owned, occupied}
 use Rattle.ldm_book.specs.declared.products.Products.TheInside.{Inside}
-use Rattle.ldm_book.specs.declared.row.Row.{Row}
 use Rattle.ldm_book.specs.View.{Kept}
 use Rattle.ldm_book.specs.Products.{kept_region, room_for}
-use Rattle.ldm_book.specs.Slots.{Slots, row_at, row_region, kept_entry, kept_entries, products_of, IsAt, HasSlot, IsSlotted}
+use Rattle.ldm_book.specs.Slots.{Slots, row_at, slots_of, kept_entry, kept_entries, products_of, IsAt, HasSlot, IsSlotted}
 use Rattle.ldm_book.proofs.KeptEntryLemmas.{kept_entry-row, row_of_region}
 
 -- only what is covered matters
@@ -83,7 +82,7 @@ any_from_found test k region (e ∷ es) found passes =
 
 -- a slot has a row whose region passes a test
 abbrev HeldWith : (Region → Bool) → Slots → Type 0
-HeldWith test slots = (k : ℕ) × (row : Row) × (row_at slots k ≡ Some row) × (test (row_region row) ≡ true)
+HeldWith test slots = (k : ℕ) × (row : Kept) × (row_at slots k ≡ Some row) × (test (kept_region row) ≡ true)
 
 -- a kept row has a slot
 held_from_any : (test : Region → Bool) (slots : Slots) (entries : List Queued) → AllByRecursion (IsAt slots) entries → list_any test (map kept_region (kept_entries slots entries)) ≡ true → HeldWith test slots
@@ -96,7 +95,7 @@ held_from_any test slots (entry ∷ entries) at any =
     (or_cases (test (kept_region (kept_entry slots entry))) _ any)
 
 -- a slot with a row has a kept row
-any_from_held : (test : Region → Bool) (slots : Slots) (entries : List Queued) (k : ℕ) (row : Row) → HasSlot k entries → row_at slots k ≡ Some row → test (row_region row) ≡ true → list_any test (map kept_region (kept_entries slots entries)) ≡ true
+any_from_held : (test : Region → Bool) (slots : Slots) (entries : List Queued) (k : ℕ) (row : Kept) → HasSlot k entries → row_at slots k ≡ Some row → test (kept_region row) ≡ true → list_any test (map kept_region (kept_entries slots entries)) ≡ true
 any_from_held test slots [] k row has at passes = absurd has
 any_from_held test slots (entry ∷ entries) k row has at passes =
     ⊎_elim
@@ -104,7 +103,7 @@ any_from_held test slots (entry ∷ entries) k row has at passes =
     (λ there. or_right (test (kept_region (kept_entry slots entry))) _ (any_from_held test slots entries k row there at passes))
     has
 
-module _ (slots : Slots) (entries : List Queued) (owned : Owned) (at : AllByRecursion (IsAt slots) entries) (listed : (k : ℕ) (row : Row) → row_at slots k ≡ Some row → HasSlot k entries) (is_owned : (k : ℕ) → fin.get owned k ≡ option_map row_region (row_at slots k)) where
+module _ (slots : Slots) (entries : List Queued) (owned : Owned) (at : AllByRecursion (IsAt slots) entries) (listed : (k : ℕ) (row : Kept) → row_at slots k ≡ Some row → HasSlot k entries) (is_owned : (k : ℕ) → fin.get owned k ≡ option_map kept_region (row_at slots k)) where
   -- a region that is owned is that of a row
   held_from_owned : (test : Region → Bool) → list_any test (occupied owned) ≡ true → HeldWith test slots
   held_from_owned test any =
@@ -115,8 +114,8 @@ module _ (slots : Slots) (entries : List Queued) (owned : Owned) (at : AllByRecu
   -- the region of a row is owned
   owned_from_held : (test : Region → Bool) → HeldWith test slots → list_any test (occupied owned) ≡ true
   owned_from_held test held =
-      any_from_found test held.0 (row_region held.1) (fin.entries owned)
-      (sym (fin.get-entries owned held.0) ∙ is_owned held.0 ∙ ap (option_map row_region) held.2) held.3
+      any_from_found test held.0 (kept_region held.1) (fin.entries owned)
+      (sym (fin.get-entries owned held.0) ∙ is_owned held.0 ∙ ap (option_map kept_region) held.2) held.3
 
   -- the same positions are covered
   same_covered : (position : ℕ) → is_covered (occupied owned) position ≡ is_covered (map kept_region (kept_entries slots entries)) position
@@ -129,13 +128,13 @@ module _ (slots : Slots) (entries : List Queued) (owned : Owned) (at : AllByRecu
 module _ (p : Inside) (kept : IsSlotted p) where
   -- the gaps between the regions of the slots are those between the products
   pub gaps_between : gaps (occupied p.regions.owned) p.regions.arena ≡ gaps (map kept_region (products_of p).rows) p.regions.arena
-  gaps_between = free_runs-same _ _ (same_covered p.slots.items p.by_number.entries p.regions.owned kept.entries kept.listed kept.owned) 0 p.regions.arena
+  gaps_between = free_runs-same _ _ (same_covered (slots_of p) p.by_number.entries p.regions.owned kept.entries kept.listed kept.owned) 0 p.regions.arena
 
   -- where a slot is free, a product goes where a gap is long enough
   pub place_for : (need : ℕ) → 0 < length p.free.items → fit need (occupied p.regions.owned) p.regions.arena ≡ room_for (products_of p) need
   place_for need some =
       let rows = (products_of p).rows in
       let place = fit need (map kept_region rows) p.regions.arena in
-      let count = length-map p.by_number.entries (kept_entry p.slots.items) in
+      let count = length-map p.by_number.entries (kept_entry (slots_of p)) in
       ap (λ (gaps : List Region). option_map (λ (gap : Region). gap.start) (best_gap need gaps)) gaps_between
       ∙ ap (λ b. cond b place None) (sym (lt-ltb (length rows) p.regions.slots (omega (arith, count, kept.count, some))))

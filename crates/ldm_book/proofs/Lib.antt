@@ -1,6 +1,8 @@
+pub mod EveryLemmas
 pub mod QueuedLemmas
-pub mod HasBodiesLemmas
+pub mod StoredLemmas
 pub mod IsTimedLemmas
+pub mod SlotsLemmas
 pub mod CreateLemmas
 pub mod EntryLemmas
 pub mod RowAtLemmas

@@ -2,24 +2,25 @@
 use Rattle.std.proofs.Common.{◌≡◌, ℕ, suc, ◌+◌, ◌<◌, ◌≤◌, ◌||◌, Bool, true, false, cond, List, [], ◌∷◌, Some, None, refl, sym, ap, subst, ◌∙◌, inl, inr, arith}
 use Rattle.std.specs.Prelude.{◌&&◌, ◌==◌, count_by}
 use Rattle.std.specs.List.{All, AllByRecursion, find, list_any}
-use Rattle.std.proofs.lemmas.Bool.{eq-eqb, le-leb, lt-leb, cases_lt}
+use Rattle.std.proofs.lemmas.Bool.{eq-eqb, le-leb, lt-leb, cases_lt, or_right}
 use Rattle.std.proofs.lemmas.List.Sums.{sum_by-cons}
 use Rattle.ldm_types.specs.Feed.{feeds_meet}
 use Rattle.ldm_book.specs.View.{Kept}
 use Rattle.ldm_book.specs.Products.{AreRising, at_number, awaits, has_number}
 
 awaits_below : (at feed : ℕ) (k : Kept) → k.number < at → awaits at feed k ≡ false
-awaits_below at feed k h = ap (λ (b : Bool). b && feeds_meet feed k.info.feed) (lt-leb at k.number h)
+awaits_below at feed k h = ap (λ (b : Bool). b && feeds_meet feed k.feed) (lt-leb at k.number h)
 
-awaits_above : (at feed : ℕ) (k : Kept) → at ≤ k.number → awaits at feed k ≡ feeds_meet feed k.info.feed
-awaits_above at feed k h = ap (λ (b : Bool). b && feeds_meet feed k.info.feed) (le-leb at k.number h)
+awaits_above : (at feed : ℕ) (k : Kept) → at ≤ k.number → awaits at feed k ≡ feeds_meet feed k.feed
+awaits_above at feed k h = ap (λ (b : Bool). b && feeds_meet feed k.feed) (le-leb at k.number h)
 
-found_now : (at : ℕ) (k : Kept) (rows : List Kept) (found : Kept) → at ≤ k.number → find (at_number at) (k ∷ rows) ≡ Some found → k ≡ found
+-- what is at a number is found at once, and what is before it never
+pub found_now : (at : ℕ) (k : Kept) (rows : List Kept) (found : Kept) → at ≤ k.number → find (at_number at) (k ∷ rows) ≡ Some found → k ≡ found
 found_now at k rows found h e =
     let now : find (at_number at) (k ∷ rows) ≡ Some k = ap (λ (b : Bool). cond b (Some k) (find (at_number at) rows)) (le-leb at k.number h) in
     cc
 
-found_later : (at : ℕ) (k : Kept) (rows : List Kept) → k.number < at → find (at_number at) (k ∷ rows) ≡ find (at_number at) rows
+pub found_later : (at : ℕ) (k : Kept) (rows : List Kept) → k.number < at → find (at_number at) (k ∷ rows) ≡ find (at_number at) rows
 found_later at k rows h = ap (λ (b : Bool). cond b (Some k) (find (at_number at) rows)) (lt-leb at k.number h)
 
 -- what is found at a number has at least that number
@@ -38,10 +39,6 @@ found_all P test (k ∷ ks) found all e = by_test (test k) (found_all P test ks 
     by_test : (b : Bool) → (find test ks ≡ Some found → P found) → cond b (Some k) (find test ks) ≡ Some found → P found
     by_test true rest e = let same : k ≡ found = cc in subst P same (all 0 k (omega arith))
     by_test false rest e = rest e
-
-or_more : (a b : Bool) → b ≡ true → (a || b) ≡ true
-or_more true b e = refl
-or_more false b e = e
 
 -- a count, by the first element
 pub count_cons : {X : Type 0} (p : X → Bool) (x : X) (xs : List X) → count_by p (x ∷ xs) ≡ cond (p x) 1 0 + count_by p xs
@@ -71,17 +68,17 @@ module _ (feed : ℕ) where
   above_next n (k ∷ ks) all = (omega (arith, all.0), above_next n ks all.1)
 
   -- the first product at a number meets
-  pub meets_here : (at : ℕ) (rows : List Kept) (found : Kept) → find (at_number at) rows ≡ Some found → feeds_meet feed found.info.feed ≡ true → find (awaits at feed) rows ≡ Some found
+  pub meets_here : (at : ℕ) (rows : List Kept) (found : Kept) → find (at_number at) rows ≡ Some found → feeds_meet feed found.feed ≡ true → find (awaits at feed) rows ≡ Some found
   meets_here at [] found e meets = absurd cc
   meets_here at (k ∷ ks) found e meets = elim (cases_lt k.number at) [
     | inl before ↦ find_test at k ks false (awaits_below at feed k before) ∙ meets_here at ks found (sym (found_later at k ks before) ∙ e) meets
     | inr here ↦
         let same : k ≡ found = found_now at k ks found here e in
-        find_test at k ks true (awaits_above at feed k here ∙ ap (λ (x : Kept). feeds_meet feed x.info.feed) same ∙ meets) ∙ ap (λ (x : Kept). Some x) same
+        find_test at k ks true (awaits_above at feed k here ∙ ap (λ (x : Kept). feeds_meet feed x.feed) same ∙ meets) ∙ ap (λ (x : Kept). Some x) same
   ]
 
   -- it does not
-  pub meets_later : (at : ℕ) (rows : List Kept) (found : Kept) → AreRising rows → find (at_number at) rows ≡ Some found → feeds_meet feed found.info.feed ≡ false → find (awaits at feed) rows ≡ find (awaits (found.number + 1) feed) rows
+  pub meets_later : (at : ℕ) (rows : List Kept) (found : Kept) → AreRising rows → find (at_number at) rows ≡ Some found → feeds_meet feed found.feed ≡ false → find (awaits at feed) rows ≡ find (awaits (found.number + 1) feed) rows
   meets_later at [] found rising e apart = absurd cc
   meets_later at (k ∷ ks) found rising e apart = elim (cases_lt k.number at) [
     | inl before ↦
@@ -91,7 +88,7 @@ module _ (feed : ℕ) where
     | inr here ↦
         let same : k ≡ found = found_now at k ks found here e in
         subst (λ (x : Kept). find (awaits at feed) (k ∷ ks) ≡ find (awaits (x.number + 1) feed) (k ∷ ks)) same
-        (find_test at k ks false (awaits_above at feed k here ∙ ap (λ (x : Kept). feeds_meet feed x.info.feed) same ∙ apart)
+        (find_test at k ks false (awaits_above at feed k here ∙ ap (λ (x : Kept). feeds_meet feed x.feed) same ∙ apart)
         ∙ same_behind at (k.number + 1) ks (omega arith) (above_next k.number ks rising.0)
         ∙ sym (find_test (k.number + 1) k ks false (awaits_below (k.number + 1) feed k (omega arith))))
   ]
@@ -119,21 +116,21 @@ module _ (feed : ℕ) where
   ]
 
   -- one product is counted, or passed over
-  pub count_later : (at : ℕ) (rows : List Kept) (found : Kept) → AreRising rows → find (at_number at) rows ≡ Some found → count_by (awaits at feed) rows ≡ cond (feeds_meet feed found.info.feed) 1 0 + count_by (awaits (found.number + 1) feed) rows
+  pub count_later : (at : ℕ) (rows : List Kept) (found : Kept) → AreRising rows → find (at_number at) rows ≡ Some found → count_by (awaits at feed) rows ≡ cond (feeds_meet feed found.feed) 1 0 + count_by (awaits (found.number + 1) feed) rows
   count_later at [] found rising e = absurd cc
   count_later at (k ∷ ks) found rising e = elim (cases_lt k.number at) [
     | inl before ↦
         let further = at_least at ks found (sym (found_later at k ks before) ∙ e) in
         count_test at k ks false (awaits_below at feed k before)
         ∙ count_later at ks found rising.1 (sym (found_later at k ks before) ∙ e)
-        ∙ ap (λ (n : ℕ). cond (feeds_meet feed found.info.feed) 1 0 + n) (sym (count_test (found.number + 1) k ks false (awaits_below (found.number + 1) feed k (omega arith))))
+        ∙ ap (λ (n : ℕ). cond (feeds_meet feed found.feed) 1 0 + n) (sym (count_test (found.number + 1) k ks false (awaits_below (found.number + 1) feed k (omega arith))))
     | inr here ↦
         let same : k ≡ found = found_now at k ks found here e in
-        subst (λ (x : Kept). count_by (awaits at feed) (k ∷ ks) ≡ cond (feeds_meet feed x.info.feed) 1 0 + count_by (awaits (x.number + 1) feed) (k ∷ ks)) same
+        subst (λ (x : Kept). count_by (awaits at feed) (k ∷ ks) ≡ cond (feeds_meet feed x.feed) 1 0 + count_by (awaits (x.number + 1) feed) (k ∷ ks)) same
         (count_cons (awaits at feed) k ks
         ∙ ap (λ (b : Bool). cond b 1 0 + count_by (awaits at feed) ks) (awaits_above at feed k here)
-        ∙ ap (λ (n : ℕ). cond (feeds_meet feed k.info.feed) 1 0 + n) (count_behind at (k.number + 1) ks (omega arith) (above_next k.number ks rising.0))
-        ∙ ap (λ (n : ℕ). cond (feeds_meet feed k.info.feed) 1 0 + n) (sym (count_test (k.number + 1) k ks false (awaits_below (k.number + 1) feed k (omega arith)))))
+        ∙ ap (λ (n : ℕ). cond (feeds_meet feed k.feed) 1 0 + n) (count_behind at (k.number + 1) ks (omega arith) (above_next k.number ks rising.0))
+        ∙ ap (λ (n : ℕ). cond (feeds_meet feed k.feed) 1 0 + n) (sym (count_test (k.number + 1) k ks false (awaits_below (k.number + 1) feed k (omega arith)))))
   ]
 
 -- what is found for a reader is at its position or behind it
@@ -155,4 +152,4 @@ found_there test (k ∷ ks) found e = by_test (test k) (found_there test ks foun
   where
     by_test : (b : Bool) → (find test ks ≡ Some found → list_any (has_number found.number) ks ≡ true) → cond b (Some k) (find test ks) ≡ Some found → list_any (has_number found.number) (k ∷ ks) ≡ true
     by_test true rest e = let same : k ≡ found = cc in ap (λ (b : Bool). b || list_any (has_number found.number) ks) (eq-eqb k.number found.number (ap (λ (x : Kept). x.number) same))
-    by_test false rest e = or_more (k.number == found.number) (list_any (has_number found.number) ks) (rest e)
+    by_test false rest e = or_right (k.number == found.number) (list_any (has_number found.number) ks) (rest e)

@@ -1,5 +1,5 @@
 -- What the queue does where a cursor is opened, by what the book keeps.
-use Rattle.std.proofs.Common.{◌≡◌, ℕ, ◌+◌, Bool, true, false, cond, ltb, List, [], ◌∷◌, map, Option, Some, None, refl, sym, ap, subst, ◌∙◌}
+use Rattle.std.proofs.Common.{◌≡◌, ℕ, ◌+◌, true, List, Option, Some, None, refl, sym, ap, subst, ◌∙◌}
 use Rattle.std.specs.List.{find}
 use Rattle.std.specs.Option.{option_map}
 use Rattle.ldm_types.specs.Cursors.{Places}
@@ -18,24 +18,12 @@ use Rattle.ldm_book.specs.Making as making
 use Rattle.ldm_book.specs.Answers.{Follows}
 use Rattle.ldm_book.specs.Stands.{StandsFor}
 use Rattle.ldm_book.proofs.CursorsLemmas.{StandsFor-place, least-kept, with_cursors}
+use Rattle.ldm_book.proofs.EveryLemmas.{find-map}
 use Rattle.ldm_book.proofs.QueuedLemmas.{queued_with-kept}
 
 end-stands : (book : BookView) (s : State) (o : Option Queued) → StandsFor book s → making.number_or_end book (option_map kept o) ≡ number_or_end s o
 end-stands book s None stands = stands.admitted
 end-stands book s (Some q) stands = refl
-
-find-later : (time : ℕ) (qs : List Queued) → find (kept_products.is_later time) (map kept qs) ≡ option_map kept (find (is_later time) qs)
-find-later time [] = refl
-find-later time (q ∷ qs) = by_test (ltb time q.time) (find-later time qs)
-  where
-    by_test : (b : Bool) → find (kept_products.is_later time) (map kept qs) ≡ option_map kept (find (is_later time) qs)
-        → cond b (Some (kept q)) (find (kept_products.is_later time) (map kept qs)) ≡ option_map kept (cond b (Some q) (find (is_later time) qs))
-    by_test true rest = refl
-    by_test false rest = rest
-
-find-any : (qs : List Queued) → find (λ (k : Kept). true) (map kept qs) ≡ option_map kept (find (λ (q : Queued). true) qs)
-find-any [] = refl
-find-any (q ∷ qs) = refl
 
 behind-kept : (o : Option Queued) → option_map making.number_behind (option_map kept o) ≡ option_map (λ (q : Queued). q.number + 1) o
 behind-kept None = refl
@@ -43,10 +31,10 @@ behind-kept (Some q) = refl
 
 -- where a cursor begins
 pub start-stands : (book : BookView) (s : State) (start : Start) → StandsFor book s → making.start_at book start ≡ open_position s start
-start-stands book s Oldest stands = ap (λ (n : ℕ). Some n) (ap (λ (ks : List Kept). making.number_or_end book (find (λ (k : Kept). true) ks)) stands.rows ∙ ap (making.number_or_end book) (find-any (queued s)) ∙ end-stands book s (find (λ (q : Queued). true) (queued s)) stands)
+start-stands book s Oldest stands = ap (λ (n : ℕ). Some n) (ap (λ (ks : List Kept). making.number_or_end book (find (λ (k : Kept). true) ks)) stands.rows ∙ ap (making.number_or_end book) (find-map kept (λ (k : Kept). true) (queued s)) ∙ end-stands book s (find (λ (q : Queued). true) (queued s)) stands)
 start-stands book s Next stands = ap (λ (n : ℕ). Some n) stands.admitted
 start-stands book s (After time) stands =
-    ap (λ (n : ℕ). Some n) (ap (λ (ks : List Kept). making.number_or_end book (find (kept_products.is_later time) ks)) stands.rows ∙ ap (making.number_or_end book) (find-later time (queued s)) ∙ end-stands book s (find (is_later time) (queued s)) stands)
+    ap (λ (n : ℕ). Some n) (ap (λ (ks : List Kept). making.number_or_end book (find (kept_products.is_later time) ks)) stands.rows ∙ ap (making.number_or_end book) (find-map kept (kept_products.is_later time) (queued s)) ∙ end-stands book s (find (is_later time) (queued s)) stands)
 start-stands book s (AfterSignature signature) stands =
     ap (λ (ks : List Kept). option_map making.number_behind (kept_with signature.0 ks)) stands.rows
     ∙ ap (option_map making.number_behind) (sym (queued_with-kept signature.0 (queued s)))

@@ -10,15 +10,13 @@ use Rattle.std.proofs.lemmas.Bool.{cases_eq, false_from_ne_true}
 use Rattle.std.proofs.lemmas.List.{map_push}
 use Rattle.ldm_types.specs.Arena.{Region}
 use Rattle.ldm_types.specs.declared.limits.TheConstants.{LARGEST_ARENA}
-use Rattle.ldm_model.specs.Product.{extent_of}
 use Rattle.ldm_model.specs.Stat.{extents}
 use Rattle.ldm_regions.specs.Layout.{Layout, Tiles, with_region}
 use Rattle.ldm_timeindex.specs.Times.{Queued}
 use Rattle.ldm_book.specs.declared.products.Products.TheInside.{Inside}
-use Rattle.ldm_book.specs.declared.row.Row.{Row}
 use Rattle.ldm_book.specs.View.{Kept}
-use Rattle.ldm_book.specs.Products.{kept_region}
-use Rattle.ldm_book.specs.Slots.{Slots, row_at, row_region, info_of, place_of, kept_entry, kept_entries, IsAt, HasSlot, IsSlotted}
+use Rattle.ldm_book.specs.Products.{kept_extent, kept_region}
+use Rattle.ldm_book.specs.Slots.{Slots, row_at, slots_of, kept_or_none, with_entry, kept_entry, kept_entries, IsAt, HasSlot, IsSlotted}
 use Rattle.ldm_book.proofs.KeptEntryLemmas.{kept_entry-row}
 use Rattle.ldm_book.proofs.AreFreeLemmas.{IsNext}
 
@@ -38,12 +36,12 @@ extents-more [] region = omega arith
 extents-more (first ∷ regions) region = omega (arith, extents-more regions region)
 
 -- the entry of a row
-abbrev pub entry_of : ℕ → Row → Queued
-entry_of slot row = record { n = row.n; time = row.time; slot = slot }
+abbrev pub entry_of : ℕ → Kept → Queued
+entry_of slot row = record { n = row.number; time = row.time; slot = slot }
 
-module _ (p : Inside) (kept : IsSlotted p) (slot : ℕ) (row : Row) (next : IsNext p slot) where
+module _ (p : Inside) (kept : IsSlotted p) (slot : ℕ) (row : Kept) (next : IsNext p slot) where
   abbrev slots : Slots
-  slots = p.slots.items
+  slots = slots_of p
 
   abbrev filled : Slots
   filled = set slots slot (Some row)
@@ -60,7 +58,7 @@ module _ (p : Inside) (kept : IsSlotted p) (slot : ℕ) (row : Row) (next : IsNe
   other k apart = get_or-set_other slots slot k (Some row) None apart
 
   -- a slot with a row keeps it
-  stays : (k : ℕ) (held : Row) → row_at slots k ≡ Some held → row_at filled k ≡ row_at slots k
+  stays : (k : ℕ) (held : Kept) → row_at slots k ≡ Some held → row_at filled k ≡ row_at slots k
   stays k held at = other k (λ same. let both : None ≡ Some held = sym next.none ∙ ap (row_at slots) (sym same) ∙ at in absurd cc)
 
   -- the entries are kept as they were
@@ -68,7 +66,7 @@ module _ (p : Inside) (kept : IsSlotted p) (slot : ℕ) (row : Row) (next : IsNe
   kept-same [] at = refl
   kept-same (entry ∷ entries) at =
       let held = stays entry.slot at.0.0 at.0.1 in
-      λ i. record { number = entry.n; info = info_of (held i); time = entry.time; place = place_of (held i) } ∷ kept-same entries at.1 i
+      λ i. with_entry entry (held i) ∷ kept-same entries at.1 i
 
   -- each has a slot with its row, and the new one too
   at-more : (entries : List Queued) → AllByRecursion (IsAt slots) entries → AllByRecursion (IsAt filled) (more entries)
@@ -78,27 +76,24 @@ module _ (p : Inside) (kept : IsSlotted p) (slot : ℕ) (row : Row) (next : IsNe
   abbrev rows : List Kept
   rows = kept_entries slots p.by_number.entries
 
-  abbrev added : Kept
-  added = record { number = row.n; info = row.info; time = row.time; place = row.place }
-
   -- the kept rows are those from before, and the new one
-  pub rows-added : kept_entries filled (more p.by_number.entries) ≡ rows ++ added ∷ []
+  pub rows-added : kept_entries filled (more p.by_number.entries) ≡ rows ++ row ∷ []
   rows-added =
       let new = kept_entry-row filled (entry_of slot row) row here in
       map_push (kept_entry filled) p.by_number.entries (entry_of slot row) ∙ (λ i. kept-same p.by_number.entries kept.entries i ++ new i ∷ [])
 
   -- and so are the extents
-  pub extents-added : extents (map kept_region (kept_entries filled (more p.by_number.entries))) ≡ extents (map kept_region rows) + extent_of row.info
+  pub extents-added : extents (map kept_region (kept_entries filled (more p.by_number.entries))) ≡ extents (map kept_region rows) + kept_extent row
   extents-added =
       ap (λ (rows : List Kept). extents (map kept_region rows)) rows-added
-      ∙ ap extents (map_push kept_region rows added) ∙ extents-more (map kept_region rows) (row_region row)
+      ∙ ap extents (map_push kept_region rows row) ∙ extents-more (map kept_region rows) (kept_region row)
 
   -- each entry has a slot with its row
   pub entries-added : AllByRecursion (IsAt filled) (more p.by_number.entries)
   entries-added = at-more p.by_number.entries kept.entries
 
   -- each row has an entry
-  pub listed-added : (k : ℕ) (held : Row) → row_at filled k ≡ Some held → HasSlot k (more p.by_number.entries)
+  pub listed-added : (k : ℕ) (held : Kept) → row_at filled k ≡ Some held → HasSlot k (more p.by_number.entries)
   listed-added k held at =
       elim (cases_eq k slot) [
         | inl same ↦ subst (λ j. HasSlot j (more p.by_number.entries)) (sym same) (HasSlot-last p.by_number.entries (entry_of slot row))
@@ -106,26 +101,26 @@ module _ (p : Inside) (kept : IsSlotted p) (slot : ℕ) (row : Row) (next : IsNe
       ]
 
   -- each slot owns the region of its row
-  pub owned-added : (k : ℕ) → fin.get (fin.insert p.regions.owned slot (row_region row)) k ≡ option_map row_region (row_at filled k)
+  pub owned-added : (k : ℕ) → fin.get (fin.insert p.regions.owned slot (kept_region row)) k ≡ option_map kept_region (row_at filled k)
   owned-added k =
       let owned = p.regions.owned in
-      fin.get-insert nat_cmp_total owned slot (row_region row) k
+      fin.get-insert nat_cmp_total owned slot (kept_region row) k
       ∙ elim (cases_eq k slot) [
-        | inl same ↦ ap (λ b. cond b (Some (row_region row)) (fin.get owned k)) (ap (λ j. eq_by_cmp nat_cmp j slot) same ∙ (eq_by_cmp_equiv nat_cmp_total).refl slot)
-            ∙ ap (option_map row_region) (sym (ap (row_at filled) same ∙ here))
-        | inr apart ↦ ap (λ b. cond b (Some (row_region row)) (fin.get owned k)) (false_from_ne_true _ (λ tie. apart (nat_cmp-IsAntisymmetric k slot ((Equal-is (nat_cmp k slot)).0 tie))))
-            ∙ kept.owned k ∙ ap (option_map row_region) (sym (other k apart))
+        | inl same ↦ ap (λ b. cond b (Some (kept_region row)) (fin.get owned k)) (ap (λ j. eq_by_cmp nat_cmp j slot) same ∙ (eq_by_cmp_equiv nat_cmp_total).refl slot)
+            ∙ ap (option_map kept_region) (sym (ap (row_at filled) same ∙ here))
+        | inr apart ↦ ap (λ b. cond b (Some (kept_region row)) (fin.get owned k)) (false_from_ne_true _ (λ tie. apart (nat_cmp-IsAntisymmetric k slot ((Equal-is (nat_cmp k slot)).0 tie))))
+            ∙ kept.owned k ∙ ap (option_map kept_region) (sym (other k apart))
       ]
 
 module _ (p : Inside) (kept : IsSlotted p) where
   -- each extent is at most the arena's
-  extents-within : (entries : List Queued) → AllByRecursion (IsAt p.slots.items) entries → extents (map kept_region (kept_entries p.slots.items entries)) ≤ length entries * LARGEST_ARENA
+  extents-within : (entries : List Queued) → AllByRecursion (IsAt (slots_of p)) entries → extents (map kept_region (kept_entries (slots_of p) entries)) ≤ length entries * LARGEST_ARENA
   extents-within [] at = omega arith
   extents-within (entry ∷ entries) at =
       let rest = extents-within entries at.1 in
-      let within = kept.tiles.within entry.slot (row_region at.0.0) (kept.owned entry.slot ∙ ap (option_map row_region) at.0.1) in
-      let extent = ap (λ (held : Option Row). extent_of (info_of held)) at.0.1 in
-      bounded (extent_of (info_of (row_at p.slots.items entry.slot))) (extent_of at.0.0.info) at.0.0.place (extents (map kept_region (kept_entries p.slots.items entries))) (length entries) p.regions.arena extent within kept.small rest
+      let within = kept.tiles.within entry.slot (kept_region at.0.0) (kept.owned entry.slot ∙ ap (option_map kept_region) at.0.1) in
+      let extent = ap (λ (held : Option Kept). kept_extent (kept_or_none held)) at.0.1 in
+      bounded (kept_extent (kept_or_none (row_at (slots_of p) entry.slot))) (kept_extent at.0.0) at.0.0.place (extents (map kept_region (kept_entries (slots_of p) entries))) (length entries) p.regions.arena extent within kept.small rest
     where
       bounded : (one extent place rest count arena : ℕ) → one ≡ extent → place + extent ≤ arena → arena ≤ LARGEST_ARENA → rest ≤ count * LARGEST_ARENA → one + rest ≤ suc count * LARGEST_ARENA
       bounded one extent place rest count arena same within small below = omega arith

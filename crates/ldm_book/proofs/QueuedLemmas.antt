@@ -1,5 +1,5 @@
 -- The present rows of a state, and what a book keeps of them.
-use Rattle.std.proofs.Common.{◌≡◌, ℕ, zero, suc, ◌+◌, ◌<◌, Bool, true, false, cond, List, [], ◌∷◌, ◌++◌, length, map, not, ◌||◌, Option, Some, None, refl, sym, ap, ◌∙◌, inl, inr, arith}
+use Rattle.std.proofs.Common.{◌≡◌, ℕ, zero, suc, ◌+◌, ◌<◌, Bool, true, cond, List, [], ◌∷◌, ◌++◌, length, map, not, ◌||◌, Option, Some, None, refl, sym, ap, ◌∙◌, inl, inr, arith}
 use Rattle.std.proofs.Math.Nat.{add-zero}
 use Rattle.std.specs.Prelude.{◌==◌, filter, slice_get}
 use Rattle.std.specs.List.{find, list_any}
@@ -7,13 +7,13 @@ use Rattle.std.proofs.lemmas.Bool.{false≢true, cases_eq, eq-eqb, ne_eqb, le-le
 use Rattle.std.specs.Option.{option_map}
 use Rattle.ldm_types.specs.Arena.{Region}
 use Rattle.ldm_model.specs.declared.event.Reply.TheVariants as reply
-use Rattle.ldm_model.specs.State.{Row, Queued, latest, add_queued, queued_from, has_signature, queued_with, region_of}
+use Rattle.ldm_model.specs.State.{Row, Queued, latest, add_queued, queued_from, queued_with, region_of}
 use Rattle.ldm_model.specs.Evict.{without_place}
 use Rattle.ldm_model.specs.Look.{look_reply}
 use Rattle.ldm_book.specs.View.{kept}
 use Rattle.ldm_book.specs.Products.{kept_region, at_number, has_number}
-use Rattle.ldm_book.specs.Readers.{feed_of}
-use Rattle.ldm_book.specs.Lookup.{kept_with, look_kept}
+use Rattle.ldm_book.specs.Lookup.{kept_signature, kept_with, look_kept}
+use Rattle.ldm_book.proofs.EveryLemmas.{find-map}
 
 add_queued-append : (n : ℕ) (row : Row) (place : Option ℕ) (behind more : List Queued) → add_queued n row place (behind ++ more) ≡ add_queued n row place behind ++ more
 add_queued-append n row None behind more = refl
@@ -28,12 +28,7 @@ queued_from-append n (x ∷ xs) ys =
 
 -- a look-up among what is kept
 pub queued_with-kept : (signature : List ℕ) (qs : List Queued) → option_map kept (queued_with signature qs) ≡ kept_with signature (map kept qs)
-queued_with-kept signature [] = refl
-queued_with-kept signature (q ∷ qs) = by_test (has_signature signature q) (queued_with-kept signature qs)
-  where
-    by_test : (test : Bool) → option_map kept (queued_with signature qs) ≡ kept_with signature (map kept qs) → option_map kept (cond test (Some q) (queued_with signature qs)) ≡ cond test (Some (kept q)) (kept_with signature (map kept qs))
-    by_test true rest = refl
-    by_test false rest = rest
+queued_with-kept signature qs = sym (find-map kept (kept_signature signature) qs)
 
 look_reply-kept : (o : Option Queued) → look_reply o ≡ look_kept (option_map kept o)
 look_reply-kept None = refl
@@ -94,13 +89,18 @@ queued-without (suc i) m (row ∷ rows) =
         ap (λ (qs : List Queued). q ∷ qs) rest
         ∙ sym (ap (λ (b : Bool). cond (not b) (q ∷ filter (other_number (m + suc i)) (queued_from (m + 1) rows)) (filter (other_number (m + suc i)) (queued_from (m + 1) rows))) (ne_eqb m (m + suc i) (λ e. omega (arith, e))))
 
--- a kept row stands among the rows, the first of which has that number, and its feedtypes are those of the row
+-- the present row of a number: the first of at least that number
 pub record IsPresent (n m : ℕ) (rows : List Row) : Type 0 where
   pub index : ℕ
   pub row : Row
+  pub place : ℕ
   pub number : n ≡ m + index
   pub at : slice_get rows index ≡ Some row
-  pub feed : feed_of (find (at_number n) (map kept (queued_from m rows))) ≡ row.product.info.feed
+  pub found : find (λ (q : Queued). at_number n (kept q)) (queued_from m rows) ≡ Some (record { number = n; product = row.product; time = row.time; place = place })
+
+-- the first present row of at least a number
+abbrev first_at : ℕ → List Queued → Option Queued
+first_at n qs = find (λ (q : Queued). at_number n (kept q)) qs
 
 pub is_present : (n m : ℕ) (rows : List Row) → list_any (has_number n) (map kept (queued_from m rows)) ≡ true → IsPresent n m rows
 is_present n m [] h = absurd (false≢true h)
@@ -113,31 +113,34 @@ is_present n m (row ∷ rows) h = by_place (is_present n (m + 1) rows) row.place
         record {
           index = suc rest.index;
           row = rest.row;
+          place = rest.place;
           number = omega (arith, rest.number);
           at = rest.at;
-          feed = ap (λ (p : Option ℕ). feed_of (find (at_number n) (map kept (add_queued m row p (queued_from (m + 1) rows))))) is ∙ rest.feed;
+          found = ap (λ (p : Option ℕ). first_at n (add_queued m row p (queued_from (m + 1) rows))) is ∙ rest.found;
         }
     by_place more (Some at) is h =
         let q : Queued = record { number = m; product = row.product; time = row.time; place = at } in
+        let behind = first_at n (queued_from (m + 1) rows) in
         elim (cases_eq m n) [
           | inl same ↦ record {
             index = 0;
             row = row;
+            place = at;
             number = omega arith;
             at = refl;
-            feed = ap (λ (p : Option ℕ). feed_of (find (at_number n) (map kept (add_queued m row p (queued_from (m + 1) rows))))) is
-                ∙ ap (λ (b : Bool). feed_of (cond b (Some (kept q)) (find (at_number n) (map kept (queued_from (m + 1) rows))))) (le-leb n m (omega arith));
+            found = ap (λ (p : Option ℕ). first_at n (add_queued m row p (queued_from (m + 1) rows))) is ∙ ap (λ (b : Bool). cond b (Some q) behind) (le-leb n m (omega arith))
+                ∙ ap (λ (k : ℕ). Some (record { number = k; product = row.product; time = row.time; place = at })) same;
           }
           | inr other ↦
               let rest = more (ap (λ (b : Bool). b || list_any (has_number n) (map kept (queued_from (m + 1) rows))) (sym (ne_eqb m n other)) ∙ h) in
               record {
                 index = suc rest.index;
                 row = rest.row;
+                place = rest.place;
                 number = omega (arith, rest.number);
                 at = rest.at;
-                feed = ap (λ (p : Option ℕ). feed_of (find (at_number n) (map kept (add_queued m row p (queued_from (m + 1) rows))))) is
-                    ∙ ap (λ (b : Bool). feed_of (cond b (Some (kept q)) (find (at_number n) (map kept (queued_from (m + 1) rows))))) (lt-leb n m (omega (arith, rest.number)))
-                    ∙ rest.feed;
+                found = ap (λ (p : Option ℕ). first_at n (add_queued m row p (queued_from (m + 1) rows))) is ∙ ap (λ (b : Bool). cond b (Some q) behind) (lt-leb n m (omega (arith, rest.number)))
+                    ∙ rest.found;
               }
         ]
 

@@ -3,7 +3,7 @@ use Rattle.std.proofs.Common.{◌≡◌, ℕ, zero, suc, ◌+◌, ◌^◌, ◌<�
 use Rattle.std.specs.Prelude.{◌==◌, ◌&&◌, nat_le, filter}
 use Rattle.std.specs.List.{All, AllByRecursion, Any, find, list_any}
 use Rattle.std.specs.Option.{IfSome, option_map}
-use Rattle.std.proofs.lemmas.Bool.{false≢true, true≢false, eq-eqb, ne_eqb, le-leb, lt-leb, cases_eq, cases_lt}
+use Rattle.std.proofs.lemmas.Bool.{false≢true, true≢false, eq-eqb, ne_eqb, le-leb, lt-leb, cases_eq, cases_lt, or_parts}
 use Rattle.std.proofs.lemmas.List.{length-append}
 use Rattle.ldm_types.specs.Cursors.{KeptCursor, Losses, Places}
 use Rattle.ldm_types.specs.Feed.{feeds_meet}
@@ -111,10 +111,6 @@ any_left n m (k ∷ ks) apart h = elim (cases_eq k.number n) [
     by_test true rest h = refl
     by_test false rest h = rest h
 
-or_false : (a b : Bool) → (a || b) ≡ false → (a ≡ false) × (b ≡ false)
-or_false true b e = absurd (true≢false e)
-or_false false b e = (refl, e)
-
 module _ (a n feed : ℕ) (rows : List Kept) (there : list_any (has_number n) rows ≡ true) where
   held_still : (o : Option ℕ) (c : KeptCursor) → c.held ≡ o → holds n (Some c) ≡ false → IfSome o (λ m. list_any (has_number m) rows ≡ true) → IfSome o (λ m. list_any (has_number m) (filter (is_other n) rows) ≡ true)
   held_still None c is free h = tt
@@ -155,7 +151,7 @@ module _ (a n feed : ℕ) (rows : List Kept) (there : list_any (has_number n) ro
   pub reading-loss : (cs : Places) → is_held n cs ≡ false → AreReading a rows cs → AreReading a (filter (is_other n) rows) (map (with_loss n feed) cs)
   reading-loss [] free all = tt
   reading-loss (place ∷ cs) free all =
-      let parts = or_false (holds n place) (is_held n cs) free in
+      let parts = or_parts (holds n place) (is_held n cs) free in
       (place_left place parts.0 all.0, reading-loss cs parts.1 all.1)
 
 -- a product of a number is there

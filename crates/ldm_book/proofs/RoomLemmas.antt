@@ -2,7 +2,7 @@
 use Rattle.std.proofs.Common.{◌≡◌, ℕ, zero, suc, ◌+◌, ◌<◌, ◌≤◌, ◌||◌, Bool, true, false, cond, not, List, [], ◌∷◌, ◌++◌, length, map, take, drop, Option, Some, None, refl, sym, ap, subst, ◌∙◌, inl, inr, arith}
 use Rattle.std.specs.Prelude.{filter, is_some}
 use Rattle.std.specs.Option.{MatchOption}
-use Rattle.std.proofs.lemmas.Bool.{true≢false, false≢true, lt-ltb, le-ltb, cases_lt, eq-eqb, ne_eqb, cases_eq}
+use Rattle.std.proofs.lemmas.Bool.{true≢false, false≢true, lt-ltb, le-ltb, cases_lt, eq-eqb, ne_eqb, cases_eq, or_parts}
 use Rattle.ldm_types.specs.Arena.{covers, fit, is_covered}
 use Rattle.ldm_types.specs.Cursors.{Places}
 use Rattle.ldm_cursor.specs.Places.{is_held}
@@ -13,15 +13,11 @@ use Rattle.ldm_book.specs.Readers.{AreAhead, first_of, free_numbers, held_produc
 use Rattle.ldm_book.proofs.SpaceLemmas.{fit-space, space-fit}
 use Rattle.ldm_book.proofs.FreeLemmas.{first-there, rising_left, unheld-evicted, held_left, held-alike, is_held-loss, ahead-alike}
 
-or_false : (a b : Bool) → (a || b) ≡ false → (a ≡ false) × (b ≡ false)
-or_false true b e = absurd (true≢false e)
-or_false false b e = (refl, e)
-
 -- fewer products cover no more
 covered_filter : (test : Kept → Bool) (i : ℕ) (rows : List Kept) → is_covered (map kept_region rows) i ≡ false → is_covered (map kept_region (filter test rows)) i ≡ false
 covered_filter test i [] e = refl
 covered_filter test i (k ∷ ks) e =
-    let parts = or_false (covers i (kept_region k)) (is_covered (map kept_region ks) i) e in
+    let parts = or_parts (covers i (kept_region k)) (is_covered (map kept_region ks) i) e in
     by_test (test k) parts.0 (covered_filter test i ks parts.1)
   where
     by_test : (b : Bool) → covers i (kept_region k) ≡ false → is_covered (map kept_region (filter test ks)) i ≡ false → is_covered (map kept_region (cond b (k ∷ filter test ks) (filter test ks))) i ≡ false

@@ -10,11 +10,12 @@ use Rattle.std.proofs.lemmas.Bool.{cases_eq, cases_lt, false_from_ne_true}
 use Rattle.std.proofs.lemmas.List.{get_or_past}
 use Rattle.std.proofs.lemmas.Option.{none-some}
 use Rattle.ldm_regions.specs.Layout.{Owned}
-use Rattle.ldm_book.specs.declared.row.Row.{Row}
-use Rattle.ldm_book.specs.Slots.{Slots, row_at, row_region, AreFree}
+use Rattle.ldm_book.specs.Products.{kept_region}
+use Rattle.ldm_book.specs.View.{Kept}
+use Rattle.ldm_book.specs.Slots.{Slots, row_at, AreFree}
 
 -- a slot with a product is one of the slots
-pub filled_within : (slots : Slots) (k : ℕ) (row : Row) → row_at slots k ≡ Some row → k < length slots
+pub filled_within : (slots : Slots) (k : ℕ) (row : Kept) → row_at slots k ≡ Some row → k < length slots
 filled_within slots k row here =
     elim (cases_lt k (length slots)) [ inl within ↦ within | inr past ↦ absurd (none-some row (sym (get_or_past slots k None past) ∙ here)) ]
 
@@ -34,7 +35,7 @@ all_more P [] k all last = (last, tt)
 all_more P (x ∷ xs) k all last = (all.0, all_more P xs k all.1 last)
 
 -- an emptied slot is one more free slot
-pub free-emptied : (slots : Slots) (slot : ℕ) (row : Row) → row_at slots slot ≡ Some row → (free : List ℕ) → AreFree slots free → AreFree (set slots slot None) (free ++ slot ∷ [])
+pub free-emptied : (slots : Slots) (slot : ℕ) (row : Kept) → row_at slots slot ≡ Some row → (free : List ℕ) → AreFree slots free → AreFree (set slots slot None) (free ++ slot ∷ [])
 free-emptied slots slot row here [] are =
     (omega (arith, length-set slots slot None, filled_within slots slot row here), emptied slots slot, tt, tt)
 free-emptied slots slot row here (k ∷ ks) are =
@@ -42,13 +43,13 @@ free-emptied slots slot row here (k ∷ ks) are =
     (omega (arith, length-set slots slot None, are.0), emptied-other slots slot k apart ∙ are.1, all_more (λ other. other ≢ k) ks slot are.2 (λ is. apart (sym is)), free-emptied slots slot row here ks are.3)
 
 -- the region of an emptied slot is owned no more
-pub owned-emptied : (slots : Slots) (slot : ℕ) (owned : Owned) → ((k : ℕ) → fin.get owned k ≡ option_map row_region (row_at slots k)) → (k : ℕ) → fin.get (fin.remove owned slot) k ≡ option_map row_region (row_at (set slots slot None) k)
+pub owned-emptied : (slots : Slots) (slot : ℕ) (owned : Owned) → ((k : ℕ) → fin.get owned k ≡ option_map kept_region (row_at slots k)) → (k : ℕ) → fin.get (fin.remove owned slot) k ≡ option_map kept_region (row_at (set slots slot None) k)
 owned-emptied slots slot owned own k =
     fin.get-remove nat_cmp_total owned slot k
     ∙ elim (cases_eq k slot) [
       | inl is ↦ ap (λ b. cond b None (fin.get owned k)) (ap (λ k. eq_by_cmp nat_cmp k slot) is ∙ (eq_by_cmp_equiv nat_cmp_total).refl slot)
-          ∙ ap (option_map row_region) (sym (ap (row_at (set slots slot None)) is ∙ emptied slots slot))
+          ∙ ap (option_map kept_region) (sym (ap (row_at (set slots slot None)) is ∙ emptied slots slot))
       | inr apart ↦ ap (λ b. cond b None (fin.get owned k)) (false_from_ne_true _ (λ tie. apart (nat_cmp-IsAntisymmetric k slot ((Equal-is (nat_cmp k slot)).0 tie))))
           ∙ own k
-          ∙ ap (option_map row_region) (sym (emptied-other slots slot k apart))
+          ∙ ap (option_map kept_region) (sym (emptied-other slots slot k apart))
     ]

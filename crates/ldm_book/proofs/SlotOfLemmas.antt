@@ -8,7 +8,7 @@ use Rattle.std.proofs.lemmas.List.Sums.{fails_before_first, passes_at_first, pos
 use Rattle.std.proofs.lemmas.Option.{slice_get-get_or, slice_get_within, get_or_from_slice_get}
 use Rattle.std.proofs.lemmas.Slice.Eq.{bytes_eq-Decides}
 use Rattle.ldm_sigindex.specs.Index.{Table, has, slot_of, IsOneToOne}
-use Rattle.ldm_book.specs.declared.row.Row.{Row}
+use Rattle.ldm_book.specs.View.{Kept}
 use Rattle.ldm_book.specs.Slots.{Slots, row_at, signature_of}
 use Rattle.ldm_book.proofs.RowAtLemmas.{filled_within}
 
@@ -19,7 +19,7 @@ signature_at (held ∷ slots) zero = refl
 signature_at (held ∷ slots) (suc k) = signature_at slots k
 
 -- the signature of a product stands in the table of the signatures
-pub stands_at : (slots : Slots) (k : ℕ) (row : Row) → row_at slots k ≡ Some row → slice_get (map signature_of slots) k ≡ Some (Some row.info.signature)
+pub stands_at : (slots : Slots) (k : ℕ) (row : Kept) → row_at slots k ≡ Some row → slice_get (map signature_of slots) k ≡ Some (Some row.signature)
 stands_at slots k row at =
     let inside = filled_within slots k row at in
     let len = length-map slots signature_of in
@@ -51,5 +51,5 @@ slot_of_found table slot signature once there =
     ∙ ap (λ k. Some k) (once first slot signature (slice_get-get_or table first None within ∙ ap (λ o. Some o) held) there)
 
 -- the slot of a product is found by its signature
-pub slot_of_row : (slots : Slots) (slot : ℕ) (row : Row) → row_at slots slot ≡ Some row → IsOneToOne (map signature_of slots) → slot_of (map signature_of slots) row.info.signature ≡ Some slot
-slot_of_row slots slot row here once = slot_of_found (map signature_of slots) slot row.info.signature once (stands_at slots slot row here)
+pub slot_of_row : (slots : Slots) (slot : ℕ) (row : Kept) → row_at slots slot ≡ Some row → IsOneToOne (map signature_of slots) → slot_of (map signature_of slots) row.signature ≡ Some slot
+slot_of_row slots slot row here once = slot_of_found (map signature_of slots) slot row.signature once (stands_at slots slot row here)

@@ -3,7 +3,7 @@ use Rattle.std.proofs.Common.{◌≡◌, ℕ, zero, suc, ◌+◌, ◌<◌, ◌�
 use Rattle.std.specs.Prelude.{◌==◌, nat_le, is_some}
 use Rattle.std.specs.List.{AllByRecursion, list_any}
 use Rattle.std.specs.Option.{option_map}
-use Rattle.std.proofs.lemmas.Bool.{false≢true, eq-eqb, eqb-true, cases_eq}
+use Rattle.std.proofs.lemmas.Bool.{false≢true, eq-eqb, eqb-true, cases_eq, or_right}
 use Rattle.std.proofs.lemmas.Bool.Decides.{leb_tells}
 use Rattle.ldm_types.specs.Arena.{Region, is_covered, with_free, free_runs, gaps, shorter, best_gap, fit}
 
@@ -83,10 +83,6 @@ long_from_begins from need (gap ∷ gs) h = elim (leb_tells need gap.extent) [
   | inr gt ↦ absurd (omega (arith, gt.1, h.1))
 ]
 
-or_more : (a b : Bool) → b ≡ true → (a || b) ≡ true
-or_more true b e = refl
-or_more false b e = e
-
 long_more : (need extent : ℕ) (rest b : Bool) → leb need extent ≡ b → (b || rest) ≡ true → (leb need (extent + 1) || rest) ≡ true
 long_more need extent rest b e h = elim (leb_tells need (extent + 1)) [
   | inl long ↦ ap (λ (x : Bool). x || rest) long.0
@@ -103,7 +99,7 @@ long_kept need p (gap ∷ gs) h = by_test (gap.start == p + 1)
   where
     by_test : (b : Bool) → has_long need (cond b (record { start = p; extent = gap.extent + 1 } ∷ gs) (record { start = p; extent = 1 } ∷ gap ∷ gs)) ≡ true
     by_test true = long_more need gap.extent (has_long need gs) (leb need gap.extent) refl h
-    by_test false = or_more (leb need 1) (has_long need (gap ∷ gs)) h
+    by_test false = or_right (leb need 1) (has_long need (gap ∷ gs)) h
 
 -- where so many positions are free there is a gap as long
 long_there : (occupied : List Region) (m start from count : ℕ) → from ≤ start → start + suc m ≤ from + count → IsFree occupied start (start + suc m) → has_long (suc m) (free_runs occupied from count) ≡ true

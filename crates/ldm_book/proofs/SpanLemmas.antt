@@ -55,10 +55,6 @@ weaker : (at need place more : ℕ) (spans : List Span) → place ≤ more → A
 weaker at need place more [] h all = tt
 weaker at need place more (span ∷ spans) h all = (elim all.0 [ inl e ↦ inl e | inr e ↦ inr (omega arith) ], weaker at need place more spans h all.1)
 
-or_more : (a b : Bool) → b ≡ true → (a || b) ≡ true
-or_more true b e = refl
-or_more false b e = e
-
 or_shift : (a b c : Bool) → (b || c) ≡ true → ((a || b) || c) ≡ true
 or_shift true b c e = refl
 or_shift false b c e = e

@@ -1,24 +1,22 @@
 -- What is left where the product of a number is taken out of its slot.
-use Rattle.std.proofs.Common.{◌≡◌, ◌≢◌, ℕ, suc, ◌+◌, ◌≤◌, List, [], ◌∷◌, ◌++◌, length, map, get_or, set, Option, Some, None, refl, sym, ap, subst, ◌∙◌, inl, inr, length-append, length-set, arith}
+use Rattle.std.proofs.Common.{◌≡◌, ◌≢◌, ℕ, suc, ◌+◌, ◌≤◌, List, [], ◌∷◌, ◌++◌, length, map, set, Option, Some, None, refl, sym, ap, subst, ◌∙◌, inl, inr, length-append, length-set, arith}
 use Rattle.std.specs.FinMap as fin
 use Rattle.std.specs.List.{AllByRecursion, Any, find}
 use Rattle.std.specs.Option.{option_map}
 use Rattle.std.specs.Vec.{vec_capacity}
 use Rattle.std.proofs.lemmas.Bool.{cases_eq}
-use Rattle.std.proofs.lemmas.List.{get_or_default, map-set}
-use Rattle.std.proofs.lemmas.Option.{none-some, same_Some, some_pair_parts}
-use Rattle.ldm_model.specs.Product.{extent_of}
+use Rattle.std.proofs.lemmas.List.{map-set}
+use Rattle.std.proofs.lemmas.Option.{none-some, some_pair_parts}
 use Rattle.ldm_model.specs.Stat.{extents}
 use Rattle.ldm_regions.specs.Layout.{Layout, Tiles, without_owner}
 use Rattle.ldm_sigindex.specs.Index.{Table, slot_of, IsOneToOne}
 use Rattle.ldm_timeindex.specs.Times.{Queued, IsRising, at_number, number_and_slot}
-use Rattle.ldm_book.specs.declared.row.Row.{Row}
 use Rattle.ldm_book.specs.declared.products.Products.TheInside.{Inside}
 use Rattle.ldm_book.specs.View.{Kept}
-use Rattle.ldm_book.specs.Products.{ProductsView, kept_region, without}
-use Rattle.ldm_book.specs.Slots.{Slots, row_at, row_region, signature_of, info_of, place_of, kept_entry, kept_entries, products_of, IsAt, HasSlot, AreFree, IsSlotted}
+use Rattle.ldm_book.specs.Products.{ProductsView, kept_extent, kept_region, without}
+use Rattle.ldm_book.specs.Slots.{Slots, row_at, signature_of, slots_of, with_entry, kept_entry, kept_entries, products_of, kept_or_none, IsAt, HasSlot, AreFree, IsSlotted}
 use Rattle.ldm_book.proofs.EntryLemmas.{others, all_others, IsAmong, among, any_entry, all_middle, rows-others, slot_middle, extents_middle}
-use Rattle.ldm_book.proofs.RowAtLemmas.{filled_within, emptied, emptied-other, free-emptied, owned-emptied}
+use Rattle.ldm_book.proofs.RowAtLemmas.{emptied, emptied-other, free-emptied, owned-emptied}
 use Rattle.ldm_book.proofs.KeptEntryLemmas.{other_slot}
 use Rattle.ldm_book.proofs.SlotOfLemmas.{slot_of_row}
 
@@ -26,20 +24,20 @@ use Rattle.ldm_book.proofs.SlotOfLemmas.{slot_of_row}
 kept-emptied : (slots : Slots) (slot : ℕ) (es : List Queued) → AllByRecursion (λ e. e.slot ≢ slot) es → kept_entries (set slots slot None) es ≡ kept_entries slots es
 kept-emptied slots slot [] apart = refl
 kept-emptied slots slot (e ∷ es) apart =
-    ap (λ (o : Option Row). record { number = e.n; info = info_of o; time = e.time; place = place_of o } ∷ kept_entries (set slots slot None) es) (emptied-other slots slot e.slot apart.0)
+    ap (λ (o : Option Kept). with_entry e o ∷ kept_entries (set slots slot None) es) (emptied-other slots slot e.slot apart.0)
     ∙ ap (λ ks. kept_entry slots e ∷ ks) (kept-emptied slots slot es apart.1)
 
 -- an entry has that number and that slot, and the slot has its product
 pub record IsNumbered (slots : Slots) (es : List Queued) (n slot : ℕ) : Type 0 where
   pub among : IsAmong n es
   pub has : among.entry.slot ≡ slot
-  pub row : Row
+  pub row : Kept
   pub here : row_at slots slot ≡ Some row
-  pub number : row.n ≡ n
+  pub number : row.number ≡ n
 
 -- the number of a product is the number of an entry
 pub any_number : (p : Inside) {view : ProductsView} (n : ℕ) → products_of p ≡ view → Any (λ k. k.number ≡ n) view.rows → Any (λ e. e.n ≡ n) p.by_number.entries
-any_number p n is any = any_entry p.slots.items n p.by_number.entries (subst (λ (v : ProductsView). Any (λ k. k.number ≡ n) v.rows) (sym is) any)
+any_number p n is any = any_entry (slots_of p) n p.by_number.entries (subst (λ (v : ProductsView). Any (λ k. k.number ≡ n) v.rows) (sym is) any)
 
 -- the index finds a number that a product has
 pub number_found : {p : Inside} {view : ProductsView} (n : ℕ) → IsSlotted p → products_of p ≡ view → Any (λ k. k.number ≡ n) view.rows → None ≡ option_map number_and_slot (find (at_number n) p.by_number.entries) → ⊥
@@ -48,28 +46,20 @@ number_found {p} n slotted is any none =
     none-some (number_and_slot there.entry) (none ∙ ap (option_map number_and_slot) there.first)
 
 -- the slot that it finds is the one of the product
-pub numbered : {p : Inside} {view : ProductsView} {slot found : ℕ} (n : ℕ) → IsSlotted p → products_of p ≡ view → Any (λ k. k.number ≡ n) view.rows → Some (found, slot) ≡ option_map number_and_slot (find (at_number n) p.by_number.entries) → IsNumbered p.slots.items p.by_number.entries n slot
+pub numbered : {p : Inside} {view : ProductsView} {slot found : ℕ} (n : ℕ) → IsSlotted p → products_of p ≡ view → Any (λ k. k.number ≡ n) view.rows → Some (found, slot) ≡ option_map number_and_slot (find (at_number n) p.by_number.entries) → IsNumbered (slots_of p) p.by_number.entries n slot
 numbered {p} {view} {slot} {found} n slotted is any first =
     let there = among n p.by_number.entries slotted.rising (any_number p n is any) in
     let has = sym (some_pair_parts found there.entry.n slot there.entry.slot (first ∙ ap (option_map number_and_slot) there.first)).1 in
-    let at = all_middle (IsAt p.slots.items) there.before there.entry there.behind (subst (AllByRecursion (IsAt p.slots.items)) there.parts slotted.entries) in
+    let at = all_middle (IsAt (slots_of p)) there.before there.entry there.behind (subst (AllByRecursion (IsAt (slots_of p))) there.parts slotted.entries) in
     record {
       among = there;
       has = has;
       row = at.0;
-      here = ap (row_at p.slots.items) (sym has) ∙ at.1;
+      here = ap (row_at (slots_of p)) (sym has) ∙ at.1;
       number = at.2 ∙ there.number;
     }
 
 module _ {slots : Slots} {es : List Queued} {n slot : ℕ} (at : IsNumbered slots es n slot) where
-  -- what a read of the slot gives
-  pub read : (d : Option Row) → d ≡ get_or slots slot d → d ≡ Some at.row
-  read d is = is ∙ get_or_default slots slot d None (filled_within slots slot at.row at.here) ∙ at.here
-
-  -- the product that a read of the slot gives
-  pub row_read : (row : Row) (d : Option Row) → Some row ≡ d → d ≡ get_or slots slot d → row ≡ at.row
-  row_read row d some is = same_Some row at.row (some ∙ read d is)
-
   -- an entry of another number has another slot
   slot_apart : (e : Queued) → e.n ≢ n → IsAt slots e → e.slot ≢ slot
   slot_apart e apart is = other_slot slots e.slot slot is.0 at.row is.1 at.here (λ same. apart (sym is.2 ∙ same ∙ at.number))
@@ -83,7 +73,7 @@ module _ {slots : Slots} {es : List Queued} {n slot : ℕ} (at : IsNumbered slot
   kept_left all = kept-emptied slots slot (others n es) (all_others (IsAt slots) (λ e. e.slot ≢ slot) n slot_apart es all)
 
   -- each product that is left has an entry
-  listed_left : ((k : ℕ) (row : Row) → row_at slots k ≡ Some row → HasSlot k es) → (k : ℕ) (row : Row) → row_at (set slots slot None) k ≡ Some row → HasSlot k (others n es)
+  listed_left : ((k : ℕ) (row : Kept) → row_at slots k ≡ Some row → HasSlot k es) → (k : ℕ) (row : Kept) → row_at (set slots slot None) k ≡ Some row → HasSlot k (others n es)
   listed_left listed k row is =
       elim (cases_eq k slot) [
         | inl same ↦ absurd (none-some row (sym (ap (row_at (set slots slot None)) same ∙ emptied slots slot) ∙ is))
@@ -98,23 +88,24 @@ module _ {slots : Slots} {es : List Queued} {n slot : ℕ} (at : IsNumbered slot
   count_left = omega (arith, ap length at.among.parts, ap length at.among.left, length-append at.among.before (at.among.entry ∷ at.among.behind), length-append at.among.before at.among.behind)
 
   -- the extents that are left
-  pub extents_left : AllByRecursion (IsAt slots) es → extents (map kept_region (kept_entries slots es)) ≡ extent_of at.row.info + extents (map kept_region (kept_entries (set slots slot None) (others n es)))
+  pub extents_left : AllByRecursion (IsAt slots) es → extents (map kept_region (kept_entries slots es)) ≡ kept_extent at.row + extents (map kept_region (kept_entries (set slots slot None) (others n es)))
   extents_left all =
       ap (λ es. extents (map kept_region (kept_entries slots es))) at.among.parts
       ∙ extents_middle slots at.among.before at.among.entry at.among.behind
-      ∙ ap (λ (o : Option Row). extent_of (info_of o) + extents (map kept_region (kept_entries slots (at.among.before ++ at.among.behind)))) (ap (row_at slots) at.has ∙ at.here)
-      ∙ ap (λ es. extent_of at.row.info + extents (map kept_region (kept_entries slots es))) (sym at.among.left)
-      ∙ ap (λ (ks : List Kept). extent_of at.row.info + extents (map kept_region ks)) (sym (kept_left all))
+      ∙ ap (λ (o : Option Kept). kept_extent (kept_or_none o) + extents (map kept_region (kept_entries slots (at.among.before ++ at.among.behind)))) (ap (row_at slots) at.has ∙ at.here)
+      ∙ ap (λ es. kept_extent at.row + extents (map kept_region (kept_entries slots es))) (sym at.among.left)
+      ∙ ap (λ (ks : List Kept). kept_extent at.row + extents (map kept_region ks)) (sym (kept_left all))
 
 -- the index by signature finds the slot of a product
-pub slot_by_signature : {p : Inside} (slot : ℕ) (row : Row) → IsSlotted p → row_at p.slots.items slot ≡ Some row → slot_of p.by_signature row.info.signature ≡ Some slot
+pub slot_by_signature : {p : Inside} (slot : ℕ) (row : Kept) → IsSlotted p → row_at (slots_of p) slot ≡ Some row → slot_of p.by_signature row.signature ≡ Some slot
 slot_by_signature {p} slot row slotted here =
-    ap (λ (table : Table). slot_of table row.info.signature) slotted.signatures
-    ∙ slot_of_row p.slots.items slot row here (subst IsOneToOne slotted.signatures slotted.one_to_one)
+    ap (λ (table : Table). slot_of table row.signature) slotted.signatures
+    ∙ slot_of_row (slots_of p) slot row here (subst IsOneToOne slotted.signatures slotted.one_to_one)
 
 -- each part is without the product of that number and that slot
-pub record HasLeft (p q : Inside) (n slot : ℕ) (row : Row) : Type 0 where
-  pub slots : q.slots.items ≡ set p.slots.items slot None
+pub record HasLeft (p q : Inside) (n slot : ℕ) (row : Kept) : Type 0 where
+  pub slots : slots_of q ≡ set (slots_of p) slot None
+  pub rowed : length q.slots.items ≡ length p.slots.items
   pub free : q.free.items ≡ p.free.items ++ slot ∷ []
   pub roomy : vec_capacity p.free ≤ vec_capacity q.free
   pub regions : q.regions ≡ without_owner p.regions slot
@@ -124,18 +115,19 @@ pub record HasLeft (p q : Inside) (n slot : ℕ) (row : Row) : Type 0 where
   pub numbered : q.by_number.slots ≡ p.by_number.slots
   pub entries : q.by_number.entries ≡ others n p.by_number.entries
   pub rising : IsRising q.by_number.entries
-  pub used : q.used + extent_of row.info ≡ p.used
+  pub used : q.used + kept_extent row ≡ p.used
 
-module _ {p q : Inside} {n slot : ℕ} (slotted : IsSlotted p) (at : IsNumbered p.slots.items p.by_number.entries n slot) (left : HasLeft p q n slot at.row) where
+module _ {p q : Inside} {n slot : ℕ} (slotted : IsSlotted p) (at : IsNumbered (slots_of p) p.by_number.entries n slot) (left : HasLeft p q n slot at.row) where
   -- the others are kept in slots as before
   pub slotted_left : IsSlotted q
   slotted_left =
-      let slots = p.slots.items in
+      let slots = slots_of p in
       let es = p.by_number.entries in
       let as_many : q.regions.slots ≡ p.regions.slots = ap (λ (r : Layout). r.slots) left.regions in
       let extents_now = ap (λ s. extents (map kept_region (kept_entries s q.by_number.entries))) left.slots ∙ ap (λ es. extents (map kept_region (kept_entries (set slots slot None) es))) left.entries in
       record {
         as_many = ap length left.slots ∙ length-set slots slot None ∙ slotted.as_many ∙ sym as_many;
+        rowed = left.rowed ∙ slotted.rowed ∙ sym as_many;
         numbered = left.numbered ∙ slotted.numbered ∙ sym as_many;
         rising = left.rising;
         entries =
@@ -149,7 +141,7 @@ module _ {p q : Inside} {n slot : ℕ} (slotted : IsSlotted p) (at : IsNumbered 
         one_to_one = left.one_to_one;
         owned = λ k.
             ap (λ (r : Layout). fin.get r.owned k) left.regions ∙ owned-emptied slots slot p.regions.owned slotted.owned k
-            ∙ ap (λ s. option_map row_region (row_at s k)) (sym left.slots);
+            ∙ ap (λ s. option_map kept_region (row_at s k)) (sym left.slots);
         tiles = left.tiles;
         free =
             subst (λ s. AreFree s q.free.items) (sym left.slots)
@@ -164,8 +156,8 @@ module _ {p q : Inside} {n slot : ℕ} (slotted : IsSlotted p) (at : IsNumbered 
   -- the products that are left are those of other numbers
   pub products_left : products_of q ≡ without n (products_of p)
   products_left =
-      let slots = p.slots.items in
+      let slots = slots_of p in
       let es = p.by_number.entries in
-      ap (λ (r : Layout). record { arena = r.arena; slots = r.slots; rows = kept_entries q.slots.items q.by_number.entries }) left.regions
+      ap (λ (r : Layout). record { arena = r.arena; slots = r.slots; rows = kept_entries (slots_of q) q.by_number.entries }) left.regions
       ∙ ap (λ rows. record { arena = p.regions.arena; slots = p.regions.slots; rows = rows })
-      (ap (λ s. kept_entries s q.by_number.entries) left.slots ∙ ap (kept_entries (set slots slot None)) left.entries ∙ kept_left at slotted.entries ∙ sym (rows-others slots n es))
+      (ap (λ (s : Slots). kept_entries s q.by_number.entries) left.slots ∙ ap (kept_entries (set slots slot None)) left.entries ∙ kept_left at slotted.entries ∙ sym (rows-others slots n es))

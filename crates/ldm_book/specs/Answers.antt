@@ -3,7 +3,7 @@ use Rattle.std.specs.Prelude.{◌≡◌, ◌<◌}
 use Rattle.std.specs.List.{Contains}
 use Rattle.ldm_model.specs.declared.event.Reply.{Reply}
 use Rattle.ldm_model.specs.Outcome.{Outcome}
-use Rattle.ldm_book.specs.View.{BookView, Kept}
+use Rattle.ldm_book.specs.View.{BookView, Kept, stored_bytes}
 use Rattle.ldm_book.specs.Stands.{StandsFor}
 
 -- the reply of the queue and the state that follows, for a book
@@ -11,6 +11,11 @@ pub record Follows (answer : Reply) (new : BookView) (outcome : Outcome) : Type 
   pub reply : answer ≡ outcome.reply
   pub state : StandsFor new outcome.state
 
--- each product that was queued before, and is still queued, stands as it was: with its metadata, at its place
+-- a product was queued before as it is now, at its place, and there its bytes are what they were
+pub record Stays (old new : BookView) (k : Kept) : Type 0 where
+  pub queued : Contains old.rows k
+  pub bytes : stored_bytes new.bytes k ≡ stored_bytes old.bytes k
+
+-- each product that was queued before, and is still queued, stays
 abbrev pub KeepsPlaces : BookView → BookView → Type 0
-KeepsPlaces old new = (k : Kept) → Contains new.rows k → k.number < old.admitted → Contains old.rows k
+KeepsPlaces old new = (k : Kept) → Contains new.rows k → k.number < old.admitted → Stays old new k

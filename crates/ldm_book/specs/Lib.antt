@@ -1,4 +1,5 @@
 pub mod View
+pub mod Stored
 pub mod Products
 pub mod Slots
 pub mod Stands

@@ -6,7 +6,7 @@ use Rattle.ldm_model.specs.declared.event.Reply.TheVariants as reply
 use Rattle.ldm_book.specs.View.{Kept}
 
 abbrev pub kept_signature : List ℕ → Kept → Bool
-kept_signature signature k = bytes_eq k.info.signature signature
+kept_signature signature k = bytes_eq k.signature signature
 
 -- the kept row of that signature
 abbrev pub kept_with : List ℕ → List Kept → Option Kept

@@ -1,13 +1,14 @@
 -- Where a cursor begins, and making room for a product by evicting the oldest ones that nobody holds.
-use Rattle.std.specs.Prelude.{◌≡◌, ℕ, ◌+◌, ◌<◌, ◌≤◌, true, List, [], ◌∷◌, ◌++◌, length, Option, Some, None}
+use Rattle.std.specs.Prelude.{◌≡◌, ℕ, ◌+◌, ◌<◌, ◌≤◌, Bool, true, false, List, [], ◌∷◌, ◌++◌, length, Option, Some, None}
 use Rattle.std.specs.List.{find}
-use Rattle.std.specs.Option.{option_map}
+use Rattle.std.specs.Option.{MatchOption, option_map}
 use borrow.Rule.Slice.PartMut.{put_mid}
 use Rattle.ldm_types.specs.Info.{Metadata}
-use Rattle.ldm_model.specs.Product.{extent_of}
 use Rattle.ldm_model.specs.declared.event.Start.{Start}
 use Rattle.ldm_model.specs.declared.event.Start.TheVariants.{Oldest, Next, After, AfterSignature}
-use Rattle.ldm_book.specs.View.{BookView, Kept, body_start}
+use Rattle.ldm_model.specs.Product.{extent_of}
+use Rattle.ldm_book.specs.View.{BookView, Kept, kept_of}
+use Rattle.ldm_book.specs.Stored.{bytes_of}
 use Rattle.ldm_book.specs.Lookup.{kept_with}
 use Rattle.ldm_book.specs.Products.{room_for, is_later}
 use Rattle.ldm_book.specs.Readers.{products, unheld_numbers, without_oldest}
@@ -35,20 +36,27 @@ IsTimely (Some last) time = last < time
 
 -- the product that is put in at a place
 abbrev pub new_kept : BookView → ℕ → Metadata → ℕ → Kept
-new_kept book time info place = record { number = book.admitted; info = info; time = time; place = place }
+new_kept book time info place = kept_of book.admitted time place info
 
--- the arena with the body of a product
-abbrev pub written : List ℕ → List ℕ → Kept → List ℕ
-written bytes body k = put_mid (body_start k) (length body) bytes body
+-- the arena with the bytes of a product from a place on
+abbrev pub written : List ℕ → List ℕ → ℕ → List ℕ
+written bytes new place = put_mid place (length new) bytes new
 
--- a book with one product more, behind the others, and with its body
+-- a book with one product more, behind the others, and with its bytes
 abbrev pub grown : BookView → ℕ → Metadata → List ℕ → ℕ → BookView
 grown book time info body place = record book {
-  bytes = written book.bytes body (new_kept book time info place);
+  bytes = written book.bytes (bytes_of (record { info = info; body = body })) place;
   admitted = book.admitted + 1;
   last = Some time;
   rows = book.rows ++ new_kept book time info place ∷ [];
 }
+
+-- Whether there was room for a product, and what the book is then: where there was, it has the product where it goes.
+abbrev pub Puts : ℕ → Metadata → List ℕ → BookView → Bool → BookView → Type 0
+Puts time info body old result new =
+    MatchOption (room_for (products old) (extent_of info))
+    ((result ≡ false) × (new ≡ old))
+    (λ place. (result ≡ true) × (new ≡ grown old time info body place))
 
 -- A product was put in: there was no room for it until so many products were evicted, the oldest first of those that
 -- nobody holds, and then it went where there was room.

@@ -1,9 +1,8 @@
 -- What a contract sees of the products of a queue.
-use Rattle.std.specs.Prelude.{ℕ, ◌+◌, ◌<◌, ◌≤◌, Bool, not, ◌==◌, ◌&&◌, nat_le, nat_lt, List, [], ◌∷◌, ◌++◌, length, map, filter, Option, None, if◌then◌else◌}
+use Rattle.std.specs.Prelude.{ℕ, ◌+◌, ◌*◌, ◌/◌, ◌<◌, ◌≤◌, Bool, not, ◌==◌, ◌&&◌, nat_le, nat_lt, List, [], ◌∷◌, ◌++◌, length, map, filter, Option, None, if◌then◌else◌}
 use Rattle.std.specs.List.{AllByRecursion}
 use Rattle.ldm_types.specs.Feed.{feeds_meet}
 use Rattle.ldm_types.specs.Arena.{Region, fit, AreApart}
-use Rattle.ldm_model.specs.Product.{extent_of}
 use Rattle.ldm_book.specs.View.{Kept}
 
 pub record ProductsView : Type 0 where
@@ -18,9 +17,16 @@ abbrev pub AreRising : List Kept → Type 0
 AreRising [] = Unit {0}
 AreRising (k ∷ ks) = AllByRecursion (λ other. k.number < other.number) ks × AreRising ks
 
+-- the bytes of the arena that so many bytes of metadata and of a body take, as `extent_of` of a product
+abbrev pub extent_from : ℕ → ℕ → ℕ
+extent_from head size = 8 * ((head + size + 7) / 8)
+
+abbrev pub kept_extent : Kept → ℕ
+kept_extent k = extent_from k.head k.size
+
 -- where a product lies
 abbrev pub kept_region : Kept → Region
-kept_region k = record { start = k.place; extent = extent_of k.info }
+kept_region k = record { start = k.place; extent = kept_extent k }
 
 abbrev pub kept_number : Kept → ℕ
 kept_number k = k.number
@@ -35,7 +41,7 @@ is_later time k = nat_lt time k.time
 
 -- whether a product has that number or a greater one, and feedtypes that meet these
 abbrev pub awaits : ℕ → ℕ → Kept → Bool
-awaits n feed k = nat_le n k.number && feeds_meet feed k.info.feed
+awaits n feed k = nat_le n k.number && feeds_meet feed k.feed
 
 -- whether a product has that very number
 abbrev pub has_number : ℕ → Kept → Bool
@@ -48,7 +54,7 @@ is_other n k = not (k.number == n)
 -- the products lie within the arena, and no two of them share a position
 abbrev pub LieApart : ℕ → List Kept → Type 0
 LieApart arena [] = Unit {0}
-LieApart arena (k ∷ ks) = (k.place + extent_of k.info ≤ arena) × AllByRecursion (λ other. AreApart (kept_region k) (kept_region other)) ks × LieApart arena ks
+LieApart arena (k ∷ ks) = (k.place + kept_extent k ≤ arena) × AllByRecursion (λ other. AreApart (kept_region k) (kept_region other)) ks × LieApart arena ks
 
 -- where a product of that extent goes, if a slot is free and a gap is long enough
 abbrev pub room_for : ProductsView → ℕ → Option ℕ

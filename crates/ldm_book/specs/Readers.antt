@@ -43,7 +43,7 @@ held_products book = record { arena = book.arena; slots = book.slots; rows = fil
 -- the feedtypes of a product, if there is one
 abbrev pub feed_of : Option Kept → ℕ
 feed_of None = 0
-feed_of (Some k) = k.info.feed
+feed_of (Some k) = k.feed
 
 -- a book after a product was evicted: the cursors that it was still to come to lose it
 abbrev pub without_product : ℕ → BookView → BookView

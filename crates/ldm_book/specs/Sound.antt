@@ -7,6 +7,7 @@ use Rattle.ldm_book.specs.declared.book.Book.TheInside.{Inside}
 use Rattle.ldm_book.specs.View.{BookView, Kept}
 use Rattle.ldm_book.specs.Products.{AreRising, LieApart}
 use Rattle.ldm_book.specs.Readers.{AreReading}
+use Rattle.ldm_book.specs.Stored.{HaveMetadata}
 
 abbrev pub view_of : Inside → BookView
 view_of b = record {
@@ -36,3 +37,5 @@ pub record IsSound (b : Inside) : Type 0 where
   pub admitted_small : b.admitted ≤ GREATEST_INSTANT + 1
   pub few : length b.products.rows ≤ b.admitted
   pub readers : AreReading b.admitted b.products.rows b.cursors
+  -- so that metadata can be read back from the arena
+  pub stored : HaveMetadata b.arena.items b.products.rows

@@ -3,15 +3,14 @@ use Rattle.std.specs.Prelude.{ℕ, ◌+◌, Bool, ◌&&◌, ◌||◌, nat_le, Li
 use Rattle.std.specs.List.{find, list_any, list_all}
 use Rattle.ldm_types.specs.Cursors.{KeptCursor}
 use Rattle.ldm_cursor.specs.Places.{held_of}
-use Rattle.ldm_model.specs.Product.{extent_of}
 use Rattle.ldm_book.specs.declared.spans.Span.{Span}
 use Rattle.ldm_book.specs.View.{Kept}
-use Rattle.ldm_book.specs.Products.{at_number}
+use Rattle.ldm_book.specs.Products.{at_number, kept_extent}
 
 -- where a kept product lies; without one nowhere, at the front of the arena
 abbrev pub span_of : Option Kept → Span
 span_of None = record { start = 0; back = 0 }
-span_of (Some k) = record { start = k.place; back = k.place + extent_of k.info }
+span_of (Some k) = record { start = k.place; back = k.place + kept_extent k }
 
 -- where the product of a number lies
 abbrev pub span_at : List Kept → Option ℕ → Span

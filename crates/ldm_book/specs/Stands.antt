@@ -1,15 +1,11 @@
 -- When a book stands for a state of the queue.
 use Rattle.std.specs.Prelude.{◌≡◌, ℕ, ◌+◌, List, [], ◌∷◌, length, map, Option, Some, None}
-use Rattle.std.specs.List.{AllByRecursion}
 use Rattle.std.specs.Option.{option_map}
 use Rattle.ldm_types.specs.Cursors.{Losses, KeptCursor}
-use Rattle.ldm_model.specs.State.{State, Cursor, Queued, end_of, last_time, queued}
+use Rattle.ldm_model.specs.State.{State, Cursor, end_of, last_time, queued}
 use Rattle.ldm_model.specs.Step.{least_of, greatest_of}
-use Rattle.ldm_book.specs.View.{BookView, kept, body_of}
-
--- the arena has the bodies of these rows
-abbrev pub HasBodies : List ℕ → List Queued → Type 0
-HasBodies bytes rows = AllByRecursion (λ q. body_of bytes (kept q) ≡ q.product.body) rows
+use Rattle.ldm_book.specs.View.{BookView, kept}
+use Rattle.ldm_book.specs.Stored.{AreStored}
 
 -- what is kept of losses: their number, and the least and the greatest of them
 abbrev pub losses_of : List ℕ → Option Losses
@@ -41,7 +37,7 @@ pub record StandsFor (book : BookView) (s : State) : Type 0 where
   pub last : book.last ≡ last_time s
   -- the kept rows are the present rows, in order
   pub rows : book.rows ≡ map kept (queued s)
-  -- whose bodies the arena has
-  pub bodies : HasBodies book.bytes (queued s)
+  -- whose metadata and bodies the arena has
+  pub stored : AreStored book.bytes (queued s)
   -- the kept cursors are the cursors, place by place
   pub cursors : book.cursors ≡ map kept_place s.cursors

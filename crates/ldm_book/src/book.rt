@@ -13,15 +13,17 @@ ghost use Rattle.ldm_model.specs.Step.{step as step_of};
 ghost use Rattle.ldm_model.specs.Read.{read as read_of};
 ghost use Rattle.ldm_model.specs.Release.{release as release_of, close as close_of};
 ghost use Rattle.ldm_model.specs.Tally.{tally as tally_of};
+ghost use Rattle.ldm_xdr.specs.Spelling.{Fits};
 ghost use Rattle.ldm_book.specs.Lookup.{kept_with};
 ghost use Rattle.ldm_book.specs.Products.{AreRising, LieApart, has_number, room_for};
 ghost use Rattle.ldm_book.specs.Spans.{held_span};
-ghost use Rattle.ldm_book.specs.Making.{IsTimely, PutEvicting, grown, start_at};
+ghost use Rattle.ldm_book.specs.Making.{IsTimely, Puts, PutEvicting, start_at};
 
 use crate::fault::CreateFault;
 use crate::products::Products;
 use crate::row::extent;
 use crate::spans::{Span, has_gap};
+use crate::stored::{metadata_at, write_product};
 use ldm_cursor::Cursors;
 use ldm_model::{
     CloseReply, ExpireReply, InsertReply, LookReply, OpenReply, ReadReply, ReleaseReply, Start,
@@ -220,7 +222,7 @@ impl Book {
                 StepReply::Product {
                     n: row.n,
                     time: row.time,
-                    info: row.info.copy(),
+                    info: metadata_at(&self.arena, row.place),
                 }
             }
             None => {
@@ -236,6 +238,7 @@ impl Book {
     pub fn read(&mut self, actor: Actor, k: CursorNo, offset: u32, into: &mut [u8]) -> ReadReply
         ensures answers { (s : State) → StandsFor self.old s → Follows (read_answer result into.new) self.new (read_of s actor k offset (asked_bytes (length into.old))) }
         ensures unchanged { self.new ≡ self.old }
+        ensures few { bytes_read result ≤ length into.old }
         ensures rest { drop (bytes_read result) into.new ≡ drop (bytes_read result) into.old }
     {
         if !self.cursors.owned(actor, k) {
@@ -247,12 +250,12 @@ impl Book {
         let Some(row) = self.products.first_row(n) else {
             unreachable!()
         };
-        let size = row.info.size();
+        let size = row.size;
         if offset > size {
             return ReadReply::BadOffset { size };
         }
         let len = into.len().min((size - offset) as usize);
-        let front = row.place as usize + info_len(&row.info) + offset as usize;
+        let front = row.place as usize + row.head as usize + offset as usize;
         into[..len].copy_from_slice(&self.arena[front..front + len]);
         ReadReply::Bytes { len: len as u32 }
     }
@@ -357,7 +360,7 @@ impl Book {
         let Some(row) = self.products.first_row(n) else {
             unreachable!()
         };
-        let feed = row.info.feed();
+        let feed = row.feed;
         self.products.take_out(n);
         self.cursors.lose(n, feed);
     }
@@ -377,7 +380,7 @@ impl Book {
         match self.products.first_row(n) {
             Some(row) => Span {
                 start: row.place,
-                back: row.place + extent(&row.info),
+                back: row.place + row.extent(),
             },
             None => Span::NONE,
         }
@@ -404,23 +407,24 @@ impl Book {
             && has_gap(&self.held_spans(), need, self.arena.len() as u64)
     }
 
-    // Puts a product in, and its body into the arena. Whether there was room.
+    // Puts a product in, and its metadata and its body into the arena. Whether there was room.
     fn put(&mut self, time: Micros, info: &Info, body: &[u8]) -> bool
         requires size { length body.now ≡ info.now.size }
         requires absent { kept_with info.now.signature self.old.rows ≡ None }
         requires timely { IsTimely self.old.last time }
         requires instant { time ≤ Micros.MAX }
-        ensures put { MatchOption (room_for (products self.old) (extent_of info.now)) ((result ≡ false) × (self.new ≡ self.old)) (λ place. (result ≡ true) × (self.new ≡ grown self.old time info.now body.now place)) }
+        ensures put { Puts time info.now body.now self.old result self.new }
         ensures within { IfSome (room_for (products self.old) (extent_of info.now)) (λ place. place + extent_of info.now ≤ self.old.arena) }
+        ensures fits { result ≡ true → Fits info.now }
         ensures sized { length self.old.bytes ≡ self.old.arena }
         ensures apart { LieApart self.new.arena self.new.rows }
     {
         let Some(place) = self.products.put(info, self.admitted, time) else {
             return false;
         };
-        let front = place as usize + info_len(info);
-        let back = front + body.len();
-        self.arena[front..back].copy_from_slice(body);
+        let start = place as usize;
+        let end = start + info_len(info) + body.len();
+        write_product(&mut self.arena[start..end], info, body);
         self.admitted += 1;
         self.last = Some(time);
         true
@@ -435,6 +439,7 @@ impl Book {
         requires full { room_for (products self.old) (extent_of info.now) ≡ None }
         requires beside { is_some (room_for (held_products self.old) (extent_of info.now)) ≡ true }
         ensures put { PutEvicting result time info.now body.now self.old self.new }
+        ensures fits { Fits info.now }
         ensures apart { LieApart self.new.arena self.new.rows }
     {
         let mut evicted = 0;

@@ -11,6 +11,7 @@ mod laws;
 mod products;
 mod row;
 mod spans;
+mod stored;
 
 pub use book::Book;
 pub use fault::CreateFault;

@@ -9,9 +9,10 @@ ghost use Rattle.ldm_model.specs.Answers.{look_answer};
 ghost use Rattle.ldm_book.specs.Lookup.{kept_with, look_kept};
 ghost use Rattle.ldm_book.specs.Products.{kept_region, at_number, awaits, is_later, kept_number, AreRising, LieApart, room_for, with_row, without};
 ghost use Rattle.ldm_book.specs.RowKept.{row_kept};
+ghost use Rattle.ldm_book.specs.View.{kept_of};
 
-use ldm_model::LookReply;
 use crate::row::{Row, extent};
+use ldm_model::LookReply;
 use ldm_regions::Regions;
 use ldm_sigindex::SigIndex;
 use ldm_timeindex::TimeIndex;
@@ -28,7 +29,8 @@ use std::marker::Model;
 /// `create` takes all memory; the other calls take none, and do not walk over the slots.
 #[derive(Drop)]
 pub(crate) struct Products {
-    slots: Vec<Option<Row>>,
+    // A slot that has no product keeps the row of the last one that it had.
+    slots: Vec<Row>,
     // The slots that have no product. The last of them is the next to get one.
     free: Vec<u32>,
     regions: Regions,
@@ -60,14 +62,12 @@ impl Products {
         requires slots { slots ≤ MOST_SLOTS }
         ensures { IfOk result (λ products. products ≡ record { arena = arena; slots = slots; rows = [] }) }
     {
-        let mut kept = Vec::with_capacity(alloc, slots as usize)?;
         let mut free = Vec::with_capacity(alloc, slots as usize)?;
         for behind in 0..slots {
-            kept.push(None)?;
             free.push(slots - 1 - behind)?;
         }
         Ok(Products {
-            slots: kept,
+            slots: vec![in alloc; Row::unused(); slots as usize]?,
             free,
             regions: Regions::create(alloc, arena, slots)?,
             by_signature: SigIndex::create(alloc, slots)?,
@@ -105,12 +105,10 @@ impl Products {
         let Some(slot) = self.by_signature.find(signature) else {
             return LookReply::Absent;
         };
-        match &self.slots[slot as usize] {
-            Some(row) => LookReply::Queued {
-                n: row.n,
-                time: row.time,
-            },
-            None => unreachable!(),
+        let row = &self.slots[slot as usize];
+        LookReply::Queued {
+            n: row.n,
+            time: row.time,
         }
     }
 
@@ -132,10 +130,7 @@ impl Products {
         ensures rising { AreRising self.now.rows }
     {
         let (_, slot) = self.by_number.first_at(n)?;
-        match &self.slots[slot as usize] {
-            Some(row) => Some(row),
-            None => unreachable!(),
-        }
+        Some(&self.slots[slot as usize])
     }
 
     /// The number of the first product that was inserted later than that. `None` exactly where there is none.
@@ -155,7 +150,7 @@ impl Products {
     {
         let mut at = n;
         while let Some(row) = self.first_row(at) {
-            if feed.meets(row.info.feed()) {
+            if feed.meets(row.feed) {
                 return Some(row);
             }
             at = row.n + 1;
@@ -171,7 +166,7 @@ impl Products {
         let mut count = 0;
         let mut at = n;
         while let Some(row) = self.first_row(at) {
-            if feed.meets(row.info.feed()) {
+            if feed.meets(row.feed) {
                 count += 1;
             }
             at = row.n + 1;
@@ -194,7 +189,7 @@ impl Products {
         requires later { All (λ k. (k.number < n) × (k.time < time)) self.old.rows }
         ensures place { result ≡ room_for self.old (extent_of info.now) }
         ensures within { MatchOption result (Unit {0}) (λ place. place + extent_of info.now ≤ self.old.arena) }
-        ensures rows { MatchOption result (self.new ≡ self.old) (λ place. self.new ≡ with_row self.old (record { number = n; info = info.now; time = time; place = place })) }
+        ensures rows { MatchOption result (self.new ≡ self.old) (λ place. self.new ≡ with_row self.old (kept_of n time place info.now)) }
         ensures apart { LieApart self.new.arena self.new.rows }
     {
         let slot = *self.free.last()?;
@@ -203,12 +198,7 @@ impl Products {
         let _slot = self.free.pop();
         self.by_signature.put(info.signature(), slot);
         self.by_number.push(n, time, slot);
-        self.slots[slot as usize] = Some(Row {
-            info: info.copy(),
-            n,
-            time,
-            place,
-        });
+        self.slots[slot as usize] = Row::new(n, time, place, info);
         self.used += need;
         Some(place)
     }
@@ -222,13 +212,11 @@ impl Products {
         let Some((_, slot)) = self.by_number.first_at(n) else {
             unreachable!()
         };
-        let Some(row) = self.slots[slot as usize].take() else {
-            unreachable!()
-        };
+        let row = &self.slots[slot as usize];
         self.by_number.take_out(n);
-        self.by_signature.take_out(&row.info.signature());
+        self.by_signature.take_out(&row.signature);
         self.regions.give_back(slot);
-        self.used -= extent(&row.info);
+        self.used -= row.extent();
         let Ok(()) = self.free.push(slot) else {
             unreachable!()
         };

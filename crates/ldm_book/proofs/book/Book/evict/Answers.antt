@@ -7,6 +7,8 @@ use Rattle.ldm_book.specs.View.{BookView, Kept}
 use Rattle.ldm_book.specs.Products.{AreRising, ProductsView, has_number, is_other}
 use Rattle.ldm_book.specs.Readers.{AreReading}
 use Rattle.ldm_book.specs.Sound.{IsTimed}
+use Rattle.ldm_book.specs.Stored.{HasMetadata, HaveMetadata}
+use Rattle.ldm_book.proofs.EveryLemmas.{every_filter}
 use Rattle.ldm_book.proofs.FreeLemmas.{rising_left}
 use Rattle.ldm_book.proofs.IsTimedLemmas.{timed_below, timed_filter}
 use Rattle.ldm_book.proofs.ReadingLemmas.{reading-loss, fewer_left, any_of, found_any}
@@ -35,7 +37,8 @@ invariant_of-self c =
       readers =
           subst (λ (ks : List Kept). AreReading inside.admitted ks c.lose.new.self) (sym rows)
           (subst (λ (cs : Places). AreReading inside.admitted (filter (is_other c.args.n) inside.products.rows) cs) (sym c.lose.ensures.lost)
-          (reading-loss inside.admitted c.args.n c.feed-feed.result.0 inside.products.rows there inside.cursors free c.self.invariant.readers));
+          (reading-loss inside.admitted c.args.n c.in-Some.row.now.feed.0 inside.products.rows there inside.cursors free c.self.invariant.readers));
+      stored = subst (λ (ks : List Kept). HaveMetadata inside.arena.items ks) (sym rows) (every_filter (HasMetadata inside.arena.items) (is_other c.args.n) inside.products.rows c.self.invariant.stored);
     }
 
 pub take_out-requires : goal.take_out-requires

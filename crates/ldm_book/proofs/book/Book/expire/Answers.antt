@@ -1,8 +1,8 @@
-use Rattle.std.proofs.Common.{sym, subst}
+use Rattle.std.proofs.Common.{refl, sym, ap, subst}
 use Rattle.std.specs.List.{Contains}
 use Rattle.ldm_model.specs.declared.event.Reply.TheVariants as reply
 use Rattle.ldm_model.specs.Expire.{expire}
-use Rattle.ldm_book.specs.View.{BookView}
+use Rattle.ldm_book.specs.View.{BookView, stored_bytes}
 use Rattle.ldm_book.specs.Products.{is_other}
 use Rattle.ldm_book.specs.Answers.{Follows}
 use Rattle.ldm_book.proofs.ExpireLemmas.{contains_filter, expired, nothing}
@@ -24,7 +24,13 @@ returns-in-Some-clause-answers c = λ s stands.
 
 pub returns-in-Some-clause-places : goal.returns-in-Some-clause-places
 returns-in-Some-clause-places c = λ k in_new below.
-    contains_filter (is_other c.in-Some.n) c.args.self.now.rows k (subst (λ (b : BookView). Contains b.rows k) c.evict.ensures.evicted in_new)
+    record {
+      queued = contains_filter (is_other c.in-Some.n) c.args.self.now.rows k (subst (λ (b : BookView). Contains b.rows k) c.evict.ensures.evicted in_new);
+      bytes = ap (λ (b : BookView). stored_bytes b.bytes k) c.evict.ensures.evicted;
+    }
+
+pub returns-in-None-clause-places : goal.returns-in-None-clause-places
+returns-in-None-clause-places c = λ k in_new below. record { queued = in_new; bytes = refl }
 
 pub returns-in-None-clause-answers : goal.returns-in-None-clause-answers
 returns-in-None-clause-answers c = λ s stands. nothing c.args.self.now s stands c.in-None.ensures.first

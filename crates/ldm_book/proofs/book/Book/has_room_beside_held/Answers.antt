@@ -13,6 +13,7 @@ use Rattle.ldm_book.proofs.CountLemmas.{count-rows}
 use Rattle.ldm_book.proofs.FoundLemmas.{spans_within}
 use Rattle.ldm_book.proofs.HeldRoomLemmas.{gap-is}
 use Rattle.ldm_book.proofs.IsTimedLemmas.{timed_below}
+use Rattle.ldm_book.proofs.StoredLemmas.{headed}
 use Rattle.ldm_book.proofs.book.Book.has_room_beside_held.Goals as goal
 
 pub has_gap-requires-clause-within : goal.has_gap-requires-clause-within
@@ -33,7 +34,7 @@ returns-then-count_held-slots c =
     let slot : ltb (length held) inside.products.slots ≡ true = lt-ltb (length held) inside.products.slots (omega (arith, count, c.count_held.ensures.count, c.slots.ensures, c.if-count_held-slots.true)) in
     let gap : has_gap c.args.need c.len.result c.held_spans.result ≡ has_gap c.args.need inside.products.arena (map (held_span rows) inside.cursors) = λ i. has_gap c.args.need ((c.len.ensures ∙ c.self.invariant.arena) i) (spans i) in
     c.has_gap.ensures ∙ gap
-    ∙ gap-is inside.cursors inside.admitted inside.products.arena c.args.need rows c.self.invariant.rising c.self.invariant.readers c.requires.some
+    ∙ gap-is inside.cursors inside.admitted inside.products.arena c.args.need rows c.self.invariant.rising c.self.invariant.readers (headed inside.arena.items rows c.self.invariant.stored) c.requires.some
     ∙ sym (ap (λ (b : Bool). is_some (cond b (fit c.args.need (map kept_region held) inside.products.arena) None)) slot)
     ∙ ap (λ (a : ℕ). is_some (cond (ltb (length held) inside.products.slots) (fit c.args.need (map kept_region held) a) None)) (sym c.self.invariant.arena)
     ∙ ap (λ (b : BookView). is_some (room_for (held_products b) c.args.need)) c.self.view_is

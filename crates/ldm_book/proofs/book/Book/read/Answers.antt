@@ -1,4 +1,4 @@
-use Rattle.std.proofs.Common.{◌≡◌, ◌∙◌, ◌++◌, ◌+◌, ℕ, length, true, Some, None, sym, ap, subst, arith}
+use Rattle.std.proofs.Common.{◌≡◌, ◌∙◌, ◌++◌, ◌+◌, length, true, Some, None, sym, ap, subst, arith}
 use Rattle.std.specs.List.{between}
 use Rattle.ldm_types.specs.Cursors.{KeptCursor}
 use Rattle.ldm_cursor.specs.Places.{cursor_at}
@@ -45,26 +45,26 @@ pub overflow_add-front : goal.overflow_add-front
 overflow_add-front c =
     let row = row_kept c.in-Some-first_row.row in
     let lie = lie_found c.self.inside.products.arena (at_number c.in-Some.n) c.self.inside.products.rows row c.self.invariant.apart (sym c.in-Some-first_row.ensures.first) in
-    omega (arith, lie, c.info_len.ensures.value, c.size-size.ensures, c.self.invariant.arena, c.self.invariant.arena_small)
+    omega (arith, lie, c.self.invariant.arena, c.self.invariant.arena_small)
 
 pub overflow_add-front-2 : goal.overflow_add-front-2
 overflow_add-front-2 c =
     let row = row_kept c.in-Some-first_row.row in
     let lie = lie_found c.self.inside.products.arena (at_number c.in-Some.n) c.self.inside.products.rows row c.self.invariant.apart (sym c.in-Some-first_row.ensures.first) in
-    omega (arith, lie, c.info_len.ensures.value, c.size-size.ensures, c.self.invariant.arena, c.self.invariant.arena_small)
+    omega (arith, lie, c.self.invariant.arena, c.self.invariant.arena_small)
 
 pub overflow_add-front-3 : goal.overflow_add-front-3
 overflow_add-front-3 c =
     let row = row_kept c.in-Some-first_row.row in
     let lie = lie_found c.self.inside.products.arena (at_number c.in-Some.n) c.self.inside.products.rows row c.self.invariant.apart (sym c.in-Some-first_row.ensures.first) in
-    omega (arith, lie, c.info_len.ensures.value, c.size-size.ensures, c.min-len.ensures, c.self.invariant.arena, c.self.invariant.arena_small)
+    omega (arith, lie, c.min-len.ensures, c.self.invariant.arena, c.self.invariant.arena_small)
 
 pub slice_bounds-copy_from_slice-end-3 : goal.slice_bounds-copy_from_slice-end-3
 slice_bounds-copy_from_slice-end-3 c =
     let row = row_kept c.in-Some-first_row.row in
     let lie = lie_found c.self.inside.products.arena (at_number c.in-Some.n) c.self.inside.products.rows row c.self.invariant.apart (sym c.in-Some-first_row.ensures.first) in
     let bytes = c.self.inside.arena.ok.0 in
-    omega (arith, lie, bytes, c.info_len.ensures.value, c.size-size.ensures, c.min-len.ensures, c.self.invariant.arena, c.deref.ensures.len)
+    omega (arith, lie, bytes, c.min-len.ensures, c.self.invariant.arena, c.deref.ensures.len)
 
 pub returns-then-offset-size-clause-answers : goal.returns-then-offset-size-clause-answers
 returns-then-offset-size-clause-answers c = λ s stands.
@@ -74,9 +74,8 @@ returns-then-offset-size-clause-answers c = λ s stands.
     let some = at_cursor (λ (x : KeptCursor). Some c.in-Some.n ≡ x.held) (cursor_at inside.cursors c.args.k) (kept_cursor is.cursor) is.kept c.in-Some.ensures.value in
     let there = held_at_there inside.admitted inside.products.rows inside.cursors c.args.k c.in-Some.n (kept_cursor is.cursor) c.self.invariant.readers is.kept (sym some) in
     let row = row_kept c.in-Some-first_row.row in
-    subst (λ (n : ℕ). Follows (reply.BadOffset n) c.args.self.now (read s c.args.actor c.args.k c.args.offset (asked_bytes (length c.args.into.now)))) (sym c.size-size.ensures)
-    (subst (λ (b : BookView). Follows (reply.BadOffset row.info.size) b (read s c.args.actor c.args.k c.args.offset (asked_bytes (length c.args.into.now)))) c.self.view_is
-    (read-bad (view_of inside) s here c.args.actor c.args.k c.args.offset (asked_bytes (length c.args.into.now)) is c.in-Some.n there row (sym some) c.in-Some-first_row.ensures.first (omega (arith, c.size-size.ensures, c.if-offset-size.true))))
+    subst (λ (b : BookView). Follows (reply.BadOffset row.size) b (read s c.args.actor c.args.k c.args.offset (asked_bytes (length c.args.into.now)))) c.self.view_is
+    (read-bad (view_of inside) s here c.args.actor c.args.k c.args.offset (asked_bytes (length c.args.into.now)) is c.in-Some.n there row (sym some) c.in-Some-first_row.ensures.first (omega (arith, c.if-offset-size.true)))
 
 pub returns-clause-answers : goal.returns-clause-answers
 returns-clause-answers c = λ s stands.
@@ -88,11 +87,11 @@ returns-clause-answers c = λ s stands.
     let row = row_kept c.in-Some-first_row.row in
     let lie = lie_found inside.products.arena (at_number c.in-Some.n) inside.products.rows row c.self.invariant.apart (sym c.in-Some-first_row.ensures.first) in
     let bytes = inside.arena.ok.0 in
-    let front = c.in-Some-first_row.row.now.place + c.info_len.result + c.args.offset in
+    let front = c.in-Some-first_row.row.now.place + c.in-Some-first_row.row.now.head + c.args.offset in
     let part = copied inside.arena.items c.args.into.now c.copy_from_slice.new.self row front c.args.offset c.min-len.result (asked_bytes (length c.args.into.now))
-    (omega (arith, c.info_len.ensures.value)) (omega (arith, c.size-size.ensures, c.min-len.ensures, c.if-offset-size.false)) (omega (arith, c.size-size.ensures, c.min-len.ensures, c.if-offset-size.false, c.size-size.type_inv))
-    (omega (arith, lie, bytes, c.info_len.ensures.value, c.size-size.ensures, c.min-len.ensures, c.if-offset-size.false, c.self.invariant.arena))
+    (omega arith) (omega (arith, c.min-len.ensures, c.if-offset-size.false)) (omega (arith, c.min-len.ensures, c.if-offset-size.false))
+    (omega (arith, lie, bytes, c.min-len.ensures, c.if-offset-size.false, c.self.invariant.arena))
     (c.copy_from_slice.ensures.after ∙ ap (between front (front + c.min-len.result)) c.deref.ensures.value) in
     subst (λ (b : BookView). Follows (reply.Bytes (take c.min-len.result (c.copy_from_slice.new.self ++ drop c.min-len.result c.args.into.now))) b (read s c.args.actor c.args.k c.args.offset (asked_bytes (length c.args.into.now)))) c.self.view_is
-    (read-bytes (view_of inside) s here c.args.actor c.args.k c.args.offset (asked_bytes (length c.args.into.now)) is c.in-Some.n there row (sym some) c.in-Some-first_row.ensures.first (omega (arith, c.size-size.ensures, c.if-offset-size.false))
+    (read-bytes (view_of inside) s here c.args.actor c.args.k c.args.offset (asked_bytes (length c.args.into.now)) is c.in-Some.n there row (sym some) c.in-Some-first_row.ensures.first (omega (arith, c.if-offset-size.false))
     (take c.min-len.result (c.copy_from_slice.new.self ++ drop c.min-len.result c.args.into.now)) part)

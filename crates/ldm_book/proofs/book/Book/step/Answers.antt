@@ -1,11 +1,11 @@
-use Rattle.std.proofs.Common.{◌≡◌, ◌∙◌, ◌<◌, ◌≤◌, ℕ, true, Option, Some, None, sym, ap, subst, arith}
+use Rattle.std.proofs.Common.{◌≡◌, ◌∙◌, ◌<◌, ◌≤◌, ℕ, true, List, Option, Some, None, sym, ap, subst, arith}
 use Rattle.std.specs.Option.{IfSome, option_map}
 use Rattle.std.specs.List.{find}
 use Rattle.ldm_types.specs.Cursors.{KeptCursor, Places}
 use Rattle.ldm_cursor.specs.Places.{cursor_at, after_hold, after_move, numbers_of, with_change}
 use Rattle.ldm_model.specs.declared.event.Reply.TheVariants as reply
 use Rattle.ldm_model.specs.Step.{step}
-use Rattle.ldm_book.specs.View.{BookView, Kept}
+use Rattle.ldm_book.specs.View.{BookView, Kept, kept}
 use Rattle.ldm_book.specs.Sound.{view_of}
 use Rattle.ldm_book.specs.Answers.{Follows}
 use Rattle.ldm_book.specs.Stands.{StandsFor, kept_cursor}
@@ -13,7 +13,11 @@ use Rattle.ldm_book.specs.Products.{awaits}
 use Rattle.ldm_book.proofs.CursorsLemmas.{is_cursor, no_cursor, with_cursors}
 use Rattle.ldm_book.proofs.CallLemmas.{at_cursor, some_cursor, told-nothing, step-none, step-holding, step-gap, step-product, step-end}
 use Rattle.ldm_book.proofs.ReadingLemmas.{reading-hold}
-use Rattle.ldm_types.specs.Info.{Metadata}
+use Rattle.ldm_model.specs.State.{Queued}
+use Rattle.ldm_book.specs.Stored.{HasMetadata, IsStored, StandsAt}
+use Rattle.ldm_book.proofs.EveryLemmas.{found_of}
+use Rattle.ldm_book.proofs.FoundLemmas.{lie_found}
+use Rattle.ldm_book.proofs.StoredLemmas.{metadata_stand}
 use Rattle.ldm_book.specs.Readers.{AreReading}
 use Rattle.ldm_book.specs.RowKept.{row_kept}
 use Rattle.ldm_book.proofs.IsTimedLemmas.{timed_below}
@@ -86,9 +90,23 @@ invariant_of-self-in-Some-first_meeting c =
       some_slot = c.self.invariant.some_slot;
       admitted_small = c.self.invariant.admitted_small;
       few = c.self.invariant.few;
+      stored = c.self.invariant.stored;
       readers = subst (λ (cs : Places). AreReading inside.admitted inside.products.rows cs) (sym held)
           (reading-hold inside.admitted inside.products.rows inside.cursors c.args.k row.number x.0 c.self.invariant.readers x.1 (omega (arith, above, position)) below there);
     }
+
+pub metadata_at-requires-clause-within : goal.metadata_at-requires-clause-within
+metadata_at-requires-clause-within c =
+    let inside = c.self.inside in
+    let lie = lie_found inside.products.arena (awaits c.position-position.result c.feed.result.0) inside.products.rows (row_kept c.in-Some-first_meeting.row) c.self.invariant.apart (sym c.in-Some-first_meeting.ensures) in
+    omega (arith, lie, inside.arena.ok.0, c.self.invariant.arena, c.deref.ensures.len)
+
+pub metadata_at-requires-clause-some : goal.metadata_at-requires-clause-some
+metadata_at-requires-clause-some c =
+    let inside = c.self.inside in
+    let row = row_kept c.in-Some-first_meeting.row in
+    let there = found_of (HasMetadata inside.arena.items) (awaits c.position-position.result c.feed.result.0) inside.products.rows row c.self.invariant.stored (sym c.in-Some-first_meeting.ensures) in
+    (there.info, subst (λ (bs : List ℕ). StandsAt bs row.place there.info) (sym c.deref.ensures.value) there.at)
 
 pub returns-in-Some-first_meeting-clause-answers : goal.returns-in-Some-first_meeting-clause-answers
 returns-in-Some-first_meeting-clause-answers c = λ s stands.
@@ -107,9 +125,12 @@ returns-in-Some-first_meeting-clause-answers c = λ s stands.
     let none = at_cursor (λ (y : KeptCursor). None ≡ option_map numbers_of y.untold) (cursor_at inside.cursors c.args.k) (kept_cursor is.cursor) is.kept c.in_default-tell.ensures.value in
     let found : Some row ≡ find (awaits is.cursor.position is.cursor.feed) inside.products.rows = c.in-Some-first_meeting.ensures ∙ (λ i. find (awaits (position i) (feed i)) inside.products.rows) in
     let held = c.hold.ensures.held ∙ ap (λ (cs : Places). with_change cs c.args.k (after_hold row.number)) same in
-    subst (λ (m : Metadata). Follows (reply.Product row.number row.time m) (with_cursors (view_of inside) c.hold.new.self) (step s c.args.actor c.args.k)) (sym c.copy.ensures)
-    (subst (λ (cs : Places). Follows (reply.Product row.number row.time row.info) (with_cursors (view_of inside) cs) (step s c.args.actor c.args.k)) (sym held)
-    (step-product (view_of inside) s here c.args.actor c.args.k is row (sym free) (sym none) found))
+    let reads = λ (q : Queued) (stored : IsStored inside.arena.items q) (same : kept q ≡ row).
+    c.metadata_at.ensures q.product.info
+    (subst (λ (bs : List ℕ). StandsAt bs row.place q.product.info) (sym c.deref.ensures.value)
+    (subst (λ (place : ℕ). StandsAt inside.arena.items place q.product.info) (ap (λ (k : Kept). k.place) same) (metadata_stand inside.arena.items q stored))) in
+    subst (λ (cs : Places). Follows (reply.Product row.number row.time c.metadata_at.result) (with_cursors (view_of inside) cs) (step s c.args.actor c.args.k)) (sym held)
+    (step-product (view_of inside) s here c.args.actor c.args.k is row c.metadata_at.result (sym free) (sym none) found reads)
 
 pub returns-in-None-clause-answers : goal.returns-in-None-clause-answers
 returns-in-None-clause-answers c = λ s stands.

@@ -1,5 +1,4 @@
 use Rattle.std.proofs.Common.{◌∙◌, ◌^◌, ◌<◌, ℕ, Bool, cond, sym, ap, arith}
-use Rattle.ldm_types.specs.Feed.{feeds_meet}
 use Rattle.ldm_book.specs.View.{Kept}
 use Rattle.ldm_book.specs.Products.{at_number}
 use Rattle.ldm_book.specs.RowKept.{row_kept}
@@ -29,7 +28,7 @@ pub loop-row-preserved : goal.loop-row-preserved
 loop-row-preserved c =
     let later = count_later c.args.feed.0 c.loop-row.at c.args.self.now.rows (row_kept c.in-Some.row) c.in-Some.ensures.rising (sym c.in-Some.ensures.first) in
     let above = at_least c.loop-row.at c.args.self.now.rows (row_kept c.in-Some.row) (sym c.in-Some.ensures.first) in
-    let test = c.meets.ensures.value ∙ ap (feeds_meet c.args.feed.0) c.feed.ensures in
+    let test = c.meets.ensures.value in
     elim c.if-meets.branch [
       | then-meets w ↦ (
           let one = ap (λ (b : Bool). one_if b) (sym test ∙ w.if-meets.true) in

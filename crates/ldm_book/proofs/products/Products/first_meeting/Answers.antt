@@ -1,5 +1,4 @@
-use Rattle.std.proofs.Common.{◌∙◌, ◌^◌, ◌<◌, sym, ap, arith}
-use Rattle.ldm_types.specs.Feed.{feeds_meet}
+use Rattle.std.proofs.Common.{◌∙◌, ◌^◌, ◌<◌, sym, arith}
 use Rattle.ldm_book.specs.View.{Kept}
 use Rattle.ldm_book.specs.Products.{at_number}
 use Rattle.ldm_book.specs.RowKept.{row_kept}
@@ -8,7 +7,7 @@ use Rattle.ldm_book.proofs.products.Products.first_meeting.Goals as goal
 
 pub returns-then-meets : goal.returns-then-meets
 returns-then-meets c =
-    let meets = ap (feeds_meet c.args.feed.0) (sym c.feed.ensures) ∙ sym c.meets.ensures.value ∙ c.if-meets.true in
+    let meets = sym c.meets.ensures.value ∙ c.if-meets.true in
     sym (meets_here c.args.feed.0 c.loop-row.at c.args.self.now.rows (row_kept c.in-Some.row) (sym c.in-Some.ensures.first) meets) ∙ c.loop-row.invariant
 
 pub overflow_add-at : goal.overflow_add-at
@@ -22,7 +21,7 @@ loop-row-smaller c =
 
 pub loop-row-preserved : goal.loop-row-preserved
 loop-row-preserved c =
-    let apart = ap (feeds_meet c.args.feed.0) (sym c.feed.ensures) ∙ sym c.meets.ensures.value ∙ c.if-meets.false in
+    let apart = sym c.meets.ensures.value ∙ c.if-meets.false in
     sym (meets_later c.args.feed.0 c.loop-row.at c.args.self.now.rows (row_kept c.in-Some.row) c.in-Some.ensures.rising (sym c.in-Some.ensures.first) apart) ∙ c.loop-row.invariant
 
 pub returns : goal.returns

@@ -1,20 +1,19 @@
-use Rattle.std.proofs.Common.{◌≡◌, ◌+◌, ◌-◌, ◌<◌, ℕ, List, ◌∷◌, [], ◌++◌, length, map, set, take, slice_get, Some, sym, ap, subst, ◌∙◌, arith}
+use Rattle.std.proofs.Common.{◌≡◌, ◌+◌, ◌-◌, ◌<◌, ℕ, List, length, map, set, take, slice_get, Some, sym, ap, subst, ◌∙◌, arith}
 use Rattle.std.specs.FinMap as fin
 use Rattle.std.specs.List.{All, AllByRecursion}
 use Rattle.std.specs.Option.{option_map}
 use Rattle.std.proofs.lemmas.List.{map-set, length-set, length-take-le, length_push}
 use Rattle.ldm_types.specs.Arena.{Region, fit}
-use Rattle.ldm_types.specs.Info.{Metadata}
 use Rattle.ldm_model.specs.Product.{extent_of}
 use Rattle.ldm_model.specs.Stat.{extents}
 use Rattle.ldm_regions.specs.Layout.{Layout, Tiles, occupied}
 use Rattle.ldm_sigindex.specs.Index.{Table, slot_of}
 use Rattle.ldm_timeindex.specs.Times.{Queued}
-use Rattle.ldm_book.specs.declared.row.Row.{Row}
 use Rattle.ldm_book.specs.Lookup.{kept_with}
-use Rattle.ldm_book.specs.View.{Kept}
+use Rattle.ldm_book.specs.View.{Kept, kept_of}
 use Rattle.ldm_book.specs.Products.{ProductsView, LieApart, kept_region, room_for, with_row}
-use Rattle.ldm_book.specs.Slots.{row_at, row_region, signature_of, kept_entries, IsAt, HasSlot, AreFree}
+use Rattle.ldm_book.specs.Slots.{row_at, signature_of, slots_of, kept_entries, IsAt, HasSlot, AreFree, slots_from}
+use Rattle.ldm_book.proofs.SlotsLemmas.{slots-put, slotted_from}
 use Rattle.ldm_book.proofs.KeptEntryLemmas.{later_entries, absent_from_slots}
 use Rattle.ldm_book.proofs.KeptRegionLemmas.{place_for}
 use Rattle.ldm_book.proofs.AreFreeLemmas.{next_free, others_free, no_signature}
@@ -36,7 +35,7 @@ take-requires-clause-none c =
     let kept = c.self.invariant in
     let slot = c.in_ok-slot.field-0.now in
     let next = next_free p kept c.deref.result.now slot c.in_ok-slot.ensures.value c.deref.ensures.value in
-    kept.owned slot ∙ ap (option_map row_region) next.none
+    kept.owned slot ∙ ap (option_map kept_region) next.none
 
 pub returns-in_err-place-clause-place : goal.returns-in_err-place-clause-place
 returns-in_err-place-clause-place c =
@@ -55,7 +54,7 @@ put-requires-clause-absent c =
     let kept = c.self.invariant in
     let signature = c.args.info.now.signature in
     (λ i. slot_of (kept.signatures i) (c.signature.ensures i))
-    ∙ absent_from_slots p.slots.items p.by_number.entries signature kept.listed (ap (λ (view : ProductsView). kept_with signature view.rows) c.self.view_is ∙ c.requires.absent)
+    ∙ absent_from_slots (slots_of p) p.by_number.entries signature kept.listed (ap (λ (view : ProductsView). kept_with signature view.rows) c.self.view_is ∙ c.requires.absent)
 
 pub put-requires-clause-free : goal.put-requires-clause-free
 put-requires-clause-free c =
@@ -68,7 +67,7 @@ put-requires-clause-free c =
 pub push-requires-clause-later : goal.push-requires-clause-later
 push-requires-clause-later c =
     let p = c.self.inside in
-    later_entries p.slots.items c.args.n c.args.time p.by_number.entries
+    later_entries (slots_of p) c.args.n c.args.time p.by_number.entries
     (subst (λ (view : ProductsView). All (λ (k : Kept). (k.number < c.args.n) × (k.time < c.args.time)) view.rows) (sym c.self.view_is) c.requires.later)
 
 pub index_mut-requires : goal.index_mut-requires
@@ -77,7 +76,7 @@ index_mut-requires c =
     let kept = c.self.invariant in
     let slot = c.in_ok-slot.field-0.now in
     let next = next_free p kept c.deref.result.now slot c.in_ok-slot.ensures.value c.deref.ensures.value in
-    omega (arith, next.inside)
+    omega (arith, next.inside, kept.as_many, kept.rowed)
 
 pub overflow_add-self : goal.overflow_add-self
 overflow_add-self c =
@@ -96,9 +95,12 @@ invariant_of-self-2 c =
     let kept = c.self.invariant in
     let slot = c.in_ok-slot.field-0.now in
     let next = next_free p kept c.deref.result.now slot c.in_ok-slot.ensures.value c.deref.ensures.value in
-    let row : Row = record { info = c.copy.result; n = c.args.n; time = c.args.time; place = c.in_ok-place.place } in
+    let row = kept_of c.args.n c.args.time c.in_ok-place.place c.args.info.now in
     let region : Region = record { start = c.in_ok-place.place; extent = c.extent-need.result } in
-    let slots = set p.slots.items slot (Some row) in
+    let slots = set (slots_of p) slot (Some row) in
+    let filled : slots_from (set p.slots.items slot c.new.result) c.put.new.self ≡ slots =
+    (λ i. slots_from (set p.slots.items slot c.new.result) ((c.put.ensures.put ∙ ap (λ (s : List ℕ). set p.by_signature slot (Some s)) c.signature.ensures) i))
+    ∙ slots-put p.slots.items p.by_signature slot c.new.result c.args.info.now.signature ∙ ap (λ (k : Kept). set (slots_of p) slot (Some k)) c.new.ensures in
     let regions = c.in_ok-place.ensures.owned in
     let same_slots = ap (λ (layout : Layout). layout.slots) regions in
     let same_arena = ap (λ (layout : Layout). layout.arena) regions in
@@ -107,16 +109,17 @@ invariant_of-self-2 c =
     let free = ap (λ (ks : List ℕ). length ks) c.deref.ensures.value in
     let popped = c.pop-slot.ensures.rest ∙ ap (λ n. take (n - 1) p.free.items) (sym c.deref.ensures.len ∙ free) in
     let left = ap (λ (ks : List ℕ). length ks) popped ∙ length-take-le (length p.free.items - 1) p.free.items (omega arith) in
-    let extent = c.extent-need.ensures ∙ sym (ap extent_of c.copy.ensures) in
-    let signature = c.signature.ensures ∙ sym (ap (λ (info : Metadata). info.signature) c.copy.ensures) in
-    let taken : region ≡ row_region row = λ i. record { start = c.in_ok-place.place; extent = extent i } in
-    record {
-      as_many = length-set p.slots.items slot (Some row) ∙ kept.as_many ∙ sym same_slots;
+    let extent = c.extent-need.ensures in
+    let taken : region ≡ kept_region row = λ i. record { start = c.in_ok-place.place; extent = extent i } in
+    slotted_from _ slots (sym filled)
+    (record {
+      as_many = length-set (slots_of p) slot (Some row) ∙ kept.as_many ∙ sym same_slots;
+      rowed = length-set p.slots.items slot c.new.result ∙ kept.rowed ∙ sym same_slots;
       numbered = c.push.ensures.slots ∙ kept.numbered ∙ sym same_slots;
       rising = c.push.ensures.rising;
       entries = subst (AllByRecursion (IsAt slots)) (sym entries) (entries-added p kept slot row next);
-      listed = subst (λ (entries : List Queued). (k : ℕ) (held : Row) → row_at slots k ≡ Some held → HasSlot k entries) (sym entries) (listed-added p kept slot row next);
-      signatures = c.put.ensures.put ∙ (λ i. set (kept.signatures i) slot (Some (signature i))) ∙ sym (map-set signature_of p.slots.items slot (Some row));
+      listed = subst (λ (entries : List Queued). (k : ℕ) (held : Kept) → row_at slots k ≡ Some held → HasSlot k entries) (sym entries) (listed-added p kept slot row next);
+      signatures = c.put.ensures.put ∙ (λ i. set (kept.signatures i) slot (Some (c.signature.ensures i))) ∙ sym (map-set signature_of (slots_of p) slot (Some row));
       one_to_one = c.put.ensures.one_to_one;
       owned = λ k. ap (λ (layout : Layout). fin.get layout.owned k) regions ∙ ap (λ region. fin.get (fin.insert p.regions.owned slot region) k) taken ∙ owned-added p kept slot row next k;
       tiles = c.in_ok-place.ensures.tiles;
@@ -126,7 +129,7 @@ invariant_of-self-2 c =
       used = (λ i. kept.used i + extent i) ∙ sym (extents-added p kept slot row next) ∙ ap (λ (entries : List Queued). extents (map kept_region (kept_entries slots entries))) (sym entries);
       few = omega (arith, same_slots, kept.few);
       small = omega (arith, same_arena, kept.small);
-    }
+    })
 
 pub returns-clause-place : goal.returns-clause-place
 returns-clause-place c =
@@ -154,14 +157,14 @@ returns-clause-rows c =
     let kept = c.self.invariant in
     let slot = c.in_ok-slot.field-0.now in
     let next = next_free p kept c.deref.result.now slot c.in_ok-slot.ensures.value c.deref.ensures.value in
-    let row : Row = record { info = c.copy.result; n = c.args.n; time = c.args.time; place = c.in_ok-place.place } in
+    let row = kept_of c.args.n c.args.time c.in_ok-place.place c.args.info.now in
     let after = c.in_ok-place.ensures.owned in
-    let slots = set p.slots.items slot (Some row) in
-    let same = ap (λ (info : Metadata). kept_entries p.slots.items p.by_number.entries ++ record { number = c.args.n; info = info; time = c.args.time; place = c.in_ok-place.place } ∷ []) c.copy.ensures in
-    let rows = ap (kept_entries slots) c.push.ensures.entries ∙ rows-added p kept slot row next ∙ same in
-    let product : Kept = record { number = c.args.n; info = c.args.info.now; time = c.args.time; place = c.in_ok-place.place } in
+    let filled : slots_from (set p.slots.items slot c.new.result) c.put.new.self ≡ set (slots_of p) slot (Some row) =
+    (λ i. slots_from (set p.slots.items slot c.new.result) ((c.put.ensures.put ∙ ap (λ (s : List ℕ). set p.by_signature slot (Some s)) c.signature.ensures) i))
+    ∙ slots-put p.slots.items p.by_signature slot c.new.result c.args.info.now.signature ∙ ap (λ (k : Kept). set (slots_of p) slot (Some k)) c.new.ensures in
+    let rows = (λ i. kept_entries (filled i) (c.push.ensures.entries i)) ∙ rows-added p kept slot row next in
     (λ i. record { arena = (after i).arena; slots = (after i).slots; rows = rows i })
-    ∙ ap (λ (view : ProductsView). with_row view product) c.self.view_is
+    ∙ ap (λ (view : ProductsView). with_row view row) c.self.view_is
 
 pub returns-in_err-slot-clause-apart : goal.returns-in_err-slot-clause-apart
 returns-in_err-slot-clause-apart c = subst (λ (p : ProductsView). LieApart p.arena p.rows) c.self.view_is (lie_apart c.self.inside c.self.invariant)
@@ -169,7 +172,7 @@ returns-in_err-slot-clause-apart c = subst (λ (p : ProductsView). LieApart p.ar
 pub returns-in_err-place-clause-apart : goal.returns-in_err-place-clause-apart
 returns-in_err-place-clause-apart c =
     let p = c.self.inside in
-    subst (λ (layout : Layout). LieApart layout.arena (kept_entries p.slots.items p.by_number.entries)) (sym c.in_err-place.ensures.owned) (lie_apart p c.self.invariant)
+    subst (λ (layout : Layout). LieApart layout.arena (kept_entries (slots_of p) p.by_number.entries)) (sym c.in_err-place.ensures.owned) (lie_apart p c.self.invariant)
 
 pub returns-clause-apart : goal.returns-clause-apart
 returns-clause-apart c = lie_apart _ (invariant_of-self-2 c)

@@ -1,30 +1,24 @@
-use Rattle.std.proofs.Common.{◌≡◌, ◌-◌, None, is_some, set, ap, subst, ◌∙◌, arith}
+use Rattle.std.proofs.Common.{◌≡◌, ◌-◌, None, is_some, set, refl, ap, subst, ◌∙◌, arith}
 use Rattle.std.specs.Option.{IfSome, option_map}
-use Rattle.std.specs.Vec.{with_item}
-use Rattle.std.proofs.lemmas.Option.{none-some}
-use Rattle.ldm_model.specs.Product.{extent_of}
 use Rattle.ldm_sigindex.specs.Index.{slot_of}
-use Rattle.ldm_book.specs.declared.row.Row.{Row}
 use Rattle.ldm_book.specs.declared.products.Products.TheInside.{Inside}
-use Rattle.ldm_book.specs.Slots.{row_region}
-use Rattle.ldm_book.specs.Products.{without}
+use Rattle.ldm_book.specs.View.{Kept}
+use Rattle.ldm_book.specs.Slots.{slots_from, slots_of}
+use Rattle.ldm_book.specs.Products.{kept_extent, kept_region, without}
+use Rattle.ldm_book.specs.RowKept.{kept_row}
 use Rattle.ldm_book.proofs.RowAtLemmas.{filled_within}
-use Rattle.ldm_book.proofs.TakeOutLemmas.{IsNumbered, any_number, number_found, numbered, read, row_read, extents_left, slot_by_signature, HasLeft, slotted_left, products_left}
+use Rattle.ldm_book.proofs.SlotsLemmas.{slots-read, slots-taken}
+use Rattle.ldm_book.proofs.TakeOutLemmas.{IsNumbered, any_number, number_found, numbered, extents_left, slot_by_signature, HasLeft, slotted_left, products_left}
 use Rattle.ldm_book.proofs.LieApartLemmas.{lie_apart}
 use Rattle.ldm_book.proofs.products.Products.take_out.Goals as goal
 
 pub unreachable-requires : goal.unreachable-requires
 unreachable-requires c = number_found c.args.n c.self.invariant c.self.view_is c.requires c.in_default.ensures.first
 
-pub index_mut-requires : goal.index_mut-requires
-index_mut-requires c =
+pub index-row-requires : goal.index-row-requires
+index-row-requires c =
     let at = numbered c.args.n c.self.invariant c.self.view_is c.requires c.in-Some.ensures.first in
-    omega (arith, filled_within c.self.inside.slots.items c.in-Some.slot at.row at.here, c.self.inside.slots.ok.0)
-
-pub unreachable-requires-in_default-take : goal.unreachable-requires-in_default-take
-unreachable-requires-in_default-take c =
-    let at = numbered c.args.n c.self.invariant c.self.view_is c.requires c.in-Some.ensures.first in
-    none-some at.row (c.in_default-take.ensures.value ∙ read at c.index_mut.result.now c.index_mut.ensures.value)
+    omega (arith, filled_within (slots_of c.self.inside) c.in-Some.slot at.row at.here, c.self.invariant.as_many, c.self.invariant.rowed, c.self.inside.slots.ok.0)
 
 pub take_out-requires : goal.take_out-requires
 take_out-requires c = any_number c.self.inside c.args.n c.self.view_is c.requires
@@ -32,25 +26,25 @@ take_out-requires c = any_number c.self.inside c.args.n c.self.view_is c.require
 pub take_out-requires-2 : goal.take_out-requires-2
 take_out-requires-2 c =
     let at = numbered c.args.n c.self.invariant c.self.view_is c.requires c.in-Some.ensures.first in
-    let row = row_read at c.in-Some-take.row c.index_mut.result.now c.in-Some-take.ensures.value c.index_mut.ensures.value in
-    let signature = c.signature.ensures ∙ ap (λ (r : Row). r.info.signature) row in
+    let row = ap kept_row c.index-row.ensures ∙ slots-read c.self.inside.slots.items c.self.inside.by_signature c.in-Some.slot at.row c.index-row.result.now at.here in
+    let signature = ap (λ (k : Kept). k.signature) row in
     ap is_some (ap (slot_of c.self.inside.by_signature) signature ∙ slot_by_signature c.in-Some.slot at.row c.self.invariant at.here)
 
 pub give_back-requires : goal.give_back-requires
 give_back-requires c =
     let at = numbered c.args.n c.self.invariant c.self.view_is c.requires c.in-Some.ensures.first in
-    ap is_some (c.self.invariant.owned c.in-Some.slot ∙ ap (option_map row_region) at.here)
+    ap is_some (c.self.invariant.owned c.in-Some.slot ∙ ap (option_map kept_region) at.here)
 
 pub overflow_sub-self : goal.overflow_sub-self
 overflow_sub-self c =
     let at = numbered c.args.n c.self.invariant c.self.view_is c.requires c.in-Some.ensures.first in
-    let row = row_read at c.in-Some-take.row c.index_mut.result.now c.in-Some-take.ensures.value c.index_mut.ensures.value in
-    omega (arith, ap (λ (r : Row). extent_of r.info) row, extents_left at c.self.invariant.entries)
+    let row = ap kept_row c.index-row.ensures ∙ slots-read c.self.inside.slots.items c.self.inside.by_signature c.in-Some.slot at.row c.index-row.result.now at.here in
+    omega (arith, ap (λ (k : Kept). kept_extent k) row, c.extent.ensures, extents_left at c.self.invariant.entries)
 
 -- the products at the end
 abbrev after : goal.In-Ok → Inside
 after c = record {
-  slots = with_item c.self.inside.slots c.in-Some.slot c.take.new.self;
+  slots = c.self.inside.slots;
   free = c.push.new.self;
   regions = c.give_back.new.self;
   by_signature = c.take_out-2.new.self;
@@ -59,7 +53,7 @@ after c = record {
 }
 
 -- the product that is taken out
-found : (c : goal.In-Ok) → IsNumbered c.self.inside.slots.items c.self.inside.by_number.entries c.args.n c.in-Some.slot
+found : (c : goal.In-Ok) → IsNumbered (slots_of c.self.inside) c.self.inside.by_number.entries c.args.n c.in-Some.slot
 found c = numbered c.args.n c.self.invariant c.self.view_is c.requires c.in-Some.ensures.first
 
 -- each part at the end is without it
@@ -67,21 +61,23 @@ left : (c : goal.In-Ok) → HasLeft c.self.inside (after c) c.args.n c.in-Some.s
 left c =
     let at = found c in
     let table = c.self.inside.by_signature in
-    let row = row_read at c.in-Some-take.row c.index_mut.result.now c.in-Some-take.ensures.value c.index_mut.ensures.value in
-    let signature = c.signature.ensures ∙ ap (λ (r : Row). r.info.signature) row in
+    let row = ap kept_row c.index-row.ensures ∙ slots-read c.self.inside.slots.items c.self.inside.by_signature c.in-Some.slot at.row c.index-row.result.now at.here in
+    let signature = ap (λ (k : Kept). k.signature) row in
     let slot = ap (slot_of table) signature ∙ slot_by_signature c.in-Some.slot at.row c.self.invariant at.here in
+    let taken = subst (λ o. IfSome o (λ k. c.take_out-2.new.self ≡ set table k None)) slot c.take_out-2.ensures.taken in
     record {
-      slots = ap (set c.self.inside.slots.items c.in-Some.slot) c.take.ensures.after;
+      slots = ap (slots_from c.self.inside.slots.items) taken ∙ slots-taken c.self.inside.slots.items table c.in-Some.slot;
+      rowed = refl;
       free = c.in-Ok.ensures.items;
       roomy = c.in-Ok.ensures.capacity;
       regions = c.give_back.ensures.owned;
       tiles = c.give_back.ensures.tiles;
-      signatures = subst (λ o. IfSome o (λ k. c.take_out-2.new.self ≡ set table k None)) slot c.take_out-2.ensures.taken;
+      signatures = taken;
       one_to_one = c.take_out-2.ensures.one_to_one;
       numbered = c.take_out.ensures.slots;
       entries = c.take_out.ensures.entries;
       rising = c.take_out.ensures.rising;
-      used = omega (arith, ap (λ (r : Row). extent_of r.info) row, extents_left at c.self.invariant.entries);
+      used = omega (arith, ap (λ (k : Kept). kept_extent k) row, c.extent.ensures, extents_left at c.self.invariant.entries);
     }
 
 pub invariant_of-self : goal.invariant_of-self

@@ -1,0 +1,36 @@
+-- What stands in the arena: the metadata of a product as they are spelled, and its body behind them.
+use Rattle.std.specs.Prelude.{◌≡◌, ℕ, ◌+◌, List, ◌++◌}
+use Rattle.std.specs.List.{AllByRecursion, between}
+use Rattle.ldm_types.specs.Info.{Metadata, metadata_len}
+use Rattle.ldm_xdr.specs.Spelling.{Fits, spelling}
+use Rattle.ldm_model.specs.Product.{Product}
+use Rattle.ldm_model.specs.State.{Queued}
+use Rattle.ldm_book.specs.View.{Kept, kept, kept_of, stored_bytes}
+
+-- the bytes of a product
+abbrev pub bytes_of : Product → List ℕ
+bytes_of p = spelling p.info ++ p.body
+
+-- The metadata of a row can be spelled, and from its place on the arena has its bytes.
+pub record IsStored (bytes : List ℕ) (q : Queued) : Type 0 where
+  pub fits : Fits q.product.info
+  pub stands : stored_bytes bytes (kept q) ≡ bytes_of q.product
+
+-- so it is for each of these rows
+abbrev pub AreStored : List ℕ → List Queued → Type 0
+AreStored bytes rows = AllByRecursion (IsStored bytes) rows
+
+-- metadata that can be spelled stand at a place
+pub record StandsAt (bytes : List ℕ) (place : ℕ) (info : Metadata) : Type 0 where
+  pub fits : Fits info
+  pub spelled : between place (place + metadata_len info) bytes ≡ spelling info
+
+-- metadata stand at the place of a kept product, and it is kept with these
+pub record HasMetadata (bytes : List ℕ) (k : Kept) : Type 0 where
+  pub info : Metadata
+  pub at : StandsAt bytes k.place info
+  pub same : k ≡ kept_of k.number k.time k.place info
+
+-- so it is for each of these products
+abbrev pub HaveMetadata : List ℕ → List Kept → Type 0
+HaveMetadata bytes rows = AllByRecursion (HasMetadata bytes) rows
