@@ -4,9 +4,7 @@
 //! streams, and the words.
 #![tactic(auto)]
 
-mod streams;
-
-use crate::streams::{RealSink, RealSource};
+use ldm_adapters::{RealSink, RealSource};
 use ldm_commands::{Status, run_ldm};
 use ldm_outside::World;
 use std::env;

@@ -1,7 +1,7 @@
 -- A read that a signal interrupts consumes nothing, and the buffer keeps its length.
 use Rattle.std.proofs.Common.{◌≡◌, length}
 use Rattle.std.specs.Io.KnownBytes.{Keeps}
-use Rattle.ldm.proofs.streams.read_uninterrupted.Given as goal
+use Rattle.ldm_adapters.proofs.streams.read_uninterrupted.Given as goal
 
 abbrev pub invariant-loop : goal.invariant-loop
 invariant-loop g l = (length l.into ≡ length l.initial.into) × Keeps (g.R.Read.remaining l.initial.reader) (g.R.Read.remaining l.reader)

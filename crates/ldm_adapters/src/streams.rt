@@ -1,9 +1,10 @@
-//! The streams that the program is run with, as a source and sinks. They hold no byte back: a call of theirs is a call
-//! of the reader or the writer, which is made again where a signal interrupted it.
+//! Streams of the system, as sources and sinks. They hold no byte back: a call of theirs is a call of the reader or the
+//! writer, which is made again where a signal interrupted it.
 ghost use Rattle.std.specs.Prelude.{◌≡◌, ◌≢◌, ◌≤◌, ◌<◌, ◌==◌, ◌||◌, not, length, take, MatchResult, IfOk, IfErr, OnErr, if◌then◌else◌};
 ghost use Rattle.std.specs.IoError.{error_kind};
 ghost use Rattle.std.specs.Io.{ReadsAtMost, WritesAtMost};
 ghost use Rattle.std.specs.Io.KnownBytes.{Appends, Consumes, IsAtEnd, Keeps};
+ghost use Rattle.ldm_adapters.specs.Front.{GivesFront, TakesFront};
 
 use ldm_outside::{Got, Put, Sink, Source};
 use std::io::{self, ErrorKind, Read, Write};
@@ -117,6 +118,21 @@ fn told_of_write(answer: io::Result<usize>, len: usize) -> Put
         Ok(n) => Put::Took(n),
         Err(_) => Put::Failed,
     }
+}
+
+// One read of a reader that tells nothing, as a source answers it.
+pub(crate) fn read_once<R: Read>(reader: &mut R, into: &mut [u8]) -> Got
+    requires { 0 < length into.old }
+    ensures { GivesFront result into.new }
+{
+    told_of_read(read_uninterrupted(reader, into))
+}
+
+// One write to a writer that tells nothing, as a sink answers it.
+pub(crate) fn write_once<W: Write>(writer: &mut W, piece: &[u8]) -> Put
+    ensures { TakesFront result piece.now }
+{
+    told_of_write(write_uninterrupted(writer, piece), piece.len())
 }
 
 // One read, tried again each time a signal interrupts it.

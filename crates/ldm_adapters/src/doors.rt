@@ -1,0 +1,130 @@
+//! Doors over TCP.
+ghost use Rattle.std.specs.Prelude.{◌≡◌, false};
+
+use crate::links::RealLink;
+use arrayvec::{ArrayString, ArrayVec};
+use ldm_outside::{Came, Door, LONGEST_HOST};
+use std::fmt::Write;
+use std::io::{self, ErrorKind};
+use std::net::{IpAddr, TcpListener, TcpStream};
+
+/// A door over TCP. It tells no host, and never closes.
+///
+/// The host of a peer is the text of its address.
+#[derive(Drop)]
+pub struct RealDoor {
+    listener: TcpListener,
+    faults: u64,
+    peers: u64,
+    ended: u64,
+    failed: u64,
+    out: bool,
+}
+
+impl RealDoor {
+    /// A door where what comes to the listener comes in.
+    pub fn new(listener: TcpListener) -> RealDoor
+        ensures faults { result.faults ≡ 0 }
+        ensures peers { result.peers ≡ 0 }
+        ensures ended { result.ended ≡ 0 }
+        ensures failed { result.failed ≡ 0 }
+        ensures out { result.out ≡ false }
+    {
+        RealDoor {
+            listener,
+            faults: 0,
+            peers: 0,
+            ended: 0,
+            failed: 0,
+            out: false,
+        }
+    }
+
+    /// How many peers came.
+    pub fn peers(&self) -> u64
+        ensures { result ≡ self.now.peers }
+    {
+        self.peers
+    }
+
+    /// How many links were given back that had ended.
+    pub fn ended(&self) -> u64
+        ensures { result ≡ self.now.ended }
+    {
+        self.ended
+    }
+
+    /// How many links were given back that had failed.
+    pub fn failed(&self) -> u64
+        ensures { result ≡ self.now.failed }
+    {
+        self.failed
+    }
+
+    /// The port that it listens on.
+    pub fn port(&self) -> io::Result<u16> {
+        Ok(self.listener.local_addr()?.port())
+    }
+}
+
+// The text of an address.
+fn host_of(address: IpAddr) -> Option<ArrayVec<u8, LONGEST_HOST>> {
+    let mut text = ArrayString::<LONGEST_HOST>::new();
+    write!(text, "{address}").ok()?;
+    ArrayVec::try_from(text.as_bytes()).ok()
+}
+
+// The next peer. One that went before it was let in is none.
+fn accept_peer(listener: &TcpListener) -> io::Result<(TcpStream, IpAddr)> {
+    for _ in 0..u64::MAX {
+        match listener.accept() {
+            Ok((stream, address)) => return Ok((stream, address.ip())),
+            Err(error) if is_passing(error.kind()) => {}
+            Err(error) => return Err(error),
+        }
+    }
+    Err(io::Error::from(ErrorKind::TimedOut))
+}
+
+fn is_passing(kind: ErrorKind) -> bool {
+    matches!(kind, ErrorKind::Interrupted | ErrorKind::ConnectionAborted)
+}
+
+// The next peer, with the text of its address.
+fn next_peer(listener: &TcpListener) -> Option<(ArrayVec<u8, LONGEST_HOST>, TcpStream)> {
+    let (stream, address) = accept_peer(listener).ok()?;
+    Some((host_of(address)?, stream))
+}
+
+impl Door for RealDoor {
+    ghost use Rattle.ldm_adapters.specs.Told.{told_by_door};
+
+    type Link = RealLink;
+
+    ghost tells = { told_by_door };
+
+    fn accept(&mut self) -> Came<RealLink> {
+        match next_peer(&self.listener) {
+            Some((host, stream)) => {
+                self.peers = self.peers.saturating_add(1);
+                self.out = true;
+                let link = RealLink::new(stream);
+                Came::Peer { host, link }
+            }
+            None => {
+                self.faults = self.faults.saturating_add(1);
+                Came::Failed
+            }
+        }
+    }
+
+    fn give_back(&mut self, link: RealLink) {
+        if link.ended() {
+            self.ended = self.ended.saturating_add(1);
+        }
+        if link.failed() {
+            self.failed = self.failed.saturating_add(1);
+        }
+        self.out = false;
+    }
+}

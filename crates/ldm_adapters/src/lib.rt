@@ -1,0 +1,30 @@
+//! The outside of the program as it really is: the system's streams, files, programs, clock and sockets, as the traits
+//! of `ldm_outside`.
+//!
+//! Each form does what its trait says by a call or two of the system, counts an error of the system as a fault, and makes
+//! a call again where a signal interrupted it. None tells what it holds, has left or was sent: what the
+//! system does with bytes is trusted.
+#![tactic(auto)]
+
+mod children;
+mod clock;
+mod dials;
+mod doors;
+mod files;
+mod gate;
+mod links;
+mod net;
+mod streams;
+
+pub use children::RealLauncher;
+pub use clock::RealClock;
+pub use dials::RealDial;
+pub use doors::RealDoor;
+pub use files::RealStore;
+pub use gate::{IDLE_MILLISECONDS, RealGate};
+pub use links::RealLink;
+pub use net::{RealNet, RealStation};
+pub use streams::{RealSink, RealSource};
+
+#[cfg(test)]
+mod tests;

@@ -1,0 +1,77 @@
+//! Links over TCP.
+
+use crate::streams::{read_once, write_once};
+use ldm_outside::{Got, Link, Put};
+use std::net::{Shutdown, TcpStream};
+
+/// A link over TCP. It tells no bytes.
+///
+/// A peer that vanishes is a fault, and no signal comes. A closed link is shut down in both directions.
+#[derive(Drop)]
+pub struct RealLink {
+    stream: TcpStream,
+    ends: u64,
+    faults: u64,
+    closed: bool,
+}
+
+impl RealLink {
+    ghost use Rattle.std.specs.Prelude.{◌≡◌, false, nat_lt};
+
+    /// A link of the stream, which sends each piece at once where the system can.
+    pub(crate) fn new(stream: TcpStream) -> RealLink
+        ensures ends { result.ends ≡ 0 }
+        ensures faults { result.faults ≡ 0 }
+        ensures open { result.closed ≡ false }
+    {
+        let _ = stream.set_nodelay(true);
+        RealLink {
+            stream,
+            ends: 0,
+            faults: 0,
+            closed: false,
+        }
+    }
+
+    // Whether it ended, and whether it failed.
+    pub(crate) fn ended(&self) -> bool
+        ensures { result ≡ nat_lt 0 self.now.ends }
+    {
+        self.ends > 0
+    }
+
+    pub(crate) fn failed(&self) -> bool
+        ensures { result ≡ nat_lt 0 self.now.faults }
+    {
+        self.faults > 0
+    }
+}
+
+impl Link for RealLink {
+    ghost use Rattle.std.specs.Prelude.{None};
+
+    ghost tells = { λ s. record { told = None; left = None; ends = s.ends; faults = s.faults; closed = s.closed } };
+
+    fn recv(&mut self, into: &mut [u8]) -> Got {
+        let got = read_once(&mut self.stream, into);
+        match got {
+            Got::Bytes(_) => {}
+            Got::End => self.ends = self.ends.saturating_add(1),
+            Got::Failed => self.faults = self.faults.saturating_add(1),
+        }
+        got
+    }
+
+    fn send(&mut self, piece: &[u8]) -> Put {
+        let put = write_once(&mut self.stream, piece);
+        if put == Put::Failed {
+            self.faults = self.faults.saturating_add(1);
+        }
+        put
+    }
+
+    fn close(&mut self) {
+        let _ = self.stream.shutdown(Shutdown::Both);
+        self.closed = true;
+    }
+}

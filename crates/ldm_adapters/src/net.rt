@@ -1,0 +1,121 @@
+//! The net over TCP.
+ghost use Rattle.std.specs.Prelude.{◌≡◌, [], All, IfOk, vec_len};
+ghost use Rattle.ldm_outside.specs.Station.{IsNew};
+ghost use Rattle.ldm_adapters.specs.Told.{told_by_station};
+
+use crate::clock::RealClock;
+use crate::dials::RealDial;
+use crate::doors::RealDoor;
+use crate::gate::RealGate;
+use crate::links::RealLink;
+use crate::streams::RealSink;
+use ldm_outside::{Dial, Dialled, Manned, Net, Station};
+use std::alloc::AllocError;
+use std::io::{self, ErrorKind};
+use std::net::{Ipv4Addr, TcpListener};
+use std::rt::{HostRuntime, Stderr};
+
+/// The outside of one worker, whose log is standard error.
+pub type RealStation = Station<RealDoor, RealDial, RealSink<Stderr>, RealClock, RealGate>;
+
+// A station whose door lets in what comes to the listener.
+fn station(rt: HostRuntime, listener: TcpListener, idles: Option<u32>) -> RealStation
+    ensures { IsNew (told_by_station result) }
+{
+    Station {
+        door: RealDoor::new(listener),
+        dial: RealDial::new(rt),
+        log: RealSink::new(rt.stderr()),
+        clock: RealClock::new(rt),
+        gate: RealGate::new(rt, idles),
+    }
+}
+
+// So many stations, whose doors share one listener on all addresses of this machine.
+fn man(rt: HostRuntime, port: u16, count: u32, idles: Option<u32>) -> io::Result<Vec<RealStation>>
+    ensures count { IfOk result (λ made. vec_len made ≡ count) }
+    ensures new { IfOk result (λ made. All (λ one. IsNew (told_by_station one)) made.items) }
+{
+    let listener = TcpListener::bind(&rt, (Ipv4Addr::UNSPECIFIED, port))?;
+    let mut made = Vec::new(rt.alloc());
+    for _ in 0..count {
+        made.push(station(rt, listener.try_clone()?, idles))
+            .map_err(AllocError::from)?;
+    }
+    Ok(made)
+}
+
+/// The net over TCP of this system.
+#[derive(Drop)]
+pub struct RealNet {
+    dial: RealDial,
+    rt: HostRuntime,
+    kept: Vec<RealStation>,
+}
+
+impl RealNet {
+    /// The net of this system, which keeps no station.
+    pub fn new(rt: HostRuntime) -> RealNet
+        ensures kept { result.kept.items ≡ [] }
+    {
+        RealNet {
+            dial: RealDial::new(rt),
+            rt,
+            kept: Vec::new(rt.alloc()),
+        }
+    }
+}
+
+impl Dial for RealNet {
+    ghost use Rattle.ldm_adapters.specs.Told.{told_by_dial};
+
+    type Link = RealLink;
+
+    ghost tells = { λ s. told_by_dial s.dial };
+
+    fn connect(&mut self, host: &[u8], port: u16) -> Dialled<RealLink> {
+        self.dial.connect(host, port)
+    }
+
+    fn give_back(&mut self, link: RealLink) {
+        self.dial.give_back(link);
+    }
+}
+
+impl Net for RealNet {
+    ghost use Rattle.ldm_outside.specs.Net.{StationsGive};
+    ghost use Rattle.ldm_adapters.specs.Told.{told_by_dial};
+
+    type StationDoor = RealDoor;
+
+    type StationDial = RealDial;
+
+    type StationLog = RealSink<Stderr>;
+
+    type StationClock = RealClock;
+
+    type StationGate = RealGate;
+
+    ghost kept = { λ s. s.kept.items };
+
+    fn stations(&mut self, port: u16, count: u32, idles: Option<u32>) -> Manned<RealStation>
+        ensures given { StationsGive told_by_station result count (told_by_dial self.old.dial) (told_by_dial self.new.dial) }
+        ensures kept { self.new.kept.items ≡ self.old.kept.items }
+    {
+        match man(self.rt, port, count, idles) {
+            Ok(made) => Manned::Stations(made),
+            Err(error) if error.kind() == ErrorKind::OutOfMemory => Manned::OutOfMemory,
+            Err(_) => {
+                self.dial.fail();
+                Manned::Failed
+            }
+        }
+    }
+
+    fn keep(&mut self, stations: Vec<RealStation>)
+        ensures kept { self.new.kept.items ≡ stations.items }
+        ensures same { told_by_dial self.new.dial ≡ told_by_dial self.old.dial }
+    {
+        self.kept = stations;
+    }
+}
