@@ -1,52 +1,50 @@
 -- A play that nothing hinders comes to the end of its script: for `Completes`.
-use Rattle.std.proofs.Common.{◌≡◌, ℕ, ◌<◌, ◌⊎◌, Bool, true, false, List, [], ◌∷◌, ◌++◌, length, Option, Some, None, IfSome, Ok, Err, Result, inl, inr, refl, sym, ap, subst, ◌∙◌, append_assoc, arith, length-append}
+use Rattle.std.proofs.Common.{◌≡◌, ℕ, ◌+◌, ◌<◌, ◌⊎◌, Bool, true, false, List, [], ◌∷◌, ◌++◌, length, Option, Some, None, IfSome, Ok, Err, Result, inl, inr, refl, sym, ap, subst, ◌∙◌, append_assoc, arith, length-append}
 use Rattle.std.specs.Option.{option_map}
 use Rattle.std.proofs.lemmas.Bool.{cases_lt}
 use Rattle.std.proofs.lemmas.List.{append-nil}
 use Rattle.std.proofs.lemmas.Option.{none-some, same_Some}
 use Rattle.ldm_outside.specs.Io.{SourceRecord, Gives}
 use Rattle.ldm_outside.specs.World.{WorldRecord}
-use Rattle.ldm_model.specs.State.{State, empty}
+use Rattle.ldm_script.specs.Resolve.{Playing, new_play}
 use Rattle.ldm_book.specs.declared.fault.CreateFault.{CreateFault}
 use Rattle.ldm_book.specs.declared.fault.CreateFault.TheVariants as fault
 use Rattle.ldm_commands.specs.declared.play_command.ScriptEnd.{ScriptEnd}
 use Rattle.ldm_commands.specs.declared.play_command.ScriptEnd.TheVariants as script_end
 use Rattle.ldm_commands.specs.declared.play_command.TheConstants.{SCRIPT_LIMIT}
 use Rattle.ldm_commands.specs.declared.player.Stop.TheVariants as stop
-use Rattle.ldm_commands.specs.declared.script.line.TheConstants.{LONGEST_LINE}
+use Rattle.ldm_script.specs.declared.line.TheConstants.{LONGEST_LINE}
 use Rattle.ldm_commands.specs.declared.status.Status.TheVariants as status
-use Rattle.ldm_commands.specs.declared.unbuilt.Unbuilt.{Unbuilt}
-use Rattle.ldm_commands.specs.Line.{unbuilt_of_line}
 use Rattle.ldm_commands.specs.Lines.{Cut, cut, whole_lines, lines_of, last_line, known_lines}
-use Rattle.ldm_commands.specs.Play.{Played, play_line, play}
+use Rattle.ldm_commands.specs.Play.{BadLine, Played, play_line, play}
 use Rattle.ldm_commands.specs.Ending.{Size, AtEnd, ScriptEnds, PlayEnds}
 use Rattle.ldm_commands.specs.Status.{code_of, Reports, status_of_script, status_of_play}
 use Rattle.ldm_commands.specs.Complete.{Unhindered}
 use Rattle.ldm_commands.proofs.CutLemmas.{both, joined, cut-append}
-use Rattle.ldm_commands.proofs.ReadLineLemmas.{read_line-long}
-use Rattle.ldm_commands.proofs.PlayLineLemmas.{stops_at}
+use Rattle.ldm_commands.proofs.PlayLineLemmas.{read_line-long, stops_at}
 use Rattle.ldm_commands.proofs.GoesOnLemmas.{known_lines-short}
 use Rattle.ldm_commands.proofs.PlayLemmas.{first_on, followed-on, play-append}
 
 -- where a play does not stop, it does not stop at its first lines
-before_on : (lines : List (List ℕ)) (s : State) (more : List (List ℕ)) → (play s (lines ++ more)).stop ≡ None → (play s lines).stop ≡ None
-before_on [] s more h = refl
-before_on (line ∷ lines) s more h =
-    let first = play_line s line in
-    let on = first_on first (play first.state (lines ++ more)) h in
-    ap (λ (p : Played). p.stop) (followed-on first (play first.state lines) on.0) ∙ before_on lines first.state more on.1
+before_on : (lines : List (List ℕ)) (number : ℕ) (p : Playing) (more : List (List ℕ)) → (play number p (lines ++ more)).stop ≡ None → (play number p lines).stop ≡ None
+before_on [] number p more h = refl
+before_on (line ∷ lines) number p more h =
+    let first = play_line number p line in
+    let on = first_on first (play (number + 1) first.playing (lines ++ more)) h in
+    ap (λ (x : Played). x.stop) (followed-on first (play (number + 1) first.playing lines) on.0) ∙ before_on lines (number + 1) first.playing more on.1
 
 -- nor at a line behind them
-line_on : (lines : List (List ℕ)) (s : State) (line : List ℕ) (more : List (List ℕ)) → (play s (lines ++ line ∷ more)).stop ≡ None → (play_line (play s lines).state line).stop ≡ None
-line_on lines s line more h =
-    let last = play_line (play s lines).state line in
-    let behind : (play (play s lines).state (line ∷ more)).stop ≡ None =
-    sym (ap (λ (p : Played). p.stop) (play-append lines s (line ∷ more) (before_on lines s (line ∷ more) h))) ∙ h in
-    (first_on last (play last.state more) behind).0
+line_on : (lines : List (List ℕ)) (p : Playing) (line : List ℕ) (more : List (List ℕ)) → (play 1 p (lines ++ line ∷ more)).stop ≡ None → (play_line (1 + length lines) (play 1 p lines).playing line).stop ≡ None
+line_on lines p line more h =
+    let number = 1 + length lines in
+    let last = play_line number (play 1 p lines).playing line in
+    let behind : (play number (play 1 p lines).playing (line ∷ more)).stop ≡ None =
+    sym (ap (λ (x : Played). x.stop) (play-append lines 1 p (line ∷ more) (before_on lines 1 p (line ∷ more) h))) ∙ h in
+    (first_on last (play (number + 1) last.playing more) behind).0
 
 -- the play stops at a line that is too long
-long_stops : (s : State) (line : List ℕ) → LONGEST_LINE < length line → (play_line s line).stop ≡ None → ⊥
-long_stops s line long on = none-some (unbuilt_of_line line) (sym on ∙ stops_at s line (unbuilt_of_line line) (read_line-long line long))
+long_stops : (number : ℕ) (p : Playing) (line : List ℕ) → LONGEST_LINE < length line → (play_line number p line).stop ≡ None → ⊥
+long_stops number p line long on = none-some (record { line = number; column = LONGEST_LINE + 1 }) (sym on ∙ stops_at number p line (LONGEST_LINE + 1) (read_line-long line long))
 
 -- a line that is not empty counts, though no newline ends it
 last_line-some : (text : List ℕ) → 0 < length text → last_line text ≡ text ∷ []
@@ -76,18 +74,18 @@ whole_before script rest =
     )
 
 -- where the play of a script does not stop, it does not stop at the lines that are known before its end
-known_on : (s : State) (script rest : List ℕ) → (play s (lines_of (script ++ rest))).stop ≡ None → (play s (known_lines false script)).stop ≡ None
-known_on s script rest on = elim (cases_lt LONGEST_LINE (length (cut script).unfinished)) [
+known_on : (p : Playing) (script rest : List ℕ) → (play 1 p (lines_of (script ++ rest))).stop ≡ None → (play 1 p (known_lines false script)).stop ≡ None
+known_on p script rest on = elim (cases_lt LONGEST_LINE (length (cut script).unfinished)) [
   | inl long ↦
       let unfinished = (cut script).unfinished in
       let behind = behind_both (cut script) (cut rest).lines (cut rest).unfinished (omega (arith, long)) in
-      let at_line = line_on (whole_lines script) s (unfinished ++ behind.0) behind.1
-      (sym (ap (λ (ls : List (List ℕ)). (play s ls).stop) (ap lines_by (cut-append script rest) ∙ behind.2)) ∙ on) in
-      absurd (long_stops (play s (whole_lines script)).state (unfinished ++ behind.0) (omega (arith, long, length-append unfinished behind.0)) at_line)
+      let at_line = line_on (whole_lines script) p (unfinished ++ behind.0) behind.1
+      (sym (ap (λ (ls : List (List ℕ)). (play 1 p ls).stop) (ap lines_by (cut-append script rest) ∙ behind.2)) ∙ on) in
+      absurd (long_stops (1 + length (whole_lines script)) (play 1 p (whole_lines script)).playing (unfinished ++ behind.0) (omega (arith, long, length-append unfinished behind.0)) at_line)
   | inr short ↦
       let before = whole_before script rest in
-      ap (λ (ls : List (List ℕ)). (play s ls).stop) (known_lines-short script short)
-      ∙ before_on (whole_lines script) s before.0 (sym (ap (λ (ls : List (List ℕ)). (play s ls).stop) before.1) ∙ on)
+      ap (λ (ls : List (List ℕ)). (play 1 p ls).stop) (known_lines-short script short)
+      ∙ before_on (whole_lines script) 1 p before.0 (sym (ap (λ (ls : List (List ℕ)). (play 1 p ls).stop) before.1) ∙ on)
 ]
 
 -- bytes in front of others that are left, if any are told
@@ -112,22 +110,22 @@ module _ (size : Size) (old new : WorldRecord) (free : Unhindered size old new) 
       let p = part taken gives in
       omega (arith, free.short, ap length p.2, length-append taken p.0)
 
-  -- the play does not stop for something that is not built
-  built : (what : Unbuilt) (ended : Bool) (taken : List ℕ) → Gives old.source taken new.source → (ended ≡ true → AtEnd old.source new.source) → (play (empty size.arena size.slots) (known_lines ended taken)).stop ≡ Some what → ⊥
-  built what true taken gives at_end stops =
+  -- the play stops at no line outside the grammar
+  no_bad_line : (bad : BadLine) (ended : Bool) (taken : List ℕ) → Gives old.source taken new.source → (ended ≡ true → AtEnd old.source new.source) → (play 1 (new_play size.arena size.slots) (known_lines ended taken)).stop ≡ Some bad → ⊥
+  no_bad_line bad true taken gives at_end stops =
       let p = part taken gives in
       let rest : p.0 ≡ [] = subst (λ (o : Option (List ℕ)). IfSome o (λ left. left ≡ [])) p.1 (at_end refl).1 in
       let whole : free.script ≡ taken = p.2 ∙ ap (λ (t : List ℕ). taken ++ t) rest ∙ append-nil taken in
-      none-some what (sym free.built ∙ ap (λ (t : List ℕ). (play (empty size.arena size.slots) (lines_of t)).stop) whole ∙ stops)
-  built what false taken gives at_end stops =
+      none-some bad (sym free.good_lines ∙ ap (λ (t : List ℕ). (play 1 (new_play size.arena size.slots) (lines_of t)).stop) whole ∙ stops)
+  no_bad_line bad false taken gives at_end stops =
       let p = part taken gives in
-      none-some what (sym (known_on (empty size.arena size.slots) taken p.0 (sym (ap (λ (t : List ℕ). (play (empty size.arena size.slots) (lines_of t)).stop) p.2) ∙ free.built)) ∙ stops)
+      none-some bad (sym (known_on (new_play size.arena size.slots) taken p.0 (sym (ap (λ (t : List ℕ). (play 1 (new_play size.arena size.slots) (lines_of t)).stop) p.2) ∙ free.good_lines)) ∙ stops)
 
-  script_done : (ending : ScriptEnd) (taken : List ℕ) → Gives old.source taken new.source → ScriptEnds ending (empty size.arena size.slots) taken old new → status_of_script ending ≡ status.Done
+  script_done : (ending : ScriptEnd) (taken : List ℕ) → Gives old.source taken new.source → ScriptEnds ending (new_play size.arena size.slots) taken old new → status_of_script ending ≡ status.Done
   script_done script_end.Done taken gives ends = refl
   script_done script_end.StreamLimit taken gives ends = absurd (omega (arith, short_taken taken gives, ends.0))
   script_done script_end.SourceFault taken gives ends = absurd (free.source_works ends.1)
-  script_done (script_end.Stopped (stop.NotBuilt what)) taken gives ends = absurd (built what ends.0 taken gives ends.1 ends.2.0)
+  script_done (script_end.Stopped (stop.BadLine line column)) taken gives ends = absurd (no_bad_line (record { line = line; column = column }) ends.0 taken gives ends.1 ends.2.0)
   script_done (script_end.Stopped stop.SinkFault) taken gives ends = absurd (free.sink_works ends.2.0)
 
   comes_to_end : (ending : Result ScriptEnd CreateFault) → PlayEnds ending size old new → (status_of_play ending ≡ status.Done) ⊎ (status_of_play ending ≡ status.NoMemory)

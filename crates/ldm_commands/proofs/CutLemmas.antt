@@ -2,7 +2,6 @@
 use Rattle.std.proofs.Common.{◌≡◌, ℕ, Bool, true, false, cond, eqb, List, [], ◌∷◌, ◌++◌, refl, ap, ◌∙◌}
 use Rattle.std.proofs.lemmas.List.{append-nil}
 use Rattle.std.proofs.lemmas.List.Elements.{All-head, All-tail}
-use Rattle.ldm_commands.specs.Split.{is_byte}
 use Rattle.ldm_commands.specs.Lines.{Cut, onto_line, cut}
 use Rattle.ldm_commands.proofs.SplitLemmas.{Lacks}
 
@@ -41,9 +40,9 @@ cut-append (x ∷ xs) ys = by_test (eqb x 10) (cut-append xs ys)
 pub cut-plain : (text : List ℕ) → Lacks 10 text → cut text ≡ record { lines = []; unfinished = text }
 cut-plain [] h = refl
 cut-plain (byte ∷ bytes) h =
-    let here : eqb byte 10 ≡ false = All-head (λ x. is_byte 10 x ≡ false) byte bytes h in
+    let here : eqb byte 10 ≡ false = All-head (λ x. eqb x 10 ≡ false) byte bytes h in
     ap (λ (b : Bool). cond b (record { lines = [] ∷ (cut bytes).lines; unfinished = (cut bytes).unfinished }) (onto_line byte (cut bytes).lines (cut bytes).unfinished)) here
-    ∙ ap (λ (c : Cut). onto_line byte c.lines c.unfinished) (cut-plain bytes (All-tail (λ x. is_byte 10 x ≡ false) byte bytes h))
+    ∙ ap (λ (c : Cut). onto_line byte c.lines c.unfinished) (cut-plain bytes (All-tail (λ x. eqb x 10 ≡ false) byte bytes h))
 
 -- a script that goes on with the end of a line, and more behind it
 pub cut-line : (script end behind : List ℕ) → Lacks 10 end → cut (script ++ (end ++ 10 ∷ behind)) ≡ record { lines = (cut script).lines ++ ((cut script).unfinished ++ end) ∷ (cut behind).lines; unfinished = (cut behind).unfinished }

@@ -1,7 +1,5 @@
-pub mod NumberLemmas
-pub mod SplitLemmas
-pub mod ReadLineLemmas
 pub mod PlayLineLemmas
+pub mod SplitLemmas
 pub mod CutLemmas
 pub mod PlayLemmas
 pub mod GoesOnLemmas

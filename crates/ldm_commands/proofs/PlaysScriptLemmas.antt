@@ -2,12 +2,12 @@
 use Rattle.std.proofs.Common.{false, List, ℕ}
 use Rattle.std.proofs.lemmas.Bool.{false≢true}
 use Rattle.ldm_outside.specs.World.{WorldRecord}
-use Rattle.ldm_model.specs.State.{State}
+use Rattle.ldm_script.specs.Resolve.{Playing}
 use Rattle.ldm_commands.specs.declared.play_command.ScriptEnd.TheVariants as script_end
 use Rattle.ldm_commands.specs.declared.player.Stop.{Stop}
 use Rattle.ldm_commands.specs.Lines.{known_lines}
 use Rattle.ldm_commands.specs.Ending.{StopsAt, ScriptEnds}
 
 -- a stop before the end of the script is known
-pub stopped_within : (why : Stop) (s : State) (script : List ℕ) (old new : WorldRecord) → StopsAt why s (known_lines false script) old.sink new.sink → ScriptEnds (script_end.Stopped why) s script old new
-stopped_within why s script old new stops = (false, λ e. absurd (false≢true e), stops)
+pub stopped_within : (why : Stop) (p : Playing) (script : List ℕ) (old new : WorldRecord) → StopsAt why p (known_lines false script) old.sink new.sink → ScriptEnds (script_end.Stopped why) p script old new
+stopped_within why p script old new stops = (false, λ e. absurd (false≢true e), stops)

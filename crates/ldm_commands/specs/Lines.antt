@@ -1,6 +1,6 @@
 -- The lines of a text: its parts between newlines.
 use Rattle.std.specs.Prelude.{ℕ, ◌==◌, nat_lt, List, [], ◌∷◌, ◌++◌, length, Bool, true, false, if◌then◌else◌}
-use Rattle.ldm_commands.specs.declared.script.line.TheConstants.{LONGEST_LINE}
+use Rattle.ldm_script.specs.declared.line.TheConstants.{LONGEST_LINE}
 
 -- a text cut at its newlines: the lines that end in one, and what stands behind the last
 pub record Cut : Type 0 where

@@ -1,45 +1,51 @@
 -- What playing the lines of a script writes, and where it stops.
-use Rattle.std.specs.Prelude.{ℕ, is_some, List, [], ◌∷◌, ◌++◌, Option, Some, None, if◌then◌else◌}
-use Rattle.ldm_model.specs.State.{State}
-use Rattle.ldm_model.specs.Outcome.{Outcome}
-use Rattle.ldm_model.specs.Next.{next}
-use Rattle.ldm_commands.specs.declared.unbuilt.Unbuilt.{Unbuilt}
-use Rattle.ldm_commands.specs.Line.{Reading, Skipped, Ordered, Refused, read_line}
-use Rattle.ldm_commands.specs.Answer.{answer_line}
+use Rattle.std.specs.Prelude.{ℕ, ◌+◌, is_some, List, [], ◌∷◌, ◌++◌, Option, Some, None, Result, Ok, Err, if◌then◌else◌}
+use Rattle.ldm_script.specs.Order.{Order}
+use Rattle.ldm_script.specs.Grammar.{read_line}
+use Rattle.ldm_script.specs.Resolve.{Playing, Answered, answer_order}
+use Rattle.ldm_script.specs.Answer.{answer_line}
+
+-- a line outside the grammar: its number in the script, from 1, and the column of its first fault
+pub record BadLine : Type 0 where
+  pub line : ℕ
+  pub column : ℕ
 
 pub record Played : Type 0 where
   -- all that is written
   pub text : List ℕ
-  pub state : State
-  -- what is not built yet, where the play stops for it
-  pub stop : Option Unbuilt
+  -- the queue, and the place that each actor opened last
+  pub playing : Playing
+  -- the line at which the play stops
+  pub stop : Option BadLine
 
-abbrev pub nothing_played : State → Played
-nothing_played s = record { text = []; state = s; stop = None }
+abbrev pub nothing_played : Playing → Played
+nothing_played p = record { text = []; playing = p; stop = None }
 
-abbrev pub stopped_for : State → Unbuilt → Played
-stopped_for s what = record { text = []; state = s; stop = Some what }
+abbrev pub stopped_at : Playing → BadLine → Played
+stopped_at p bad = record { text = []; playing = p; stop = Some bad }
 
--- the reply of the queue is answered by one line
-abbrev pub play_outcome : Outcome → Played
-play_outcome outcome = record { text = answer_line outcome.reply; state = outcome.state; stop = None }
+-- the reply is answered by one line
+abbrev pub answer_written : Answered → Played
+answer_written answered = record { text = answer_line answered.reply; playing = answered.playing; stop = None }
 
-abbrev pub play_reading : State → Reading → Played
-play_reading s Skipped = nothing_played s
-play_reading s (Ordered order) = play_outcome (next s order.actor order.event)
-play_reading s (Refused what) = stopped_for s what
+-- a line of that number in the script, by what it was read as
+abbrev pub play_reading : ℕ → Playing → Result (Option Order) ℕ → Played
+play_reading number p (Ok None) = nothing_played p
+play_reading number p (Ok (Some order)) = answer_written (answer_order p order)
+play_reading number p (Err column) = stopped_at p (record { line = number; column = column })
 
-unfoldable pub play_line : State → List ℕ → Played
-play_line s line = play_reading s (read_line line)
+-- there are 64 actors
+unfoldable pub play_line : ℕ → Playing → List ℕ → Played
+play_line number p line = play_reading number p (read_line 64 line)
 
 -- what was played, and what is played behind it, unless the play stopped
 abbrev pub followed : Played → Played → Played
 followed first behind =
     if is_some first.stop
     then first
-    else record { text = first.text ++ behind.text; state = behind.state; stop = behind.stop }
+    else record { text = first.text ++ behind.text; playing = behind.playing; stop = behind.stop }
 
--- lines, one after another
-abbrev pub play : State → List (List ℕ) → Played
-play s [] = nothing_played s
-play s (line ∷ lines) = followed (play_line s line) (play (play_line s line).state lines)
+-- lines, one after another, of which the first has that number
+abbrev pub play : ℕ → Playing → List (List ℕ) → Played
+play number p [] = nothing_played p
+play number p (line ∷ lines) = followed (play_line number p line) (play (number + 1) (play_line number p line).playing lines)

@@ -17,6 +17,7 @@ use Rattle.ldm_commands.specs.Unbuilt.{unbuilt_text}
 abbrev pub code_of : Status → ℕ
 code_of status.Done = 0
 code_of status.Usage = 64
+code_of (status.BadLine line column) = 65
 code_of status.StreamLimit = 66
 code_of (status.RefusedArena arena) = 67
 code_of (status.RefusedSlots slots) = 67
@@ -29,6 +30,7 @@ code_of status.SinkFault = 75
 abbrev pub log_line : Status → List ℕ
 log_line status.Done = []
 log_line status.Usage = codes "ldm: usage\n"
+log_line (status.BadLine line column) = codes "ldm: bad line " ++ decimal line ++ codes " column " ++ decimal column ++ 10 ∷ []
 log_line status.StreamLimit = codes "ldm: stream limit\n"
 log_line (status.RefusedArena arena) = codes "ldm: refused arena " ++ decimal arena ++ 10 ∷ []
 log_line (status.RefusedSlots slots) = codes "ldm: refused slots " ++ decimal slots ++ 10 ∷ []
@@ -39,7 +41,7 @@ log_line status.SinkFault = codes "ldm: sink fault\n"
 
 -- the status of a stop at a line
 abbrev pub status_of_stop : Stop → Status
-status_of_stop (stop.NotBuilt what) = status.NotBuilt what
+status_of_stop (stop.BadLine line column) = status.BadLine line column
 status_of_stop stop.SinkFault = status.SinkFault
 
 -- the status of how a script ended

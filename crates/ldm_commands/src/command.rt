@@ -2,8 +2,8 @@
 ghost use Rattle.std.specs.Prelude.{◌≡◌, map, string_bytes};
 ghost use Rattle.ldm_commands.specs.Command.{command_of, play_of};
 
-use crate::script::number::read_number;
-use crate::unbuilt::{CommandWord, Unbuilt};
+use crate::unbuilt::Unbuilt;
+use ldm_script::read_number;
 
 /// What the words of the program ask for.
 #[derive(Clone, Copy, Debug, PartialEq, Eq)]
@@ -23,7 +23,7 @@ pub fn read_command(words: &[String]) -> Option<Command>
     };
     match first.as_bytes() {
         b"play" => read_play(others),
-        word => Some(Command::NotBuilt(Unbuilt::Command(CommandWord::of_text(word)?))),
+        word => Some(Command::NotBuilt(Unbuilt::of_text(word)?)),
     }
 }
 

@@ -4,15 +4,13 @@
 //! that command. Its contract says how that ends, by cases on the words.
 #![tactic(auto)]
 
-mod answer;
+mod calls;
 mod command;
 mod pending;
 mod play_command;
 mod player;
 mod run;
-mod script;
 mod status;
-mod text;
 mod unbuilt;
 
 pub use play_command::play;

@@ -1,66 +1,81 @@
-//! The beginning of a line whose end was not read yet.
-ghost use Rattle.std.specs.Prelude.{◌≡◌, ◌+◌, ◌≤◌, ◌==◌, ◌↔◌, ◌++◌, [], length, take, IsTrue, IfOk};
+//! The line that is being read.
+ghost use Rattle.std.specs.Prelude.{◌≡◌, ◌+◌, ◌^◌, ◌<◌, ◌≤◌, ◌==◌, ◌↔◌, ◌++◌, length, take, IsTrue, IfOk};
 ghost use Rattle.std.specs.Vec.{vec_len, vec_capacity};
+ghost use Rattle.ldm_commands.specs.PendingView.{fresh_line};
+ghost use Rattle.ldm_script.specs.declared.line.TheConstants.{LONGEST_LINE};
 
-use crate::script::line::LONGEST_LINE;
+use ldm_script::LONGEST_LINE;
 use ldm_types::OutOfMemory;
 use std::alloc::Global;
 use std::marker::Model;
 
-/// The bytes of a line so far: never more than a line may have.
+/// The line that is being read: its number in the script, from 1, and its bytes so far, which are never more than a
+/// line may have.
 #[derive(Drop)]
 pub struct Pending {
+    number: u64,
     bytes: Vec<u8>,
 }
 
 impl Model for Pending {
-    ghost use Rattle.std.specs.Prelude.{ℕ, ◌≤◌, List, length};
+    ghost use Rattle.std.specs.Prelude.{◌≤◌, length};
     ghost use Rattle.std.specs.Vec.{vec_capacity};
-    ghost use Rattle.ldm_commands.specs.declared.script.line.TheConstants.{LONGEST_LINE};
+    ghost use Rattle.ldm_script.specs.declared.line.TheConstants.{LONGEST_LINE};
+    ghost use Rattle.ldm_commands.specs.PendingView.{PendingView};
 
-    ghost Value = { List ℕ };
+    ghost Value = { PendingView };
 
-    ghost view = { λ p. p.bytes.items };
+    ghost view = { λ p. record { number = p.number; bytes = p.bytes.items } };
 
     ghost invariant = { λ p. (length p.bytes.items ≤ LONGEST_LINE) × (LONGEST_LINE ≤ vec_capacity p.bytes) };
 }
 
 impl Pending {
-    /// No bytes, with room for all that a line may have.
+    /// The first line, of which nothing was read yet, with room for all bytes that a line may have.
     pub fn new(alloc: Global) -> Result<Pending, OutOfMemory>
-        ensures { IfOk result (λ pending. pending ≡ []) }
+        ensures { IfOk result (λ pending. pending ≡ fresh_line 1) }
     {
         Ok(Pending {
+            number: 1,
             bytes: Vec::with_capacity(alloc, LONGEST_LINE)?,
         })
     }
 
-    /// Whether there are none.
+    /// The number of the line.
+    pub fn number(&self) -> u64
+        ensures { result ≡ self.now.number }
+    {
+        self.number
+    }
+
+    /// Whether it has no bytes so far.
     pub fn is_empty(&self) -> bool
-        ensures { result ≡ (length self.now == 0) }
+        ensures { result ≡ (length self.now.bytes == 0) }
     {
         self.bytes.is_empty()
     }
 
-    /// The bytes.
+    /// The bytes so far.
     pub fn as_slice(&self) -> &[u8]
-        ensures value { result.now ≡ self.now }
+        ensures value { result.now ≡ self.now.bytes }
         ensures bound { length result.now ≤ LONGEST_LINE }
     {
         self.bytes.as_slice()
     }
 
-    /// Forgets them.
-    pub fn clear(&mut self)
-        ensures { self.new ≡ [] }
+    /// Goes on to the next line.
+    pub fn next_line(&mut self)
+        requires { self.old.number + 1 < 2 ^ 64 }
+        ensures { self.new ≡ fresh_line (self.old.number + 1) }
     {
+        self.number += 1;
         self.bytes.clear();
     }
 
     /// Adds bytes, as many as a line may have. Whether all fitted.
     pub fn add(&mut self, more: &[u8]) -> bool
-        ensures fits { IsTrue result ↔ (length self.old + length more.now ≤ LONGEST_LINE) }
-        ensures bytes { self.new ≡ take LONGEST_LINE (self.old ++ more.now) }
+        ensures fits { IsTrue result ↔ (length self.old.bytes + length more.now ≤ LONGEST_LINE) }
+        ensures bytes { self.new ≡ record self.old { bytes = take LONGEST_LINE (self.old.bytes ++ more.now) } }
     {
         let room = LONGEST_LINE - self.bytes.len();
         if more.len() <= room {

@@ -1,10 +1,11 @@
 //! `ldm play`: a script, played on a queue.
-ghost use Rattle.std.specs.Prelude.{◌≡◌, ◌<◌, ◌≤◌, ◌++◌, ℕ, List, [], length, OnOk, Result};
+ghost use Rattle.std.specs.Prelude.{◌≡◌, ◌+◌, ◌^◌, ◌<◌, ◌≤◌, ◌++◌, ℕ, List, length, OnOk, Result};
 ghost use Rattle.ldm_outside.specs.Io.{SinkRecord};
 ghost use Rattle.ldm_outside.specs.World.{WorldRecord};
-ghost use Rattle.ldm_model.specs.State.{State};
-ghost use Rattle.ldm_book.specs.Stands.{StandsFor};
+ghost use Rattle.ldm_script.specs.Resolve.{Playing};
 ghost use Rattle.ldm_commands.specs.Play.{play_line};
+ghost use Rattle.ldm_commands.specs.PlayerView.{StandsForPlay};
+ghost use Rattle.ldm_commands.specs.PendingView.{fresh_line};
 ghost use Rattle.ldm_commands.specs.Ending.{PlaysScript, PlayEnds};
 ghost use Rattle.ldm_commands.specs.Step.{GoesOn, LineGives, PieceGives, EndGives};
 ghost use Rattle.ldm_commands.specs.Run.{Plays};
@@ -12,10 +13,10 @@ ghost use Rattle.ldm_commands.specs.Complete.{Completes};
 
 use crate::pending::Pending;
 use crate::player::{Player, Stop};
-use crate::script::line::{LONGEST_LINE, unbuilt_of};
 use crate::status::Status;
 use ldm_book::{Book, CreateFault};
 use ldm_outside::{Got, Sink, Source};
+use ldm_script::LONGEST_LINE;
 use memchr::memchr;
 use std::alloc::Global;
 
@@ -38,25 +39,50 @@ pub enum ScriptEnd {
     Stopped(Stop),
 }
 
+// A line that is longer than a line may be is refused behind the last byte that it may have.
+fn too_long(number: u64) -> Stop
+    ensures { result ≡ Stop.BadLine number (LONGEST_LINE + 1) }
+{
+    Stop::BadLine {
+        line: number,
+        column: LONGEST_LINE as u32 + 1,
+    }
+}
+
 // Plays the line that ends here: what is pending, and then its end.
+fn play_ended<K: Sink>(
+    player: &mut Player,
+    pending: &mut Pending,
+    end: &[u8],
+    sink: &mut K,
+) -> Result<(), Stop>
+    ensures played { (p : Playing) → StandsForPlay player.old p → LineGives result (play_line pending.old.number p (pending.old.bytes ++ end.now)) player.new (K.tells sink.old) (K.tells sink.new) }
+    ensures number { pending.new.number ≡ pending.old.number }
+    ensures faults_kept { (K.tells sink.old).faults ≤ (K.tells sink.new).faults }
+{
+    if pending.is_empty() {
+        return player.play_line(pending.number(), end, sink);
+    }
+    if !pending.add(end) {
+        return Err(too_long(pending.number()));
+    }
+    player.play_line(pending.number(), pending.as_slice(), sink)
+}
+
+// Plays the line that ends here, and goes on to the next.
 fn end_line<K: Sink>(
     player: &mut Player,
     pending: &mut Pending,
     end: &[u8],
     sink: &mut K,
 ) -> Result<(), Stop>
-    ensures played { (s : State) → StandsFor player.old s → LineGives result (play_line s (pending.old ++ end.now)) player.new (K.tells sink.old) (K.tells sink.new) }
-    ensures forgotten { OnOk result (pending.new ≡ []) }
+    requires { pending.old.number + 1 < 2 ^ 64 }
+    ensures played { (p : Playing) → StandsForPlay player.old p → LineGives result (play_line pending.old.number p (pending.old.bytes ++ end.now)) player.new (K.tells sink.old) (K.tells sink.new) }
+    ensures next { OnOk result (pending.new ≡ fresh_line (pending.old.number + 1)) }
     ensures faults_kept { (K.tells sink.old).faults ≤ (K.tells sink.new).faults }
 {
-    if pending.is_empty() {
-        return player.play_line(end, sink);
-    }
-    if !pending.add(end) {
-        return Err(Stop::NotBuilt(unbuilt_of(pending.as_slice())));
-    }
-    player.play_line(pending.as_slice(), sink)?;
-    pending.clear();
+    play_ended(player, pending, end, sink)?;
+    pending.next_line();
     Ok(())
 }
 
@@ -67,8 +93,10 @@ fn play_piece<K: Sink>(
     piece: &[u8],
     sink: &mut K,
 ) -> Result<(), Stop>
-    ensures played { (s : State) (script : List ℕ) (before : SinkRecord) → GoesOn s script player.old pending.old before (K.tells sink.old) →
-        PieceGives result s (script ++ piece.now) player.new pending.new before (K.tells sink.new) }
+    requires { pending.old.number + length piece.now < 2 ^ 64 }
+    ensures played { (p : Playing) (script : List ℕ) (before : SinkRecord) → GoesOn p script player.old pending.old before (K.tells sink.old) →
+        PieceGives result p (script ++ piece.now) player.new pending.new before (K.tells sink.new) }
+    ensures number { OnOk result (pending.new.number ≤ pending.old.number + length piece.now) }
     ensures faults_kept { (K.tells sink.old).faults ≤ (K.tells sink.new).faults }
 {
     let mut rest = piece;
@@ -77,21 +105,21 @@ fn play_piece<K: Sink>(
         rest = &rest[at + 1..];
     }
     if !pending.add(rest) {
-        return Err(Stop::NotBuilt(unbuilt_of(pending.as_slice())));
+        return Err(too_long(pending.number()));
     }
     Ok(())
 }
 
 // Plays the last line of a script, which no newline ends.
 fn play_last<K: Sink>(player: &mut Player, pending: &Pending, sink: &mut K) -> Result<(), Stop>
-    ensures played { (s : State) (script : List ℕ) (before : SinkRecord) → GoesOn s script player.old pending.now before (K.tells sink.old) →
-        EndGives result s script before (K.tells sink.new) }
+    ensures played { (p : Playing) (script : List ℕ) (before : SinkRecord) → GoesOn p script player.old pending.now before (K.tells sink.old) →
+        EndGives result p script before (K.tells sink.new) }
     ensures faults_kept { (K.tells sink.old).faults ≤ (K.tells sink.new).faults }
 {
     if pending.is_empty() {
         return Ok(());
     }
-    player.play_line(pending.as_slice(), sink)
+    player.play_line(pending.number(), pending.as_slice(), sink)
 }
 
 // Reads the script piece by piece, up to its end or its limit, and plays its lines.
@@ -103,11 +131,11 @@ fn play_script<S: Source, K: Sink>(
     sink: &mut K,
 ) -> ScriptEnd
     requires room { 0 < length piece.old }
-    requires fresh { pending.old ≡ [] }
-    ensures plays { (s : State) (log_before log_after : SinkRecord) → StandsFor player.old s →
+    requires fresh { pending.old ≡ fresh_line 1 }
+    ensures plays { (p : Playing) (log_before log_after : SinkRecord) → StandsForPlay player.old p →
         let old : WorldRecord = record { source = S.tells source.old; sink = K.tells sink.old; log = log_before } in
         let new : WorldRecord = record { source = S.tells source.new; sink = K.tells sink.new; log = log_after } in
-        PlaysScript result s old new }
+        PlaysScript result p old new }
     ensures source_faults_kept { (S.tells source.old).faults ≤ (S.tells source.new).faults }
     ensures sink_faults_kept { (K.tells sink.old).faults ≤ (K.tells sink.new).faults }
 {

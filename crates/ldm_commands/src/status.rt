@@ -3,10 +3,17 @@ ghost use Rattle.std.specs.Prelude.{◌≡◌, ◌≤◌};
 
 use crate::play_command::ScriptEnd;
 use crate::player::Stop;
-use crate::text::{Text, put, put_number};
 use crate::unbuilt::Unbuilt;
+use arrayvec::ArrayVec;
 use ldm_book::CreateFault;
 use ldm_outside::{Sink, SinkFailed, write_all};
+use ldm_script::{put, put_number};
+
+// The most bytes of a log line, with its newline.
+const LONGEST_LOG_LINE: usize = 64;
+
+// A log line, with room for the longest.
+type LogLine = ArrayVec<u8, LONGEST_LOG_LINE>;
 
 /// How the program ends, its log apart.
 #[derive(Clone, Copy, Debug, PartialEq, Eq)]
@@ -15,13 +22,15 @@ pub enum Status {
     Done,
     /// The words are no form of a command.
     Usage,
+    /// A line of a script is outside the grammar: its number, from 1, and the column of its first fault.
+    BadLine { line: u64, column: u32 },
     /// As many bytes of a script were taken as are too many.
     StreamLimit,
     /// No queue has an arena of so many bytes.
     RefusedArena(u64),
     /// No queue has so many slots.
     RefusedSlots(u32),
-    /// Something was asked for that is not built yet.
+    /// The words ask for a command that is not built yet.
     NotBuilt(Unbuilt),
     /// There is no memory.
     NoMemory,
@@ -41,7 +50,7 @@ impl From<Stop> for Status {
 
     fn from(stop: Stop) -> Status {
         match stop {
-            Stop::NotBuilt(what) => Status::NotBuilt(what),
+            Stop::BadLine { line, column } => Status::BadLine { line, column },
             Stop::SinkFault => Status::SinkFault,
         }
     }
@@ -86,6 +95,7 @@ impl Status {
         match self {
             Status::Done => 0,
             Status::Usage => 64,
+            Status::BadLine { .. } => 65,
             Status::StreamLimit => 66,
             Status::RefusedArena(_) | Status::RefusedSlots(_) => 67,
             Status::NotBuilt(_) => 68,
@@ -96,13 +106,20 @@ impl Status {
     }
 
     /// Writes the log line, with its newline, over what the buffer had: nothing where all went well.
-    fn write_line(&self, out: &mut Text)
+    fn write_line(&self, out: &mut LogLine)
         ensures { out.new.items ≡ log_line self.now }
     {
         out.clear();
         match *self {
             Status::Done => {}
             Status::Usage => put(out, b"ldm: usage\n"),
+            Status::BadLine { line, column } => {
+                put(out, b"ldm: bad line ");
+                put_number(out, line);
+                put(out, b" column ");
+                put_number(out, u64::from(column));
+                put(out, b"\n");
+            }
             Status::StreamLimit => put(out, b"ldm: stream limit\n"),
             Status::RefusedArena(arena) => {
                 put(out, b"ldm: refused arena ");
@@ -131,7 +148,7 @@ impl Status {
         ensures reports { Reports self.now result (E.tells log.old) (E.tells log.new) }
         ensures faults_kept { (E.tells log.old).faults ≤ (E.tells log.new).faults }
     {
-        let mut line = Text::new();
+        let mut line = LogLine::new();
         self.write_line(&mut line);
         match write_all(log, line.as_slice()) {
             Ok(()) => self.code(),

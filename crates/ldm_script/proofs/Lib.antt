@@ -5,3 +5,8 @@ pub mod Hexadecimal
 pub mod Unspelling
 pub mod Bodies
 pub mod Fitting
+pub mod Appending
+pub mod Solid
+pub mod ReadBack
+pub mod RoundTrip
+pub mod Askable

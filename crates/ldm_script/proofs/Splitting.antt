@@ -35,20 +35,27 @@ whole-some c text at h =
     let found : get_or text at 0 ≡ c = eqb-true (get_or text at 0) c h.1 in
     sym (ap (λ (ys : List ℕ). take at text ++ ys) (ap (λ (y : ℕ). y ∷ drop (at + 1) text) (sym found) ∙ sym (drop_more text at 0 h.0.high)) ∙ take-append-drop at text)
 
--- the first field of a text that is cut at its first blank
-pub first_field-cut : (front : List ℕ) (behind : Option (Bor (List ℕ))) → Lacks 32 front → first_field (front ++ with_behind 32 behind) ≡ front
-first_field-cut [] None lacks = refl
-first_field-cut [] (Some rest) lacks = refl
-first_field-cut (byte ∷ bytes) behind lacks =
-    ap (λ (b : Bool). cond b [] (byte ∷ first_field (bytes ++ with_behind 32 behind))) (All-head (λ x. (x == 32) ≡ false) byte bytes lacks)
-    ∙ ap (λ (xs : List ℕ). byte ∷ xs) (first_field-cut bytes behind (All-tail (λ x. (x == 32) ≡ false) byte bytes lacks))
+-- the first field of a text that begins with bytes that are no blank
+pub first_field-front : (front tail : List ℕ) → Lacks 32 front → first_field (front ++ tail) ≡ front ++ first_field tail
+first_field-front [] tail lacks = refl
+first_field-front (byte ∷ bytes) tail lacks =
+    ap (λ (b : Bool). cond b [] (byte ∷ first_field (bytes ++ tail))) (All-head (λ x. (x == 32) ≡ false) byte bytes lacks)
+    ∙ ap (λ (xs : List ℕ). byte ∷ xs) (first_field-front bytes tail (All-tail (λ x. (x == 32) ≡ false) byte bytes lacks))
 
-pub behind_field-cut : (front : List ℕ) (behind : Option (Bor (List ℕ))) → Lacks 32 front → behind_field (front ++ with_behind 32 behind) ≡ seen behind
-behind_field-cut [] None lacks = refl
-behind_field-cut [] (Some rest) lacks = refl
-behind_field-cut (byte ∷ bytes) behind lacks =
-    ap (λ (b : Bool). cond b (Some (bytes ++ with_behind 32 behind)) (behind_field (bytes ++ with_behind 32 behind))) (All-head (λ x. (x == 32) ≡ false) byte bytes lacks)
-    ∙ behind_field-cut bytes behind (All-tail (λ x. (x == 32) ≡ false) byte bytes lacks)
+pub behind_field-front : (front tail : List ℕ) → Lacks 32 front → behind_field (front ++ tail) ≡ behind_field tail
+behind_field-front [] tail lacks = refl
+behind_field-front (byte ∷ bytes) tail lacks =
+    ap (λ (b : Bool). cond b (Some (bytes ++ tail)) (behind_field (bytes ++ tail))) (All-head (λ x. (x == 32) ≡ false) byte bytes lacks)
+    ∙ behind_field-front bytes tail (All-tail (λ x. (x == 32) ≡ false) byte bytes lacks)
+
+-- the first field of a text that is cut at its first blank
+first_field-cut : (front : List ℕ) (behind : Option (Bor (List ℕ))) → Lacks 32 front → first_field (front ++ with_behind 32 behind) ≡ front
+first_field-cut front None lacks = first_field-front front [] lacks ∙ append-nil front
+first_field-cut front (Some rest) lacks = first_field-front front (32 ∷ rest.now) lacks ∙ append-nil front
+
+behind_field-cut : (front : List ℕ) (behind : Option (Bor (List ℕ))) → Lacks 32 front → behind_field (front ++ with_behind 32 behind) ≡ seen behind
+behind_field-cut front None lacks = behind_field-front front [] lacks
+behind_field-cut front (Some rest) lacks = behind_field-front front (32 ∷ rest.now) lacks
 
 pub first_field-of : (text front : List ℕ) (behind : Option (Bor (List ℕ))) → Cuts 32 text front behind → front ≡ first_field text
 first_field-of text front behind cuts = sym (ap first_field cuts.whole ∙ first_field-cut front behind cuts.lacks)

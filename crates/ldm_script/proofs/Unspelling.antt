@@ -18,7 +18,7 @@ escaped byte = refl
 
 -- ---- the byte at the front
 
-unspelled-plain : (byte : ℕ) (bytes : List ℕ) → (byte == 37) ≡ false → unspelled (byte ∷ bytes) ≡ with_byte (Some (byte ∷ [])) (unspelled bytes)
+pub unspelled-plain : (byte : ℕ) (bytes : List ℕ) → (byte == 37) ≡ false → unspelled (byte ∷ bytes) ≡ with_byte (Some (byte ∷ [])) (unspelled bytes)
 unspelled-plain byte [] plain = ap (λ (b : Bool). cond b None (Some (byte ∷ []))) plain
 unspelled-plain byte (next ∷ []) plain = ap (λ (b : Bool). cond b None (with_byte (Some (byte ∷ [])) (unspelled (next ∷ [])))) plain
 unspelled-plain byte (high ∷ low ∷ rest) plain =

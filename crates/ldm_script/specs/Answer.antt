@@ -1,5 +1,5 @@
--- What is written for a reply: one line, without its newline.
-use Rattle.std.specs.Prelude.{ℕ, List, ◌∷◌, ◌++◌, codes, decimal}
+-- What is written for a reply: one line.
+use Rattle.std.specs.Prelude.{ℕ, List, [], ◌∷◌, ◌++◌, codes, decimal}
 use Rattle.hex.specs.Hex.{encode_lower}
 use Rattle.ldm_types.specs.Info.{Metadata}
 use Rattle.ldm_feedtype.specs.Text.{feed_digits}
@@ -16,12 +16,17 @@ blank_field field = 32 ∷ field
 abbrev pub blank_number : ℕ → List ℕ
 blank_number n = blank_field (decimal n)
 
+-- `SIG FEED SEQNO ORIGIN IDENT`, a blank before each
+abbrev pub product_text : Metadata → List ℕ
+product_text info =
+    blank_field (encode_lower info.signature) ++ blank_field (feed_digits info.feed) ++ blank_number info.seqno
+    ++ blank_field (spelled info.origin) ++ blank_field (spelled info.ident)
+
 -- `ARRIVAL SIG FEED SEQNO ORIGIN IDENT SIZE`, a blank before each
 abbrev pub info_text : Metadata → List ℕ
-info_text info =
-    blank_number info.arrival ++ blank_field (encode_lower info.signature) ++ blank_field (feed_digits info.feed) ++ blank_number info.seqno
-    ++ blank_field (spelled info.origin) ++ blank_field (spelled info.ident) ++ blank_number info.size
+info_text info = blank_number info.arrival ++ product_text info ++ blank_number info.size
 
+-- without its newline
 unfoldable pub reply_text : Reply → List ℕ
 reply_text (reply.Admitted n time evicted) = codes "admitted" ++ blank_number n ++ blank_number time ++ blank_number evicted
 reply_text (reply.TooBig need arena) = codes "toobig" ++ blank_number need ++ blank_number arena
@@ -47,3 +52,7 @@ reply_text (reply.Expired n) = codes "expired" ++ blank_number n
 reply_text reply.Nothing = codes "nothing"
 reply_text (reply.Tally given lost left) = codes "tally" ++ blank_number given ++ blank_number lost ++ blank_number left
 reply_text (reply.Stat admitted queued held used largest_free) = codes "stat" ++ blank_number admitted ++ blank_number queued ++ blank_number held ++ blank_number used ++ blank_number largest_free
+
+-- with its newline
+unfoldable pub answer_line : Reply → List ℕ
+answer_line r = reply_text r ++ 10 ∷ []

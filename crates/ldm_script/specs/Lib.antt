@@ -14,3 +14,4 @@ pub mod AnswerView
 pub mod OrderView
 pub mod Spelling
 pub mod Resolve
+pub mod Writing

@@ -4,7 +4,7 @@ use Rattle.ldm_model.specs.declared.event.Event.TheVariants as event
 use Rattle.ldm_script.specs.declared.body.Body.{Body}
 use Rattle.ldm_script.specs.declared.body.Body.TheVariants.{Hex, Fill}
 use Rattle.ldm_script.specs.declared.body.TheConstants.{LONGEST_BODY}
-use Rattle.ldm_script.specs.declared.line.TheConstants.{LONGEST_LINE}
+use Rattle.ldm_script.specs.declared.line.TheConstants.{LONGEST_LINE, LONGEST_READ}
 use Rattle.ldm_script.specs.declared.order.Act.{Act}
 use Rattle.ldm_script.specs.declared.order.Act.TheVariants as act
 use Rattle.ldm_script.specs.declared.order.Order.{Order as ReadOrder}
@@ -36,7 +36,15 @@ asked_of act.Stat = Plain event.Stat
 abbrev pub order_of : ReadOrder → Order
 order_of order = record { actor = order.actor; asked = asked_of order.act }
 
--- what an order carries can be inserted as it says: its body was read, and has the size that the metadata tell
+-- What an order carries can be done as it says: a body that is inserted was read, and has the size that the metadata
+-- tell; and no more bytes are to be read than a line can ask for.
 abbrev pub IsWhole : Act → Type 0
 IsWhole (act.Insert now info body) = IsBody body × (length (bytes_of body) ≡ info.size) × (info.size ≤ LONGEST_BODY)
+IsWhole (act.Read k offset len) = len ≤ LONGEST_READ
 IsWhole _ = Unit {0}
+
+-- What a line can ask for: an insertion tells its body's size, which has its limit, and arrives at its own moment; a read has its limit.
+abbrev pub IsWritable : Act → Type 0
+IsWritable (act.Insert now info body) = (length (bytes_of body) ≡ info.size) × (info.size ≤ LONGEST_BODY) × (info.arrival ≡ now)
+IsWritable (act.Read k offset len) = len ≤ LONGEST_READ
+IsWritable _ = Unit {0}

@@ -1,5 +1,5 @@
 -- The canonical spelling of an order.
-use Rattle.std.specs.Prelude.{ℕ, List, ◌++◌, codes, decimal}
+use Rattle.std.specs.Prelude.{◌≡◌, ℕ, ◌<◌, ◌≤◌, List, ◌++◌, length, codes, decimal, Some, Ok}
 use Rattle.hex.specs.Hex.{encode_lower}
 use Rattle.ldm_feedtype.specs.Text.{feed_digits}
 use Rattle.ldm_model.specs.declared.event.Start.{Start}
@@ -9,10 +9,11 @@ use Rattle.ldm_script.specs.declared.order.Place.TheVariants as place
 use Rattle.ldm_script.specs.declared.order.Act.{Act}
 use Rattle.ldm_script.specs.declared.order.Act.TheVariants as act
 use Rattle.ldm_script.specs.declared.order.Order.{Order as ReadOrder}
-use Rattle.ldm_script.specs.Answer.{blank_field, blank_number}
-use Rattle.ldm_script.specs.Texts.{spelled}
+use Rattle.ldm_script.specs.Answer.{blank_field, blank_number, product_text}
 use Rattle.ldm_script.specs.Bodies.{body_text}
-use Rattle.ldm_script.specs.OrderView.{bytes_of}
+use Rattle.ldm_script.specs.OrderView.{bytes_of, order_of}
+use Rattle.ldm_script.specs.Grammar.{read_line}
+use Rattle.ldm_script.specs.declared.line.TheConstants.{LONGEST_LINE}
 
 abbrev pub place_text : Place → List ℕ
 place_text (place.At k) = decimal k
@@ -26,8 +27,7 @@ start_text (start.AfterSignature signature) = codes "sig" ++ blank_field (encode
 
 abbrev pub act_text : Act → List ℕ
 act_text (act.Insert now info body) =
-    codes "insert" ++ blank_number now ++ blank_field (encode_lower info.signature) ++ blank_field (feed_digits info.feed) ++ blank_number info.seqno
-    ++ blank_field (spelled info.origin) ++ blank_field (spelled info.ident) ++ blank_field (body_text (bytes_of body))
+    codes "insert" ++ blank_number now ++ product_text info ++ blank_field (body_text (bytes_of body))
 act_text (act.OpenCursor feed start) = codes "open" ++ blank_field (feed_digits feed.0) ++ blank_field (start_text start)
 act_text (act.Step k) = codes "step" ++ blank_field (place_text k)
 act_text (act.Read k offset len) = codes "read" ++ blank_field (place_text k) ++ blank_number offset ++ blank_number len
@@ -41,3 +41,7 @@ act_text act.Stat = codes "stat"
 -- the line of an order: lower-case digits, the body as digits, and the cursor as in the order
 unfoldable pub spelling : ReadOrder → List ℕ
 spelling order = decimal order.actor ++ blank_field (act_text order.act)
+
+-- Where it is no longer than a line may be, the spelling is read as the order, for any number of actors that has this one.
+abbrev pub IsReadBack : ReadOrder → Type 0
+IsReadBack order = (actors : ℕ) → order.actor < actors → length (spelling order) ≤ LONGEST_LINE → read_line actors (spelling order) ≡ Ok (Some (order_of order))

@@ -1,18 +1,16 @@
 //! Answers of the queue, as lines.
-ghost use Rattle.std.specs.Prelude.{◌≡◌, ◌+◌, ◌*◌, ◌≤◌, ◌++◌, length, []};
+ghost use Rattle.std.specs.Prelude.{◌≡◌, ◌+◌, ◌*◌, ◌<◌, ◌≤◌, ◌++◌, length, []};
 ghost use Rattle.arrayvec.specs.ArrayVec.{array_vec_len};
 ghost use Rattle.ldm_model.specs.declared.event.Reply.TheVariants as reply;
-ghost use Rattle.ldm_script.specs.Answer.{blank_field, blank_number, info_text, reply_text};
+ghost use Rattle.ldm_script.specs.Answer.{blank_number, info_text, reply_text};
 ghost use Rattle.ldm_script.specs.AnswerView.{reply_of, FitsAnswer};
-ghost use Rattle.ldm_script.specs.Bodies.{body_text};
 ghost use Rattle.ldm_script.specs.Texts.{spelled};
 ghost use Rattle.ldm_script.specs.declared.line.TheConstants.{LONGEST_READ};
 
 use crate::line::LONGEST_READ;
-use crate::texts::{put, put_number, spell};
+use crate::put_fields::{put_blank, put_blank_number, put_product_fields};
+use crate::texts::{put, spell};
 use arrayvec::ArrayVec;
-use ldm_feedtype::feed_text;
-use ldm_signature::write_hex;
 use ldm_types::{CursorNo, Info, Micros};
 
 /// The most bytes of an answer, without its newline.
@@ -120,11 +118,12 @@ pub enum Answer<'a> {
     },
 }
 
-/// Writes an answer over what the buffer had: one line, without its newline.
+/// Writes an answer over what the buffer had: one line, without its newline, for which there is room left.
 #[tactic(auto, unfolding(crate::specs::Answer::reply_text))]
 pub fn write_reply(answer: &Answer, out: &mut Text)
     requires { FitsAnswer answer.now }
-    ensures { out.new.items ≡ reply_text (reply_of answer.now) }
+    ensures text { out.new.items ≡ reply_text (reply_of answer.now) }
+    ensures room { array_vec_len out.new < LONGEST_ANSWER }
 {
     out.clear();
     match answer {
@@ -203,7 +202,8 @@ fn put_three(out: &mut Text, word: &[u8], a: u64, b: u64, c: u64)
 #[tactic(auto, unfolding(crate::specs::Answer::reply_text))]
 fn put_product(out: &mut Text, n: u64, time: Micros, info: &Info)
     requires { out.old.items ≡ [] }
-    ensures { out.new.items ≡ reply_text (reply.Product n time info.now) }
+    ensures text { out.new.items ≡ reply_text (reply.Product n time info.now) }
+    ensures room { array_vec_len out.new < LONGEST_ANSWER }
 {
     put_two(out, b"product", n, time.get());
     put_info(out, info);
@@ -211,14 +211,11 @@ fn put_product(out: &mut Text, n: u64, time: Micros, info: &Info)
 
 fn put_info(out: &mut Text, info: &Info)
     requires { array_vec_len out.old ≤ 100 }
-    ensures { out.new.items ≡ out.old.items ++ info_text info.now }
+    ensures text { out.new.items ≡ out.old.items ++ info_text info.now }
+    ensures room { array_vec_len out.new < LONGEST_ANSWER }
 {
     put_blank_number(out, info.arrival().get());
-    put_blank(out, write_hex(&info.signature()).as_slice());
-    put_blank(out, feed_text(info.feed()).as_slice());
-    put_blank_number(out, u64::from(info.seqno()));
-    put_blank_text(out, info.origin());
-    put_blank_text(out, info.ident());
+    put_product_fields(out, info);
     put_blank_number(out, u64::from(info.size()));
 }
 
@@ -227,7 +224,8 @@ fn put_info(out: &mut Text, info: &Info)
 fn put_read(out: &mut Text, bytes: &[u8])
     requires empty { out.old.items ≡ [] }
     requires few { length bytes.now ≤ LONGEST_READ }
-    ensures { out.new.items ≡ reply_text (reply.Bytes bytes.now) }
+    ensures text { out.new.items ≡ reply_text (reply.Bytes bytes.now) }
+    ensures room { array_vec_len out.new < LONGEST_ANSWER }
 {
     put(out, b"bytes");
     if bytes.is_empty() {
@@ -240,33 +238,6 @@ fn put_read(out: &mut Text, bytes: &[u8])
         unreachable!();
     }
     put_blank(out, digits);
-}
-
-fn put_blank(out: &mut Text, field: &[u8])
-    requires { array_vec_len out.old + length field.now + 1 ≤ LONGEST_ANSWER }
-    ensures text { out.new.items ≡ out.old.items ++ blank_field field.now }
-    ensures len { array_vec_len out.new ≡ array_vec_len out.old + length field.now + 1 }
-{
-    out.push(b' ');
-    put(out, field);
-}
-
-fn put_blank_text(out: &mut Text, text: &[u8])
-    requires { array_vec_len out.old + 3 * length text.now + 2 ≤ LONGEST_ANSWER }
-    ensures text { out.new.items ≡ out.old.items ++ blank_field (spelled text.now) }
-    ensures len { array_vec_len out.new ≤ array_vec_len out.old + 3 * length text.now + 2 }
-{
-    out.push(b' ');
-    spell(text, out);
-}
-
-fn put_blank_number(out: &mut Text, n: u64)
-    requires { array_vec_len out.old + 21 ≤ LONGEST_ANSWER }
-    ensures text { out.new.items ≡ out.old.items ++ blank_number n }
-    ensures len { array_vec_len out.new ≤ array_vec_len out.old + 21 }
-{
-    out.push(b' ');
-    put_number(out, n);
 }
 
 /// Appends the spelling of a text: bytes from 0x21 to 0x7E for themselves, and `%` with two upper-case hexadecimal

@@ -1,10 +1,11 @@
 //! Script lines and answer lines.
 //!
-//! [`read_line`] reads a line as an order, or tells the column of its first fault. [`body_into`] writes the bytes of a
-//! body that a line spells, [`write_reply`] an answer of the queue, and [`text_into`] the spelling of an origin or an
-//! ident. Contracts see orders and answers as what the model of the queue speaks of.
+//! [`read_line`] reads a line as an order, or tells the column of its first fault, and [`write_line`] writes an order as a
+//! line. [`body_into`] writes the bytes of a body that a line spells, [`write_reply`] an answer of the queue, and
+//! [`text_into`] the spelling of an origin or an ident; [`put`] and [`put_number`] make other short lines. Contracts see
+//! orders and answers as what the model of the queue speaks of.
 //!
-//! No call takes memory.
+//! Only `write_line` takes memory.
 #![tactic(auto)]
 
 mod answer;
@@ -13,15 +14,19 @@ mod fields;
 mod line;
 mod number;
 mod order;
+mod put_fields;
 mod replies;
 mod split;
 #[cfg(test)]
 mod tests;
 mod texts;
 mod word;
+mod write;
 
 pub use answer::{Answer, LONGEST_ANSWER, Text, text_into, write_reply};
 pub use body::{Body, LONGEST_BODY, body_into};
 pub use line::{BadLine, LONGEST_LINE, LONGEST_READ, read_line};
 pub use number::read_number;
 pub use order::{Act, Order, Place};
+pub use texts::{put, put_number};
+pub use write::write_line;

@@ -6,7 +6,7 @@ ghost use Rattle.ldm_script.specs.Order.{OnCursor};
 ghost use Rattle.ldm_script.specs.FieldReads.{Gives};
 ghost use Rattle.ldm_script.specs.Grammar.{read_line as reading, read_order as order_at, read_act as act_at, read_insert as insert_at, read_open as open_at};
 ghost use Rattle.ldm_script.specs.Grammar.{read_start as start_at, read_read as read_at, read_look as look_at, read_on_cursor as on_cursor_at};
-ghost use Rattle.ldm_script.specs.OrderView.{order_of, asked_of, bytes_of, IsBody, IsWhole};
+ghost use Rattle.ldm_script.specs.OrderView.{order_of, asked_of, bytes_of, IsBody, IsWhole, IsWritable};
 ghost use Rattle.md5.specs.Md5.{md5};
 
 use crate::body::Body;
@@ -38,6 +38,7 @@ pub fn read_line(line: &[u8], actors: u32) -> Result<Option<Order<'_>>, BadLine>
     requires { actors ≤ 64 }
     ensures read { MatchResult result (λ order. reading actors line.now ≡ Ok (option_map order_of order)) (λ bad. reading actors line.now ≡ Err bad.column) }
     ensures whole { IfOk result (λ found. IfSome found (λ order. IsWhole order.act)) }
+    ensures writable { IfOk result (λ found. IfSome found (λ order. IsWritable order.act)) }
 {
     if line.len() > LONGEST_LINE {
         return Err(BadLine {

@@ -165,7 +165,9 @@ impl<'a> Answer<'a> {
             ReadReply::NoCursor => Answer::NoCursor,
             ReadReply::NotHeld => Answer::NotHeld,
             ReadReply::BadOffset { size } => Answer::BadOffset { size },
-            ReadReply::Bytes { len } => Answer::Bytes { bytes: &into[..len as usize] },
+            ReadReply::Bytes { len } => Answer::Bytes {
+                bytes: &into[..len as usize],
+            },
         }
     }
 }

@@ -1,4 +1,8 @@
 use super::*;
+use ldm_model::{
+    CloseReply, ExpireReply, InsertReply, LookReply, OpenReply, ReleaseReply, Stat, StepReply,
+    TallyReply,
+};
 use ldm_signature::write_hex;
 use ldm_types::Actor;
 use std::process::Abort;
@@ -107,4 +111,99 @@ fn check_insertion(rt: &impl Abort, act: &Act) {
         }
         _ => assert!(rt; false),
     }
+}
+
+// Lines, each with the canonical spelling of its order.
+const SPELLINGS: [(&[u8], &[u8]); 14] = [
+    (
+        b"63 insert 4294967295999999 0123456789ABCDEF0123456789abcdef IDS|ANY 4294967295 %2D %25%20%FF 0aFf",
+        b"63 insert 4294967295999999 0123456789abcdef0123456789abcdef 0xffffffff 4294967295 %2D %25%20%FF 0aff",
+    ),
+    (
+        b"0 insert 0 01010101010101010101010101010101 1 0 - h 3*Ab",
+        b"0 insert 0 01010101010101010101010101010101 0x00000001 0 - h ababab",
+    ),
+    (
+        b"0 insert 7 md5 NONE 0 h - 0*00",
+        b"0 insert 7 d41d8cd98f00b204e9800998ecf8427e 0x00000000 0 h - -",
+    ),
+    (b"1 open PPS|DDS oldest", b"1 open 0x00000003 oldest"),
+    (b"1 open ANY next", b"1 open 0xffffffff next"),
+    (b"1 open 0 after 10", b"1 open 0x00000000 after 10"),
+    (
+        b"1 open 16 sig 0123456789abcdef0123456789ABCDEF",
+        b"1 open 0x00000010 sig 0123456789abcdef0123456789abcdef",
+    ),
+    (b"2 step .", b"2 step ."),
+    (b"2 read 63 4294967295 4096", b"2 read 63 4294967295 4096"),
+    (b"2 release 0", b"2 release 0"),
+    (
+        b"2 look FFFFFFFFFFFFFFFFFFFFFFFFFFFFFFFF",
+        b"2 look ffffffffffffffffffffffffffffffff",
+    ),
+    (b"2 expire", b"2 expire"),
+    (b"2 tally .", b"2 tally ."),
+    (b"2 stat", b"2 stat"),
+];
+
+#[test]
+fn spellings(rt: HostRuntime) -> Result<(), Fail> {
+    let mut out = Vec::new(rt.alloc());
+    for (line, wanted) in SPELLINGS {
+        out.clear();
+        respell(line, &mut out)?;
+        assert_eq!(rt; out.as_slice(), wanted);
+    }
+    Ok(())
+}
+
+// Writes the order of a line.
+fn respell(line: &[u8], out: &mut Vec<u8>) -> Result<(), Fail> {
+    let Ok(Some(order)) = read_line(line, Actor::COUNT) else {
+        return Err(Fail::from("not read"));
+    };
+    write_line(&order, out)?;
+    Ok(())
+}
+
+#[test]
+fn replies_become_answers(rt: HostRuntime) {
+    let answers: [Answer; 9] = [
+        InsertReply::TooBig { need: 8, arena: 4 }.into(),
+        OpenReply::AllBusy.into(),
+        StepReply::End { at: 3 }.into(),
+        ReleaseReply::Released { n: 5 }.into(),
+        CloseReply::Closed.into(),
+        LookReply::Absent.into(),
+        ExpireReply::Expired { n: 6 }.into(),
+        TallyReply::NoCursor.into(),
+        Stat {
+            admitted: 1,
+            queued: 2,
+            held: 3,
+            used: 4,
+            largest_free: 5,
+        }
+        .into(),
+    ];
+    assert!(rt; matches!(&answers[0], Answer::TooBig { need: 8, arena: 4 }));
+    assert!(rt; matches!(&answers[1], Answer::AllBusy));
+    assert!(rt; matches!(&answers[2], Answer::End { at: 3 }));
+    assert!(rt; matches!(&answers[3], Answer::Released { n: 5 }));
+    assert!(rt; matches!(&answers[4], Answer::Closed));
+    assert!(rt; matches!(&answers[5], Answer::Absent));
+    assert!(rt; matches!(&answers[6], Answer::Expired { n: 6 }));
+    assert!(rt; matches!(&answers[7], Answer::NoCursor));
+    assert!(rt;
+        matches!(
+            &answers[8],
+            Answer::Stat {
+                admitted: 1,
+                queued: 2,
+                held: 3,
+                used: 4,
+                largest_free: 5
+            }
+        )
+    );
 }

@@ -131,8 +131,8 @@ fn digit(value: u8) -> u8
     b"0123456789ABCDEF"[value as usize]
 }
 
-/// Appends bytes.
-pub(crate) fn put<const N: usize>(out: &mut ArrayVec<u8, N>, bytes: &[u8])
+/// Appends bytes, for which there is room.
+pub fn put<const N: usize>(out: &mut ArrayVec<u8, N>, bytes: &[u8])
     requires { array_vec_len out.old + length bytes.now ≤ N }
     ensures text { out.new.items ≡ out.old.items ++ bytes.now }
     ensures len { array_vec_len out.new ≡ array_vec_len out.old + length bytes.now }
@@ -142,8 +142,8 @@ pub(crate) fn put<const N: usize>(out: &mut ArrayVec<u8, N>, bytes: &[u8])
     }
 }
 
-/// Appends a number in decimal digits, of which there are at most 20.
-pub(crate) fn put_number<const N: usize>(out: &mut ArrayVec<u8, N>, n: u64)
+/// Appends a number in decimal digits, of which there are at most 20. There is room for so many.
+pub fn put_number<const N: usize>(out: &mut ArrayVec<u8, N>, n: u64)
     requires { array_vec_len out.old + 20 ≤ N }
     ensures text { out.new.items ≡ out.old.items ++ decimal n }
     ensures len { array_vec_len out.new ≤ array_vec_len out.old + 20 }

@@ -1,13 +1,14 @@
-use Rattle.std.proofs.Common.{◌≡◌, ◌≤◌, ℕ, List, ◌++◌, length}
+use Rattle.std.proofs.Common.{◌≡◌, ◌+◌, ◌≤◌, ℕ, List, ◌++◌, length}
 use Rattle.ldm_outside.specs.Io.{SinkRecord}
-use Rattle.ldm_model.specs.State.{State}
+use Rattle.ldm_script.specs.Resolve.{Playing}
 use Rattle.ldm_commands.specs.Step.{GoesOn}
 use Rattle.ldm_commands.proofs.play_command.play_piece.Given as goal
 
 abbrev pub invariant-loop-at : goal.invariant-loop-at
 invariant-loop-at g l = record {
   faults_kept : (g.K.Sink.tells l.initial.sink).faults ≤ (g.K.Sink.tells l.sink).faults;
-  front : (done : List ℕ) × (done ++ l.rest ≡ l.piece) × ((s : State) (script : List ℕ) (before : SinkRecord) → GoesOn s script l.initial.player l.initial.pending before (g.K.Sink.tells l.initial.sink) → GoesOn s (script ++ done) l.player l.pending before (g.K.Sink.tells l.sink));
+  number : l.pending.number + length l.rest ≤ l.initial.pending.number + length l.piece;
+  front : (done : List ℕ) × (done ++ l.rest ≡ l.piece) × ((p : Playing) (script : List ℕ) (before : SinkRecord) → GoesOn p script l.initial.player l.initial.pending before (g.K.Sink.tells l.initial.sink) → GoesOn p (script ++ done) l.player l.pending before (g.K.Sink.tells l.sink));
 }
 
 abbrev pub decreases-loop-at : goal.decreases-loop-at
