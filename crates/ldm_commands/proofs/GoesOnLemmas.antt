@@ -1,5 +1,5 @@
 -- A script that is played piece by piece: for `GoesOn`.
-use Rattle.std.proofs.Common.{◌≡◌, ℕ, ◌+◌, ◌<◌, ◌≤◌, Bool, true, false, cond, eqb, List, [], ◌∷◌, ◌++◌, length, None, Some, refl, sym, ap, subst, ◌∙◌, append_assoc, arith, length-append}
+use Rattle.std.proofs.Common.{◌≡◌, ℕ, ◌+◌, ◌<◌, ◌≤◌, Bool, true, false, cond, eqb, List, [], ◌∷◌, ◌++◌, length, None, refl, sym, ap, subst, ◌∙◌, append_assoc, arith, length-append}
 use Rattle.std.proofs.lemmas.Bool.{le-ltb, lt-ltb, true≢false}
 use Rattle.std.proofs.lemmas.List.{append-nil}
 use Rattle.ldm_outside.specs.Io.{SinkRecord, Takes, WritesFront}

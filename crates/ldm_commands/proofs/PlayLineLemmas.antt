@@ -14,7 +14,7 @@ use Rattle.ldm_script.specs.Grammar.{read_line, read_order, is_comment, at_colum
 use Rattle.ldm_script.specs.Answer.{answer_line}
 use Rattle.ldm_script.specs.Resolve.{Playing, resolved, after_reply, answer_event, answer_order}
 use Rattle.ldm_commands.specs.Calls.{outcome_of}
-use Rattle.ldm_commands.specs.Play.{BadLine, Played, play_reading, play_line}
+use Rattle.ldm_commands.specs.Play.{Played, play_reading, play_line}
 use Rattle.ldm_commands.specs.PlayerView.{PlayerView, StandsForPlay}
 
 -- a line that is too long

@@ -1,6 +1,5 @@
 -- What a contract sees of a player, and which play it stands for.
 use Rattle.std.specs.Prelude.{◌≡◌, ℕ, List, Option}
-use Rattle.ldm_model.specs.declared.event.Reply.{Reply}
 use Rattle.ldm_book.specs.View.{BookView}
 use Rattle.ldm_book.specs.Stands.{StandsFor}
 use Rattle.ldm_script.specs.Resolve.{Playing}

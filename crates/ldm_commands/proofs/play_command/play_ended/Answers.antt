@@ -1,4 +1,4 @@
-use Rattle.std.proofs.Common.{◌≡◌, ◌∙◌, ◌+◌, ◌<◌, ℕ, List, [], ◌∷◌, Result, Some, true, eqb, ◌++◌, length, refl, sym, ap, subst, arith, inl, inr}
+use Rattle.std.proofs.Common.{◌≡◌, ◌∙◌, ◌+◌, ◌<◌, ℕ, List, [], ◌∷◌, Result, true, eqb, ◌++◌, length, refl, sym, ap, subst, arith, inl, inr}
 use Rattle.std.proofs.lemmas.Bool.{cases_lt, eqb-true, false≢true}
 use Rattle.std.proofs.lemmas.List.{take_all, length-append}
 use Rattle.ldm_outside.specs.Io.{SinkRecord}
@@ -6,7 +6,7 @@ use Rattle.ldm_script.specs.declared.line.TheConstants.{LONGEST_LINE}
 use Rattle.ldm_script.specs.Resolve.{Playing}
 use Rattle.ldm_commands.specs.declared.player.Stop.{Stop}
 use Rattle.ldm_commands.specs.declared.player.Stop.TheVariants as stop
-use Rattle.ldm_commands.specs.Play.{BadLine, play_line}
+use Rattle.ldm_commands.specs.Play.{play_line}
 use Rattle.ldm_commands.specs.PlayerView.{PlayerView}
 use Rattle.ldm_commands.specs.PendingView.{PendingView}
 use Rattle.ldm_commands.specs.Step.{LineStops, LineGives}
