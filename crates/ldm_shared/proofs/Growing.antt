@@ -1,0 +1,159 @@
+-- A pass grows by a call that takes the turn and gives it back.
+use Rattle.std.proofs.Common.{◌≡◌, ℕ, ◌+◌, ◌^◌, ◌<◌, ◌≤◌, Bool, true, false, cond, List, [], ◌∷◌, ◌++◌, length, Option, Some, None, refl, ap, sym, subst, ◌∙◌, arith, length-append}
+use mathlib.Core.List.{IsPrefix}
+use Rattle.atomic_table.specs.Seated.{TableId}
+use Rattle.atomic_table.specs.Table.{Me}
+use Rattle.atomic_table.specs.declared.shared.Seat.{Seat}
+use Rattle.ldm_model.specs.declared.event.Event.{Event}
+use Rattle.ldm_model.specs.declared.event.Reply.{Reply}
+use Rattle.ldm_model.specs.declared.event.Entry.{Entry}
+use Rattle.ldm_model.specs.State.{State}
+use Rattle.ldm_model.specs.History.{after, next_entry, IsAnswered, IsLegal, IsLegalFrom, IsPossible}
+use Rattle.ldm_book.specs.View.{BookView}
+use Rattle.ldm_book.specs.Stands.{StandsFor}
+use Rattle.ldm_book.specs.Answers.{Follows}
+use Rattle.ldm_shared.specs.declared.view.View.{View}
+use Rattle.ldm_shared.specs.declared.pass.Pass.TheInside.{Inside}
+use Rattle.ldm_shared.specs.Own.{own, AreBelow}
+use Rattle.ldm_shared.specs.Passes.{SharedView, PassView, IsPassOf, IsSamePass, HasSeen, HasMet, Grows, FindsWorn}
+use Rattle.ldm_shared.specs.Inside.{view_of_pass, IsIdle, IsPass}
+use Rattle.ldm_shared.specs.Rule.{times, AnswersFor}
+use Rattle.ldm_shared.specs.Seats.{IsReady, HasTheTurn, IsSame, GoesOn, IsHistory}
+use Rattle.ldm_shared.proofs.Histories.{own-behind, below-append}
+use Rattle.ldm_shared.proofs.Counts.{times-self}
+use Rattle.ldm_shared.proofs.Taking.{ASeat}
+
+-- the entry of a call that the book answered
+pub answered : (s : State) (entry : Entry) (actor : ℕ) (book : BookView) → entry.actor ≡ actor → actor < 64 → IsPossible entry.event → Follows entry.reply book (next_entry s entry)
+    → IsLegalFrom s (entry ∷ [])
+answered s entry actor book same small possible follows =
+    (record { actor = subst (λ (n : ℕ). n < 64) (sym same) small; possible = possible; reply = follows.reply }, tt)
+
+answers_one : (v : View) (actor : ℕ) → v.actors ≡ actor ∷ [] → AnswersFor v actor
+answers_one v actor one = subst (λ (l : List ℕ). 0 < times actor l) (sym one) (let self = times-self actor in omega arith)
+
+-- what was seen, and an entry more
+pub history-more : (v : View) (me : Me (Option BookView) View) (entry : Entry) → me ≡ (record v { seen = v.seen ++ entry ∷ []; turn = false }, []) → IsHistory v → v.actors ≡ entry.actor ∷ []
+    → length v.seen < 2 ^ 62 → IsLegal v.arena v.slots (v.seen ++ entry ∷ []) → IsHistory me.0
+history-more v me entry added history one few legal =
+    let w : View = record v { seen = v.seen ++ entry ∷ []; turn = false } in
+    let whole : IsHistory w = record {
+      legal = legal;
+      below = below-append v.passes v.seen (entry ∷ []) history.below (history.actors entry.actor (answers_one v entry.actor one), tt);
+      few = omega (arith, length-append v.seen (entry ∷ []), few);
+      actors = history.actors;
+    } in
+    subst (λ (m : Me (Option BookView) View). IsHistory m.0) (sym added) whole
+
+idle_of : (b : Bool) (id queue : TableId) → cond b None (Some id) ≡ Some queue → (b ≡ false) × (id ≡ queue)
+idle_of true id queue e = absurd cc
+idle_of false id queue e = (refl, cc)
+
+has_queue : (b : Bool) (id : TableId) → b ≡ false → cond b None (Some id) ≡ Some id
+has_queue true id e = absurd cc
+has_queue false id e = refl
+
+-- a pass of the queue, and what it keeps
+module _ (shared : SharedView) (old : PassView) (p : Inside) (view_is : view_of_pass p ≡ old) (kept : IsPass p) (of : IsPassOf shared old) where
+  abbrev its : (p.seat.me.0.turn ≡ false) × (p.seat.table_id ≡ shared.queue)
+  its = idle_of p.seat.me.0.turn p.seat.table_id shared.queue (ap (λ (v : PassView). v.queue) view_is ∙ of.queue)
+
+  pub pass_idle : IsIdle p
+  pass_idle = kept its.0
+
+  pub pass_ready : IsReady shared p.seat
+  pass_ready = record { queue = its.1; idle = its.0; free = (kept its.0).free; passes = (kept its.0).passes }
+
+  -- what a pass has become, whose seat went on with the history
+  module _ (seat : ASeat) (same : IsSame p.seat seat) (on : GoesOn p.seat.me.0 seat.me.0) where
+    abbrev pub now : Inside
+    now = record { actor = p.actor; seat = seat }
+
+    pub pass_kept : seat.me.1 ≡ [] → IsPass now
+    pass_kept free idle = record {
+      free = free;
+      actors = on.actors ∙ (kept its.0).actors;
+      olds = on.olds;
+      passes = subst (λ (n : ℕ). 0 < n) (sym on.passes) (kept its.0).passes;
+    }
+
+    pub same_pass : seat.me.0.turn ≡ false → view_of_pass now ≡ record old { seen = seat.me.0.seen }
+    same_pass idle =
+        let queue : (view_of_pass now).queue ≡ old.queue = has_queue seat.me.0.turn seat.table_id idle ∙ (ap Some (same.table ∙ its.1) ∙ sym of.queue) in
+        let arena : seat.me.0.arena ≡ old.arena = on.arena ∙ ap (λ (v : PassView). v.arena) view_is in
+        let slots : seat.me.0.slots ≡ old.slots = on.slots ∙ ap (λ (v : PassView). v.slots) view_is in
+        let passes : seat.me.0.passes ≡ old.passes = on.passes ∙ ap (λ (v : PassView). v.passes) view_is in
+        let actor : p.actor ≡ old.actor = ap (λ (v : PassView). v.actor) view_is in
+        λ i. record { queue = queue i; arena = arena i; slots = slots i; passes = passes i; actor = actor i; seen = seat.me.0.seen }
+
+    -- the entries that others added
+    others_own : own old.actor on.begins.0 ≡ []
+    others_own =
+        let actor : p.actor ≡ old.actor = ap (λ (v : PassView). v.actor) view_is in
+        subst (λ (n : ℕ). own n on.begins.0 ≡ []) actor
+        (own-behind p.actor p.seat.me.0.seen on.begins.0 seat.me.0.seen on.begins.1 (on.own p.actor (answers_one p.seat.me.0 p.actor (kept its.0).actors)))
+
+    pub pass_worn : IsHistory seat.me.0 → seat.me.0.turn ≡ false → length seat.me.0.seen ≡ 2 ^ 62 → FindsWorn old (view_of_pass now) (2 ^ 62)
+    pass_worn history idle long = record {
+      turns_are = refl;
+      between = on.begins.0;
+      others = others_own;
+      seen = sym on.begins.1 ∙ ap (λ (v : PassView). v.seen ++ on.begins.0) view_is;
+      long = long;
+      has_seen = record { legal = history.legal; below = history.below; few = history.few };
+    }
+
+    pub pass_met : (other : PassView) → IsHistory seat.me.0 → seat.me.0.turn ≡ false → IsPrefix other.seen seat.me.0.seen → HasMet old other (view_of_pass now)
+    pass_met other history idle its' =
+        let actor : p.actor ≡ old.actor = ap (λ (v : PassView). v.actor) view_is in
+        let seen : p.seat.me.0.seen ≡ old.seen = ap (λ (v : PassView). v.seen) view_is in
+        record {
+          same = same_pass idle;
+          begins = subst (λ (h : List Entry). IsPrefix h seat.me.0.seen) seen on.begins;
+          its = its';
+          own = λ i. (subst₂' (on.own p.actor (answers_one p.seat.me.0 p.actor (kept its.0).actors)) actor seen) i;
+          has_seen = record { legal = history.legal; below = history.below; few = history.few };
+        }
+      where
+        subst₂' : {a b : ℕ} {h k : List Entry} → own a seat.me.0.seen ≡ own a h → a ≡ b → h ≡ k → own b seat.me.0.seen ≡ own b k
+        subst₂' {b = b} {h = h} e actor seen = subst (λ (n : ℕ). own n seat.me.0.seen ≡ own n h) actor e ∙ ap (own b) seen
+
+  -- the seat took the turn, and gave it back with an entry more
+  module _ (taken given : ASeat) (same : IsSame p.seat taken) (on : GoesOn p.seat.me.0 taken.me.0) (event : Event) (reply : Reply) (same_given : IsSame taken given)
+      (added : given.me ≡ (record taken.me.0 { seen = taken.me.0.seen ++ record { actor = p.actor; event = event; reply = reply } ∷ []; turn = false }, [])) where
+    abbrev entry : Entry
+    entry = record { actor = p.actor; event = event; reply = reply }
+
+    view : given.me.0 ≡ record taken.me.0 { seen = taken.me.0.seen ++ entry ∷ []; turn = false }
+    view = ap (λ (m : Me (Option BookView) View). m.0) added
+
+    abbrev pub then : Inside
+    then = record { actor = p.actor; seat = given }
+
+    pub grown_kept : IsPass then
+    grown_kept idle = record {
+      free = ap (λ (m : Me (Option BookView) View). m.1) added;
+      actors = ap (λ (v : View). v.actors) view ∙ (on.actors ∙ (kept its.0).actors);
+      olds = ap (λ (v : View). v.olds) view ∙ on.olds;
+      passes = subst (λ (n : ℕ). 0 < n) (sym (ap (λ (v : View). v.passes) view ∙ on.passes)) (kept its.0).passes;
+    }
+
+    pub grown_same : IsSamePass old (view_of_pass then)
+    grown_same =
+        let queue : (view_of_pass then).queue ≡ old.queue = has_queue given.me.0.turn given.table_id (ap (λ (v : View). v.turn) view) ∙ (ap Some (same_given.table ∙ (same.table ∙ its.1)) ∙ sym of.queue) in
+        let arena : given.me.0.arena ≡ old.arena = ap (λ (v : View). v.arena) view ∙ (on.arena ∙ ap (λ (v : PassView). v.arena) view_is) in
+        let slots : given.me.0.slots ≡ old.slots = ap (λ (v : View). v.slots) view ∙ (on.slots ∙ ap (λ (v : PassView). v.slots) view_is) in
+        let passes : given.me.0.passes ≡ old.passes = ap (λ (v : View). v.passes) view ∙ (on.passes ∙ ap (λ (v : PassView). v.passes) view_is) in
+        let actor : p.actor ≡ old.actor = ap (λ (v : PassView). v.actor) view_is in
+        λ i. record { queue = queue i; arena = arena i; slots = slots i; passes = passes i; actor = actor i; seen = given.me.0.seen }
+
+    pub grown : IsHistory given.me.0 → Grows old (view_of_pass then) event reply
+    grown history =
+        let actor : p.actor ≡ old.actor = ap (λ (v : PassView). v.actor) view_is in
+        let seen : taken.me.0.seen ≡ old.seen ++ on.begins.0 = sym on.begins.1 ∙ ap (λ (v : PassView). v.seen ++ on.begins.0) view_is in
+        record {
+          between = on.begins.0;
+          others = others_own taken same on;
+          seen = ap (λ (v : View). v.seen) view ∙ (λ i. seen i ++ record { actor = actor i; event = event; reply = reply } ∷ []);
+          has_seen = record { legal = history.legal; below = history.below; few = history.few };
+        }

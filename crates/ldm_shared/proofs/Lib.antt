@@ -1,0 +1,11 @@
+pub mod Histories
+pub mod Counts
+pub mod Keeping
+pub mod Adding
+pub mod Joining
+pub mod Taking
+pub mod Growing
+pub mod Opening
+pub mod Gathering
+pub mod Finishing
+pub mod CallerLemmas

@@ -1,0 +1,112 @@
+-- What a seat knows after its looks.
+use Rattle.std.proofs.Common.{◌≡◌, ℕ, ◌+◌, ◌*◌, ◌^◌, ◌<◌, ◌≤◌, Bool, true, false, List, [], ◌∷◌, ◌++◌, length, Option, Some, None, refl, ap, sym, subst, ◌∙◌, arith, ⊎_elim, nat_eq, MatchBool, ◌≢◌, eq-eqb, ne_eqb}
+use mathlib.Core.List.{IsPrefix}
+use Rattle.atomic_table.specs.declared.shared.Seat.{Seat}
+use Rattle.ldm_model.specs.declared.event.Entry.{Entry}
+use Rattle.ldm_model.specs.History.{after, IsLegal}
+use Rattle.ldm_book.specs.View.{BookView}
+use Rattle.ldm_book.specs.Stands.{StandsFor}
+use Rattle.ldm_shared.specs.declared.view.View.{View}
+use Rattle.ldm_shared.specs.Own.{own, AreBelow}
+use Rattle.ldm_shared.specs.Passes.{SharedView}
+use Rattle.ldm_shared.specs.Rule.{times, AnswersFor}
+use Rattle.ldm_shared.specs.Steps.{Sees, HasTaken}
+use Rattle.ldm_shared.specs.Seats.{IsReady, HasTheTurn, IsSame, GoesOn, IsHistory, Waits}
+use Rattle.ldm_shared.proofs.Histories.{prefix_self, prefix_trans}
+
+abbrev pub ASeat : Type 0
+ASeat = Seat (Option BookView) View
+
+pub goes_on_self : (v : View) → v.olds ≡ [] → GoesOn v v
+goes_on_self v olds = record {
+  arena = refl;
+  slots = refl;
+  passes = refl;
+  actors = refl;
+  olds = olds;
+  begins = prefix_self v.seen;
+  own = λ actor answers. refl;
+}
+
+-- a look more
+pub goes_on_sees : (u v w : View) (found : ℕ) → GoesOn u v → Sees v found w → GoesOn u w
+goes_on_sees u v w found on sees = record {
+  arena = ap (λ (x : View). x.arena) sees.same ∙ on.arena;
+  slots = ap (λ (x : View). x.slots) sees.same ∙ on.slots;
+  passes = ap (λ (x : View). x.passes) sees.same ∙ on.passes;
+  actors = ap (λ (x : View). x.actors) sees.same ∙ on.actors;
+  olds = ap (λ (x : View). x.olds) sees.same;
+  begins = prefix_trans u.seen v.seen w.seen on.begins sees.begins;
+  own = λ actor answers. (sees.actors actor (subst (λ (l : List ℕ). 0 < times actor l) (sym on.actors) answers)).1 ∙ on.own actor answers;
+}
+
+pub history_sees : (v w : View) (found : ℕ) → Sees v found w → IsHistory w
+history_sees v w found sees =
+    let arena : v.arena ≡ w.arena = sym (ap (λ (x : View). x.arena) sees.same) in
+    let slots : v.slots ≡ w.slots = sym (ap (λ (x : View). x.slots) sees.same) in
+    let passes : v.passes ≡ w.passes = sym (ap (λ (x : View). x.passes) sees.same) in
+    let actors : w.actors ≡ v.actors = ap (λ (x : View). x.actors) sees.same in
+    record {
+      legal = subst (λ (n : ℕ). IsLegal n w.slots w.seen) arena (subst (λ (n : ℕ). IsLegal v.arena n w.seen) slots sees.legal);
+      below = subst (λ (n : ℕ). AreBelow n w.seen) passes sees.below;
+      few = sees.few;
+      actors = λ actor answers. subst (λ (n : ℕ). actor < n) passes (sees.actors actor (subst (λ (l : List ℕ). 0 < times actor l) actors answers)).0;
+    }
+
+-- a seat that waits is ready to look again
+pub waits_ready : (shared : SharedView) (before now : ASeat) → IsReady shared before → Waits before now → IsReady shared now
+waits_ready shared before now ready waits = record {
+  queue = waits.same.table ∙ ready.queue;
+  idle = waits.idle;
+  free = waits.free;
+  passes = subst (λ (n : ℕ). 0 < n) (sym waits.goes_on.passes) ready.passes;
+}
+
+pub waits_sees : (before now then : ASeat) (found : ℕ) → Waits before now → IsSame now then → Sees now.me.0 found then.me.0 → (then.me.0.turn ≡ false) × (then.me.1 ≡ []) → Waits before then
+waits_sees before now then found waits same sees idle = record {
+  same = record { table = same.table ∙ waits.same.table; id = same.id ∙ waits.same.id };
+  idle = idle.0;
+  free = idle.1;
+  goes_on = goes_on_sees before.me.0 now.me.0 then.me.0 found waits.goes_on sees;
+}
+
+pub seen_all : (v w : View) (found : ℕ) → Sees v found w → 2 ^ 63 ≤ found → length w.seen ≡ 2 ^ 62
+seen_all v w found sees many =
+    let few = sees.few in
+    ⊎_elim (λ (e : found ≡ 2 * length w.seen). omega arith) (λ (e : found ≡ 2 * length w.seen + 1). omega arith) sees.counted
+
+pub seen_few : (v w : View) (found : ℕ) → Sees v found w → found < 2 ^ 63 → length w.seen < 2 ^ 62
+seen_few v w found sees less =
+    ⊎_elim (λ (e : found ≡ 2 * length w.seen). omega arith) (λ (e : found ≡ 2 * length w.seen + 1). omega arith) sees.counted
+
+pub has_taken : (w : View) (slots : List (ℕ × Option BookView)) (found word : ℕ) → found ≡ word
+    → MatchBool (nat_eq found word) (HasTaken w slots) ((w.turn ≡ false) × (slots ≡ [])) → HasTaken w slots
+has_taken w slots found word same taken = subst (λ (b : Bool). MatchBool b (HasTaken w slots) ((w.turn ≡ false) × (slots ≡ []))) (eq-eqb found word same) taken
+
+pub has_missed : (w : View) (slots : List (ℕ × Option BookView)) (found word : ℕ) → found ≢ word
+    → MatchBool (nat_eq found word) (HasTaken w slots) ((w.turn ≡ false) × (slots ≡ [])) → (w.turn ≡ false) × (slots ≡ [])
+has_missed w slots found word other taken = subst (λ (b : Bool). MatchBool b (HasTaken w slots) ((w.turn ≡ false) × (slots ≡ []))) (ne_eqb found word other) taken
+
+-- the turn was taken, and the book was taken out
+module _ (shared : SharedView) (before now then out : ASeat) (found : ℕ) (ready : IsReady shared before) (waits : Waits before now)
+    (same : IsSame now then) (sees : Sees now.me.0 found then.me.0) (taken : HasTaken then.me.0 then.me.1)
+    (same_out : IsSame then out) (empty : out.me ≡ (then.me.0, (0, None) ∷ [])) where
+  view : then.me.0 ≡ out.me.0
+  view = sym (ap (λ (m : View × List (ℕ × Option BookView)). m.0) empty)
+
+  pub taken_goes_on : GoesOn before.me.0 out.me.0 × IsHistory out.me.0
+  taken_goes_on = subst (λ (v : View). GoesOn before.me.0 v × IsHistory v) view
+      (goes_on_sees before.me.0 now.me.0 then.me.0 found waits.goes_on sees, history_sees now.me.0 then.me.0 found sees)
+
+  pub taken_turn : (book : BookView) → found < 2 ^ 63 → StandsFor book (after then.me.0.arena then.me.0.slots then.me.0.seen)
+      → HasTheTurn shared out × (length out.me.0.seen < 2 ^ 62) × StandsFor book (after out.me.0.arena out.me.0.slots out.me.0.seen)
+  taken_turn book less stands = (
+    record {
+      queue = same_out.table ∙ (same.table ∙ (waits.same.table ∙ ready.queue));
+      turn = sym (ap (λ (v : View). v.turn) view) ∙ taken.turn;
+      empty = ap (λ (m : View × List (ℕ × Option BookView)). m.1) empty;
+      passes = subst (λ (n : ℕ). 0 < n) (sym waits.goes_on.passes ∙ (sym (ap (λ (v : View). v.passes) sees.same) ∙ ap (λ (v : View). v.passes) view)) ready.passes;
+    },
+    subst (λ (v : View). length v.seen < 2 ^ 62) view (seen_few now.me.0 then.me.0 found sees less),
+    subst (λ (v : View). StandsFor book (after v.arena v.slots v.seen)) view stands,
+  )

@@ -1,0 +1,10 @@
+pub mod Own
+pub mod Limits
+pub mod Passes
+pub mod Turns
+pub mod Rule
+pub mod Steps
+pub mod Joining
+pub mod Seats
+pub mod Inside
+pub mod InsideShared

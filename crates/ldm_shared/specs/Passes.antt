@@ -1,0 +1,99 @@
+-- What contracts see of a shared queue and of its passes, and how a pass grows.
+use Rattle.std.specs.Prelude.{◌≡◌, ℕ, ◌<◌, ◌≤◌, ◌^◌, ◌++◌, ◌⊎◌, List, [], ◌∷◌, length, map, Option, Some, None}
+use Rattle.std.specs.List.{All, Contains}
+use mathlib.Core.List.{IsPrefix}
+use Rattle.atomic_table.specs.Seated.{TableId}
+use Rattle.ldm_model.specs.declared.event.Event.{Event}
+use Rattle.ldm_model.specs.declared.event.Reply.{Reply}
+use Rattle.ldm_model.specs.declared.event.Entry.{Entry}
+use Rattle.ldm_model.specs.History.{IsLegal}
+use Rattle.ldm_shared.specs.Own.{own, AreBelow}
+
+-- Which queue it is, and how large: bytes of the arena, product slots, and passes.
+pub record SharedView : Type 0 where
+  pub queue : TableId
+  pub arena : ℕ
+  pub slots : ℕ
+  pub passes : ℕ
+
+pub record PassView : Type 0 where
+  -- its queue, while that lasts
+  pub queue : Option TableId
+  pub arena : ℕ
+  pub slots : ℕ
+  pub passes : ℕ
+  pub actor : ℕ
+  -- the history that it has seen
+  pub seen : List Entry
+
+-- a pass is of a queue
+pub record IsPassOf (shared : SharedView) (pass : PassView) : Type 0 where
+  pub queue : pass.queue ≡ Some shared.queue
+  pub arena : pass.arena ≡ shared.arena
+  pub slots : pass.slots ≡ shared.slots
+  pub passes : pass.passes ≡ shared.passes
+
+-- a pass that has seen nothing
+abbrev pub new_pass : SharedView → ℕ → PassView
+new_pass shared actor = record {
+  queue = Some shared.queue;
+  arena = shared.arena;
+  slots = shared.slots;
+  passes = shared.passes;
+  actor = actor;
+  seen = [];
+}
+
+-- The pass has seen a history that a queue of its sizes can have, with calls of its passes alone.
+pub record HasSeen (pass : PassView) : Type 0 where
+  pub legal : IsLegal pass.arena pass.slots pass.seen
+  pub below : AreBelow pass.passes pass.seen
+  pub few : length pass.seen ≤ 2 ^ 62
+
+-- the same pass, which may have seen more
+abbrev pub IsSamePass : PassView → PassView → Type 0
+IsSamePass old new = new ≡ record old { seen = new.seen }
+
+-- A pass has met another one: it has seen all that either had seen, and has no entry more of its own.
+pub record HasMet (old other new : PassView) : Type 0 where
+  pub same : IsSamePass old new
+  pub begins : IsPrefix old.seen new.seen
+  pub its : IsPrefix other.seen new.seen
+  pub own : own old.actor new.seen ≡ own old.actor old.seen
+  pub has_seen : HasSeen new
+
+-- of two histories one begins the other
+abbrev pub AreInLine : List Entry → List Entry → Type 0
+AreInLine xs ys = IsPrefix xs ys ⊎ IsPrefix ys xs
+
+-- these passes are of a queue, and are all that it was made with
+pub record AreAllOf (shared : SharedView) (passes : List PassView) : Type 0 where
+  pub of : All (IsPassOf shared) passes
+  pub all : (actor : ℕ) → actor < shared.passes → Contains (map (λ (pass : PassView). pass.actor) passes) actor
+
+-- The pass that is left at the end of a queue: it is of no queue, and has seen a history of this one.
+pub record IsLast (shared : SharedView) (last : PassView) : Type 0 where
+  pub ended : last ≡ record { queue = None; arena = shared.arena; slots = shared.slots; passes = shared.passes; actor = last.actor; seen = last.seen }
+  pub has_seen : HasSeen last
+
+-- what the last pass has seen begins with what a pass had seen, and has no other entries of its actor
+pub record HasAllOf (last pass : PassView) : Type 0 where
+  pub begins : IsPrefix pass.seen last.seen
+  pub own : own pass.actor last.seen ≡ own pass.actor pass.seen
+
+-- A pass grows by a call: what it has seen now is what it had seen, then entries of other actors, and then one entry, of this
+-- call with this reply.
+pub record Grows (old new : PassView) (event : Event) (reply : Reply) : Type 0 where
+  pub between : List Entry
+  pub others : own old.actor between ≡ []
+  pub seen : new.seen ≡ (old.seen ++ between) ++ record { actor = old.actor; event = event; reply = reply } ∷ []
+  pub has_seen : HasSeen new
+
+-- A pass finds that the queue has had all its calls: what it has seen now is what it had seen, and then entries of other actors.
+pub record FindsWorn (old new : PassView) (turns : ℕ) : Type 0 where
+  pub turns_are : turns ≡ 2 ^ 62
+  pub between : List Entry
+  pub others : own old.actor between ≡ []
+  pub seen : new.seen ≡ old.seen ++ between
+  pub long : length new.seen ≡ turns
+  pub has_seen : HasSeen new

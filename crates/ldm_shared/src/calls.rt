@@ -1,0 +1,209 @@
+//! The calls of the shared queue. Each takes the turn, calls the book, and gives the turn back.
+ghost use Rattle.std.specs.Prelude.{◌≡◌, ◌^◌, drop, length};
+ghost use Rattle.ldm_model.specs.declared.event.Event.TheVariants as event;
+ghost use Rattle.ldm_model.specs.Answers.{insert_answer, look_answer, expire_answer, stat_answer, open_answer, step_answer, read_answer, release_answer, close_answer, tally_answer, asked_bytes, bytes_read};
+ghost use Rattle.ldm_shared.specs.Passes.{IsPassOf, IsSamePass, Grows, FindsWorn};
+ghost use Rattle.ldm_shared.specs.Turns.{IfDone, IfWorn};
+
+use crate::pass::Pass;
+use crate::possible::{
+    feed_is_possible, insert_is_possible, place_is_possible, signature_is_possible, start_is_possible,
+};
+use crate::shared::Shared;
+use crate::steps::MOST_TURNS;
+use crate::turn::Turn;
+use ldm_model::{
+    CloseReply, ExpireReply, InsertReply, LookReply, OpenReply, ReadReply, ReleaseReply, Start,
+    Stat, StepReply, TallyReply,
+};
+use ldm_types::{CursorNo, Feed, Info, Micros, Signature};
+use std::marker::Brand;
+use std::sync::Wait;
+
+impl Shared {
+    /// Inserts a product at the moment `now`. The body has as many bytes as the metadata say. The cases are those of
+    /// [`ldm_book::Book::insert`].
+    pub fn insert<H: Wait>(
+        &self,
+        rt: &H,
+        pass: &mut Pass,
+        now: Micros,
+        info: &Info,
+        body: &[u8],
+    ) -> Turn<InsertReply>
+        requires of { IsPassOf self.now pass.old }
+        requires size { length body.now ≡ info.now.size }
+        ensures kept { IsSamePass pass.old pass.new }
+        ensures done { IfDone result (λ reply. Grows pass.old pass.new (event.Insert now info.now body.now) (insert_answer reply)) }
+        ensures worn { IfWorn result (FindsWorn pass.old pass.new) }
+    {
+        insert_is_possible(now, info, body);
+        let Some(mut book) = self.take(rt, &mut pass.seat) else {
+            return Turn::Worn { turns: MOST_TURNS };
+        };
+        let reply = book.insert(pass.actor, now, info, body);
+        self.give::<Brand, _, _>(&mut pass.seat, book, pass.actor, &(now, info, body), &reply);
+        Turn::Done(reply)
+    }
+
+    /// Opens a cursor of the pass's actor for these feedtypes, at the least empty cursor place.
+    pub fn open_cursor<H: Wait>(
+        &self,
+        rt: &H,
+        pass: &mut Pass,
+        feed: Feed,
+        start: Start,
+    ) -> Turn<OpenReply>
+        requires { IsPassOf self.now pass.old }
+        ensures kept { IsSamePass pass.old pass.new }
+        ensures done { IfDone result (λ reply. Grows pass.old pass.new (event.OpenCursor feed start) (open_answer reply)) }
+        ensures worn { IfWorn result (FindsWorn pass.old pass.new) }
+    {
+        feed_is_possible(feed);
+        start_is_possible(&start);
+        let Some(mut book) = self.take(rt, &mut pass.seat) else {
+            return Turn::Worn { turns: MOST_TURNS };
+        };
+        let reply = book.open_cursor(pass.actor, feed, start);
+        self.give::<Brand, _, _>(&mut pass.seat, book, pass.actor, &(feed, &start), &reply);
+        Turn::Done(reply)
+    }
+
+    /// Goes on with a cursor: tells the losses that it was not told yet, or gives the next product, which the cursor holds
+    /// from then on, or comes to the end.
+    pub fn step<H: Wait>(&self, rt: &H, pass: &mut Pass, k: CursorNo) -> Turn<StepReply>
+        requires { IsPassOf self.now pass.old }
+        ensures kept { IsSamePass pass.old pass.new }
+        ensures done { IfDone result (λ reply. Grows pass.old pass.new (event.Step k) (step_answer reply)) }
+        ensures worn { IfWorn result (FindsWorn pass.old pass.new) }
+    {
+        place_is_possible(k);
+        let Some(mut book) = self.take(rt, &mut pass.seat) else {
+            return Turn::Worn { turns: MOST_TURNS };
+        };
+        let reply = book.step(pass.actor, k);
+        self.give::<Brand, _, _>(&mut pass.seat, book, pass.actor, &k, &reply);
+        Turn::Done(reply)
+    }
+
+    /// Reads the body of the product that a cursor holds, from that offset on: as many bytes as the buffer has room for,
+    /// or as are left, to the front of the buffer. The bytes behind them stay as they were.
+    pub fn read<H: Wait>(
+        &self,
+        rt: &H,
+        pass: &mut Pass,
+        k: CursorNo,
+        offset: u32,
+        into: &mut [u8],
+    ) -> Turn<ReadReply>
+        requires { IsPassOf self.now pass.old }
+        ensures kept { IsSamePass pass.old pass.new }
+        ensures done { IfDone result (λ reply. Grows pass.old pass.new (event.Read k offset (asked_bytes (length into.old))) (read_answer reply into.new)) }
+        ensures worn { IfWorn result (FindsWorn pass.old pass.new) }
+        ensures rest { IfDone result (λ reply. drop (bytes_read reply) into.new ≡ drop (bytes_read reply) into.old) }
+        ensures unread { IfWorn result (λ _. into.new ≡ into.old) }
+    {
+        place_is_possible(k);
+        let room = into.len();
+        let Some(mut book) = self.take(rt, &mut pass.seat) else {
+            return Turn::Worn { turns: MOST_TURNS };
+        };
+        let reply = book.read(pass.actor, k, offset, into);
+        self.give::<Brand, _, _>(&mut pass.seat, book, pass.actor, &(k, offset, room), &(reply, &*into));
+        Turn::Done(reply)
+    }
+
+    /// Ends the hold of a cursor.
+    pub fn release<H: Wait>(&self, rt: &H, pass: &mut Pass, k: CursorNo) -> Turn<ReleaseReply>
+        requires { IsPassOf self.now pass.old }
+        ensures kept { IsSamePass pass.old pass.new }
+        ensures done { IfDone result (λ reply. Grows pass.old pass.new (event.Release k) (release_answer reply)) }
+        ensures worn { IfWorn result (FindsWorn pass.old pass.new) }
+    {
+        place_is_possible(k);
+        let Some(mut book) = self.take(rt, &mut pass.seat) else {
+            return Turn::Worn { turns: MOST_TURNS };
+        };
+        let reply = book.release(pass.actor, k);
+        self.give::<Brand, _, _>(&mut pass.seat, book, pass.actor, &k, &reply);
+        Turn::Done(reply)
+    }
+
+    /// Closes a cursor. If it held a product, that hold ends.
+    pub fn close<H: Wait>(&self, rt: &H, pass: &mut Pass, k: CursorNo) -> Turn<CloseReply>
+        requires { IsPassOf self.now pass.old }
+        ensures kept { IsSamePass pass.old pass.new }
+        ensures done { IfDone result (λ reply. Grows pass.old pass.new (event.Close k) (close_answer reply)) }
+        ensures worn { IfWorn result (FindsWorn pass.old pass.new) }
+    {
+        place_is_possible(k);
+        let Some(mut book) = self.take(rt, &mut pass.seat) else {
+            return Turn::Worn { turns: MOST_TURNS };
+        };
+        let reply = book.close(pass.actor, k);
+        self.give::<Brand, _, _>(&mut pass.seat, book, pass.actor, &k, &reply);
+        Turn::Done(reply)
+    }
+
+    /// The queued product of that signature, if there is one.
+    pub fn look<H: Wait>(&self, rt: &H, pass: &mut Pass, s: &Signature) -> Turn<LookReply>
+        requires { IsPassOf self.now pass.old }
+        ensures kept { IsSamePass pass.old pass.new }
+        ensures done { IfDone result (λ reply. Grows pass.old pass.new (event.Look s.now) (look_answer reply)) }
+        ensures worn { IfWorn result (FindsWorn pass.old pass.new) }
+    {
+        signature_is_possible(s);
+        let Some(mut book) = self.take(rt, &mut pass.seat) else {
+            return Turn::Worn { turns: MOST_TURNS };
+        };
+        let reply = book.look(pass.actor, s);
+        self.give::<Brand, _, _>(&mut pass.seat, book, pass.actor, s, &reply);
+        Turn::Done(reply)
+    }
+
+    /// Evicts the oldest product that no cursor holds, if there is one.
+    pub fn expire<H: Wait>(&self, rt: &H, pass: &mut Pass) -> Turn<ExpireReply>
+        requires { IsPassOf self.now pass.old }
+        ensures kept { IsSamePass pass.old pass.new }
+        ensures done { IfDone result (λ reply. Grows pass.old pass.new event.Expire (expire_answer reply)) }
+        ensures worn { IfWorn result (FindsWorn pass.old pass.new) }
+    {
+        let Some(mut book) = self.take(rt, &mut pass.seat) else {
+            return Turn::Worn { turns: MOST_TURNS };
+        };
+        let reply = book.expire(pass.actor);
+        self.give::<Brand, _, _>(&mut pass.seat, book, pass.actor, &(), &reply);
+        Turn::Done(reply)
+    }
+
+    /// Counts what a cursor was given, what it lost, and what is left for it.
+    pub fn tally<H: Wait>(&self, rt: &H, pass: &mut Pass, k: CursorNo) -> Turn<TallyReply>
+        requires { IsPassOf self.now pass.old }
+        ensures kept { IsSamePass pass.old pass.new }
+        ensures done { IfDone result (λ reply. Grows pass.old pass.new (event.Tally k) (tally_answer reply)) }
+        ensures worn { IfWorn result (FindsWorn pass.old pass.new) }
+    {
+        place_is_possible(k);
+        let Some(mut book) = self.take(rt, &mut pass.seat) else {
+            return Turn::Worn { turns: MOST_TURNS };
+        };
+        let reply = book.tally(pass.actor, k);
+        self.give::<Brand, _, _>(&mut pass.seat, book, pass.actor, &k, &reply);
+        Turn::Done(reply)
+    }
+
+    /// How full the queue is.
+    pub fn stat<H: Wait>(&self, rt: &H, pass: &mut Pass) -> Turn<Stat>
+        requires { IsPassOf self.now pass.old }
+        ensures kept { IsSamePass pass.old pass.new }
+        ensures done { IfDone result (λ reply. Grows pass.old pass.new event.Stat (stat_answer reply)) }
+        ensures worn { IfWorn result (FindsWorn pass.old pass.new) }
+    {
+        let Some(mut book) = self.take(rt, &mut pass.seat) else {
+            return Turn::Worn { turns: MOST_TURNS };
+        };
+        let reply = book.stat(pass.actor);
+        self.give::<Brand, _, _>(&mut pass.seat, book, pass.actor, &(), &reply);
+        Turn::Done(reply)
+    }
+}

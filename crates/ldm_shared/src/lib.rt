@@ -1,0 +1,29 @@
+//! The queue of many threads.
+//!
+//! A [`Shared`] is lent to every thread, and each thread has a [`Pass`] of its own. Contracts see a pass as an actor and the
+//! history that it has seen. There is one history of all calls, and each call says where it stands in it: behind all that the
+//! pass had seen, with the reply of the queue at that point.
+#![tactic(auto)]
+
+mod calls;
+mod fault;
+mod making;
+mod meeting;
+mod pass;
+mod possible;
+mod rule;
+mod shared;
+mod sizes;
+mod steps;
+mod turn;
+mod view;
+
+pub use fault::CreateFault;
+pub use pass::Pass;
+pub use shared::Shared;
+pub use steps::MOST_TURNS;
+pub use turn::Turn;
+
+
+#[cfg(test)]
+mod tests;

@@ -1,0 +1,159 @@
+//! Taking the turn and giving it back.
+ghost use Rattle.std.specs.Prelude.{◌≡◌, ◌≢◌, ◌<◌, ◌≤◌, ◌==◌, ◌+◌, ◌%◌, ◌^◌, ◌++◌, ◌⊎◌, [], ◌∷◌, ℕ, false, length, IfNone, IfSome, None, MatchBool};
+ghost use Rattle.ldm_model.specs.History.{after, next_entry, IsLegal, IsPossible};
+ghost use Rattle.ldm_book.specs.Stands.{StandsFor};
+ghost use Rattle.ldm_book.specs.Answers.{Follows};
+ghost use Rattle.ldm_shared.specs.Rule.{AnswersForAll};
+ghost use Rattle.ldm_shared.specs.Steps.{Sees, HasTaken};
+ghost use Rattle.ldm_shared.specs.Seats.{IsReady, HasTheTurn, IsSame, GoesOn, IsHistory};
+
+use crate::rule::{Add, Called, Look, Take};
+use crate::shared::Shared;
+use crate::view::View;
+use atomic_table::Seat;
+use ldm_book::Book;
+use ldm_model::histories_append;
+use ldm_types::Actor;
+use std::hint::spin_loop;
+use std::sync::Wait;
+
+/// How many calls a shared queue can have.
+pub const MOST_TURNS: u64 = 1 << 62;
+
+// The word that counts so many calls, with no turn taken.
+const WORN: u64 = 2 * MOST_TURNS;
+
+// How often a caller looks at a turn that is taken before it sleeps.
+const LOOKS: u32 = 100;
+
+impl Shared {
+    // Sees the history as it is, and answers the word.
+    pub(crate) fn see(&self, seat: &mut Seat<Option<Book>, View>) -> u64
+        requires { IsReady self.now seat.old }
+        ensures same { IsSame seat.old seat.new }
+        ensures sees { Sees seat.old.me.0 result seat.new.me.0 }
+        ensures idle { (seat.new.me.0.turn ≡ false) × (seat.new.me.1 ≡ []) }
+    {
+        self.table.shared.load::<Look>(seat, 0)
+    }
+
+    // Takes the turn, and the slot with the book, if the word is still the one that is given. Answers the word.
+    pub(crate) fn try_take(&self, seat: &mut Seat<Option<Book>, View>, word: u64) -> u64
+        requires ready { IsReady self.now seat.old }
+        requires even { word % 2 ≡ 0 }
+        requires room { word + 1 < 2 ^ 64 }
+        requires may { (((actor : ℕ) × (seat.old.me.0.actors ≡ actor ∷ [])) × (word < 2 ^ 63)) ⊎ AnswersForAll seat.old.me.0 }
+        ensures same { IsSame seat.old seat.new }
+        ensures sees { Sees seat.old.me.0 result seat.new.me.0 }
+        ensures taken { MatchBool (result == word) (HasTaken seat.new.me.0 seat.new.me.1) ((seat.new.me.0.turn ≡ false) × (seat.new.me.1 ≡ [])) }
+    {
+        self.table
+            .shared
+            .compare_exchange::<Take>(seat, 0, word, word + 1)
+    }
+
+    // Takes the book out of the slot, which the seat has with the turn.
+    pub(crate) fn take_out(&self, seat: &mut Seat<Option<Book>, View>) -> Book
+        requires queue { seat.old.table_id ≡ self.now.queue }
+        requires taken { HasTaken seat.old.me.0 seat.old.me.1 }
+        ensures same { IsSame seat.old seat.new }
+        ensures empty { seat.new.me ≡ (seat.old.me.0, (0, None) ∷ []) }
+        ensures stands { StandsFor result (after seat.old.me.0.arena seat.old.me.0.slots seat.old.me.0.seen) }
+    {
+        let Some(book) = self.table.shared.exchange(seat, 0, None) else {
+            unreachable!()
+        };
+        book
+    }
+
+    // Puts the book into the slot.
+    fn put_in(&self, seat: &mut Seat<Option<Book>, View>, book: Book)
+        requires turn { HasTheTurn self.now seat.old }
+        ensures same { IsSame seat.old seat.new }
+        ensures filled { seat.new.me ≡ (seat.old.me.0, (0, Some book) ∷ []) }
+    {
+        let None = self.table.shared.exchange(seat, 0, Some(book)) else {
+            unreachable!()
+        };
+    }
+
+    // Ends a call: puts the book back, as the call left it, adds the entry of the call, gives the turn back, and wakes one that
+    // waits for it.
+    fn put_back<C: Called>(&self, seat: &mut Seat<Option<Book>, View>, book: Book)
+        requires turn { HasTheTurn self.now seat.old }
+        requires own { seat.old.me.0.actors ≡ C.entry.actor ∷ [] }
+        requires few { length seat.old.me.0.seen < 2 ^ 62 }
+        requires legal { IsLegal seat.old.me.0.arena seat.old.me.0.slots (seat.old.me.0.seen ++ C.entry ∷ []) }
+        requires stands { StandsFor book (after seat.old.me.0.arena seat.old.me.0.slots (seat.old.me.0.seen ++ C.entry ∷ [])) }
+        ensures same { IsSame seat.old seat.new }
+        ensures added { seat.new.me ≡ (record seat.old.me.0 { seen = seat.old.me.0.seen ++ C.entry ∷ []; turn = false }, []) }
+    {
+        self.put_in(seat, book);
+        self.table.shared.fetch_add::<Add<C>>(seat, 0, 1);
+        self.table.shared.wake_one(0);
+    }
+
+    // Waits for the turn, and takes it with the book. `None` exactly where the queue has had all its calls.
+    pub(crate) fn take<H: Wait>(
+        &self,
+        rt: &H,
+        seat: &mut Seat<Option<Book>, View>,
+    ) -> Option<Book>
+        requires ready { IsReady self.now seat.old }
+        requires one { (actor : ℕ) × (seat.old.me.0.actors ≡ actor ∷ []) }
+        requires olds { seat.old.me.0.olds ≡ [] }
+        ensures same { IsSame seat.old seat.new }
+        ensures goes_on { GoesOn seat.old.me.0 seat.new.me.0 × IsHistory seat.new.me.0 }
+        ensures worn { IfNone result (IsReady self.now seat.new × (length seat.new.me.0.seen ≡ 2 ^ 62)) }
+        ensures taken { IfSome result (λ book. HasTheTurn self.now seat.new × (length seat.new.me.0.seen < 2 ^ 62)
+            × StandsFor book (after seat.new.me.0.arena seat.new.me.0.slots seat.new.me.0.seen)) }
+    {
+        let mut looks = 0;
+        for _ in rt.forever() {
+            let word = self.see(seat);
+            if word >= WORN {
+                self.table.shared.wake_one(0);
+                return None;
+            }
+            if word % 2 == 0 {
+                if self.try_take(seat, word) == word {
+                    return Some(self.take_out(seat));
+                }
+            } else if looks < LOOKS {
+                looks += 1;
+                spin_loop();
+            } else {
+                looks = 0;
+                self.table.shared.park(rt, 0, (word & 0xffff_ffff) as u32);
+            }
+        }
+        unreachable!()
+    }
+
+    // Ends a call of an actor, whose event and reply are for the proof alone: the book is as the call left it.
+    pub(crate) fn give<C: Called, E, R>(
+        &self,
+        seat: &mut Seat<Option<Book>, View>,
+        book: Book,
+        actor: Actor,
+        event: &E,
+        reply: &R,
+    )
+        requires turn { HasTheTurn self.now seat.old }
+        requires own { seat.old.me.0.actors ≡ C.entry.actor ∷ [] }
+        requires few { length seat.old.me.0.seen < 2 ^ 62 }
+        requires history { IsHistory seat.old.me.0 }
+        requires actor { C.entry.actor ≡ actor }
+        requires possible { IsPossible C.entry.event }
+        requires answers { Follows C.entry.reply book (next_entry (after seat.old.me.0.arena seat.old.me.0.slots seat.old.me.0.seen) C.entry) }
+        ensures same { IsSame seat.old seat.new }
+        ensures added { seat.new.me ≡ (record seat.old.me.0 { seen = seat.old.me.0.seen ++ C.entry ∷ []; turn = false }, []) }
+        ensures history { IsHistory seat.new.me.0 }
+    {
+        let _ = actor.get();
+        let _ = event;
+        let _ = reply;
+        histories_append();
+        self.put_back::<C>(seat, book);
+    }
+}
