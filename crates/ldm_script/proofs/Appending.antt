@@ -1,15 +1,12 @@
 -- Bodies that are appended as digits.
-use Rattle.std.proofs.Common.{◌≡◌, ℕ, zero, suc, ◌+◌, ◌-◌, ◌*◌, ◌/◌, ◌%◌, ◌<◌, ◌≤◌, Bool, true, false, cond, List, [], ◌∷◌, ◌++◌, length, map, replicate, take, codes, Option, Some, None, unwrap_or, refl, sym, ap, subst, ◌∙◌, arith, inl, inr}
+use Rattle.std.proofs.Common.{◌≡◌, ℕ, zero, suc, ◌+◌, ◌*◌, ◌/◌, ◌%◌, ◌<◌, ◌≤◌, Bool, true, cond, List, [], ◌∷◌, ◌++◌, length, map, replicate, Option, Some, None, unwrap_or, refl, sym, ap, ◌∙◌, arith, inl, inr}
 use Rattle.std.proofs.lemmas.Bool.{and_parts, cases_lt, eqb-true, cond-true, cond-false, lt-ltb, le-ltb}
-use Rattle.std.proofs.lemmas.List.{append_assoc, replicate_more}
+use Rattle.std.proofs.lemmas.List.{replicate_more}
 use Rattle.std.specs.Char.{digit_char, to_ascii_lowercase}
 use Rattle.std.specs.Prelude.{nat_lt, ◌==◌, ◌&&◌, IsSome, slice_index}
-use Rattle.hex.specs.Hex.{IsBytes, encode_with, encode_lower, lower_digits, hex_digit_value, is_hex_digit}
+use Rattle.hex.specs.Hex.{IsBytes, encode_with, encode_lower, lower_digits, hex_digit_value}
 use Rattle.hex.proofs.HexLemmas.{length-encode_with, decode_of-ok}
-use Rattle.ldm_script.specs.declared.body.Body.{Body}
-use Rattle.ldm_script.specs.declared.body.Body.TheVariants.{Hex, Fill}
 use Rattle.ldm_script.specs.Bodies.{body_of, body_text, digits_of}
-use Rattle.ldm_script.specs.OrderView.{bytes_of}
 use Rattle.ldm_script.proofs.Hexadecimal.{pairs, cons_pair, digits_of-pairs, length-digits_of, some_bytes, decoded}
 use Rattle.ldm_script.proofs.ReadBack.{body_of-body_text}
 

@@ -1,5 +1,5 @@
 -- What lines can ask for.
-use Rattle.std.proofs.Common.{◌≡◌, ℕ, zero, suc, ◌+◌, ◌-◌, ◌*◌, ◌/◌, ◌^◌, ◌<◌, ◌≤◌, Bool, true, false, cond, List, [], ◌∷◌, ◌++◌, length, replicate, codes, Option, Some, None, unwrap_or, Result, Ok, Err, refl, sym, ap, subst, ◌∙◌, arith}
+use Rattle.std.proofs.Common.{◌≡◌, ℕ, suc, ◌+◌, ◌≤◌, Bool, true, false, cond, List, [], ◌∷◌, length, replicate, codes, Option, Some, None, unwrap_or, Result, Ok, Err, refl, ap, subst, ◌∙◌, arith}
 use Rattle.std.proofs.lemmas.Bool.{leb-true, ltb-false}
 use Rattle.std.proofs.lemmas.List.{length-replicate}
 use Rattle.std.proofs.lemmas.List.Elements.{All-cons, All-nil, All-head, All-tail, All-weaker}
@@ -18,14 +18,14 @@ use Rattle.ldm_script.specs.declared.word.LineWord.{LineWord}
 use Rattle.ldm_script.specs.declared.word.LineWord.TheVariants as word
 use Rattle.ldm_script.specs.Bodies.{body_of, body_of_parts, digits_of, filled}
 use Rattle.ldm_script.specs.Fields.{◌>>=◌, Left, field, first_field, behind_field, or_bad, no_more}
-use Rattle.ldm_script.specs.Grammar.{read_insert, read_open, read_start, read_on_cursor, read_read, read_look, read_act, read_order, read_line, read_alone, is_comment, at_column, instant_of, signature_of, feed_of, four_bytes, place_of}
+use Rattle.ldm_script.specs.Grammar.{read_insert, read_open, read_start, read_on_cursor, read_read, read_look, read_act, read_order, read_line, is_comment, at_column, instant_of, signature_of, feed_of, four_bytes, place_of}
 use Rattle.ldm_script.specs.Number.{number_up_to, number_below, up_to, digits_from}
 use Rattle.ldm_script.specs.Texts.{text_up_to}
 use Rattle.ldm_script.specs.Word.{word_of_text, start_word_of_text}
 use Rattle.ldm_signature.specs.HexSignature.{hex_signature}
 use Rattle.ldm_types.specs.declared.limits.TheConstants.{LONGEST_ORIGIN, LONGEST_IDENT}
 use Rattle.ldm_script.specs.Order.{Order, Asked, Plain, OnCursor}
-use Rattle.ldm_script.specs.OrderView.{asked_of, order_of, bytes_of, IsWritable}
+use Rattle.ldm_script.specs.OrderView.{asked_of, order_of, IsWritable}
 use Rattle.ldm_script.proofs.Hexadecimal.{length-digits_of}
 
 -- ---- fields that were read

@@ -5,11 +5,11 @@ use Rattle.std.proofs.lemmas.Fmt.{decimal_by_steps, decimal_digit, first_decimal
 use Rattle.std.proofs.lemmas.List.{append-nil}
 use Rattle.std.proofs.lemmas.Slice.Eq.{bytes_eq-Decides}
 use Rattle.std.specs.List.{flat_map, list_any}
-use Rattle.std.specs.Prelude.{◌==◌, ◌&&◌, nat_le, bytes_eq, slice_index}
+use Rattle.std.specs.Prelude.{◌==◌, ◌&&◌, nat_le, bytes_eq}
 use Rattle.std.specs.Option.{option_map}
 use Rattle.std.specs.Result.{result_ok}
-use Rattle.hex.specs.Hex.{IsBytes, decode_of, decode_sized, encode_with, encode_lower, encode_upper, lower_digits, upper_digits}
-use Rattle.hex.proofs.HexLemmas.{length-encode_with, decode_of-encode_upper, decode_of-encode_lower, decode_sized-twice, decode_sized-encode_lower}
+use Rattle.hex.specs.Hex.{IsBytes, decode_sized, encode_lower, encode_upper, lower_digits, upper_digits}
+use Rattle.hex.proofs.HexLemmas.{length-encode_with, decode_of-encode_upper, decode_sized-twice, decode_sized-encode_lower}
 use Rattle.hex.specs.declared.error.FromHexError.{FromHexError}
 use Rattle.ldm_feedtype.specs.Text.{feed_digits}
 use Rattle.ldm_feedtype.specs.Reading.{feed_number}

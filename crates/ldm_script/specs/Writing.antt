@@ -12,7 +12,7 @@ use Rattle.ldm_script.specs.declared.order.Place.{Place}
 use Rattle.ldm_script.specs.declared.order.Place.TheVariants as place
 use Rattle.ldm_script.specs.declared.order.Act.{Act}
 use Rattle.ldm_script.specs.declared.order.Act.TheVariants as act
-use Rattle.ldm_script.specs.Answer.{blank_field, blank_number, product_text}
+use Rattle.ldm_script.specs.Answer.{blank_number, product_text}
 use Rattle.ldm_script.specs.Texts.{spelled, text_up_to}
 use Rattle.ldm_script.specs.Bodies.{body_of, body_text}
 use Rattle.ldm_script.specs.Grammar.{four_bytes, instant_of}

@@ -17,8 +17,6 @@ mod order;
 mod put_fields;
 mod replies;
 mod split;
-#[cfg(test)]
-mod tests;
 mod texts;
 mod word;
 mod write;

@@ -5,8 +5,16 @@
 #[cfg(test)]
 mod access;
 #[cfg(test)]
+mod answers;
+#[cfg(test)]
 mod book;
 #[cfg(test)]
-mod readers;
+mod lines;
+#[cfg(test)]
+mod pairs;
+#[cfg(test)]
+mod random;
 #[cfg(test)]
 mod runs;
+#[cfg(test)]
+mod scripts;

