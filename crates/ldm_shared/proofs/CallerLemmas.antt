@@ -53,3 +53,17 @@ still_are_all shared old new are same each = record {
       let there = same_actor old new has.0 actor same each has.1 has.2 in
       (has.0, there.0, there.1);
 }
+
+-- two passes, of a queue with as many
+pub two_are_all : (shared : SharedView) (first second : PassView) → shared.passes ≡ 2 → IsPassOf shared first × (first.actor ≡ 0) → IsPassOf shared second × (second.actor ≡ 1)
+    → AreAllOf shared (first ∷ second ∷ [])
+two_are_all shared first second two is_first is_second = record { of = each; all = among }
+  where
+    each : (k : ℕ) (d : PassView) → k < length (first ∷ second ∷ []) → IsPassOf shared (get_or (first ∷ second ∷ []) k d)
+    each zero d less = is_first.0
+    each (suc zero) d less = is_second.0
+    each (suc (suc k)) d less = absurd (omega arith)
+    among : (actor : ℕ) → actor < shared.passes → Contains (actors (first ∷ second ∷ [])) actor
+    among zero less = (0, omega arith, is_first.1)
+    among (suc zero) less = (1, omega arith, is_second.1)
+    among (suc (suc actor)) less = absurd (omega (arith, two, less))
