@@ -94,8 +94,7 @@ module _ (sizes : Sizes) where
       let answers : AnswersFor v entry.actor = subst (λ (l : List ℕ). 0 < times entry.actor l) (sym actors) (let self = times-self entry.actor in omega arith) in
       let knows' : Knows sizes v.seen v = subst (λ (h : List Entry). Knows sizes h v) (sym has.seen) knows in
       let book' : StandsFor book (after sizes.arena sizes.slots H) =
-          subst (λ (n : ℕ). StandsFor book (after n sizes.slots H)) knows.arena (subst (λ (n : ℕ). StandsFor book (after v.arena n H)) knows.slots stands) in
-      (
+      subst (λ (n : ℕ). StandsFor book (after n sizes.slots H)) knows.arena (subst (λ (n : ℕ). StandsFor book (after v.arena n H)) knows.slots stands) in (
         w,
         gives,
         tt,
@@ -115,12 +114,12 @@ module _ (sizes : Sizes) where
           seats = others sizes (λ (u : View). (u ≡ spent) ⊎ Knows sizes H u) s.views id w (inr (knows_own v.seen entry v knows' has.olds))
               (λ j u other there. ⊎_elim (λ (e : u ≡ spent). inl e)
               (λ (theirs : Knows sizes k.history u).
-                  let apart : id ≢ j = λ e. other (sym e) in
-                  let two = sum-two is_turn s.views id j v u apart at there in
-                  let idle : u.turn ≡ false = idle_turn u (omega (arith, two, mine, one)) in
-                  let both = sum-two (λ (x : View). times entry.actor x.actors) s.views id j v u apart at there in
-                  let few = k.apart entry.actor in
-                  inr (knows_more v.seen entry u (subst (λ (h : List Entry). Knows sizes h u) (sym has.seen) theirs) idle (λ (h : AnswersFor u entry.actor). absurd (omega (arith, both, few, answers, h)))))
+              let apart : id ≢ j = λ e. other (sym e) in
+              let two = sum-two is_turn s.views id j v u apart at there in
+              let idle : u.turn ≡ false = idle_turn u (omega (arith, two, mine, one)) in
+              let both = sum-two (λ (x : View). times entry.actor x.actors) s.views id j v u apart at there in
+              let few = k.apart entry.actor in
+              inr (knows_more v.seen entry u (subst (λ (h : List Entry). Knows sizes h u) (sym has.seen) theirs) idle (λ (h : AnswersFor u entry.actor). absurd (omega (arith, both, few, answers, h)))))
               (k.seats j u there));
         },
         (refl, refl),

@@ -63,6 +63,7 @@ two_are_all shared first second two is_first is_second = record { of = each; all
     each zero d less = is_first.0
     each (suc zero) d less = is_second.0
     each (suc (suc k)) d less = absurd (omega arith)
+
     among : (actor : ℕ) → actor < shared.passes → Contains (actors (first ∷ second ∷ [])) actor
     among zero less = (0, omega arith, is_first.1)
     among (suc zero) less = (1, omega arith, is_second.1)

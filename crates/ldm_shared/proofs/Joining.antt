@@ -61,8 +61,8 @@ module _ (sizes : Sizes) where
       kept sizes s k (views ++ right ∷ [])
       (omega (arith, sum_by-append is_turn views (right ∷ []), sum-set is_turn s.views id v left at, idle))
       (λ actor.
-          let f : View → ℕ = λ (u : View). times actor u.actors in
-          omega (arith, sum_by-append f views (right ∷ []), sum-set f s.views id v left at, less actor))
+      let f : View → ℕ = λ (u : View). times actor u.actors in
+      omega (arith, sum_by-append f views (right ∷ []), sum-set f s.views id v left at, less actor))
       (λ j u there. ⊎_elim (others sizes (IsSeat sizes k.history) s.views id left (inr mine) (λ i x _. k.seats i x) j u) (λ (e : right ≡ u). subst (IsSeat sizes k.history) e (inr its)) (at_snoc views right u j there))
 
   dealt : (actor : ℕ) (actors : List ℕ) → times actor (other_actors actors) + times actor (first_actor actors) ≤ times actor actors
@@ -119,8 +119,8 @@ module _ (sizes : Sizes) where
         actors = λ actor (answers : AnswersFor (both v w) actor). dite' (times actor v.actors)
             (λ mine. ((a.actors actor mine).0, own-between actor v.seen (longer v.seen w.seen) history l.0 l.2 (a.actors actor mine).1))
             (λ none.
-                let its : AnswersFor w actor = omega (arith, times-append actor v.actors w.actors, none, answers) in
-                ((b.actors actor its).0, own-between actor w.seen (longer v.seen w.seen) history l.1 l.2 (b.actors actor its).1));
+            let its : AnswersFor w actor = omega (arith, times-append actor v.actors w.actors, none, answers) in
+            ((b.actors actor its).0, own-between actor w.seen (longer v.seen w.seen) history l.1 l.2 (b.actors actor its).1));
         turn = λ (on : v.turn ≡ true). absurd (cc (on, off));
       }
     where
@@ -141,7 +141,7 @@ module _ (sizes : Sizes) where
       kept sizes s k (set views other spent)
       (omega (arith, sum-set is_turn s.views id v all at, sum-set is_turn views other w spent there, idle, its_idle))
       (λ actor.
-          let f : View → ℕ = λ (u : View). times actor u.actors in
-          omega (arith, sum-set f s.views id v all at, sum-set f views other w spent there, times-append actor v.actors w.actors))
+      let f : View → ℕ = λ (u : View). times actor u.actors in
+      omega (arith, sum-set f s.views id v all at, sum-set f views other w spent there, times-append actor v.actors w.actors))
       (others sizes (IsSeat sizes k.history) views other spent (inl refl)
       (λ j u _. others sizes (IsSeat sizes k.history) s.views id all (inr (knows_both k.history v w knows its off)) (λ i x _. k.seats i x) j u))

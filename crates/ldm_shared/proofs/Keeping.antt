@@ -87,7 +87,7 @@ module _ (sizes : Sizes) where
   whole_seen s k v knows all =
       let behind = knows.seen.0 in
       let none : behind ≡ [] = no_entry sizes.passes behind (below-rest sizes.passes v.seen behind (subst (AreBelow sizes.passes) (sym knows.seen.1) k.below))
-          (λ actor less. own-behind actor v.seen behind k.history knows.seen.1 (knows.actors actor (all actor (subst (λ (n : ℕ). actor < n) (sym knows.passes) less))).1) in
+      (λ actor less. own-behind actor v.seen behind k.history knows.seen.1 (knows.actors actor (all actor (subst (λ (n : ℕ). actor < n) (sym knows.passes) less))).1) in
       sym knows.seen.1 ∙ (ap (λ (h : List Entry). v.seen ++ h) none ∙ append-nil' v.seen)
     where
       append-nil' : (xs : List Entry) → xs ++ [] ≡ xs
@@ -99,9 +99,9 @@ module _ (sizes : Sizes) where
   turned_actor history u knows some_pass turn =
       ⊎_elim
       (λ (one : ((actor : ℕ) × (u.actors ≡ actor ∷ [])) × (length history < 2 ^ 62)).
-          let actor = one.0.0 in
-          let answers : AnswersFor u actor = subst (λ (l : List ℕ). 0 < times actor l) (sym one.0.1) (let self = times-self actor in omega arith) in
-          (actor, (knows.actors actor answers).0, answers))
+      let actor = one.0.0 in
+      let answers : AnswersFor u actor = subst (λ (l : List ℕ). 0 < times actor l) (sym one.0.1) (let self = times-self actor in omega arith) in
+      (actor, (knows.actors actor answers).0, answers))
       (λ (all : AnswersForAll u). (0, some_pass, all 0 (subst (λ (n : ℕ). 0 < n) (sym knows.passes) some_pass)))
       turn.one
 
@@ -109,20 +109,20 @@ module _ (sizes : Sizes) where
   no_turn s k id v at off some_pass knows all =
       dite (ℕ_discrete (turns s.views) 0) (λ e. e)
       (λ taken.
-          let t = turn_of s.views (omega arith) in
-          let j = t.0 in
-          let u = t.1 in
-          let here : get_elem? s.views j ≡ some u = t.2 in
-          let on : u.turn ≡ true = t.3 in
-          let apart : id ≢ j = λ e. absurd (let same : some v ≡ some u = sym at ∙ (ap (get_elem? s.views) e ∙ here) in cc (same, off, on)) in
-          let passes : 0 < sizes.passes = subst (λ (n : ℕ). 0 < n) knows.passes some_pass in
-          let theirs : Knows sizes k.history u = ⊎_elim (λ (e : u ≡ spent). absurd (let no : u.turn ≡ false = ap (λ (w : View). w.turn) e in cc (no, on))) (λ (x : Knows sizes k.history u). x) (k.seats j u here) in
-          let actor = turned_actor k.history u theirs passes (theirs.turn on) in
-          let mine : AnswersFor v actor.0 = all actor.0 (subst (λ (n : ℕ). actor.0 < n) (sym knows.passes) actor.1) in
-          let its : AnswersFor u actor.0 = actor.2 in
-          let two = sum-two (λ (w : View). times actor.0 w.actors) s.views id j v u apart at here in
-          let few = k.apart actor.0 in
-          absurd (omega arith))
+      let t = turn_of s.views (omega arith) in
+      let j = t.0 in
+      let u = t.1 in
+      let here : get_elem? s.views j ≡ some u = t.2 in
+      let on : u.turn ≡ true = t.3 in
+      let apart : id ≢ j = λ e. absurd (let same : some v ≡ some u = sym at ∙ (ap (get_elem? s.views) e ∙ here) in cc (same, off, on)) in
+      let passes : 0 < sizes.passes = subst (λ (n : ℕ). 0 < n) knows.passes some_pass in
+      let theirs : Knows sizes k.history u = ⊎_elim (λ (e : u ≡ spent). absurd (let no : u.turn ≡ false = ap (λ (w : View). w.turn) e in cc (no, on))) (λ (x : Knows sizes k.history u). x) (k.seats j u here) in
+      let actor = turned_actor k.history u theirs passes (theirs.turn on) in
+      let mine : AnswersFor v actor.0 = all actor.0 (subst (λ (n : ℕ). actor.0 < n) (sym knows.passes) actor.1) in
+      let its : AnswersFor u actor.0 = actor.2 in
+      let two = sum-two (λ (w : View). times actor.0 w.actors) s.views id j v u apart at here in
+      let few = k.apart actor.0 in
+      absurd (omega arith))
 
   -- what a seat with no turn sees of the history, at the word that is found
   pub sees : (s : Table) (k : IsKept sizes s) (id : ℕ) (v : View) (turn : Bool) → get_elem? s.views id ≡ some v → v.turn ≡ false → 0 < v.passes → Knows sizes k.history v
@@ -207,35 +207,33 @@ module _ (sizes : Sizes) where
       let x : ℕ = get_or s.words 0 0 in
       dite (ℕ_discrete x old)
       (λ hit.
-          let w : View = record v { seen = k.history; turn = true; olds = [] } in
-          let found : x ≡ 2 * length k.history + turns s.views = ap (λ (ws : List ℕ). get_or ws 0 0) k.word in
-          let one = k.one_turn in
-          let none_has : turns s.views ≡ 0 = omega (arith, found, hit, even, one) in
-          let b = k.book none_has in
-          let stands : StandsFor b.0 (after v.arena v.slots k.history) =
-              subst (λ (n : ℕ). StandsFor b.0 (after n v.slots k.history)) (sym knows.arena) (subst (λ (n : ℕ). StandsFor b.0 (after sizes.arena n k.history)) (sym knows.slots) b.2) in
-          (
-            w,
-            takes_slot 0 (Some b.0),
-            ap (λ (hs : List (mathlib.Core.Option.Option Content)). get_elem? hs 0) b.1,
-            subst (λ (t : Bool). IsKept sizes (stepped s 0 (either t (old + 1) x) id me.1 w (takes_slot 0 (Some b.0)))) (sym (eq-eqb x old hit)) (taken s k id v old at off knows even may hit),
-            (
-              sees s k id v true at off some_pass knows,
-              subst (λ (t : Bool). MatchBool t (HasTaken w ((0, Some b.0) ∷ me.1)) ((w.turn ≡ false) × ((0, Some b.0) ∷ me.1 ≡ []))) (sym (eq-eqb x old hit))
-                  (record { turn = refl; book = b.0; taken = ap (λ (l : List (ℕ × Content)). (0, Some b.0) ∷ l) free; stands = stands }),
-            ),
-          ))
+      let w : View = record v { seen = k.history; turn = true; olds = [] } in
+      let found : x ≡ 2 * length k.history + turns s.views = ap (λ (ws : List ℕ). get_or ws 0 0) k.word in
+      let one = k.one_turn in
+      let none_has : turns s.views ≡ 0 = omega (arith, found, hit, even, one) in
+      let b = k.book none_has in
+      let stands : StandsFor b.0 (after v.arena v.slots k.history) =
+      subst (λ (n : ℕ). StandsFor b.0 (after n v.slots k.history)) (sym knows.arena) (subst (λ (n : ℕ). StandsFor b.0 (after sizes.arena n k.history)) (sym knows.slots) b.2) in (
+        w,
+        takes_slot 0 (Some b.0),
+        ap (λ (hs : List (mathlib.Core.Option.Option Content)). get_elem? hs 0) b.1,
+        subst (λ (t : Bool). IsKept sizes (stepped s 0 (either t (old + 1) x) id me.1 w (takes_slot 0 (Some b.0)))) (sym (eq-eqb x old hit)) (taken s k id v old at off knows even may hit),
+        (
+          sees s k id v true at off some_pass knows,
+          subst (λ (t : Bool). MatchBool t (HasTaken w ((0, Some b.0) ∷ me.1)) ((w.turn ≡ false) × ((0, Some b.0) ∷ me.1 ≡ []))) (sym (eq-eqb x old hit))
+              (record { turn = refl; book = b.0; taken = ap (λ (l : List (ℕ × Content)). (0, Some b.0) ∷ l) free; stands = stands }),
+        ),
+      ))
       (λ miss.
-          let w : View = record v { seen = k.history; turn = false; olds = [] } in
-          let mine : Knows sizes k.history w = knows_all k.history v w knows refl refl refl refl refl refl (λ (e : false ≡ true). absurd cc) in
-          (
-            w,
-            keeps,
-            tt,
-            subst (λ (t : Bool). IsKept sizes (stepped s 0 (either t (old + 1) x) id me.1 w keeps)) (sym (ne_eqb x old miss))
-                (unwritten s (set s.views id w) (renewed s k id v w at (sym off) refl (inr mine))),
-            (
-              sees s k id v false at off some_pass knows,
-              subst (λ (t : Bool). MatchBool t (HasTaken w me.1) ((w.turn ≡ false) × (me.1 ≡ []))) (sym (ne_eqb x old miss)) (refl, free),
-            ),
-          ))
+      let w : View = record v { seen = k.history; turn = false; olds = [] } in
+      let mine : Knows sizes k.history w = knows_all k.history v w knows refl refl refl refl refl refl (λ (e : false ≡ true). absurd cc) in (
+        w,
+        keeps,
+        tt,
+        subst (λ (t : Bool). IsKept sizes (stepped s 0 (either t (old + 1) x) id me.1 w keeps)) (sym (ne_eqb x old miss))
+            (unwritten s (set s.views id w) (renewed s k id v w at (sym off) refl (inr mine))),
+        (
+          sees s k id v false at off some_pass knows,
+          subst (λ (t : Bool). MatchBool t (HasTaken w me.1) ((w.turn ≡ false) × (me.1 ≡ []))) (sym (ne_eqb x old miss)) (refl, free),
+        ),
+      ))

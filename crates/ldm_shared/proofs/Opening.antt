@@ -40,11 +40,11 @@ times_range_one actor a (suc n) =
     dite (ℕ_discrete (times actor (a ∷ [])) 0)
     (λ none. omega (arith, split, none, rest))
     (λ here.
-        let same = times-only a actor (omega arith) in
-        let one = times_at_most (a == actor) in
-        dite (ℕ_discrete (times actor (range_with_len (a + 1) n)) 0)
-        (λ none. omega (arith, split, none, one))
-        (λ there. let above = times_range actor (a + 1) n (omega arith) in absurd (omega (arith, same, above.0))))
+    let same = times-only a actor (omega arith) in
+    let one = times_at_most (a == actor) in
+    dite (ℕ_discrete (times actor (range_with_len (a + 1) n)) 0)
+    (λ none. omega (arith, split, none, one))
+    (λ there. let above = times_range actor (a + 1) n (omega arith) in absurd (omega (arith, same, above.0))))
 
 module _ (sizes : Sizes) where
   knows_none : Knows sizes [] (opening sizes)
@@ -103,7 +103,7 @@ items_more shared i items more are is =
     let last : 0 + i ≡ i = omega arith in
     let next : suc i ≡ i + 1 = omega arith in
     let dealt : map (new_pass shared) (range_with_len 0 (suc i)) ≡ map (new_pass shared) (range_with_len 0 i) ++ new_pass shared i ∷ [] =
-        ap (map (new_pass shared)) (range-last 0 i ∙ ap (λ (k : ℕ). range_with_len 0 i ++ k ∷ []) last) ∙ map-append (new_pass shared) (range_with_len 0 i) (i ∷ []) in
+    ap (map (new_pass shared)) (range-last 0 i ∙ ap (λ (k : ℕ). range_with_len 0 i ++ k ∷ []) last) ∙ map-append (new_pass shared) (range_with_len 0 i) (i ∷ []) in
     is ∙ (ap (λ (ps : List PassView). ps ++ new_pass shared i ∷ []) are ∙ (sym dealt ∙ ap (λ (n : ℕ). map (new_pass shared) (range_with_len 0 n)) next))
 
 -- the seat answers for the actors from i on

@@ -7,7 +7,8 @@ ghost use Rattle.ldm_shared.specs.Turns.{IfDone, IfWorn};
 
 use crate::pass::Pass;
 use crate::possible::{
-    feed_is_possible, insert_is_possible, place_is_possible, signature_is_possible, start_is_possible,
+    feed_is_possible, insert_is_possible, place_is_possible, signature_is_possible,
+    start_is_possible,
 };
 use crate::shared::Shared;
 use crate::steps::MOST_TURNS;
@@ -109,7 +110,13 @@ impl Shared {
             return Turn::Worn { turns: MOST_TURNS };
         };
         let reply = book.read(pass.actor, k, offset, into);
-        self.give::<Brand, _, _>(&mut pass.seat, book, pass.actor, &(k, offset, room), &(reply, &*into));
+        self.give::<Brand, _, _>(
+            &mut pass.seat,
+            book,
+            pass.actor,
+            &(k, offset, room),
+            &(reply, &*into),
+        );
         Turn::Done(reply)
     }
 

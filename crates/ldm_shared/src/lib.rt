@@ -24,6 +24,5 @@ pub use shared::Shared;
 pub use steps::MOST_TURNS;
 pub use turn::Turn;
 
-
 #[cfg(test)]
 mod tests;

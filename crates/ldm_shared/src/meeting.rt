@@ -31,11 +31,7 @@ impl Shared {
     }
 
     // A seat sees all that another one has seen.
-    fn learn(
-        &self,
-        seat: &mut Seat<Option<Book>, View>,
-        other: &mut Seat<Option<Book>, View>,
-    )
+    fn learn(&self, seat: &mut Seat<Option<Book>, View>, other: &mut Seat<Option<Book>, View>)
         requires ready { IsReady self.now seat.old }
         requires other { IsReady self.now other.old }
         ensures same { IsSame seat.old seat.new }

@@ -94,11 +94,7 @@ impl Shared {
     }
 
     // Waits for the turn, and takes it with the book. `None` exactly where the queue has had all its calls.
-    pub(crate) fn take<H: Wait>(
-        &self,
-        rt: &H,
-        seat: &mut Seat<Option<Book>, View>,
-    ) -> Option<Book>
+    pub(crate) fn take<H: Wait>(&self, rt: &H, seat: &mut Seat<Option<Book>, View>) -> Option<Book>
         requires ready { IsReady self.now seat.old }
         requires one { (actor : ℕ) × (seat.old.me.0.actors ≡ actor ∷ []) }
         requires olds { seat.old.me.0.olds ≡ [] }

@@ -39,13 +39,27 @@ fn one_pass_sees_what_another_did(rt: HostRuntime) -> Result<(), Fail> {
     let mut second = passes.pop().ok_or("a pass")?;
     let mut first = passes.pop().ok_or("a pass")?;
     let put = shared.insert(&rt, &mut first, now, &info, b"AAAA");
-    assert!(rt; put == Turn::Done(InsertReply::Admitted { n: 0, time: now, evicted: 0 }));
+    assert!(rt;
+        put == Turn::Done(InsertReply::Admitted {
+            n: 0,
+            time: now,
+            evicted: 0
+        })
+    );
     shared.meet(&mut first, &mut second);
     let found = shared.look(&rt, &mut second, &signature);
     assert!(rt; found == Turn::Done(LookReply::Queued { n: 0, time: now }));
     let (mut book, last) = end_of_two(shared, passes, first, second)?;
     let stat = book.stat(last.actor());
-    assert!(rt; stat == Stat { admitted: 1, queued: 1, held: 0, used: 56, largest_free: 112 });
+    assert!(rt;
+        stat == Stat {
+            admitted: 1,
+            queued: 1,
+            held: 0,
+            used: 56,
+            largest_free: 112
+        }
+    );
     Ok(())
 }
 

@@ -15,8 +15,7 @@ deal-requires-clause-first c =
     let sizes : Sizes = record { arena = c.args.arena; slots = c.args.slots; passes = c.args.passes } in
     let i = c.loop-i.i in
     let me = c.loop-i.invariant.0.me in
-    let actor : c.in-Some.actor ≡ i = c.in-Some.ensures.1 in
-    (
+    let actor : c.in-Some.actor ≡ i = c.in-Some.ensures.1 in (
       range_with_len (i + 1) (c.args.passes - (i + 1)),
       ap (λ (m : Me (Option BookView) View). m.0.actors) me ∙ (dealt-actors sizes i c.loop-i-test.true ∙ ap (λ (k : ℕ). k ∷ range_with_len (i + 1) (c.args.passes - (i + 1))) (sym actor)),
     )
@@ -30,8 +29,7 @@ loop-i-preserved c =
     let actor : c.in-Some.actor ≡ i = c.in-Some.ensures.1 in
     let shared = c.in_ok-shared.shared in
     let pushed : c.push_reserved.new.self.items ≡ c.loop-i.all.items ++ new_pass shared i ∷ [] =
-        c.push_reserved.ensures.items ∙ ap (λ (p : PassView). c.loop-i.all.items ++ p ∷ []) (c.deal.ensures.pass ∙ ap (new_pass shared) actor) in
-    (
+    c.push_reserved.ensures.items ∙ ap (λ (p : PassView). c.loop-i.all.items ++ p ∷ []) (c.deal.ensures.pass ∙ ap (new_pass shared) actor) in (
       record {
         queue = c.deal.ensures.same.table ∙ inv.0.queue;
         me = c.deal.ensures.left ∙ ap (λ (v : View). (v, [])) (ap (λ (m : Me (Option BookView) View). without_pass m.0) me ∙ dealt-more sizes i c.loop-i-test.true);
