@@ -181,9 +181,9 @@ fn lengths(rt: HostRuntime) -> Result<(), Fail> {
 // Each byte alone as an origin, and all together as an ident, are spelled, read, and written as they were spelled.
 #[test]
 fn texts_of_all_bytes(rt: HostRuntime) -> Result<(), Fail> {
-    let mut all = Vec::new(rt.alloc());
-    for byte in 1..=255u8 {
-        all.push(byte)?;
+    let mut all = [0u8; 255];
+    for (place, byte) in all.iter_mut().zip(1..=255u8) {
+        *place = byte;
         check_text(&rt, rt.alloc(), &[byte])?;
     }
     check_text(&rt, rt.alloc(), &all)
