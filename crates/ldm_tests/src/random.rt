@@ -430,6 +430,7 @@ impl Lines {
     // The next number of a linear congruential generator, below a limit.
     fn below(&mut self, limit: u64) -> u64
         requires { 0 < limit }
+        ensures { result < limit }
     {
         self.state = self
             .state
