@@ -1,0 +1,8 @@
+pub mod Lines
+pub mod Fields
+pub mod Words
+pub mod Actions
+pub mod Entries
+pub mod Causes
+pub mod Kept
+pub mod EntryParts
