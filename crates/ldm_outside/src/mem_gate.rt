@@ -1,6 +1,5 @@
-//! Gates in memory, which stop at chosen calls, and the gate that never stops.
+//! Gates in memory, which stop at chosen calls.
 ghost use Rattle.std.specs.Prelude.{◌≡◌, ◌≤◌};
-ghost use Rattle.ldm_outside.specs.declared.gate.Go.{Go};
 
 use crate::gate::{Gate, Go};
 use crate::plan::CallPlan;
@@ -113,30 +112,6 @@ impl Gate for MemGate {
             self.stops = self.stops.saturating_add(1);
             return Go::Stop;
         }
-        Go::On
-    }
-}
-
-/// A gate that never stops, and lets no time pass.
-#[derive(Clone, Copy, Debug)]
-pub struct OpenGate;
-
-impl Gate for OpenGate {
-    ghost use Rattle.ldm_outside.specs.Gate.{GateGives};
-
-    ghost tells = { λ _. record { stops = 0 } };
-
-    fn before(&mut self, _actor: Actor, _i: u64) -> Go
-        ensures on { result ≡ Go.On }
-    {
-        Go::On
-    }
-
-    fn after(&mut self, _actor: Actor, _i: u64) {}
-
-    fn idle(&mut self) -> Go
-        ensures on { result ≡ Go.On }
-    {
         Go::On
     }
 }
