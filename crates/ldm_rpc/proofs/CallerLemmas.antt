@@ -1,8 +1,11 @@
 -- For a caller that reads a stream by a loop: it pushes what is left of a piece, adds the content of a record that is
 -- complete, calls `next`, and goes on behind the bytes that were taken.
-use Rattle.std.proofs.Common.{◌≡◌, ℕ, false, List, [], ◌++◌, drop, refl, sym, ap, ◌∙◌, append_assoc}
+use Rattle.std.proofs.Common.{◌≡◌, ℕ, ◌+◌, ◌*◌, ◌%◌, Bool, true, false, cond, eqb, ltb, List, [], ◌∷◌, ◌++◌, length, drop, refl, sym, ap, ◌∙◌, append_assoc}
 use Rattle.std.proofs.lemmas.List.{append-nil}
-use Rattle.ldm_rpc.specs.Reading.{Reading, after, bytes_taken, is_whole, next_of}
+use Rattle.ldm_rpc.specs.declared.stage.Stage.{Stage}
+use Rattle.ldm_rpc.specs.declared.stage.Stage.TheVariants.{Header, Fragment, Whole, Faulty}
+use Rattle.ldm_rpc.specs.declared.stage.TheConstants.{LAST_FRAGMENT}
+use Rattle.ldm_rpc.specs.Reading.{Reading, after, after_byte, after_byte_in, after_header, begun, bytes_taken, is_whole, next_of}
 use Rattle.ldm_rpc.specs.Streams.{contents, given, in_hand}
 use Rattle.ldm_rpc.proofs.Joined.{pushed}
 
@@ -40,3 +43,24 @@ pub reads_all : (s : Reading) (piece : List ℕ) (first : List (List ℕ)) (t : 
 unfolding contents in_hand
 reads_all s piece first t rest out none so_far =
     (sym (append-nil out) ∙ sym (ap (λ (x : List ℕ). out ++ contents t x) none) ∙ so_far.contents_are, sym (ap (in_hand t) none) ∙ so_far.in_hand_is)
+
+-- ---- a reader keeps its limit
+
+either : (b : Bool) (limit : ℕ) (x y : Reading) → x.limit ≡ limit → y.limit ≡ limit → (cond b x y).limit ≡ limit
+either true limit x y first second = first
+either false limit x y first second = second
+
+limit_at : (stage : Stage) (s : Reading) (byte : ℕ) → (after_byte_in stage s byte).limit ≡ s.limit
+limit_at (Header came number) s byte =
+    either (eqb came 3) s.limit (after_header s (number * 256 + byte)) _ (either (ltb s.limit (length s.content + (number * 256 + byte) % LAST_FRAGMENT)) s.limit _ _ refl refl) refl
+limit_at (Fragment left last) s byte = refl
+limit_at Whole s byte = refl
+limit_at (Faulty fault) s byte = refl
+
+pub limit-after : (s : Reading) (bytes : List ℕ) → (after s bytes).limit ≡ s.limit
+unfolding after after_byte
+limit-after s [] = refl
+limit-after s (byte ∷ bytes) = limit-after (after_byte s byte) bytes ∙ limit_at s.stage s byte
+
+pub limit-next : (s : Reading) → (next_of s).limit ≡ s.limit
+limit-next s = either (is_whole s) s.limit (begun s.limit) s refl refl

@@ -1,5 +1,5 @@
 //! The records of a stream that comes in pieces.
-ghost use Rattle.std.specs.Prelude.{◌≡◌, ◌^◌, ◌≤◌, ◌<◌, IfOk, IfErr, OnErr, Err, length, true, false};
+ghost use Rattle.std.specs.Prelude.{◌≡◌, ◌^◌, ◌≤◌, ◌<◌, IfOk, IfErr, IfSome, OnErr, Err, length, true, false};
 ghost use Rattle.std.specs.Option.{option_copied};
 ghost use Rattle.ldm_rpc.specs.declared.fault.RpcFault.{RpcFault};
 ghost use Rattle.ldm_rpc.specs.declared.stage.Stage.TheVariants.{Faulty};
@@ -73,7 +73,8 @@ impl Records {
 
     /// The content of a complete record, without its fragment headers. `None` exactly where no record is complete.
     pub fn whole(&self) -> Option<&[u8]>
-        ensures { option_copied result ≡ whole_of self.now }
+        ensures content { option_copied result ≡ whole_of self.now }
+        ensures within { IfSome result (λ content. length content.now ≤ self.now.limit) }
     {
         match self.stage {
             Stage::Whole => Some(self.content.as_slice()),
