@@ -7,3 +7,4 @@ pub mod MessagesAgain
 pub mod FieldsFound
 pub mod ClassesFound
 pub mod MessagesFound
+pub mod Room

@@ -1,10 +1,11 @@
 //! Reading calls.
-ghost use Rattle.std.specs.Prelude.{◌≡◌, length, IfOk};
+ghost use Rattle.std.specs.Prelude.{◌≡◌, ◌≤◌, length, IfOk};
 ghost use Rattle.ldm_relay.specs.MessageView.{sent_of};
 ghost use Rattle.ldm_relay.specs.Calls.{call_in, feedme_in, hiya_in, product_in, hereis_in, put_in, comingsoon_in, blkdata_in};
 ghost use Rattle.ldm_relay.specs.Fields.{fixed_in};
 ghost use Rattle.ldm_relay.specs.FieldReads.{Gives};
-ghost use Rattle.ldm_relay.specs.Writable.{IsSized};
+ghost use Rattle.ldm_relay.specs.Writable.{IsSized, IsWritable};
+ghost use Rattle.ldm_relay.specs.declared.message.TheConstants.{LARGEST_CONTENT};
 ghost use Rattle.ldm_relay.specs.Reading.{Answers, whole, call_of};
 
 use crate::class::read_class;
@@ -24,6 +25,7 @@ use ldm_types::{Info, Signature};
 pub fn read_call(bytes: &[u8]) -> Result<Message<'_>, RelayFault>
     ensures read { Answers sent_of result (call_of bytes.now) }
     ensures sized { IfOk result (λ m. IsSized (sent_of m)) }
+    ensures writable { length bytes.now ≤ LARGEST_CONTENT → IfOk result (λ m. IsWritable (sent_of m)) }
 {
     let mut fields = Fields::of(bytes);
     let header = match read_call_header(&mut fields) {

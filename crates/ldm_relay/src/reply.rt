@@ -1,8 +1,10 @@
 //! Reading replies.
+ghost use Rattle.std.specs.Prelude.{IfOk};
 ghost use Rattle.ldm_relay.specs.MessageView.{sent_of};
 ghost use Rattle.ldm_relay.specs.Replies.{accepted_in, result_in, feedme_reply_in, hiya_reply_in, comingsoon_reply_in};
 ghost use Rattle.ldm_relay.specs.Replies.{figures_in, stat_in, qstat_reply_in, admitted_in, too_big_in, put_answer_in, put_reply_in};
 ghost use Rattle.ldm_relay.specs.FieldReads.{Gives};
+ghost use Rattle.ldm_relay.specs.Writable.{IsWritable};
 ghost use Rattle.ldm_relay.specs.Reading.{Answers, whole, reply_of};
 
 use crate::class::read_class_answer;
@@ -20,7 +22,8 @@ use crate::procedure::Answered;
 /// verifier must be of flavour 0 and have at most 400 bytes, which are not looked at.
 #[tactic(auto, unfolding(crate::specs::Reading::reply_of))]
 pub fn read_reply(bytes: &[u8], procedure: u32) -> Result<Message<'_>, RelayFault>
-    ensures { Answers sent_of result (reply_of procedure bytes.now) }
+    ensures read { Answers sent_of result (reply_of procedure bytes.now) }
+    ensures writable { IfOk result (λ m. IsWritable (sent_of m)) }
 {
     let mut fields = Fields::of(bytes);
     let xid = match read_reply_header(&mut fields) {
@@ -47,7 +50,8 @@ pub fn read_reply(bytes: &[u8], procedure: u32) -> Result<Message<'_>, RelayFaul
 // What stands from the accept status on, and nothing behind it.
 #[tactic(auto, unfolding(crate::specs::Reading::whole))]
 fn read_rest(answered: Answered, xid: u32, mut fields: Fields<'_>) -> Result<Message<'_>, usize>
-    ensures { Answers sent_of result (whole (accepted_in answered xid fields.entry)) }
+    ensures read { Answers sent_of result (whole (accepted_in answered xid fields.entry)) }
+    ensures writable { IfOk result (λ m. IsWritable (sent_of m)) }
 {
     let message = read_accepted(answered, xid, &mut fields)?;
     fields.end()?;
@@ -60,7 +64,8 @@ fn read_accepted<'a>(
     xid: u32,
     fields: &mut Fields<'a>,
 ) -> Result<Message<'a>, usize>
-    ensures { Gives sent_of result (accepted_in answered xid fields.old) fields.new }
+    ensures read { Gives sent_of result (accepted_in answered xid fields.old) fields.new }
+    ensures writable { IfOk result (λ m. IsWritable (sent_of m)) }
 {
     fields.exactly(SUCCESS)?;
     read_result(answered, xid, fields)
@@ -71,7 +76,8 @@ fn read_result<'a>(
     xid: u32,
     fields: &mut Fields<'a>,
 ) -> Result<Message<'a>, usize>
-    ensures { Gives sent_of result (result_in answered xid fields.old) fields.new }
+    ensures read { Gives sent_of result (result_in answered xid fields.old) fields.new }
+    ensures writable { IfOk result (λ m. IsWritable (sent_of m)) }
 {
     match answered {
         Answered::Feedme => read_feedme_reply(xid, fields),
@@ -84,7 +90,8 @@ fn read_result<'a>(
 
 #[tactic(auto, unfolding(crate::specs::Replies::feedme_reply_in))]
 fn read_feedme_reply<'a>(xid: u32, fields: &mut Fields<'a>) -> Result<Message<'a>, usize>
-    ensures { Gives sent_of result (feedme_reply_in xid fields.old) fields.new }
+    ensures read { Gives sent_of result (feedme_reply_in xid fields.old) fields.new }
+    ensures writable { IfOk result (λ m. IsWritable (sent_of m)) }
 {
     let answer = read_class_answer(fields)?;
     Ok(Message::FeedmeReply(FeedmeReply { xid, answer }))
@@ -92,7 +99,8 @@ fn read_feedme_reply<'a>(xid: u32, fields: &mut Fields<'a>) -> Result<Message<'a
 
 #[tactic(auto, unfolding(crate::specs::Replies::hiya_reply_in))]
 fn read_hiya_reply<'a>(xid: u32, fields: &mut Fields<'a>) -> Result<Message<'a>, usize>
-    ensures { Gives sent_of result (hiya_reply_in xid fields.old) fields.new }
+    ensures read { Gives sent_of result (hiya_reply_in xid fields.old) fields.new }
+    ensures writable { IfOk result (λ m. IsWritable (sent_of m)) }
 {
     let max_hereis = fields.unsigned()?;
     let answer = read_class_answer(fields)?;
@@ -105,7 +113,8 @@ fn read_hiya_reply<'a>(xid: u32, fields: &mut Fields<'a>) -> Result<Message<'a>,
 
 #[tactic(auto, unfolding(crate::specs::Replies::comingsoon_reply_in))]
 fn read_comingsoon_reply<'a>(xid: u32, fields: &mut Fields<'a>) -> Result<Message<'a>, usize>
-    ensures { Gives sent_of result (comingsoon_reply_in xid fields.old) fields.new }
+    ensures read { Gives sent_of result (comingsoon_reply_in xid fields.old) fields.new }
+    ensures writable { IfOk result (λ m. IsWritable (sent_of m)) }
 {
     let left = fields.left();
     let answer = match fields.unsigned()? {
@@ -118,7 +127,8 @@ fn read_comingsoon_reply<'a>(xid: u32, fields: &mut Fields<'a>) -> Result<Messag
 
 #[tactic(auto, unfolding(crate::specs::Replies::qstat_reply_in))]
 fn read_qstat_reply<'a>(xid: u32, fields: &mut Fields<'a>) -> Result<Message<'a>, usize>
-    ensures { Gives sent_of result (qstat_reply_in xid fields.old) fields.new }
+    ensures read { Gives sent_of result (qstat_reply_in xid fields.old) fields.new }
+    ensures writable { IfOk result (λ m. IsWritable (sent_of m)) }
 {
     let stat = read_stat(fields)?;
     Ok(Message::QstatReply(QstatReply { xid, stat }))
@@ -150,7 +160,8 @@ fn read_figures(fields: &mut Fields) -> Result<[u64; 5], usize>
 
 #[tactic(auto, unfolding(crate::specs::Replies::put_reply_in))]
 fn read_put_reply<'a>(xid: u32, fields: &mut Fields<'a>) -> Result<Message<'a>, usize>
-    ensures { Gives sent_of result (put_reply_in xid fields.old) fields.new }
+    ensures read { Gives sent_of result (put_reply_in xid fields.old) fields.new }
+    ensures writable { IfOk result (λ m. IsWritable (sent_of m)) }
 {
     let answer = read_put_answer(fields)?;
     Ok(Message::PutReply(PutReply { xid, answer }))
