@@ -31,4 +31,6 @@ pub use record::write_message;
 pub use reply::read_reply;
 
 #[cfg(test)]
+mod mutated_tests;
+#[cfg(test)]
 mod tests;
