@@ -1,0 +1,6 @@
+pub mod Addresses
+pub mod Commands
+pub mod Parsing
+pub mod Progress
+pub mod Scans
+pub mod Wording

@@ -1,0 +1,16 @@
+use Rattle.std.proofs.Common.{◌≡◌, ◌≤◌}
+use Rattle.ldm_conf.specs.Kept.{length_left}
+use Rattle.ldm_conf.specs.LineViews.{left_of, room_of}
+use Rattle.ldm_conf.specs.States.{GoesOn, state_of}
+use Rattle.ldm_conf.proofs.reader.Reader.read_to_include.Given as goal
+
+abbrev pub invariant-loop-line : goal.invariant-loop-line
+invariant-loop-line l = record {
+  on : GoesOn (state_of l.initial.self) (left_of l.initial.lines) (state_of l.self) (left_of l.lines);
+  depth : l.lines.depth ≡ l.initial.lines.depth;
+  room : room_of l.lines ≤ room_of l.initial.lines;
+  shorter : length_left l.lines.rest ≤ length_left l.initial.lines.rest;
+}
+
+abbrev pub decreases-loop-line : goal.decreases-loop-line
+decreases-loop-line l = length_left l.lines.rest

@@ -1,0 +1,17 @@
+pub mod Words
+pub mod Lines
+pub mod Addresses
+pub mod Commands
+pub mod Keywords
+pub mod Confs
+pub mod Statements
+pub mod Reading
+pub mod Causes
+pub mod Origins
+pub mod Kept
+pub mod LineFaults
+pub mod LineViews
+pub mod AddressViews
+pub mod DirectiveViews
+pub mod Adding
+pub mod States

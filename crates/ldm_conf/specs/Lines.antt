@@ -1,0 +1,15 @@
+-- The lines of a file.
+use Rattle.std.specs.Prelude.{ℕ, ◌-◌, Bool, ◌==◌, if◌then◌else◌, List, length, take, slice_index}
+use Rattle.std.specs.List.{slice_split}
+
+-- the lines of a text, without the newlines (10) between them
+abbrev pub lines_of : List ℕ → List (List ℕ)
+lines_of text = slice_split (λ byte. byte == 10) text
+
+-- a line ends in a carriage return (13)
+abbrev pub ends_in_return : List ℕ → Bool
+ends_in_return line = slice_index line (length line - 1) == 13
+
+-- a line without the carriage return that it ends in, if it ends in one
+abbrev pub without_return : List ℕ → List ℕ
+without_return line = if ends_in_return line then take (length line - 1) line else line

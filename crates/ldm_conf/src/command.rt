@@ -1,0 +1,62 @@
+//! The command of an EXEC line.
+ghost use Rattle.std.specs.Prelude.{◌≡◌, ◌<◌, ◌≤◌, ◌∷◌, true, false, length, map, slice_index, string_bytes, IfOk, MatchOption};
+ghost use Rattle.std.specs.Str.{is_utf8};
+ghost use Rattle.ldm_conf.specs.Commands.{is_command, parts_of};
+ghost use Rattle.ldm_conf.specs.Words.{is_blank};
+
+use crate::scan::{count_blanks, is_blank_text, place_of_blank};
+use std::alloc::{AllocError, Global};
+
+/// The text of a command, if it is UTF-8 and has a part.
+pub fn read_command(word: &[u8]) -> Option<&str>
+    ensures { MatchOption result (is_command word.now ≡ false) (λ command. (is_command word.now ≡ true) × (command.now ≡ word.now)) }
+{
+    if is_blank_text(word) {
+        return None;
+    }
+    text_of(word)
+}
+
+/// The text of a word, if it is UTF-8.
+pub fn text_of(word: &[u8]) -> Option<&str>
+    ensures { MatchOption result (is_utf8 word.now ≡ false) (λ text. (is_utf8 word.now ≡ true) × (text.now ≡ word.now)) }
+{
+    match str::from_utf8(word) {
+        Ok(text) => Some(text),
+        Err(_) => None,
+    }
+}
+
+/// The parts of a command, which blanks and tabs separate.
+pub fn split_command(alloc: Global, command: &str) -> Result<Vec<String>, AllocError>
+    ensures { IfOk result (λ parts. map string_bytes parts.items ≡ parts_of command.now) }
+{
+    let mut parts = Vec::new(alloc);
+    let mut rest = skip_blanks(command);
+    while !rest.is_empty() {
+        let (part, behind) = first_part(rest);
+        parts.push(String::from_str(alloc, part)?)?;
+        rest = skip_blanks(behind);
+    }
+    Ok(parts)
+}
+
+// What is left of a text behind the blanks that it begins with.
+fn skip_blanks(text: &str) -> &str
+    ensures parts { parts_of result.now ≡ parts_of text.now }
+    ensures begins { 0 < length result.now → is_blank (slice_index result.now 0) ≡ false }
+    ensures shorter { length result.now ≤ length text.now }
+{
+    let (_, behind) = text.split_at(count_blanks(text.as_bytes()));
+    behind
+}
+
+// The first part of a text that begins with no blank, and what stands behind it.
+fn first_part(text: &str) -> (&str, &str)
+    requires some { 0 < length text.now }
+    requires begins { is_blank (slice_index text.now 0) ≡ false }
+    ensures parts { parts_of text.now ≡ result.0.now ∷ parts_of result.1.now }
+    ensures shorter { length result.1.now < length text.now }
+{
+    text.split_at(place_of_blank(text.as_bytes()))
+}

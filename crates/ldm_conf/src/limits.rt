@@ -1,0 +1,19 @@
+//! Limits.
+
+/// How many bytes a file has at most.
+pub const LONGEST_CONF: usize = 1_048_576;
+
+/// How many INCLUDE lines lead to a file at most.
+pub const DEEPEST_INCLUDE: u32 = 8;
+
+/// How many files are read at most, the first among them.
+pub const MOST_FILES: u32 = 1_024;
+
+/// How many bytes the host of a REQUEST line has at most.
+pub const LONGEST_HOST: usize = 255;
+
+/// The port of a REQUEST line that names none.
+pub const DEFAULT_PORT: u16 = 388;
+
+// How many words stand behind a keyword at most.
+pub(crate) const MOST_WORDS: usize = 4;
