@@ -1,3 +1,5 @@
 pub mod Patterns
 pub mod PatternView
+pub mod GroupNumbers
+pub mod Parts
 pub mod Refusals

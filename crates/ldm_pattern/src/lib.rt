@@ -3,8 +3,10 @@
 //! Patterns are those of the crate `regex` on bytes. Each is built once, where the text that has it is read.
 #![tactic(auto)]
 
+mod groups;
 mod pattern;
 #[cfg(test)]
 mod tests;
 
+pub use groups::{GroupNo, Groups};
 pub use pattern::{Pattern, Refusal};

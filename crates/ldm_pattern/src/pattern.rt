@@ -1,8 +1,11 @@
 //! Patterns that are built.
-ghost use Rattle.std.specs.Prelude.{◌≡◌, IfOk, None, IsSome, MatchResult};
+ghost use Rattle.std.specs.Prelude.{◌≡◌, IfOk, None, IsSome, is_some, MatchResult};
+ghost use Rattle.std.specs.Option.{option_map};
+ghost use Rattle.ldm_pattern.specs.Parts.{group_parts, parts_of};
 ghost use Rattle.ldm_pattern.specs.Patterns.{pattern_meaning, found};
 ghost use Rattle.ldm_pattern.specs.Refusals.{IsRefusedFor};
 
+use crate::groups::Groups;
 use ldm_types::OutOfMemory;
 use regex::Error;
 use regex::bytes::Regex;
@@ -68,5 +71,21 @@ impl Pattern {
     {
         let mut matcher = self.regex.matcher(alloc)?;
         Ok(matcher.is_match(text))
+    }
+
+    /// The parts of a text that its groups have in the first match. None exactly where the pattern is not found.
+    pub fn groups<'t>(
+        &self,
+        alloc: Global,
+        text: &'t [u8],
+    ) -> Result<Option<Groups<'t>>, OutOfMemory>
+        ensures parts { IfOk result (λ groups. option_map parts_of groups ≡ group_parts self.now text.now) }
+        ensures found { IfOk result (λ groups. is_some groups ≡ found self.now text.now) }
+    {
+        let mut matcher = self.regex.matcher(alloc)?;
+        match matcher.captures(text) {
+            Some(captures) => Ok(Some(Groups::of(&captures))),
+            None => Ok(None),
+        }
     }
 }

@@ -55,3 +55,42 @@ fn bad_patterns_are_refused(rt: HostRuntime) {
         assert!(rt; Pattern::build(rt.alloc(), pattern).err() == Some(refusal));
     }
 }
+
+// Patterns, texts, groups, and the parts that they have in the first match.
+const PARTS: [(&[u8], &[u8], u8, Option<&[u8]>); 8] = [
+    (b"^(..)(....)", b"SAUS44", 1, Some(b"SA")),
+    (b"^(..)(....)", b"SAUS44", 2, Some(b"US44")),
+    (b"^(..)(....)", b"SAUS44", 3, None),
+    (b"(a)|(b)", b"xba", 1, None),
+    (b"(a)|(b)", b"xba", 2, Some(b"b")),
+    (b"(a*)", b"b", 1, Some(b"")),
+    (b"(?:(.))+", b"abc", 1, Some(b"c")),
+    (
+        b"(.)(.)(.)(.)(.)(.)(.)(.)((.))",
+        b"abcdefghij",
+        9,
+        Some(b"i"),
+    ),
+];
+
+fn part_of<'t>(
+    alloc: Global,
+    pattern: &[u8],
+    text: &'t [u8],
+    group: u8,
+) -> Option<Option<&'t [u8]>> {
+    let groups = Pattern::build(alloc, pattern)
+        .ok()?
+        .groups(alloc, text)
+        .ok()??;
+    Some(groups.part(GroupNo::new(group)?))
+}
+
+#[test]
+fn groups_have_their_parts(rt: HostRuntime) {
+    for (pattern, text, group, part) in PARTS {
+        assert!(rt; part_of(rt.alloc(), pattern, text, group) == Some(part));
+    }
+    assert!(rt; part_of(rt.alloc(), b"(a)", b"b", 1) == None);
+    assert!(rt; GroupNo::new(0) == None && GroupNo::new(10) == None);
+}

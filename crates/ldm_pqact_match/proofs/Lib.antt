@@ -1,0 +1,10 @@
+pub mod Calendar
+pub mod Moments
+pub mod Digits
+pub mod Found
+pub mod Pieces
+pub mod Utf8Words
+pub mod Words
+pub mod Choices
+pub mod Nearer
+pub mod ElseEntries

@@ -1,0 +1,9 @@
+pub mod Matching
+pub mod Dates
+pub mod Forms
+pub mod Substitution
+pub mod Choice
+pub mod ActionView
+pub mod Views
+pub mod Reading
+pub mod Choosing
