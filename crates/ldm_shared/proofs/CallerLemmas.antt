@@ -68,3 +68,8 @@ two_are_all shared first second two is_first is_second = record { of = each; all
     among zero less = (0, omega arith, is_first.1)
     among (suc zero) less = (1, omega arith, is_second.1)
     among (suc (suc actor)) less = absurd (omega (arith, two, less))
+
+-- what `create` says of the passes that it makes
+pub made_are_all : (shared : SharedView) (passes : List PassView) (n : ℕ) → passes ≡ map (new_pass shared) (range_with_len 0 n) → shared.passes ≡ n → AreAllOf shared passes
+made_are_all shared passes n made size =
+    subst (AreAllOf shared) (sym (made ∙ ap (λ (k : ℕ). map (new_pass shared) (range_with_len 0 k)) (sym size))) (new_are_all shared)

@@ -1,6 +1,10 @@
 ghost use Rattle.std.specs.Prelude.{◌≡◌, [], IfOk};
 ghost use Rattle.ldm_shared.specs.Passes.{IsPassOf};
 
+mod answers;
+mod threads;
+mod worker;
+
 use super::*;
 use ldm_book::Book;
 use ldm_model::{InsertReply, LookReply, Stat};

@@ -1,0 +1,411 @@
+//! A thread that draws its calls, and compares what it can know of their replies.
+ghost use Rattle.std.specs.Prelude.{◌≡◌, ◌<◌, ◌≤◌};
+ghost use Rattle.ldm_shared.specs.Passes.{IsPassOf, IsSamePass};
+
+use crate::{Pass, Shared, Turn};
+use ldm_model::{
+    CloseReply, ExpireReply, InsertReply, LookReply, OpenReply, ReadReply, ReleaseReply, Start,
+    StepReply, TallyReply,
+};
+use ldm_types::{CursorNo, Feed, Info, Micros, Signature};
+use std::alloc::{AllocError, Global};
+use std::process::Abort;
+use std::sync::Wait;
+
+// There are so many products. Each byte of the signature and of the body of one is its number.
+const PRODUCTS: u8 = 96;
+
+/// A product that was admitted.
+#[derive(Clone, Copy)]
+pub struct Admitted {
+    pub n: u64,
+    pub byte: u8,
+    pub time: Micros,
+}
+
+/// A product that a reply named, and its time where that was told.
+#[derive(Clone, Copy)]
+pub struct Named {
+    pub n: u64,
+    pub byte: u8,
+    pub time: Option<Micros>,
+}
+
+/// What a thread was told: the products that it inserted, those that it found, and how many were evicted by its calls.
+#[derive(Drop)]
+pub struct Told {
+    pub admitted: Vec<Admitted>,
+    pub named: Vec<Named>,
+    pub gone: u64,
+}
+
+// The cursor of a thread. It was given so many products, and told of so many losses; the next product has that number or a
+// higher one.
+#[derive(Clone, Copy)]
+struct Reader {
+    feed: Feed,
+    held: Option<Held>,
+    given: u64,
+    lost: u64,
+    next: u64,
+}
+
+#[derive(Clone, Copy)]
+struct Held {
+    n: u64,
+    byte: u8,
+}
+
+/// A thread that calls a queue.
+#[derive(Drop)]
+pub struct Worker {
+    alloc: Global,
+    largest: u32,
+    draws: u64,
+    moment: u64,
+    // The least number of products that were admitted.
+    admitted: u64,
+    // Where the last cursor was opened.
+    place: CursorNo,
+    reader: Option<Reader>,
+    told: Told,
+}
+
+impl Worker {
+    /// A thread whose draws are those of a seed, and whose bodies have at most so many bytes.
+    pub fn new(alloc: Global, seed: u64, largest: u32) -> Worker {
+        let Some(place) = CursorNo::new(0) else {
+            unreachable!()
+        };
+        Worker {
+            alloc,
+            largest,
+            draws: seed,
+            moment: 0,
+            admitted: 0,
+            place,
+            reader: None,
+            told: Told {
+                admitted: Vec::new(alloc),
+                named: Vec::new(alloc),
+                gone: 0,
+            },
+        }
+    }
+
+    pub fn into_told(self) -> Told {
+        let Worker { told, .. } = self;
+        told
+    }
+
+    // The next number of a linear congruential generator, below a limit.
+    fn below(&mut self, limit: u64) -> u64
+        requires { 0 < limit }
+        ensures { result < limit }
+    {
+        self.draws = self
+            .draws
+            .wrapping_mul(6_364_136_223_846_793_005)
+            .wrapping_add(1_442_695_040_888_963_407);
+        (self.draws >> 33) % limit
+    }
+
+    fn byte(&mut self) -> u8 {
+        self.below(u64::from(PRODUCTS)) as u8
+    }
+
+    fn name(&mut self, n: u64, byte: u8, time: Option<Micros>) -> Result<(), AllocError> {
+        Ok(self.told.named.push(Named { n, byte, time })?)
+    }
+
+    /// Makes one of the ten calls.
+    pub fn call<R: Wait + Abort>(
+        &mut self,
+        rt: &R,
+        shared: &Shared,
+        pass: &mut Pass,
+    ) -> Result<(), AllocError>
+        requires { IsPassOf shared.now pass.old }
+        ensures { IsSamePass pass.old pass.new }
+    {
+        match self.below(20) {
+            0..=5 => self.insert(rt, shared, pass),
+            6..=10 => match self.reader {
+                Some(reader) => self.step(rt, shared, pass, reader),
+                None => self.open(rt, shared, pass),
+            },
+            11..=12 => self.release(rt, shared, pass),
+            13..=14 => self.read(rt, shared, pass),
+            15 => self.tally(rt, shared, pass),
+            16 => self.look(rt, shared, pass),
+            17 => self.expire(rt, shared, pass),
+            18 => self.stat(rt, shared, pass),
+            _ => self.close(rt, shared, pass),
+        }
+    }
+
+    fn insert<R: Wait + Abort>(
+        &mut self,
+        rt: &R,
+        shared: &Shared,
+        pass: &mut Pass,
+    ) -> Result<(), AllocError>
+        requires { IsPassOf shared.now pass.old }
+        ensures { IsSamePass pass.old pass.new }
+    {
+        let byte = self.byte();
+        let wait = self.below(20);
+        self.moment = self.moment.saturating_add(wait).min(Micros::MAX);
+        let now = Micros::new(self.moment).expect(rt, "an instant");
+        let size = size_of(byte, self.largest);
+        let info = info_of(rt, now, byte, size);
+        let body = vec![in self.alloc; byte; size as usize]?;
+        match done(rt, shared.insert(rt, pass, now, &info, &body)) {
+            InsertReply::Admitted { n, time, evicted } => {
+                assert!(rt; n >= self.admitted && time >= now);
+                self.admitted = n.saturating_add(1);
+                self.told.gone = self.told.gone.saturating_add(evicted);
+                Ok(self.told.admitted.push(Admitted { n, byte, time })?)
+            }
+            InsertReply::Duplicate { n } => self.name(n, byte, None),
+            InsertReply::Locked { held } => {
+                assert!(rt; held > 0);
+                Ok(())
+            }
+            other => panic!(rt; "{other:?}"),
+        }
+    }
+
+    fn open<R: Wait + Abort>(
+        &mut self,
+        rt: &R,
+        shared: &Shared,
+        pass: &mut Pass,
+    ) -> Result<(), AllocError>
+        requires { IsPassOf shared.now pass.old }
+        ensures { IsSamePass pass.old pass.new }
+    {
+        let feed = Feed(self.below(3) as u32 + 1);
+        let byte = self.byte();
+        let (start, next) = match self.below(3) {
+            0 => (Start::Oldest, 0),
+            1 => (Start::Next, self.admitted),
+            _ => (Start::AfterSignature(Signature([byte; 16])), 0),
+        };
+        match done(rt, shared.open_cursor(rt, pass, feed, start)) {
+            OpenReply::Opened { k } => {
+                self.place = k;
+                self.reader = Some(Reader {
+                    feed,
+                    held: None,
+                    given: 0,
+                    lost: 0,
+                    next,
+                });
+            }
+            OpenReply::NotQueued => {}
+            OpenReply::AllBusy => panic!(rt; "8 threads have more than 64 cursors"),
+        }
+        Ok(())
+    }
+
+    fn step<R: Wait + Abort>(
+        &mut self,
+        rt: &R,
+        shared: &Shared,
+        pass: &mut Pass,
+        mut reader: Reader,
+    ) -> Result<(), AllocError>
+        requires { IsPassOf shared.now pass.old }
+        ensures { IsSamePass pass.old pass.new }
+    {
+        let reply = done(rt, shared.step(rt, pass, self.place));
+        if let StepReply::Holding { n } = reply {
+            assert!(rt; reader.held.is_some_and(|held| held.n == n));
+            return Ok(());
+        }
+        assert!(rt; reader.held.is_none());
+        match reply {
+            StepReply::Product { n, time, info } => {
+                assert!(rt; n >= reader.next && info.feed().meets(reader.feed));
+                let byte = info.signature().0[0];
+                reader.held = Some(Held { n, byte });
+                reader.given = reader.given.saturating_add(1);
+                reader.next = n.saturating_add(1);
+                self.reader = Some(reader);
+                self.name(n, byte, Some(time))
+            }
+            StepReply::Gap { count, first, last } => {
+                assert!(rt; count > 0 && reader.next <= first && first <= last);
+                reader.lost = reader.lost.saturating_add(count);
+                self.reader = Some(reader);
+                Ok(())
+            }
+            StepReply::End { at } => {
+                assert!(rt; at >= reader.next && at >= self.admitted);
+                reader.next = at;
+                self.reader = Some(reader);
+                Ok(())
+            }
+            other => panic!(rt; "{other:?}"),
+        }
+    }
+
+    // The whole body of a product that is held, and one byte of the buffer that stays.
+    fn read<R: Wait + Abort>(
+        &mut self,
+        rt: &R,
+        shared: &Shared,
+        pass: &mut Pass,
+    ) -> Result<(), AllocError>
+        requires { IsPassOf shared.now pass.old }
+        ensures { IsSamePass pass.old pass.new }
+    {
+        let (wanted, byte, len) = match self.reader {
+            None => (ReadReply::NoCursor, PRODUCTS, 0),
+            Some(reader) => match reader.held {
+                None => (ReadReply::NotHeld, PRODUCTS, 0),
+                Some(held) => {
+                    let len = size_of(held.byte, self.largest);
+                    (ReadReply::Bytes { len }, held.byte, len as usize)
+                }
+            },
+        };
+        let mut bytes = vec![in self.alloc; PRODUCTS; len + 1]?;
+        let reply = done(rt, shared.read(rt, pass, self.place, 0, &mut bytes));
+        assert_eq!(rt; reply, wanted);
+        assert!(rt; bytes.iter().take(len).all(|b| *b == byte));
+        assert!(rt; bytes.iter().skip(len).all(|b| *b == PRODUCTS));
+        Ok(())
+    }
+
+    fn release<R: Wait + Abort>(
+        &mut self,
+        rt: &R,
+        shared: &Shared,
+        pass: &mut Pass,
+    ) -> Result<(), AllocError>
+        requires { IsPassOf shared.now pass.old }
+        ensures { IsSamePass pass.old pass.new }
+    {
+        let wanted = match self.reader {
+            None => ReleaseReply::NoCursor,
+            Some(reader) => match reader.held {
+                None => ReleaseReply::NotHeld,
+                Some(held) => ReleaseReply::Released { n: held.n },
+            },
+        };
+        assert_eq!(rt; shared.release(rt, pass, self.place), Turn::Done(wanted));
+        if let Some(reader) = &mut self.reader {
+            reader.held = None;
+        }
+        Ok(())
+    }
+
+    /// Closes the cursor.
+    pub fn close<R: Wait + Abort>(
+        &mut self,
+        rt: &R,
+        shared: &Shared,
+        pass: &mut Pass,
+    ) -> Result<(), AllocError>
+        requires { IsPassOf shared.now pass.old }
+        ensures { IsSamePass pass.old pass.new }
+    {
+        let wanted = match self.reader {
+            None => CloseReply::NoCursor,
+            Some(_) => CloseReply::Closed,
+        };
+        assert_eq!(rt; shared.close(rt, pass, self.place), Turn::Done(wanted));
+        self.reader = None;
+        Ok(())
+    }
+
+    fn tally<R: Wait + Abort>(
+        &mut self,
+        rt: &R,
+        shared: &Shared,
+        pass: &mut Pass,
+    ) -> Result<(), AllocError>
+        requires { IsPassOf shared.now pass.old }
+        ensures { IsSamePass pass.old pass.new }
+    {
+        let reply = done(rt, shared.tally(rt, pass, self.place));
+        match self.reader {
+            None => assert_eq!(rt; reply, TallyReply::NoCursor),
+            Some(reader) => match reply {
+                TallyReply::Tally { given, lost, .. } => {
+                    assert!(rt; given == reader.given && lost >= reader.lost);
+                }
+                TallyReply::NoCursor => panic!(rt; "the cursor is lost"),
+            },
+        }
+        Ok(())
+    }
+
+    fn look<R: Wait + Abort>(
+        &mut self,
+        rt: &R,
+        shared: &Shared,
+        pass: &mut Pass,
+    ) -> Result<(), AllocError>
+        requires { IsPassOf shared.now pass.old }
+        ensures { IsSamePass pass.old pass.new }
+    {
+        let byte = self.byte();
+        match done(rt, shared.look(rt, pass, &Signature([byte; 16]))) {
+            LookReply::Queued { n, time } => self.name(n, byte, Some(time)),
+            LookReply::Absent => Ok(()),
+        }
+    }
+
+    fn expire<R: Wait + Abort>(
+        &mut self,
+        rt: &R,
+        shared: &Shared,
+        pass: &mut Pass,
+    ) -> Result<(), AllocError>
+        requires { IsPassOf shared.now pass.old }
+        ensures { IsSamePass pass.old pass.new }
+    {
+        if let ExpireReply::Expired { .. } = done(rt, shared.expire(rt, pass)) {
+            self.told.gone = self.told.gone.saturating_add(1);
+        }
+        Ok(())
+    }
+
+    fn stat<R: Wait + Abort>(
+        &mut self,
+        rt: &R,
+        shared: &Shared,
+        pass: &mut Pass,
+    ) -> Result<(), AllocError>
+        requires { IsPassOf shared.now pass.old }
+        ensures { IsSamePass pass.old pass.new }
+    {
+        let stat = done(rt, shared.stat(rt, pass));
+        assert!(rt; stat.admitted >= self.admitted && stat.held <= stat.queued);
+        assert!(rt; stat.used.saturating_add(stat.largest_free) <= shared.arena());
+        self.admitted = stat.admitted;
+        Ok(())
+    }
+}
+
+fn size_of(byte: u8, largest: u32) -> u32 {
+    u32::from(byte) * 2_654_435 % largest.max(1) + 1
+}
+
+fn info_of<R: Abort>(rt: &R, now: Micros, byte: u8, size: u32) -> Info
+    ensures { result.size ≡ size }
+{
+    let feed = Feed(u32::from(byte) % 3 + 1);
+    Info::new(now, Signature([byte; 16]), b"h", feed, 1, b"p", size).expect(rt, "good metadata")
+}
+
+// The reply of a call. No queue of these tests has its last call.
+fn done<R: Abort, T>(rt: &R, turn: Turn<T>) -> T {
+    match turn {
+        Turn::Done(reply) => reply,
+        Turn::Worn { turns } => panic!(rt; "worn after {turns} calls"),
+    }
+}
