@@ -16,6 +16,7 @@ use ldm_model::histories_append;
 use ldm_types::Actor;
 use std::hint::spin_loop;
 use std::sync::Wait;
+use std::sync::atomic::Ordering;
 
 /// How many calls a shared queue can have.
 pub const MOST_TURNS: u64 = 1 << 62;
@@ -90,7 +91,22 @@ impl Shared {
     {
         self.put_in(seat, book);
         self.table.shared.fetch_add::<Add<C>>(seat, 0, 1);
-        self.table.shared.wake_one(0);
+        self.wake();
+    }
+
+    // Sleeps while the low half of the word is that of the one that was seen, until a wake. It may also return for no reason.
+    fn sleep<H: Wait>(&self, rt: &H, word: u64) {
+        self.sleepers.fetch_add(1, Ordering::SeqCst);
+        self.table.shared.park(rt, 0, (word & 0xffff_ffff) as u32);
+        self.sleepers.fetch_sub(1, Ordering::SeqCst);
+    }
+
+    // Wakes one caller that sleeps, if one may: to ask the system each time would cost more than most calls. A caller counts
+    // itself before it compares the word, and the word is changed before this reads the count, so none is left asleep.
+    fn wake(&self) {
+        if self.sleepers.load(Ordering::SeqCst) > 0 {
+            self.table.shared.wake_one(0);
+        }
     }
 
     // Waits for the turn, and takes it with the book. `None` exactly where the queue has had all its calls.
@@ -108,7 +124,7 @@ impl Shared {
         for _ in rt.forever() {
             let word = self.see(seat);
             if word >= WORN {
-                self.table.shared.wake_one(0);
+                self.wake();
                 return None;
             }
             if word % 2 == 0 {
@@ -120,7 +136,7 @@ impl Shared {
                 spin_loop();
             } else {
                 looks = 0;
-                self.table.shared.park(rt, 0, (word & 0xffff_ffff) as u32);
+                self.sleep(rt, word);
             }
         }
         unreachable!()
