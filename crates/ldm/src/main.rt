@@ -25,7 +25,7 @@ fn main(rt: HostRuntime) -> ExitCode {
         log: RealSink::new(rt.stderr()),
     };
     let code = match words(&rt) {
-        Ok(words) => run_ldm(rt.alloc(), &words, &mut world),
+        Ok(words) => run_ldm(&rt, rt.alloc(), &words, &mut world),
         Err(error) if error.kind() == ErrorKind::OutOfMemory => {
             Status::NoMemory.report(&mut world.log)
         }

@@ -15,12 +15,13 @@ use Rattle.ldm_commands.specs.declared.play_command.TheConstants.{SCRIPT_LIMIT}
 use Rattle.ldm_commands.specs.declared.player.Stop.TheVariants as stop
 use Rattle.ldm_script.specs.declared.line.TheConstants.{LONGEST_LINE}
 use Rattle.ldm_commands.specs.declared.status.Status.TheVariants as status
-use Rattle.ldm_commands.specs.Lines.{Cut, cut, whole_lines, lines_of, last_line, known_lines}
+use Rattle.ldm_script.specs.Lines.{Cut, cut, whole_lines, lines_of, last_line}
+use Rattle.ldm_commands.specs.Lines.{known_lines}
 use Rattle.ldm_commands.specs.Play.{BadLine, Played, play_line, play}
 use Rattle.ldm_commands.specs.Ending.{Size, AtEnd, ScriptEnds, PlayEnds}
 use Rattle.ldm_commands.specs.Status.{code_of, Reports, status_of_script, status_of_play}
 use Rattle.ldm_commands.specs.Complete.{Unhindered}
-use Rattle.ldm_commands.proofs.CutLemmas.{both, joined, cut-append}
+use Rattle.ldm_script.proofs.CutLemmas.{both, joined, cut-append}
 use Rattle.ldm_commands.proofs.PlayLineLemmas.{read_line-long, stops_at}
 use Rattle.ldm_commands.proofs.GoesOnLemmas.{known_lines-short}
 use Rattle.ldm_commands.proofs.PlayLemmas.{first_on, followed-on, play-append}
@@ -93,7 +94,7 @@ abbrev before_rest : List ℕ → Option (List ℕ) → Option (List ℕ)
 before_rest bytes left = option_map (λ rest. bytes ++ rest) left
 
 -- what was taken of a script, and what is left of it
-parts : (script taken : List ℕ) (old new : SourceRecord) → old.left ≡ Some script → Gives old taken new → (rest : List ℕ) × (new.left ≡ Some rest) × (script ≡ taken ++ rest)
+pub parts : (script taken : List ℕ) (old new : SourceRecord) → old.left ≡ Some script → Gives old taken new → (rest : List ℕ) × (new.left ≡ Some rest) × (script ≡ taken ++ rest)
 parts script taken old new told gives = by_left new.left refl
   where
     by_left : (left : Option (List ℕ)) → new.left ≡ left → (rest : List ℕ) × (new.left ≡ Some rest) × (script ≡ taken ++ rest)

@@ -8,15 +8,16 @@ use Rattle.ldm_script.specs.Resolve.{Playing}
 use Rattle.ldm_script.specs.declared.line.TheConstants.{LONGEST_LINE}
 use Rattle.ldm_commands.specs.declared.player.Stop.{Stop}
 use Rattle.ldm_commands.specs.declared.player.Stop.TheVariants as stop
-use Rattle.ldm_commands.specs.Lines.{Cut, cut, whole_lines, last_line, too_long, known_lines}
+use Rattle.ldm_script.specs.Lines.{Cut, cut, whole_lines, last_line}
+use Rattle.ldm_commands.specs.Lines.{too_long, known_lines}
 use Rattle.ldm_commands.specs.Play.{Played, play_line, play}
 use Rattle.ldm_commands.specs.PlayerView.{PlayerView, StandsForPlay}
 use Rattle.ldm_commands.specs.PendingView.{PendingView, fresh_line}
 use Rattle.ldm_commands.specs.Ending.{AnswersKnownLines, StopsAt}
 use Rattle.ldm_commands.specs.Step.{GoesOn, LineStops}
-use Rattle.ldm_commands.proofs.SplitLemmas.{Lacks}
+use Rattle.ldm_script.proofs.SplitLemmas.{Lacks}
 use Rattle.ldm_commands.proofs.PlayLineLemmas.{read_line-long, stops_at}
-use Rattle.ldm_commands.proofs.CutLemmas.{cut-line, cut-within}
+use Rattle.ldm_script.proofs.CutLemmas.{cut-line, cut-within}
 use Rattle.ldm_commands.proofs.PlayLemmas.{play-line_more, play-stop, play-line_on, stopped_text}
 
 -- the lines that are known where what is unfinished is not too long yet

@@ -1,7 +1,9 @@
 pub mod PlayLineLemmas
-pub mod SplitLemmas
-pub mod CutLemmas
 pub mod PlayLemmas
 pub mod GoesOnLemmas
 pub mod PlaysScriptLemmas
 pub mod CompletesLemmas
+pub mod CrowdTextLemmas
+pub mod CrowdWorkerLemmas
+pub mod CrowdPlayLemmas
+pub mod CrowdCompletesLemmas

@@ -15,10 +15,23 @@ abbrev pub play_of : List (List ℕ) → Option Command
 play_of (arena ∷ slots ∷ []) = play_with (number_up_to (2 ^ 64 - 1) arena) (number_up_to (2 ^ 32 - 1) slots)
 play_of _ = None
 
+-- a crowd, where all three numbers could be read
+abbrev pub crowd_with : Option ℕ → Option ℕ → Option ℕ → Option Command
+crowd_with (Some arena) (Some slots) (Some workers) = Some (command.Crowd arena slots workers)
+crowd_with _ _ _ = None
+
+-- `ARENA SLOTS WORKERS`, behind `crowd`: a number of eight bytes and two of four
+abbrev pub crowd_of : List (List ℕ) → Option Command
+crowd_of (arena ∷ slots ∷ workers ∷ []) =
+    crowd_with (number_up_to (2 ^ 64 - 1) arena) (number_up_to (2 ^ 32 - 1) slots) (number_up_to (2 ^ 32 - 1) workers)
+crowd_of _ = None
+
 -- The command that the words of the program are, its own name apart: the first word says which, in the case in
 -- which it is spelled here, and the words behind it have the form that the command has. Behind the word of a command
 -- that is not built yet anything may stand.
 abbrev pub command_of : List (List ℕ) → Option Command
 command_of [] = None
 command_of (first ∷ others) =
-    if bytes_eq first (codes "play") then play_of others else option_map (λ what. command.NotBuilt what) (unbuilt_of_text first)
+    if bytes_eq first (codes "play") then play_of others
+    else if bytes_eq first (codes "crowd") then crowd_of others
+    else option_map (λ what. command.NotBuilt what) (unbuilt_of_text first)

@@ -6,6 +6,9 @@ pub mod PlayerView
 pub mod PendingView
 pub mod Calls
 pub mod Ending
+pub mod WholeScript
+pub mod CrowdEnding
+pub mod CrowdStep
 pub mod Step
 pub mod Status
 pub mod Run

@@ -6,7 +6,8 @@ use Rattle.ldm_script.specs.declared.line.TheConstants.{LONGEST_LINE}
 use Rattle.ldm_script.specs.Resolve.{Playing}
 use Rattle.ldm_commands.specs.declared.player.Stop.{Stop}
 use Rattle.ldm_commands.specs.declared.player.Stop.TheVariants as stop
-use Rattle.ldm_commands.specs.Lines.{cut, whole_lines, known_lines}
+use Rattle.ldm_script.specs.Lines.{cut, whole_lines}
+use Rattle.ldm_commands.specs.Lines.{known_lines}
 use Rattle.ldm_commands.specs.Play.{Played, play}
 use Rattle.ldm_commands.specs.PlayerView.{PlayerView, StandsForPlay}
 use Rattle.ldm_commands.specs.PendingView.{PendingView}

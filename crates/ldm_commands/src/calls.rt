@@ -1,8 +1,6 @@
 //! The calls of a queue that orders ask for.
-ghost use Rattle.std.specs.Prelude.{◌≡◌, ◌≤◌, ℕ, length};
-ghost use Rattle.std.specs.Option.{option_map};
+ghost use Rattle.std.specs.Prelude.{◌≡◌, ◌≤◌, length};
 ghost use Rattle.ldm_model.specs.State.{State};
-ghost use Rattle.ldm_model.specs.declared.event.Event.{Event};
 ghost use Rattle.ldm_model.specs.declared.event.Event.TheVariants as event;
 ghost use Rattle.ldm_model.specs.Insert.{insert as insert_of};
 ghost use Rattle.ldm_book.specs.Answers.{Follows};
@@ -54,16 +52,6 @@ pub fn call<'a>(
     }
 }
 
-// The cursor that a line names.
-fn place_of(k: Place, last: Option<CursorNo>) -> Option<CursorNo>
-    ensures { (on_cursor : ℕ → Event) → resolved last (OnCursor k on_cursor) ≡ option_map on_cursor result }
-{
-    match k {
-        Place::At(k) => Some(k),
-        Place::Last => last,
-    }
-}
-
 fn insert<'a>(
     book: &mut Book,
     room: &mut [u8],
@@ -87,7 +75,7 @@ fn step<'a>(book: &mut Book, actor: Actor, last: Option<CursorNo>, k: Place) -> 
     ensures answers { (s : State) → StandsFor book.old s → Follows (reply_of result) book.new (outcome_of s actor (resolved last (OnCursor k (λ place. event.Step place)))) }
     ensures fits { FitsAnswer result }
 {
-    match place_of(k, last) {
+    match k.cursor(last) {
         Some(k) => Answer::from(book.step(actor, k)),
         None => Answer::NoCursor,
     }
@@ -105,7 +93,7 @@ fn read<'a>(
     ensures answers { (s : State) → StandsFor book.old s → Follows (reply_of result) book.new (outcome_of s actor (resolved last (OnCursor k (λ place. event.Read place offset (length into.old))))) }
     ensures fits { FitsAnswer result }
 {
-    match place_of(k, last) {
+    match k.cursor(last) {
         Some(k) => Answer::from_read(book.read(actor, k, offset, into), into),
         None => Answer::NoCursor,
     }
@@ -115,7 +103,7 @@ fn release<'a>(book: &mut Book, actor: Actor, last: Option<CursorNo>, k: Place) 
     ensures answers { (s : State) → StandsFor book.old s → Follows (reply_of result) book.new (outcome_of s actor (resolved last (OnCursor k (λ place. event.Release place)))) }
     ensures fits { FitsAnswer result }
 {
-    match place_of(k, last) {
+    match k.cursor(last) {
         Some(k) => Answer::from(book.release(actor, k)),
         None => Answer::NoCursor,
     }
@@ -125,7 +113,7 @@ fn close<'a>(book: &mut Book, actor: Actor, last: Option<CursorNo>, k: Place) ->
     ensures answers { (s : State) → StandsFor book.old s → Follows (reply_of result) book.new (outcome_of s actor (resolved last (OnCursor k (λ place. event.Close place)))) }
     ensures fits { FitsAnswer result }
 {
-    match place_of(k, last) {
+    match k.cursor(last) {
         Some(k) => Answer::from(book.close(actor, k)),
         None => Answer::NoCursor,
     }
@@ -135,7 +123,7 @@ fn tally<'a>(book: &mut Book, actor: Actor, last: Option<CursorNo>, k: Place) ->
     ensures answers { (s : State) → StandsFor book.old s → Follows (reply_of result) book.new (outcome_of s actor (resolved last (OnCursor k (λ place. event.Tally place)))) }
     ensures fits { FitsAnswer result }
 {
-    match place_of(k, last) {
+    match k.cursor(last) {
         Some(k) => Answer::from(book.tally(actor, k)),
         None => Answer::NoCursor,
     }

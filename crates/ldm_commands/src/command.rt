@@ -1,6 +1,7 @@
 //! The words of the program as a command.
-ghost use Rattle.std.specs.Prelude.{◌≡◌, map, string_bytes};
-ghost use Rattle.ldm_commands.specs.Command.{command_of, play_of};
+ghost use Rattle.std.specs.Prelude.{◌≡◌, map, option_map, string_bytes};
+ghost use Rattle.ldm_commands.specs.Command.{command_of, crowd_of, play_of};
+ghost use Rattle.ldm_commands.specs.Unbuilt.{unbuilt_of_text};
 
 use crate::unbuilt::Unbuilt;
 use ldm_script::read_number;
@@ -9,7 +10,16 @@ use ldm_script::read_number;
 #[derive(Clone, Copy, Debug, PartialEq, Eq)]
 pub enum Command {
     /// `play ARENA SLOTS`: to play a script over a queue whose arena has so many bytes, and which has so many slots.
-    Play { arena: u64, slots: u32 },
+    Play {
+        arena: u64,
+        slots: u32,
+    },
+    /// `crowd ARENA SLOTS WORKERS`: to play a script over such a queue, each actor's lines on one of so many workers.
+    Crowd {
+        arena: u64,
+        slots: u32,
+        workers: u32,
+    },
     /// Something that is not built yet, whatever stands behind its word.
     NotBuilt(Unbuilt),
 }
@@ -21,10 +31,21 @@ pub fn read_command(words: &[String]) -> Option<Command>
     let [first, others @ ..] = words else {
         return None;
     };
-    match first.as_bytes() {
-        b"play" => read_play(others),
-        word => Some(Command::NotBuilt(Unbuilt::of_text(word)?)),
+    let word = first.as_bytes();
+    if word == b"play".as_slice() {
+        read_play(others)
+    } else if word == b"crowd".as_slice() {
+        read_crowd(others)
+    } else {
+        read_unbuilt(word)
     }
+}
+
+// Reads the word of a command that is not built yet.
+fn read_unbuilt(word: &[u8]) -> Option<Command>
+    ensures { result ≡ option_map (λ what. Command.NotBuilt what) (unbuilt_of_text word.now) }
+{
+    Some(Command::NotBuilt(Unbuilt::of_text(word)?))
 }
 
 // Reads the words behind `play`.
@@ -39,5 +60,22 @@ fn read_play(words: &[String]) -> Option<Command>
     Some(Command::Play {
         arena,
         slots: slots as u32,
+    })
+}
+
+// Reads the words behind `crowd`.
+fn read_crowd(words: &[String]) -> Option<Command>
+    ensures { result ≡ crowd_of (map string_bytes words.now) }
+{
+    let [arena, slots, workers] = words else {
+        return None;
+    };
+    let arena = read_number(arena.as_bytes(), u64::MAX)?;
+    let slots = read_number(slots.as_bytes(), u64::from(u32::MAX))?;
+    let workers = read_number(workers.as_bytes(), u64::from(u32::MAX))?;
+    Some(Command::Crowd {
+        arena,
+        slots: slots as u32,
+        workers: workers as u32,
     })
 }

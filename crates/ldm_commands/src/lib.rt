@@ -6,13 +6,16 @@
 
 mod calls;
 mod command;
+mod crowd_command;
 mod pending;
 mod play_command;
 mod player;
 mod run;
 mod status;
 mod unbuilt;
+mod whole_script;
 
+pub use crowd_command::crowd;
 pub use play_command::play;
 pub use run::run_ldm;
 pub use status::Status;

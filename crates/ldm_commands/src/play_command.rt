@@ -23,8 +23,8 @@ use std::alloc::Global;
 /// How many bytes of a script are too many: a play that took so many ends.
 pub const SCRIPT_LIMIT: u64 = 1 << 40;
 
-// How many bytes are asked of the source at once.
-const PIECE: usize = 65_536;
+/// How many bytes are asked of the source at once.
+pub const PIECE: usize = 65_536;
 
 /// How the play of a script ended.
 #[derive(Clone, Copy, Debug, PartialEq, Eq)]

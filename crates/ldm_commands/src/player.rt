@@ -1,7 +1,6 @@
 //! Lines of a script, played on a queue.
 ghost use Rattle.std.specs.Prelude.{◌≡◌, ◌≤◌, IfOk, None, replicate, slice_index_or};
-ghost use Rattle.ldm_script.specs.Answer.{answer_line};
-ghost use Rattle.ldm_script.specs.AnswerView.{reply_of, FitsAnswer};
+ghost use Rattle.ldm_script.specs.AnswerView.{reply_of};
 ghost use Rattle.ldm_script.specs.Resolve.{Playing, after_reply};
 ghost use Rattle.ldm_commands.specs.Play.{play_line};
 ghost use Rattle.ldm_commands.specs.PlayerView.{StandsForPlay};
@@ -10,7 +9,7 @@ ghost use Rattle.ldm_commands.specs.Step.{LineGives};
 use crate::calls::call;
 use ldm_book::Book;
 use ldm_outside::{Sink, SinkFailed, write_all};
-use ldm_script::{Answer, LONGEST_BODY, LONGEST_READ, Text, read_line, write_reply};
+use ldm_script::{Answer, LONGEST_BODY, LONGEST_READ, Text, read_line, write_answer};
 use ldm_types::{Actor, CursorNo, OutOfMemory};
 use std::alloc::Global;
 use std::marker::Model;
@@ -111,14 +110,4 @@ fn note_opened(opened: &mut [Option<CursorNo>; 64], actor: Actor, answer: &Answe
     if let Answer::Opened { k } = answer {
         opened[actor.get() as usize] = Some(*k);
     }
-}
-
-// Writes an answer line, with its newline, over what the buffer had.
-#[tactic(auto, unfolding(ldm_script::specs::Answer::answer_line))]
-fn write_answer(answer: &Answer, out: &mut Text)
-    requires { FitsAnswer answer.now }
-    ensures { out.new.items ≡ answer_line (reply_of answer.now) }
-{
-    write_reply(answer, out);
-    out.push(b'\n');
 }

@@ -6,16 +6,21 @@ ghost use Rattle.ldm_commands.specs.Complete.{RunCompletes};
 ghost use Rattle.ldm_commands.specs.Run.{RunEnds};
 
 use crate::command::{Command, read_command};
+use crate::crowd_command::crowd;
 use crate::play_command::play;
 use crate::status::Status;
 use ldm_outside::{Sink, Source, World};
 use std::alloc::Global;
+use std::sync::Wait;
+use std::thread::Threads;
 
-/// Does what the words ask for, the program's name apart, and answers the number that the program ends with.
+/// Does what the words ask for, the program's name apart, and answers the number that the program ends with. A crowd alone
+/// starts threads and waits.
 ///
 /// The clause `ends` gives each status its cause, and what was read and written then: see `RunEnds`. The clause
-/// `completes` says when all is read and answered: see `Unhindered`.
-pub fn run_ldm<S: Source, K: Sink, E: Sink>(
+/// `completes` says when all is read and answered: see `RunCompletes`.
+pub fn run_ldm<H: Threads + Wait + Sync, S: Source, K: Sink, E: Sink>(
+    rt: &H,
     alloc: Global,
     words: &[String],
     world: &mut World<S, K, E>,
@@ -35,6 +40,22 @@ pub fn run_ldm<S: Source, K: Sink, E: Sink>(
             alloc,
             arena,
             slots,
+            &mut world.source,
+            &mut world.sink,
+            &mut world.log,
+        ),
+        Some(
+            Command::Crowd {
+                arena,
+                slots,
+                workers,
+            },
+        ) => crowd(
+            rt,
+            alloc,
+            arena,
+            slots,
+            workers,
             &mut world.source,
             &mut world.sink,
             &mut world.log,

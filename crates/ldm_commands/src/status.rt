@@ -1,13 +1,16 @@
 //! How the program ends: statuses with their log lines.
 ghost use Rattle.std.specs.Prelude.{◌≡◌, ◌≤◌};
 
+use crate::crowd_command::{CrowdStop, Unplayed};
 use crate::play_command::ScriptEnd;
 use crate::player::Stop;
 use crate::unbuilt::Unbuilt;
+use crate::whole_script::Untaken;
 use arrayvec::ArrayVec;
 use ldm_book::CreateFault;
 use ldm_outside::{Sink, SinkFailed, write_all};
 use ldm_script::{put, put_number};
+use ldm_shared::CreateFault as SharedFault;
 
 // The most bytes of a log line, with its newline.
 const LONGEST_LOG_LINE: usize = 64;
@@ -30,6 +33,8 @@ pub enum Status {
     RefusedArena(u64),
     /// No queue has so many slots.
     RefusedSlots(u32),
+    /// No queue of many threads has so many passes.
+    RefusedPasses(u32),
     /// The words ask for a command that is not built yet.
     NotBuilt(Unbuilt),
     /// There is no memory.
@@ -38,6 +43,8 @@ pub enum Status {
     SourceFault,
     /// The sink failed.
     SinkFault,
+    /// The queue has had all the calls that it can have.
+    Worn,
 }
 
 /// The status where the log line of another status could not be written.
@@ -85,6 +92,67 @@ impl From<CreateFault> for Status {
     }
 }
 
+impl From<SharedFault> for Status {
+    ghost use Rattle.ldm_commands.specs.Status.{status_of_shared_fault};
+
+    ghost from_gives = { λ fault status. status ≡ status_of_shared_fault fault };
+
+    fn from(fault: SharedFault) -> Status {
+        match fault {
+            SharedFault::BadArena { arena } => Status::RefusedArena(arena),
+            SharedFault::BadSlots { slots } => Status::RefusedSlots(slots),
+            SharedFault::BadPasses { passes } => Status::RefusedPasses(passes),
+            SharedFault::OutOfMemory => Status::NoMemory,
+        }
+    }
+}
+
+impl From<Untaken> for Status {
+    ghost use Rattle.ldm_commands.specs.Status.{status_of_untaken};
+
+    ghost from_gives = { λ why status. status ≡ status_of_untaken why };
+
+    fn from(why: Untaken) -> Status {
+        match why {
+            Untaken::StreamLimit => Status::StreamLimit,
+            Untaken::SourceFault => Status::SourceFault,
+            Untaken::OutOfMemory => Status::NoMemory,
+        }
+    }
+}
+
+impl From<Unplayed> for Status {
+    ghost use Rattle.ldm_commands.specs.Status.{status_of_unplayed};
+
+    ghost from_gives = { λ why status. status ≡ status_of_unplayed why };
+
+    fn from(why: Unplayed) -> Status {
+        match why {
+            Unplayed::BadLine { line, column } => Status::BadLine {
+                line: u64::from(line),
+                column,
+            },
+            Unplayed::Worn => Status::Worn,
+            Unplayed::OutOfMemory => Status::NoMemory,
+        }
+    }
+}
+
+impl From<CrowdStop> for Status {
+    ghost use Rattle.ldm_commands.specs.Status.{status_of_crowd_stop};
+
+    ghost from_gives = { λ stop status. status ≡ status_of_crowd_stop stop };
+
+    fn from(stop: CrowdStop) -> Status {
+        match stop {
+            CrowdStop::NotMade(fault) => Status::from(fault),
+            CrowdStop::Untaken(why) => Status::from(why),
+            CrowdStop::Unplayed(why) => Status::from(why),
+            CrowdStop::SinkFault => Status::SinkFault,
+        }
+    }
+}
+
 impl Status {
     ghost use Rattle.ldm_commands.specs.Status.{code_of, log_line, Reports};
 
@@ -97,11 +165,12 @@ impl Status {
             Status::Usage => 64,
             Status::BadLine { .. } => 65,
             Status::StreamLimit => 66,
-            Status::RefusedArena(_) | Status::RefusedSlots(_) => 67,
+            Status::RefusedArena(_) | Status::RefusedSlots(_) | Status::RefusedPasses(_) => 67,
             Status::NotBuilt(_) => 68,
             Status::NoMemory => 71,
             Status::SourceFault => 74,
             Status::SinkFault => 75,
+            Status::Worn => 77,
         }
     }
 
@@ -131,6 +200,11 @@ impl Status {
                 put_number(out, u64::from(slots));
                 put(out, b"\n");
             }
+            Status::RefusedPasses(passes) => {
+                put(out, b"ldm: refused passes ");
+                put_number(out, u64::from(passes));
+                put(out, b"\n");
+            }
             Status::NotBuilt(what) => {
                 put(out, b"ldm: not built ");
                 put(out, what.text());
@@ -139,6 +213,7 @@ impl Status {
             Status::NoMemory => put(out, b"ldm: no memory\n"),
             Status::SourceFault => put(out, b"ldm: source fault\n"),
             Status::SinkFault => put(out, b"ldm: sink fault\n"),
+            Status::Worn => put(out, b"ldm: worn\n"),
         }
     }
 

@@ -4,7 +4,6 @@ ghost use Rattle.std.specs.Prelude.{◌≡◌, ◌≤◌, length};
 /// A command of the program that is not built yet. The reader of words alone makes one.
 #[derive(Clone, Copy, Debug, PartialEq, Eq)]
 pub enum Unbuilt {
-    Crowd,
     Chain,
     Exercise,
     Node,
@@ -17,8 +16,7 @@ pub enum Unbuilt {
 impl Unbuilt {
     ghost use Rattle.ldm_commands.specs.Unbuilt.{unbuilt_text, unbuilt_of_text};
 
-    const ALL: [Unbuilt; 8] = [
-        Unbuilt::Crowd,
+    const ALL: [Unbuilt; 7] = [
         Unbuilt::Chain,
         Unbuilt::Exercise,
         Unbuilt::Node,
@@ -34,7 +32,6 @@ impl Unbuilt {
         ensures short { length result.now ≤ 10 }
     {
         match self {
-            Unbuilt::Crowd => b"crowd",
             Unbuilt::Chain => b"chain",
             Unbuilt::Exercise => b"exercise",
             Unbuilt::Node => b"node",

@@ -10,3 +10,5 @@ pub mod Solid
 pub mod ReadBack
 pub mod RoundTrip
 pub mod Askable
+pub mod SplitLemmas
+pub mod CutLemmas

@@ -15,3 +15,4 @@ pub mod OrderView
 pub mod Spelling
 pub mod Resolve
 pub mod Writing
+pub mod Lines

@@ -2,7 +2,7 @@
 ghost use Rattle.std.specs.Prelude.{◌≡◌, ◌+◌, ◌*◌, ◌<◌, ◌≤◌, ◌++◌, length, []};
 ghost use Rattle.arrayvec.specs.ArrayVec.{array_vec_len};
 ghost use Rattle.ldm_model.specs.declared.event.Reply.TheVariants as reply;
-ghost use Rattle.ldm_script.specs.Answer.{blank_number, info_text, reply_text};
+ghost use Rattle.ldm_script.specs.Answer.{answer_line, blank_number, info_text, reply_text};
 ghost use Rattle.ldm_script.specs.AnswerView.{reply_of, FitsAnswer};
 ghost use Rattle.ldm_script.specs.Texts.{spelled};
 ghost use Rattle.ldm_script.specs.declared.line.TheConstants.{LONGEST_READ};
@@ -168,6 +168,16 @@ pub fn write_reply(answer: &Answer, out: &mut Text)
             put_blank_number(out, *largest_free);
         }
     }
+}
+
+/// Writes an answer line, with its newline, over what the buffer had.
+#[tactic(auto, unfolding(crate::specs::Answer::answer_line))]
+pub fn write_answer(answer: &Answer, out: &mut Text)
+    requires { FitsAnswer answer.now }
+    ensures { out.new.items ≡ answer_line (reply_of answer.now) }
+{
+    write_reply(answer, out);
+    out.push(b'\n');
 }
 
 // Each of these appends to what is written already: a word with its numbers, a blank in front of each.

@@ -1,7 +1,7 @@
 //! Script lines and answer lines.
 //!
 //! [`read_line`] reads a line as an order, or tells the column of its first fault, and [`write_line`] writes an order as a
-//! line. [`body_into`] writes the bytes of a body that a line spells, [`write_reply`] an answer of the queue, and
+//! line. [`body_into`] writes the bytes of a body that a line spells, [`write_answer`] an answer of the queue, and
 //! [`text_into`] the spelling of an origin or an ident; [`put`] and [`put_number`] make other short lines. Contracts see
 //! orders and answers as what the model of the queue speaks of.
 //!
@@ -21,7 +21,7 @@ mod texts;
 mod word;
 mod write;
 
-pub use answer::{Answer, LONGEST_ANSWER, Text, text_into, write_reply};
+pub use answer::{Answer, LONGEST_ANSWER, Text, text_into, write_answer, write_reply};
 pub use body::{Body, LONGEST_BODY, body_into};
 pub use line::{BadLine, LONGEST_LINE, LONGEST_READ, read_line};
 pub use number::read_number;

@@ -1,5 +1,5 @@
 //! Reading lines.
-ghost use Rattle.std.specs.Prelude.{◌≡◌, ◌≤◌, ℕ, Ok, Err, IfOk, IfSome, MatchResult, unwrap_or};
+ghost use Rattle.std.specs.Prelude.{◌≡◌, ◌<◌, ◌≤◌, ℕ, Ok, Err, IfOk, IfSome, MatchResult, unwrap_or};
 ghost use Rattle.std.specs.Option.{option_map};
 ghost use Rattle.ldm_model.specs.declared.event.Event.{Event};
 ghost use Rattle.ldm_script.specs.Order.{OnCursor};
@@ -39,6 +39,7 @@ pub fn read_line(line: &[u8], actors: u32) -> Result<Option<Order<'_>>, BadLine>
     ensures read { MatchResult result (λ order. reading actors line.now ≡ Ok (option_map order_of order)) (λ bad. reading actors line.now ≡ Err bad.column) }
     ensures whole { IfOk result (λ found. IfSome found (λ order. IsWhole order.act)) }
     ensures writable { IfOk result (λ found. IfSome found (λ order. IsWritable order.act)) }
+    ensures actor { IfOk result (λ found. IfSome found (λ order. order.actor < actors)) }
 {
     if line.len() > LONGEST_LINE {
         return Err(BadLine {
@@ -63,6 +64,7 @@ fn read_order(mut fields: Fields<'_>, actors: u32) -> Result<Order<'_>, usize>
     requires { actors ≤ 64 }
     ensures read { MatchResult result (λ order. order_at actors fields.entry ≡ Ok (order_of order)) (λ bad. order_at actors fields.entry ≡ Err bad) }
     ensures whole { IfOk result (λ order. IsWhole order.act) }
+    ensures actor { IfOk result (λ order. order.actor < actors) }
 {
     let Some(actor) = Actor::new(fields.number_below(actors)?) else {
         unreachable!();

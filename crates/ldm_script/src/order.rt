@@ -1,4 +1,9 @@
 //! What script lines ask for.
+ghost use Rattle.std.specs.Prelude.{◌≡◌, ℕ};
+ghost use Rattle.std.specs.Option.{option_map};
+ghost use Rattle.ldm_model.specs.declared.event.Event.{Event};
+ghost use Rattle.ldm_script.specs.Order.{OnCursor};
+ghost use Rattle.ldm_script.specs.Resolve.{resolved};
 
 use crate::body::Body;
 use ldm_model::Start;
@@ -11,6 +16,19 @@ pub enum Place {
     At(CursorNo),
     /// The place that the actor was last answered `opened`.
     Last,
+}
+
+impl Place {
+    /// The cursor that is named, where `last` is the place that the actor opened last. `None` exactly where that is named,
+    /// and there is none yet.
+    pub fn cursor(self, last: Option<CursorNo>) -> Option<CursorNo>
+        ensures { (on_cursor : ℕ → Event) → resolved last (OnCursor self on_cursor) ≡ option_map on_cursor result }
+    {
+        match self {
+            Place::At(k) => Some(k),
+            Place::Last => last,
+        }
+    }
 }
 
 /// What a line asks the queue for, and who asks. It borrows the line.

@@ -9,6 +9,8 @@ mod answers;
 #[cfg(test)]
 mod book;
 #[cfg(test)]
+mod crowds;
+#[cfg(test)]
 mod lines;
 #[cfg(test)]
 mod pairs;

@@ -3,13 +3,15 @@ use ldm_commands::run_ldm;
 use ldm_outside::{MemSink, MemSource, World};
 use std::alloc::{AllocError, Global};
 use std::process::Abort;
+use std::sync::Wait;
+use std::thread::Threads;
 
 /// Plays lines on a queue of so many bytes and slots, and compares the answers.
 ///
 /// Each line of the text is a line of a script, a tab, and its answer; one without a tab has no answer. In both `$` and two
 /// hexadecimal digits stand for 16 times these two.
-pub fn expect_answers(
-    rt: &impl Abort,
+pub fn expect_answers<H: Abort + Threads + Wait + Sync>(
+    rt: &H,
     alloc: Global,
     queue: [&str; 2],
     pairs: &[u8],
@@ -28,7 +30,7 @@ pub fn expect_answers(
         sink: MemSink::new(alloc, Vec::new(alloc)),
         log: MemSink::new(alloc, Vec::new(alloc)),
     };
-    let status = run_ldm(alloc, words.as_slice(), &mut world);
+    let status = run_ldm(rt, alloc, words.as_slice(), &mut world);
     let found = world.sink.written();
     assert_eq!(rt;
         (status, first_difference(found, &wanted), found.len()),

@@ -3,38 +3,42 @@ use ldm_commands::run_ldm;
 use ldm_outside::{MemSink, MemSource, World};
 use std::alloc::{AllocError, Global};
 use std::process::Abort;
+use std::sync::Wait;
 use std::test::Fail;
+use std::thread::Threads;
 
-// How a stream in memory behaves: the number of its call that fails, counted from 1, if one does, and the most bytes
-// that a call moves.
+/// How a stream in memory behaves: the number of its call that fails, counted from 1, if one does, and the most bytes
+/// that a call moves.
 #[derive(Clone, Copy, Debug)]
-struct Plan {
-    failing: Option<u64>,
-    most: usize,
+pub struct Plan {
+    pub failing: Option<u64>,
+    pub most: usize,
 }
 
-// How the three streams of a run behave.
+/// How the three streams of a run behave.
 #[derive(Clone, Copy, Debug)]
-struct Plans {
-    source: Plan,
-    sink: Plan,
-    log: Plan,
+pub struct Plans {
+    pub source: Plan,
+    pub sink: Plan,
+    pub log: Plan,
 }
 
-// What a run leaves.
+/// What a run leaves.
 #[derive(Clone, Copy)]
-struct Wanted {
-    status: u8,
-    written: &'static str,
-    log: &'static str,
+pub struct Wanted<'a> {
+    pub status: u8,
+    pub written: &'a str,
+    pub log: &'a str,
 }
 
-const GOOD: Plan = Plan {
+/// A stream that never fails.
+pub const GOOD: Plan = Plan {
     failing: None,
     most: usize::MAX,
 };
 
-const ALL_GOOD: Plans = Plans {
+/// Streams that never fail.
+pub const ALL_GOOD: Plans = Plans {
     source: GOOD,
     sink: GOOD,
     log: GOOD,
@@ -70,9 +74,9 @@ fn sink_of(alloc: Global, plan: Plan) -> Result<MemSink, AllocError> {
     Ok(sink)
 }
 
-// Runs words over a script, and compares the status, the answers and the log.
-fn expect_run(
-    rt: &impl Abort,
+/// Runs words over a script, and compares the status, the answers and the log.
+pub fn expect_run<H: Abort + Threads + Wait + Sync>(
+    rt: &H,
     alloc: Global,
     words: &[&str],
     script: &str,
@@ -85,7 +89,7 @@ fn expect_run(
         sink: sink_of(alloc, plans.sink)?,
         log: sink_of(alloc, plans.log)?,
     };
-    let status = run_ldm(alloc, owned.as_slice(), &mut world);
+    let status = run_ldm(rt, alloc, owned.as_slice(), &mut world);
     let written = world.sink.written() == wanted.written.as_bytes();
     let logged = world.log.written() == wanted.log.as_bytes();
     assert_eq!(rt;
@@ -167,7 +171,7 @@ fn long_lines_are_refused(rt: HostRuntime) -> Result<(), Fail> {
 }
 
 // Words with the status and the log. Nothing is read: the source would fail.
-const OTHER_WORDS: [(&[&str], u8, &str); 26] = [
+const OTHER_WORDS: [(&[&str], u8, &str); 34] = [
     (&[], 64, "ldm: usage\n"),
     (&[""], 64, "ldm: usage\n"),
     (&["play"], 64, "ldm: usage\n"),
@@ -195,7 +199,19 @@ const OTHER_WORDS: [(&[&str], u8, &str); 26] = [
         67,
         "ldm: refused slots 4294967295\n",
     ),
-    (&["crowd"], 68, "ldm: not built crowd\n"),
+    (&["crowd"], 64, "ldm: usage\n"),
+    (&["crowd", "168", "10"], 64, "ldm: usage\n"),
+    (&["crowd", "168", "10", "2", "1"], 64, "ldm: usage\n"),
+    (&["crowd", "168", "10", "02"], 64, "ldm: usage\n"),
+    (&["crowd", "168", "10", "4294967296"], 64, "ldm: usage\n"),
+    (
+        &["crowd", "168", "10", "65"],
+        67,
+        "ldm: refused passes 65\n",
+    ),
+    (&["crowd", "168", "10", "0"], 67, "ldm: refused passes 0\n"),
+    (&["crowd", "168", "0", "0"], 67, "ldm: refused slots 0\n"),
+    (&["crowd", "60", "0", "65"], 67, "ldm: refused arena 60\n"),
     (&["chain", "x"], 68, "ldm: not built chain\n"),
     (&["exercise"], 68, "ldm: not built exercise\n"),
     (&["node"], 68, "ldm: not built node\n"),

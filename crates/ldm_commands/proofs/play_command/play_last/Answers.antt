@@ -2,7 +2,7 @@ use Rattle.std.proofs.Common.{◌≡◌, ◌∙◌, ℕ, List, Ok, Err, Result, 
 use Rattle.ldm_outside.specs.Io.{SinkRecord}
 use Rattle.ldm_script.specs.Resolve.{Playing}
 use Rattle.ldm_commands.specs.declared.player.Stop.{Stop}
-use Rattle.ldm_commands.specs.Lines.{whole_lines}
+use Rattle.ldm_script.specs.Lines.{whole_lines}
 use Rattle.ldm_commands.specs.Play.{play, play_line}
 use Rattle.ldm_commands.specs.PlayerView.{PlayerView}
 use Rattle.ldm_commands.specs.PendingView.{PendingView}

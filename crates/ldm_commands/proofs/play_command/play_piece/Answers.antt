@@ -9,7 +9,7 @@ use Rattle.ldm_commands.specs.Lines.{known_lines}
 use Rattle.ldm_commands.specs.PendingView.{PendingView, fresh_line}
 use Rattle.ldm_commands.specs.Ending.{StopsAt}
 use Rattle.ldm_commands.specs.Step.{GoesOn}
-use Rattle.ldm_commands.proofs.SplitLemmas.{cut_at, lacks-none}
+use Rattle.ldm_script.proofs.SplitLemmas.{cut_at, lacks-none}
 use Rattle.ldm_commands.proofs.GoesOnLemmas.{line_ends, within_line, line_stops, line_too_long}
 use Rattle.ldm_commands.proofs.play_command.play_piece.Goals as goal
 

@@ -2,8 +2,8 @@
 use Rattle.std.proofs.Common.{◌≡◌, ℕ, Bool, true, false, cond, eqb, List, [], ◌∷◌, ◌++◌, refl, ap, ◌∙◌}
 use Rattle.std.proofs.lemmas.List.{append-nil}
 use Rattle.std.proofs.lemmas.List.Elements.{All-head, All-tail}
-use Rattle.ldm_commands.specs.Lines.{Cut, onto_line, cut}
-use Rattle.ldm_commands.proofs.SplitLemmas.{Lacks}
+use Rattle.ldm_script.specs.Lines.{Cut, onto_line, cut}
+use Rattle.ldm_script.proofs.SplitLemmas.{Lacks}
 
 -- a cut, with something unfinished in front of it
 abbrev pub joined : List ℕ → List (List ℕ) → List ℕ → Cut

@@ -1,0 +1,6 @@
+pub mod Dealing
+pub mod ActorLemmas
+pub mod OneMore
+pub mod Fronts
+pub mod Gathered
+pub mod Turned

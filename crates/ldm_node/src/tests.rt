@@ -1,0 +1,185 @@
+ghost use Rattle.std.specs.Prelude.{◌≡◌, ◌<◌, ◌≤◌, length};
+ghost use Rattle.std.specs.Vec.{vec_len};
+ghost use Rattle.ldm_outside.specs.declared.gate.Go.{Go};
+
+use super::*;
+use itoa::Buffer;
+use ldm_model::Stat;
+use ldm_outside::{Gate, Go, MemGate, OpenGate};
+use ldm_shared::Shared;
+use ldm_types::Actor;
+use std::alloc::{AllocError, Global};
+use std::process::Abort;
+use std::sync::Wait;
+use std::sync::atomic::{AtomicBool, Ordering};
+use std::test::*;
+use std::thread::Threads;
+
+// A script of two actors: an insertion, and a look for another product.
+const ROW: &[u8] = b"0 insert 100 01010101010101010101010101010101 2 1 h p 4*41
+1 look 02020202020202020202020202020202
+";
+
+// How often a gate looks for the flag of the other worker.
+const TURNS: u32 = 1_000_000_000;
+
+// A gate that raises a flag of its own, and holds until that of another gate is raised, for so many turns at most.
+#[derive(Drop)]
+struct MeetingGate<'a> {
+    own: &'a AtomicBool,
+    other: &'a AtomicBool,
+    stops: u64,
+}
+
+impl Gate for MeetingGate<'_> {
+    ghost use Rattle.ldm_outside.specs.Gate.{GateGives};
+
+    ghost tells = { λ gate. record { stops = gate.stops } };
+
+    fn before(&mut self, _actor: Actor, _i: u64) -> Go {
+        self.own.store(true, Ordering::SeqCst);
+        for _ in 0..TURNS {
+            if self.other.load(Ordering::SeqCst) {
+                return Go::On;
+            }
+        }
+        self.stops = self.stops.saturating_add(1);
+        Go::Stop
+    }
+
+    fn after(&mut self, _actor: Actor, _i: u64) {}
+
+    fn idle(&mut self) -> Go {
+        Go::On
+    }
+}
+
+// Plays a script on a new queue of 168 bytes and ten slots.
+fn played<H: Threads + Wait + Sync, G: Gate + Send + Drop>(
+    rt: &H,
+    alloc: Global,
+    text: &[u8],
+    actors: u32,
+    gates: Vec<G>,
+) -> Result<Crowd<G>, Fail>
+    requires actors { actors ≤ 64 }
+    requires gates { vec_len gates ≡ actors }
+{
+    if text.len() > MOST_SCRIPT as usize {
+        return Err("a script".into());
+    }
+    let orders = Orders::read(alloc, text, actors)?;
+    let (shared, passes) = Shared::create(alloc, 168, 10, actors)?;
+    Ok(crowd(rt, alloc, &orders, shared, passes, gates))
+}
+
+#[test]
+fn two_workers_play_at_once(rt: HostRuntime) -> Result<(), Fail> {
+    let alloc = rt.alloc();
+    let (first, second) = (AtomicBool::new(false), AtomicBool::new(false));
+    let mut gates = Vec::new(alloc);
+    gates.push(MeetingGate {
+        own: &first,
+        other: &second,
+        stops: 0,
+    })?;
+    gates.push(MeetingGate {
+        own: &second,
+        other: &first,
+        stops: 0,
+    })?;
+    let Crowd {
+        mut book,
+        pass,
+        gates: _,
+        answers,
+        end,
+    } = played(&rt, alloc, ROW, 2, gates)?;
+    assert!(rt; end == CrowdEnd::Done);
+    assert!(rt; answers.len() == 2);
+    assert!(rt; answers[0].as_slice() == b"0 admitted 0 100 0\n".as_slice());
+    assert!(rt; answers[1].as_slice() == b"1 absent\n".as_slice());
+    assert!(rt;
+        book.stat(pass.actor())
+            == Stat {
+                admitted: 1,
+                queued: 1,
+                held: 0,
+                used: 56,
+                largest_free: 112
+            }
+    );
+    Ok(())
+}
+
+#[test]
+fn a_gate_stops_its_worker(rt: HostRuntime) -> Result<(), Fail> {
+    let alloc = rt.alloc();
+    let mut gates = Vec::new(alloc);
+    gates.push(MemGate::new(alloc, vec![in alloc; 2u64; 1]?))?;
+    let crowd = played(&rt, alloc, b"0 stat\n0 stat\n0 stat\n", 1, gates)?;
+    assert!(rt; crowd.end == CrowdEnd::Stopped);
+    assert!(rt; crowd.answers.len() == 1);
+    assert!(rt; crowd.answers[0].as_slice() == b"0 stat 0 0 0 0 168\n".as_slice());
+    assert!(rt; crowd.gates.len() == 1);
+    assert!(rt; crowd.gates[0].stops() == 1 && crowd.gates[0].afters() == 1);
+    Ok(())
+}
+
+// How many lines each of two actors has.
+fn counts(alloc: Global, text: &[u8]) -> Result<(usize, usize), OrdersFault>
+    requires { length text.now ≤ 100 }
+{
+    let orders = Orders::read(alloc, text, 2)?;
+    let (Some(first), Some(second)) = (Actor::new(0), Actor::new(1)) else {
+        unreachable!()
+    };
+    Ok((orders.of_actor(first).len(), orders.of_actor(second).len()))
+}
+
+#[test]
+fn lines_are_dealt_out(rt: HostRuntime) {
+    let bad = |line, column| Err(OrdersFault::BadLine { line, column });
+    for (text, wanted) in [
+        (b"".as_slice(), Ok((0, 0))),
+        (b"\n# a\n\n#", Ok((0, 0))),
+        (b"1 stat\n0 expire\n1 look 0101", bad(3, 8)),
+        (b"1 stat\n0 expire\n1 stat", Ok((1, 2))),
+        (b"1 stat\n\n0 expire\n# 0 stat\n1 stat\n", Ok((1, 2))),
+        (b"0 stat\n2 stat\n", bad(2, 1)),
+        (b"0 stat\n#\n0 stat x\n2 stat\n", bad(3, 7)),
+        (b"0 sta", bad(1, 3)),
+    ] {
+        if text.len() <= 100 {
+            assert!(rt; counts(rt.alloc(), text) == wanted);
+        }
+    }
+}
+
+// A script of so many rounds, in each of which every actor has one line.
+fn rounds(alloc: Global, count: u32) -> Result<Vec<u8>, AllocError> {
+    let mut text = Vec::new(alloc);
+    for _ in 0..count {
+        for actor in 0..Actor::COUNT {
+            let mut digits = Buffer::new();
+            text.extend_from_slice(digits.format(actor).as_bytes())?;
+            text.extend_from_slice(b" expire\n")?;
+        }
+    }
+    Ok(text)
+}
+
+#[test]
+fn sixty_four_workers_play_all_lines(rt: HostRuntime) -> Result<(), Fail> {
+    let alloc = rt.alloc();
+    let text = rounds(alloc, 1_000)?;
+    let gates = vec![in alloc; OpenGate; 64]?;
+    let crowd = played(&rt, alloc, &text, 64, gates)?;
+    assert!(rt; crowd.end == CrowdEnd::Done);
+    let mut lines = 0usize;
+    for answers in &crowd.answers {
+        lines = lines.saturating_add(answers.iter().filter(|byte| **byte == b'\n').count());
+    }
+    assert!(rt; lines == 64_000);
+    Ok(())
+}
