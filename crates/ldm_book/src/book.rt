@@ -63,7 +63,8 @@ impl Book {
     ghost use Rattle.ldm_book.specs.Stands.{StandsFor};
     ghost use Rattle.ldm_book.specs.Answers.{KeepsPlaces, Follows};
     ghost use Rattle.ldm_model.specs.Answers.{IfRefused, IfNothing, IfNotOpened, IfNotStepped, IfNotReleased, IfNotClosed};
-    ghost use Rattle.ldm_model.specs.Answers.{insert_answer, look_answer, expire_answer, stat_answer, open_answer, step_answer, read_answer, release_answer, close_answer, tally_answer, asked_bytes, bytes_read};
+    ghost use Rattle.ldm_model.specs.Answers.{insert_answer, look_answer, expire_answer, stat_answer, open_answer, step_answer};
+    ghost use Rattle.ldm_model.specs.Answers.{read_answer, release_answer, close_answer, tally_answer, asked_bytes, bytes_read};
     ghost use Rattle.ldm_book.specs.Readers.{AreAhead, first_of, held_products, products, unheld_numbers, without_product};
     ghost use Rattle.ldm_book.specs.Limits.{IsGoodArena, IsGoodSlots, IsFaultOf};
 

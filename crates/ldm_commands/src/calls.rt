@@ -90,7 +90,8 @@ fn read<'a>(
     into: &'a mut [u8],
 ) -> Answer<'a>
     requires { length into.old ≤ LONGEST_READ }
-    ensures answers { (s : State) → StandsFor book.old s → Follows (reply_of result) book.new (outcome_of s actor (resolved last (OnCursor k (λ place. event.Read place offset (length into.old))))) }
+    ensures answers { (s : State) → StandsFor book.old s
+        → Follows (reply_of result) book.new (outcome_of s actor (resolved last (OnCursor k (λ place. event.Read place offset (length into.old))))) }
     ensures fits { FitsAnswer result }
 {
     match k.cursor(last) {

@@ -133,7 +133,8 @@ fn play_text<H: Threads + Wait + Sync>(
     requires workers { workers ≡ shared.passes }
     requires good { IsGoodPasses workers }
     requires passes { passes.items ≡ map (new_pass shared) (range_with_len 0 workers) }
-    ensures played { IfOk result (λ crowd. HasPlayed (record { arena = shared.arena; slots = shared.slots; workers = workers }) text.now crowd.pass.seen crowd.book (map (λ text. text.items) crowd.answers.items)) }
+    ensures played { IfOk result (λ crowd. HasPlayed (record { arena = shared.arena; slots = shared.slots; workers = workers })
+        text.now crowd.pass.seen crowd.book (map (λ text. text.items) crowd.answers.items)) }
     ensures unplayed { IfErr result (λ why. IsUnplayed why (record { arena = shared.arena; slots = shared.slots; workers = workers }) text.now) }
 {
     let orders = Orders::read(alloc, text, workers)?;
@@ -178,7 +179,8 @@ fn write_answers<K: Sink>(
     book: &mut Book,
     sink: &mut K,
 ) -> Result<(), SinkFailed>
-    ensures written { (s : State) → StandsFor book.old s → WritesAll result (concat (map (λ text. text.items) answers.now) ++ answer_line (stat_of s).reply) (K.tells sink.old) (K.tells sink.new) }
+    ensures written { (s : State) → StandsFor book.old s
+        → WritesAll result (concat (map (λ text. text.items) answers.now) ++ answer_line (stat_of s).reply) (K.tells sink.old) (K.tells sink.new) }
     ensures faults_kept { (K.tells sink.old).faults ≤ (K.tells sink.new).faults }
 {
     write_texts(answers, sink)?;

@@ -56,7 +56,8 @@ fn play_ended<K: Sink>(
     end: &[u8],
     sink: &mut K,
 ) -> Result<(), Stop>
-    ensures played { (p : Playing) → StandsForPlay player.old p → LineGives result (play_line pending.old.number p (pending.old.bytes ++ end.now)) player.new (K.tells sink.old) (K.tells sink.new) }
+    ensures played { (p : Playing) → StandsForPlay player.old p
+        → LineGives result (play_line pending.old.number p (pending.old.bytes ++ end.now)) player.new (K.tells sink.old) (K.tells sink.new) }
     ensures number { pending.new.number ≡ pending.old.number }
     ensures faults_kept { (K.tells sink.old).faults ≤ (K.tells sink.new).faults }
 {
@@ -77,7 +78,8 @@ fn end_line<K: Sink>(
     sink: &mut K,
 ) -> Result<(), Stop>
     requires { pending.old.number + 1 < 2 ^ 64 }
-    ensures played { (p : Playing) → StandsForPlay player.old p → LineGives result (play_line pending.old.number p (pending.old.bytes ++ end.now)) player.new (K.tells sink.old) (K.tells sink.new) }
+    ensures played { (p : Playing) → StandsForPlay player.old p
+        → LineGives result (play_line pending.old.number p (pending.old.bytes ++ end.now)) player.new (K.tells sink.old) (K.tells sink.new) }
     ensures next { OnOk result (pending.new ≡ fresh_line (pending.old.number + 1)) }
     ensures faults_kept { (K.tells sink.old).faults ≤ (K.tells sink.new).faults }
 {

@@ -2,7 +2,8 @@
 ghost use Rattle.std.specs.Prelude.{◌≡◌, ℕ, ◌^◌, ◌<◌, ◌≤◌, ◌↔◌, IsTrue, IsSome, IsSomeAnd, IfOk, IfSome, MatchOption, None, length, map, replicate};
 ghost use Rattle.std.specs.Option.{option_map};
 ghost use Rattle.ldm_cursor.specs.Kept.{IsKept, kept_of, place_of, places_of};
-ghost use Rattle.ldm_cursor.specs.Places.{CountsBelow, after_hold, after_move, after_release, after_tell, count_held, cursor_at, held_at, held_of, is_held, is_last_hold, least_empty, new_cursor, numbers_of, with_change, with_cursor, with_loss, without_cursor};
+ghost use Rattle.ldm_cursor.specs.Places.{CountsBelow, after_hold, after_move, after_release, after_tell, count_held, cursor_at, held_at, held_of};
+ghost use Rattle.ldm_cursor.specs.Places.{is_held, is_last_hold, least_empty, new_cursor, numbers_of, with_change, with_cursor, with_loss, without_cursor};
 
 use crate::cursor::Cursor;
 use crate::marks::Marks;

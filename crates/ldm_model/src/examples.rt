@@ -6,10 +6,12 @@ ghost use Rattle.ldm_model.specs.Room.{fit_in};
 ghost use Rattle.ldm_model.specs.Evict.{held, unheld, evict, evict_all};
 ghost use Rattle.ldm_model.specs.Stat.{stat_reply};
 ghost use Rattle.ldm_model.specs.Law.{due, given, lost, told, left, hold_of};
-ghost use Rattle.ldm_model.specs.Examples.{answers, answers_to, last_answers, by, insert_of, insert_for, insert_body, open_from, after_signature, look_for, expire_from, state_after, region, sample_info, holding_second, reading, untold_of_first, insert_into, two_readers, told_and_given, told_again, example_calls, reader};
+ghost use Rattle.ldm_model.specs.Examples.{answers, answers_to, last_answers, by, insert_of, insert_for, insert_body, open_from, after_signature, look_for, expire_from, state_after};
+ghost use Rattle.ldm_model.specs.Examples.{region, sample_info, holding_second, reading, untold_of_first, insert_into, two_readers, told_and_given, told_again, example_calls, reader};
 ghost use Rattle.ldm_model.specs.declared.event.Start.TheVariants.{Oldest, Next, After};
 ghost use Rattle.ldm_model.specs.declared.event.Event.TheVariants.{Expire, Step, Read, Release, Close, Tally as TallyCall, Stat as StatCall};
-ghost use Rattle.ldm_model.specs.declared.event.Reply.TheVariants.{Admitted, TooBig, Duplicate, TimeEnd, Locked, Opened, AllBusy, NotQueued, Product, Gap, End, NoCursor, Holding, Bytes, NotHeld, BadOffset, Released, Closed, Queued, Absent, Expired, Nothing, Tally, Stat};
+ghost use Rattle.ldm_model.specs.declared.event.Reply.TheVariants.{Admitted, TooBig, Duplicate, TimeEnd, Locked, Opened, AllBusy, NotQueued, Product, Gap, End, NoCursor};
+ghost use Rattle.ldm_model.specs.declared.event.Reply.TheVariants.{Holding, Bytes, NotHeld, BadOffset, Released, Closed, Queued, Absent, Expired, Nothing, Tally, Stat};
 
 use ldm_types::GREATEST_INSTANT;
 
@@ -68,7 +70,8 @@ pub fn worked_examples_of_cursors()
         ≡ Admitted 4 104 1 ∷ Holding 1 ∷ Released 1 ∷ Gap 1 2 2 ∷ Product 3 103 (sample_info 4 4) ∷ Tally 2 2 1 ∷ [] }
     ensures loss_of_another_feed { last_answers 4 (by 0 (insert_for 4 1 4) ∷ by 1 (open_from Oldest) ∷ by 0 Expire ∷ by 1 (Step 0) ∷ by 1 (TallyCall 0) ∷ [])
         ≡ Opened 0 ∷ Expired 0 ∷ End 1 ∷ Tally 0 0 0 ∷ [] }
-    ensures locked_by_a_reader { last_answers 4 (by 0 (insert_of 100 1 4) ∷ by 0 (insert_of 100 2 4) ∷ by 0 (insert_of 100 3 4) ∷ by 1 (open_from (after_signature 1)) ∷ by 1 (Step 0) ∷ by 0 (insert_of 100 4 12) ∷ by 1 (Release 0) ∷ by 0 (insert_of 100 4 12) ∷ [])
+    ensures locked_by_a_reader { last_answers 4 (by 0 (insert_of 100 1 4) ∷ by 0 (insert_of 100 2 4) ∷ by 0 (insert_of 100 3 4)
+        ∷ by 1 (open_from (after_signature 1)) ∷ by 1 (Step 0) ∷ by 0 (insert_of 100 4 12) ∷ by 1 (Release 0) ∷ by 0 (insert_of 100 4 12) ∷ [])
         ≡ Product 1 101 (sample_info 2 4) ∷ Locked 1 ∷ Released 1 ∷ Admitted 3 103 2 ∷ [] }
 
     // A cursor begins at each of the four places, with such a product and without.
@@ -83,9 +86,11 @@ pub fn worked_examples_of_cursors()
     ensures behind_no_product { answers_to 168 10 (by 1 (open_from (after_signature 1)) ∷ by 1 (open_from Oldest) ∷ by 1 (Step 0) ∷ []) ≡ NotQueued ∷ Opened 0 ∷ End 0 ∷ [] }
 
     // Only the owner has the cursor. A close ends a hold, so that the product can be evicted.
-    ensures closed_while_held { last_answers 6 (by 0 (insert_of 100 1 4) ∷ by 1 (open_from Oldest) ∷ by 1 (Step 0) ∷ by 0 Expire ∷ by 2 (Close 0) ∷ by 1 (Close 0) ∷ by 0 Expire ∷ by 1 (Close 0) ∷ [])
+    ensures closed_while_held { last_answers 6 (by 0 (insert_of 100 1 4) ∷ by 1 (open_from Oldest) ∷ by 1 (Step 0) ∷ by 0 Expire
+        ∷ by 2 (Close 0) ∷ by 1 (Close 0) ∷ by 0 Expire ∷ by 1 (Close 0) ∷ [])
         ≡ Product 0 100 (sample_info 1 4) ∷ Nothing ∷ NoCursor ∷ Closed ∷ Expired 0 ∷ NoCursor ∷ [] }
-    ensures read_in_parts { last_answers 7 (by 0 (insert_body 1 (65 ∷ 66 ∷ 67 ∷ 68 ∷ [])) ∷ by 1 (open_from Oldest) ∷ by 1 (Read 0 0 8) ∷ by 1 (Step 0) ∷ by 1 (Read 0 0 8) ∷ by 1 (Read 0 1 2) ∷ by 1 (Read 0 4 8) ∷ by 1 (Read 0 5 1) ∷ by 1 (Release 0) ∷ [])
+    ensures read_in_parts { last_answers 7 (by 0 (insert_body 1 (65 ∷ 66 ∷ 67 ∷ 68 ∷ [])) ∷ by 1 (open_from Oldest) ∷ by 1 (Read 0 0 8)
+        ∷ by 1 (Step 0) ∷ by 1 (Read 0 0 8) ∷ by 1 (Read 0 1 2) ∷ by 1 (Read 0 4 8) ∷ by 1 (Read 0 5 1) ∷ by 1 (Release 0) ∷ [])
         ≡ NotHeld ∷ Product 0 100 (sample_info 1 4) ∷ Bytes (65 ∷ 66 ∷ 67 ∷ 68 ∷ []) ∷ Bytes (66 ∷ 67 ∷ []) ∷ Bytes [] ∷ BadOffset 4 ∷ Released 0 ∷ [] }
 {}
 

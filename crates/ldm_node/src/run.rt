@@ -39,7 +39,8 @@ pub fn crowd<H: Threads + Wait + Sync, G: Gate + Send>(
     requires gates { vec_len gates ≡ shared.passes }
     ensures last { IsLast shared result.pass }
     ensures stands { StandsFor result.book (after shared.arena shared.slots result.pass.seen) }
-    ensures ended { CrowdEnds result.end (script_in orders.now) result.pass.seen (map (λ text. text.items) result.answers.items) (map (λ gate. (G.tells gate).stops) gates.items) (map (λ gate. (G.tells gate).stops) result.gates.items) }
+    ensures ended { CrowdEnds result.end (script_in orders.now) result.pass.seen (map (λ text. text.items) result.answers.items)
+        (map (λ gate. (G.tells gate).stops) gates.items) (map (λ gate. (G.tells gate).stops) result.gates.items) }
     ensures stops_kept { StopsKept (map (λ gate. (G.tells gate).stops) gates.items) (map (λ gate. (G.tells gate).stops) result.gates.items) }
 {
     let Ok((mut workers, mut answers)) = take_room(alloc, passes.len()) else {

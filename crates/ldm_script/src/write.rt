@@ -1,5 +1,6 @@
 //! Writing lines.
-ghost use Rattle.std.specs.Prelude.{◌≡◌, ◌<◌, ◌≤◌, ◌+◌, ◌*◌, ◌++◌, ℕ, List, [], length, replicate, unwrap_or, Some, IsSome, Ok, OnOk, OnErr, decimal, vec_len, vec_capacity};
+ghost use Rattle.std.specs.Prelude.{◌≡◌, ◌<◌, ◌≤◌, ◌+◌, ◌*◌, ◌++◌, ℕ, List, [], length, replicate, unwrap_or, Some};
+ghost use Rattle.std.specs.Prelude.{IsSome, Ok, OnOk, OnErr, decimal, vec_len, vec_capacity};
 ghost use Rattle.arrayvec.specs.ArrayVec.{array_vec_len};
 ghost use Rattle.hex.specs.Hex.{encode_lower};
 ghost use Rattle.ldm_script.specs.Answer.{blank_field};
