@@ -1,0 +1,12 @@
+//! Blanks, lines and words of text files.
+#![tactic(auto)]
+
+mod lines;
+mod scan;
+#[cfg(test)]
+mod tests;
+mod words;
+
+pub use lines::first_line;
+pub use scan::{begins_with, count_blanks, is_blank, is_blank_text, place_of, place_of_blank};
+pub use words::{Comments, first_word, to_word};
