@@ -1,5 +1,3 @@
 pub mod Faults
 pub mod Parsing
 pub mod Readings
-pub mod Scans
-pub mod Wording

@@ -1,11 +1,12 @@
 -- What one line more means.
 use Rattle.std.proofs.Common.{◌≡◌, ◌∙◌, ℕ, ◌+◌, true, false, List, [], ◌∷◌, ◌++◌, Option, None, Some, Result, Ok, Err, MatchResult, refl, sym, ap, append_assoc, append-nil}
+use Rattle.ldm_text.specs.Lines.{lines_of}
 use Rattle.ldm_pqact_conf.specs.declared.fault.PqactFault.{PqactFault}
 use Rattle.ldm_pqact_conf.specs.declared.fault.PqactKind.{PqactKind}
 use Rattle.ldm_pqact_conf.specs.declared.fault.PqactKind.TheVariants as kind
 use Rattle.ldm_pqact_conf.specs.Causes.{IsFaultOf, IsKindOf}
 use Rattle.ldm_pqact_conf.specs.Entries.{EntryView, entries_of, entries_from, entry_of, first_of, in_front, pqact_entries}
-use Rattle.ldm_pqact_conf.specs.Lines.{Raw, added, is_continuation, is_skipped, lines_of, raw_entries}
+use Rattle.ldm_pqact_conf.specs.Lines.{Raw, added, is_continuation, is_skipped, raw_entries}
 use Rattle.ldm_pqact_conf.specs.Kept.{Reading, Ends, GoesOn, IsEndFault, IsStray, begun, ending, kept, meaning, to_come}
 use Rattle.ldm_pqact_conf.proofs.Faults.{unless, of_memory}
 

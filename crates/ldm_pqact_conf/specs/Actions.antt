@@ -2,7 +2,7 @@
 use Rattle.std.specs.Prelude.{ℕ, Bool, ◌==◌, nat_le, List, [], ◌∷◌, codes, bytes_eq, Option}
 use Rattle.std.specs.List.{find, list_any}
 use Rattle.std.specs.Str.{str_eq_ignore_ascii_case}
-use Rattle.ldm_pqact_conf.specs.Lines.{begins_with}
+use Rattle.ldm_text.specs.Blanks.{begins_with}
 use Rattle.ldm_pqact_conf.specs.declared.action.ActionKind.{ActionKind}
 use Rattle.ldm_pqact_conf.specs.declared.action.ActionKind.TheVariants.{File, StdioFile, Pipe, Exec, Noop}
 use Rattle.ldm_pqact_conf.specs.declared.options.Options.{Options}

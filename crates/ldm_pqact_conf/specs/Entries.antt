@@ -2,6 +2,7 @@
 use Rattle.std.specs.Prelude.{ℕ, Bool, ◌||◌, is_some, if◌then◌else◌, List, [], ◌∷◌, ◌++◌, length, take, drop, codes, bytes_eq, Option, Some, None, Result, Ok, Err}
 use Rattle.std.specs.List.{list_all, prefix_len}
 use Rattle.std.specs.Option.{ok_or}
+use Rattle.ldm_text.specs.Lines.{lines_of}
 use Rattle.ldm_feedtype.specs.Reading.{feed_number}
 use Rattle.ldm_pattern.specs.Patterns.{pattern_meaning}
 use Rattle.ldm_pqact_conf.specs.declared.action.ActionKind.{ActionKind}
@@ -9,9 +10,9 @@ use Rattle.ldm_pqact_conf.specs.declared.options.Options.{Options}
 use Rattle.ldm_pqact_conf.specs.declared.fault.PqactFault.{PqactFault}
 use Rattle.ldm_pqact_conf.specs.declared.fault.PqactKind.{PqactKind}
 use Rattle.ldm_pqact_conf.specs.declared.fault.PqactKind.TheVariants as kind
-use Rattle.ldm_pqact_conf.specs.Lines.{Raw, lines_of, raw_entries, stray}
+use Rattle.ldm_pqact_conf.specs.Lines.{Raw, raw_entries, stray}
 use Rattle.ldm_pqact_conf.specs.Fields.{Fields, fields_of}
-use Rattle.ldm_pqact_conf.specs.Words.{words_of}
+use Rattle.ldm_pqact_conf.specs.Arguments.{arguments_of}
 use Rattle.ldm_pqact_conf.specs.Actions.{action_of, is_dashed, is_option, options_in, takes}
 
 -- an entry that was read
@@ -72,7 +73,7 @@ with_fields line fields words =
 unfoldable pub entry_of : Raw → Result EntryView PqactKind
 entry_of raw =
     ok_or (fields_of raw.text) kind.Fields >>= λ fields.
-    ok_or (words_of fields.arguments) kind.Fields >>= λ words.
+    ok_or (arguments_of fields.arguments) kind.Fields >>= λ words.
     with_fields raw.line fields words
 
 -- entries in front of others, if these read

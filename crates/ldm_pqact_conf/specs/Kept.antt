@@ -1,30 +1,12 @@
 -- What the contracts inside this crate speak of.
-use Rattle.std.specs.Prelude.{◌≡◌, ◌<◌, ℕ, ◌+◌, false, List, [], ◌∷◌, ◌++◌, length, slice_index, Option, Some, None, Result}
-use Rattle.std.specs.Borrow.{Bor}
-use Rattle.std.specs.Option.{option_map}
-use Rattle.ldm_pqact_conf.specs.Lines.{Raw, is_blank, lines_of, added, raw_entries}
+use Rattle.std.specs.Prelude.{◌≡◌, ℕ, ◌+◌, List, [], ◌∷◌, ◌++◌, Option, Some, None, Result}
+use Rattle.ldm_pqact_conf.specs.Lines.{Raw, added, raw_entries}
 use Rattle.ldm_pqact_conf.specs.Fields as Fields
-use Rattle.ldm_pqact_conf.specs.Words.{Place, words_from, words_of}
 use Rattle.ldm_pqact_conf.specs.Entries.{EntryView, entries_of, entries_from, first_of, entry_of, in_front}
 use Rattle.ldm_pqact_conf.specs.Causes.{UnlessMemory, IsFaultOf}
 use Rattle.ldm_pqact_conf.specs.declared.fault.PqactKind.TheVariants as kind
 use Rattle.ldm_pqact_conf.specs.declared.fault.PqactFault.{PqactFault}
 use Rattle.ldm_pqact_conf.specs.declared.fields.Fields.{Fields}
-
--- what is left of a text is lines, or no line
-abbrev pub lines_left : Option (Bor (List ℕ)) → List (List ℕ)
-lines_left None = []
-lines_left (Some rest) = lines_of rest.now
-
--- how much is left of a text
-abbrev pub length_left : Option (Bor (List ℕ)) → ℕ
-length_left None = 0
-length_left (Some rest) = length rest.now + 1
-
--- a text is its first line and what is left
-pub record Splits (text line : List ℕ) (behind : Option (Bor (List ℕ))) : Type 0 where
-  pub lines : lines_of text ≡ line ∷ lines_left behind
-  pub shorter : length_left behind < length text + 1
 
 -- the fields that a `Fields` lends
 abbrev pub fields_view : Fields → Fields.Fields
@@ -34,23 +16,6 @@ fields_view fields = record {
   action = fields.action.now;
   arguments = fields.arguments.now;
 }
-
--- it does not begin with a blank
-abbrev pub BeginsInWord : List ℕ → Type 0
-BeginsInWord text = 0 < length text → is_blank (slice_index text 0) ≡ false
-
--- a word in front of others
-abbrev pub with_first : List ℕ → Option (List (List ℕ)) → Option (List (List ℕ))
-with_first word words = option_map (λ later. word ∷ later) words
-
--- words in front of others
-abbrev pub with_words : List (List ℕ) → Option (List (List ℕ)) → Option (List (List ℕ))
-with_words words others = option_map (λ later. words ++ later) others
-
--- the words of what is left of a text, from that place on, are a word and the words behind it
-pub record HasWord (place : Place) (text word behind : List ℕ) : Type 0 where
-  pub words : words_from place text ≡ with_first word (words_of behind)
-  pub shorter : length behind < length text
 
 -- what was read of a text: the entries that ended, the number of the next line, and the entry that has not ended yet
 pub record Reading : Type 0 where

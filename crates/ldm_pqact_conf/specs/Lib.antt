@@ -1,6 +1,6 @@
 pub mod Lines
 pub mod Fields
-pub mod Words
+pub mod Arguments
 pub mod Actions
 pub mod Entries
 pub mod Causes

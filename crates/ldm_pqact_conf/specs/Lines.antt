@@ -1,14 +1,7 @@
 -- Lines, and the entries that they join to.
-use Rattle.std.specs.Prelude.{ℕ, ◌+◌, Bool, false, ◌==◌, ◌||◌, if◌then◌else◌, List, [], ◌∷◌, ◌++◌, Option, Some, None}
-use Rattle.std.specs.List.{list_all, slice_split}
-
--- space or tab
-abbrev pub is_blank : ℕ → Bool
-is_blank byte = byte == 32 || byte == 9
-
-abbrev pub begins_with : ℕ → List ℕ → Bool
-begins_with byte [] = false
-begins_with byte (first ∷ rest) = first == byte
+use Rattle.std.specs.Prelude.{ℕ, ◌+◌, Bool, ◌||◌, if◌then◌else◌, List, [], ◌∷◌, ◌++◌, Option, Some, None}
+use Rattle.std.specs.List.{list_all}
+use Rattle.ldm_text.specs.Blanks.{begins_with, is_blank}
 
 -- a comment line, which begins with `#` (35), or blanks and tabs alone
 abbrev pub is_skipped : List ℕ → Bool
@@ -17,10 +10,6 @@ is_skipped line = begins_with 35 line || list_all is_blank line
 -- it begins with a tab
 abbrev pub is_continuation : List ℕ → Bool
 is_continuation line = begins_with 9 line
-
--- the lines of a text, without the newlines between them
-abbrev pub lines_of : List ℕ → List (List ℕ)
-lines_of text = slice_split (λ byte. byte == 10) text
 
 -- an entry: the number of its first line, and its lines joined
 pub record Raw : Type 0 where

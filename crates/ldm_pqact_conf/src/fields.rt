@@ -1,10 +1,11 @@
 //! The fields of an entry.
-ghost use Rattle.std.specs.Prelude.{◌≡◌};
+ghost use Rattle.std.specs.Prelude.{◌≡◌, ◌≤◌, length};
+ghost use Rattle.std.specs.List.{prefix_len};
 ghost use Rattle.std.specs.Option.{option_map};
-ghost use Rattle.ldm_pqact_conf.specs.Fields.{fields_of, first_field, behind_field};
+ghost use Rattle.ldm_pqact_conf.specs.Fields.{fields_of, first_field, behind_field, is_tab};
 ghost use Rattle.ldm_pqact_conf.specs.Kept.{fields_view};
 
-use crate::scan::{count_tabs, place_of};
+use ldm_text::place_of;
 
 /// The fields of an entry, as they stand in its text.
 #[derive(Clone, Copy)]
@@ -43,4 +44,12 @@ fn first_field(text: &[u8]) -> (&[u8], &[u8])
 {
     let (field, behind) = text.split_at(place_of(b'\t', text));
     (field, &behind[count_tabs(behind)..])
+}
+
+// How many tabs the text begins with.
+fn count_tabs(text: &[u8]) -> usize
+    ensures count { result ≡ prefix_len is_tab text.now }
+    ensures inside { result ≤ length text.now }
+{
+    text.iter().take_while(|byte| **byte == b'\t').count()
 }

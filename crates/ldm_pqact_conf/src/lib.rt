@@ -10,7 +10,6 @@ mod lines;
 mod options;
 mod parse;
 mod reader;
-mod scan;
 #[cfg(test)]
 mod tests;
 mod words;

@@ -10,11 +10,11 @@ use crate::action::ActionKind;
 use crate::entry::Entry;
 use crate::fault::PqactKind;
 use crate::fields::{Fields, split_fields};
-use crate::lines::begins_with;
 use crate::options::Options;
 use crate::words::{Word, read_words};
 use ldm_feedtype::read_feed;
 use ldm_pattern::{Pattern, Refusal};
+use ldm_text::begins_with;
 use std::alloc::Global;
 
 // The patterns of entries that act where no other entry matched.

@@ -7,8 +7,9 @@ ghost use Rattle.ldm_pqact_conf.specs.Kept.{Reading, meaning, GoesOn, IsStray, E
 use crate::entries::Entries;
 use crate::entry::Entry;
 use crate::fault::{PqactFault, PqactKind};
-use crate::lines::{begins_with, first_line, is_skipped};
+use crate::lines::is_skipped;
 use crate::parse::read_entry;
+use ldm_text::{begins_with, first_line};
 use std::alloc::Global;
 use std::marker::Model;
 

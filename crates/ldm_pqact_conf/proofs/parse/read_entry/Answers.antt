@@ -5,7 +5,7 @@ use Rattle.ldm_pqact_conf.specs.declared.fault.PqactKind.TheVariants as kind
 use Rattle.ldm_pqact_conf.specs.Entries.{entry_of}
 use Rattle.ldm_pqact_conf.specs.Kept.{fields_view}
 use Rattle.ldm_pqact_conf.specs.Lines.{Raw}
-use Rattle.ldm_pqact_conf.specs.Words.{words_of}
+use Rattle.ldm_pqact_conf.specs.Arguments.{arguments_of}
 use Rattle.ldm_pqact_conf.proofs.Faults.{of_part, same_kind}
 use Rattle.ldm_pqact_conf.proofs.Parsing.{no_fields, bad_words, by_fields}
 use Rattle.ldm_pqact_conf.proofs.parse.read_entry.Goals as goal
@@ -26,7 +26,7 @@ returns-in_err-words c =
     let why = err_from_is_err_and c.from_residual-in_err-words.result c.from_residual-in_err-words.ensures.1 in
     let is = sym c.split_fields.ensures ∙ ap (option_map fields_view) c.in_ok-fields.ensures.ok_part in
     rw (why.1, why.2)
-    (of_part (ok_or (words_of fields.arguments.now) kind.Fields) (entry_of raw) c.in_err-words.field-0.0
+    (of_part (ok_or (arguments_of fields.arguments.now) kind.Fields) (entry_of raw) c.in_err-words.field-0.0
     (bad_words raw (fields_view fields) c.in_err-words.field-0.0 is) c.in_err-words.ensures)
 
 pub returns : goal.returns

@@ -1,6 +1,7 @@
 use Rattle.std.proofs.Common.{◌≡◌, ◌+◌, ◌≤◌, length}
 use Rattle.ldm_pqact_conf.specs.Entries.{pqact_entries}
-use Rattle.ldm_pqact_conf.specs.Kept.{length_left, lines_left, meaning}
+use Rattle.ldm_pqact_conf.specs.Kept.{meaning}
+use Rattle.ldm_text.specs.Lines.{length_left, lines_left}
 use Rattle.ldm_pqact_conf.proofs.reader.read_pqact.Given as goal
 
 abbrev pub invariant-loop-rest : goal.invariant-loop-rest
