@@ -4,9 +4,9 @@ use Rattle.std.proofs.lemmas.Bool.{eqb-true, cases_lt, ne_eqb, not_from_false, o
 use Rattle.std.proofs.lemmas.Str.{IsUtf8-drop, IsCharBoundary-start, IsCharBoundary-end, IsCharBoundary-before_ascii, IsCharBoundary-after_ascii, IsCharBoundary-from_rest}
 use Rattle.std.specs.List.{position_or_len, prefix_len, slice_split}
 use Rattle.std.specs.Str.{IsCharBoundary, IsUtf8}
+use Rattle.ldm_text.specs.Blanks.{begins_in_blank, is_blank}
+use Rattle.ldm_text.proofs.CallerLemmas.{passes, stops, is_here, is_behind}
 use Rattle.ldm_conf.specs.Commands.{parts_of}
-use Rattle.ldm_conf.specs.Words.{is_blank}
-use Rattle.ldm_conf.proofs.Scans.{passes, stops, is_here, is_behind}
 
 abbrev has_bytes : List ℕ → Bool
 has_bytes part = not (length part == 0)
@@ -22,15 +22,6 @@ skip (byte ∷ bytes) =
     elim (is_blank byte) as (λ b. is_blank byte ≡ b → parts_of (drop (prefix_len is_blank (byte ∷ bytes)) (byte ∷ bytes)) ≡ parts_of (byte ∷ bytes)) [
       | true ↦ λ is. rw (passes is_blank byte bytes is) (skip bytes ∙ sym (blank_first byte bytes is))
       | false ↦ λ is. rw (stops is_blank byte bytes is) refl
-    ] refl
-
--- behind the blanks that a text begins with no blank stands
-pub no_blank : (text : List ℕ) → 0 < length (drop (prefix_len is_blank text) text) → is_blank (get_or (drop (prefix_len is_blank text) text) 0 0) ≡ false
-no_blank [] = λ some. absurd (omega arith)
-no_blank (byte ∷ bytes) =
-    elim (is_blank byte) as (λ b. is_blank byte ≡ b → 0 < length (drop (prefix_len is_blank (byte ∷ bytes)) (byte ∷ bytes)) → is_blank (get_or (drop (prefix_len is_blank (byte ∷ bytes)) (byte ∷ bytes)) 0 0) ≡ false) [
-      | true ↦ λ is. rw (passes is_blank byte bytes is) (no_blank bytes)
-      | false ↦ λ is. rw (stops is_blank byte bytes is) (λ _. is)
     ] refl
 
 -- the first of the runs between blanks, and what the others leave
@@ -60,7 +51,7 @@ has_one : (byte : ℕ) (bytes : List ℕ) → has_bytes (byte ∷ bytes) ≡ tru
 has_one byte bytes = not_from_false (length (byte ∷ bytes) == 0) (ne_eqb (length (byte ∷ bytes)) 0 (λ none. absurd (omega arith)))
 
 -- a text that begins with no blank begins with a part
-pub first_part : (text : List ℕ) → 0 < length text → is_blank (get_or text 0 0) ≡ false →
+pub first_part : (text : List ℕ) → 0 < length text → begins_in_blank text ≡ false →
     parts_of text ≡ take (position_or_len is_blank text) text ∷ parts_of (drop (position_or_len is_blank text) text)
 unfolding parts_of
 first_part [] some part = absurd (omega arith)
@@ -70,7 +61,7 @@ first_part (byte ∷ bytes) some part =
     rw (is_behind is_blank byte bytes part) (has_one byte (take (position_or_len is_blank bytes) bytes)) in
     rw (front.is, long) (ap (λ parts. take (position_or_len is_blank (byte ∷ bytes)) (byte ∷ bytes) ∷ parts) front.left)
 
-pub shorter : (text : List ℕ) → 0 < length text → is_blank (get_or text 0 0) ≡ false → 0 < position_or_len is_blank text
+pub shorter : (text : List ℕ) → 0 < length text → begins_in_blank text ≡ false → 0 < position_or_len is_blank text
 shorter [] some part = absurd (omega arith)
 shorter (byte ∷ bytes) some part = omega (arith, is_behind is_blank byte bytes part)
 

@@ -2,5 +2,3 @@ pub mod Addresses
 pub mod Commands
 pub mod Parsing
 pub mod Progress
-pub mod Scans
-pub mod Wording

@@ -1,5 +1,7 @@
 -- What a line says, by its words.
 use Rattle.std.proofs.Common.{◌≡◌, ℕ, ◌<◌, inl, inr, true, false, List, [], ◌∷◌, length, None, Some, Ok, Err, refl, arith}
+use Rattle.ldm_text.specs.Words.{Words, none_left, with_first, words_of}
+use Rattle.ldm_text.specs.declared.words.Comments.TheVariants.{Hash}
 use Rattle.ldm_conf.specs.declared.fault.ConfKind.{ConfKind}
 use Rattle.ldm_conf.specs.declared.fault.ConfKind.TheVariants as kind
 use Rattle.ldm_conf.specs.declared.keyword.Keyword.{Keyword}
@@ -10,7 +12,6 @@ use Rattle.ldm_conf.specs.Kept.{IsBad}
 use Rattle.ldm_conf.specs.LineFaults.{IsKindOf}
 use Rattle.ldm_conf.specs.Lines.{without_return}
 use Rattle.ldm_conf.specs.Statements.{Statement, Adds, Blank, behind_keyword, meaning_of, said, statement_of, with_patterns}
-use Rattle.ldm_conf.specs.Words.{Words, none_left, with_first, words_of}
 
 -- what holds of more than four words
 five : (P : List (List ℕ) → Type 0) → ((a b c d e : List ℕ) (rest : List (List ℕ)) → P (a ∷ b ∷ c ∷ d ∷ e ∷ rest)) → (words : List (List ℕ)) → 4 < length words → P words
@@ -39,15 +40,15 @@ bad keyword read (inr many) =
     ]
 
 module _ (line : List ℕ) where
-  pub blank : words_of (without_return line) ≡ none_left true → statement_of line ≡ Ok Blank
+  pub blank : words_of Hash (without_return line) ≡ none_left true → statement_of line ≡ Ok Blank
   unfolding statement_of
   blank is = rw is refl
 
-  pub wrong : words_of (without_return line) ≡ none_left false → statement_of line ≡ Err kind.Fields
+  pub wrong : words_of Hash (without_return line) ≡ none_left false → statement_of line ≡ Err kind.Fields
   unfolding statement_of
   wrong is = rw is refl
 
-  module _ (word : List ℕ) (others : Words) (is : words_of (without_return line) ≡ with_first word others) where
+  module _ (word : List ℕ) (others : Words) (is : words_of Hash (without_return line) ≡ with_first word others) where
     pub no_keyword : keyword_of word ≡ None → statement_of line ≡ Err kind.Keyword
     unfolding statement_of
     no_keyword none = rw (is, none) refl

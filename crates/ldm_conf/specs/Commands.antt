@@ -2,7 +2,7 @@
 use Rattle.std.specs.Prelude.{ℕ, Bool, ◌==◌, ◌&&◌, not, List, length, filter}
 use Rattle.std.specs.List.{list_all, slice_split}
 use Rattle.std.specs.Str.{is_utf8}
-use Rattle.ldm_conf.specs.Words.{is_blank}
+use Rattle.ldm_text.specs.Blanks.{is_blank}
 
 -- the parts of a command: the runs of its bytes between blanks and tabs
 unfoldable pub parts_of : List ℕ → List (List ℕ)

@@ -2,7 +2,7 @@
 use Rattle.std.specs.Prelude.{ℕ, ◌+◌, List}
 use Rattle.ldm_conf.specs.declared.lines.Line as code
 use Rattle.ldm_conf.specs.declared.lines.Lines.{Lines}
-use Rattle.ldm_conf.specs.Kept.{length_left, lines_left}
+use Rattle.ldm_text.specs.Lines.{length_left, lines_left}
 use Rattle.ldm_conf.specs.Reading.{Line, numbered}
 
 abbrev pub line_view : code.Line → Line

@@ -1,10 +1,5 @@
--- The lines of a file.
+-- Lines without the carriage return that they end in.
 use Rattle.std.specs.Prelude.{ℕ, ◌-◌, Bool, ◌==◌, if◌then◌else◌, List, length, take, slice_index}
-use Rattle.std.specs.List.{slice_split}
-
--- the lines of a text, without the newlines (10) between them
-abbrev pub lines_of : List ℕ → List (List ℕ)
-lines_of text = slice_split (λ byte. byte == 10) text
 
 -- a line ends in a carriage return (13)
 abbrev pub ends_in_return : List ℕ → Bool

@@ -1,12 +1,12 @@
 -- The configuration that files mean, line by line, each INCLUDE line standing for the lines of its file.
 use Rattle.std.specs.Prelude.{ℕ, ◌+◌, Bool, nat_lt, ◌&&◌, bytes_eq, if◌then◌else◌, List, [], ◌∷◌, ◌++◌, Result, Ok, Err}
 use Rattle.ldm_outside.specs.Store.{File}
+use Rattle.ldm_text.specs.Lines.{lines_of}
 use Rattle.ldm_conf.specs.declared.fault.ConfFault.{ConfFault}
 use Rattle.ldm_conf.specs.declared.fault.ConfKind.{ConfKind}
 use Rattle.ldm_conf.specs.declared.fault.ConfKind.TheVariants as kind
 use Rattle.ldm_conf.specs.declared.limits.TheConstants.{DEEPEST_INCLUDE, MOST_FILES}
 use Rattle.ldm_conf.specs.Confs.{ConfView, no_conf, with_directive}
-use Rattle.ldm_conf.specs.Lines.{lines_of}
 use Rattle.ldm_conf.specs.Statements.{Statement, Blank, Adds, Includes, meaning_of}
 
 -- A line, and where it stands: the number of its file in the order in which files are read, from 0; how many INCLUDE

@@ -2,6 +2,8 @@
 use Rattle.std.specs.Prelude.{ℕ, Bool, nat_le, if◌then◌else◌, List, [], ◌∷◌, length, Some, None, Result, Ok, Err}
 use Rattle.std.specs.Option.{ok_or}
 use Rattle.std.specs.Str.{is_utf8}
+use Rattle.ldm_text.specs.Words.{words_of}
+use Rattle.ldm_text.specs.declared.words.Comments.TheVariants.{Hash}
 use Rattle.ldm_feedtype.specs.Reading.{feed_number}
 use Rattle.ldm_types.specs.declared.limits.TheConstants.{LONGEST_PATTERN}
 use Rattle.ldm_class.specs.Lines.{allow_line, accept_line}
@@ -14,7 +16,6 @@ use Rattle.ldm_conf.specs.Commands.{is_command, parts_of}
 use Rattle.ldm_conf.specs.Confs.{Directive, Allow, Accept, Request, Exec, all_times, has_bad_pattern}
 use Rattle.ldm_conf.specs.Keywords.{keyword_of}
 use Rattle.ldm_conf.specs.Lines.{without_return}
-use Rattle.ldm_conf.specs.Words.{words_of}
 
 pub data Statement : Type 0 where
   -- it has no word
@@ -87,7 +88,7 @@ by_words (word ∷ words) sound = ok_or (keyword_of word) kind.Keyword >>= behin
 
 -- what a line says, if its patterns mean something
 unfoldable pub statement_of : List ℕ → Result Statement ConfKind
-statement_of line = let read = words_of (without_return line) in by_words read.words read.sound
+statement_of line = let read = words_of Hash (without_return line) in by_words read.words read.sound
 
 -- the patterns are tested last
 abbrev pub with_patterns : Statement → Result Statement ConfKind

@@ -1,10 +1,10 @@
 //! The command of an EXEC line.
-ghost use Rattle.std.specs.Prelude.{◌≡◌, ◌<◌, ◌≤◌, ◌∷◌, true, false, length, map, slice_index, string_bytes, IfOk, MatchOption};
+ghost use Rattle.std.specs.Prelude.{◌≡◌, ◌<◌, ◌≤◌, ◌∷◌, true, false, length, map, string_bytes, IfOk, MatchOption};
 ghost use Rattle.std.specs.Str.{is_utf8};
 ghost use Rattle.ldm_conf.specs.Commands.{is_command, parts_of};
-ghost use Rattle.ldm_conf.specs.Words.{is_blank};
+ghost use Rattle.ldm_text.specs.Blanks.{begins_in_blank};
 
-use crate::scan::{count_blanks, is_blank_text, place_of_blank};
+use ldm_text::{count_blanks, is_blank_text, place_of_blank};
 use std::alloc::{AllocError, Global};
 
 /// The text of a command, if it is UTF-8 and has a part.
@@ -44,7 +44,7 @@ pub fn split_command(alloc: Global, command: &str) -> Result<Vec<String>, AllocE
 // What is left of a text behind the blanks that it begins with.
 fn skip_blanks(text: &str) -> &str
     ensures parts { parts_of result.now ≡ parts_of text.now }
-    ensures begins { 0 < length result.now → is_blank (slice_index result.now 0) ≡ false }
+    ensures begins { begins_in_blank result.now ≡ false }
     ensures shorter { length result.now ≤ length text.now }
 {
     let (_, behind) = text.split_at(count_blanks(text.as_bytes()));
@@ -54,7 +54,7 @@ fn skip_blanks(text: &str) -> &str
 // The first part of a text that begins with no blank, and what stands behind it.
 fn first_part(text: &str) -> (&str, &str)
     requires some { 0 < length text.now }
-    requires begins { is_blank (slice_index text.now 0) ≡ false }
+    requires begins { begins_in_blank text.now ≡ false }
     ensures parts { parts_of text.now ≡ result.0.now ∷ parts_of result.1.now }
     ensures shorter { length result.1.now < length text.now }
 {

@@ -11,7 +11,6 @@ mod limits;
 mod lines;
 mod parse;
 mod reader;
-mod scan;
 #[cfg(test)]
 mod tests;
 mod words;

@@ -2,11 +2,11 @@
 ghost use Rattle.std.specs.Prelude.{◌≡◌, ◌+◌, ◌<◌, ◌≤◌, ◌^◌, ◌∷◌, [], length, IfSome, MatchOption, OnSome};
 ghost use Rattle.ldm_conf.specs.Lines.{without_return};
 ghost use Rattle.ldm_conf.specs.Reading.{lines_in};
-ghost use Rattle.ldm_conf.specs.Kept.{Splits, length_left};
+ghost use Rattle.ldm_text.specs.Lines.{length_left};
 ghost use Rattle.ldm_conf.specs.LineViews.{left_of, line_view, room_of};
 
 use crate::fault::{ConfFault, ConfKind};
-use crate::scan::place_of;
+use ldm_text::first_line;
 
 /// A line, and where it stands.
 #[derive(Clone, Copy)]
@@ -87,17 +87,5 @@ pub fn without_return(line: &[u8]) -> &[u8]
     match line.last() {
         Some(b'\r') => &line[..line.len() - 1],
         _ => line,
-    }
-}
-
-// The first line of a text, and what stands behind the newline that ends it, if there is one.
-fn first_line(text: &[u8]) -> (&[u8], Option<&[u8]>)
-    ensures { Splits text.now result.0.now result.1 }
-{
-    let at = place_of(b'\n', text);
-    if at < text.len() {
-        (&text[..at], Some(&text[at + 1..]))
-    } else {
-        (text, None)
     }
 }

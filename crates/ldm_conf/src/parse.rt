@@ -14,20 +14,21 @@ use crate::directive::{Directive, Statement};
 use crate::fault::ConfKind;
 use crate::keyword::Keyword;
 use crate::lines::without_return;
-use crate::words::{first_word, read_words, to_word};
+use crate::words::read_words;
 use arrayvec::ArrayVec;
 use ldm_feedtype::read_feed;
+use ldm_text::{Comments, first_word, to_word};
 use ldm_types::Feed;
 
 /// What a line says. Its patterns are not looked at.
 pub fn read_statement(line: &[u8]) -> Result<Statement<'_>, ConfKind>
     ensures { MatchResult result (λ statement. statement_of line.now ≡ Ok (statement_view statement)) (IsKindOf (statement_of line.now)) }
 {
-    let text = to_word(without_return(line));
+    let text = to_word(Comments::Hash, without_return(line));
     if text.is_empty() {
         return Ok(Statement::Blank);
     }
-    let Some((keyword, behind)) = first_word(text) else {
+    let Some((keyword, behind)) = first_word(Comments::Hash, text) else {
         return Err(ConfKind::Fields);
     };
     let Some(keyword) = Keyword::of_name(keyword) else {

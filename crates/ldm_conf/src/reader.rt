@@ -3,7 +3,7 @@ ghost use Rattle.std.specs.Prelude.{◌≡◌, ◌<◌, ◌≤◌, ◌^◌, [], 
 ghost use Rattle.ldm_conf.specs.declared.fault.ConfKind.TheVariants as kind;
 ghost use Rattle.ldm_conf.specs.Causes.{HasCause, IsIn, ReadsConf, first_too_long};
 ghost use Rattle.ldm_conf.specs.Confs.{conf_view};
-ghost use Rattle.ldm_conf.specs.Kept.{length_left};
+ghost use Rattle.ldm_text.specs.Lines.{length_left};
 ghost use Rattle.ldm_conf.specs.LineFaults.{IsKindOf};
 ghost use Rattle.ldm_conf.specs.LineViews.{left_of, line_view, room_of};
 ghost use Rattle.ldm_conf.specs.Reading.{may_include, wanting};

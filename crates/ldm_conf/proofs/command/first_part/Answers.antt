@@ -1,6 +1,6 @@
 use Rattle.std.proofs.Common.{◌≤◌, length}
 use Rattle.std.specs.List.{position_or_len}
-use Rattle.ldm_conf.specs.Words.{is_blank}
+use Rattle.ldm_text.specs.Blanks.{is_blank}
 use Rattle.ldm_conf.proofs.Commands.{cut_before_blank, first_part}
 use Rattle.ldm_conf.proofs.command.first_part.Goals as goal
 

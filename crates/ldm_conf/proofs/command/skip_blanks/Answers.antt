@@ -1,5 +1,6 @@
 use Rattle.std.specs.Str.{IsUtf8}
-use Rattle.ldm_conf.proofs.Commands.{cut_behind_blanks, no_blank, skip}
+use Rattle.ldm_text.proofs.CallerLemmas.{no_blank}
+use Rattle.ldm_conf.proofs.Commands.{cut_behind_blanks, skip}
 use Rattle.ldm_conf.proofs.command.skip_blanks.Goals as goal
 
 pub split_at-requires : goal.split_at-requires

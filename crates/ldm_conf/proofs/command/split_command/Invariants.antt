@@ -1,15 +1,15 @@
-use Rattle.std.proofs.Common.{◌≡◌, ◌<◌, ◌++◌, false, length, map, slice_index, string_bytes}
+use Rattle.std.proofs.Common.{◌≡◌, ◌++◌, false, length, map, string_bytes}
 use denote.Text.{Utf8}
 use denote.Shadow.{shadow}
+use Rattle.ldm_text.specs.Blanks.{begins_in_blank}
 use Rattle.ldm_conf.specs.Commands.{parts_of}
-use Rattle.ldm_conf.specs.Words.{is_blank}
 use Rattle.ldm_conf.proofs.command.split_command.Given as goal
 
 abbrev pub invariant-loop-rest : goal.invariant-loop-rest
 invariant-loop-rest l =
     shadow (Utf8 l.rest)
     × (map string_bytes l.parts.items ++ parts_of l.rest ≡ parts_of l.command)
-    × (0 < length l.rest → is_blank (slice_index l.rest 0) ≡ false)
+    × (begins_in_blank l.rest ≡ false)
 
 abbrev pub decreases-loop-rest : goal.decreases-loop-rest
 decreases-loop-rest l = length l.rest

@@ -1,6 +1,6 @@
 use Rattle.std.proofs.Common.{◌≡◌, ◌-◌, ◌<◌, ◌^◌}
 use Rattle.ldm_conf.specs.declared.limits.TheConstants.{DEEPEST_INCLUDE}
-use Rattle.ldm_conf.specs.Kept.{length_left}
+use Rattle.ldm_text.specs.Lines.{length_left}
 use Rattle.ldm_conf.specs.LineViews.{left_of, room_of}
 use Rattle.ldm_conf.specs.States.{Passes, state_of}
 use Rattle.ldm_conf.proofs.reader.Reader.+read_file.Given as goal

@@ -1,5 +1,5 @@
 use Rattle.std.proofs.Common.{◌≡◌, ◌≤◌}
-use Rattle.ldm_conf.specs.Kept.{length_left}
+use Rattle.ldm_text.specs.Lines.{length_left}
 use Rattle.ldm_conf.specs.LineViews.{left_of, room_of}
 use Rattle.ldm_conf.specs.States.{GoesOn, state_of}
 use Rattle.ldm_conf.proofs.reader.Reader.read_to_include.Given as goal
