@@ -3,7 +3,7 @@ use Rattle.std.specs.Prelude.{◌≡◌, ℕ, ◌+◌, ◌<◌, ◌==◌, List, 
 use Rattle.std.specs.Borrow.{Bor}
 use Rattle.std.specs.List.{slice_split}
 
--- the lines of a text, without the newlines (10) between them: what stands behind the last newline is a line, if empty
+-- the lines of a text, without the newlines (10) between them: what stands behind the last newline is a line, even where it is empty
 abbrev pub lines_of : List ℕ → List (List ℕ)
 lines_of text = slice_split (λ byte. byte == 10) text
 
