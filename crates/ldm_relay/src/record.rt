@@ -1,8 +1,9 @@
 //! Writing a message as a record.
-ghost use Rattle.std.specs.Prelude.{◌≡◌, ◌++◌, OnOk, OnErr};
+ghost use Rattle.std.specs.Prelude.{◌≡◌, ◌++◌, OnOk, OnErr, IsOk};
 ghost use Rattle.ldm_relay.specs.MessageView.{sent_of};
 ghost use Rattle.ldm_relay.specs.Spelling.{written, record_of};
 ghost use Rattle.ldm_relay.specs.Writable.{IsWritable};
+ghost use Rattle.ldm_relay.specs.Appends.{HasRoom};
 
 use crate::length::content_len;
 use crate::message::Message;
@@ -23,6 +24,8 @@ pub fn write_message(message: &Message, out: &mut Vec<u8>) -> Result<(), OutOfMe
     requires { IsWritable (sent_of message.now) }
     ensures ok { OnOk result (out.new.items ≡ out.old.items ++ record_of (written (sent_of message.now))) }
     ensures err { OnErr result (out.new.items ≡ out.old.items) }
+    // Memory is asked for only where there is no room.
+    ensures enough { HasRoom out.old (record_of (written (sent_of message.now))) → IsOk result }
 {
     let len = content_len(message);
     out.reserve(4 + len)?;
