@@ -33,4 +33,6 @@ pub use reply::read_reply;
 #[cfg(test)]
 mod mutated_tests;
 #[cfg(test)]
+mod samples;
+#[cfg(test)]
 mod tests;

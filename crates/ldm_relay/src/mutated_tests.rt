@@ -3,12 +3,10 @@
 //!
 //! The figures were counted by another program, which draws the same records and reads them by the tables of
 //! docs/messages.md.
-ghost use Rattle.std.specs.Prelude.{◌≤◌, ◌<◌, length, IfOk};
-ghost use Rattle.ldm_relay.specs.MessageView.{sent_of};
-ghost use Rattle.ldm_relay.specs.Writable.{IsWritable};
-ghost use Rattle.ldm_relay.specs.declared.message.TheConstants.{LARGEST_CONTENT};
+ghost use Rattle.std.specs.Prelude.{◌<◌};
 
-use crate::{LARGEST_CONTENT, Message, RelayFault, read_call, read_reply, write_message};
+use super::samples::{bytes_of, expect_written, is_bare, read};
+use crate::{LARGEST_CONTENT, RelayFault};
 use ldm_rpc::{Records, RpcFault};
 use std::alloc::{AllocError, Global};
 use std::process::Abort;
@@ -80,7 +78,7 @@ fn samples(alloc: Global) -> Result<Vec<Sample>, Fail> {
         let (procedure, digits) = line.split_once(' ').ok_or("no blank")?;
         samples.push(Sample {
             procedure: procedure.parse::<u32>()?,
-            content: hex::decode(alloc, digits.as_bytes())?,
+            content: bytes_of(alloc, digits)?,
         })?;
     }
     Ok(samples)
@@ -133,7 +131,7 @@ fn record(alloc: Global, draws: &mut Draws, content: &[u8]) -> Result<Vec<u8>, A
     Ok(record)
 }
 
-#[derive(Clone, Copy, Debug, PartialEq, Eq)]
+#[derive(Debug, Default, Drop)]
 struct Found {
     messages: u64,
     written: u64,
@@ -146,18 +144,6 @@ struct Found {
     // All places that faults of messages named, added up.
     places: u64,
 }
-
-const NONE: Found = Found {
-    messages: 0,
-    written: 0,
-    not_rpc: 0,
-    wrong_program: 0,
-    wrong_procedure: 0,
-    bad_message: 0,
-    too_long: 0,
-    pending: 0,
-    places: 0,
-};
 
 fn add(count: &mut u64, more: u64) {
     *count = count.saturating_add(more);
@@ -180,46 +166,6 @@ impl Found {
     }
 }
 
-fn read(content: &[u8], procedure: u32) -> Result<Message<'_>, RelayFault>
-    requires { length content.now ≤ LARGEST_CONTENT }
-    ensures { IfOk result (λ m. IsWritable (sent_of m)) }
-{
-    if procedure == 0 {
-        read_call(content)
-    } else {
-        read_reply(content, procedure)
-    }
-}
-
-// Whether the fields of the credential and the verifier are all zero.
-fn is_bare(content: &[u8], procedure: u32) -> bool {
-    let fields = if procedure == 0 {
-        content.get(24..40)
-    } else {
-        content.get(12..20)
-    };
-    match fields {
-        Some(fields) => fields.iter().all(|byte| *byte == 0),
-        None => false,
-    }
-}
-
-fn expect_written(
-    rt: &impl Abort,
-    alloc: Global,
-    message: &Message,
-    content: &[u8],
-) -> Result<(), Fail>
-    requires { IsWritable (sent_of message.now) }
-{
-    let mut out = Vec::new(alloc);
-    write_message(message, &mut out)?;
-    let (header, written) = out.as_slice().split_at_checked(4).ok_or("no header")?;
-    assert_eq!(rt; header, header_of(content).as_slice());
-    assert_eq!(rt; written, content);
-    Ok(())
-}
-
 fn take_content(
     rt: &impl Abort,
     alloc: Global,
@@ -233,7 +179,7 @@ fn take_content(
             add(&mut found.messages, 1);
             if is_bare(content, procedure) {
                 add(&mut found.written, 1);
-                expect_written(rt, alloc, &message, content)?;
+                expect_written(rt, alloc, &message, &header_of(content), content)?;
             }
         }
         Err(fault) => found.add_fault(fault),
@@ -280,7 +226,7 @@ fn mutated_records_are_read_or_named(rt: HostRuntime) -> Result<(), Fail> {
     assert!(rt; !samples.is_empty());
     let mut draws = Draws::behind(1);
     let mut pieces = Draws::behind(2);
-    let mut found = NONE;
+    let mut found = Found::default();
     for _ in 0..100_000 {
         let sample = &samples[draws.below(samples.len() as u64) as usize];
         let content = mutated(rt.alloc(), &mut draws, &sample.content)?;
@@ -294,17 +240,9 @@ fn mutated_records_are_read_or_named(rt: HostRuntime) -> Result<(), Fail> {
             sample.procedure,
         )?;
     }
-    let wanted = Found {
-        messages: 33_451,
-        written: 30_763,
-        not_rpc: 41_021,
-        wrong_program: 2_525,
-        wrong_procedure: 2_739,
-        bad_message: 14_416,
-        too_long: 4_748,
-        pending: 1_374,
-        places: 1_223_057,
-    };
-    assert_eq!(rt; found, wanted);
+    let counted =
+        "Found { messages: 33451, written: 30763, not_rpc: 41021, wrong_program: 2525, wrong_procedure: 2739, \
+        bad_message: 14416, too_long: 4748, pending: 1374, places: 1223057 }";
+    assert_eq!(rt; format!(in rt.alloc(); "{found:?}")?.as_str(), counted);
     Ok(())
 }

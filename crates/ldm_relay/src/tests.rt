@@ -3,98 +3,293 @@ ghost use Rattle.ldm_types.specs.Info.{metadata_len};
 ghost use Rattle.ldm_relay.specs.MessageView.{sent_of};
 ghost use Rattle.ldm_relay.specs.Writable.{IsWritable};
 
+use super::samples::{bytes_of, expect_written, is_bare, read};
 use super::*;
-use arrayvec::ArrayVec;
-use ldm_types::{ClassSpec, Feed, Info, Micros, Signature, Spec};
+use ldm_types::{Feed, Info, Micros, Signature};
 use std::alloc::Global;
 use std::process::Abort;
 use std::test::Fail;
 
-// Records that were put together by hand, four bytes a number. The first one has a product: signature 1 sixteen times,
-// arrival 100, origin `h`, feed 2, sequence number 1, ident `p`, body `ABCD`.
-const HEREIS: [u32; 25] = [
-    0x8000_0060,
-    1,
-    0,
-    2,
-    0x0004_93fd,
-    6,
-    1,
-    0,
-    0,
-    0,
-    0,
-    0,
-    100,
-    0x0101_0101,
-    0x0101_0101,
-    0x0101_0101,
-    0x0101_0101,
-    1,
-    0x6800_0000,
-    2,
-    1,
-    1,
-    0x7000_0000,
-    4,
-    0x4142_4344,
-];
+// A record a line: 0 for a call, else the procedure to whose call it is a reply; what the answer is in Rust, or how that
+// begins; and its bytes, four or eight a number. They were put together by hand, by the tables of docs/messages.md.
+const RECORDS: &str = "\
+0|Ok(Hereis(Hereis { xid: 1, info: Info { arrival: Micros { value: 100 }, signature: Signature([1, 1, 1, 1, 1, 1, 1, 1, 1, 1, \
+1, 1, 1, 1, 1, 1]), origin: [104], feed: Feed(2), seqno: 1, ident: [112], size: 4 }, body: [65, 66, 67, 68] }))|\
+80000060 00000001 00000000 00000002 000493fd 00000006 00000001 16x00 00000000 00000064 16x01 00000001 68000000 \
+00000002 00000001 00000001 70000000 00000004 41424344
+0|Ok(Hereis(|\
+8000005c 00000001 00000000 00000002 000493fd 00000006 00000001 16x00 00000000 00000064 16x01 00000001 68000000 \
+00000002 00000001 00000001 70000000 00000000
+0|Ok(Hereis(|\
+80000060 00000001 00000000 00000002 000493fd 00000006 00000001 16x00 00000000 00000064 16x01 00000001 68000000 \
+00000002 00000001 00000001 70000000 00000001 07000000
+0|Ok(Hereis(|\
+80000060 00000001 00000000 00000002 000493fd 00000006 00000001 16x00 00000000 00000064 16x01 00000001 68000000 \
+00000002 00000001 00000001 70000000 00000002 07070000
+0|Ok(Hereis(|\
+80000060 00000001 00000000 00000002 000493fd 00000006 00000001 16x00 00000000 00000064 16x01 00000001 68000000 \
+00000002 00000001 00000001 70000000 00000003 07070700
+0|Ok(Hereis(|\
+80000064 00000001 00000000 00000002 000493fd 00000006 00000001 16x00 00000000 00000064 16x01 00000001 68000000 \
+00000002 00000001 00000001 70000000 00000005 07070707 07000000
+0|Ok(Put(|\
+8000005c 00000001 00000000 00000002 000493fd 00000006 00000065 16x00 00000000 00000064 16x01 00000001 68000000 \
+00000002 00000001 00000001 70000000 00000000
+0|Ok(Put(|\
+80000060 00000001 00000000 00000002 000493fd 00000006 00000065 16x00 00000000 00000064 16x01 00000001 68000000 \
+00000002 00000001 00000001 70000000 00000001 07000000
+0|Ok(Put(|\
+80000060 00000001 00000000 00000002 000493fd 00000006 00000065 16x00 00000000 00000064 16x01 00000001 68000000 \
+00000002 00000001 00000001 70000000 00000002 07070000
+0|Ok(Put(|\
+80000060 00000001 00000000 00000002 000493fd 00000006 00000065 16x00 00000000 00000064 16x01 00000001 68000000 \
+00000002 00000001 00000001 70000000 00000003 07070700
+0|Ok(Put(|\
+80000060 00000001 00000000 00000002 000493fd 00000006 00000065 16x00 00000000 00000064 16x01 00000001 68000000 \
+00000002 00000001 00000001 70000000 00000004 07070707
+0|Ok(Put(|\
+80000064 00000001 00000000 00000002 000493fd 00000006 00000065 16x00 00000000 00000064 16x01 00000001 68000000 \
+00000002 00000001 00000001 70000000 00000005 07070707 07000000
+0|Ok(Feedme(Feedme { xid: 1, class: ClassSpec { from: Micros { value: 0 }, to: Micros { value: 4294967295999999 }, specs: [Spec { feed: \
+Feed(2), pattern: [46, 42] }] }, max_hereis: 16384 }))|\
+8000004c 00000001 00000000 00000002 000493fd 00000006 00000004 16x00 00000000 00000000 ffffffff 000f423f 00000001 \
+00000002 00000002 2e2a0000 00004000
+0|Ok(Hiya(Hiya { xid: 0, class: ClassSpec { from: Micros { value: 0 }, to: Micros { value: 4294967295999999 }, specs: [] } }))|\
+8000003c 00000000 00000000 00000002 000493fd 00000006 00000005 16x00 00000000 00000000 ffffffff 000f423f 00000000
+0|Ok(Comingsoon(Comingsoon { xid: 9, info: Info { arrival: Micros { value: 100 }, signature: Signature([1, 1, 1, 1, 1, 1, 1, 1, \
+1, 1, 1, 1, 1, 1, 1, 1]), origin: [104], feed: Feed(2), seqno: 1, ident: [112], size: 4294967295 }, block_size: 5 }))|\
+80000060 00000009 00000000 00000002 000493fd 00000006 0000000c 16x00 00000000 00000064 16x01 00000001 68000000 \
+00000002 00000001 00000001 70000000 ffffffff 00000005
+0|Ok(Blkdata(Blkdata { xid: 1, signature: Signature([1, 0, 0, 0, 0, 0, 0, 0, 0, 0, 0, 0, 0, 0, 0, 0]), number: 7, \
+block: [1, 2, 3] }))|\
+80000044 00000001 00000000 00000002 000493fd 00000006 0000000d 16x00 01000000 12x00 00000007 00000003 01020300
+0|Ok(Blkdata(Blkdata { xid: 4294967295, signature: Signature([255, 255, 255, 255, 255, 255, 255, 255, 255, 255, 255, \
+255, 255, 255, 255, 255]), number: 4294967295, block: [7, 7, 7, 7|\
+80004040 ffffffff 00000000 00000002 000493fd 00000006 0000000d 16x00 16xff ffffffff 00004000 16384x07
+0|Ok(Isalive(Isalive { xid: 9 }))|80000028 00000009 00000000 00000002 000493fd 00000006 0000000e 16x00
+0|Ok(Qstat(Qstat { xid: 9 }))|80000028 00000009 00000000 00000002 000493fd 00000006 00000064 16x00
+4|Ok(FeedmeReply(FeedmeReply { xid: 9, answer: Ok }))|8000001c 00000009 00000001 00000000 8x00 00000000 00000000
+4|Ok(FeedmeReply(FeedmeReply { xid: 9, answer: Reclass(ClassSpec { from: Micros { value: 0 }, to: Micros { value: 4294967295999999 }, \
+specs: [Spec { feed: Feed(2), pattern: [46] }] }) }))|\
+8000003c 00000009 00000001 00000000 8x00 00000000 00000001 8x00 ffffffff 000f423f 00000001 00000002 00000001 2e000000
+4|Ok(FeedmeReply(FeedmeReply { xid: 9, answer: Denied }))|8000001c 00000009 00000001 00000000 8x00 00000000 00000002
+4|Ok(FeedmeReply(FeedmeReply { xid: 9, answer: BadPattern }))|\
+8000001c 00000009 00000001 00000000 8x00 00000000 00000003
+4|Ok(FeedmeReply(FeedmeReply { xid: 9, answer: Busy }))|8000001c 00000009 00000001 00000000 8x00 00000000 00000004
+5|Ok(HiyaReply(HiyaReply { xid: 9, max_hereis: 1, answer: Busy }))|\
+80000020 00000009 00000001 00000000 8x00 00000000 00000001 00000004
+12|Ok(ComingsoonReply(ComingsoonReply { xid: 9, answer: Ok }))|\
+8000001c 00000009 00000001 00000000 8x00 00000000 00000000
+12|Ok(ComingsoonReply(ComingsoonReply { xid: 9, answer: DontSend }))|\
+8000001c 00000009 00000001 00000000 8x00 00000000 00000001
+100|Ok(QstatReply(QstatReply { xid: 9, stat: Some([1, 2, 3, 4, 18446744073709551615]) }))|\
+80000044 00000009 00000001 00000000 8x00 00000000 00000000 0000000000000001 0000000000000002 0000000000000003 \
+0000000000000004 ffffffffffffffff
+100|Ok(QstatReply(QstatReply { xid: 9, stat: None }))|8000001c 00000009 00000001 00000000 8x00 00000000 00000002
+101|Ok(PutReply(PutReply { xid: 9, answer: Admitted { n: 1, time: 18446744073709551615, evicted: 0 } }))|\
+80000034 00000009 00000001 00000000 8x00 00000000 00000000 0000000000000001 ffffffffffffffff 0000000000000000
+101|Ok(PutReply(PutReply { xid: 9, answer: TooBig { need: 9, arena: 8 } }))|\
+8000002c 00000009 00000001 00000000 8x00 00000000 00000001 0000000000000009 0000000000000008
+101|Ok(PutReply(PutReply { xid: 9, answer: Duplicate { n: 3 } }))|\
+80000024 00000009 00000001 00000000 8x00 00000000 00000002 0000000000000003
+101|Ok(PutReply(PutReply { xid: 9, answer: TimeEnd }))|8000001c 00000009 00000001 00000000 8x00 00000000 00000003
+101|Ok(PutReply(PutReply { xid: 9, answer: Locked { held: 64 } }))|\
+80000024 00000009 00000001 00000000 8x00 00000000 00000004 0000000000000040
+101|Ok(PutReply(PutReply { xid: 9, answer: Denied }))|8000001c 00000009 00000001 00000000 8x00 00000000 00000005
+0|Err(BadMessage { at: 76 })|\
+80000050 00000001 00000000 00000002 000493fd 00000006 00000004 16x00 00000000 00000000 ffffffff 000f423f 00000001 \
+00000002 00000002 2e2a0000 00004000 00000000
+0|Ok(Isalive(Isalive { xid: 1 }))|\
+800001b8 00000001 00000000 00000002 000493fd 00000006 0000000e 00000000 0000018f 400x07 8x00
+0|Ok(Isalive(Isalive { xid: 1 }))|\
+800001b8 00000001 00000000 00000002 000493fd 00000006 0000000e 00000000 00000190 400x07 8x00
+0|Err(NotRpc { at: 28 })|800001bc 00000001 00000000 00000002 000493fd 00000006 0000000e 00000000 00000191 404x07 8x00";
 
-// All times, feed 2, pattern `.*`, products of up to 16,384 bytes.
-const FEEDME: [u32; 20] = [
-    0x8000_004c,
-    1,
-    0,
-    2,
-    0x0004_93fd,
-    6,
-    4,
-    0,
-    0,
-    0,
-    0,
-    0,
-    0,
-    0xffff_ffff,
-    0x000f_423f,
-    1,
-    2,
-    2,
-    0x2e2a_0000,
-    0x4000,
-];
-
-// The reply to it, with the answer `Ok`.
-const FEEDME_REPLY: [u32; 8] = [0x8000_001c, 1, 1, 0, 0, 0, 0, 0];
-
-// Block 7 of the product with the signature 1, 0, .. : the bytes 1, 2, 3.
-const BLKDATA: [u32; 18] = [
-    0x8000_0044,
-    1,
-    0,
-    2,
-    0x0004_93fd,
-    6,
-    13,
-    0,
-    0,
-    0,
-    0,
-    0x0100_0000,
-    0,
-    0,
-    0,
-    7,
-    3,
-    0x0102_0300,
-];
-
-fn bytes_of(alloc: Global, words: &[u32]) -> Result<Vec<u8>, Fail> {
-    let mut bytes = Vec::new(alloc);
-    for word in words {
-        bytes.extend_from_slice(&word.to_be_bytes())?;
+// The answer to the content of a record is that, or begins so. A message without a credential is written as it was.
+fn expect(
+    rt: &impl Abort,
+    alloc: Global,
+    record: &[u8],
+    procedure: u32,
+    answer: &str,
+) -> Result<(), Fail> {
+    let (header, content) = record.split_at_checked(4).ok_or("no header")?;
+    assert!(rt; content.len() <= LARGEST_CONTENT);
+    let found = read(content, procedure);
+    let text = format!(in alloc; "{found:?}")?;
+    assert!(rt; text.as_str().starts_with(answer), "{text}, not {answer}");
+    match &found {
+        Ok(message) if is_bare(content, procedure) => {
+            expect_written(rt, alloc, message, header, content)
+        }
+        _ => Ok(()),
     }
-    Ok(bytes)
+}
+
+#[test]
+fn records(rt: HostRuntime) -> Result<(), Fail> {
+    for line in RECORDS.lines() {
+        let (procedure, line) = line.split_once('|').ok_or("no procedure")?;
+        let (answer, words) = line.split_once('|').ok_or("no answer")?;
+        let record = bytes_of(rt.alloc(), words)?;
+        expect(&rt, rt.alloc(), &record, procedure.parse::<u32>()?, answer)?;
+    }
+    Ok(())
+}
+
+// The longest class: 32 specifications with patterns of 255 dots.
+#[test]
+fn longest_class(rt: HostRuntime) -> Result<(), Fail> {
+    let mut record = bytes_of(
+        rt.alloc(),
+        "80002140 00000000 00000000 00000002 000493fd 00000006 00000004 16x00 8x00 ffffffff 000f423f 00000020",
+    )?;
+    for _ in 0..32 {
+        record.extend_from_slice(&bytes_of(rt.alloc(), "00000002 000000ff 255x2e 00")?)?;
+    }
+    record.extend_from_slice(&[0; 4])?;
+    assert_eq!(rt; record.len(), 8_516);
+    expect(
+        &rt,
+        rt.alloc(),
+        &record,
+        0,
+        "Ok(Feedme(Feedme { xid: 0, class: ",
+    )
+}
+
+const HEREIS: &str = "80000060 00000001 00000000 00000002 000493fd 00000006 00000001 16x00 \
+00000000 00000064 16x01 00000001 68000000 00000002 00000001 00000001 70000000 00000004 41424344";
+
+const FEEDME: &str = "8000004c 00000001 00000000 00000002 000493fd 00000006 00000004 16x00 \
+00000000 00000000 ffffffff 000f423f 00000001 00000002 00000002 2e2a0000 00004000";
+
+const BLKDATA: &str = "80000044 00000001 00000000 00000002 000493fd 00000006 0000000d 16x00 \
+01000000 12x00 00000007 00000003 01020300";
+
+const FEEDME_REPLY: &str = "8000001c 00000001 00000001 00000000 8x00 00000000 00000000";
+
+// A record, and changes of it, one a line: 0 for a call, else the procedure to whose call it is a reply; a place in the
+// content, other bytes for that place, the length to which the content is cut, and what the answer is then.
+const CHANGES: [(&str, &str); 4] = [
+    (
+        FEEDME,
+        "\
+0 0 00000001 0|Err(NotRpc { at: 0 })
+0 0 00000001 3|Err(NotRpc { at: 0 })
+0 4 00000001 76|Err(NotRpc { at: 4 })
+0 4 00000002 76|Err(NotRpc { at: 4 })
+0 8 00000003 76|Err(NotRpc { at: 8 })
+0 12 00000001 76|Err(WrongProgram { program: 1, version: 6 })
+0 16 00000005 76|Err(WrongProgram { program: 300029, version: 5 })
+0 16 00000005 39|Err(NotRpc { at: 36 })
+0 20 00000000 76|Err(WrongProcedure { procedure: 0 })
+0 20 00000006 76|Err(WrongProcedure { procedure: 6 })
+0 20 00000007 76|Err(WrongProcedure { procedure: 7 })
+0 20 00000066 40|Err(WrongProcedure { procedure: 102 })
+0 20 00000066 39|Err(NotRpc { at: 36 })
+0 24 00000001 76|Err(NotRpc { at: 24 })
+0 28 00000191 76|Err(NotRpc { at: 28 })
+0 28 00000190 76|Err(NotRpc { at: 28 })
+0 32 00000006 76|Err(NotRpc { at: 32 })
+0 36 00000191 76|Err(NotRpc { at: 36 })
+0 36 00000000 40|Err(BadMessage { at: 40 })
+0 44 000f4240 76|Err(BadMessage { at: 44 })
+0 52 000f4240 76|Err(BadMessage { at: 52 })
+0 56 00000021 76|Err(BadMessage { at: 56 })
+0 56 00000000 76|Err(BadMessage { at: 64 })
+0 64 00000100 76|Err(BadMessage { at: 64 })
+0 64 00000009 76|Err(BadMessage { at: 64 })
+0 68 2e2a0001 76|Err(BadMessage { at: 71 })
+0 72 00000000 75|Err(BadMessage { at: 72 })
+0 72 00000000 72|Err(BadMessage { at: 72 })",
+    ),
+    (
+        HEREIS,
+        "\
+0 44 000f4240 96|Err(BadMessage { at: 44 })
+0 64 00000041 96|Err(BadMessage { at: 64 })
+0 68 68000100 96|Err(BadMessage { at: 70 })
+0 84 00000000 96|Err(BadMessage { at: 84 })
+0 88 00000000 96|Err(BadMessage { at: 92 })
+0 88 00000003 96|Err(BadMessage { at: 95 })
+0 88 00000005 96|Err(BadMessage { at: 92 })
+0 92 00000000 95|Err(BadMessage { at: 92 })",
+    ),
+    (
+        BLKDATA,
+        "\
+0 40 00000000 55|Err(BadMessage { at: 40 })
+0 60 00004001 68|Err(BadMessage { at: 60 })
+0 60 00004000 68|Err(BadMessage { at: 60 })
+0 60 00000000 68|Err(BadMessage { at: 64 })
+0 64 01020304 68|Err(BadMessage { at: 67 })",
+    ),
+    (
+        FEEDME_REPLY,
+        "\
+4 4 00000000 28|Err(NotRpc { at: 4 })
+4 8 00000001 28|Err(NotRpc { at: 8 })
+4 12 00000001 28|Err(NotRpc { at: 12 })
+4 16 00000191 28|Err(NotRpc { at: 16 })
+4 20 00000001 28|Err(BadMessage { at: 20 })
+4 20 00000002 28|Err(BadMessage { at: 20 })
+4 20 00000003 28|Err(BadMessage { at: 20 })
+4 20 00000004 28|Err(BadMessage { at: 20 })
+4 20 00000005 28|Err(BadMessage { at: 20 })
+4 20 00000006 28|Err(NotRpc { at: 20 })
+13 20 00000003 28|Err(WrongProcedure { procedure: 13 })
+13 20 00000006 28|Err(NotRpc { at: 20 })
+4 24 00000005 28|Err(BadMessage { at: 24 })
+4 24 00000001 28|Err(BadMessage { at: 28 })
+12 24 00000002 28|Err(BadMessage { at: 24 })
+101 24 00000006 28|Err(BadMessage { at: 24 })",
+    ),
+];
+
+fn number(word: Option<&str>) -> Result<u32, Fail> {
+    Ok(word.ok_or("no number")?.parse::<u32>()?)
+}
+
+// The record with other bytes from a place of its content on, its content cut to a length.
+fn changed(
+    alloc: Global,
+    record: &[u8],
+    place: u32,
+    bytes: &[u8],
+    len: u32,
+) -> Result<Vec<u8>, Fail> {
+    let (front, behind) = record
+        .split_at_checked(4 + place as usize)
+        .ok_or("no place")?;
+    let mut changed = front.to_vec(alloc)?;
+    changed.extend_from_slice(bytes)?;
+    if let Some(behind) = behind.get(bytes.len()..) {
+        changed.extend_from_slice(behind)?;
+    }
+    changed.truncate(4 + len as usize);
+    Ok(changed)
+}
+
+fn expect_change(rt: &impl Abort, alloc: Global, record: &[u8], line: &str) -> Result<(), Fail> {
+    let (change, answer) = line.split_once('|').ok_or("no answer")?;
+    let mut words = change.split_whitespace();
+    let procedure = number(words.next())?;
+    let place = number(words.next())?;
+    let bytes = bytes_of(alloc, words.next().ok_or("no bytes")?)?;
+    let record = changed(alloc, record, place, &bytes, number(words.next())?)?;
+    expect(rt, alloc, &record, procedure, answer)
+}
+
+#[test]
+fn changes(rt: HostRuntime) -> Result<(), Fail> {
+    for (words, lines) in CHANGES {
+        let record = bytes_of(rt.alloc(), words)?;
+        for line in lines.lines() {
+            expect_change(&rt, rt.alloc(), &record, line)?;
+        }
+    }
+    Ok(())
 }
 
 fn info_of(size: u32) -> Result<Info, Fail>
@@ -116,401 +311,10 @@ fn hereis_of(body: &[u8]) -> Result<Message<'_>, Fail>
     Ok(Message::Hereis(Hereis { xid: 1, info, body }))
 }
 
-fn put_of(body: &[u8]) -> Result<Message<'_>, Fail>
-    requires { length body.now ≤ 16384 }
-    ensures { IfOk result (λ m. IsWritable (sent_of m)) }
-{
-    let info = info_of(body.len() as u32)?;
-    Ok(Message::Put(Put { xid: 1, info, body }))
-}
-
-// All times, and so many specifications of feed 2 with patterns of so many dots.
-fn class_of(count: usize, len: usize) -> Result<ClassSpec, Fail> {
-    let dots = [b'.'; 255];
-    let mut specs = ArrayVec::new();
-    for _ in 0..count {
-        let pattern = ArrayVec::try_from(dots.get(..len).ok_or("too long")?);
-        let spec = Spec {
-            feed: Feed(2),
-            pattern: pattern.map_err(|_| "too long")?,
-        };
-        specs.try_push(spec).map_err(|_| "too many")?;
-    }
-    Ok(ClassSpec {
-        from: Micros::new(0).ok_or("no instant")?,
-        to: Micros::new(Micros::MAX).ok_or("no instant")?,
-        specs,
-    })
-}
-
-// The message is written behind what stands there, as that record, or as one of that length.
-fn is_written(rt: &impl Abort, alloc: Global, message: &Message, words: &[u32]) -> Result<(), Fail>
-    requires { IsWritable (sent_of message.now) }
-{
-    let record = bytes_of(alloc, words)?;
-    let mut out = Vec::from_slice(alloc, b"before")?;
-    write_message(message, &mut out)?;
-    assert_eq!(rt; out.as_slice().get(..6), Some(b"before".as_slice()));
-    assert_eq!(rt; out.as_slice().get(6..), Some(record.as_slice()));
-    Ok(())
-}
-
-// The message takes a record of that many bytes, and is read again: as a reply to a procedure, or as a call for 0.
-fn goes_both_ways(
-    rt: &impl Abort,
-    alloc: Global,
-    message: &Message,
-    procedure: u32,
-    len: usize,
-) -> Result<(), Fail>
-    requires { IsWritable (sent_of message.now) }
-{
-    let mut out = Vec::new(alloc);
-    write_message(message, &mut out)?;
-    assert_eq!(rt; out.len(), len, "{message:?}");
-    let content = out.as_slice().get(4..).ok_or("no content")?;
-    let read = if procedure == 0 {
-        read_call(content)
-    } else {
-        read_reply(content, procedure)
-    };
-    assert_eq!(rt; read.err(), None, "{message:?}");
-    Ok(())
-}
-
+// A message that is made here, and not read.
 #[test]
-fn hereis(rt: HostRuntime) -> Result<(), Fail> {
-    let record = bytes_of(rt.alloc(), &HEREIS)?;
-    assert!(rt; record.len() == 100);
-    let message = read_call(&record[4..])?;
-    let Message::Hereis(read) = &message else {
-        return Err("no product")?;
-    };
-    assert_eq!(rt; read.xid, 1);
-    assert_eq!(rt; read.info.arrival().get(), 100);
-    assert_eq!(rt; read.info.signature(), Signature([1; 16]));
-    assert_eq!(rt; read.info.origin(), b"h".as_slice());
-    assert_eq!(rt; read.info.ident(), b"p".as_slice());
-    assert_eq!(rt; read.info.size(), 4);
-    assert_eq!(rt; read.body, b"ABCD".as_slice());
-    is_written(&rt, rt.alloc(), &hereis_of(b"ABCD")?, &HEREIS)
-}
-
-#[test]
-fn feedme(rt: HostRuntime) -> Result<(), Fail> {
-    let record = bytes_of(rt.alloc(), &FEEDME)?;
-    assert!(rt; record.len() == 80);
-    let message = read_call(&record[4..])?;
-    let Message::Feedme(read) = &message else {
-        return Err("no request")?;
-    };
-    assert_eq!(rt; read.xid, 1);
-    assert_eq!(rt; read.max_hereis, 16_384);
-    assert_eq!(rt; read.class.from.get(), 0);
-    assert_eq!(rt; read.class.to.get(), 4_294_967_295_999_999);
-    assert!(rt; read.class.specs.as_slice().len() == 1);
-    let spec = &read.class.specs.as_slice()[0];
-    assert_eq!(rt; spec.feed, Feed(2));
-    assert_eq!(rt; spec.pattern.as_slice(), b".*".as_slice());
-    is_written(&rt, rt.alloc(), &message, &FEEDME)
-}
-
-#[test]
-fn feedme_reply(rt: HostRuntime) -> Result<(), Fail> {
-    let record = bytes_of(rt.alloc(), &FEEDME_REPLY)?;
-    assert!(rt; record.len() == 32);
-    let message = read_reply(&record[4..], 4)?;
-    let Message::FeedmeReply(read) = &message else {
-        return Err("no reply")?;
-    };
-    assert_eq!(rt; read.xid, 1);
-    assert_eq!(rt; read.answer, ClassAnswer::Ok);
-    is_written(&rt, rt.alloc(), &message, &FEEDME_REPLY)
-}
-
-#[test]
-fn blkdata(rt: HostRuntime) -> Result<(), Fail> {
-    let record = bytes_of(rt.alloc(), &BLKDATA)?;
-    assert!(rt; record.len() == 72);
-    let message = read_call(&record[4..])?;
-    let Message::Blkdata(read) = &message else {
-        return Err("no block")?;
-    };
-    assert_eq!(rt; read.number, 7);
-    assert_eq!(rt; read.block, [1, 2, 3].as_slice());
-    Ok(())
-}
-
-#[test]
-fn products(rt: HostRuntime) -> Result<(), Fail> {
-    let bytes = [7; 16_384];
-    for (size, len) in [(0, 96), (1, 100), (2, 100), (3, 100), (4, 100), (5, 104)] {
-        assert!(rt; size <= 5);
-        goes_both_ways(&rt, rt.alloc(), &hereis_of(&bytes[..size])?, 0, len)?;
-        goes_both_ways(&rt, rt.alloc(), &put_of(&bytes[..size])?, 0, len)?;
-    }
-    let block = Message::Blkdata(Blkdata {
-        xid: u32::MAX,
-        signature: Signature([255; 16]),
-        number: u32::MAX,
-        block: &bytes,
-    });
-    goes_both_ways(&rt, rt.alloc(), &block, 0, 16_452)
-}
-
-#[test]
-fn classes(rt: HostRuntime) -> Result<(), Fail> {
-    let feedme = Message::Feedme(Feedme {
-        xid: 0,
-        class: class_of(32, 255)?,
-        max_hereis: 0,
-    });
-    goes_both_ways(&rt, rt.alloc(), &feedme, 0, 8_516)?;
-    let hiya = Message::Hiya(Hiya {
-        xid: 0,
-        class: class_of(0, 0)?,
-    });
-    goes_both_ways(&rt, rt.alloc(), &hiya, 0, 64)
-}
-
-#[test]
-fn class_answers(rt: HostRuntime) -> Result<(), Fail> {
-    for (answer, len) in [
-        (ClassAnswer::Ok, 32),
-        (ClassAnswer::Reclass(class_of(1, 1)?), 64),
-        (ClassAnswer::Denied, 32),
-        (ClassAnswer::BadPattern, 32),
-        (ClassAnswer::Busy, 32),
-    ] {
-        let reply = Message::FeedmeReply(FeedmeReply { xid: 9, answer });
-        goes_both_ways(&rt, rt.alloc(), &reply, 4, len)?;
-    }
-    let reply = Message::HiyaReply(HiyaReply {
-        xid: 9,
-        max_hereis: 1,
-        answer: ClassAnswer::Busy,
-    });
-    goes_both_ways(&rt, rt.alloc(), &reply, 5, 36)
-}
-
-#[test]
-fn announcements(rt: HostRuntime) -> Result<(), Fail> {
-    let announced = Message::Comingsoon(Comingsoon {
-        xid: 9,
-        info: info_of(u32::MAX)?,
-        block_size: 5,
-    });
-    goes_both_ways(&rt, rt.alloc(), &announced, 0, 100)?;
-    for answer in [SoonAnswer::Ok, SoonAnswer::DontSend] {
-        let reply = Message::ComingsoonReply(ComingsoonReply { xid: 9, answer });
-        goes_both_ways(&rt, rt.alloc(), &reply, 12, 32)?;
-    }
-    Ok(())
-}
-
-#[test]
-fn queue_figures(rt: HostRuntime) -> Result<(), Fail> {
-    let alive = Message::Isalive(Isalive { xid: 9 });
-    goes_both_ways(&rt, rt.alloc(), &alive, 0, 44)?;
-    let asked = Message::Qstat(Qstat { xid: 9 });
-    goes_both_ways(&rt, rt.alloc(), &asked, 0, 44)?;
-    for (stat, len) in [(None, 32), (Some([1, 2, 3, 4, u64::MAX]), 72)] {
-        let reply = Message::QstatReply(QstatReply { xid: 9, stat });
-        goes_both_ways(&rt, rt.alloc(), &reply, 100, len)?;
-    }
-    Ok(())
-}
-
-#[test]
-fn put_answers(rt: HostRuntime) -> Result<(), Fail> {
-    for (answer, len) in [
-        (
-            PutAnswer::Admitted {
-                n: 1,
-                time: u64::MAX,
-                evicted: 0,
-            },
-            56,
-        ),
-        (PutAnswer::TooBig { need: 9, arena: 8 }, 48),
-        (PutAnswer::Duplicate { n: 3 }, 40),
-        (PutAnswer::TimeEnd, 32),
-        (PutAnswer::Locked { held: 64 }, 40),
-        (PutAnswer::Denied, 32),
-    ] {
-        let reply = Message::PutReply(PutReply { xid: 9, answer });
-        goes_both_ways(&rt, rt.alloc(), &reply, 101, len)?;
-    }
-    Ok(())
-}
-
-// The content of a record, with the number at a place replaced, and cut to a length.
-fn changed(
-    alloc: Global,
-    words: &[u32],
-    place: usize,
-    word: u32,
-    len: usize,
-) -> Result<Vec<u8>, Fail> {
-    let mut bytes = Vec::new(alloc);
-    for (i, old) in words.iter().skip(1).enumerate() {
-        let now = if i == place / 4 { word } else { *old };
-        bytes.extend_from_slice(&now.to_be_bytes())?;
-    }
-    bytes.truncate(len);
-    Ok(bytes)
-}
-
-fn call_fails(
-    rt: &impl Abort,
-    alloc: Global,
-    words: &[u32],
-    rows: &[(usize, u32, usize, RelayFault)],
-) -> Result<(), Fail> {
-    for (place, word, len, fault) in rows {
-        let content = changed(alloc, words, *place, *word, *len)?;
-        let read = read_call(&content);
-        assert_eq!(rt; read.err(), Some(*fault), "{word} at {place} of {len}");
-    }
-    Ok(())
-}
-
-fn reply_fails(
-    rt: &impl Abort,
-    alloc: Global,
-    rows: &[(usize, u32, u32, RelayFault)],
-) -> Result<(), Fail> {
-    for (place, word, procedure, fault) in rows {
-        let content = changed(alloc, &FEEDME_REPLY, *place, *word, 28)?;
-        let read = read_reply(&content, *procedure);
-        assert_eq!(rt; read.err(), Some(*fault), "{word} at {place}");
-    }
-    Ok(())
-}
-
-// A number at a place, the length of the content, and the fault.
-const HEADERS: [(usize, u32, usize, RelayFault); 19] = [
-    (0, 1, 0, RelayFault::NotRpc { at: 0 }),
-    (0, 1, 3, RelayFault::NotRpc { at: 0 }),
-    (4, 1, 76, RelayFault::NotRpc { at: 4 }),
-    (4, 2, 76, RelayFault::NotRpc { at: 4 }),
-    (8, 3, 76, RelayFault::NotRpc { at: 8 }),
-    (
-        12,
-        1,
-        76,
-        RelayFault::WrongProgram {
-            program: 1,
-            version: 6,
-        },
-    ),
-    (
-        16,
-        5,
-        76,
-        RelayFault::WrongProgram {
-            program: 300_029,
-            version: 5,
-        },
-    ),
-    (16, 5, 39, RelayFault::NotRpc { at: 36 }),
-    (20, 0, 76, RelayFault::WrongProcedure { procedure: 0 }),
-    (20, 6, 76, RelayFault::WrongProcedure { procedure: 6 }),
-    (20, 7, 76, RelayFault::WrongProcedure { procedure: 7 }),
-    (20, 102, 40, RelayFault::WrongProcedure { procedure: 102 }),
-    (20, 102, 39, RelayFault::NotRpc { at: 36 }),
-    (24, 1, 76, RelayFault::NotRpc { at: 24 }),
-    (28, 401, 76, RelayFault::NotRpc { at: 28 }),
-    (28, 400, 76, RelayFault::NotRpc { at: 28 }),
-    (32, 6, 76, RelayFault::NotRpc { at: 32 }),
-    (36, 401, 76, RelayFault::NotRpc { at: 36 }),
-    (36, 0, 40, RelayFault::BadMessage { at: 40 }),
-];
-
-const CLASSES: [(usize, u32, usize, RelayFault); 9] = [
-    (44, 1_000_000, 76, RelayFault::BadMessage { at: 44 }),
-    (52, 1_000_000, 76, RelayFault::BadMessage { at: 52 }),
-    (56, 33, 76, RelayFault::BadMessage { at: 56 }),
-    (56, 0, 76, RelayFault::BadMessage { at: 64 }),
-    (64, 256, 76, RelayFault::BadMessage { at: 64 }),
-    (64, 9, 76, RelayFault::BadMessage { at: 64 }),
-    (68, 0x2e2a_0001, 76, RelayFault::BadMessage { at: 71 }),
-    (72, 0, 75, RelayFault::BadMessage { at: 72 }),
-    (72, 0, 72, RelayFault::BadMessage { at: 72 }),
-];
-
-const PRODUCTS: [(usize, u32, usize, RelayFault); 8] = [
-    (44, 1_000_000, 96, RelayFault::BadMessage { at: 44 }),
-    (64, 65, 96, RelayFault::BadMessage { at: 64 }),
-    (68, 0x6800_0100, 96, RelayFault::BadMessage { at: 70 }),
-    (84, 0, 96, RelayFault::BadMessage { at: 84 }),
-    (88, 0, 96, RelayFault::BadMessage { at: 92 }),
-    (88, 3, 96, RelayFault::BadMessage { at: 95 }),
-    (88, 5, 96, RelayFault::BadMessage { at: 92 }),
-    (92, 0, 95, RelayFault::BadMessage { at: 92 }),
-];
-
-const BLOCKS: [(usize, u32, usize, RelayFault); 5] = [
-    (40, 0, 55, RelayFault::BadMessage { at: 40 }),
-    (60, 16_385, 68, RelayFault::BadMessage { at: 60 }),
-    (60, 16_384, 68, RelayFault::BadMessage { at: 60 }),
-    (60, 0, 68, RelayFault::BadMessage { at: 64 }),
-    (64, 0x0102_0304, 68, RelayFault::BadMessage { at: 67 }),
-];
-
-// A number at a place, the procedure that was called, and the fault.
-const REPLIES: [(usize, u32, u32, RelayFault); 16] = [
-    (4, 0, 4, RelayFault::NotRpc { at: 4 }),
-    (8, 1, 4, RelayFault::NotRpc { at: 8 }),
-    (12, 1, 4, RelayFault::NotRpc { at: 12 }),
-    (16, 401, 4, RelayFault::NotRpc { at: 16 }),
-    (20, 1, 4, RelayFault::BadMessage { at: 20 }),
-    (20, 2, 4, RelayFault::BadMessage { at: 20 }),
-    (20, 3, 4, RelayFault::BadMessage { at: 20 }),
-    (20, 4, 4, RelayFault::BadMessage { at: 20 }),
-    (20, 5, 4, RelayFault::BadMessage { at: 20 }),
-    (20, 6, 4, RelayFault::NotRpc { at: 20 }),
-    (20, 3, 13, RelayFault::WrongProcedure { procedure: 13 }),
-    (20, 6, 13, RelayFault::NotRpc { at: 20 }),
-    (24, 5, 4, RelayFault::BadMessage { at: 24 }),
-    (24, 1, 4, RelayFault::BadMessage { at: 28 }),
-    (24, 2, 12, RelayFault::BadMessage { at: 24 }),
-    (24, 6, 101, RelayFault::BadMessage { at: 24 }),
-];
-
-#[test]
-fn faults(rt: HostRuntime) -> Result<(), Fail> {
-    call_fails(&rt, rt.alloc(), &FEEDME, &HEADERS)?;
-    call_fails(&rt, rt.alloc(), &FEEDME, &CLASSES)?;
-    call_fails(&rt, rt.alloc(), &HEREIS, &PRODUCTS)?;
-    call_fails(&rt, rt.alloc(), &BLKDATA, &BLOCKS)?;
-    reply_fails(&rt, rt.alloc(), &REPLIES)
-}
-
-#[test]
-fn surplus(rt: HostRuntime) -> Result<(), Fail> {
-    let mut record = bytes_of(rt.alloc(), &FEEDME)?;
-    record.extend_from_slice(&[0; 4])?;
-    let content = record.as_slice().get(4..).ok_or("no content")?;
-    assert_eq!(rt;
-        read_call(content).err(),
-        Some(RelayFault::BadMessage { at: 76 })
-    );
-    Ok(())
-}
-
-// A credential of so many bytes, none of them zero, its padding included.
-#[test]
-fn credentials(rt: HostRuntime) -> Result<(), Fail> {
-    for (len, padded, fault) in [
-        (399, 400, None),
-        (400, 400, None),
-        (401, 404, Some(RelayFault::NotRpc { at: 28 })),
-    ] {
-        let mut content = bytes_of(rt.alloc(), &[1, 0, 2, 300_029, 6, 14, 0, len])?;
-        content.resize(32 + padded, 7)?;
-        content.resize(40 + padded, 0)?;
-        assert_eq!(rt; read_call(&content).err(), fault, "{len}");
-    }
-    Ok(())
+fn made(rt: HostRuntime) -> Result<(), Fail> {
+    let record = bytes_of(rt.alloc(), HEREIS)?;
+    let (header, content) = record.as_slice().split_at_checked(4).ok_or("no header")?;
+    expect_written(&rt, rt.alloc(), &hereis_of(b"ABCD")?, header, content)
 }
