@@ -1,9 +1,9 @@
 -- Lemmas on the answers of a clock in memory.
-use Rattle.std.proofs.Common.{◌≡◌, ◌∙◌, ℕ, suc, ◌+◌, ◌-◌, ◌^◌, ◌<◌, ◌≤◌, ◌⊎◌, min, Bool, true, false, List, [], ◌∷◌, ◌++◌, nat_lt, if◌then◌else◌, Option, Some, None, inl, inr, refl, sym, ap, subst, arith}
+use Rattle.std.proofs.Common.{◌≡◌, suc, ◌+◌, ◌-◌, ◌^◌, ◌<◌, ◌≤◌, [], ◌∷◌, ◌++◌, None, inl, inr, arith}
 use Rattle.std.specs.Option.{option_map}
-use Rattle.std.proofs.lemmas.Bool.{cases_lt, lt-ltb, le-ltb}
-use Rattle.ldm_outside.specs.Clock.{ClockRecord, Answers}
-use Rattle.ldm_outside.specs.MemClock.{ClockState, nth_instant, first_answers, AnswersAsPlanned, told_by_clock}
+use Rattle.std.proofs.lemmas.Bool.{cases_lt, lt-ltb}
+use Rattle.ldm_outside.specs.Clock.{Answers}
+use Rattle.ldm_outside.specs.MemClock.{ClockState, nth_instant, told_by_clock}
 use Rattle.ldm_outside.specs.Memory.{raised}
 
 -- a clock that answered as planned, tells so

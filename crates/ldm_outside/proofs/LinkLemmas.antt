@@ -3,7 +3,7 @@ use Rattle.std.proofs.Common.{◌≡◌, ◌∙◌, ℕ, ◌+◌, List, [], ◌+
 use Rattle.std.specs.Option.{option_map}
 use Rattle.std.proofs.Math.Seq.{take-add}
 use Rattle.std.proofs.lemmas.List.{take-append-drop, append-nil}
-use Rattle.ldm_outside.specs.Link.{LinkBytes, LinkRecord, IsOpen, Sent, Failing, with_sent, after_sent}
+use Rattle.ldm_outside.specs.Link.{LinkBytes, LinkRecord, Sent, Failing, with_sent, after_sent}
 
 with_sent-append : (first second : List ℕ) (told : Option LinkBytes) → option_map (with_sent second) (option_map (with_sent first) told) ≡ option_map (with_sent (first ++ second)) told
 with_sent-append first second None = refl

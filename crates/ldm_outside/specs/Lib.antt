@@ -2,6 +2,7 @@ pub mod Count
 pub mod Io
 pub mod World
 pub mod Memory
+pub mod MemCalls
 pub mod Told
 pub mod Link
 pub mod LinkBack

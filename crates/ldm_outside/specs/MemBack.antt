@@ -1,5 +1,5 @@
 -- What the doors and dials in memory keep and count of a link that was given back.
-use Rattle.std.specs.Prelude.{ℕ, ◌==◌, if◌then◌else◌}
+use Rattle.std.specs.Prelude.{ℕ, ◌==◌, if◌then◌else◌, Bool, false, List, [], ◌∷◌, ◌++◌}
 use Rattle.ldm_outside.specs.LinkBack.{LinkBack}
 use Rattle.ldm_outside.specs.Memory.{raised}
 use Rattle.ldm_outside.specs.MemLink.{LinkState}
@@ -11,3 +11,25 @@ link_was s = record { sent = s.sent; given = s.given; ends = s.ends; faults = s.
 -- a count of links after one more, whose own count is this
 abbrev pub counted : ℕ → ℕ → ℕ
 counted of_link count = if of_link == 0 then count else raised count
+
+-- the links that were given back, and whether one is out
+pub record LendingState : Type 0 where
+  pub back : List LinkState
+  -- how many of them had ended
+  pub ended : ℕ
+  -- how many of them had failed
+  pub failed : ℕ
+  pub out : Bool
+
+-- no link is out, and none was
+abbrev pub nothing_lent : LendingState
+nothing_lent = record { back = []; ended = 0; failed = 0; out = false }
+
+-- the links after the one that was out was given back
+abbrev pub lending_after_back : LinkState → LendingState → LendingState
+lending_after_back link s = record {
+  back = s.back ++ link ∷ [];
+  ended = counted link.ends s.ended;
+  failed = counted link.faults s.failed;
+  out = false;
+}

@@ -1,5 +1,5 @@
 -- What contracts see of a clock in memory, and what one call of it does.
-use Rattle.std.specs.Prelude.{◌≡◌, ℕ, zero, suc, ◌-◌, ◌^◌, List, [], ◌∷◌, ◌++◌, length, min, slice_index, nat_lt, if◌then◌else◌, Option, Some, None}
+use Rattle.std.specs.Prelude.{◌≡◌, ℕ, zero, suc, ◌-◌, ◌^◌, List, [], ◌∷◌, ◌++◌, length, min, slice_index, nat_lt, if◌then◌else◌, Some, None}
 use Rattle.ldm_outside.specs.Clock.{ClockRecord}
 use Rattle.ldm_outside.specs.Memory.{raised}
 

@@ -1,5 +1,5 @@
 -- What contracts see of a dial in memory, and what one call of it does.
-use Rattle.std.specs.Prelude.{◌≡◌, ℕ, Bool, true, false, if◌then◌else◌, ◌⊎◌, List, [], ◌∷◌, ◌++◌, map, Option, Some, None}
+use Rattle.std.specs.Prelude.{◌≡◌, ℕ, Bool, true, false, if◌then◌else◌, ◌⊎◌, List, [], ◌∷◌, ◌++◌, map, Some, None}
 use Rattle.ldm_outside.specs.declared.dial.Dialled.{Dialled}
 use Rattle.ldm_outside.specs.declared.dial.Dialled.TheVariants.{Linked, Failed}
 use Rattle.ldm_outside.specs.declared.mem_dial.DialCall.{DialCall}

@@ -1,5 +1,5 @@
 -- What contracts see of a launcher in memory, and what one call of it does.
-use Rattle.std.specs.Prelude.{◌≡◌, ℕ, ◌⊎◌, Bool, true, false, List, [], ◌∷◌, ◌++◌, length, take, min, Some, Result, Ok, Err, slice_index_or, String}
+use Rattle.std.specs.Prelude.{◌≡◌, ℕ, Bool, true, false, List, [], ◌∷◌, ◌++◌, length, take, min, Some, Result, Ok, Err, slice_index_or, String}
 use Rattle.std.specs.declared.alloc.Global.{Global}
 use Rattle.ldm_outside.specs.declared.fault.Failed.{Failed}
 use Rattle.ldm_outside.specs.declared.io.Put.{Put}
@@ -30,11 +30,6 @@ status_of child s = slice_index_or s.statuses child.0 0
 -- the launcher after a call that failed
 abbrev pub launcher_failed : LauncherState → LauncherState
 launcher_failed old = record old { faults = raised old.faults; plan = after_call old.plan }
-
--- How a call begins: it is counted, and where its number is on the list of those that fail it fails.
-abbrev pub BeginsLaunch : Result (Unit {0}) Failed → LauncherState → LauncherState → Type 0
-BeginsLaunch (Ok done) old new = (next_fails old.plan ≡ false) × (new ≡ record old { plan = after_call old.plan })
-BeginsLaunch (Err failed) old new = (next_fails old.plan ≡ true) × (new ≡ launcher_failed old)
 
 -- What one call of `start` did. Without memory for what it keeps a call fails too.
 abbrev pub StartsChildAsPlanned : Result ChildNo Failed → List (String Global) → Bool → LauncherState → LauncherState → Type 0

@@ -1,12 +1,12 @@
 -- What contracts see of a net in memory, and what one call of it does.
-use Rattle.std.specs.Prelude.{◌≡◌, ℕ, ◌<◌, ◌≤◌, true, false, ◌⊎◌, List, [], length, take, drop, map, Option, Some, None}
+use Rattle.std.specs.Prelude.{◌≡◌, ◌<◌, ◌≤◌, true, false, ◌⊎◌, List, [], length, take, drop, map, Option, Some, None}
 use Rattle.ldm_outside.specs.declared.net.Manned.{Manned}
 use Rattle.ldm_outside.specs.declared.net.Manned.TheVariants.{Stations, Failed, OutOfMemory}
 use Rattle.ldm_outside.specs.declared.net.Station.{Station}
 use Rattle.ldm_outside.specs.declared.mem_net.StationScript.{StationScript}
 use Rattle.ldm_outside.specs.declared.mem_net.StationsCall.{StationsCall}
 use Rattle.ldm_outside.specs.Station.{StationRecord, station_tells}
-use Rattle.ldm_outside.specs.Memory.{SinkState, raised, next_fails, after_call, first_plan, told_by_sink}
+use Rattle.ldm_outside.specs.Memory.{SinkState, next_fails, after_call, first_plan, told_by_sink}
 use Rattle.ldm_outside.specs.MemDoor.{DoorState, first_door, told_by_door}
 use Rattle.ldm_outside.specs.MemDial.{DialState, first_dial, told_by_dial, after_failure}
 use Rattle.ldm_outside.specs.MemClock.{ClockState, told_by_clock}

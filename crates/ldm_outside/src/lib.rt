@@ -6,6 +6,7 @@
 //! in memory know. Lemmas on these records stand in the proof module `CallerLemmas`.
 #![tactic(auto)]
 
+mod calls;
 mod clock;
 mod dial;
 mod door;
@@ -26,7 +27,6 @@ mod mem_store;
 mod memory;
 mod net;
 mod open_gate;
-mod plan;
 mod store;
 mod sure;
 mod world;

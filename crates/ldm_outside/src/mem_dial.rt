@@ -1,12 +1,12 @@
 //! Dials in memory, which connect the links of a list.
-ghost use Rattle.std.specs.Prelude.{◌≡◌, true, false, ◌<◌, [], ◌∷◌, ◌++◌, map, OnOk, OnErr, MatchOption, IfSome, vec_len, vec_capacity};
+ghost use Rattle.std.specs.Prelude.{◌≡◌, true, false, [], ◌∷◌, ◌++◌, map, OnOk, OnErr};
 ghost use Rattle.ldm_outside.specs.MemDial.{asked_by};
 
+use crate::calls::Calls;
 use crate::dial::{Dial, Dialled};
 use crate::link::Link;
-use crate::mem_back::raised_where;
+use crate::mem_back::Lending;
 use crate::mem_link::{LinkScript, MemLink};
-use crate::plan::CallPlan;
 use std::alloc::{AllocError, Global};
 use std::collections::VecDeque;
 use std::marker::Model;
@@ -29,16 +29,12 @@ pub struct MemDial {
     scripts: VecDeque<LinkScript>,
     asked: Vec<DialCall>,
     lost: bool,
-    back: Vec<MemLink>,
-    out: bool,
-    plan: CallPlan,
-    faults: u64,
-    ended: u64,
-    failed: u64,
+    lending: Lending,
+    calls: Calls,
 }
 
 impl Model for MemDial {
-    ghost use Rattle.std.specs.Prelude.{◌≡◌, true, ◌<◌, map, vec_len, vec_capacity};
+    ghost use Rattle.std.specs.Prelude.{map};
     ghost use Rattle.ldm_outside.specs.MemDial.{DialState, asked_by};
 
     ghost Value = { DialState };
@@ -47,16 +43,13 @@ impl Model for MemDial {
       scripts = s.scripts.items;
       asked = map asked_by s.asked.items;
       lost = s.lost;
-      back = s.back.items;
-      faults = s.faults;
-      ended = s.ended;
-      failed = s.failed;
-      out = s.out;
-      plan = s.plan;
+      back = s.lending.back;
+      faults = s.calls.faults;
+      ended = s.lending.ended;
+      failed = s.lending.failed;
+      out = s.lending.out;
+      plan = s.calls.plan;
     } };
-
-    // There is room for the link that is out.
-    ghost invariant = { λ s. s.out ≡ true → vec_len s.back < vec_capacity s.back };
 }
 
 impl MemDial {
@@ -73,12 +66,8 @@ impl MemDial {
             scripts: VecDeque::from(scripts),
             asked: Vec::new(alloc),
             lost: false,
-            back: Vec::new(alloc),
-            out: false,
-            plan: CallPlan::new(failing),
-            faults: 0,
-            ended: 0,
-            failed: 0,
+            lending: Lending::new(alloc),
+            calls: Calls::new(failing),
         }
     }
 
@@ -87,7 +76,7 @@ impl MemDial {
         ensures planned { result ≡ next_fails self.old.plan }
         ensures counted { self.new ≡ record self.old { plan = after_call self.old.plan } }
     {
-        self.plan.next()
+        self.calls.next()
     }
 
     /// Counts a fault.
@@ -95,7 +84,7 @@ impl MemDial {
         ensures counted { self.new ≡ record self.old { faults = raised self.old.faults } }
         ensures rose { Rose self.old.faults self.new.faults }
     {
-        self.faults = self.faults.saturating_add(1);
+        self.calls.fail();
     }
 
     /// Whom it was asked for, in order. One that it had no memory to keep is not there.
@@ -109,28 +98,28 @@ impl MemDial {
     pub fn back(&self) -> &[MemLink]
         ensures { result.now ≡ self.now.back }
     {
-        self.back.as_slice()
+        self.lending.back()
     }
 
     /// How often it failed.
     pub fn faults(&self) -> u64
         ensures { result ≡ self.now.faults }
     {
-        self.faults
+        self.calls.faults()
     }
 
     /// How many links were given back that had ended.
     pub fn ended(&self) -> u64
         ensures { result ≡ self.now.ended }
     {
-        self.ended
+        self.lending.ended()
     }
 
     /// How many links were given back that had failed.
     pub fn failed(&self) -> u64
         ensures { result ≡ self.now.failed }
     {
-        self.failed
+        self.lending.failed()
     }
 }
 
@@ -148,23 +137,20 @@ impl Dial for MemDial {
         ensures dialled { ConnectGives told_by_link result (record { host = host.now; port = port }) (told_by_dial self.old) (told_by_dial self.new) }
         ensures planned { ConnectsAsPlanned result (record { host = host.now; port = port }) self.old self.new }
     {
-        let fails = self.plan.next();
+        let fails = self.calls.next();
         if keep_asked(&mut self.asked, host, port).is_err() {
             self.lost = true;
-            self.faults = self.faults.saturating_add(1);
+            self.calls.fail();
             return Dialled::Failed;
         }
-        if fails || self.back.reserve(1).is_err() {
-            self.faults = self.faults.saturating_add(1);
+        if fails {
+            self.calls.fail();
             return Dialled::Failed;
         }
-        match self.scripts.pop_front() {
-            Some(script) => {
-                self.out = true;
-                Dialled::Linked(MemLink::new(*self.back.allocator(), script))
-            }
+        match self.lending.lend_next(&mut self.scripts) {
+            Some(script) => Dialled::Linked(MemLink::new(*self.asked.allocator(), script)),
             None => {
-                self.faults = self.faults.saturating_add(1);
+                self.calls.fail();
                 Dialled::Failed
             }
         }
@@ -175,10 +161,7 @@ impl Dial for MemDial {
         ensures given_back { DialTakesBack (told_by_link link) (told_by_dial self.old) (told_by_dial self.new) }
         ensures planned { self.new ≡ after_back link self.old }
     {
-        self.ended = raised_where(link.ends(), self.ended);
-        self.failed = raised_where(link.faults(), self.failed);
-        self.back.push_reserved(link);
-        self.out = false;
+        self.lending.take_back(link);
     }
 }
 

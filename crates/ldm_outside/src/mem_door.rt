@@ -1,12 +1,11 @@
 //! Doors in memory, which let in the peers of a list.
-ghost use Rattle.std.specs.Prelude.{◌≡◌, true, false, ◌<◌, [], ◌∷◌, ◌++◌, map, MatchOption, IfSome, vec_len, vec_capacity};
-ghost use Rattle.std.specs.VecDeque.{deque_len};
+ghost use Rattle.std.specs.Prelude.{◌≡◌, true, false, [], ◌∷◌, ◌++◌, map, MatchOption};
 
+use crate::calls::Calls;
 use crate::door::{Came, Door, LONGEST_HOST};
 use crate::link::Link;
-use crate::mem_back::raised_where;
+use crate::mem_back::Lending;
 use crate::mem_link::{LinkScript, MemLink};
-use crate::plan::CallPlan;
 use arrayvec::ArrayVec;
 use std::alloc::Global;
 use std::collections::VecDeque;
@@ -29,18 +28,14 @@ pub struct MemPeer {
 pub struct MemDoor {
     waiting: VecDeque<MemPeer>,
     hosts: Vec<Vec<u8>>,
-    back: Vec<MemLink>,
-    out: bool,
-    plan: CallPlan,
-    faults: u64,
+    lending: Lending,
+    calls: Calls,
     peers: u64,
     closings: u64,
-    ended: u64,
-    failed: u64,
 }
 
 impl Model for MemDoor {
-    ghost use Rattle.std.specs.Prelude.{◌≡◌, true, ◌<◌, map, vec_len, vec_capacity};
+    ghost use Rattle.std.specs.Prelude.{map};
     ghost use Rattle.ldm_outside.specs.MemDoor.{DoorState};
 
     ghost Value = { DoorState };
@@ -48,18 +43,15 @@ impl Model for MemDoor {
     ghost view = { λ s. record {
       waiting = s.waiting.items;
       hosts = map (λ host. host.items) s.hosts.items;
-      back = s.back.items;
-      faults = s.faults;
+      back = s.lending.back;
+      faults = s.calls.faults;
       peers = s.peers;
       closings = s.closings;
-      ended = s.ended;
-      failed = s.failed;
-      out = s.out;
-      plan = s.plan;
+      ended = s.lending.ended;
+      failed = s.lending.failed;
+      out = s.lending.out;
+      plan = s.calls.plan;
     } };
-
-    // There is room for the link that is out.
-    ghost invariant = { λ s. s.out ≡ true → vec_len s.back < vec_capacity s.back };
 }
 
 impl MemDoor {
@@ -73,14 +65,10 @@ impl MemDoor {
         MemDoor {
             waiting: VecDeque::from(peers),
             hosts: Vec::new(alloc),
-            back: Vec::new(alloc),
-            out: false,
-            plan: CallPlan::new(failing),
-            faults: 0,
+            lending: Lending::new(alloc),
+            calls: Calls::new(failing),
             peers: 0,
             closings: 0,
-            ended: 0,
-            failed: 0,
         }
     }
 
@@ -95,14 +83,14 @@ impl MemDoor {
     pub fn back(&self) -> &[MemLink]
         ensures { result.now ≡ self.now.back }
     {
-        self.back.as_slice()
+        self.lending.back()
     }
 
     /// How often it failed.
     pub fn faults(&self) -> u64
         ensures { result ≡ self.now.faults }
     {
-        self.faults
+        self.calls.faults()
     }
 
     /// How many peers came.
@@ -123,14 +111,14 @@ impl MemDoor {
     pub fn ended(&self) -> u64
         ensures { result ≡ self.now.ended }
     {
-        self.ended
+        self.lending.ended()
     }
 
     /// How many links were given back that had failed.
     pub fn failed(&self) -> u64
         ensures { result ≡ self.now.failed }
     {
-        self.failed
+        self.lending.failed()
     }
 }
 
@@ -148,24 +136,22 @@ impl Door for MemDoor {
         ensures came { AcceptGives told_by_link result (told_by_door self.old) (told_by_door self.new) }
         ensures planned { AcceptsAsPlanned result self.old self.new }
     {
-        if self.plan.next() {
-            self.faults = self.faults.saturating_add(1);
+        if self.calls.begin().is_err() {
             return Came::Failed;
         }
         if self.waiting.is_empty() {
             self.closings = self.closings.saturating_add(1);
             return Came::Closed;
         }
-        match next_peer(&mut self.waiting, &mut self.hosts, &mut self.back) {
+        match next_peer(&mut self.waiting, &mut self.hosts, &mut self.lending) {
             Some(peer) => {
                 let MemPeer { host, script } = peer;
                 self.peers = self.peers.saturating_add(1);
-                self.out = true;
-                let link = MemLink::new(*self.back.allocator(), script);
+                let link = MemLink::new(*self.hosts.allocator(), script);
                 Came::Peer { host, link }
             }
             None => {
-                self.faults = self.faults.saturating_add(1);
+                self.calls.fail();
                 Came::Failed
             }
         }
@@ -176,33 +162,29 @@ impl Door for MemDoor {
         ensures given_back { DoorTakesBack (told_by_link link) (told_by_door self.old) (told_by_door self.new) }
         ensures planned { self.new ≡ after_back link self.old }
     {
-        self.ended = raised_where(link.ends(), self.ended);
-        self.failed = raised_where(link.faults(), self.failed);
-        self.back.push_reserved(link);
-        self.out = false;
+        self.lending.take_back(link);
     }
 }
 
-// Takes the next peer and keeps its host, and makes room for its link. Without memory everything stays as it was.
+// Takes the next peer, whose link is out from now on, and keeps its host. Without memory everything stays as it was.
 fn next_peer(
     waiting: &mut VecDeque<MemPeer>,
     hosts: &mut Vec<Vec<u8>>,
-    back: &mut Vec<MemLink>,
+    lending: &mut Lending,
 ) -> Option<MemPeer>
+    requires { lending.old.out ≡ false }
     ensures peer { MatchOption result (waiting.new.items ≡ waiting.old.items) (λ peer. waiting.old.items ≡ peer ∷ waiting.new.items) }
     ensures host { MatchOption result (hosts.new.items ≡ hosts.old.items) (λ peer. map (λ h. h.items) hosts.new.items ≡ map (λ h. h.items) hosts.old.items ++ peer.host.items ∷ []) }
-    ensures links { back.new.items ≡ back.old.items }
-    ensures room { IfSome result (λ _. vec_len back.new < vec_capacity back.new) }
+    ensures out { MatchOption result (lending.new ≡ lending.old) (λ _. lending.new ≡ record lending.old { out = true }) }
 {
-    if back.reserve(1).is_err() || hosts.reserve(1).is_err() {
-        return None;
-    }
+    hosts.reserve(1).ok()?;
     let host = waiting
         .front()?
         .host
         .as_slice()
         .to_vec(*hosts.allocator())
         .ok()?;
+    let peer = lending.lend_next(waiting)?;
     hosts.push_reserved(host);
-    waiting.pop_front()
+    Some(peer)
 }

@@ -1,8 +1,9 @@
 //! Gates in memory, which stop at chosen calls.
 ghost use Rattle.std.specs.Prelude.{◌≡◌, ◌≤◌};
 
+use crate::calls::Calls;
+use crate::fault::Failed;
 use crate::gate::{Gate, Go};
-use crate::plan::CallPlan;
 use ldm_types::Actor;
 use std::alloc::Global;
 use std::marker::Model;
@@ -24,8 +25,8 @@ pub struct GateCall {
 pub struct MemGate {
     passed: Vec<GateCall>,
     afters: u64,
-    plan: CallPlan,
-    stops: u64,
+    // A call that fails stops.
+    calls: Calls,
 }
 
 impl Model for MemGate {
@@ -36,8 +37,8 @@ impl Model for MemGate {
     ghost view = { λ s. record {
       passed = s.passed.items;
       afters = s.afters;
-      stops = s.stops;
-      plan = s.plan;
+      stops = s.calls.faults;
+      plan = s.calls.plan;
     } };
 }
 
@@ -51,8 +52,7 @@ impl MemGate {
         MemGate {
             passed: Vec::new(alloc),
             afters: 0,
-            plan: CallPlan::new(stopping),
-            stops: 0,
+            calls: Calls::new(stopping),
         }
     }
 
@@ -74,7 +74,7 @@ impl MemGate {
     pub fn stops(&self) -> u64
         ensures { result ≡ self.now.stops }
     {
-        self.stops
+        self.calls.faults()
     }
 }
 
@@ -90,8 +90,11 @@ impl Gate for MemGate {
         ensures stops_kept { self.old.stops ≤ self.new.stops }
         ensures planned { PassesAsPlanned result (record { actor = actor; i = i }) self.old self.new }
     {
-        if self.plan.next() || self.passed.push(GateCall { actor, i }).is_err() {
-            self.stops = self.stops.saturating_add(1);
+        if self.calls.begin().is_err() {
+            return Go::Stop;
+        }
+        if self.passed.push(GateCall { actor, i }).is_err() {
+            self.calls.fail();
             return Go::Stop;
         }
         Go::On
@@ -108,10 +111,9 @@ impl Gate for MemGate {
         ensures stops_kept { self.old.stops ≤ self.new.stops }
         ensures planned { IdlesAsPlanned result self.old self.new }
     {
-        if self.plan.next() {
-            self.stops = self.stops.saturating_add(1);
-            return Go::Stop;
+        match self.calls.begin() {
+            Ok(()) => Go::On,
+            Err(Failed) => Go::Stop,
         }
-        Go::On
     }
 }

@@ -1,12 +1,12 @@
 //! A launcher in memory, which starts no program and fails at chosen calls.
 ghost use Rattle.std.specs.Prelude.{◌≡◌, ◌≤◌, ◌<◌, ◌++◌, ◌∷◌, [], map, length, string_bytes, is_ok, IfOk, OnOk, OnErr, if◌then◌else◌};
-ghost use Rattle.ldm_outside.specs.Memory.{first_plan, with_most, raised};
+ghost use Rattle.ldm_outside.specs.Memory.{first_plan, with_most};
 ghost use Rattle.ldm_outside.specs.Launcher.{spelled, new_child};
 
+use crate::calls::Calls;
 use crate::fault::Failed;
 use crate::io::Put;
 use crate::launcher::{ChildNo, Launcher};
-use crate::plan::CallPlan;
 use std::alloc::{AllocError, Global};
 use std::marker::Model;
 
@@ -147,8 +147,7 @@ pub struct MemLauncher {
     children: Vec<MemChild>,
     inputs: Vec<MemInput>,
     statuses: Vec<u32>,
-    plan: CallPlan,
-    faults: u64,
+    calls: Calls,
 }
 
 impl Model for MemLauncher {
@@ -158,20 +157,17 @@ impl Model for MemLauncher {
     ghost Value = { LauncherState };
 
     ghost view = { λ s. record {
-      faults = s.faults;
+      faults = s.calls.faults;
       children = s.children.items;
       inputs = s.inputs.items;
       statuses = s.statuses.items;
-      plan = s.plan;
+      plan = s.calls.plan;
     } };
 
     ghost invariant = { λ s. length s.inputs.items ≡ length s.children.items };
 }
 
 impl MemLauncher {
-    ghost use Rattle.ldm_outside.specs.Count.{Rose};
-    ghost use Rattle.ldm_outside.specs.MemLauncher.{BeginsLaunch};
-
     /// A launcher whose child of number i ends with the i-th of these statuses, or with 0 behind the last, and whose calls
     /// of the given numbers fail. The numbers are in any order.
     pub fn new(alloc: Global, statuses: Vec<u32>, failing: Vec<u64>) -> MemLauncher
@@ -181,8 +177,7 @@ impl MemLauncher {
             children: Vec::new(alloc),
             inputs: Vec::new(alloc),
             statuses,
-            plan: CallPlan::new(failing),
-            faults: 0,
+            calls: Calls::new(failing),
         }
     }
 
@@ -190,7 +185,7 @@ impl MemLauncher {
     pub fn limit_pieces(&mut self, most: usize)
         ensures { self.new ≡ record self.old { plan = with_most most self.old.plan } }
     {
-        self.plan.limit_pieces(most);
+        self.calls.limit_pieces(most);
     }
 
     /// What each child was given, in the order in which they were started.
@@ -204,28 +199,7 @@ impl MemLauncher {
     pub fn faults(&self) -> u64
         ensures { result ≡ self.now.faults }
     {
-        self.faults
-    }
-
-    fn fail(&mut self) -> Failed
-        ensures counted { self.new ≡ record self.old { faults = raised self.old.faults } }
-        ensures rose { Rose self.old.faults self.new.faults }
-        ensures faults_kept { self.old.faults ≤ self.new.faults }
-    {
-        self.faults = self.faults.saturating_add(1);
-        Failed
-    }
-
-    // Counts a call, and the fault where it is to fail.
-    fn begin(&mut self) -> Result<(), Failed>
-        ensures begun { BeginsLaunch result self.old self.new }
-        ensures rose { OnErr result (Rose self.old.faults self.new.faults) }
-        ensures faults_kept { self.old.faults ≤ self.new.faults }
-    {
-        if self.plan.next() {
-            return Err(self.fail());
-        }
-        Ok(())
+        self.calls.faults()
     }
 }
 
@@ -241,11 +215,11 @@ impl Launcher for MemLauncher {
         ensures faults_kept { self.old.faults ≤ self.new.faults }
         ensures planned { StartsChildAsPlanned result words.now piped self.old self.new }
     {
-        self.begin()?;
+        self.calls.begin()?;
         let at = self.children.len();
         match launch(&mut self.children, &mut self.inputs, words, piped) {
             Ok(()) => Ok(ChildNo(at)),
-            Err(_) => Err(self.fail()),
+            Err(_) => Err(self.calls.fail()),
         }
     }
 
@@ -256,13 +230,13 @@ impl Launcher for MemLauncher {
         ensures children_kept { self.new.children ≡ self.old.children }
         ensures planned { FeedsChildAsPlanned result child piece.now self.old self.new }
     {
-        if self.begin().is_err() {
+        if self.calls.begin().is_err() {
             return Put::Failed;
         }
-        let n = piece.len().min(self.plan.most());
+        let n = piece.len().min(self.calls.most());
         let it = &self.children[child.0];
         if !it.is_piped() || self.inputs[child.0].append(&piece[..n]).is_err() {
-            self.fail();
+            self.calls.fail();
             return Put::Failed;
         }
         Put::Took(n)
@@ -274,7 +248,7 @@ impl Launcher for MemLauncher {
         ensures faults_kept { self.old.faults ≤ self.new.faults }
         ensures planned { ShutsInputAsPlanned result child self.old self.new }
     {
-        self.begin()?;
+        self.calls.begin()?;
         let it = &mut self.children[child.0];
         it.shut();
         Ok(())
@@ -286,7 +260,7 @@ impl Launcher for MemLauncher {
         ensures faults_kept { self.old.faults ≤ self.new.faults }
         ensures planned { WaitsAsPlanned result child self.old self.new }
     {
-        self.begin()?;
+        self.calls.begin()?;
         let it = &mut self.children[child.0];
         it.wait();
         Ok(self.statuses.get(child.0).copied().unwrap_or(0))

@@ -2,10 +2,10 @@
 ghost use Rattle.std.specs.Prelude.{◌≡◌, true, ◌<◌, ◌≤◌, length, drop};
 ghost use Rattle.ldm_outside.specs.MemLink.{next_piece};
 
+use crate::calls::Calls;
 use crate::io::{Got, Put};
 use crate::link::Link;
 use crate::memory::copy_front;
-use crate::plan::CallPlan;
 use std::alloc::Global;
 use std::collections::VecDeque;
 use std::marker::Model;
@@ -36,8 +36,7 @@ pub struct MemLink {
     pieces: VecDeque<usize>,
     has_end: bool,
     sent: Vec<u8>,
-    plan: CallPlan,
-    faults: u64,
+    calls: Calls,
     ends: u64,
     closed: bool,
 }
@@ -55,9 +54,9 @@ impl Model for MemLink {
       pieces = s.pieces.items;
       has_end = s.has_end;
       ends = s.ends;
-      faults = s.faults;
+      faults = s.calls.faults;
       closed = s.closed;
-      plan = s.plan;
+      plan = s.calls.plan;
     } };
 
     ghost invariant = { λ s. s.at ≤ length s.bytes.items };
@@ -77,16 +76,15 @@ impl MemLink {
             most_sent,
             failing,
         } = script;
-        let mut plan = CallPlan::new(failing);
-        plan.limit_pieces(most_sent);
+        let mut calls = Calls::new(failing);
+        calls.limit_pieces(most_sent);
         MemLink {
             bytes,
             at: 0,
             pieces: VecDeque::from(pieces),
             has_end,
             sent: Vec::new(alloc),
-            plan,
-            faults: 0,
+            calls,
             ends: 0,
             closed: false,
         }
@@ -110,7 +108,7 @@ impl MemLink {
     pub fn faults(&self) -> u64
         ensures { result ≡ self.now.faults }
     {
-        self.faults
+        self.calls.faults()
     }
 
     /// How often it answered that it is at its end.
@@ -145,8 +143,7 @@ impl Link for MemLink {
         ensures planned { RecvsAsPlanned result (length into.old) self.old self.new }
         ensures rest { drop (moved result) into.new ≡ drop (moved result) into.old }
     {
-        if self.plan.next() {
-            self.faults = self.faults.saturating_add(1);
+        if self.calls.begin().is_err() {
             return Got::Failed;
         }
         if self.at == self.bytes.len() {
@@ -154,7 +151,7 @@ impl Link for MemLink {
                 self.ends = self.ends.saturating_add(1);
                 return Got::End;
             }
-            self.faults = self.faults.saturating_add(1);
+            self.calls.fail();
             return Got::Failed;
         }
         let most = take_piece(&mut self.pieces);
@@ -170,10 +167,12 @@ impl Link for MemLink {
         ensures still_open { IsOpen (told_by_link self.new) }
         ensures planned { SendsAsPlanned result piece.now self.old self.new }
     {
-        let fails = self.plan.next();
-        let n = piece.len().min(self.plan.most());
-        if fails || self.sent.extend_from_slice(&piece[..n]).is_err() {
-            self.faults = self.faults.saturating_add(1);
+        if self.calls.begin().is_err() {
+            return Put::Failed;
+        }
+        let n = piece.len().min(self.calls.most());
+        if self.sent.extend_from_slice(&piece[..n]).is_err() {
+            self.calls.fail();
             return Put::Failed;
         }
         Put::Took(n)

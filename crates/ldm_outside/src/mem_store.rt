@@ -1,12 +1,12 @@
 //! A store in memory, which fails at chosen calls.
 ghost use Rattle.std.specs.Prelude.{◌≡◌, ◌≤◌, ◌++◌, ◌∷◌, [], false, Some, bytes_eq, length, option_map, OnOk, OnErr, is_ok, if◌then◌else◌};
-ghost use Rattle.ldm_outside.specs.Memory.{first_plan, with_most, raised};
+ghost use Rattle.ldm_outside.specs.Memory.{first_plan, with_most};
 ghost use Rattle.ldm_outside.specs.Store.{with_made, with_changed};
 ghost use Rattle.ldm_outside.specs.MemStore.{place_under, ReadsFiles};
 
+use crate::calls::Calls;
 use crate::fault::Failed;
 use crate::io::Put;
-use crate::plan::CallPlan;
 use crate::store::{FileNo, FileRead, Store};
 use std::alloc::{AllocError, Global};
 use std::marker::Model;
@@ -201,8 +201,7 @@ fn read(alloc: Global, files: &[MemFile], path: &str, limit: u64) -> FileRead
 pub struct MemStore {
     files: Vec<MemFile>,
     opened: Vec<MemOpened>,
-    plan: CallPlan,
-    faults: u64,
+    calls: Calls,
     long: u64,
 }
 
@@ -212,18 +211,15 @@ impl Model for MemStore {
     ghost Value = { StoreState };
 
     ghost view = { λ s. record {
-      faults = s.faults;
+      faults = s.calls.faults;
       long = s.long;
       opened = s.opened.items;
       files = s.files.items;
-      plan = s.plan;
+      plan = s.calls.plan;
     } };
 }
 
 impl MemStore {
-    ghost use Rattle.ldm_outside.specs.Count.{Rose};
-    ghost use Rattle.ldm_outside.specs.MemStore.{BeginsCall};
-
     /// A store of these files, whose calls of the given numbers fail. The numbers are in any order.
     pub fn new(alloc: Global, files: Vec<MemFile>, failing: Vec<u64>) -> MemStore
         ensures { result ≡ record { faults = 0; long = 0; opened = []; files = files.items; plan = first_plan failing.items } }
@@ -231,8 +227,7 @@ impl MemStore {
         MemStore {
             files,
             opened: Vec::new(alloc),
-            plan: CallPlan::new(failing),
-            faults: 0,
+            calls: Calls::new(failing),
             long: 0,
         }
     }
@@ -241,7 +236,7 @@ impl MemStore {
     pub fn limit_pieces(&mut self, most: usize)
         ensures { self.new ≡ record self.old { plan = with_most most self.old.plan } }
     {
-        self.plan.limit_pieces(most);
+        self.calls.limit_pieces(most);
     }
 
     /// All files, in the order in which they were made.
@@ -255,7 +250,7 @@ impl MemStore {
     pub fn faults(&self) -> u64
         ensures { result ≡ self.now.faults }
     {
-        self.faults
+        self.calls.faults()
     }
 
     /// How often a file was too long to be read.
@@ -263,27 +258,6 @@ impl MemStore {
         ensures { result ≡ self.now.long }
     {
         self.long
-    }
-
-    fn fail(&mut self) -> Failed
-        ensures counted { self.new ≡ record self.old { faults = raised self.old.faults } }
-        ensures rose { Rose self.old.faults self.new.faults }
-        ensures faults_kept { self.old.faults ≤ self.new.faults }
-    {
-        self.faults = self.faults.saturating_add(1);
-        Failed
-    }
-
-    // Counts a call, and the fault where it is to fail.
-    fn begin(&mut self) -> Result<(), Failed>
-        ensures begun { BeginsCall result self.old self.new }
-        ensures rose { OnErr result (Rose self.old.faults self.new.faults) }
-        ensures faults_kept { self.old.faults ≤ self.new.faults }
-    {
-        if self.plan.next() {
-            return Err(self.fail());
-        }
-        Ok(())
     }
 }
 
@@ -300,13 +274,15 @@ impl Store for MemStore {
         ensures opened_kept { self.new.opened ≡ self.old.opened }
         ensures planned { ReadsFileAsPlanned result path.now limit self.old self.new }
     {
-        if self.begin().is_err() {
+        if self.calls.begin().is_err() {
             return FileRead::Failed;
         }
         let answer = read(alloc, &self.files, path, limit);
         match answer {
             FileRead::TooLong => self.long = self.long.saturating_add(1),
-            FileRead::Failed => self.faults = self.faults.saturating_add(1),
+            FileRead::Failed => {
+                self.calls.fail();
+            }
             FileRead::Bytes(_) | FileRead::OutOfMemory => {}
         }
         answer
@@ -317,11 +293,11 @@ impl Store for MemStore {
         ensures faults_kept { self.old.faults ≤ self.new.faults }
         ensures planned { OpensFileAsPlanned result path.now self.old self.new }
     {
-        self.begin()?;
+        self.calls.begin()?;
         let at = self.opened.len();
         match open(&mut self.opened, &mut self.files, path) {
             Ok(()) => Ok(FileNo(at)),
-            Err(_) => Err(self.fail()),
+            Err(_) => Err(self.calls.fail()),
         }
     }
 
@@ -332,7 +308,7 @@ impl Store for MemStore {
         ensures opened_kept { self.new.opened ≡ self.old.opened }
         ensures planned { EmptiesFileAsPlanned result file self.old self.new }
     {
-        self.begin()?;
+        self.calls.begin()?;
         let opened = &self.opened[file.0];
         empty(&mut self.files, opened.path());
         Ok(())
@@ -345,13 +321,13 @@ impl Store for MemStore {
         ensures opened_kept { self.new.opened ≡ self.old.opened }
         ensures planned { WritesFileAsPlanned result file piece.now self.old self.new }
     {
-        if self.begin().is_err() {
+        if self.calls.begin().is_err() {
             return Put::Failed;
         }
-        let n = piece.len().min(self.plan.most());
+        let n = piece.len().min(self.calls.most());
         let opened = &self.opened[file.0];
         if append(&mut self.files, opened.path(), &piece[..n]).is_err() {
-            self.fail();
+            self.calls.fail();
             return Put::Failed;
         }
         Put::Took(n)
@@ -364,7 +340,7 @@ impl Store for MemStore {
         ensures opened_kept { self.new.opened ≡ self.old.opened }
         ensures planned { BeginsCall result self.old self.new }
     {
-        self.begin()
+        self.calls.begin()
     }
 
     fn shut(&mut self, file: FileNo) -> Result<(), Failed>
@@ -373,7 +349,7 @@ impl Store for MemStore {
         ensures faults_kept { self.old.faults ≤ self.new.faults }
         ensures planned { ShutsFileAsPlanned result file self.old self.new }
     {
-        self.begin()?;
+        self.calls.begin()?;
         let opened = &mut self.opened[file.0];
         opened.shut();
         Ok(())

@@ -2,8 +2,8 @@
 ghost use Rattle.std.specs.Prelude.{◌≡◌, ◌<◌, ◌≤◌, [], length, take, drop, min};
 ghost use Rattle.ldm_outside.specs.Memory.{first_plan, with_most};
 
+use crate::calls::Calls;
 use crate::io::{Got, Put, Sink, Source};
-use crate::plan::CallPlan;
 use std::alloc::Global;
 use std::marker::Model;
 
@@ -15,8 +15,7 @@ use std::marker::Model;
 pub struct MemSource {
     bytes: Vec<u8>,
     at: usize,
-    plan: CallPlan,
-    faults: u64,
+    calls: Calls,
     ends: u64,
 }
 
@@ -28,9 +27,9 @@ impl Model for MemSource {
 
     ghost view = { λ s. record {
       left = drop s.at s.bytes.items;
-      faults = s.faults;
+      faults = s.calls.faults;
       ends = s.ends;
-      plan = s.plan;
+      plan = s.calls.plan;
     } };
 
     ghost invariant = { λ s. s.at ≤ length s.bytes.items };
@@ -44,8 +43,7 @@ impl MemSource {
         MemSource {
             bytes,
             at: 0,
-            plan: CallPlan::new(failing),
-            faults: 0,
+            calls: Calls::new(failing),
             ends: 0,
         }
     }
@@ -54,14 +52,14 @@ impl MemSource {
     pub fn limit_pieces(&mut self, most: usize)
         ensures { self.new ≡ record self.old { plan = with_most most self.old.plan } }
     {
-        self.plan.limit_pieces(most);
+        self.calls.limit_pieces(most);
     }
 
     /// How often it failed.
     pub fn faults(&self) -> u64
         ensures { result ≡ self.now.faults }
     {
-        self.faults
+        self.calls.faults()
     }
 
     /// How often it answered that it is at its end.
@@ -85,11 +83,10 @@ impl Source for MemSource {
         ensures planned { ReadsAsPlanned result (length into.old) self.old self.new }
         ensures rest { drop (moved result) into.new ≡ drop (moved result) into.old }
     {
-        if self.plan.next() {
-            self.faults = self.faults.saturating_add(1);
+        if self.calls.begin().is_err() {
             return Got::Failed;
         }
-        let n = copy_front(&self.bytes[self.at..], self.plan.most(), into);
+        let n = copy_front(&self.bytes[self.at..], self.calls.most(), into);
         if n == 0 {
             self.ends = self.ends.saturating_add(1);
             return Got::End;
@@ -118,8 +115,7 @@ pub(crate) fn copy_front(bytes: &[u8], most: usize, into: &mut [u8]) -> usize
 #[derive(Debug, Drop)]
 pub struct MemSink {
     written: Vec<u8>,
-    plan: CallPlan,
-    faults: u64,
+    calls: Calls,
 }
 
 impl Model for MemSink {
@@ -130,8 +126,8 @@ impl Model for MemSink {
 
     ghost view = { λ s. record {
       written = s.written.items;
-      faults = s.faults;
-      plan = s.plan;
+      faults = s.calls.faults;
+      plan = s.calls.plan;
     } };
 }
 
@@ -142,8 +138,7 @@ impl MemSink {
     {
         MemSink {
             written: Vec::new(alloc),
-            plan: CallPlan::new(failing),
-            faults: 0,
+            calls: Calls::new(failing),
         }
     }
 
@@ -151,7 +146,7 @@ impl MemSink {
     pub fn limit_pieces(&mut self, most: usize)
         ensures { self.new ≡ record self.old { plan = with_most most self.old.plan } }
     {
-        self.plan.limit_pieces(most);
+        self.calls.limit_pieces(most);
     }
 
     /// All bytes that it took.
@@ -165,7 +160,7 @@ impl MemSink {
     pub fn faults(&self) -> u64
         ensures { result ≡ self.now.faults }
     {
-        self.faults
+        self.calls.faults()
     }
 }
 
@@ -180,10 +175,12 @@ impl Sink for MemSink {
         ensures faults_kept { self.old.faults ≤ self.new.faults }
         ensures planned { WritesAsPlanned result piece.now self.old self.new }
     {
-        let fails = self.plan.next();
-        let n = piece.len().min(self.plan.most());
-        if fails || self.written.extend_from_slice(&piece[..n]).is_err() {
-            self.faults = self.faults.saturating_add(1);
+        if self.calls.begin().is_err() {
+            return Put::Failed;
+        }
+        let n = piece.len().min(self.calls.most());
+        if self.written.extend_from_slice(&piece[..n]).is_err() {
+            self.calls.fail();
             return Put::Failed;
         }
         Put::Took(n)

@@ -1,6 +1,6 @@
-use Rattle.std.proofs.Common.{rules, arith, ◌∙◌, sym, ap, ◌++◌, List}
+use Rattle.std.proofs.Common.{rules, ◌∙◌, sym}
 use Rattle.std.proofs.lemmas.List.{drop-drop}
-use Rattle.ldm_outside.specs.MemNet.{StationState, first_station}
+use Rattle.ldm_outside.specs.MemNet.{first_station}
 use Rattle.ldm_outside.proofs.NetLemmas.{map-take-next}
 use Rattle.ldm_outside.proofs.mem_net.take_stations.Goals as goal
 

@@ -1,4 +1,4 @@
-use Rattle.std.proofs.Common.{sym, ◌≡◌, ◌++◌, ◌∙◌, List, ℕ, OnOk, Ok, Err, is_ok, if◌then◌else◌, Result, set, get_or}
+use Rattle.std.proofs.Common.{sym, ◌≡◌, ◌++◌, List, ℕ, OnOk, Ok, Err, is_ok, if◌then◌else◌, Result}
 use Rattle.ldm_outside.specs.Store.{File}
 use Rattle.ldm_outside.proofs.FileLemmas.{with_bytes, changed_in_place, changed_nowhere}
 use Rattle.ldm_outside.proofs.mem_store.append.Goals as goal
