@@ -1,2 +1,3 @@
 pub mod Front
+pub mod Idle
 pub mod Told

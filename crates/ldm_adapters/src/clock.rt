@@ -1,4 +1,5 @@
 //! The clock of the system.
+ghost use Rattle.std.specs.Prelude.{◌≡◌};
 
 use ldm_outside::Clock;
 use ldm_types::Micros;
@@ -16,7 +17,9 @@ pub struct RealClock {
 
 impl RealClock {
     /// The clock of this system.
-    pub fn new(rt: HostRuntime) -> RealClock {
+    pub fn new(rt: HostRuntime) -> RealClock
+        ensures { result ≡ record { rt = rt } }
+    {
         RealClock { rt }
     }
 }

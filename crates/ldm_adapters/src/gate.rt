@@ -1,5 +1,6 @@
 //! A gate for a program that runs by itself.
-ghost use Rattle.std.specs.Prelude.{◌≡◌};
+ghost use Rattle.std.specs.Prelude.{◌≡◌, ◌≤◌};
+ghost use Rattle.ldm_outside.specs.declared.gate.Go.{Go};
 
 use ldm_outside::{Gate, Go};
 use ldm_types::Actor;
@@ -22,7 +23,7 @@ pub struct RealGate {
 impl RealGate {
     /// A gate that stops after so many idle calls, or never.
     pub fn new(rt: HostRuntime, idles: Option<u32>) -> RealGate
-        ensures { result.stops ≡ 0 }
+        ensures { result ≡ record { rt = rt; idles = idles; stops = 0 } }
     {
         RealGate {
             rt,
@@ -33,17 +34,26 @@ impl RealGate {
 }
 
 impl Gate for RealGate {
+    ghost use Rattle.ldm_outside.specs.Gate.{GateGives};
+    ghost use Rattle.ldm_adapters.specs.Idle.{Idles};
     ghost use Rattle.ldm_adapters.specs.Told.{told_by_gate};
 
     ghost tells = { told_by_gate };
 
-    fn before(&mut self, _actor: Actor, _i: u64) -> Go {
+    fn before(&mut self, _actor: Actor, _i: u64) -> Go
+        ensures on { result ≡ Go.On }
+        ensures kept { self.new ≡ self.old }
+    {
         Go::On
     }
 
     fn after(&mut self, _actor: Actor, _i: u64) {}
 
-    fn idle(&mut self) -> Go {
+    fn idle(&mut self) -> Go
+        ensures answered { GateGives result (told_by_gate self.old) (told_by_gate self.new) }
+        ensures stops_kept { self.old.stops ≤ self.new.stops }
+        ensures counted { Idles self.old.idles result self.new.idles }
+    {
         if let Some(left) = self.idles {
             if left == 0 {
                 self.stops = self.stops.saturating_add(1);
