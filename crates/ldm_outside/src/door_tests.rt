@@ -169,28 +169,36 @@ fn net(alloc: Global, failing: u64) -> Result<MemNet, Fail> {
     Ok(MemNet::new(alloc, dial, ready))
 }
 
+fn asked_last(net: &MemNet) -> Option<u32> {
+    Some(net.asked()?.count)
+}
+
+// Of calls for stations, each for so many, the one of that number fails. How many come at each, and how many are kept
+// and how many calls failed in the end.
+fn expect_manned(
+    rt: &impl Abort,
+    alloc: Global,
+    failing: u64,
+    wanted: &[(u32, Option<usize>)],
+    end: (usize, u64),
+) -> Result<(), Fail> {
+    let mut net = net(alloc, failing)?;
+    for (count, came) in wanted {
+        assert_eq!(rt; man(&mut net, *count), *came);
+        assert_eq!(rt; asked_last(&net), Some(*count));
+    }
+    assert_eq!(rt; (net.kept().len(), net.dial().faults()), end);
+    Ok(())
+}
+
 #[test]
 fn nets_hand_out_stations(rt: HostRuntime) -> Result<(), Fail> {
     // Three are too many, and behind two there is no third.
-    let mut whole = net(rt.alloc(), 9)?;
-    assert_eq!(rt;
-        [man(&mut whole, 3), man(&mut whole, 2), man(&mut whole, 1)],
-        [None, Some(2), None]
-    );
-    assert_eq!(rt; (whole.kept().len(), whole.dial().faults()), (2, 2));
-
+    let wanted = [(3, None), (2, Some(2)), (1, None)];
+    expect_manned(&rt, rt.alloc(), 9, &wanted, (2, 2))?;
     // The second call fails, and takes none.
-    let mut failing = net(rt.alloc(), 2)?;
-    assert_eq!(rt;
-        [
-            man(&mut failing, 1),
-            man(&mut failing, 1),
-            man(&mut failing, 1)
-        ],
-        [Some(1), None, Some(1)]
-    );
-    assert_eq!(rt; failing.asked().map(|asked| asked.count), Some(1));
-    Ok(())
+    let wanted = [(1, Some(1)), (1, None), (1, Some(1))];
+    expect_manned(&rt, rt.alloc(), 2, &wanted, (1, 1))
 }
 
 #[test]

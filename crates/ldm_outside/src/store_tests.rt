@@ -73,22 +73,51 @@ fn stores_fail_at_their_calls(rt: HostRuntime) -> Result<(), Fail> {
     Ok(())
 }
 
+// What reading a file came to, in words.
+fn words_of(read: &FileRead) -> &[u8] {
+    match read {
+        FileRead::Bytes(bytes) => bytes.as_slice(),
+        FileRead::TooLong => b"too long",
+        FileRead::Failed => b"failed",
+        FileRead::OutOfMemory => b"out of memory",
+    }
+}
+
 #[test]
 fn stores_read_up_to_a_limit(rt: HostRuntime) -> Result<(), Fail> {
     let mut store = store(rt.alloc(), &[4])?;
-    let whole = read(&mut store, rt.alloc(), "old", 3);
-    assert_eq!(rt; whole, FileRead::Bytes(b"abc".to_vec(rt.alloc())?));
-    assert_eq!(rt; read(&mut store, rt.alloc(), "old", 2), FileRead::TooLong);
-    assert_eq!(rt; read(&mut store, rt.alloc(), "new", 2), FileRead::Failed);
-    assert_eq!(rt; read(&mut store, rt.alloc(), "old", 3), FileRead::Failed);
+    let wanted: [(&str, u64, &[u8]); 4] = [
+        ("old", 3, b"abc"),
+        ("old", 2, b"too long"),
+        ("new", 2, b"failed"),
+        ("old", 3, b"failed"),
+    ];
+    for (path, limit, words) in wanted {
+        let came = read(&mut store, rt.alloc(), path, limit);
+        assert_eq!(rt; words_of(&came), words);
+    }
     assert_eq!(rt; (store.faults(), store.long()), (2, 1));
+    Ok(())
+}
 
-    // A file that is there keeps its bytes, and a write takes what the limit allows.
+// Opens a file and writes a piece once.
+fn append<F: Store>(store: &mut F, path: &str, piece: &[u8]) -> Put {
+    match store.append_to(path) {
+        Ok(file) => store.write(file, piece),
+        Err(_) => Put::Failed,
+    }
+}
+
+// A file that is there keeps its bytes, and a write takes what the limit allows.
+#[test]
+fn stores_write_behind_what_is_there(rt: HostRuntime) -> Result<(), Fail> {
+    let mut store = store(rt.alloc(), &[])?;
     store.limit_pieces(1);
-    let file = store.append_to("old").ok().expect(&rt, "a file");
-    assert_eq!(rt; store.write(file, b"de"), Put::Took(1));
-    let bytes = store.files().first().map(|old| old.bytes());
-    assert_eq!(rt; bytes, Some(b"abcd".as_slice()));
+    assert_eq!(rt; append(&mut store, "old", b"de"), Put::Took(1));
+    for old in store.files() {
+        assert_eq!(rt; old.bytes(), b"abcd".as_slice());
+    }
+    assert_eq!(rt; store.files().len(), 1);
     Ok(())
 }
 

@@ -22,13 +22,22 @@ fn expect_writes<K: Sink>(rt: &impl Abort, sink: &mut K, wanted: &[(&[u8], Put)]
     }
 }
 
-fn source(alloc: Global, failing: &[u64]) -> Result<MemSource, AllocError> {
-    Ok(MemSource::new(b"abcde".to_vec(alloc)?, failing.to_vec(alloc)?))
+// Reads a source whose second call fails, at most so many bytes a call, to its second end.
+fn expect_source(
+    rt: &impl Abort,
+    alloc: Global,
+    most: usize,
+    wanted: &[(Got, &[u8])],
+) -> Result<(), Fail> {
+    let mut source = MemSource::new(b"abcde".to_vec(alloc)?, [2].to_vec(alloc)?);
+    source.limit_pieces(most);
+    expect_reads(rt, &mut source, wanted);
+    assert_eq!(rt; (source.faults(), source.ends()), (1, 2));
+    Ok(())
 }
 
 #[test]
 fn sources_give_all_bytes(rt: HostRuntime) -> Result<(), Fail> {
-    let mut whole = source(rt.alloc(), &[2])?;
     let wanted: [(Got, &[u8]); 6] = [
         (Got::Bytes(2), b"ab"),
         (Got::Failed, b""),
@@ -37,11 +46,8 @@ fn sources_give_all_bytes(rt: HostRuntime) -> Result<(), Fail> {
         (Got::End, b""),
         (Got::End, b""),
     ];
-    expect_reads(&rt, &mut whole, &wanted);
-    assert_eq!(rt; (whole.faults(), whole.ends()), (1, 2));
+    expect_source(&rt, rt.alloc(), usize::MAX, &wanted)?;
 
-    let mut limited = source(rt.alloc(), &[2])?;
-    limited.limit_pieces(1);
     let wanted: [(Got, &[u8]); 8] = [
         (Got::Bytes(1), b"a"),
         (Got::Failed, b""),
@@ -52,9 +58,7 @@ fn sources_give_all_bytes(rt: HostRuntime) -> Result<(), Fail> {
         (Got::End, b""),
         (Got::End, b""),
     ];
-    expect_reads(&rt, &mut limited, &wanted);
-    assert_eq!(rt; (limited.faults(), limited.ends()), (1, 2));
-    Ok(())
+    expect_source(&rt, rt.alloc(), 1, &wanted)
 }
 
 #[test]
