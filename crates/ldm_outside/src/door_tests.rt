@@ -2,6 +2,7 @@ ghost use Rattle.std.specs.Prelude.{◌≡◌, false};
 ghost use Rattle.ldm_outside.specs.Link.{IsOpen};
 
 use super::*;
+use crate::expect::{expect_bytes, expect_counts};
 use arrayvec::ArrayVec;
 use std::alloc::{AllocError, Global};
 use std::process::Abort;
@@ -112,16 +113,21 @@ fn calls<I: Dial>(alloc: Global, dial: &mut I) -> Result<Vec<Got>, AllocError>
     Ok(came)
 }
 
-const CAME: [Got; 3] = [Got::Bytes(5), Got::End, Got::Failed];
+// What the three links come to.
+fn expect_came(rt: &impl Abort, came: &[Got]) {
+    assert_eq!(rt; came, [Got::Bytes(5), Got::End, Got::Failed].as_slice());
+}
 
 // Of five visits the one of that number fails.
 fn expect_visits(rt: &impl Abort, alloc: Global, failing: u64) -> Result<(), Fail> {
     let mut door = MemDoor::new(alloc, peers(alloc)?, [failing].to_vec(alloc)?);
-    assert_eq!(rt; visits(alloc, &mut door)?.as_slice(), CAME.as_slice());
-    assert_eq!(rt; (door.peers(), door.closings(), door.faults()), (3, 1, 1));
-    assert_eq!(rt; (door.ended(), door.failed(), door.back().len()), (1, 1, 3));
+    expect_came(rt, visits(alloc, &mut door)?.as_slice());
+    let counts = [door.peers(), door.closings(), door.faults()];
+    expect_counts(rt, &counts, &[3, 1, 1]);
+    let counts = [door.ended(), door.failed(), door.back().len() as u64];
+    expect_counts(rt, &counts, &[1, 1, 3]);
     for host in door.hosts() {
-        assert_eq!(rt; host.as_slice(), b"peer".as_slice());
+        expect_bytes(rt, host.as_slice(), b"peer");
     }
     Ok(())
 }
@@ -129,12 +135,14 @@ fn expect_visits(rt: &impl Abort, alloc: Global, failing: u64) -> Result<(), Fai
 // Of five calls the one of that number fails, and the last finds no link either.
 fn expect_calls(rt: &impl Abort, alloc: Global, failing: u64) -> Result<(), Fail> {
     let mut dial = MemDial::new(alloc, scripts(alloc)?, [failing].to_vec(alloc)?);
-    assert_eq!(rt; calls(alloc, &mut dial)?.as_slice(), CAME.as_slice());
-    assert_eq!(rt; (dial.faults(), dial.ended(), dial.failed()), (2, 1, 1));
-    assert_eq!(rt; (dial.asked().len(), dial.back().len()), (5, 3));
+    expect_came(rt, calls(alloc, &mut dial)?.as_slice());
+    let counts = [dial.faults(), dial.ended(), dial.failed()];
+    expect_counts(rt, &counts, &[2, 1, 1]);
+    let counts = [dial.asked().len() as u64, dial.back().len() as u64];
+    expect_counts(rt, &counts, &[5, 3]);
     for asked in dial.asked() {
-        assert_eq!(rt; asked.host.as_slice(), b"host".as_slice());
-        assert_eq!(rt; asked.port, 388);
+        expect_bytes(rt, asked.host.as_slice(), b"host");
+        expect_counts(rt, &[u64::from(asked.port)], &[388]);
     }
     Ok(())
 }
@@ -180,14 +188,15 @@ fn expect_manned(
     alloc: Global,
     failing: u64,
     wanted: &[(u32, Option<usize>)],
-    end: (usize, u64),
+    end: &[u64; 2],
 ) -> Result<(), Fail> {
     let mut net = net(alloc, failing)?;
     for (count, came) in wanted {
         assert_eq!(rt; man(&mut net, *count), *came);
-        assert_eq!(rt; asked_last(&net), Some(*count));
+        assert!(rt; asked_last(&net) == Some(*count));
     }
-    assert_eq!(rt; (net.kept().len(), net.dial().faults()), end);
+    let counts = [net.kept().len() as u64, net.dial().faults()];
+    expect_counts(rt, &counts, end);
     Ok(())
 }
 
@@ -195,16 +204,16 @@ fn expect_manned(
 fn nets_hand_out_stations(rt: HostRuntime) -> Result<(), Fail> {
     // Three are too many, and behind two there is no third.
     let wanted = [(3, None), (2, Some(2)), (1, None)];
-    expect_manned(&rt, rt.alloc(), 9, &wanted, (2, 2))?;
+    expect_manned(&rt, rt.alloc(), 9, &wanted, &[2, 2])?;
     // The second call fails, and takes none.
     let wanted = [(1, Some(1)), (1, None), (1, Some(1))];
-    expect_manned(&rt, rt.alloc(), 2, &wanted, (1, 1))
+    expect_manned(&rt, rt.alloc(), 2, &wanted, &[1, 1])
 }
 
 #[test]
 fn nets_connect(rt: HostRuntime) -> Result<(), Fail> {
     let dial = MemDial::new(rt.alloc(), scripts(rt.alloc())?, Vec::new(rt.alloc()));
     let mut net = MemNet::new(rt.alloc(), dial, Vec::new(rt.alloc()));
-    assert_eq!(rt; calls(rt.alloc(), &mut net)?.as_slice(), CAME.as_slice());
+    expect_came(&rt, calls(rt.alloc(), &mut net)?.as_slice());
     Ok(())
 }

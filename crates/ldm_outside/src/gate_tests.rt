@@ -1,4 +1,5 @@
 use super::*;
+use crate::expect::expect_counts;
 use ldm_types::{Actor, Micros};
 use std::alloc::Global;
 use std::process::Abort;
@@ -23,9 +24,10 @@ fn clocks_repeat_the_last(rt: HostRuntime) -> Result<(), Fail> {
     let five = Micros::new(5).ok_or("no instant")?;
     let seven = Micros::new(7).ok_or("no instant")?;
     let mut clock = MemClock::new([five, seven].to_vec(rt.alloc())?);
-    assert_eq!(rt; ask(&mut clock), [5, 7, 7]);
-    assert_eq!(rt; clock.calls(), 3);
-    assert_eq!(rt; ask(&mut MemClock::new(Vec::new(rt.alloc()))), [0, 0, 0]);
+    expect_counts(&rt, &ask(&mut clock), &[5, 7, 7]);
+    expect_counts(&rt, &[clock.calls()], &[3]);
+    let mut empty = MemClock::new(Vec::new(rt.alloc()));
+    expect_counts(&rt, &ask(&mut empty), &[0, 0, 0]);
     Ok(())
 }
 
@@ -40,10 +42,12 @@ fn expect_passed(
     let actor = Actor::new(3).ok_or("no actor")?;
     let mut gate = MemGate::new(alloc, [stopping].to_vec(alloc)?);
     assert_eq!(rt; pass(&mut gate, actor), answers);
-    assert_eq!(rt; (gate.stops(), gate.afters()), (u64::from(stopping < 4), 1));
-    assert_eq!(rt; gate.passed().len(), passed.len());
+    let counts = [gate.stops(), gate.afters(), gate.passed().len() as u64];
+    let wanted = [u64::from(stopping < 4), 1, passed.len() as u64];
+    expect_counts(rt, &counts, &wanted);
     for (call, i) in gate.passed().iter().zip(passed) {
-        assert_eq!(rt; (call.actor, call.i), (actor, *i));
+        assert!(rt; call.actor == actor);
+        expect_counts(rt, &[call.i], &[*i]);
     }
     Ok(())
 }

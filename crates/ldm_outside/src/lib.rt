@@ -57,6 +57,8 @@ pub use world::World;
 #[cfg(test)]
 mod door_tests;
 #[cfg(test)]
+mod expect;
+#[cfg(test)]
 mod gate_tests;
 #[cfg(test)]
 mod link_tests;

@@ -1,6 +1,7 @@
 ghost use Rattle.ldm_outside.specs.Link.{IsOpen};
 
 use super::*;
+use crate::expect::{expect_bytes, expect_counts};
 use std::alloc::{AllocError, Global};
 use std::process::Abort;
 use std::test::Fail;
@@ -64,13 +65,15 @@ fn expect_heard(
 ) -> Result<(), Fail> {
     let mut link = MemLink::new(alloc, script(alloc, true, &[failing])?);
     let heard = hear(alloc, &mut link)?;
-    assert_eq!(rt; heard.bytes.as_slice(), b"abcde".as_slice());
-    assert_eq!(rt; link.given(), b"abcde".as_slice());
-    assert_eq!(rt; (heard.pieces, heard.ends, heard.faults), (3, ends, faults));
-    assert_eq!(rt;
-        (link.ends(), link.faults(), link.is_closed()),
-        (ends, faults, false)
+    expect_bytes(rt, heard.bytes.as_slice(), b"abcde");
+    expect_bytes(rt, link.given(), b"abcde");
+    expect_counts(
+        rt,
+        &[heard.pieces, heard.ends, heard.faults],
+        &[3, ends, faults],
     );
+    expect_counts(rt, &[link.ends(), link.faults()], &[ends, faults]);
+    assert!(rt; !link.is_closed());
     Ok(())
 }
 
@@ -84,9 +87,9 @@ fn links_give_all_bytes(rt: HostRuntime) -> Result<(), Fail> {
     // With no end behind the bytes a call there fails.
     let mut link = MemLink::new(rt.alloc(), script(rt.alloc(), false, &[])?);
     let heard = hear(rt.alloc(), &mut link)?;
-    assert_eq!(rt; (heard.pieces, heard.ends, heard.faults), (3, 0, 3));
+    expect_counts(&rt, &[heard.pieces, heard.ends, heard.faults], &[3, 0, 3]);
     hang_up(&mut link);
-    assert_eq!(rt; link.is_closed(), true);
+    assert!(rt; link.is_closed());
     Ok(())
 }
 
@@ -99,9 +102,9 @@ fn expect_sent(
     sent: &[u8],
 ) -> Result<(), Fail> {
     let mut link = MemLink::new(alloc, script(alloc, true, &[failing])?);
-    assert_eq!(rt; send_all(&mut link, b"xyz").is_ok(), done);
-    assert_eq!(rt; link.sent(), sent);
-    assert_eq!(rt; link.faults(), u64::from(!done));
+    assert!(rt; send_all(&mut link, b"xyz").is_ok() == done);
+    expect_bytes(rt, link.sent(), sent);
+    expect_counts(rt, &[link.faults()], &[u64::from(!done)]);
     Ok(())
 }
 

@@ -1,6 +1,7 @@
 ghost use Rattle.std.specs.Prelude.{◌<◌, length};
 
 use super::*;
+use crate::expect::{expect_bytes, expect_counts};
 use std::alloc::{AllocError, Global};
 use std::process::Abort;
 use std::test::Fail;
@@ -66,8 +67,8 @@ fn stores_fail_at_their_calls(rt: HostRuntime) -> Result<(), Fail> {
     ];
     for (failing, faults, bytes) in wanted {
         let mut store = store(rt.alloc(), &[failing])?;
-        assert_eq!(rt; rewrite(&mut store, "new"), failing);
-        assert_eq!(rt; store.faults(), faults);
+        let failed = rewrite(&mut store, "new");
+        expect_counts(&rt, &[failed, store.faults()], &[failing, faults]);
         assert_eq!(rt; bytes_of_new(&store), bytes);
     }
     Ok(())
@@ -94,9 +95,9 @@ fn stores_read_up_to_a_limit(rt: HostRuntime) -> Result<(), Fail> {
     ];
     for (path, limit, words) in wanted {
         let came = read(&mut store, rt.alloc(), path, limit);
-        assert_eq!(rt; words_of(&came), words);
+        expect_bytes(&rt, words_of(&came), words);
     }
-    assert_eq!(rt; (store.faults(), store.long()), (2, 1));
+    expect_counts(&rt, &[store.faults(), store.long()], &[2, 1]);
     Ok(())
 }
 
@@ -115,9 +116,9 @@ fn stores_write_behind_what_is_there(rt: HostRuntime) -> Result<(), Fail> {
     store.limit_pieces(1);
     assert_eq!(rt; append(&mut store, "old", b"de"), Put::Took(1));
     for old in store.files() {
-        assert_eq!(rt; old.bytes(), b"abcd".as_slice());
+        expect_bytes(&rt, old.bytes(), b"abcd");
     }
-    assert_eq!(rt; store.files().len(), 1);
+    expect_counts(&rt, &[store.files().len() as u64], &[1]);
     Ok(())
 }
 
@@ -165,7 +166,7 @@ fn launchers_fail_at_their_calls(rt: HostRuntime) -> Result<(), Fail> {
         let statuses = [7].to_vec(rt.alloc())?;
         let mut launcher = MemLauncher::new(rt.alloc(), statuses, [failing].to_vec(rt.alloc())?);
         assert_eq!(rt; run(&mut launcher, &words), answer);
-        assert_eq!(rt; launcher.faults(), failing.min(1));
+        expect_counts(&rt, &[launcher.faults()], &[failing.min(1)]);
         assert_eq!(rt; given(&launcher), bytes);
     }
     Ok(())
@@ -179,9 +180,7 @@ fn launchers_need_a_pipe(rt: HostRuntime) -> Result<(), Fail> {
     let child = launcher.start(&words, false).ok().expect(&rt, "a child");
     assert_eq!(rt; launcher.write(child, b"ab"), Put::Failed);
     assert_eq!(rt; launcher.wait(child), Ok(0));
-    assert_eq!(rt;
-        (launcher.faults(), given(&launcher)),
-        (1, Some(b"".as_slice()))
-    );
+    expect_counts(&rt, &[launcher.faults()], &[1]);
+    assert_eq!(rt; given(&launcher), Some(b"".as_slice()));
     Ok(())
 }
