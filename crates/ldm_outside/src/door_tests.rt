@@ -192,7 +192,7 @@ fn expect_manned(
 ) -> Result<(), Fail> {
     let mut net = net(alloc, failing)?;
     for (count, came) in wanted {
-        assert_eq!(rt; man(&mut net, *count), *came);
+        assert!(rt; man(&mut net, *count) == *came);
         assert!(rt; asked_last(&net) == Some(*count));
     }
     let counts = [net.kept().len() as u64, net.dial().faults()];

@@ -31,6 +31,10 @@ fn clocks_repeat_the_last(rt: HostRuntime) -> Result<(), Fail> {
     Ok(())
 }
 
+fn expect_answers(rt: &impl Abort, got: &[Go], wanted: &[Go]) {
+    assert_eq!(rt; got, wanted);
+}
+
 // The call of one number stops.
 fn expect_passed(
     rt: &impl Abort,
@@ -41,7 +45,7 @@ fn expect_passed(
 ) -> Result<(), Fail> {
     let actor = Actor::new(3).ok_or("no actor")?;
     let mut gate = MemGate::new(alloc, [stopping].to_vec(alloc)?);
-    assert_eq!(rt; pass(&mut gate, actor), answers);
+    expect_answers(rt, &pass(&mut gate, actor), &answers);
     let counts = [gate.stops(), gate.afters(), gate.passed().len() as u64];
     let wanted = [u64::from(stopping < 4), 1, passed.len() as u64];
     expect_counts(rt, &counts, &wanted);
@@ -59,6 +63,6 @@ fn gates_stop_as_planned(rt: HostRuntime) -> Result<(), Fail> {
     expect_passed(&rt, rt.alloc(), 3, [Go::On, Go::On, Go::Stop], &[0])?;
     expect_passed(&rt, rt.alloc(), 4, [Go::On, Go::On, Go::On], &[0, 1])?;
     let actor = Actor::new(0).ok_or("no actor")?;
-    assert_eq!(rt; pass(&mut OpenGate, actor), [Go::On, Go::On, Go::On]);
+    expect_answers(&rt, &pass(&mut OpenGate, actor), &[Go::On, Go::On, Go::On]);
     Ok(())
 }

@@ -43,33 +43,31 @@ fn store(alloc: Global, failing: &[u64]) -> Result<MemStore, AllocError> {
     ))
 }
 
-// What the last file of the store has, under the path `new`.
-fn bytes_of_new(store: &MemStore) -> Option<&[u8]> {
-    let last = store.files().last()?;
-    if last.path() == "new" {
-        Some(last.bytes())
-    } else {
-        None
+// What the last file of the store has, under the path `new`, or the word `none`.
+fn bytes_of_new(store: &MemStore) -> &[u8] {
+    match store.files().last() {
+        Some(last) if last.path() == "new" => last.bytes(),
+        _ => b"none",
     }
 }
 
 // Each call fails in turn, and what was done before it stands.
 #[test]
 fn stores_fail_at_their_calls(rt: HostRuntime) -> Result<(), Fail> {
-    let wanted: [(u64, u64, Option<&[u8]>); 7] = [
-        (0, 0, Some(b"cd")),
-        (1, 1, None),
-        (2, 1, Some(b"")),
-        (3, 1, Some(b"ab")),
-        (4, 1, Some(b"")),
-        (5, 1, Some(b"cd")),
-        (6, 1, Some(b"cd")),
+    let wanted: [(u64, u64, &[u8]); 7] = [
+        (0, 0, b"cd"),
+        (1, 1, b"none"),
+        (2, 1, b""),
+        (3, 1, b"ab"),
+        (4, 1, b""),
+        (5, 1, b"cd"),
+        (6, 1, b"cd"),
     ];
     for (failing, faults, bytes) in wanted {
         let mut store = store(rt.alloc(), &[failing])?;
         let failed = rewrite(&mut store, "new");
         expect_counts(&rt, &[failed, store.faults()], &[failing, faults]);
-        assert_eq!(rt; bytes_of_new(&store), bytes);
+        expect_bytes(&rt, bytes_of_new(&store), bytes);
     }
     Ok(())
 }
@@ -114,7 +112,7 @@ fn append<F: Store>(store: &mut F, path: &str, piece: &[u8]) -> Put {
 fn stores_write_behind_what_is_there(rt: HostRuntime) -> Result<(), Fail> {
     let mut store = store(rt.alloc(), &[])?;
     store.limit_pieces(1);
-    assert_eq!(rt; append(&mut store, "old", b"de"), Put::Took(1));
+    assert!(rt; append(&mut store, "old", b"de") == Put::Took(1));
     for old in store.files() {
         expect_bytes(&rt, old.bytes(), b"abcd");
     }
@@ -142,9 +140,12 @@ fn run<L: Launcher>(launcher: &mut L, words: &[String]) -> Result<u32, u64>
     launcher.wait(child).map_err(|_| 5)
 }
 
-// What the child of number 0 was given.
-fn given(launcher: &MemLauncher) -> Option<&[u8]> {
-    Some(launcher.inputs().first()?.bytes())
+// What the child of number 0 was given, or the word `none`.
+fn given(launcher: &MemLauncher) -> &[u8] {
+    match launcher.inputs().first() {
+        Some(input) => input.bytes(),
+        None => b"none",
+    }
 }
 
 fn word(alloc: Global, text: &str) -> Result<[String; 1], AllocError> {
@@ -154,20 +155,20 @@ fn word(alloc: Global, text: &str) -> Result<[String; 1], AllocError> {
 #[test]
 fn launchers_fail_at_their_calls(rt: HostRuntime) -> Result<(), Fail> {
     let words = word(rt.alloc(), "cat")?;
-    let wanted: [(u64, Result<u32, u64>, Option<&[u8]>); 6] = [
-        (0, Ok(7), Some(b"abc")),
-        (1, Err(1), None),
-        (2, Err(2), Some(b"")),
-        (3, Err(3), Some(b"ab")),
-        (4, Err(4), Some(b"abc")),
-        (5, Err(5), Some(b"abc")),
+    let wanted: [(u64, Result<u32, u64>, &[u8]); 6] = [
+        (0, Ok(7), b"abc"),
+        (1, Err(1), b"none"),
+        (2, Err(2), b""),
+        (3, Err(3), b"ab"),
+        (4, Err(4), b"abc"),
+        (5, Err(5), b"abc"),
     ];
     for (failing, answer, bytes) in wanted {
         let statuses = [7].to_vec(rt.alloc())?;
         let mut launcher = MemLauncher::new(rt.alloc(), statuses, [failing].to_vec(rt.alloc())?);
-        assert_eq!(rt; run(&mut launcher, &words), answer);
+        assert!(rt; run(&mut launcher, &words) == answer);
         expect_counts(&rt, &[launcher.faults()], &[failing.min(1)]);
-        assert_eq!(rt; given(&launcher), bytes);
+        expect_bytes(&rt, given(&launcher), bytes);
     }
     Ok(())
 }
@@ -178,9 +179,9 @@ fn launchers_need_a_pipe(rt: HostRuntime) -> Result<(), Fail> {
     let words = word(rt.alloc(), "cat")?;
     let mut launcher = MemLauncher::new(rt.alloc(), Vec::new(rt.alloc()), Vec::new(rt.alloc()));
     let child = launcher.start(&words, false).ok().expect(&rt, "a child");
-    assert_eq!(rt; launcher.write(child, b"ab"), Put::Failed);
-    assert_eq!(rt; launcher.wait(child), Ok(0));
+    assert!(rt; launcher.write(child, b"ab") == Put::Failed);
+    assert!(rt; launcher.wait(child) == Ok(0));
     expect_counts(&rt, &[launcher.faults()], &[1]);
-    assert_eq!(rt; given(&launcher), Some(b"".as_slice()));
+    expect_bytes(&rt, given(&launcher), b"");
     Ok(())
 }

@@ -1,6 +1,6 @@
 use super::*;
 use crate::expect::{expect_bytes, expect_counts};
-use std::alloc::{AllocError, Global};
+use std::alloc::Global;
 use std::process::Abort;
 use std::test::Fail;
 
