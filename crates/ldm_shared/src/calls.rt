@@ -1,5 +1,5 @@
 //! The calls of the shared queue. Each takes the turn, calls the book, and gives the turn back.
-ghost use Rattle.std.specs.Prelude.{◌≡◌, ◌^◌, drop, length};
+ghost use Rattle.std.specs.Prelude.{◌≡◌, ◌≤◌, ◌^◌, drop, length};
 ghost use Rattle.ldm_model.specs.declared.event.Event.TheVariants as event;
 ghost use Rattle.ldm_model.specs.Answers.{insert_answer, look_answer, expire_answer, stat_answer, open_answer, step_answer, read_answer, release_answer, close_answer, tally_answer, asked_bytes, bytes_read};
 ghost use Rattle.ldm_shared.specs.Passes.{IsPassOf, IsSamePass, Grows, FindsWorn};
@@ -101,6 +101,7 @@ impl Shared {
         ensures kept { IsSamePass pass.old pass.new }
         ensures done { IfDone result (λ reply. Grows pass.old pass.new (event.Read k offset (asked_bytes (length into.old))) (read_answer reply into.new)) }
         ensures worn { IfWorn result (FindsWorn pass.old pass.new) }
+        ensures few { IfDone result (λ reply. bytes_read reply ≤ length into.old) }
         ensures rest { IfDone result (λ reply. drop (bytes_read reply) into.new ≡ drop (bytes_read reply) into.old) }
         ensures unread { IfWorn result (λ _. into.new ≡ into.old) }
     {
