@@ -1,10 +1,8 @@
 -- The step that adds an entry to the history, and gives the turn and the book back, keeps the rule.
-use Rattle.std.proofs.Common.{◌≡◌, ◌≢◌, ℕ, zero, suc, ◌+◌, ◌*◌, ◌%◌, ◌^◌, ◌<◌, ◌≤◌, Bool, true, false, cond, List, [], ◌∷◌, ◌++◌, length, set, get_or, Option, Some, refl, ap, sym, subst, ◌∙◌, arith, ◌⊎◌, inl, inr, ⊎_elim, length-append, mod-eq_of_lt}
+use Rattle.std.proofs.Common.{◌≡◌, ◌≢◌, ℕ, ◌+◌, ◌*◌, ◌%◌, ◌^◌, ◌<◌, Bool, true, false, cond, List, [], ◌∷◌, ◌++◌, length, set, get_or, Option, Some, refl, ap, sym, subst, ◌∙◌, arith, ◌⊎◌, inl, inr, ⊎_elim, length-append, mod-eq_of_lt}
 use Rattle.std.specs.List.{AllByRecursion}
 use mathlib.Core.Option.{some, none}
-use mathlib.Core.List.{IsPrefix}
-use lib.ListN.{get_elem?}
-use Rattle.atomic_table.specs.Table.{State, Me, step, gives, stepped, put_back, homes_after, Allows}
+use Rattle.atomic_table.specs.Table.{Me, step, gives, put_back, Allows}
 use Rattle.ldm_model.specs.declared.event.Entry.{Entry}
 use Rattle.ldm_model.specs.History.{after, IsLegal}
 use Rattle.ldm_book.specs.View.{BookView}
@@ -12,8 +10,8 @@ use Rattle.ldm_book.specs.Stands.{StandsFor}
 use Rattle.ldm_shared.specs.declared.sizes.Sizes.{Sizes}
 use Rattle.ldm_shared.specs.declared.view.View.{View}
 use Rattle.ldm_shared.specs.declared.view.Old.{Old}
-use Rattle.ldm_shared.specs.Own.{own, AreBelow}
-use Rattle.ldm_shared.specs.Rule.{times, AnswersFor, turns, spent, IsOld, HasTurn, Knows, HasBook, IsKept}
+use Rattle.ldm_shared.specs.Own.{AreBelow}
+use Rattle.ldm_shared.specs.Rule.{times, AnswersFor, turns, spent, IsOld, Knows, IsKept}
 use Rattle.ldm_shared.specs.Steps.{adds}
 use Rattle.ldm_shared.proofs.Histories.{prefix_self, prefix_more, own-other, below-append}
 use Rattle.ldm_shared.proofs.Counts.{is_turn, idle_turn, sum-set, sum-at, sum-two, times-self}

@@ -1,6 +1,6 @@
 -- For callers: the passes of a new queue are all of it, and are so still where each made calls.
 use Rattle.std.proofs.Common.{◌≡◌, ℕ, zero, suc, ◌+◌, ◌<◌, ◌≤◌, List, [], ◌∷◌, length, map, get_or, refl, ap, sym, subst, ◌∙◌, arith}
-use Rattle.std.specs.List.{All, Contains, range_with_len}
+use Rattle.std.specs.List.{Contains, range_with_len}
 use mathlib.Core.Logic.{dite}
 use native.Mathlib.Decide.{ℕ_discrete}
 use Rattle.ldm_shared.specs.Passes.{SharedView, PassView, IsPassOf, IsSamePass, AreAllOf, new_pass}

@@ -1,10 +1,9 @@
 -- The end of a shared queue: the seat that answers for all actors takes the turn.
-use Rattle.std.proofs.Common.{◌≡◌, ℕ, zero, suc, ◌+◌, ◌*◌, ◌%◌, ◌<◌, ◌≤◌, Bool, true, false, cond, nat_eq, slice_index_or, List, [], ◌∷◌, length, map, MatchBool, Option, Some, None, refl, ap, sym, subst, ◌∙◌, arith}
-use Rattle.std.specs.List.{All, AllByRecursion, Contains}
+use Rattle.std.proofs.Common.{◌≡◌, ℕ, suc, ◌%◌, ◌<◌, Bool, true, false, cond, nat_eq, slice_index_or, List, [], ◌∷◌, length, MatchBool, Option, Some, None, refl, ap, sym, subst, ◌∙◌, arith}
+use Rattle.std.specs.List.{All, AllByRecursion}
 use mathlib.Core.List.{IsPrefix}
 use Rattle.atomic_table.specs.Seated.{TableId}
 use Rattle.atomic_table.specs.Table.{Me}
-use Rattle.atomic_table.specs.declared.shared.Seat.{Seat}
 use Rattle.ldm_model.specs.declared.event.Entry.{Entry}
 use Rattle.ldm_model.specs.History.{after}
 use Rattle.ldm_book.specs.View.{BookView}
@@ -14,7 +13,7 @@ use Rattle.ldm_shared.specs.declared.pass.Pass.TheInside.{Inside}
 use Rattle.ldm_shared.specs.Own.{own}
 use Rattle.ldm_shared.specs.Passes.{SharedView, PassView, AreAllOf, IsLast, HasAllOf}
 use Rattle.ldm_shared.specs.Inside.{view_of_pass, IsPass}
-use Rattle.ldm_shared.specs.Rule.{times, AnswersFor, AnswersForAll}
+use Rattle.ldm_shared.specs.Rule.{times, AnswersForAll}
 use Rattle.ldm_shared.specs.Steps.{Sees, HasTaken}
 use Rattle.ldm_shared.specs.Seats.{IsHistory, HasGathered, IsSized}
 use Rattle.ldm_shared.proofs.Taking.{ASeat, has_taken, history_sees}

@@ -1,16 +1,14 @@
 -- What a seat knows that took in another one and looked.
-use Rattle.std.proofs.Common.{◌≡◌, ℕ, zero, suc, ◌+◌, ◌*◌, ◌<◌, ◌≤◌, List, [], ◌∷◌, ◌++◌, length, map, Option, refl, ap, sym, subst, ◌∙◌, arith, append-nil}
+use Rattle.std.proofs.Common.{◌≡◌, ℕ, zero, suc, ◌+◌, ◌<◌, List, [], ◌∷◌, ◌++◌, map, ap, sym, subst, ◌∙◌, arith, append-nil}
 use Rattle.std.specs.List.{All, AllByRecursion, Contains}
 use mathlib.Core.List.{IsPrefix}
-use Rattle.atomic_table.specs.declared.shared.Seat.{Seat}
 use Rattle.ldm_model.specs.declared.event.Entry.{Entry}
-use Rattle.ldm_book.specs.View.{BookView}
 use Rattle.ldm_shared.specs.declared.view.View.{View}
 use Rattle.ldm_shared.specs.Own.{own}
 use Rattle.ldm_shared.specs.Rule.{times, AnswersFor}
 use Rattle.ldm_shared.specs.Steps.{Sees}
 use Rattle.ldm_shared.specs.Joining.{both, note}
-use Rattle.ldm_shared.specs.Seats.{GoesOn, Gathers, HasGathered, IsSized, IsGathering}
+use Rattle.ldm_shared.specs.Seats.{GoesOn, Gathers, HasGathered, IsSized}
 use Rattle.ldm_shared.specs.Passes.{SharedView, PassView, IsPassOf}
 use Rattle.ldm_shared.specs.declared.pass.Pass.TheInside.{Inside}
 use Rattle.ldm_shared.specs.Inside.{view_of_pass, IsIdle}

@@ -1,24 +1,22 @@
 -- A pass grows by a call that takes the turn and gives it back.
-use Rattle.std.proofs.Common.{◌≡◌, ℕ, ◌+◌, ◌^◌, ◌<◌, ◌≤◌, Bool, true, false, cond, List, [], ◌∷◌, ◌++◌, length, Option, Some, None, refl, ap, sym, subst, ◌∙◌, arith, length-append}
+use Rattle.std.proofs.Common.{◌≡◌, ℕ, ◌^◌, ◌<◌, Bool, true, false, cond, List, [], ◌∷◌, ◌++◌, length, get_or, Option, Some, None, refl, ap, sym, subst, ◌∙◌, arith, length-append}
 use mathlib.Core.List.{IsPrefix}
 use Rattle.atomic_table.specs.Seated.{TableId}
 use Rattle.atomic_table.specs.Table.{Me}
-use Rattle.atomic_table.specs.declared.shared.Seat.{Seat}
 use Rattle.ldm_model.specs.declared.event.Event.{Event}
 use Rattle.ldm_model.specs.declared.event.Reply.{Reply}
 use Rattle.ldm_model.specs.declared.event.Entry.{Entry}
 use Rattle.ldm_model.specs.State.{State}
-use Rattle.ldm_model.specs.History.{after, next_entry, IsAnswered, IsLegal, IsLegalFrom, IsPossible}
+use Rattle.ldm_model.specs.History.{next_entry, IsLegal, IsLegalFrom, IsPossible}
 use Rattle.ldm_book.specs.View.{BookView}
-use Rattle.ldm_book.specs.Stands.{StandsFor}
 use Rattle.ldm_book.specs.Answers.{Follows}
 use Rattle.ldm_shared.specs.declared.view.View.{View}
 use Rattle.ldm_shared.specs.declared.pass.Pass.TheInside.{Inside}
-use Rattle.ldm_shared.specs.Own.{own, AreBelow}
-use Rattle.ldm_shared.specs.Passes.{SharedView, PassView, IsPassOf, IsSamePass, HasSeen, HasMet, Grows, FindsWorn}
+use Rattle.ldm_shared.specs.Own.{own}
+use Rattle.ldm_shared.specs.Passes.{SharedView, PassView, IsPassOf, IsSamePass, HasMet, Grows, FindsWorn}
 use Rattle.ldm_shared.specs.Inside.{view_of_pass, IsIdle, IsPass}
 use Rattle.ldm_shared.specs.Rule.{times, AnswersFor}
-use Rattle.ldm_shared.specs.Seats.{IsReady, HasTheTurn, IsSame, GoesOn, IsHistory}
+use Rattle.ldm_shared.specs.Seats.{IsReady, IsWorn, IsSame, GoesOn, IsHistory}
 use Rattle.ldm_shared.proofs.Histories.{own-behind, below-append}
 use Rattle.ldm_shared.proofs.Counts.{times-self}
 use Rattle.ldm_shared.proofs.Taking.{ASeat}
@@ -52,6 +50,20 @@ idle_of false id queue e = (refl, cc)
 has_queue : (b : Bool) (id : TableId) → b ≡ false → cond b None (Some id) ≡ Some id
 has_queue true id e = absurd cc
 has_queue false id e = refl
+
+-- there is one book in a slot
+pub same_book : (slots : List (ℕ × Option BookView)) (a b : BookView) → slots ≡ (0, Some a) ∷ [] → slots ≡ (0, Some b) ∷ [] → a ≡ b
+same_book slots a b is also =
+    let same : Some a ≡ Some b = ap (λ (l : List (ℕ × Option BookView)). (get_or l 0 (0, Some a)).1) (sym is ∙ also) in
+    cc same
+
+-- a seat went on with the history, and then asked the book
+pub asked_on : (before taken asked : ASeat) → IsSame before taken → GoesOn before.me.0 taken.me.0 → IsSame taken asked → asked.me.0 ≡ taken.me.0
+    → IsSame before asked × GoesOn before.me.0 asked.me.0
+asked_on before taken asked same on same_asked view = (
+  record { table = same_asked.table ∙ same.table; id = same_asked.id ∙ same.id },
+  subst (GoesOn before.me.0) (sym view) on,
+)
 
 -- a pass of the queue, and what it keeps
 module _ (shared : SharedView) (old : PassView) (p : Inside) (view_is : view_of_pass p ≡ old) (kept : IsPass p) (of : IsPassOf shared old) where
@@ -93,13 +105,13 @@ module _ (shared : SharedView) (old : PassView) (p : Inside) (view_is : view_of_
         subst (λ (n : ℕ). own n on.begins.0 ≡ []) actor
         (own-behind p.actor p.seat.me.0.seen on.begins.0 seat.me.0.seen on.begins.1 (on.own p.actor (answers_one p.seat.me.0 p.actor (kept its.0).actors)))
 
-    pub pass_worn : IsHistory seat.me.0 → seat.me.0.turn ≡ false → length seat.me.0.seen ≡ 2 ^ 62 → FindsWorn old (view_of_pass now) (2 ^ 62)
-    pass_worn history idle long = record {
-      turns_are = refl;
+    pub pass_worn : IsHistory seat.me.0 → (turns : ℕ) → IsWorn shared seat turns → FindsWorn old (view_of_pass now) turns
+    pass_worn history turns worn = record {
+      turns_are = worn.turns_are;
       between = on.begins.0;
       others = others_own;
       seen = sym on.begins.1 ∙ ap (λ (v : PassView). v.seen ++ on.begins.0) view_is;
-      long = long;
+      long = worn.long ∙ sym worn.turns_are;
       has_seen = record { legal = history.legal; below = history.below; few = history.few };
     }
 

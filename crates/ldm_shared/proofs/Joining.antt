@@ -1,20 +1,20 @@
 -- Cutting a view in two, and making two of them one, keep the rule.
-use Rattle.std.proofs.Common.{◌≡◌, ◌≢◌, ℕ, zero, suc, ◌+◌, ◌*◌, ◌<◌, ◌≤◌, Bool, true, false, cond, nat_lt, List, [], ◌∷◌, ◌++◌, length, set, refl, ap, sym, subst, ◌∙◌, arith, ◌⊎◌, inl, inr, ⊎_elim, sum_by, length-append}
+use Rattle.std.proofs.Common.{◌≡◌, ℕ, zero, suc, ◌+◌, ◌<◌, ◌≤◌, Bool, true, false, cond, nat_lt, List, [], ◌∷◌, ◌++◌, length, set, refl, ap, sym, subst, ◌∙◌, arith, ◌⊎◌, inl, inr, ⊎_elim}
 use Rattle.std.specs.List.{AllByRecursion}
 use Rattle.std.proofs.lemmas.List.Sums.{sum_by-append}
 use Rattle.std.proofs.lemmas.Bool.Decides.{nat_tests}
-use mathlib.Core.Option.{Option, some}
+use mathlib.Core.Option.{some}
 use mathlib.Core.List.{IsPrefix}
 use lib.ListN.{get_elem?}
 use Rattle.atomic_table.specs.Table.{State, Splits, Joins}
-use Rattle.atomic_table.proofs.Lists.{at_set, at_snoc, set_else}
+use Rattle.atomic_table.proofs.Lists.{at_snoc, set_else}
 use Rattle.ldm_model.specs.declared.event.Entry.{Entry}
 use Rattle.ldm_book.specs.View.{BookView}
 use Rattle.ldm_shared.specs.declared.sizes.Sizes.{Sizes}
 use Rattle.ldm_shared.specs.declared.view.View.{View}
 use Rattle.ldm_shared.specs.declared.view.Old.{Old}
 use Rattle.ldm_shared.specs.Own.{own}
-use Rattle.ldm_shared.specs.Rule.{times, AnswersFor, turns, holders, spent, IsOld, HasTurn, Knows, IsKept}
+use Rattle.ldm_shared.specs.Rule.{times, AnswersFor, spent, IsOld, Knows, IsKept}
 use Rattle.ldm_shared.specs.Joining.{first_actor, other_actors, of_pass, without_pass, note, longer, old_of, both}
 use Rattle.ldm_shared.proofs.Histories.{prefix_self, prefix_shorter, own-between}
 use Rattle.ldm_shared.proofs.Counts.{is_turn, sum-set, times-append, times-cons}

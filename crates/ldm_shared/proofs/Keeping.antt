@@ -1,28 +1,26 @@
 -- Each step on the word of a shared queue keeps the rule.
-use Rattle.std.proofs.Common.{◌≡◌, ◌≢◌, ℕ, zero, suc, ◌+◌, ◌*◌, ◌%◌, ◌^◌, ◌<◌, ◌≤◌, ◌==◌, Bool, true, false, cond, eqb, List, [], ◌∷◌, ◌++◌, length, set, get_or, Option, Some, None, MatchBool, sum_by, refl, ap, sym, subst, ◌∙◌, arith, ◌⊎◌, inl, inr, ⊎_elim, eq-eqb, ne_eqb, length-append, length-set}
+use Rattle.std.proofs.Common.{◌≡◌, ◌≢◌, ℕ, ◌+◌, ◌*◌, ◌%◌, ◌^◌, ◌<◌, ◌≤◌, ◌==◌, Bool, true, false, cond, List, [], ◌∷◌, ◌++◌, length, set, get_or, Option, Some, MatchBool, refl, ap, sym, subst, ◌∙◌, arith, ◌⊎◌, inl, inr, ⊎_elim, eq-eqb, ne_eqb}
 use Rattle.std.specs.List.{AllByRecursion}
 use Rattle.std.proofs.lemmas.List.{set-get_or}
-use Rattle.std.proofs.lemmas.List.Sums.{sum_by-append}
 use mathlib.Core.Option.{some, none}
 use mathlib.Core.Logic.{dite}
 use mathlib.Core.List.{IsPrefix}
 use native.Mathlib.Decide.{ℕ_discrete}
 use lib.ListN.{get_elem?}
 use prog.Atomic.{either}
-use Rattle.atomic_table.specs.Table.{State, Me, Act, step, keeps, takes as takes_slot, gives, stepped, Allows, Splits, Joins}
-use Rattle.atomic_table.proofs.Lists.{at_set, at_snoc}
+use Rattle.atomic_table.specs.Table.{State, Me, step, keeps, takes as takes_slot, stepped, Allows}
+use Rattle.atomic_table.proofs.Lists.{at_set}
 use Rattle.ldm_model.specs.declared.event.Entry.{Entry}
-use Rattle.ldm_model.specs.State as model
 use Rattle.ldm_model.specs.History.{after, IsLegal}
 use Rattle.ldm_book.specs.View.{BookView}
 use Rattle.ldm_book.specs.Stands.{StandsFor}
 use Rattle.ldm_shared.specs.declared.sizes.Sizes.{Sizes}
 use Rattle.ldm_shared.specs.declared.view.View.{View}
 use Rattle.ldm_shared.specs.Own.{own, AreBelow}
-use Rattle.ldm_shared.specs.Rule.{times, AnswersFor, AnswersForAll, turns, holders, spent, IsOld, HasTurn, Knows, HasBook, IsKept}
-use Rattle.ldm_shared.specs.Steps.{Sees, HasTaken, looks, takes, adds}
-use Rattle.ldm_shared.proofs.Histories.{prefix_self, prefix_more, own-behind, own-other, no_entry, below-append, below-rest}
-use Rattle.ldm_shared.proofs.Counts.{is_turn, sum-set, sum-two, turn_of, times-only, times-self}
+use Rattle.ldm_shared.specs.Rule.{times, AnswersFor, AnswersForAll, turns, holders, spent, IsOld, HasTurn, Knows, IsKept}
+use Rattle.ldm_shared.specs.Steps.{Sees, HasTaken, looks, takes}
+use Rattle.ldm_shared.proofs.Histories.{prefix_self, own-behind, no_entry, below-rest}
+use Rattle.ldm_shared.proofs.Counts.{is_turn, sum-set, sum-two, turn_of, times-self}
 
 abbrev Content : Type 0
 Content = Option BookView

@@ -1,5 +1,5 @@
 -- The rule holds of a new queue, and the actors are dealt out one by one.
-use Rattle.std.proofs.Common.{◌≡◌, ℕ, zero, suc, ◌+◌, ◌*◌, ◌-◌, ◌<◌, ◌≤◌, ◌==◌, Bool, true, false, cond, List, [], ◌∷◌, ◌++◌, map, length, Option, Some, None, refl, ap, sym, subst, ◌∙◌, arith, inr}
+use Rattle.std.proofs.Common.{◌≡◌, ℕ, zero, suc, ◌+◌, ◌-◌, ◌<◌, ◌≤◌, ◌==◌, Bool, true, false, cond, List, [], ◌∷◌, ◌++◌, map, Option, Some, refl, ap, sym, subst, ◌∙◌, arith, inr}
 use Rattle.std.specs.List.{range_with_len}
 use mathlib.Core.Option.{some, some-injective, some-ne-none}
 use mathlib.Core.Logic.{dite}
@@ -15,8 +15,7 @@ use Rattle.ldm_book.specs.View.{BookView}
 use Rattle.ldm_book.specs.Stands.{StandsFor}
 use Rattle.ldm_shared.specs.declared.sizes.Sizes.{Sizes}
 use Rattle.ldm_shared.specs.declared.view.View.{View}
-use Rattle.ldm_shared.specs.Rule.{times, AnswersFor, holders, opening, spent, Knows, IsKept}
-use Rattle.ldm_shared.proofs.Histories.{prefix_self}
+use Rattle.ldm_shared.specs.Rule.{times, opening, Knows, IsKept}
 use Rattle.ldm_shared.proofs.Counts.{times-cons, times-only}
 
 -- an actor among the numbers from a on

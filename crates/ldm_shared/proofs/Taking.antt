@@ -1,17 +1,14 @@
 -- What a seat knows after its looks.
-use Rattle.std.proofs.Common.{◌≡◌, ℕ, ◌+◌, ◌*◌, ◌^◌, ◌<◌, ◌≤◌, Bool, true, false, List, [], ◌∷◌, ◌++◌, length, Option, Some, None, refl, ap, sym, subst, ◌∙◌, arith, ⊎_elim, nat_eq, MatchBool, ◌≢◌, eq-eqb, ne_eqb}
-use mathlib.Core.List.{IsPrefix}
+use Rattle.std.proofs.Common.{◌≡◌, ℕ, ◌+◌, ◌*◌, ◌^◌, ◌<◌, ◌≤◌, Bool, false, List, [], length, Option, refl, ap, sym, subst, ◌∙◌, arith, ⊎_elim, nat_eq, MatchBool, ◌≢◌, eq-eqb, ne_eqb}
 use Rattle.atomic_table.specs.declared.shared.Seat.{Seat}
-use Rattle.ldm_model.specs.declared.event.Entry.{Entry}
-use Rattle.ldm_model.specs.History.{after, IsLegal}
+use Rattle.ldm_model.specs.History.{IsLegal}
 use Rattle.ldm_book.specs.View.{BookView}
-use Rattle.ldm_book.specs.Stands.{StandsFor}
 use Rattle.ldm_shared.specs.declared.view.View.{View}
-use Rattle.ldm_shared.specs.Own.{own, AreBelow}
+use Rattle.ldm_shared.specs.Own.{AreBelow}
 use Rattle.ldm_shared.specs.Passes.{SharedView}
-use Rattle.ldm_shared.specs.Rule.{times, AnswersFor}
+use Rattle.ldm_shared.specs.Rule.{times}
 use Rattle.ldm_shared.specs.Steps.{Sees, HasTaken}
-use Rattle.ldm_shared.specs.Seats.{IsReady, HasTheTurn, IsSame, GoesOn, IsHistory, Waits}
+use Rattle.ldm_shared.specs.Seats.{IsReady, CanCall, IsSame, GoesOn, IsHistory, Waits}
 use Rattle.ldm_shared.proofs.Histories.{prefix_self, prefix_trans}
 
 abbrev pub ASeat : Type 0
@@ -87,26 +84,21 @@ pub has_missed : (w : View) (slots : List (ℕ × Option BookView)) (found word 
     → MatchBool (nat_eq found word) (HasTaken w slots) ((w.turn ≡ false) × (slots ≡ [])) → (w.turn ≡ false) × (slots ≡ [])
 has_missed w slots found word other taken = subst (λ (b : Bool). MatchBool b (HasTaken w slots) ((w.turn ≡ false) × (slots ≡ []))) (ne_eqb found word other) taken
 
--- the turn was taken, and the book was taken out
-module _ (shared : SharedView) (before now then out : ASeat) (found : ℕ) (ready : IsReady shared before) (waits : Waits before now)
-    (same : IsSame now then) (sees : Sees now.me.0 found then.me.0) (taken : HasTaken then.me.0 then.me.1)
-    (same_out : IsSame then out) (empty : out.me ≡ (then.me.0, (0, None) ∷ [])) where
-  view : then.me.0 ≡ out.me.0
-  view = sym (ap (λ (m : View × List (ℕ × Option BookView)). m.0) empty)
+-- the turn was taken
+module _ (shared : SharedView) (before now then : ASeat) (found : ℕ) (ready : IsReady shared before) (waits : Waits before now)
+    (same : IsSame now then) (sees : Sees now.me.0 found then.me.0) (taken : HasTaken then.me.0 then.me.1) where
+  pub taken_goes_on : GoesOn before.me.0 then.me.0 × IsHistory then.me.0
+  taken_goes_on = (goes_on_sees before.me.0 now.me.0 then.me.0 found waits.goes_on sees, history_sees now.me.0 then.me.0 found sees)
 
-  pub taken_goes_on : GoesOn before.me.0 out.me.0 × IsHistory out.me.0
-  taken_goes_on = subst (λ (v : View). GoesOn before.me.0 v × IsHistory v) view
-      (goes_on_sees before.me.0 now.me.0 then.me.0 found waits.goes_on sees, history_sees now.me.0 then.me.0 found sees)
-
-  pub taken_turn : (book : BookView) → found < 2 ^ 63 → StandsFor book (after then.me.0.arena then.me.0.slots then.me.0.seen)
-      → HasTheTurn shared out × (length out.me.0.seen < 2 ^ 62) × StandsFor book (after out.me.0.arena out.me.0.slots out.me.0.seen)
-  taken_turn book less stands = (
-    record {
-      queue = same_out.table ∙ (same.table ∙ (waits.same.table ∙ ready.queue));
-      turn = sym (ap (λ (v : View). v.turn) view) ∙ taken.turn;
-      empty = ap (λ (m : View × List (ℕ × Option BookView)). m.1) empty;
-      passes = subst (λ (n : ℕ). 0 < n) (sym waits.goes_on.passes ∙ (sym (ap (λ (v : View). v.passes) sees.same) ∙ ap (λ (v : View). v.passes) view)) ready.passes;
-    },
-    subst (λ (v : View). length v.seen < 2 ^ 62) view (seen_few now.me.0 then.me.0 found sees less),
-    subst (λ (v : View). StandsFor book (after v.arena v.slots v.seen)) view stands,
-  )
+  pub can_call : found < 2 ^ 63 → CanCall shared then
+  can_call less = record {
+    book = taken.book;
+    turn = record {
+      queue = same.table ∙ (waits.same.table ∙ ready.queue);
+      turn = taken.turn;
+      slot = taken.taken;
+      passes = subst (λ (n : ℕ). 0 < n) (sym (ap (λ (v : View). v.passes) sees.same ∙ waits.goes_on.passes)) ready.passes;
+    };
+    stands = taken.stands;
+    few = seen_few now.me.0 then.me.0 found sees less;
+  }

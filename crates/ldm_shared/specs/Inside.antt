@@ -1,6 +1,6 @@
 -- What a pass and a shared queue keep.
-use Rattle.std.specs.Prelude.{◌≡◌, ℕ, ◌<◌, false, cond, [], ◌∷◌, Some, None}
-use Rattle.ldm_shared.specs.Passes.{SharedView, PassView}
+use Rattle.std.specs.Prelude.{◌≡◌, ◌<◌, false, cond, [], ◌∷◌, Some, None}
+use Rattle.ldm_shared.specs.Passes.{PassView}
 use Rattle.ldm_shared.specs.declared.pass.Pass.TheInside as pass
 
 abbrev pub view_of_pass : pass.Inside → PassView

@@ -1,5 +1,5 @@
 -- How views are cut in two, and how two are made one.
-use Rattle.std.specs.Prelude.{ℕ, ◌<◌, cond, nat_lt, List, [], ◌∷◌, ◌++◌, length}
+use Rattle.std.specs.Prelude.{ℕ, cond, nat_lt, List, [], ◌∷◌, ◌++◌, length}
 use Rattle.ldm_model.specs.declared.event.Entry.{Entry}
 use Rattle.ldm_shared.specs.declared.view.View.{View}
 use Rattle.ldm_shared.specs.declared.view.Old.{Old}

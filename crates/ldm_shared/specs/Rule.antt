@@ -1,5 +1,5 @@
 -- What holds of the word, the slot and the views of a shared queue between any two steps on them.
-use Rattle.std.specs.Prelude.{◌≡◌, ℕ, ◌+◌, ◌*◌, ◌<◌, ◌≤◌, ◌==◌, ◌^◌, ◌⊎◌, true, false, cond, List, [], ◌∷◌, length, Option, Some, sum_by, count_by}
+use Rattle.std.specs.Prelude.{◌≡◌, ℕ, ◌+◌, ◌*◌, ◌<◌, ◌≤◌, ◌==◌, ◌^◌, ◌⊎◌, true, false, List, [], ◌∷◌, length, Option, Some, sum_by, count_by}
 use Rattle.std.specs.List.{AllByRecursion, range_with_len}
 use mathlib.Core.Option.{some}
 use mathlib.Core.List.{IsPrefix}

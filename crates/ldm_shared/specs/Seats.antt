@@ -1,10 +1,11 @@
 -- What a seat knows, and how that changes.
-use Rattle.std.specs.Prelude.{◌≡◌, ℕ, ◌+◌, ◌<◌, ◌≤◌, ◌^◌, ◌++◌, true, false, List, [], ◌∷◌, length, Option, Some, None}
+use Rattle.std.specs.Prelude.{◌≡◌, ℕ, ◌<◌, ◌≤◌, ◌^◌, ◌++◌, true, false, List, [], ◌∷◌, length, Option, Some}
 use Rattle.std.specs.List.{AllByRecursion}
 use mathlib.Core.List.{IsPrefix}
 use Rattle.atomic_table.specs.declared.shared.Seat.{Seat}
-use Rattle.ldm_model.specs.History.{IsLegal}
+use Rattle.ldm_model.specs.History.{after, IsLegal}
 use Rattle.ldm_book.specs.View.{BookView}
+use Rattle.ldm_book.specs.Stands.{StandsFor}
 use Rattle.ldm_shared.specs.declared.view.View.{View}
 use Rattle.ldm_shared.specs.Own.{own, AreBelow}
 use Rattle.ldm_shared.specs.Passes.{SharedView, PassView}
@@ -17,12 +18,25 @@ pub record IsReady (shared : SharedView) (seat : Seat (Option BookView) View) : 
   pub free : seat.me.1 ≡ []
   pub passes : 0 < seat.me.0.passes
 
--- a seat of a queue with the turn, whose slot is empty
-pub record HasTheTurn (shared : SharedView) (seat : Seat (Option BookView) View) : Type 0 where
+-- a seat of a queue with the turn, and with the book in its slot
+pub record HasTheTurn (shared : SharedView) (seat : Seat (Option BookView) View) (book : BookView) : Type 0 where
   pub queue : seat.table_id ≡ shared.queue
   pub turn : seat.me.0.turn ≡ true
-  pub empty : seat.me.1 ≡ (0, None) ∷ []
+  pub slot : seat.me.1 ≡ (0, Some book) ∷ []
   pub passes : 0 < seat.me.0.passes
+
+-- a seat that can make a call: it has the turn, and the book stands for the state after all that it has seen
+pub record CanCall (shared : SharedView) (seat : Seat (Option BookView) View) : Type 0 where
+  pub book : BookView
+  pub turn : HasTheTurn shared seat book
+  pub stands : StandsFor book (after seat.me.0.arena seat.me.0.slots seat.me.0.seen)
+  pub few : length seat.me.0.seen < 2 ^ 62
+
+-- a seat that found that the queue had so many calls, which are all that it can have
+pub record IsWorn (shared : SharedView) (seat : Seat (Option BookView) View) (turns : ℕ) : Type 0 where
+  pub ready : IsReady shared seat
+  pub turns_are : turns ≡ 2 ^ 62
+  pub long : length seat.me.0.seen ≡ 2 ^ 62
 
 -- the same seat
 pub record IsSame (old new : Seat (Option BookView) View) : Type 0 where

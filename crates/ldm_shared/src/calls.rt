@@ -1,4 +1,4 @@
-//! The calls of the shared queue. Each takes the turn, calls the book, and gives the turn back.
+//! The calls of the shared queue. Each asks the book something in a turn of its own.
 ghost use Rattle.std.specs.Prelude.{◌≡◌, ◌≤◌, ◌^◌, drop, length};
 ghost use Rattle.ldm_model.specs.declared.event.Event.TheVariants as event;
 ghost use Rattle.ldm_model.specs.Answers.{insert_answer, look_answer, expire_answer, stat_answer, open_answer, step_answer, read_answer, release_answer, close_answer, tally_answer, asked_bytes, bytes_read};
@@ -11,7 +11,6 @@ use crate::possible::{
     start_is_possible,
 };
 use crate::shared::Shared;
-use crate::steps::MOST_TURNS;
 use crate::turn::Turn;
 use ldm_model::{
     CloseReply, ExpireReply, InsertReply, LookReply, OpenReply, ReadReply, ReleaseReply, Start,
@@ -39,12 +38,9 @@ impl Shared {
         ensures worn { IfWorn result (FindsWorn pass.old pass.new) }
     {
         insert_is_possible(now, info, body);
-        let Some(mut book) = self.take(rt, &mut pass.seat) else {
-            return Turn::Worn { turns: MOST_TURNS };
-        };
-        let reply = book.insert(pass.actor, now, info, body);
-        self.give::<Brand, _, _>(&mut pass.seat, book, pass.actor, &(now, info, body), &reply);
-        Turn::Done(reply)
+        self.call::<Brand, _, _, _, _>(rt, pass, &(now, info, body), &mut [], |book, actor, _| {
+            book.insert(actor, now, info, body)
+        })
     }
 
     /// Opens a cursor of the pass's actor for these feedtypes, at the least empty cursor place.
@@ -62,12 +58,9 @@ impl Shared {
     {
         feed_is_possible(feed);
         start_is_possible(&start);
-        let Some(mut book) = self.take(rt, &mut pass.seat) else {
-            return Turn::Worn { turns: MOST_TURNS };
-        };
-        let reply = book.open_cursor(pass.actor, feed, start);
-        self.give::<Brand, _, _>(&mut pass.seat, book, pass.actor, &(feed, &start), &reply);
-        Turn::Done(reply)
+        self.call::<Brand, _, _, _, _>(rt, pass, &(feed, &start), &mut [], |book, actor, _| {
+            book.open_cursor(actor, feed, start)
+        })
     }
 
     /// Goes on with a cursor: tells the losses that it was not told yet, or gives the next product, which the cursor holds
@@ -79,12 +72,9 @@ impl Shared {
         ensures worn { IfWorn result (FindsWorn pass.old pass.new) }
     {
         place_is_possible(k);
-        let Some(mut book) = self.take(rt, &mut pass.seat) else {
-            return Turn::Worn { turns: MOST_TURNS };
-        };
-        let reply = book.step(pass.actor, k);
-        self.give::<Brand, _, _>(&mut pass.seat, book, pass.actor, &k, &reply);
-        Turn::Done(reply)
+        self.call::<Brand, _, _, _, _>(rt, pass, &k, &mut [], |book, actor, _| {
+            book.step(actor, k)
+        })
     }
 
     /// Reads the body of the product that a cursor holds, from that offset on: as many bytes as the buffer has room for,
@@ -106,19 +96,9 @@ impl Shared {
         ensures unread { IfWorn result (λ _. into.new ≡ into.old) }
     {
         place_is_possible(k);
-        let room = into.len();
-        let Some(mut book) = self.take(rt, &mut pass.seat) else {
-            return Turn::Worn { turns: MOST_TURNS };
-        };
-        let reply = book.read(pass.actor, k, offset, into);
-        self.give::<Brand, _, _>(
-            &mut pass.seat,
-            book,
-            pass.actor,
-            &(k, offset, room),
-            &(reply, &*into),
-        );
-        Turn::Done(reply)
+        self.call::<Brand, _, _, _, _>(rt, pass, &(k, offset), into, |book, actor, into| {
+            book.read(actor, k, offset, into)
+        })
     }
 
     /// Ends the hold of a cursor.
@@ -129,12 +109,9 @@ impl Shared {
         ensures worn { IfWorn result (FindsWorn pass.old pass.new) }
     {
         place_is_possible(k);
-        let Some(mut book) = self.take(rt, &mut pass.seat) else {
-            return Turn::Worn { turns: MOST_TURNS };
-        };
-        let reply = book.release(pass.actor, k);
-        self.give::<Brand, _, _>(&mut pass.seat, book, pass.actor, &k, &reply);
-        Turn::Done(reply)
+        self.call::<Brand, _, _, _, _>(rt, pass, &k, &mut [], |book, actor, _| {
+            book.release(actor, k)
+        })
     }
 
     /// Closes a cursor. If it held a product, that hold ends.
@@ -145,12 +122,9 @@ impl Shared {
         ensures worn { IfWorn result (FindsWorn pass.old pass.new) }
     {
         place_is_possible(k);
-        let Some(mut book) = self.take(rt, &mut pass.seat) else {
-            return Turn::Worn { turns: MOST_TURNS };
-        };
-        let reply = book.close(pass.actor, k);
-        self.give::<Brand, _, _>(&mut pass.seat, book, pass.actor, &k, &reply);
-        Turn::Done(reply)
+        self.call::<Brand, _, _, _, _>(rt, pass, &k, &mut [], |book, actor, _| {
+            book.close(actor, k)
+        })
     }
 
     /// The queued product of that signature, if there is one.
@@ -161,12 +135,9 @@ impl Shared {
         ensures worn { IfWorn result (FindsWorn pass.old pass.new) }
     {
         signature_is_possible(s);
-        let Some(mut book) = self.take(rt, &mut pass.seat) else {
-            return Turn::Worn { turns: MOST_TURNS };
-        };
-        let reply = book.look(pass.actor, s);
-        self.give::<Brand, _, _>(&mut pass.seat, book, pass.actor, s, &reply);
-        Turn::Done(reply)
+        self.call::<Brand, _, _, _, _>(rt, pass, s, &mut [], |book, actor, _| {
+            book.look(actor, s)
+        })
     }
 
     /// Evicts the oldest product that no cursor holds, if there is one.
@@ -176,12 +147,9 @@ impl Shared {
         ensures done { IfDone result (λ reply. Grows pass.old pass.new event.Expire (expire_answer reply)) }
         ensures worn { IfWorn result (FindsWorn pass.old pass.new) }
     {
-        let Some(mut book) = self.take(rt, &mut pass.seat) else {
-            return Turn::Worn { turns: MOST_TURNS };
-        };
-        let reply = book.expire(pass.actor);
-        self.give::<Brand, _, _>(&mut pass.seat, book, pass.actor, &(), &reply);
-        Turn::Done(reply)
+        self.call::<Brand, _, _, _, _>(rt, pass, &(), &mut [], |book, actor, _| {
+            book.expire(actor)
+        })
     }
 
     /// Counts what a cursor was given, what it lost, and what is left for it.
@@ -192,12 +160,9 @@ impl Shared {
         ensures worn { IfWorn result (FindsWorn pass.old pass.new) }
     {
         place_is_possible(k);
-        let Some(mut book) = self.take(rt, &mut pass.seat) else {
-            return Turn::Worn { turns: MOST_TURNS };
-        };
-        let reply = book.tally(pass.actor, k);
-        self.give::<Brand, _, _>(&mut pass.seat, book, pass.actor, &k, &reply);
-        Turn::Done(reply)
+        self.call::<Brand, _, _, _, _>(rt, pass, &k, &mut [], |book, actor, _| {
+            book.tally(actor, k)
+        })
     }
 
     /// How full the queue is.
@@ -207,11 +172,8 @@ impl Shared {
         ensures done { IfDone result (λ reply. Grows pass.old pass.new event.Stat (stat_answer reply)) }
         ensures worn { IfWorn result (FindsWorn pass.old pass.new) }
     {
-        let Some(mut book) = self.take(rt, &mut pass.seat) else {
-            return Turn::Worn { turns: MOST_TURNS };
-        };
-        let reply = book.stat(pass.actor);
-        self.give::<Brand, _, _>(&mut pass.seat, book, pass.actor, &(), &reply);
-        Turn::Done(reply)
+        self.call::<Brand, _, _, _, _>(rt, pass, &(), &mut [], |book, actor, _| {
+            book.stat(actor)
+        })
     }
 }

@@ -5,6 +5,7 @@
 //! pass had seen, with the reply of the queue at that point.
 #![tactic(auto)]
 
+mod asking;
 mod calls;
 mod fault;
 mod making;

@@ -1,14 +1,17 @@
-//! Taking the turn and giving it back.
-ghost use Rattle.std.specs.Prelude.{◌≡◌, ◌≢◌, ◌<◌, ◌≤◌, ◌==◌, ◌+◌, ◌%◌, ◌^◌, ◌++◌, ◌⊎◌, [], ◌∷◌, ℕ, false, length, IfNone, IfSome, None, MatchBool};
+//! Taking the turn, asking the book, and giving the turn back.
+ghost use Rattle.std.specs.Prelude.{◌≡◌, ◌≢◌, ◌<◌, ◌≤◌, ◌==◌, ◌+◌, ◌%◌, ◌^◌, ◌++◌, ◌⊎◌, [], ◌∷◌, ℕ, false, length, None, Some, MatchBool};
 ghost use Rattle.ldm_model.specs.History.{after, next_entry, IsLegal, IsPossible};
 ghost use Rattle.ldm_book.specs.Stands.{StandsFor};
+ghost use Rattle.ldm_book.specs.View.{BookView};
 ghost use Rattle.ldm_book.specs.Answers.{Follows};
 ghost use Rattle.ldm_shared.specs.Rule.{AnswersForAll};
 ghost use Rattle.ldm_shared.specs.Steps.{Sees, HasTaken};
-ghost use Rattle.ldm_shared.specs.Seats.{IsReady, HasTheTurn, IsSame, GoesOn, IsHistory};
+ghost use Rattle.ldm_shared.specs.Seats.{IsReady, HasTheTurn, CanCall, IsWorn, IsSame, GoesOn, IsHistory};
+ghost use Rattle.ldm_shared.specs.Turns.{IfDone, IfWorn};
 
 use crate::rule::{Add, Called, Look, Take};
 use crate::shared::Shared;
+use crate::turn::Turn;
 use crate::view::View;
 use atomic_table::Seat;
 use ldm_book::Book;
@@ -67,33 +70,6 @@ impl Shared {
         book
     }
 
-    // Puts the book into the slot.
-    fn put_in(&self, seat: &mut Seat<Option<Book>, View>, book: Book)
-        requires turn { HasTheTurn self.now seat.old }
-        ensures same { IsSame seat.old seat.new }
-        ensures filled { seat.new.me ≡ (seat.old.me.0, (0, Some book) ∷ []) }
-    {
-        let None = self.table.shared.exchange(seat, 0, Some(book)) else {
-            unreachable!()
-        };
-    }
-
-    // Ends a call: puts the book back, as the call left it, adds the entry of the call, gives the turn back, and wakes one that
-    // waits for it.
-    fn put_back<C: Called>(&self, seat: &mut Seat<Option<Book>, View>, book: Book)
-        requires turn { HasTheTurn self.now seat.old }
-        requires own { seat.old.me.0.actors ≡ C.entry.actor ∷ [] }
-        requires few { length seat.old.me.0.seen < 2 ^ 62 }
-        requires legal { IsLegal seat.old.me.0.arena seat.old.me.0.slots (seat.old.me.0.seen ++ C.entry ∷ []) }
-        requires stands { StandsFor book (after seat.old.me.0.arena seat.old.me.0.slots (seat.old.me.0.seen ++ C.entry ∷ [])) }
-        ensures same { IsSame seat.old seat.new }
-        ensures added { seat.new.me ≡ (record seat.old.me.0 { seen = seat.old.me.0.seen ++ C.entry ∷ []; turn = false }, []) }
-    {
-        self.put_in(seat, book);
-        self.table.shared.fetch_add::<Add<C>>(seat, 0, 1);
-        self.wake();
-    }
-
     // Sleeps while the low half of the word is that of the one that was seen, until a wake. It may also return for no reason.
     fn sleep<H: Wait>(&self, rt: &H, word: u64) {
         self.sleepers.fetch_add(1, Ordering::SeqCst);
@@ -109,27 +85,26 @@ impl Shared {
         }
     }
 
-    // Waits for the turn, and takes it with the book. `None` exactly where the queue has had all its calls.
-    pub(crate) fn take<H: Wait>(&self, rt: &H, seat: &mut Seat<Option<Book>, View>) -> Option<Book>
+    // Waits for the turn, and takes it with the book.
+    pub(crate) fn take<H: Wait>(&self, rt: &H, seat: &mut Seat<Option<Book>, View>) -> Turn<()>
         requires ready { IsReady self.now seat.old }
         requires one { (actor : ℕ) × (seat.old.me.0.actors ≡ actor ∷ []) }
         requires olds { seat.old.me.0.olds ≡ [] }
         ensures same { IsSame seat.old seat.new }
         ensures goes_on { GoesOn seat.old.me.0 seat.new.me.0 × IsHistory seat.new.me.0 }
-        ensures worn { IfNone result (IsReady self.now seat.new × (length seat.new.me.0.seen ≡ 2 ^ 62)) }
-        ensures taken { IfSome result (λ book. HasTheTurn self.now seat.new × (length seat.new.me.0.seen < 2 ^ 62)
-            × StandsFor book (after seat.new.me.0.arena seat.new.me.0.slots seat.new.me.0.seen)) }
+        ensures taken { IfDone result (λ _. CanCall self.now seat.new) }
+        ensures worn { IfWorn result (IsWorn self.now seat.new) }
     {
         let mut looks = 0;
         for _ in rt.forever() {
             let word = self.see(seat);
             if word >= WORN {
                 self.wake();
-                return None;
+                return Turn::Worn { turns: MOST_TURNS };
             }
             if word % 2 == 0 {
                 if self.try_take(seat, word) == word {
-                    return Some(self.take_out(seat));
+                    return Turn::Done(());
                 }
             } else if looks < LOOKS {
                 looks += 1;
@@ -142,30 +117,61 @@ impl Shared {
         unreachable!()
     }
 
-    // Ends a call of an actor, whose event and reply are for the proof alone: the book is as the call left it.
-    pub(crate) fn give<C: Called, E, R>(
+    // Asks the book, which lies in the slot and stays there.
+    pub(crate) fn ask<R, F: FnOnce(&mut Book, Actor, &mut [u8]) -> R>(
         &self,
         seat: &mut Seat<Option<Book>, View>,
-        book: Book,
         actor: Actor,
-        event: &E,
-        reply: &R,
+        into: &mut [u8],
+        ask: F,
+    ) -> R
+        requires turn { (book : BookView) × HasTheTurn self.now seat.old book }
+        requires may { F.IsAlwaysCallable ask }
+        ensures same { IsSame seat.old seat.new }
+        ensures view { seat.new.me.0 ≡ seat.old.me.0 }
+        ensures asked { (b : _) × (i : _) × (b' : _) × (i' : _) × F.post ask b actor i result b' i' × (i.now ≡ into.old) × (i'.now ≡ into.new) × HasTheTurn self.now seat.old b.now × HasTheTurn self.now seat.new b'.now }
+    {
+        let Some(book) = seat.slot_mut(&self.table.shared, 0) else {
+            unreachable!()
+        };
+        ask(book, actor, into)
+    }
+
+    // Ends a call: adds its entry, gives the turn back with the book as the call left it, and wakes one that waits for it.
+    fn end<C: Called>(&self, seat: &mut Seat<Option<Book>, View>)
+        requires turn { (book : BookView) × HasTheTurn self.now seat.old book × StandsFor book (after seat.old.me.0.arena seat.old.me.0.slots (seat.old.me.0.seen ++ C.entry ∷ [])) }
+        requires own { seat.old.me.0.actors ≡ C.entry.actor ∷ [] }
+        requires few { length seat.old.me.0.seen < 2 ^ 62 }
+        requires legal { IsLegal seat.old.me.0.arena seat.old.me.0.slots (seat.old.me.0.seen ++ C.entry ∷ []) }
+        ensures same { IsSame seat.old seat.new }
+        ensures added { seat.new.me ≡ (record seat.old.me.0 { seen = seat.old.me.0.seen ++ C.entry ∷ []; turn = false }, []) }
+    {
+        self.table.shared.fetch_add::<Add<C>>(seat, 0, 1);
+        self.wake();
+    }
+
+    // Ends a call of an actor, whose answer and the buffer that it left are for the proof alone.
+    pub(crate) fn give<C: Called, R>(
+        &self,
+        seat: &mut Seat<Option<Book>, View>,
+        actor: Actor,
+        answer: &R,
+        into: &[u8],
     )
-        requires turn { HasTheTurn self.now seat.old }
+        requires turn { (book : BookView) × HasTheTurn self.now seat.old book × Follows C.entry.reply book (next_entry (after seat.old.me.0.arena seat.old.me.0.slots seat.old.me.0.seen) C.entry) }
         requires own { seat.old.me.0.actors ≡ C.entry.actor ∷ [] }
         requires few { length seat.old.me.0.seen < 2 ^ 62 }
         requires history { IsHistory seat.old.me.0 }
         requires actor { C.entry.actor ≡ actor }
         requires possible { IsPossible C.entry.event }
-        requires answers { Follows C.entry.reply book (next_entry (after seat.old.me.0.arena seat.old.me.0.slots seat.old.me.0.seen) C.entry) }
         ensures same { IsSame seat.old seat.new }
         ensures added { seat.new.me ≡ (record seat.old.me.0 { seen = seat.old.me.0.seen ++ C.entry ∷ []; turn = false }, []) }
         ensures history { IsHistory seat.new.me.0 }
     {
         let _ = actor.get();
-        let _ = event;
-        let _ = reply;
+        let _ = answer;
+        let _ = into;
         histories_append();
-        self.put_back::<C>(seat, book);
+        self.end::<C>(seat);
     }
 }

@@ -1,4 +1,4 @@
-use Rattle.std.proofs.Common.{◌≡◌, ◌∙◌, ◌+◌, ◌-◌, ◌∷◌, ◌++◌, [], ℕ, suc, List, sym, ap, subst, arith}
+use Rattle.std.proofs.Common.{◌≡◌, ◌∙◌, ◌+◌, ◌-◌, ◌∷◌, ◌++◌, [], ℕ, sym, ap, arith}
 use Rattle.std.specs.List.{range_with_len}
 use Rattle.std.specs.Prelude.{Option}
 use Rattle.atomic_table.specs.Table.{Me}
@@ -7,7 +7,7 @@ use Rattle.ldm_shared.specs.declared.sizes.Sizes.{Sizes}
 use Rattle.ldm_shared.specs.declared.view.View.{View}
 use Rattle.ldm_shared.specs.Passes.{PassView, new_pass}
 use Rattle.ldm_shared.specs.Joining.{without_pass}
-use Rattle.ldm_shared.proofs.Opening.{dealt, dealt-actors, dealt-more, items_more}
+use Rattle.ldm_shared.proofs.Opening.{dealt-actors, dealt-more, items_more}
 use Rattle.ldm_shared.proofs.shared.Shared.create.Goals as goal
 
 pub deal-requires-clause-first : goal.deal-requires-clause-first

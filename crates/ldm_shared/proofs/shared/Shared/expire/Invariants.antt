@@ -2,6 +2,5 @@ use Rattle.ldm_model.specs.declared.event.Event.TheVariants.{Expire}
 use Rattle.ldm_model.specs.Answers.{expire_answer}
 use Rattle.ldm_shared.proofs.shared.Shared.expire.Given as goal
 
--- the entry of the call
-abbrev pub ghosts-give : goal.ghosts-give
-ghosts-give g a = record { entry = record { actor = a.actor; event = Expire; reply = expire_answer a.reply.now } }
+abbrev pub ghosts-call : goal.ghosts-call
+ghosts-call g a = record { event = Expire; reply = λ answer into. expire_answer answer }

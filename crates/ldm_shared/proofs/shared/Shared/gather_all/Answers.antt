@@ -1,4 +1,4 @@
-use Rattle.std.proofs.Common.{rules, ◌≡◌, ◌∙◌, ◌++◌, ◌∷◌, [], List, sym, ap, subst, append_assoc, append-nil}
+use Rattle.std.proofs.Common.{rules, ◌≡◌, ◌∙◌, ◌++◌, ◌∷◌, [], List, sym, ap, subst, append_assoc}
 use Rattle.std.specs.List.{All, AllByRecursion}
 use Rattle.ldm_shared.specs.Passes.{PassView, IsPassOf}
 use Rattle.ldm_shared.specs.Seats.{HasGathered}

@@ -1,4 +1,4 @@
-use Rattle.std.proofs.Common.{◌≡◌, ◌∙◌, ℕ, List, sym, ap, subst}
+use Rattle.std.proofs.Common.{◌≡◌, ◌∙◌, List, ap, subst}
 use Rattle.std.specs.Prelude.{Option}
 use mathlib.Core.List.{IsPrefix}
 use Rattle.atomic_table.specs.Table.{Me}
@@ -6,7 +6,7 @@ use Rattle.ldm_model.specs.declared.event.Entry.{Entry}
 use Rattle.ldm_book.specs.View.{BookView}
 use Rattle.ldm_shared.specs.declared.view.View.{View}
 use Rattle.ldm_shared.specs.Passes.{PassView}
-use Rattle.ldm_shared.specs.Seats.{IsSame, GoesOn}
+use Rattle.ldm_shared.specs.Seats.{GoesOn}
 use Rattle.ldm_shared.proofs.Histories.{prefix_trans}
 use Rattle.ldm_shared.proofs.Growing.{pass_met}
 use Rattle.ldm_shared.proofs.shared.Shared.meet.Goals as goal

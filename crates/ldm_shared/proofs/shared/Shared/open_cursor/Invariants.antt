@@ -2,6 +2,5 @@ use Rattle.ldm_model.specs.declared.event.Event.TheVariants.{OpenCursor}
 use Rattle.ldm_model.specs.Answers.{open_answer}
 use Rattle.ldm_shared.proofs.shared.Shared.open_cursor.Given as goal
 
--- the entry of the call
-abbrev pub ghosts-give : goal.ghosts-give
-ghosts-give g a = record { entry = record { actor = a.actor; event = OpenCursor a.event.now.0 a.event.now.1.now; reply = open_answer a.reply.now } }
+abbrev pub ghosts-call : goal.ghosts-call
+ghosts-call g a = record { event = OpenCursor a.event.now.0 a.event.now.1.now; reply = λ answer into. open_answer answer }

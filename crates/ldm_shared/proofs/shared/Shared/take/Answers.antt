@@ -1,6 +1,5 @@
-use Rattle.std.proofs.Common.{◌≡◌, ◌∙◌, ◌+◌, ◌*◌, ◌^◌, ◌<◌, ◌∷◌, ℕ, List, inl, refl, sym, ap, arith, ne_eqb, eq-eqb}
-use Rattle.ldm_shared.specs.Passes.{SharedView}
-use Rattle.ldm_shared.proofs.Taking.{goes_on_self, goes_on_sees, history_sees, waits_ready, waits_sees, has_taken, has_missed, seen_all, seen_few, taken_goes_on, taken_turn}
+use Rattle.std.proofs.Common.{◌∙◌, ◌^◌, ◌<◌, inl, refl, arith}
+use Rattle.ldm_shared.proofs.Taking.{goes_on_self, goes_on_sees, history_sees, waits_ready, waits_sees, has_taken, seen_all, taken_goes_on, can_call}
 use Rattle.ldm_shared.proofs.shared.Shared.take.Goals as goal
 
 pub loop-init : goal.loop-init
@@ -21,11 +20,12 @@ returns-then-word-ge-WORN-clause-goes_on g c = (
 )
 
 pub returns-then-word-ge-WORN-clause-worn : goal.returns-then-word-ge-WORN-clause-worn
-returns-then-word-ge-WORN-clause-worn g c = (
-  waits_ready c.args.self.now c.args.seat.now c.see-word.new.seat c.requires.ready
-      (waits_sees c.args.seat.now c.loop.seat c.see-word.new.seat c.see-word.result c.loop.invariant c.see-word.ensures.same c.see-word.ensures.sees c.see-word.ensures.idle),
-  seen_all c.loop.seat.me.0 c.see-word.new.seat.me.0 c.see-word.result c.see-word.ensures.sees c.if-word-ge-WORN.true,
-)
+returns-then-word-ge-WORN-clause-worn g c = record {
+  ready = waits_ready c.args.self.now c.args.seat.now c.see-word.new.seat c.requires.ready
+      (waits_sees c.args.seat.now c.loop.seat c.see-word.new.seat c.see-word.result c.loop.invariant c.see-word.ensures.same c.see-word.ensures.sees c.see-word.ensures.idle);
+  turns_are = refl;
+  long = seen_all c.loop.seat.me.0 c.see-word.new.seat.me.0 c.see-word.result c.see-word.ensures.sees c.if-word-ge-WORN.true;
+}
 
 pub try_take-requires : goal.try_take-requires
 try_take-requires g c =
@@ -38,28 +38,18 @@ try_take-requires g c =
       may = inl ((c.requires.one.0, waits.goes_on.actors ∙ c.requires.one.1), less);
     }
 
-pub take_out-requires : goal.take_out-requires
-take_out-requires g c =
-    let waits = waits_sees c.args.seat.now c.loop.seat c.see-word.new.seat c.see-word.result c.loop.invariant c.see-word.ensures.same c.see-word.ensures.sees c.see-word.ensures.idle in
-    record {
-      queue = c.try_take.ensures.same.table ∙ (waits.same.table ∙ c.requires.ready.queue);
-      taken = has_taken c.try_take.new.seat.me.0 c.try_take.new.seat.me.1 c.try_take.result c.see-word.result c.if-try_take-word.true c.try_take.ensures.taken;
-    }
-
 pub returns-then-try_take-word-clause-goes_on : goal.returns-then-try_take-word-clause-goes_on
 returns-then-try_take-word-clause-goes_on g c =
     let waits = waits_sees c.args.seat.now c.loop.seat c.see-word.new.seat c.see-word.result c.loop.invariant c.see-word.ensures.same c.see-word.ensures.sees c.see-word.ensures.idle in
-    taken_goes_on c.args.self.now c.args.seat.now c.see-word.new.seat c.try_take.new.seat c.take_out.new.seat c.try_take.result c.requires.ready waits
+    taken_goes_on c.args.self.now c.args.seat.now c.see-word.new.seat c.try_take.new.seat c.try_take.result c.requires.ready waits
     c.try_take.ensures.same c.try_take.ensures.sees
     (has_taken c.try_take.new.seat.me.0 c.try_take.new.seat.me.1 c.try_take.result c.see-word.result c.if-try_take-word.true c.try_take.ensures.taken)
-    c.take_out.ensures.same c.take_out.ensures.empty
 
 pub returns-then-try_take-word-clause-taken : goal.returns-then-try_take-word-clause-taken
 returns-then-try_take-word-clause-taken g c =
     let waits = waits_sees c.args.seat.now c.loop.seat c.see-word.new.seat c.see-word.result c.loop.invariant c.see-word.ensures.same c.see-word.ensures.sees c.see-word.ensures.idle in
     let less : c.see-word.result < 2 ^ 63 = c.if-word-ge-WORN.false in
-    taken_turn c.args.self.now c.args.seat.now c.see-word.new.seat c.try_take.new.seat c.take_out.new.seat c.try_take.result c.requires.ready waits
+    can_call c.args.self.now c.args.seat.now c.see-word.new.seat c.try_take.new.seat c.try_take.result c.requires.ready waits
     c.try_take.ensures.same c.try_take.ensures.sees
     (has_taken c.try_take.new.seat.me.0 c.try_take.new.seat.me.1 c.try_take.result c.see-word.result c.if-try_take-word.true c.try_take.ensures.taken)
-    c.take_out.ensures.same c.take_out.ensures.empty
-    c.take_out.result (omega (arith, c.if-try_take-word.true, less)) c.take_out.ensures.stands
+    (omega (arith, c.if-try_take-word.true, less))

@@ -1,4 +1,4 @@
-use Rattle.std.proofs.Common.{◌≡◌, ◌∙◌, ◌∷◌, ℕ, List, Some, sym, ap}
+use Rattle.std.proofs.Common.{◌∙◌, ◌∷◌, ℕ, List, Some, sym, ap}
 use Rattle.atomic_table.specs.Table.{rest}
 use Rattle.ldm_book.specs.View.{BookView}
 use Rattle.ldm_shared.specs.Passes.{SharedView}

@@ -2,6 +2,5 @@ use Rattle.ldm_model.specs.declared.event.Event.TheVariants.{Tally}
 use Rattle.ldm_model.specs.Answers.{tally_answer}
 use Rattle.ldm_shared.proofs.shared.Shared.tally.Given as goal
 
--- the entry of the call
-abbrev pub ghosts-give : goal.ghosts-give
-ghosts-give g a = record { entry = record { actor = a.actor; event = Tally a.event.now; reply = tally_answer a.reply.now } }
+abbrev pub ghosts-call : goal.ghosts-call
+ghosts-call g a = record { event = Tally a.event.now; reply = λ answer into. tally_answer answer }
