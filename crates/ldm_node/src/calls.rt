@@ -1,7 +1,6 @@
 //! The calls of a shared queue that lines ask for.
 ghost use Rattle.std.specs.Prelude.{◌≡◌, ◌≤◌, length};
 ghost use Rattle.ldm_model.specs.declared.event.Event.TheVariants as event;
-ghost use Rattle.ldm_model.specs.Answers.{read_answer};
 ghost use Rattle.ldm_script.specs.AnswerView.{reply_of, FitsAnswer};
 ghost use Rattle.ldm_script.specs.Order.{OnCursor};
 ghost use Rattle.ldm_script.specs.OrderView.{asked_of, bytes_of, IsBody, IsWhole};
@@ -12,7 +11,6 @@ ghost use Rattle.ldm_shared.specs.Passes.{IsPassOf, IsSamePass, Grows, FindsWorn
 ghost use Rattle.ldm_shared.specs.Turns.{IfDone, IfWorn};
 ghost use Rattle.ldm_node.specs.Calls.{GrowsBy};
 
-use ldm_model::ReadReply;
 use ldm_script::{Act, Answer, Body, Place, body_into};
 use ldm_shared::{Pass, Shared, Turn};
 use ldm_types::{CursorNo, Info, Micros};
@@ -137,24 +135,8 @@ fn read<'a, H: Wait>(
         return Turn::Done(Answer::NoCursor);
     };
     match shared.read(rt, pass, k, offset, into) {
-        Turn::Done(reply) => Turn::Done(answer_of_read(reply, into)),
+        Turn::Done(reply) => Turn::Done(Answer::from_read(reply, into)),
         Turn::Worn { turns } => Turn::Worn { turns },
-    }
-}
-
-// What a read is answered, whose bytes stand at the front of the buffer.
-fn answer_of_read(reply: ReadReply, into: &[u8]) -> Answer<'_>
-    requires { length into.now ≤ LONGEST_READ }
-    ensures value { reply_of result ≡ read_answer reply into.now }
-    ensures fits { FitsAnswer result }
-{
-    match reply {
-        ReadReply::NoCursor => Answer::NoCursor,
-        ReadReply::NotHeld => Answer::NotHeld,
-        ReadReply::BadOffset { size } => Answer::BadOffset { size },
-        ReadReply::Bytes { len } => Answer::Bytes {
-            bytes: &into[..into.len().min(len as usize)],
-        },
     }
 }
 
