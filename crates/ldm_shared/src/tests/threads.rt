@@ -119,7 +119,7 @@ fn calls<R: Wait + Abort>(
     for _ in 0..plan.calls {
         worker.call(rt, shared, pass)?;
     }
-    worker.close(rt, shared, pass)?;
+    worker.close(rt, shared, pass);
     Ok(worker.into_told())
 }
 

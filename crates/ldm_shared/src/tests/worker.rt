@@ -5,7 +5,7 @@ ghost use Rattle.ldm_shared.specs.Passes.{IsPassOf, IsSamePass};
 use crate::{Pass, Shared, Turn};
 use ldm_model::{
     CloseReply, ExpireReply, InsertReply, LookReply, OpenReply, ReadReply, ReleaseReply, Start,
-    StepReply, TallyReply,
+    Stat, StepReply, TallyReply,
 };
 use ldm_types::{CursorNo, Feed, Info, Micros, Signature};
 use std::alloc::{AllocError, Global};
@@ -44,12 +44,12 @@ pub struct Told {
 #[derive(Clone, Copy)]
 struct Reader {
     feed: Feed,
-    held: Option<Held>,
     given: u64,
     lost: u64,
     next: u64,
 }
 
+// The product that the cursor of a thread holds.
 #[derive(Clone, Copy)]
 struct Held {
     n: u64,
@@ -68,6 +68,7 @@ pub struct Worker {
     // Where the last cursor was opened.
     place: CursorNo,
     reader: Option<Reader>,
+    held: Option<Held>,
     told: Told,
 }
 
@@ -77,6 +78,11 @@ impl Worker {
         let Some(place) = CursorNo::new(0) else {
             unreachable!()
         };
+        let told = Told {
+            admitted: Vec::new(alloc),
+            named: Vec::new(alloc),
+            gone: 0,
+        };
         Worker {
             alloc,
             largest,
@@ -85,11 +91,8 @@ impl Worker {
             admitted: 0,
             place,
             reader: None,
-            told: Told {
-                admitted: Vec::new(alloc),
-                named: Vec::new(alloc),
-                gone: 0,
-            },
+            held: None,
+            told,
         }
     }
 
@@ -114,10 +117,6 @@ impl Worker {
         self.below(u64::from(PRODUCTS)) as u8
     }
 
-    fn name(&mut self, n: u64, byte: u8, time: Option<Micros>) -> Result<(), AllocError> {
-        Ok(self.told.named.push(Named { n, byte, time })?)
-    }
-
     /// Makes one of the ten calls.
     pub fn call<R: Wait + Abort>(
         &mut self,
@@ -129,19 +128,46 @@ impl Worker {
         ensures { IsSamePass pass.old pass.new }
     {
         match self.below(20) {
-            0..=5 => self.insert(rt, shared, pass),
+            0..=5 => self.insert(rt, shared, pass)?,
             6..=10 => match self.reader {
-                Some(reader) => self.step(rt, shared, pass, reader),
-                None => self.open(rt, shared, pass),
+                Some(reader) => {
+                    let turn = shared.step(rt, pass, self.place);
+                    self.stepped(rt, reader, done(rt, turn))?;
+                }
+                None => {
+                    let (feed, start, next) = self.start();
+                    let turn = shared.open_cursor(rt, pass, feed, start);
+                    self.opened(rt, feed, next, done(rt, turn));
+                }
             },
-            11..=12 => self.release(rt, shared, pass),
-            13..=14 => self.read(rt, shared, pass),
-            15 => self.tally(rt, shared, pass),
-            16 => self.look(rt, shared, pass),
-            17 => self.expire(rt, shared, pass),
-            18 => self.stat(rt, shared, pass),
+            11..=12 => {
+                let turn = shared.release(rt, pass, self.place);
+                self.released(rt, done(rt, turn));
+            }
+            13..=14 => self.read(rt, shared, pass)?,
+            15 => {
+                let turn = shared.tally(rt, pass, self.place);
+                self.tallied(rt, done(rt, turn));
+            }
+            16 => {
+                let byte = self.byte();
+                let turn = shared.look(rt, pass, &Signature([byte; 16]));
+                if let LookReply::Queued { n, time } = done(rt, turn) {
+                    self.name(n, byte, Some(time))?;
+                }
+            }
+            17 => {
+                if let ExpireReply::Expired { .. } = done(rt, shared.expire(rt, pass)) {
+                    self.told.gone = self.told.gone.saturating_add(1);
+                }
+            }
+            18 => {
+                let turn = shared.stat(rt, pass);
+                self.counted(rt, shared.arena(), done(rt, turn));
+            }
             _ => self.close(rt, shared, pass),
         }
+        Ok(())
     }
 
     fn insert<R: Wait + Abort>(
@@ -160,31 +186,33 @@ impl Worker {
         let size = size_of(byte, self.largest);
         let info = info_of(rt, now, byte, size);
         let body = vec![in self.alloc; byte; size as usize]?;
-        match done(rt, shared.insert(rt, pass, now, &info, &body)) {
+        let turn = shared.insert(rt, pass, now, &info, &body);
+        self.inserted(rt, byte, now, done(rt, turn))
+    }
+
+    fn inserted<R: Abort>(
+        &mut self,
+        rt: &R,
+        byte: u8,
+        now: Micros,
+        reply: InsertReply,
+    ) -> Result<(), AllocError> {
+        match reply {
             InsertReply::Admitted { n, time, evicted } => {
                 assert!(rt; n >= self.admitted && time >= now);
                 self.admitted = n.saturating_add(1);
                 self.told.gone = self.told.gone.saturating_add(evicted);
-                Ok(self.told.admitted.push(Admitted { n, byte, time })?)
+                self.told.admitted.push(Admitted { n, byte, time })?;
             }
-            InsertReply::Duplicate { n } => self.name(n, byte, None),
-            InsertReply::Locked { held } => {
-                assert!(rt; held > 0);
-                Ok(())
-            }
+            InsertReply::Duplicate { n } => self.name(n, byte, None)?,
+            InsertReply::Locked { held } => assert!(rt; held > 0),
             other => panic!(rt; "{other:?}"),
         }
+        Ok(())
     }
 
-    fn open<R: Wait + Abort>(
-        &mut self,
-        rt: &R,
-        shared: &Shared,
-        pass: &mut Pass,
-    ) -> Result<(), AllocError>
-        requires { IsPassOf shared.now pass.old }
-        ensures { IsSamePass pass.old pass.new }
-    {
+    // What a cursor is opened for, where it begins, and the least number that it can be given.
+    fn start(&mut self) -> (Feed, Start, u64) {
         let feed = Feed(self.below(3) as u32 + 1);
         let byte = self.byte();
         let (start, next) = match self.below(3) {
@@ -192,12 +220,15 @@ impl Worker {
             1 => (Start::Next, self.admitted),
             _ => (Start::AfterSignature(Signature([byte; 16])), 0),
         };
-        match done(rt, shared.open_cursor(rt, pass, feed, start)) {
+        (feed, start, next)
+    }
+
+    fn opened<R: Abort>(&mut self, rt: &R, feed: Feed, next: u64, reply: OpenReply) {
+        match reply {
             OpenReply::Opened { k } => {
                 self.place = k;
                 self.reader = Some(Reader {
                     feed,
-                    held: None,
                     given: 0,
                     lost: 0,
                     next,
@@ -206,49 +237,40 @@ impl Worker {
             OpenReply::NotQueued => {}
             OpenReply::AllBusy => panic!(rt; "8 threads have more than 64 cursors"),
         }
-        Ok(())
     }
 
-    fn step<R: Wait + Abort>(
+    fn stepped<R: Abort>(
         &mut self,
         rt: &R,
-        shared: &Shared,
-        pass: &mut Pass,
         mut reader: Reader,
-    ) -> Result<(), AllocError>
-        requires { IsPassOf shared.now pass.old }
-        ensures { IsSamePass pass.old pass.new }
-    {
-        let reply = done(rt, shared.step(rt, pass, self.place));
+        reply: StepReply,
+    ) -> Result<(), AllocError> {
         if let StepReply::Holding { n } = reply {
-            assert!(rt; reader.held.is_some_and(|held| held.n == n));
+            assert!(rt; self.held.is_some_and(|held| held.n == n));
             return Ok(());
         }
-        assert!(rt; reader.held.is_none());
+        assert!(rt; self.held.is_none());
         match reply {
             StepReply::Product { n, time, info } => {
                 assert!(rt; n >= reader.next && info.feed().meets(reader.feed));
                 let byte = info.signature().0[0];
-                reader.held = Some(Held { n, byte });
+                self.held = Some(Held { n, byte });
                 reader.given = reader.given.saturating_add(1);
                 reader.next = n.saturating_add(1);
-                self.reader = Some(reader);
-                self.name(n, byte, Some(time))
+                self.name(n, byte, Some(time))?;
             }
             StepReply::Gap { count, first, last } => {
                 assert!(rt; count > 0 && reader.next <= first && first <= last);
                 reader.lost = reader.lost.saturating_add(count);
-                self.reader = Some(reader);
-                Ok(())
             }
             StepReply::End { at } => {
                 assert!(rt; at >= reader.next && at >= self.admitted);
                 reader.next = at;
-                self.reader = Some(reader);
-                Ok(())
             }
             other => panic!(rt; "{other:?}"),
         }
+        self.reader = Some(reader);
+        Ok(())
     }
 
     // The whole body of a product that is held, and one byte of the buffer that stays.
@@ -261,54 +283,34 @@ impl Worker {
         requires { IsPassOf shared.now pass.old }
         ensures { IsSamePass pass.old pass.new }
     {
-        let (wanted, byte, len) = match self.reader {
+        let (wanted, byte, len) = match self.held {
+            Some(held) => {
+                let len = size_of(held.byte, self.largest);
+                (ReadReply::Bytes { len }, held.byte, len as usize)
+            }
+            None if self.reader.is_some() => (ReadReply::NotHeld, PRODUCTS, 0),
             None => (ReadReply::NoCursor, PRODUCTS, 0),
-            Some(reader) => match reader.held {
-                None => (ReadReply::NotHeld, PRODUCTS, 0),
-                Some(held) => {
-                    let len = size_of(held.byte, self.largest);
-                    (ReadReply::Bytes { len }, held.byte, len as usize)
-                }
-            },
         };
         let mut bytes = vec![in self.alloc; PRODUCTS; len + 1]?;
-        let reply = done(rt, shared.read(rt, pass, self.place, 0, &mut bytes));
-        assert_eq!(rt; reply, wanted);
+        let turn = shared.read(rt, pass, self.place, 0, &mut bytes);
+        assert_eq!(rt; done(rt, turn), wanted);
         assert!(rt; bytes.iter().take(len).all(|b| *b == byte));
         assert!(rt; bytes.iter().skip(len).all(|b| *b == PRODUCTS));
         Ok(())
     }
 
-    fn release<R: Wait + Abort>(
-        &mut self,
-        rt: &R,
-        shared: &Shared,
-        pass: &mut Pass,
-    ) -> Result<(), AllocError>
-        requires { IsPassOf shared.now pass.old }
-        ensures { IsSamePass pass.old pass.new }
-    {
-        let wanted = match self.reader {
+    fn released<R: Abort>(&mut self, rt: &R, reply: ReleaseReply) {
+        let wanted = match self.held {
+            Some(held) => ReleaseReply::Released { n: held.n },
+            None if self.reader.is_some() => ReleaseReply::NotHeld,
             None => ReleaseReply::NoCursor,
-            Some(reader) => match reader.held {
-                None => ReleaseReply::NotHeld,
-                Some(held) => ReleaseReply::Released { n: held.n },
-            },
         };
-        assert_eq!(rt; shared.release(rt, pass, self.place), Turn::Done(wanted));
-        if let Some(reader) = &mut self.reader {
-            reader.held = None;
-        }
-        Ok(())
+        assert_eq!(rt; reply, wanted);
+        self.held = None;
     }
 
     /// Closes the cursor.
-    pub fn close<R: Wait + Abort>(
-        &mut self,
-        rt: &R,
-        shared: &Shared,
-        pass: &mut Pass,
-    ) -> Result<(), AllocError>
+    pub fn close<R: Wait + Abort>(&mut self, rt: &R, shared: &Shared, pass: &mut Pass)
         requires { IsPassOf shared.now pass.old }
         ensures { IsSamePass pass.old pass.new }
     {
@@ -318,76 +320,27 @@ impl Worker {
         };
         assert_eq!(rt; shared.close(rt, pass, self.place), Turn::Done(wanted));
         self.reader = None;
-        Ok(())
+        self.held = None;
     }
 
-    fn tally<R: Wait + Abort>(
-        &mut self,
-        rt: &R,
-        shared: &Shared,
-        pass: &mut Pass,
-    ) -> Result<(), AllocError>
-        requires { IsPassOf shared.now pass.old }
-        ensures { IsSamePass pass.old pass.new }
-    {
-        let reply = done(rt, shared.tally(rt, pass, self.place));
-        match self.reader {
-            None => assert_eq!(rt; reply, TallyReply::NoCursor),
-            Some(reader) => match reply {
-                TallyReply::Tally { given, lost, .. } => {
-                    assert!(rt; given == reader.given && lost >= reader.lost);
-                }
-                TallyReply::NoCursor => panic!(rt; "the cursor is lost"),
-            },
-        }
-        Ok(())
-    }
-
-    fn look<R: Wait + Abort>(
-        &mut self,
-        rt: &R,
-        shared: &Shared,
-        pass: &mut Pass,
-    ) -> Result<(), AllocError>
-        requires { IsPassOf shared.now pass.old }
-        ensures { IsSamePass pass.old pass.new }
-    {
-        let byte = self.byte();
-        match done(rt, shared.look(rt, pass, &Signature([byte; 16]))) {
-            LookReply::Queued { n, time } => self.name(n, byte, Some(time)),
-            LookReply::Absent => Ok(()),
+    fn tallied<R: Abort>(&self, rt: &R, reply: TallyReply) {
+        match (self.reader, reply) {
+            (None, TallyReply::NoCursor) => {}
+            (Some(reader), TallyReply::Tally { given, lost, .. }) => {
+                assert!(rt; given == reader.given && lost >= reader.lost);
+            }
+            (_, other) => panic!(rt; "{other:?}"),
         }
     }
 
-    fn expire<R: Wait + Abort>(
-        &mut self,
-        rt: &R,
-        shared: &Shared,
-        pass: &mut Pass,
-    ) -> Result<(), AllocError>
-        requires { IsPassOf shared.now pass.old }
-        ensures { IsSamePass pass.old pass.new }
-    {
-        if let ExpireReply::Expired { .. } = done(rt, shared.expire(rt, pass)) {
-            self.told.gone = self.told.gone.saturating_add(1);
-        }
-        Ok(())
-    }
-
-    fn stat<R: Wait + Abort>(
-        &mut self,
-        rt: &R,
-        shared: &Shared,
-        pass: &mut Pass,
-    ) -> Result<(), AllocError>
-        requires { IsPassOf shared.now pass.old }
-        ensures { IsSamePass pass.old pass.new }
-    {
-        let stat = done(rt, shared.stat(rt, pass));
+    fn counted<R: Abort>(&mut self, rt: &R, arena: u64, stat: Stat) {
         assert!(rt; stat.admitted >= self.admitted && stat.held <= stat.queued);
-        assert!(rt; stat.used.saturating_add(stat.largest_free) <= shared.arena());
+        assert!(rt; stat.used.saturating_add(stat.largest_free) <= arena);
         self.admitted = stat.admitted;
-        Ok(())
+    }
+
+    fn name(&mut self, n: u64, byte: u8, time: Option<Micros>) -> Result<(), AllocError> {
+        Ok(self.told.named.push(Named { n, byte, time })?)
     }
 }
 
