@@ -1,7 +1,8 @@
 //! The calls of the shared queue. Each asks the book something in a turn of its own.
 ghost use Rattle.std.specs.Prelude.{◌≡◌, ◌≤◌, ◌^◌, drop, length};
 ghost use Rattle.ldm_model.specs.declared.event.Event.TheVariants as event;
-ghost use Rattle.ldm_model.specs.Answers.{insert_answer, look_answer, expire_answer, stat_answer, open_answer, step_answer, read_answer, release_answer, close_answer, tally_answer, asked_bytes, bytes_read};
+ghost use Rattle.ldm_model.specs.Answers.{insert_answer, look_answer, expire_answer, stat_answer, open_answer, step_answer, read_answer, release_answer, close_answer, tally_answer};
+ghost use Rattle.ldm_model.specs.Answers.{asked_bytes, bytes_read};
 ghost use Rattle.ldm_shared.specs.Passes.{IsPassOf, IsSamePass, Grows, FindsWorn};
 ghost use Rattle.ldm_shared.specs.Turns.{IfDone, IfWorn};
 

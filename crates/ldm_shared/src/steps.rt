@@ -129,7 +129,8 @@ impl Shared {
         requires may { F.IsAlwaysCallable ask }
         ensures same { IsSame seat.old seat.new }
         ensures view { seat.new.me.0 ≡ seat.old.me.0 }
-        ensures asked { (b : _) × (i : _) × (b' : _) × (i' : _) × F.post ask b actor i result b' i' × (i.now ≡ into.old) × (i'.now ≡ into.new) × HasTheTurn self.now seat.old b.now × HasTheTurn self.now seat.new b'.now }
+        ensures asked { (b : _) × (i : _) × (b' : _) × (i' : _) × F.post ask b actor i result b' i' × (i.now ≡ into.old) × (i'.now ≡ into.new)
+            × HasTheTurn self.now seat.old b.now × HasTheTurn self.now seat.new b'.now }
     {
         let Some(book) = seat.slot_mut(&self.table.shared, 0) else {
             unreachable!()
