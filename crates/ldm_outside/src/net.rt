@@ -69,7 +69,9 @@ pub trait Net: Dial {
             Self::StationGate,
         >,
     >
-        ensures given { StationsGive (station_tells Self.StationDoor.tells Self.StationDial.tells Self.StationLog.tells Self.StationClock.tells Self.StationGate.tells) result count (Self.tells self.old) (Self.tells self.new) }
+        ensures given { StationsGive
+            (station_tells Self.StationDoor.tells Self.StationDial.tells Self.StationLog.tells Self.StationClock.tells Self.StationGate.tells)
+            result count (Self.tells self.old) (Self.tells self.new) }
         ensures kept { kept self.new ≡ kept self.old };
 
     /// Keeps the stations as they are, in place of those that it kept. It needs no memory.
