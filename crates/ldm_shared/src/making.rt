@@ -20,7 +20,7 @@ use atomic_table::{Seat, Table};
 use ldm_book::{Book, CreateFault as BookFault};
 use ldm_types::Actor;
 use std::alloc::Global;
-use std::sync::atomic::AtomicU64;
+use std::sync::atomic::AtomicBool;
 
 impl Shared {
     /// A queue with an arena of so many bytes and so many product slots, which that many passes can call. Pass i is of actor i.
@@ -75,7 +75,7 @@ impl Shared {
                 Shared {
                     table,
                     arena: sizes.arena,
-                    sleepers: AtomicU64::new(0),
+                    may_sleep: AtomicBool::new(false),
                 },
                 seat,
             )),

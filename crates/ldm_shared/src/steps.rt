@@ -27,7 +27,7 @@ pub const MOST_TURNS: u64 = 1 << 62;
 // The word that counts so many calls, with no turn taken.
 const WORN: u64 = 2 * MOST_TURNS;
 
-// How often a caller looks at a turn that is taken before it sleeps.
+// How often a caller looks at a turn that is taken before it sleeps, where no other sleeps yet.
 const LOOKS: u32 = 100;
 
 impl Shared {
@@ -71,16 +71,21 @@ impl Shared {
     }
 
     // Sleeps while the low half of the word is that of the one that was seen, until a wake. It may also return for no reason.
+    //
+    // The wake that ends it leaves word that nobody sleeps, though others may; so it is taken back.
     fn sleep<H: Wait>(&self, rt: &H, word: u64) {
-        self.sleepers.fetch_add(1, Ordering::SeqCst);
+        self.may_sleep.store(true, Ordering::SeqCst);
         self.table.shared.park(rt, 0, (word & 0xffff_ffff) as u32);
-        self.sleepers.fetch_sub(1, Ordering::SeqCst);
+        self.may_sleep.store(true, Ordering::SeqCst);
     }
 
-    // Wakes one caller that sleeps, if one may: to ask the system each time would cost more than most calls. A caller counts
-    // itself before it compares the word, and the word is changed before this reads the count, so none is left asleep.
+    // Wakes one caller that sleeps, if one may: to ask the system each time would cost more than most calls. Until that caller
+    // runs, no other wake asks the system again, unless another caller goes to sleep meanwhile.
+    //
+    // None is left asleep. A caller says that it sleeps before it compares the word, and the word is changed before this looks;
+    // and the caller that is woken says so for those that sleep still, and then takes the turn and wakes the next, or sleeps.
     fn wake(&self) {
-        if self.sleepers.load(Ordering::SeqCst) > 0 {
+        if self.may_sleep.load(Ordering::SeqCst) && self.may_sleep.swap(false, Ordering::SeqCst) {
             self.table.shared.wake_one(0);
         }
     }
@@ -106,7 +111,7 @@ impl Shared {
                 if self.try_take(seat, word) == word {
                     return Turn::Done(());
                 }
-            } else if looks < LOOKS {
+            } else if looks < LOOKS && !self.may_sleep.load(Ordering::SeqCst) {
                 looks += 1;
                 spin_loop();
             } else {
