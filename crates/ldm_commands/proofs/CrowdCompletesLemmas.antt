@@ -4,8 +4,8 @@ use Rattle.std.proofs.lemmas.List.{append-nil}
 use Rattle.ldm_outside.specs.Io.{Gives}
 use Rattle.ldm_outside.specs.World.{WorldRecord}
 use Rattle.ldm_shared.specs.declared.fault.CreateFault.TheVariants as fault
-use Rattle.ldm_node.specs.Script.{script_of}
-use Rattle.ldm_node.specs.declared.orders.TheConstants.{MOST_SCRIPT}
+use Rattle.ldm_crowd.specs.Script.{script_of}
+use Rattle.ldm_crowd.specs.declared.orders.TheConstants.{MOST_SCRIPT}
 use Rattle.ldm_commands.specs.declared.crowd_command.CrowdStop.{CrowdStop}
 use Rattle.ldm_commands.specs.declared.crowd_command.CrowdStop.TheVariants as stop
 use Rattle.ldm_commands.specs.declared.crowd_command.Unplayed.TheVariants as unplayed

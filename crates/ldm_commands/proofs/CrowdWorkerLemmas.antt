@@ -7,10 +7,10 @@ use Rattle.ldm_script.specs.Order.{Asked}
 use Rattle.ldm_book.specs.View.{BookView}
 use Rattle.ldm_book.specs.Stands.{StandsFor}
 use Rattle.ldm_shared.specs.Passes.{SharedView, PassView, IsLast}
-use Rattle.ldm_node.specs.declared.outcome.CrowdEnd.{CrowdEnd}
-use Rattle.ldm_node.specs.declared.outcome.CrowdEnd.TheVariants as crowd_end
-use Rattle.ldm_node.specs.Script.{script_of}
-use Rattle.ldm_node.specs.Crowd.{CrowdEnds, stops_of}
+use Rattle.ldm_crowd.specs.declared.outcome.CrowdEnd.{CrowdEnd}
+use Rattle.ldm_crowd.specs.declared.outcome.CrowdEnd.TheVariants as crowd_end
+use Rattle.ldm_crowd.specs.Script.{script_of}
+use Rattle.ldm_crowd.specs.Crowd.{CrowdEnds, stops_of}
 use Rattle.ldm_commands.specs.CrowdEnding.{IsWornOut}
 use Rattle.ldm_commands.specs.CrowdStep.{HasPlayed}
 

@@ -5,8 +5,8 @@ use Rattle.ldm_outside.specs.World.{WorldRecord}
 use Rattle.ldm_script.specs.Order.{Asked}
 use Rattle.ldm_script.specs.Resolve.{new_play}
 use Rattle.ldm_book.specs.Limits.{IsGoodArena, IsGoodSlots}
-use Rattle.ldm_node.specs.Script.{script_of}
-use Rattle.ldm_node.specs.declared.orders.TheConstants.{MOST_SCRIPT}
+use Rattle.ldm_crowd.specs.Script.{script_of}
+use Rattle.ldm_crowd.specs.declared.orders.TheConstants.{MOST_SCRIPT}
 use Rattle.ldm_commands.specs.declared.play_command.TheConstants.{SCRIPT_LIMIT}
 use Rattle.ldm_commands.specs.declared.command.Command.{Command}
 use Rattle.ldm_commands.specs.declared.command.Command.TheVariants as command

@@ -9,10 +9,10 @@ use Rattle.ldm_script.specs.Order.{Asked}
 use Rattle.ldm_book.specs.Limits.{IsGoodArena, IsGoodSlots}
 use Rattle.ldm_shared.specs.Limits.{IsGoodPasses, IsFaultOf}
 use Rattle.ldm_shared.specs.declared.steps.TheConstants.{MOST_TURNS}
-use Rattle.ldm_node.specs.Script.{script_of}
-use Rattle.ldm_node.specs.Interleaving.{IsInterleaving, IsBegun, crowd_text}
-use Rattle.ldm_node.specs.declared.orders.OrdersFault.{OrdersFault}
-use Rattle.ldm_node.specs.declared.orders.OrdersFault.TheVariants as orders_fault
+use Rattle.ldm_crowd.specs.Script.{script_of}
+use Rattle.ldm_crowd.specs.Interleaving.{IsInterleaving, IsBegun, crowd_text}
+use Rattle.ldm_crowd.specs.declared.orders.OrdersFault.{OrdersFault}
+use Rattle.ldm_crowd.specs.declared.orders.OrdersFault.TheVariants as orders_fault
 use Rattle.ldm_commands.specs.declared.crowd_command.CrowdStop.{CrowdStop}
 use Rattle.ldm_commands.specs.declared.crowd_command.CrowdStop.TheVariants as stop
 use Rattle.ldm_commands.specs.declared.crowd_command.Unplayed.{Unplayed}

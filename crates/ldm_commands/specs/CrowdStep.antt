@@ -5,8 +5,8 @@ use Rattle.ldm_model.specs.History.{IsLegal, after}
 use Rattle.ldm_script.specs.Order.{Asked}
 use Rattle.ldm_book.specs.View.{BookView}
 use Rattle.ldm_book.specs.Stands.{StandsFor}
-use Rattle.ldm_node.specs.Script.{script_of}
-use Rattle.ldm_node.specs.Interleaving.{IsInterleaving, texts_from}
+use Rattle.ldm_crowd.specs.Script.{script_of}
+use Rattle.ldm_crowd.specs.Interleaving.{IsInterleaving, texts_from}
 use Rattle.ldm_commands.specs.CrowdEnding.{CrowdSize}
 
 -- A text was played: all calls stand in this history, the book stands for the state after it, and these are the answers to

@@ -2,7 +2,7 @@
 use Rattle.std.specs.Prelude.{◌≡◌, ℕ, ◌<◌, ◌≤◌, List, length}
 use Rattle.ldm_outside.specs.Count.{Rose}
 use Rattle.ldm_outside.specs.Io.{SourceRecord, Gives}
-use Rattle.ldm_node.specs.declared.orders.TheConstants.{MOST_SCRIPT}
+use Rattle.ldm_crowd.specs.declared.orders.TheConstants.{MOST_SCRIPT}
 use Rattle.ldm_commands.specs.declared.whole_script.Untaken.{Untaken}
 use Rattle.ldm_commands.specs.declared.whole_script.Untaken.TheVariants as untaken
 use Rattle.ldm_commands.specs.Ending.{AtEnd}

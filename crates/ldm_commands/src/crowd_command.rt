@@ -9,7 +9,7 @@ ghost use Rattle.ldm_book.specs.Stands.{StandsFor};
 ghost use Rattle.ldm_shared.specs.Passes.{new_pass};
 ghost use Rattle.ldm_shared.specs.Limits.{IsGoodPasses};
 ghost use Rattle.ldm_script.specs.Answer.{answer_line};
-ghost use Rattle.ldm_node.specs.declared.orders.TheConstants.{MOST_SCRIPT};
+ghost use Rattle.ldm_crowd.specs.declared.orders.TheConstants.{MOST_SCRIPT};
 ghost use Rattle.ldm_commands.specs.CrowdEnding.{CrowdEnds, IsUnplayed};
 ghost use Rattle.ldm_commands.specs.CrowdStep.{HasPlayed};
 ghost use Rattle.ldm_commands.specs.Run.{CrowdRuns};
@@ -18,7 +18,7 @@ ghost use Rattle.ldm_commands.specs.Complete.{CrowdCompletes};
 use crate::status::Status;
 use crate::whole_script::{Untaken, take_script};
 use ldm_book::Book;
-use ldm_node::{CrowdEnd, Orders, OrdersFault};
+use ldm_crowd::{CrowdEnd, Orders, OrdersFault};
 use ldm_outside::{OpenGate, Sink, SinkFailed, Source, write_all};
 use ldm_script::{Answer, Text, write_answer};
 use ldm_shared::{CreateFault, Pass, Shared};
@@ -128,7 +128,7 @@ fn play_text<H: Threads + Wait + Sync>(
     passes: Vec<Pass>,
     workers: u32,
     text: &[u8],
-) -> Result<ldm_node::Crowd<OpenGate>, Unplayed>
+) -> Result<ldm_crowd::Crowd<OpenGate>, Unplayed>
     requires text { length text.now ≤ MOST_SCRIPT }
     requires workers { workers ≡ shared.passes }
     requires good { IsGoodPasses workers }
@@ -139,7 +139,7 @@ fn play_text<H: Threads + Wait + Sync>(
 {
     let orders = Orders::read(alloc, text, workers)?;
     let gates = vec![in alloc; OpenGate; workers as usize]?;
-    let crowd = ldm_node::crowd(rt, alloc, &orders, shared, passes, gates);
+    let crowd = ldm_crowd::crowd(rt, alloc, &orders, shared, passes, gates);
     match crowd.end {
         CrowdEnd::Done => Ok(crowd),
         CrowdEnd::Worn => Err(Unplayed::Worn),

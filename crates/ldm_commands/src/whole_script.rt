@@ -3,7 +3,7 @@ ghost use Rattle.std.specs.Prelude.{◌≡◌, ◌<◌, ◌≤◌, length, IfOk,
 ghost use Rattle.ldm_commands.specs.WholeScript.{TakesWhole, TakesPart};
 
 use crate::play_command::PIECE;
-use ldm_node::MOST_SCRIPT;
+use ldm_crowd::MOST_SCRIPT;
 use ldm_outside::{Got, Source};
 use std::alloc::{AllocError, Global};
 

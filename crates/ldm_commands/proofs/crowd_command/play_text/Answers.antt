@@ -1,6 +1,6 @@
 use Rattle.std.proofs.Common.{ℕ, Vec, Global, map}
 use Rattle.ldm_outside.specs.declared.open_gate.OpenGate.{OpenGate}
-use Rattle.ldm_node.specs.OrdersView.{script_in}
+use Rattle.ldm_crowd.specs.OrdersView.{script_in}
 use Rattle.ldm_commands.proofs.CrowdWorkerLemmas.{all_played, worn_out, open_stops, never_stops}
 use Rattle.ldm_commands.proofs.crowd_command.play_text.Goals as goal
 

@@ -1,6 +1,6 @@
 use Rattle.std.proofs.Common.{◌≡◌, ◌-◌, ◌≤◌, length}
 use Rattle.ldm_outside.specs.Io.{Gives}
-use Rattle.ldm_node.specs.declared.orders.TheConstants.{MOST_SCRIPT}
+use Rattle.ldm_crowd.specs.declared.orders.TheConstants.{MOST_SCRIPT}
 use Rattle.ldm_commands.proofs.whole_script.take_pieces.Given as goal
 
 abbrev pub invariant-loop-text : goal.invariant-loop-text

@@ -1,0 +1,29 @@
+-- Lists that are taken apart from the end.
+use Rattle.std.proofs.Common.{◌≡◌, List, [], ◌∷◌, ◌++◌, map, reverse, refl, sym, ap, ◌∙◌, append_assoc}
+use Rattle.std.proofs.lemmas.List.{reverse-append}
+use Rattle.ldm_crowd.specs.declared.outcome.CrowdEnd.{CrowdEnd}
+use Rattle.ldm_crowd.specs.declared.outcome.CrowdEnd.TheVariants as crowd_end
+use Rattle.ldm_crowd.specs.Ends.{first_end, or_end}
+
+-- the last element of one list, seen so, is the next of another
+pub turned : {X Y : Type 0} (f : X → Y) (front : List Y) (xs : List X) (x : X) → (front ++ f x ∷ []) ++ map f (reverse xs) ≡ front ++ map f (reverse (xs ++ x ∷ []))
+turned f front xs x =
+    append_assoc front (f x ∷ []) (map f (reverse xs)) ∙ ap (λ ys. front ++ map f ys) (sym (reverse-append xs (x ∷ [])))
+
+or_end-assoc : (a b c : CrowdEnd) → or_end a (or_end b c) ≡ or_end (or_end a b) c
+or_end-assoc crowd_end.Done b c = refl
+or_end-assoc crowd_end.Stopped b c = refl
+or_end-assoc crowd_end.Worn b c = refl
+or_end-assoc crowd_end.OutOfMemory b c = refl
+
+pub or_end-done : (end : CrowdEnd) → or_end end crowd_end.Done ≡ end
+or_end-done crowd_end.Done = refl
+or_end-done crowd_end.Stopped = refl
+or_end-done crowd_end.Worn = refl
+or_end-done crowd_end.OutOfMemory = refl
+
+-- the end of the first, where one more is looked at
+pub end_turned : {X : Type 0} (end_of : X → CrowdEnd) (first : CrowdEnd) (xs : List X) (x : X)
+    → or_end first (first_end (map end_of (reverse (xs ++ x ∷ [])))) ≡ or_end (or_end first (end_of x)) (first_end (map end_of (reverse xs)))
+end_turned end_of first xs x =
+    ap (λ ys. or_end first (first_end (map end_of ys))) (reverse-append xs (x ∷ [])) ∙ or_end-assoc first (end_of x) (first_end (map end_of (reverse xs)))
