@@ -24,6 +24,3 @@ pub use memory::OutOfMemory;
 pub use micros::Micros;
 pub use numbers::{Actor, CursorNo};
 pub use signature::Signature;
-
-#[cfg(test)]
-mod tests;
