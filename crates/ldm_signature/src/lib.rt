@@ -13,9 +13,6 @@ use hex::FromHex;
 use ldm_types::Signature;
 use md5::{Digest, Md5};
 
-#[cfg(test)]
-mod tests;
-
 /// The MD5 digest of a body (RFC 1321).
 pub fn sign(bytes: &[u8]) -> Signature
     ensures { result.0 ≡ md5 bytes.now }

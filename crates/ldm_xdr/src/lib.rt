@@ -19,6 +19,3 @@ pub use laws::{no_spelling_begins_another, spelling_has_metadata_len};
 pub use length::info_len;
 pub use reading::read_info;
 pub use writing::write_info;
-
-#[cfg(test)]
-mod tests;
