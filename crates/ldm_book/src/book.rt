@@ -79,12 +79,7 @@ impl Book {
         ensures limits { IfOk result (λ _. IsGoodArena arena × IsGoodSlots slots) }
         ensures faults { IfErr result (IsFaultOf arena slots) }
     {
-        if arena % ARENA_UNIT != 0 || arena < SMALLEST_ARENA || arena > LARGEST_ARENA {
-            return Err(CreateFault::BadArena { arena });
-        }
-        if slots == 0 || slots > MOST_SLOTS {
-            return Err(CreateFault::BadSlots { slots });
-        }
+        Book::check_sizes(arena, slots)?;
         Ok(Book {
             arena: vec![in alloc; 0u8; arena as usize]?,
             products: Products::create(alloc, arena, slots)?,
@@ -92,6 +87,22 @@ impl Book {
             admitted: 0,
             last: None,
         })
+    }
+
+    /// Whether there is a queue of such an arena and of so many slots: what [`Book::create`] tests first. It takes no memory,
+    /// and does not fail for want of it.
+    pub fn check_sizes(arena: u64, slots: u32) -> Result<(), CreateFault>
+        ensures limits { IfOk result (λ _. IsGoodArena arena × IsGoodSlots slots) }
+        ensures faults { IfErr result (IsFaultOf arena slots) }
+        ensures bad { IfErr result (λ _. ¬ (IsGoodArena arena × IsGoodSlots slots)) }
+    {
+        if arena % ARENA_UNIT != 0 || arena < SMALLEST_ARENA || arena > LARGEST_ARENA {
+            return Err(CreateFault::BadArena { arena });
+        }
+        if slots == 0 || slots > MOST_SLOTS {
+            return Err(CreateFault::BadSlots { slots });
+        }
+        Ok(())
     }
 
     /// Inserts a product at the moment `now`. The body has as many bytes as the metadata say.
