@@ -101,23 +101,23 @@ impl Shared {
     }
 }
 
-// The book of an empty queue.
+// The book of an empty queue. It takes memory only where all sizes are good.
 fn first_book(alloc: Global, arena: u64, slots: u32, passes: u32) -> Result<Book, CreateFault>
     ensures stands { IfOk result (λ book. StandsFor book (empty arena slots)) }
     ensures limits { IfOk result (λ _. IsGoodArena arena × IsGoodSlots slots × IsGoodPasses passes) }
     ensures faults { IfErr result (IsFaultOf arena slots passes) }
 {
-    let made = match Book::create(alloc, arena, slots) {
-        Ok(book) => Some(book),
+    match Book::check_sizes(arena, slots) {
+        Ok(()) => {}
         Err(BookFault::BadArena { arena }) => return Err(CreateFault::BadArena { arena }),
         Err(BookFault::BadSlots { slots }) => return Err(CreateFault::BadSlots { slots }),
-        Err(BookFault::OutOfMemory) => None,
-    };
+        Err(BookFault::OutOfMemory) => unreachable!(),
+    }
     if passes == 0 || passes > Actor::COUNT {
         return Err(CreateFault::BadPasses { passes });
     }
-    match made {
-        Some(book) => Ok(book),
-        None => Err(CreateFault::OutOfMemory),
+    match Book::create(alloc, arena, slots) {
+        Ok(book) => Ok(book),
+        Err(_) => Err(CreateFault::OutOfMemory),
     }
 }
