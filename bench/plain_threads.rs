@@ -1,5 +1,5 @@
-//! Calls of a plain Rust queue under a `Mutex` by 1, 2, 4 and 8 threads, for comparison with the program in bench/threads: it
-//! makes the same calls, on a queue of the same size, and writes the same lines.
+//! Calls of a plain Rust queue under a `Mutex` by 1, 2, 4 and 8 threads, and with no `Mutex`, for comparison with the program in
+//! bench/threads: it makes the same calls, on a queue of the same size, and writes the same lines.
 //!
 //! Called as: plain_threads CALLS
 
@@ -23,25 +23,42 @@ fn signature(number: u64, i: u64) -> [u8; 16] {
     bytes
 }
 
-fn insert(queue: &Mutex<Queue>, signature: [u8; 16]) -> Answer {
+// A queue that a thread calls: under a mutex, or its own.
+trait Call {
+    fn call<R>(&mut self, ask: impl FnOnce(&mut Queue) -> R) -> R;
+}
+
+impl Call for &Mutex<Queue> {
+    fn call<R>(&mut self, ask: impl FnOnce(&mut Queue) -> R) -> R {
+        ask(&mut self.lock().unwrap())
+    }
+}
+
+impl Call for Queue {
+    fn call<R>(&mut self, ask: impl FnOnce(&mut Queue) -> R) -> R {
+        ask(self)
+    }
+}
+
+fn insert(queue: &mut impl Call, signature: [u8; 16]) -> Answer {
     let info = String::from("host product");
-    queue.lock().unwrap().insert(100, signature, FEED, info, 12, &[65; 96])
+    queue.call(|queue| queue.insert(100, signature, FEED, info, 12, &[65; 96]))
 }
 
 // Products that no thread looks for fill the queue.
-fn full() -> Mutex<Queue> {
-    let queue = Mutex::new(Queue::new(ARENA, SLOTS));
+fn full() -> Queue {
+    let mut queue = Queue::new(ARENA, SLOTS);
     for i in 0..SLOTS as u64 {
-        insert(&queue, signature(u64::MAX, i));
+        insert(&mut queue, signature(u64::MAX, i));
     }
     queue
 }
 
 // Looks for products that are not there.
-fn look(queue: &Mutex<Queue>, number: u64, calls: u64) -> u64 {
+fn look(mut queue: impl Call, number: u64, calls: u64) -> u64 {
     let mut found = 0;
     for i in 0..calls {
-        if let Answer::Queued { .. } = queue.lock().unwrap().look(&signature(number, i)) {
+        if let Answer::Queued { .. } = queue.call(|queue| queue.look(&signature(number, i))) {
             found += 1;
         }
     }
@@ -49,31 +66,38 @@ fn look(queue: &Mutex<Queue>, number: u64, calls: u64) -> u64 {
 }
 
 // In turn inserts a product, steps twice, since the first step may tell a loss, and releases what it was given.
-fn relay(queue: &Mutex<Queue>, number: u64, calls: u64) -> u64 {
-    let k = queue.lock().unwrap().open(FEED);
+fn relay(mut queue: impl Call, number: u64, calls: u64) -> u64 {
+    let k = queue.call(|queue| queue.open(FEED));
     let mut given = 0;
     for i in 0..calls / 4 {
-        insert(queue, signature(number, i));
+        insert(&mut queue, signature(number, i));
         for _ in 0..2 {
-            let answer = queue.lock().unwrap().step(k);
-            if let Answer::Product { .. } = answer {
+            if let Answer::Product { .. } = queue.call(|queue| queue.step(k)) {
                 given += 1;
             }
         }
-        queue.lock().unwrap().release(k);
+        queue.call(|queue| queue.release(k));
     }
     given
 }
 
+fn work(queue: impl Call, kind: &str, number: u64, calls: u64) -> u64 {
+    if kind == "look" { look(queue, number, calls) } else { relay(queue, number, calls) }
+}
+
 fn main() {
     let calls: u64 = std::env::args().nth(1).unwrap().parse().unwrap();
-    for (kind, work) in [("look", look as fn(&Mutex<Queue>, u64, u64) -> u64), ("relay", relay)] {
+    for kind in ["look", "relay"] {
+        let queue = full();
+        let begun = Instant::now();
+        let count = work(queue, kind, 0, calls);
+        println!("{kind} alone {} {count}", begun.elapsed().as_nanos());
         for threads in [1, 2, 4, 8] {
-            let queue = full();
+            let queue = Mutex::new(full());
             let begun = Instant::now();
             let count: u64 = thread::scope(|scope| {
                 let running: Vec<_> = (0..threads)
-                    .map(|number| scope.spawn({ let queue = &queue; move || work(queue, number, calls / threads) }))
+                    .map(|number| scope.spawn({ let queue = &queue; move || work(queue, kind, number, calls / threads) }))
                     .collect();
                 running.into_iter().map(|thread| thread.join().unwrap()).sum()
             });
