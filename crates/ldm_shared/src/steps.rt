@@ -71,26 +71,37 @@ impl Shared {
     }
 
     // Sleeps while the low half of the word is that of the one that was seen, until a wake. It may also return for no reason.
-    //
-    // The wake that ends it leaves word that nobody sleeps, though others may; so it is taken back.
     fn sleep<H: Wait>(&self, rt: &H, word: u64) {
         self.may_sleep.store(true, Ordering::SeqCst);
         self.table.shared.park(rt, 0, (word & 0xffff_ffff) as u32);
-        self.may_sleep.store(true, Ordering::SeqCst);
     }
 
-    // Wakes one caller that sleeps, if one may: to ask the system each time would cost more than most calls. Until that caller
-    // runs, no other wake asks the system again, unless another caller goes to sleep meanwhile.
-    //
-    // None is left asleep. A caller says that it sleeps before it compares the word, and the word is changed before this looks;
-    // and the caller that is woken says so for those that sleep still, and then takes the turn and wakes the next, or sleeps.
-    fn wake(&self) {
-        if self.may_sleep.load(Ordering::SeqCst) && self.may_sleep.swap(false, Ordering::SeqCst) {
+    // Says that others may sleep still, if the caller that has the turn now has slept.
+    fn speak_for_sleepers(&self, slept: bool) {
+        if slept {
+            self.may_sleep.store(true, Ordering::SeqCst);
+        }
+    }
+
+    // Whether a caller may sleep, which is not said any more from then on. The caller that has the turn asks, and wakes one.
+    fn take_over_sleepers(&self) -> bool {
+        self.may_sleep.load(Ordering::SeqCst) && self.may_sleep.swap(false, Ordering::SeqCst)
+    }
+
+    // Wakes one caller that sleeps, if this one took that over, or one has said since that it sleeps: to ask the system each
+    // time would cost more than most calls.
+    fn wake(&self, took_over: bool) {
+        if took_over || self.may_sleep.load(Ordering::SeqCst) {
             self.table.shared.wake_one(0);
         }
     }
 
     // Waits for the turn, and takes it with the book.
+    //
+    // No caller sleeps on while the turn is free. One that goes to sleep first says so, and sleeps only on the word of a turn
+    // that is taken. Only who has the turn makes that unsaid, and then wakes one; and looks once more when the word is changed,
+    // for who said it in between. The caller that is woken speaks for those that sleep still, as soon as it has the turn or
+    // sleeps again; until then nobody else is woken. The README has the whole argument.
     pub(crate) fn take<H: Wait>(&self, rt: &H, seat: &mut Seat<Option<Book>, View>) -> Turn<()>
         requires ready { IsReady self.now seat.old }
         requires one { (actor : ℕ) × (seat.old.me.0.actors ≡ actor ∷ []) }
@@ -101,14 +112,16 @@ impl Shared {
         ensures worn { IfWorn result (IsWorn self.now seat.new) }
     {
         let mut looks = 0;
+        let mut slept = false;
         for _ in rt.forever() {
             let word = self.see(seat);
             if word >= WORN {
-                self.wake();
+                self.table.shared.wake_all(0);
                 return Turn::Worn { turns: MOST_TURNS };
             }
             if word % 2 == 0 {
                 if self.try_take(seat, word) == word {
+                    self.speak_for_sleepers(slept);
                     return Turn::Done(());
                 }
             } else if looks < LOOKS && !self.may_sleep.load(Ordering::SeqCst) {
@@ -116,6 +129,7 @@ impl Shared {
                 spin_loop();
             } else {
                 looks = 0;
+                slept = true;
                 self.sleep(rt, word);
             }
         }
@@ -152,8 +166,9 @@ impl Shared {
         ensures same { IsSame seat.old seat.new }
         ensures added { seat.new.me ≡ (record seat.old.me.0 { seen = seat.old.me.0.seen ++ C.entry ∷ []; turn = false }, []) }
     {
+        let took_over = self.take_over_sleepers();
         self.table.shared.fetch_add::<Add<C>>(seat, 0, 1);
-        self.wake();
+        self.wake(took_over);
     }
 
     // Ends a call of an actor, whose answer and the buffer that it left are for the proof alone.
