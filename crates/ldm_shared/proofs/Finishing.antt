@@ -1,5 +1,5 @@
 -- The end of a shared queue: the seat that answers for all actors takes the turn.
-use Rattle.std.proofs.Common.{◌≡◌, ℕ, suc, ◌%◌, ◌<◌, Bool, true, false, cond, nat_eq, slice_index_or, List, [], ◌∷◌, length, MatchBool, Option, Some, None, refl, ap, sym, subst, ◌∙◌, arith}
+use Rattle.std.proofs.Common.{◌≡◌, ℕ, suc, ◌%◌, ◌<◌, Bool, true, false, cond, nat_eq, slice_index_or, List, [], ◌∷◌, length, MatchBool, Option, Some, None, refl, ap, sym, subst, ◌∙◌, arith, append-nil}
 use Rattle.std.specs.List.{All, AllByRecursion}
 use mathlib.Core.List.{IsPrefix}
 use Rattle.atomic_table.specs.Seated.{TableId}
@@ -86,7 +86,7 @@ module _ (shared : SharedView) (v w : View) (word : ℕ) (sized : IsSized shared
       pub last_all : (items : List PassView) → All (HasGathered v) items → All (HasAllOf (view_of_pass last)) items
       last_all items each k d less =
           let has = each k d less in
-          record { begins = subst (λ (h : List Entry). IsPrefix (slice_index_or items k d).seen h) (sym seen) has.begins; own = ap (own (slice_index_or items k d).actor) seen ∙ has.own_seen }
+          record { begins = subst (λ (h : List Entry). IsPrefix (slice_index_or items k d).seen h) (sym seen) has.begins; own = ap (own (slice_index_or items k d).actor) seen ∙ (has.own_seen ∙ sym (append-nil (own (slice_index_or items k d).actor (slice_index_or items k d).seen))) }
 
       pub last_stands : (book : BookView) → StandsFor book (after seat.me.0.arena seat.me.0.slots seat.me.0.seen) → StandsFor book (after shared.arena shared.slots out.me.0.seen)
       last_stands book stands =

@@ -1,5 +1,5 @@
 -- A pass grows by a call that takes the turn and gives it back.
-use Rattle.std.proofs.Common.{◌≡◌, ℕ, ◌^◌, ◌<◌, Bool, true, false, cond, List, [], ◌∷◌, ◌++◌, length, get_or, Option, Some, None, refl, ap, sym, subst, ◌∙◌, arith, length-append}
+use Rattle.std.proofs.Common.{◌≡◌, ℕ, ◌^◌, ◌<◌, Bool, true, false, cond, List, [], ◌∷◌, ◌++◌, length, get_or, Option, Some, None, refl, ap, sym, subst, ◌∙◌, arith, append-nil, length-append}
 use mathlib.Core.List.{IsPrefix}
 use Rattle.atomic_table.specs.Seated.{TableId}
 use Rattle.atomic_table.specs.Table.{Me}
@@ -12,12 +12,13 @@ use Rattle.ldm_book.specs.View.{BookView}
 use Rattle.ldm_book.specs.Answers.{Follows}
 use Rattle.ldm_shared.specs.declared.view.View.{View}
 use Rattle.ldm_shared.specs.declared.pass.Pass.TheInside.{Inside}
-use Rattle.ldm_shared.specs.Own.{own}
-use Rattle.ldm_shared.specs.Passes.{SharedView, PassView, IsPassOf, IsSamePass, HasMet, Grows, FindsWorn}
+use Rattle.ldm_shared.specs.Own.{own, Adds}
+use Rattle.ldm_shared.specs.Passes.{SharedView, PassView, IsPassOf, IsSamePass, Makes, entry_of, HasMet, Grows, FindsWorn}
 use Rattle.ldm_shared.specs.Inside.{view_of_pass, IsIdle, IsPass}
 use Rattle.ldm_shared.specs.Rule.{times, AnswersFor}
 use Rattle.ldm_shared.specs.Seats.{IsReady, IsWorn, IsSame, GoesOn, IsHistory}
-use Rattle.ldm_shared.proofs.Histories.{own-behind, below-append}
+use Rattle.ldm_shared.proofs.Histories.{below-append}
+use Rattle.ldm_shared.proofs.Made.{adds_entry}
 use Rattle.ldm_shared.proofs.Counts.{times-self}
 use Rattle.ldm_shared.proofs.Taking.{ASeat}
 
@@ -98,37 +99,33 @@ module _ (shared : SharedView) (old : PassView) (p : Inside) (view_is : view_of_
         let actor : p.actor ≡ old.actor = ap (λ (v : PassView). v.actor) view_is in
         λ i. record { queue = queue i; arena = arena i; slots = slots i; passes = passes i; actor = actor i; seen = seat.me.0.seen }
 
-    -- the entries that others added
-    others_own : own old.actor on.begins.0 ≡ []
-    others_own =
+    -- others alone made calls meanwhile
+    pub others_called : Adds old.actor old.seen seat.me.0.seen []
+    others_called =
         let actor : p.actor ≡ old.actor = ap (λ (v : PassView). v.actor) view_is in
-        subst (λ (n : ℕ). own n on.begins.0 ≡ []) actor
-        (own-behind p.actor p.seat.me.0.seen on.begins.0 seat.me.0.seen on.begins.1 (on.own p.actor (answers_one p.seat.me.0 p.actor (kept its.0).actors)))
+        let seen : p.seat.me.0.seen ≡ old.seen = ap (λ (v : PassView). v.seen) view_is in
+        let none : Adds p.actor p.seat.me.0.seen seat.me.0.seen [] = record {
+          begins = on.begins;
+          own = on.own p.actor (answers_one p.seat.me.0 p.actor (kept its.0).actors) ∙ sym (append-nil (own p.actor p.seat.me.0.seen));
+        } in
+        subst (λ (n : ℕ). Adds n old.seen seat.me.0.seen []) actor (subst (λ (h : List Entry). Adds p.actor h seat.me.0.seen []) seen none)
+
+    makes_none : IsHistory seat.me.0 → seat.me.0.turn ≡ false → Makes old (view_of_pass now) []
+    makes_none history idle = record {
+      same = same_pass idle;
+      adds = others_called;
+      has_seen = record { legal = history.legal; below = history.below; few = history.few };
+    }
 
     pub pass_worn : IsHistory seat.me.0 → (turns : ℕ) → IsWorn shared seat turns → FindsWorn old (view_of_pass now) turns
     pass_worn history turns worn = record {
       turns_are = worn.turns_are;
-      between = on.begins.0;
-      others = others_own;
-      seen = sym on.begins.1 ∙ ap (λ (v : PassView). v.seen ++ on.begins.0) view_is;
+      makes = makes_none history worn.ready.idle;
       long = worn.long ∙ sym worn.turns_are;
-      has_seen = record { legal = history.legal; below = history.below; few = history.few };
     }
 
     pub pass_met : (other : PassView) → IsHistory seat.me.0 → seat.me.0.turn ≡ false → IsPrefix other.seen seat.me.0.seen → HasMet old other (view_of_pass now)
-    pass_met other history idle its' =
-        let actor : p.actor ≡ old.actor = ap (λ (v : PassView). v.actor) view_is in
-        let seen : p.seat.me.0.seen ≡ old.seen = ap (λ (v : PassView). v.seen) view_is in
-        record {
-          same = same_pass idle;
-          begins = subst (λ (h : List Entry). IsPrefix h seat.me.0.seen) seen on.begins;
-          its = its';
-          own = λ i. (subst₂' (on.own p.actor (answers_one p.seat.me.0 p.actor (kept its.0).actors)) actor seen) i;
-          has_seen = record { legal = history.legal; below = history.below; few = history.few };
-        }
-      where
-        subst₂' : {a b : ℕ} {h k : List Entry} → own a seat.me.0.seen ≡ own a h → a ≡ b → h ≡ k → own b seat.me.0.seen ≡ own b k
-        subst₂' {b = b} {h = h} e actor seen = subst (λ (n : ℕ). own n seat.me.0.seen ≡ own n h) actor e ∙ ap (own b) seen
+    pass_met other history idle its' = record { makes = makes_none history idle; its = its' }
 
   -- the seat took the turn, and gave it back with an entry more
   module _ (taken given : ASeat) (same : IsSame p.seat taken) (on : GoesOn p.seat.me.0 taken.me.0) (event : Event) (reply : Reply) (same_given : IsSame taken given)
@@ -162,10 +159,14 @@ module _ (shared : SharedView) (old : PassView) (p : Inside) (view_is : view_of_
     pub grown : IsHistory given.me.0 → Grows old (view_of_pass then) event reply
     grown history =
         let actor : p.actor ≡ old.actor = ap (λ (v : PassView). v.actor) view_is in
-        let seen : taken.me.0.seen ≡ old.seen ++ on.begins.0 = sym on.begins.1 ∙ ap (λ (v : PassView). v.seen ++ on.begins.0) view_is in
+        let seen : given.me.0.seen ≡ taken.me.0.seen ++ entry_of old event reply ∷ [] =
+        ap (λ (v : View). v.seen) view ∙ ap (λ (n : ℕ). taken.me.0.seen ++ record { actor = n; event = event; reply = reply } ∷ []) actor in
         record {
-          between = on.begins.0;
-          others = others_own taken same on;
-          seen = ap (λ (v : View). v.seen) view ∙ (λ i. seen i ++ record { actor = actor i; event = event; reply = reply } ∷ []);
-          has_seen = record { legal = history.legal; below = history.below; few = history.few };
+          makes = record {
+            same = grown_same;
+            adds = adds_entry old.actor old.seen taken.me.0.seen given.me.0.seen (entry_of old event reply) (others_called taken same on) refl seen;
+            has_seen = record { legal = history.legal; below = history.below; few = history.few };
+          };
+          before = taken.me.0.seen;
+          last = seen;
         }

@@ -74,3 +74,13 @@ below-append passes (x ∷ xs) ys p q = (p.0, below-append passes xs ys p.1 q)
 pub below-rest : (passes : ℕ) (xs ys : List Entry) → AreBelow passes (xs ++ ys) → AreBelow passes ys
 below-rest passes [] ys p = p
 below-rest passes (x ∷ xs) ys p = below-rest passes xs ys p.1
+
+pub below-front : (passes : ℕ) (xs ys : List Entry) → AreBelow passes (xs ++ ys) → AreBelow passes xs
+below-front passes [] ys p = tt
+below-front passes (x ∷ xs) ys p = (p.0, below-front passes xs ys p.1)
+
+-- where no other actor calls
+pub own-all : (entries : List Entry) → AreBelow 1 entries → own 0 entries ≡ entries
+own-all [] below = refl
+own-all (entry ∷ entries) below =
+    own_some (entry.actor == 0) entry (own 0 entries) (eq-eqb entry.actor 0 (omega (arith, below.0))) ∙ ap (λ (es : List Entry). entry ∷ es) (own-all entries below.1)

@@ -1,4 +1,5 @@
 pub mod Histories
+pub mod Made
 pub mod Counts
 pub mod Keeping
 pub mod Adding

@@ -7,7 +7,7 @@ use Rattle.ldm_model.specs.declared.event.Event.{Event}
 use Rattle.ldm_model.specs.declared.event.Reply.{Reply}
 use Rattle.ldm_model.specs.declared.event.Entry.{Entry}
 use Rattle.ldm_model.specs.History.{IsLegal}
-use Rattle.ldm_shared.specs.Own.{own, AreBelow}
+use Rattle.ldm_shared.specs.Own.{AreBelow, Adds}
 
 -- Which queue it is, and how large: bytes of the arena, product slots, and passes.
 pub record SharedView : Type 0 where
@@ -54,13 +54,32 @@ pub record HasSeen (pass : PassView) : Type 0 where
 abbrev pub IsSamePass : PassView → PassView → Type 0
 IsSamePass old new = new ≡ record old { seen = new.seen }
 
--- A pass has met another one: it has seen all that either had seen, and has no entry more of its own.
-pub record HasMet (old other new : PassView) : Type 0 where
+-- From an old pass to a new one just these calls were made with it, in order: each is an entry, with its event and its reply.
+pub record Makes (old new : PassView) (made : List Entry) : Type 0 where
   pub same : IsSamePass old new
-  pub begins : IsPrefix old.seen new.seen
-  pub its : IsPrefix other.seen new.seen
-  pub own : own old.actor new.seen ≡ own old.actor old.seen
+  pub adds : Adds old.actor old.seen new.seen made
   pub has_seen : HasSeen new
+
+-- the entry of a call of a pass
+abbrev pub entry_of : PassView → Event → Reply → Entry
+entry_of pass event reply = record { actor = pass.actor; event = event; reply = reply }
+
+-- A pass grows by a call: just this call was made with it, and its entry is the last that the pass has seen.
+pub record Grows (old new : PassView) (event : Event) (reply : Reply) : Type 0 where
+  pub makes : Makes old new (entry_of old event reply ∷ [])
+  pub before : List Entry
+  pub last : new.seen ≡ before ++ entry_of old event reply ∷ []
+
+-- A pass finds that the queue has had all its calls, and that it can have no more: no call was made with it.
+pub record FindsWorn (old new : PassView) (turns : ℕ) : Type 0 where
+  pub turns_are : turns ≡ 2 ^ 62
+  pub makes : Makes old new []
+  pub long : length new.seen ≡ turns
+
+-- A pass has met another one: it has seen all that either had seen, and no call was made with it.
+pub record HasMet (old other new : PassView) : Type 0 where
+  pub makes : Makes old new []
+  pub its : IsPrefix other.seen new.seen
 
 -- of two histories one begins the other
 abbrev pub AreInLine : List Entry → List Entry → Type 0
@@ -77,23 +96,5 @@ pub record IsLast (shared : SharedView) (last : PassView) : Type 0 where
   pub has_seen : HasSeen last
 
 -- what the last pass has seen begins with what a pass had seen, and has no other entries of its actor
-pub record HasAllOf (last pass : PassView) : Type 0 where
-  pub begins : IsPrefix pass.seen last.seen
-  pub own : own pass.actor last.seen ≡ own pass.actor pass.seen
-
--- A pass grows by a call: what it has seen now is what it had seen, then entries of other actors, and then one entry, of this
--- call with this reply.
-pub record Grows (old new : PassView) (event : Event) (reply : Reply) : Type 0 where
-  pub between : List Entry
-  pub others : own old.actor between ≡ []
-  pub seen : new.seen ≡ (old.seen ++ between) ++ record { actor = old.actor; event = event; reply = reply } ∷ []
-  pub has_seen : HasSeen new
-
--- A pass finds that the queue has had all its calls: what it has seen now is what it had seen, and then entries of other actors.
-pub record FindsWorn (old new : PassView) (turns : ℕ) : Type 0 where
-  pub turns_are : turns ≡ 2 ^ 62
-  pub between : List Entry
-  pub others : own old.actor between ≡ []
-  pub seen : new.seen ≡ old.seen ++ between
-  pub long : length new.seen ≡ turns
-  pub has_seen : HasSeen new
+abbrev pub HasAllOf : PassView → PassView → Type 0
+HasAllOf last pass = Adds pass.actor pass.seen last.seen []

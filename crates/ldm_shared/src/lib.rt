@@ -8,6 +8,7 @@
 mod asking;
 mod calls;
 mod fault;
+mod laws;
 mod making;
 mod meeting;
 mod pass;
@@ -20,6 +21,7 @@ mod turn;
 mod view;
 
 pub use fault::CreateFault;
+pub use laws::{calls_made, one_pass};
 pub use pass::Pass;
 pub use shared::Shared;
 pub use steps::MOST_TURNS;
