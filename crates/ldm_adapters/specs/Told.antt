@@ -20,7 +20,7 @@ abbrev pub told_by_clock : RealClock → ClockRecord
 told_by_clock s = record { answers = None }
 
 abbrev pub told_by_gate : RealGate → GateRecord
-told_by_gate s = record { stops = s.stops }
+told_by_gate s = record { stops = s.stops; calls = None }
 
 -- a door of the system never closes
 abbrev pub told_by_door : RealDoor → DoorRecord

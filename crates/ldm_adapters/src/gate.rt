@@ -34,7 +34,7 @@ impl RealGate {
 }
 
 impl Gate for RealGate {
-    ghost use Rattle.ldm_outside.specs.Gate.{GateGives};
+    ghost use Rattle.ldm_outside.specs.Gate.{Idles as GateIdles};
     ghost use Rattle.ldm_adapters.specs.Idle.{Idles};
     ghost use Rattle.ldm_adapters.specs.Told.{told_by_gate};
 
@@ -50,7 +50,7 @@ impl Gate for RealGate {
     fn after(&mut self, _actor: Actor, _i: u64) {}
 
     fn idle(&mut self) -> Go
-        ensures answered { GateGives result (told_by_gate self.old) (told_by_gate self.new) }
+        ensures answered { GateIdles result (told_by_gate self.old) (told_by_gate self.new) }
         ensures stops_kept { self.old.stops ≤ self.new.stops }
         ensures counted { Idles self.old.idles result self.new.idles }
     {

@@ -13,7 +13,7 @@ map-take-next f xs i = ap (map f) (take-add i 1 xs) ∙ map-append f (take i xs)
 
 -- a station at its beginning is new
 IsNew-first : (script : StationScript) → IsNew (told_by_station (first_station script))
-IsNew-first script = record { door = (refl, refl); dial = (refl, refl); log = (refl, refl); clock = refl; gate = refl }
+IsNew-first script = record { door = (refl, refl); dial = (refl, refl); log = (refl, refl); clock = refl; gate = (refl, refl) }
 
 -- all stations at their beginning are new
 pub All-IsNew-first : (scripts : List StationScript) → All (λ (station : StationState). IsNew (told_by_station station)) (map first_station scripts)

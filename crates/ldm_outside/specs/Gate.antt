@@ -1,15 +1,36 @@
--- What a gate answers.
-use Rattle.std.specs.Prelude.{◌≡◌, ℕ}
+-- What a gate answers, and what it tells.
+use Rattle.std.specs.Prelude.{◌≡◌, ℕ, List, [], ◌∷◌, ◌++◌, Option, IfSome}
+use Rattle.std.specs.Option.{option_map}
 use Rattle.ldm_outside.specs.declared.gate.Go.{Go}
 use Rattle.ldm_outside.specs.declared.gate.Go.TheVariants.{On, Stop}
+use Rattle.ldm_outside.specs.declared.gate.GateCall.{GateCall}
 use Rattle.ldm_outside.specs.Count.{Rose}
 
 -- What a gate tells at a moment.
 pub record GateRecord : Type 0 where
   -- how often it answered Stop
   pub stops : ℕ
+  -- the calls that it let pass and those that it was told of, in order, where it tells them
+  pub calls : Option (List GateCall)
 
--- What one call of `before` or `idle` did.
-abbrev pub GateGives : Go → GateRecord → GateRecord → Type 0
-GateGives On old new = new ≡ old
-GateGives Stop old new = Rose old.stops new.stops
+-- what a gate tells with these calls more
+abbrev pub with_calls : List GateCall → GateRecord → GateRecord
+with_calls more old = record old { calls = option_map (λ calls. calls ++ more) old.calls }
+
+-- The gate stopped: its count rose, and it let no call pass.
+abbrev pub Stops : GateRecord → GateRecord → Type 0
+Stops old new = Rose old.stops new.stops × (new.calls ≡ old.calls)
+
+-- What one call of `before` did.
+abbrev pub LetsPass : Go → GateCall → GateRecord → GateRecord → Type 0
+LetsPass On call old new = new ≡ with_calls (call ∷ []) old
+LetsPass Stop call old new = Stops old new
+
+-- What one call of `idle` did.
+abbrev pub Idles : Go → GateRecord → GateRecord → Type 0
+Idles On old new = new ≡ old
+Idles Stop old new = Stops old new
+
+-- This call is the last that the gate let pass or was told of.
+abbrev pub IsLastCall : GateCall → GateRecord → Type 0
+IsLastCall call now = IfSome now.calls (λ calls. (earlier : List GateCall) × (calls ≡ earlier ++ call ∷ []))

@@ -1,30 +1,29 @@
 -- What contracts see of a gate in memory, and what one call of it does.
-use Rattle.std.specs.Prelude.{◌≡◌, ℕ, true, false, List, [], ◌∷◌, ◌++◌}
+use Rattle.std.specs.Prelude.{◌≡◌, ℕ, true, false, List, [], ◌∷◌, ◌++◌, Some}
 use Rattle.ldm_outside.specs.declared.gate.Go.{Go}
 use Rattle.ldm_outside.specs.declared.gate.Go.TheVariants.{On, Stop}
-use Rattle.ldm_outside.specs.declared.mem_gate.GateCall.{GateCall}
+use Rattle.ldm_outside.specs.declared.gate.GateCall.{GateCall}
+use Rattle.ldm_outside.specs.declared.gate.GateCall.TheVariants.{Before}
 use Rattle.ldm_outside.specs.Gate.{GateRecord}
 use Rattle.ldm_outside.specs.Memory.{Plan, raised, next_fails, after_call, first_plan}
 
 -- a gate that stops at chosen calls
 pub record GateState : Type 0 where
-  -- the calls that it let pass, in order
-  pub passed : List GateCall
-  -- how often it was told that a call was made
-  pub afters : ℕ
+  -- the calls that it let pass and those that it was told of, in order
+  pub told : List GateCall
   pub stops : ℕ
   -- the calls that fail are those that are answered Stop
   pub plan : Plan
 
 -- the gate at its beginning
 abbrev pub first_gate : List ℕ → GateState
-first_gate stopping = record { passed = []; afters = 0; stops = 0; plan = first_plan stopping }
+first_gate stopping = record { told = []; stops = 0; plan = first_plan stopping }
 
 -- What one call of `before` did. Without memory for the call that it is to keep, it stops too.
 abbrev pub PassesAsPlanned : Go → GateCall → GateState → GateState → Type 0
 PassesAsPlanned On call old new =
     (next_fails old.plan ≡ false)
-    × (new ≡ record old { passed = old.passed ++ call ∷ []; plan = after_call old.plan })
+    × (new ≡ record old { told = old.told ++ call ∷ []; plan = after_call old.plan })
 PassesAsPlanned Stop call old new = new ≡ record old { stops = raised old.stops; plan = after_call old.plan }
 
 -- What one call of `idle` did.
@@ -33,6 +32,10 @@ IdlesAsPlanned On old new = (next_fails old.plan ≡ false) × (new ≡ record o
 IdlesAsPlanned Stop old new =
     (next_fails old.plan ≡ true) × (new ≡ record old { stops = raised old.stops; plan = after_call old.plan })
 
+-- the last call was let pass, and the gate was not told of it yet
+abbrev pub AwaitsAfter : List GateCall → Type 0
+AwaitsAfter told = (earlier : List GateCall) × (actor : ℕ) × (i : ℕ) × (told ≡ earlier ++ Before actor i ∷ [])
+
 -- what a gate in memory tells
 abbrev pub told_by_gate : GateState → GateRecord
-told_by_gate s = record { stops = s.stops }
+told_by_gate s = record { stops = s.stops; calls = Some s.told }

@@ -21,7 +21,7 @@ pub record IsNew (station : StationRecord) : Type 0 where
   pub dial : IsNewDial station.dial
   pub log : (station.log.faults ≡ 0) × IfSome station.log.written (λ bytes. bytes ≡ [])
   pub clock : IfSome station.clock.answers (λ instants. instants ≡ [])
-  pub gate : station.gate.stops ≡ 0
+  pub gate : (station.gate.stops ≡ 0) × IfSome station.gate.calls (λ calls. calls ≡ [])
 
 -- what a station tells, by what its parts tell
 abbrev pub station_tells : {D I E C G : Type 0} → (D → DoorRecord) → (I → DialRecord) → (E → SinkRecord) → (C → ClockRecord) → (G → GateRecord) → Station D I E C G → StationRecord

@@ -3,43 +3,37 @@ ghost use Rattle.std.specs.Prelude.{◌≡◌, ◌≤◌};
 
 use crate::calls::Calls;
 use crate::fault::Failed;
-use crate::gate::{Gate, Go};
+use crate::gate::{Gate, GateCall, Go};
 use ldm_types::Actor;
 use std::alloc::Global;
 use std::marker::Model;
 
-/// Which call of an actor a gate was asked for.
-#[derive(Clone, Copy, Debug, PartialEq, Eq)]
-pub struct GateCall {
-    /// The actor.
-    pub actor: Actor,
-    /// The number of its call.
-    pub i: u64,
-}
-
-/// A gate that keeps which calls it let pass. Its calls of `before` and `idle` are numbered together, from 1, and
-/// exactly those of the numbers in a list are answered [`Go::Stop`].
+/// A gate that keeps which calls it let pass, and of which it was told. Its calls of `before` and `idle` are numbered
+/// together, from 1, and exactly those of the numbers in a list are answered [`Go::Stop`].
 ///
-/// Without memory for what it is to keep, it stops too.
+/// Without memory for what it is to keep of a call, before and after it, it stops too.
 #[derive(Debug, Drop)]
 pub struct MemGate {
-    passed: Vec<GateCall>,
-    afters: u64,
+    // Behind a call that was let pass there is room for one more.
+    told: Vec<GateCall>,
     // A call that fails stops.
     calls: Calls,
 }
 
 impl Model for MemGate {
-    ghost use Rattle.ldm_outside.specs.MemGate.{GateState};
+    ghost use Rattle.std.specs.Prelude.{◌<◌};
+    ghost use Rattle.std.specs.Vec.{vec_len, vec_capacity};
+    ghost use Rattle.ldm_outside.specs.MemGate.{GateState, AwaitsAfter};
 
     ghost Value = { GateState };
 
     ghost view = { λ s. record {
-      passed = s.passed.items;
-      afters = s.afters;
+      told = s.told.items;
       stops = s.calls.faults;
       plan = s.calls.plan;
     } };
+
+    ghost invariant = { λ s. AwaitsAfter s.told.items → vec_len s.told < vec_capacity s.told };
 }
 
 impl MemGate {
@@ -50,24 +44,16 @@ impl MemGate {
         ensures { result ≡ first_gate stopping.items }
     {
         MemGate {
-            passed: Vec::new(alloc),
-            afters: 0,
+            told: Vec::new(alloc),
             calls: Calls::new(stopping),
         }
     }
 
-    /// The calls that it let pass, in order.
-    pub fn passed(&self) -> &[GateCall]
-        ensures { result.now ≡ self.now.passed }
+    /// The calls that it let pass, and those that it was told of, in order.
+    pub fn told(&self) -> &[GateCall]
+        ensures { result.now ≡ self.now.told }
     {
-        self.passed.as_slice()
-    }
-
-    /// How often it was told that a call was made.
-    pub fn afters(&self) -> u64
-        ensures { result ≡ self.now.afters }
-    {
-        self.afters
+        self.told.as_slice()
     }
 
     /// How often it stopped.
@@ -79,35 +65,37 @@ impl MemGate {
 }
 
 impl Gate for MemGate {
-    ghost use Rattle.ldm_outside.specs.Gate.{GateGives};
-    ghost use Rattle.ldm_outside.specs.Memory.{raised};
+    ghost use Rattle.std.specs.Prelude.{◌∷◌, [], ◌++◌};
+    ghost use Rattle.ldm_outside.specs.Gate.{LetsPass, Idles, IsLastCall};
     ghost use Rattle.ldm_outside.specs.MemGate.{told_by_gate, PassesAsPlanned, IdlesAsPlanned};
 
     ghost tells = { told_by_gate };
 
     fn before(&mut self, actor: Actor, i: u64) -> Go
-        ensures answered { GateGives result (told_by_gate self.old) (told_by_gate self.new) }
+        ensures answered { LetsPass result (GateCall.Before actor i) (told_by_gate self.old) (told_by_gate self.new) }
         ensures stops_kept { self.old.stops ≤ self.new.stops }
-        ensures planned { PassesAsPlanned result (record { actor = actor; i = i }) self.old self.new }
+        ensures planned { PassesAsPlanned result (GateCall.Before actor i) self.old self.new }
     {
         if self.calls.begin().is_err() {
             return Go::Stop;
         }
-        if self.passed.push(GateCall { actor, i }).is_err() {
+        if self.told.reserve(2).is_err() {
             self.calls.fail();
             return Go::Stop;
         }
+        self.told.push_reserved(GateCall::Before { actor, i });
         Go::On
     }
 
-    fn after(&mut self, _actor: Actor, _i: u64)
-        ensures planned { self.new ≡ record self.old { afters = raised self.old.afters } }
+    fn after(&mut self, actor: Actor, i: u64)
+        requires { IsLastCall (GateCall.Before actor i) (told_by_gate self.old) }
+        ensures planned { self.new ≡ record self.old { told = self.old.told ++ GateCall.After actor i ∷ [] } }
     {
-        self.afters = self.afters.saturating_add(1);
+        self.told.push_reserved(GateCall::After { actor, i });
     }
 
     fn idle(&mut self) -> Go
-        ensures answered { GateGives result (told_by_gate self.old) (told_by_gate self.new) }
+        ensures answered { Idles result (told_by_gate self.old) (told_by_gate self.new) }
         ensures stops_kept { self.old.stops ≤ self.new.stops }
         ensures planned { IdlesAsPlanned result self.old self.new }
     {

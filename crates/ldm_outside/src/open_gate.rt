@@ -1,5 +1,5 @@
 //! The gate that never stops.
-ghost use Rattle.std.specs.Prelude.{◌≡◌};
+ghost use Rattle.std.specs.Prelude.{◌≡◌, None};
 ghost use Rattle.ldm_outside.specs.declared.gate.Go.{Go};
 
 use crate::gate::{Gate, Go};
@@ -10,9 +10,7 @@ use ldm_types::Actor;
 pub struct OpenGate;
 
 impl Gate for OpenGate {
-    ghost use Rattle.ldm_outside.specs.Gate.{GateGives};
-
-    ghost tells = { λ _. record { stops = 0 } };
+    ghost tells = { λ _. record { stops = 0; calls = None } };
 
     fn before(&mut self, _actor: Actor, _i: u64) -> Go
         ensures on { result ≡ Go.On }
