@@ -6,11 +6,15 @@ use Rattle.ldm_outside.specs.Dial.{DialRecord}
 use Rattle.ldm_outside.specs.Door.{DoorRecord}
 use Rattle.ldm_outside.specs.Gate.{GateRecord}
 use Rattle.ldm_outside.specs.Io.{SinkRecord}
+use Rattle.ldm_outside.specs.Lending.{LendingRecord}
+use Rattle.ldm_outside.specs.Link.{LinkRecord}
 use Rattle.ldm_outside.specs.Station.{StationRecord, station_tells}
 use Rattle.ldm_adapters.specs.declared.clock.RealClock.{RealClock}
 use Rattle.ldm_adapters.specs.declared.dials.RealDial.{RealDial}
 use Rattle.ldm_adapters.specs.declared.doors.RealDoor.{RealDoor}
 use Rattle.ldm_adapters.specs.declared.gate.RealGate.{RealGate}
+use Rattle.ldm_adapters.specs.declared.lending.RealLending.{RealLending}
+use Rattle.ldm_adapters.specs.declared.links.RealLink.{RealLink}
 use Rattle.ldm_adapters.specs.declared.streams.RealSink.{RealSink}
 
 abbrev pub told_by_sink : {W : Type 0} → RealSink W → SinkRecord
@@ -22,20 +26,24 @@ told_by_clock s = record { answers = None }
 abbrev pub told_by_gate : RealGate → GateRecord
 told_by_gate s = record { stops = s.stops; calls = None }
 
+abbrev pub told_by_link : RealLink → LinkRecord
+told_by_link s = record { passed = None; left = None; ends = s.ends; faults = s.faults; closed = s.closed }
+
+abbrev pub told_by_lending : RealLending → LendingRecord
+told_by_lending s = record { out = s.out; ended = s.ended; failed = s.failed; back = None }
+
 -- a door of the system never closes
 abbrev pub told_by_door : RealDoor → DoorRecord
 told_by_door s = record {
   faults = s.faults;
   peers = s.peers;
   closings = 0;
-  ended = s.ended;
-  failed = s.failed;
-  out = s.out;
-  told = None;
+  hosts = None;
+  links = told_by_lending s.links;
 }
 
 abbrev pub told_by_dial : RealDial → DialRecord
-told_by_dial s = record { faults = s.faults; ended = s.ended; failed = s.failed; out = s.out; told = None }
+told_by_dial s = record { faults = s.faults; asked = None; links = told_by_lending s.links }
 
 abbrev pub told_by_station : {W : Type 0} → Station RealDoor RealDial (RealSink W) RealClock RealGate → StationRecord
 told_by_station station = station_tells told_by_door told_by_dial told_by_sink told_by_clock told_by_gate station

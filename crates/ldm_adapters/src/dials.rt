@@ -1,7 +1,10 @@
 //! Dials over TCP.
-ghost use Rattle.std.specs.Prelude.{◌≡◌, false};
+ghost use Rattle.std.specs.Prelude.{◌≡◌};
 ghost use Rattle.ldm_outside.specs.Count.{Rose};
+ghost use Rattle.ldm_outside.specs.Dial.{IsNewDial};
+ghost use Rattle.ldm_adapters.specs.Told.{told_by_dial};
 
+use crate::lending::RealLending;
 use crate::links::RealLink;
 use ldm_outside::{Dial, Dialled};
 use std::io::{self, ErrorKind};
@@ -12,29 +15,22 @@ use std::str;
 /// A dial over TCP. It tells nothing of whom it was asked for.
 ///
 /// A host is an address, or a name that the system looks up; its addresses are tried in turn.
-#[derive(Clone, Copy)]
+#[derive(Drop)]
 pub struct RealDial {
     rt: HostRuntime,
     faults: u64,
-    ended: u64,
-    failed: u64,
-    out: bool,
+    links: RealLending,
 }
 
 impl RealDial {
     /// A dial of this system.
     pub fn new(rt: HostRuntime) -> RealDial
-        ensures faults { result.faults ≡ 0 }
-        ensures ended { result.ended ≡ 0 }
-        ensures failed { result.failed ≡ 0 }
-        ensures out { result.out ≡ false }
+        ensures { IsNewDial (told_by_dial result) }
     {
         RealDial {
             rt,
             faults: 0,
-            ended: 0,
-            failed: 0,
-            out: false,
+            links: RealLending::new(),
         }
     }
 
@@ -52,8 +48,6 @@ fn connect(rt: HostRuntime, host: &[u8], port: u16) -> io::Result<TcpStream> {
 }
 
 impl Dial for RealDial {
-    ghost use Rattle.ldm_adapters.specs.Told.{told_by_dial};
-
     type Link = RealLink;
 
     ghost tells = { told_by_dial };
@@ -61,7 +55,7 @@ impl Dial for RealDial {
     fn connect(&mut self, host: &[u8], port: u16) -> Dialled<RealLink> {
         match connect(self.rt, host, port) {
             Ok(stream) => {
-                self.out = true;
+                self.links.hand_out();
                 Dialled::Linked(RealLink::new(stream))
             }
             Err(_) => {
@@ -72,12 +66,6 @@ impl Dial for RealDial {
     }
 
     fn give_back(&mut self, link: RealLink) {
-        if link.ended() {
-            self.ended = self.ended.saturating_add(1);
-        }
-        if link.failed() {
-            self.failed = self.failed.saturating_add(1);
-        }
-        self.out = false;
+        self.links.take_back(link);
     }
 }

@@ -1,6 +1,9 @@
 //! Doors over TCP.
-ghost use Rattle.std.specs.Prelude.{◌≡◌, false};
+ghost use Rattle.std.specs.Prelude.{◌≡◌};
+ghost use Rattle.ldm_outside.specs.Door.{IsNewDoor};
+ghost use Rattle.ldm_adapters.specs.Told.{told_by_door};
 
+use crate::lending::RealLending;
 use crate::links::RealLink;
 use arrayvec::{ArrayString, ArrayVec};
 use ldm_outside::{Came, Door, LONGEST_HOST};
@@ -16,27 +19,19 @@ pub struct RealDoor {
     listener: TcpListener,
     faults: u64,
     peers: u64,
-    ended: u64,
-    failed: u64,
-    out: bool,
+    links: RealLending,
 }
 
 impl RealDoor {
     /// A door where what comes to the listener comes in.
     pub fn new(listener: TcpListener) -> RealDoor
-        ensures faults { result.faults ≡ 0 }
-        ensures peers { result.peers ≡ 0 }
-        ensures ended { result.ended ≡ 0 }
-        ensures failed { result.failed ≡ 0 }
-        ensures out { result.out ≡ false }
+        ensures { IsNewDoor (told_by_door result) }
     {
         RealDoor {
             listener,
             faults: 0,
             peers: 0,
-            ended: 0,
-            failed: 0,
-            out: false,
+            links: RealLending::new(),
         }
     }
 
@@ -49,16 +44,16 @@ impl RealDoor {
 
     /// How many links were given back that had ended.
     pub fn ended(&self) -> u64
-        ensures { result ≡ self.now.ended }
+        ensures { result ≡ self.now.links.ended }
     {
-        self.ended
+        self.links.ended()
     }
 
     /// How many links were given back that had failed.
     pub fn failed(&self) -> u64
-        ensures { result ≡ self.now.failed }
+        ensures { result ≡ self.now.links.failed }
     {
-        self.failed
+        self.links.failed()
     }
 
     /// The port that it listens on.
@@ -97,8 +92,6 @@ fn next_peer(listener: &TcpListener) -> Option<(ArrayVec<u8, LONGEST_HOST>, TcpS
 }
 
 impl Door for RealDoor {
-    ghost use Rattle.ldm_adapters.specs.Told.{told_by_door};
-
     type Link = RealLink;
 
     ghost tells = { told_by_door };
@@ -107,7 +100,7 @@ impl Door for RealDoor {
         match next_peer(&self.listener) {
             Some((host, stream)) => {
                 self.peers = self.peers.saturating_add(1);
-                self.out = true;
+                self.links.hand_out();
                 let link = RealLink::new(stream);
                 Came::Peer { host, link }
             }
@@ -119,12 +112,6 @@ impl Door for RealDoor {
     }
 
     fn give_back(&mut self, link: RealLink) {
-        if link.ended() {
-            self.ended = self.ended.saturating_add(1);
-        }
-        if link.failed() {
-            self.failed = self.failed.saturating_add(1);
-        }
-        self.out = false;
+        self.links.take_back(link);
     }
 }

@@ -48,9 +48,9 @@ impl RealLink {
 }
 
 impl Link for RealLink {
-    ghost use Rattle.std.specs.Prelude.{None};
+    ghost use Rattle.ldm_adapters.specs.Told.{told_by_link};
 
-    ghost tells = { λ s. record { told = None; left = None; ends = s.ends; faults = s.faults; closed = s.closed } };
+    ghost tells = { told_by_link };
 
     fn recv(&mut self, into: &mut [u8]) -> Got {
         let got = read_once(&mut self.stream, into);

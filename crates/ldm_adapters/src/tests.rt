@@ -1,5 +1,5 @@
 ghost use Rattle.std.specs.Prelude.{◌≡◌, ◌<◌, length, false};
-ghost use Rattle.ldm_outside.specs.Link.{IsOpen};
+ghost use Rattle.ldm_outside.specs.Link.{IsNotClosed};
 
 use super::*;
 use ldm_outside::{
@@ -123,10 +123,10 @@ fn time_passes(rt: HostRuntime) {
 
 // Sends a piece over one end, and receives it at the other.
 fn passes<K: Link>(from: &mut K, to: &mut K, piece: &[u8]) -> (Put, Got)
-    requires from { IsOpen (K.tells from.old) }
-    requires to { IsOpen (K.tells to.old) }
-    ensures from { IsOpen (K.tells from.new) }
-    ensures to { IsOpen (K.tells to.new) }
+    requires from { IsNotClosed (K.tells from.old) }
+    requires to { IsNotClosed (K.tells to.old) }
+    ensures from { IsNotClosed (K.tells from.new) }
+    ensures to { IsNotClosed (K.tells to.new) }
 {
     let put = from.send(piece);
     let mut buffer = [0; 8];
@@ -135,8 +135,8 @@ fn passes<K: Link>(from: &mut K, to: &mut K, piece: &[u8]) -> (Put, Got)
 
 // Sends until the system tells that the peer is gone: whether it did.
 fn fails_soon<K: Link>(link: &mut K) -> bool
-    requires { IsOpen (K.tells link.old) }
-    ensures { IsOpen (K.tells link.new) }
+    requires { IsNotClosed (K.tells link.old) }
+    ensures { IsNotClosed (K.tells link.new) }
 {
     for _ in 0..1000 {
         if link.send(b"ab") == Put::Failed {
@@ -148,8 +148,8 @@ fn fails_soon<K: Link>(link: &mut K) -> bool
 
 // Two ends of one connection: bytes pass, then one end closes, and the other is at its end and cannot send for long.
 fn talk<K: Link>(rt: &impl Abort, near: &mut K, far: &mut K)
-    requires near { IsOpen (K.tells near.old) }
-    requires far { IsOpen (K.tells far.old) }
+    requires near { IsNotClosed (K.tells near.old) }
+    requires far { IsNotClosed (K.tells far.old) }
 {
     assert_eq!(rt; passes(near, far, b"abc"), (Put::Took(3), Got::Bytes(3)));
     assert_eq!(rt; passes(far, near, b"de"), (Put::Took(2), Got::Bytes(2)));
@@ -166,8 +166,8 @@ fn session<I: Dial<Link = RealLink>, D: Door<Link = RealLink>>(
     door: &mut D,
     port: u16,
 )
-    requires dial { (I.tells dial.old).out ≡ false }
-    requires door { (D.tells door.old).out ≡ false }
+    requires dial { (I.tells dial.old).links.out ≡ false }
+    requires door { (D.tells door.old).links.out ≡ false }
 {
     let Dialled::Linked(mut near) = dial.connect(b"127.0.0.1", port) else {
         panic!(rt; "no link");

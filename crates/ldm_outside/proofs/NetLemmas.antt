@@ -4,7 +4,9 @@ use Rattle.std.proofs.Math.Seq.{take-add}
 use Rattle.std.proofs.lemmas.List.{map-append}
 use Rattle.std.proofs.lemmas.List.Elements.{All-map}
 use Rattle.ldm_outside.specs.declared.mem_net.StationScript.{StationScript}
+use Rattle.ldm_outside.specs.Lending.{IsUnlent}
 use Rattle.ldm_outside.specs.Station.{IsNew}
+use Rattle.ldm_outside.specs.MemLending.{nothing_lent, told_by_lending}
 use Rattle.ldm_outside.specs.MemNet.{StationState, first_station, told_by_station}
 
 -- one element more, which is the next
@@ -13,7 +15,9 @@ map-take-next f xs i = ap (map f) (take-add i 1 xs) ∙ map-append f (take i xs)
 
 -- a station at its beginning is new
 IsNew-first : (script : StationScript) → IsNew (told_by_station (first_station script))
-IsNew-first script = record { door = (refl, refl); dial = (refl, refl); log = (refl, refl); clock = refl; gate = (refl, refl) }
+IsNew-first script =
+    let unlent : IsUnlent (told_by_lending nothing_lent) = record { out = refl; none_ended = refl; none_failed = refl; none_back = refl } in
+    record { door = (refl, refl, unlent); dial = (refl, refl, unlent); log = (refl, refl); clock = refl; gate = (refl, refl) }
 
 -- all stations at their beginning are new
 pub All-IsNew-first : (scripts : List StationScript) → All (λ (station : StationState). IsNew (told_by_station station)) (map first_station scripts)

@@ -5,7 +5,7 @@ pub mod Memory
 pub mod MemCalls
 pub mod Told
 pub mod Link
-pub mod LinkBack
+pub mod Lending
 pub mod Clock
 pub mod Gate
 pub mod Door
@@ -15,7 +15,7 @@ pub mod Net
 pub mod MemLink
 pub mod MemClock
 pub mod MemGate
-pub mod MemBack
+pub mod MemLending
 pub mod MemDoor
 pub mod MemDial
 pub mod MemNet

@@ -1,24 +1,44 @@
 -- What a link gives, takes and tells.
-use Rattle.std.specs.Prelude.{◌≡◌, ℕ, ◌<◌, ◌≤◌, Bool, true, false, List, [], ◌++◌, length, take, Option, IfSome, Result, Ok, Err}
+use Rattle.std.specs.Prelude.{◌≡◌, ℕ, ◌<◌, ◌≤◌, Bool, true, false, List, [], ◌∷◌, ◌++◌, length, take, map, Option, IfSome, Result, Ok, Err}
 use Rattle.std.specs.Option.{option_map}
 use Rattle.ldm_outside.specs.declared.io.Got.{Got}
 use Rattle.ldm_outside.specs.declared.io.Got.TheVariants.{Bytes, End, Failed}
 use Rattle.ldm_outside.specs.declared.io.Put.{Put}
 use Rattle.ldm_outside.specs.declared.io.Put.TheVariants as put
 use Rattle.ldm_outside.specs.declared.link.LinkFailed.{LinkFailed}
+use Rattle.ldm_outside.specs.declared.link.Passed.{Passed}
+use Rattle.ldm_outside.specs.declared.link.Way.{Way}
+use Rattle.ldm_outside.specs.declared.link.Way.TheVariants as way
 use Rattle.ldm_outside.specs.Count.{Rose}
 
--- The bytes of a link, since it was made.
-pub record LinkBytes : Type 0 where
-  -- all bytes that it was sent
-  pub sent : List ℕ
-  -- all bytes that it gave
-  pub given : List ℕ
+-- bytes that all went one way
+abbrev pub passed_all : Way → List ℕ → List Passed
+passed_all way bytes = map (λ byte. record { way = way; byte = byte }) bytes
+
+-- a byte in front of others, where it went the way that is asked for
+abbrev pub with_byte : (asked went : Way) → ℕ → List ℕ → List ℕ
+with_byte way.Sent way.Sent byte rest = byte ∷ rest
+with_byte way.Sent way.Given byte rest = rest
+with_byte way.Given way.Sent byte rest = rest
+with_byte way.Given way.Given byte rest = byte ∷ rest
+
+-- all bytes that went that way, in order
+abbrev pub bytes_passed : Way → List Passed → List ℕ
+bytes_passed asked [] = []
+bytes_passed asked (item ∷ rest) = with_byte asked item.way item.byte (bytes_passed asked rest)
+
+-- all bytes that a link was sent
+abbrev pub bytes_sent : List Passed → List ℕ
+bytes_sent passed = bytes_passed way.Sent passed
+
+-- all bytes that a link gave
+abbrev pub bytes_given : List Passed → List ℕ
+bytes_given passed = bytes_passed way.Given passed
 
 -- What a link tells at a moment.
 pub record LinkRecord : Type 0 where
-  -- its bytes, where it tells them
-  pub told : Option LinkBytes
+  -- what passed since it was made, in order, byte by byte, where it tells this
+  pub passed : Option (List Passed)
   -- the bytes that it has left to give, where it tells them
   pub left : Option (List ℕ)
   -- how often it answered that it is at its end
@@ -29,31 +49,23 @@ pub record LinkRecord : Type 0 where
   pub closed : Bool
 
 -- the link was not closed
-abbrev pub IsOpen : LinkRecord → Type 0
-IsOpen link = link.closed ≡ false
-
--- no bytes at all
-abbrev pub no_bytes : LinkBytes
-no_bytes = record { sent = []; given = [] }
+abbrev pub IsNotClosed : LinkRecord → Type 0
+IsNotClosed link = link.closed ≡ false
 
 -- A link that came or was connected, and was not used yet.
 pub record IsFresh (link : LinkRecord) : Type 0 where
-  pub not_closed : IsOpen link
+  pub not_closed : IsNotClosed link
   pub no_ends : link.ends ≡ 0
   pub no_faults : link.faults ≡ 0
-  pub nothing_told : IfSome link.told (λ bytes. bytes ≡ no_bytes)
+  pub nothing_passed : IfSome link.passed (λ passed. passed ≡ [])
 
--- the bytes of a link after it was sent more
-abbrev pub with_sent : List ℕ → LinkBytes → LinkBytes
-with_sent piece bytes = record bytes { sent = bytes.sent ++ piece }
-
--- the bytes of a link after it gave more
-abbrev pub with_given : List ℕ → LinkBytes → LinkBytes
-with_given piece bytes = record bytes { given = bytes.given ++ piece }
+-- what passed, and then these bytes one way
+abbrev pub then_all : Way → List ℕ → List Passed → List Passed
+then_all way bytes passed = passed ++ passed_all way bytes
 
 -- what a link tells after it was sent bytes
 abbrev pub after_sent : List ℕ → LinkRecord → LinkRecord
-after_sent piece link = record link { told = option_map (with_sent piece) link.told }
+after_sent piece link = record link { passed = option_map (then_all way.Sent piece) link.passed }
 
 -- A link was sent bytes, and nothing else of it changed.
 abbrev pub Sent : LinkRecord → List ℕ → LinkRecord → Type 0
@@ -63,7 +75,7 @@ Sent old piece new = new ≡ after_sent piece old
 abbrev pub Gave : LinkRecord → List ℕ → LinkRecord → Type 0
 Gave old piece new =
     (old.left ≡ option_map (λ rest. piece ++ rest) new.left)
-    × (new ≡ record old { told = option_map (with_given piece) old.told; left = new.left })
+    × (new ≡ record old { passed = option_map (then_all way.Given piece) old.passed; left = new.left })
 
 -- A link failed, and nothing but its count of faults changed.
 abbrev pub Failing : LinkRecord → LinkRecord → Type 0

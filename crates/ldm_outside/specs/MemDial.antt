@@ -1,5 +1,5 @@
 -- What contracts see of a dial in memory, and what one call of it does.
-use Rattle.std.specs.Prelude.{◌≡◌, ℕ, Bool, true, false, if◌then◌else◌, ◌⊎◌, List, [], ◌∷◌, ◌++◌, map, Some, None}
+use Rattle.std.specs.Prelude.{◌≡◌, ℕ, Bool, true, false, if◌then◌else◌, ◌⊎◌, List, [], ◌∷◌, ◌++◌, Some, None}
 use Rattle.ldm_outside.specs.declared.dial.Dialled.{Dialled}
 use Rattle.ldm_outside.specs.declared.dial.Dialled.TheVariants.{Linked, Failed}
 use Rattle.ldm_outside.specs.declared.mem_dial.DialCall.{DialCall}
@@ -7,7 +7,7 @@ use Rattle.ldm_outside.specs.declared.mem_link.LinkScript.{LinkScript}
 use Rattle.ldm_outside.specs.Dial.{Asked, DialRecord}
 use Rattle.ldm_outside.specs.Memory.{Plan, raised, next_fails, after_call, first_plan}
 use Rattle.ldm_outside.specs.MemLink.{LinkState, first_link}
-use Rattle.ldm_outside.specs.MemBack.{link_was, counted}
+use Rattle.ldm_outside.specs.MemLending.{LendingState, nothing_lent, lent, told_by_lending}
 
 -- a dial that connects the links of a list
 pub record DialState : Type 0 where
@@ -17,12 +17,8 @@ pub record DialState : Type 0 where
   pub asked : List Asked
   -- whether it once had no memory to keep whom it was asked for
   pub lost : Bool
-  -- the links that were given back
-  pub back : List LinkState
   pub faults : ℕ
-  pub ended : ℕ
-  pub failed : ℕ
-  pub out : Bool
+  pub links : LendingState
   -- the calls of `connect`
   pub plan : Plan
 
@@ -36,11 +32,8 @@ first_dial scripts failing = record {
   scripts = scripts;
   asked = [];
   lost = false;
-  back = [];
   faults = 0;
-  ended = 0;
-  failed = 0;
-  out = false;
+  links = nothing_lent;
   plan = first_plan failing;
 }
 
@@ -57,28 +50,17 @@ ConnectsAsPlanned (Linked link) peer old new =
     × (new ≡ record old {
       scripts = new.scripts;
       asked = old.asked ++ peer ∷ [];
-      out = true;
+      links = lent old.links;
       plan = after_call old.plan;
     })
 ConnectsAsPlanned Failed peer old new =
     (new ≡ after_failure (record old { asked = old.asked ++ peer ∷ [] }))
     ⊎ (new ≡ after_failure (record old { lost = true }))
 
--- the dial after a link was given back
-abbrev pub after_back : LinkState → DialState → DialState
-after_back link s = record s {
-  back = s.back ++ link ∷ [];
-  ended = counted link.ends s.ended;
-  failed = counted link.faults s.failed;
-  out = false;
-}
-
--- what a dial in memory tells: nothing once it could not keep whom it was asked for
+-- what a dial in memory tells: not whom it was asked for, once it could not keep one of these
 abbrev pub told_by_dial : DialState → DialRecord
 told_by_dial s = record {
   faults = s.faults;
-  ended = s.ended;
-  failed = s.failed;
-  out = s.out;
-  told = if s.lost then None else Some (record { asked = s.asked; back = map link_was s.back });
+  asked = if s.lost then None else Some s.asked;
+  links = told_by_lending s.links;
 }

@@ -1,12 +1,12 @@
 -- What contracts see of a door in memory, and what one call of it does.
-use Rattle.std.specs.Prelude.{◌≡◌, ℕ, Bool, true, false, List, [], ◌∷◌, ◌++◌, map, Some}
+use Rattle.std.specs.Prelude.{◌≡◌, ℕ, false, List, [], ◌∷◌, ◌++◌, Some}
 use Rattle.ldm_outside.specs.declared.door.Came.{Came}
 use Rattle.ldm_outside.specs.declared.door.Came.TheVariants.{Peer, Closed, Failed}
 use Rattle.ldm_outside.specs.declared.mem_door.MemPeer.{MemPeer}
 use Rattle.ldm_outside.specs.Door.{DoorRecord}
 use Rattle.ldm_outside.specs.Memory.{Plan, raised, next_fails, after_call, first_plan}
 use Rattle.ldm_outside.specs.MemLink.{LinkState, first_link}
-use Rattle.ldm_outside.specs.MemBack.{link_was, counted}
+use Rattle.ldm_outside.specs.MemLending.{LendingState, nothing_lent, lent, told_by_lending}
 
 -- a door that lets in the peers of a list
 pub record DoorState : Type 0 where
@@ -14,14 +14,10 @@ pub record DoorState : Type 0 where
   pub waiting : List MemPeer
   -- the hosts that came
   pub hosts : List (List ℕ)
-  -- the links that were given back
-  pub back : List LinkState
   pub faults : ℕ
   pub peers : ℕ
   pub closings : ℕ
-  pub ended : ℕ
-  pub failed : ℕ
-  pub out : Bool
+  pub links : LendingState
   -- the calls of `accept`
   pub plan : Plan
 
@@ -30,13 +26,10 @@ abbrev pub first_door : List MemPeer → List ℕ → DoorState
 first_door waiting failing = record {
   waiting = waiting;
   hosts = [];
-  back = [];
   faults = 0;
   peers = 0;
   closings = 0;
-  ended = 0;
-  failed = 0;
-  out = false;
+  links = nothing_lent;
   plan = first_plan failing;
 }
 
@@ -50,7 +43,7 @@ AcceptsAsPlanned (Peer host link) old new =
       waiting = new.waiting;
       hosts = old.hosts ++ host.items ∷ [];
       peers = raised old.peers;
-      out = true;
+      links = lent old.links;
       plan = after_call old.plan;
     })
 -- all peers came
@@ -59,23 +52,12 @@ AcceptsAsPlanned Closed old new =
     × (new ≡ record old { closings = raised old.closings; plan = after_call old.plan })
 AcceptsAsPlanned Failed old new = new ≡ record old { faults = raised old.faults; plan = after_call old.plan }
 
--- the door after a link was given back
-abbrev pub after_back : LinkState → DoorState → DoorState
-after_back link s = record s {
-  back = s.back ++ link ∷ [];
-  ended = counted link.ends s.ended;
-  failed = counted link.faults s.failed;
-  out = false;
-}
-
 -- what a door in memory tells
 abbrev pub told_by_door : DoorState → DoorRecord
 told_by_door s = record {
   faults = s.faults;
   peers = s.peers;
   closings = s.closings;
-  ended = s.ended;
-  failed = s.failed;
-  out = s.out;
-  told = Some (record { hosts = s.hosts; back = map link_was s.back });
+  hosts = Some s.hosts;
+  links = told_by_lending s.links;
 }

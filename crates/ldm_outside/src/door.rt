@@ -33,20 +33,20 @@ pub trait Door {
     /// What leads to a peer.
     type Link: Link;
 
-    /// What it tells: how often it failed, how many peers came, how often it was closed, how many links were given back
-    /// that had ended and that had failed, whether a link is out, and the hosts that came and the links that were given
-    /// back, if it tells these. A count stands still at the end of `u64`.
+    /// What it tells: how often it failed, how many peers came, how often it was closed, the hosts that came, if it
+    /// tells these, and its links: whether one is out, how many were given back that had ended and that had failed, and
+    /// what passed on each, if it tells this. A count stands still at the end of `u64`.
     ghost tells: { Self → DoorRecord };
 
     /// Lets a peer in.
     fn accept(&mut self) -> Came<Self::Link>
-        requires { (tells self.old).out ≡ false }
+        requires { (tells self.old).links.out ≡ false }
         ensures came { AcceptGives Self.Link.tells result (tells self.old) (tells self.new) };
 
     /// Takes the link of a peer back, which needs no memory.
     ///
     /// What the door tells is of the link that it is handed: to hand it that of the last peer is the caller's part.
     fn give_back(&mut self, link: Self::Link)
-        requires { (tells self.old).out ≡ true }
+        requires { (tells self.old).links.out ≡ true }
         ensures given_back { DoorTakesBack (Self.Link.tells link) (tells self.old) (tells self.new) };
 }

@@ -1,5 +1,5 @@
 ghost use Rattle.std.specs.Prelude.{◌≡◌, false};
-ghost use Rattle.ldm_outside.specs.Link.{IsOpen};
+ghost use Rattle.ldm_outside.specs.Link.{IsNotClosed};
 
 use super::*;
 use crate::expect::{expect_bytes, expect_counts};
@@ -39,7 +39,7 @@ fn peers(alloc: Global) -> Result<Vec<MemPeer>, Fail> {
 
 // What a session over a link came to: one call of `recv`.
 fn session<K: Link>(link: &mut K) -> Got
-    requires { IsOpen (K.tells link.old) }
+    requires { IsNotClosed (K.tells link.old) }
 {
     let mut buffer = [0; 8];
     link.recv(&mut buffer)
@@ -47,8 +47,8 @@ fn session<K: Link>(link: &mut K) -> Got
 
 // Lets a peer in, for one session.
 fn visit<D: Door>(door: &mut D) -> Option<Got>
-    requires { (D.tells door.old).out ≡ false }
-    ensures { (D.tells door.new).out ≡ false }
+    requires { (D.tells door.old).links.out ≡ false }
+    ensures { (D.tells door.new).links.out ≡ false }
 {
     match door.accept() {
         Came::Peer { mut link, .. } => {
@@ -62,8 +62,8 @@ fn visit<D: Door>(door: &mut D) -> Option<Got>
 
 // Connects, for one session.
 fn call<I: Dial>(dial: &mut I) -> Option<Got>
-    requires { (I.tells dial.old).out ≡ false }
-    ensures { (I.tells dial.new).out ≡ false }
+    requires { (I.tells dial.old).links.out ≡ false }
+    ensures { (I.tells dial.new).links.out ≡ false }
 {
     match dial.connect(b"host", 388) {
         Dialled::Linked(mut link) => {
@@ -89,7 +89,7 @@ fn man<N: Net>(net: &mut N, count: u32) -> Option<usize> {
 
 // What five visits came to.
 fn visits<D: Door>(alloc: Global, door: &mut D) -> Result<Vec<Got>, AllocError>
-    requires { (D.tells door.old).out ≡ false }
+    requires { (D.tells door.old).links.out ≡ false }
 {
     let mut came = Vec::new(alloc);
     for _ in 0..5 {
@@ -102,7 +102,7 @@ fn visits<D: Door>(alloc: Global, door: &mut D) -> Result<Vec<Got>, AllocError>
 
 // What five calls came to.
 fn calls<I: Dial>(alloc: Global, dial: &mut I) -> Result<Vec<Got>, AllocError>
-    requires { (I.tells dial.old).out ≡ false }
+    requires { (I.tells dial.old).links.out ≡ false }
 {
     let mut came = Vec::new(alloc);
     for _ in 0..5 {

@@ -1,8 +1,26 @@
 //! Links: streams of bytes in both directions, between two programs.
 ghost use Rattle.std.specs.Prelude.{◌<◌, ◌≤◌, length};
-ghost use Rattle.ldm_outside.specs.Link.{LinkRecord, IsOpen, SendsAll};
+ghost use Rattle.ldm_outside.specs.Link.{LinkRecord, IsNotClosed, SendsAll};
 
 use crate::io::{Got, Put};
+
+/// Which way a byte went.
+#[derive(Clone, Copy, Debug, PartialEq, Eq)]
+pub enum Way {
+    /// The link was sent it.
+    Sent,
+    /// The link gave it.
+    Given,
+}
+
+/// A byte that passed on a link.
+#[derive(Clone, Copy, Debug, PartialEq, Eq)]
+pub struct Passed {
+    /// Which way it went.
+    pub way: Way,
+    /// The byte.
+    pub byte: u8,
+}
 
 /// A stream of bytes to another program and one back.
 ///
@@ -11,8 +29,9 @@ use crate::io::{Got, Put};
 pub trait Link {
     ghost use Rattle.ldm_outside.specs.Link.{RecvGives, SendGives, Closes};
 
-    /// What it tells: the bytes that it was sent and gave, and those that it has left, if it tells these; how often it
-    /// failed and was at its end; and whether it was closed. A count stands still at the end of `u64`.
+    /// What it tells: what passed, byte by byte and both ways in one order, and the bytes that it has left to give, if it
+    /// tells these; how often it failed and was at its end; and whether it was closed. A count stands still at the end
+    /// of `u64`.
     ghost tells: { Self → LinkRecord };
 
     /// Receives some bytes into the front of the buffer, which has room for one at least.
@@ -21,20 +40,20 @@ pub trait Link {
     /// where none came, may hold anything.
     fn recv(&mut self, into: &mut [u8]) -> Got
         requires room { 0 < length into.old }
-        requires not_closed { IsOpen (tells self.old) }
+        requires not_closed { IsNotClosed (tells self.old) }
         ensures given { RecvGives result into.new (tells self.old) (tells self.new) }
         ensures faults_kept { (tells self.old).faults ≤ (tells self.new).faults }
         ensures ends_kept { (tells self.old).ends ≤ (tells self.new).ends }
-        ensures still_open { IsOpen (tells self.new) };
+        ensures still_open { IsNotClosed (tells self.new) };
 
     /// Sends some bytes from the front of the piece: what is left of it is the caller's to send.
     ///
     /// Where it fails it sent nothing, so a caller may send the piece again.
     fn send(&mut self, piece: &[u8]) -> Put
-        requires not_closed { IsOpen (tells self.old) }
+        requires not_closed { IsNotClosed (tells self.old) }
         ensures sent { SendGives result piece.now (tells self.old) (tells self.new) }
         ensures faults_kept { (tells self.old).faults ≤ (tells self.new).faults }
-        ensures still_open { IsOpen (tells self.new) };
+        ensures still_open { IsNotClosed (tells self.new) };
 
     /// Closes it, for both directions.
     fn close(&mut self)
@@ -49,10 +68,10 @@ pub struct LinkFailed;
 ///
 /// [`LinkFailed`] comes at the first call that fails, after a front of the piece was sent.
 pub fn send_all<K: Link>(link: &mut K, piece: &[u8]) -> Result<(), LinkFailed>
-    requires { IsOpen (K.tells link.old) }
+    requires { IsNotClosed (K.tells link.old) }
     ensures sent { SendsAll result piece.now (K.tells link.old) (K.tells link.new) }
     ensures faults_kept { (K.tells link.old).faults ≤ (K.tells link.new).faults }
-    ensures still_open { IsOpen (K.tells link.new) }
+    ensures still_open { IsNotClosed (K.tells link.new) }
 {
     let mut at = 0;
     while at < piece.len() {

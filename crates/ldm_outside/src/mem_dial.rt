@@ -5,7 +5,7 @@ ghost use Rattle.ldm_outside.specs.MemDial.{asked_by};
 use crate::calls::Calls;
 use crate::dial::{Dial, Dialled};
 use crate::link::Link;
-use crate::mem_back::Lending;
+use crate::mem_lending::Lending;
 use crate::mem_link::{LinkScript, MemLink};
 use std::alloc::{AllocError, Global};
 use std::collections::VecDeque;
@@ -43,11 +43,8 @@ impl Model for MemDial {
       scripts = s.scripts.items;
       asked = map asked_by s.asked.items;
       lost = s.lost;
-      back = s.lending.back;
       faults = s.calls.faults;
-      ended = s.lending.ended;
-      failed = s.lending.failed;
-      out = s.lending.out;
+      links = s.lending;
       plan = s.calls.plan;
     } };
 }
@@ -96,7 +93,7 @@ impl MemDial {
 
     /// The links that were given back, in order.
     pub fn back(&self) -> &[MemLink]
-        ensures { result.now ≡ self.now.back }
+        ensures { result.now ≡ self.now.links.back }
     {
         self.lending.back()
     }
@@ -110,14 +107,14 @@ impl MemDial {
 
     /// How many links were given back that had ended.
     pub fn ended(&self) -> u64
-        ensures { result ≡ self.now.ended }
+        ensures { result ≡ self.now.links.ended }
     {
         self.lending.ended()
     }
 
     /// How many links were given back that had failed.
     pub fn failed(&self) -> u64
-        ensures { result ≡ self.now.failed }
+        ensures { result ≡ self.now.links.failed }
     {
         self.lending.failed()
     }
@@ -126,14 +123,15 @@ impl MemDial {
 impl Dial for MemDial {
     ghost use Rattle.ldm_outside.specs.Dial.{ConnectGives, DialTakesBack};
     ghost use Rattle.ldm_outside.specs.MemLink.{told_by_link};
-    ghost use Rattle.ldm_outside.specs.MemDial.{told_by_dial, ConnectsAsPlanned, after_back};
+    ghost use Rattle.ldm_outside.specs.MemDial.{told_by_dial, ConnectsAsPlanned};
+    ghost use Rattle.ldm_outside.specs.MemLending.{after_back};
 
     type Link = MemLink;
 
     ghost tells = { told_by_dial };
 
     fn connect(&mut self, host: &[u8], port: u16) -> Dialled<MemLink>
-        requires { self.old.out ≡ false }
+        requires { self.old.links.out ≡ false }
         ensures dialled { ConnectGives told_by_link result (record { host = host.now; port = port }) (told_by_dial self.old) (told_by_dial self.new) }
         ensures planned { ConnectsAsPlanned result (record { host = host.now; port = port }) self.old self.new }
     {
@@ -157,9 +155,9 @@ impl Dial for MemDial {
     }
 
     fn give_back(&mut self, link: MemLink)
-        requires { self.old.out ≡ true }
+        requires { self.old.links.out ≡ true }
         ensures given_back { DialTakesBack (told_by_link link) (told_by_dial self.old) (told_by_dial self.new) }
-        ensures planned { self.new ≡ after_back link self.old }
+        ensures planned { self.new ≡ record self.old { links = after_back link self.old.links } }
     {
         self.lending.take_back(link);
     }

@@ -1,10 +1,11 @@
 //! Doors in memory, which let in the peers of a list.
 ghost use Rattle.std.specs.Prelude.{◌≡◌, true, false, [], ◌∷◌, ◌++◌, map, MatchOption};
+ghost use Rattle.ldm_outside.specs.MemLending.{lent};
 
 use crate::calls::Calls;
 use crate::door::{Came, Door, LONGEST_HOST};
 use crate::link::Link;
-use crate::mem_back::Lending;
+use crate::mem_lending::Lending;
 use crate::mem_link::{LinkScript, MemLink};
 use arrayvec::ArrayVec;
 use std::alloc::Global;
@@ -43,13 +44,10 @@ impl Model for MemDoor {
     ghost view = { λ s. record {
       waiting = s.waiting.items;
       hosts = map (λ host. host.items) s.hosts.items;
-      back = s.lending.back;
       faults = s.calls.faults;
       peers = s.peers;
       closings = s.closings;
-      ended = s.lending.ended;
-      failed = s.lending.failed;
-      out = s.lending.out;
+      links = s.lending;
       plan = s.calls.plan;
     } };
 }
@@ -81,7 +79,7 @@ impl MemDoor {
 
     /// The links that were given back, in order.
     pub fn back(&self) -> &[MemLink]
-        ensures { result.now ≡ self.now.back }
+        ensures { result.now ≡ self.now.links.back }
     {
         self.lending.back()
     }
@@ -109,14 +107,14 @@ impl MemDoor {
 
     /// How many links were given back that had ended.
     pub fn ended(&self) -> u64
-        ensures { result ≡ self.now.ended }
+        ensures { result ≡ self.now.links.ended }
     {
         self.lending.ended()
     }
 
     /// How many links were given back that had failed.
     pub fn failed(&self) -> u64
-        ensures { result ≡ self.now.failed }
+        ensures { result ≡ self.now.links.failed }
     {
         self.lending.failed()
     }
@@ -125,14 +123,15 @@ impl MemDoor {
 impl Door for MemDoor {
     ghost use Rattle.ldm_outside.specs.Door.{AcceptGives, DoorTakesBack};
     ghost use Rattle.ldm_outside.specs.MemLink.{told_by_link};
-    ghost use Rattle.ldm_outside.specs.MemDoor.{told_by_door, AcceptsAsPlanned, after_back};
+    ghost use Rattle.ldm_outside.specs.MemDoor.{told_by_door, AcceptsAsPlanned};
+    ghost use Rattle.ldm_outside.specs.MemLending.{after_back};
 
     type Link = MemLink;
 
     ghost tells = { told_by_door };
 
     fn accept(&mut self) -> Came<MemLink>
-        requires { self.old.out ≡ false }
+        requires { self.old.links.out ≡ false }
         ensures came { AcceptGives told_by_link result (told_by_door self.old) (told_by_door self.new) }
         ensures planned { AcceptsAsPlanned result self.old self.new }
     {
@@ -158,9 +157,9 @@ impl Door for MemDoor {
     }
 
     fn give_back(&mut self, link: MemLink)
-        requires { self.old.out ≡ true }
+        requires { self.old.links.out ≡ true }
         ensures given_back { DoorTakesBack (told_by_link link) (told_by_door self.old) (told_by_door self.new) }
-        ensures planned { self.new ≡ after_back link self.old }
+        ensures planned { self.new ≡ record self.old { links = after_back link self.old.links } }
     {
         self.lending.take_back(link);
     }
@@ -175,7 +174,7 @@ fn next_peer(
     requires { lending.old.out ≡ false }
     ensures peer { MatchOption result (waiting.new.items ≡ waiting.old.items) (λ peer. waiting.old.items ≡ peer ∷ waiting.new.items) }
     ensures host { MatchOption result (hosts.new.items ≡ hosts.old.items) (λ peer. map (λ h. h.items) hosts.new.items ≡ map (λ h. h.items) hosts.old.items ++ peer.host.items ∷ []) }
-    ensures out { MatchOption result (lending.new ≡ lending.old) (λ _. lending.new ≡ record lending.old { out = true }) }
+    ensures out { MatchOption result (lending.new ≡ lending.old) (λ _. lending.new ≡ lent lending.old) }
 {
     hosts.reserve(1).ok()?;
     let host = waiting

@@ -1,12 +1,12 @@
 //! Links in memory, which do as a script says.
-ghost use Rattle.std.specs.Prelude.{◌≡◌, true, ◌<◌, ◌≤◌, length, drop};
+ghost use Rattle.std.specs.Prelude.{◌≡◌, true, ◌<◌, ◌≤◌, length, take, drop, OnOk, OnErr};
+ghost use Rattle.ldm_outside.specs.Link.{then_all};
 ghost use Rattle.ldm_outside.specs.MemLink.{next_piece};
 
 use crate::calls::Calls;
 use crate::io::{Got, Put};
-use crate::link::Link;
-use crate::memory::copy_front;
-use std::alloc::Global;
+use crate::link::{Link, Passed, Way};
+use std::alloc::{AllocError, Global};
 use std::collections::VecDeque;
 use std::marker::Model;
 
@@ -26,30 +26,29 @@ pub struct LinkScript {
     pub failing: Vec<u64>,
 }
 
-/// A link that does as its script says, and keeps what it was sent.
+/// A link that does as its script says, and keeps what passed.
 ///
-/// Without memory for what it is to keep, a call of `send` fails too.
+/// Without memory for what it is to keep, a call fails too.
 #[derive(Debug, Drop)]
 pub struct MemLink {
     bytes: Vec<u8>,
     at: usize,
     pieces: VecDeque<usize>,
     has_end: bool,
-    sent: Vec<u8>,
+    passed: Vec<Passed>,
     calls: Calls,
     ends: u64,
     closed: bool,
 }
 
 impl Model for MemLink {
-    ghost use Rattle.std.specs.Prelude.{◌≤◌, take, drop, length};
+    ghost use Rattle.std.specs.Prelude.{◌≤◌, drop, length};
     ghost use Rattle.ldm_outside.specs.MemLink.{LinkState};
 
     ghost Value = { LinkState };
 
     ghost view = { λ s. record {
-      sent = s.sent.items;
-      given = take s.at s.bytes.items;
+      passed = s.passed.items;
       left = drop s.at s.bytes.items;
       pieces = s.pieces.items;
       has_end = s.has_end;
@@ -83,25 +82,18 @@ impl MemLink {
             at: 0,
             pieces: VecDeque::from(pieces),
             has_end,
-            sent: Vec::new(alloc),
+            passed: Vec::new(alloc),
             calls,
             ends: 0,
             closed: false,
         }
     }
 
-    /// All bytes that it was sent.
-    pub fn sent(&self) -> &[u8]
-        ensures { result.now ≡ self.now.sent }
+    /// What passed, in order.
+    pub fn passed(&self) -> &[Passed]
+        ensures { result.now ≡ self.now.passed }
     {
-        self.sent.as_slice()
-    }
-
-    /// All bytes that it gave.
-    pub fn given(&self) -> &[u8]
-        ensures { result.now ≡ self.now.given }
-    {
-        &self.bytes[..self.at]
+        self.passed.as_slice()
     }
 
     /// How often it failed.
@@ -127,7 +119,7 @@ impl MemLink {
 }
 
 impl Link for MemLink {
-    ghost use Rattle.ldm_outside.specs.Link.{IsOpen, RecvGives, SendGives};
+    ghost use Rattle.ldm_outside.specs.Link.{IsNotClosed, RecvGives, SendGives};
     ghost use Rattle.ldm_outside.specs.Memory.{moved};
     ghost use Rattle.ldm_outside.specs.MemLink.{told_by_link, RecvsAsPlanned, SendsAsPlanned};
 
@@ -135,11 +127,11 @@ impl Link for MemLink {
 
     fn recv(&mut self, into: &mut [u8]) -> Got
         requires room { 0 < length into.old }
-        requires not_closed { IsOpen (told_by_link self.old) }
+        requires not_closed { IsNotClosed (told_by_link self.old) }
         ensures given { RecvGives result into.new (told_by_link self.old) (told_by_link self.new) }
         ensures faults_kept { self.old.faults ≤ self.new.faults }
         ensures ends_kept { self.old.ends ≤ self.new.ends }
-        ensures still_open { IsOpen (told_by_link self.new) }
+        ensures still_open { IsNotClosed (told_by_link self.new) }
         ensures planned { RecvsAsPlanned result (length into.old) self.old self.new }
         ensures rest { drop (moved result) into.new ≡ drop (moved result) into.old }
     {
@@ -154,24 +146,30 @@ impl Link for MemLink {
             self.calls.fail();
             return Got::Failed;
         }
-        let most = take_piece(&mut self.pieces);
-        let n = copy_front(&self.bytes[self.at..], most, into);
+        let left = &self.bytes[self.at..];
+        let n = left.len().min(next_most(&self.pieces)).min(into.len());
+        if keep(&mut self.passed, Way::Given, &left[..n]).is_err() {
+            self.calls.fail();
+            return Got::Failed;
+        }
+        copy_next(left, n, into);
+        self.pieces.pop_front();
         self.at += n;
         Got::Bytes(n)
     }
 
     fn send(&mut self, piece: &[u8]) -> Put
-        requires not_closed { IsOpen (told_by_link self.old) }
+        requires not_closed { IsNotClosed (told_by_link self.old) }
         ensures sent { SendGives result piece.now (told_by_link self.old) (told_by_link self.new) }
         ensures faults_kept { self.old.faults ≤ self.new.faults }
-        ensures still_open { IsOpen (told_by_link self.new) }
+        ensures still_open { IsNotClosed (told_by_link self.new) }
         ensures planned { SendsAsPlanned result piece.now self.old self.new }
     {
         if self.calls.begin().is_err() {
             return Put::Failed;
         }
         let n = piece.len().min(self.calls.most());
-        if self.sent.extend_from_slice(&piece[..n]).is_err() {
+        if keep(&mut self.passed, Way::Sent, &piece[..n]).is_err() {
             self.calls.fail();
             return Put::Failed;
         }
@@ -185,14 +183,35 @@ impl Link for MemLink {
     }
 }
 
-// The most bytes that this call gives, and those of the later calls stay.
-fn take_piece(pieces: &mut VecDeque<usize>) -> usize
-    ensures most { result ≡ next_piece pieces.old.items }
-    ensures rest { pieces.new.items ≡ drop 1 pieces.old.items }
+// The most bytes that the next call of `recv` gives.
+fn next_most(pieces: &VecDeque<usize>) -> usize
+    ensures most { result ≡ next_piece pieces.now.items }
     ensures some { 0 < result }
 {
-    match pieces.pop_front() {
-        Some(most) => most.max(1),
+    match pieces.front() {
+        Some(most) => (*most).max(1),
         None => usize::MAX,
     }
+}
+
+// Copies the first so many bytes to the front of the buffer.
+fn copy_next(bytes: &[u8], n: usize, into: &mut [u8])
+    requires bytes { n ≤ length bytes.now }
+    requires room { n ≤ length into.old }
+    ensures front { take n into.new ≡ take n bytes.now }
+    ensures rest { drop n into.new ≡ drop n into.old }
+{
+    into[..n].copy_from_slice(&bytes[..n]);
+}
+
+// Keeps bytes that passed one way, behind the others. Without memory these stay as they were.
+fn keep(passed: &mut Vec<Passed>, way: Way, bytes: &[u8]) -> Result<(), AllocError>
+    ensures kept { OnOk result (passed.new.items ≡ then_all way bytes.now passed.old.items) }
+    ensures same { OnErr result (passed.new.items ≡ passed.old.items) }
+{
+    passed.reserve(bytes.len())?;
+    for byte in bytes {
+        passed.push_reserved(Passed { way, byte: *byte });
+    }
+    Ok(())
 }

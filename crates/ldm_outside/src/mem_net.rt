@@ -109,14 +109,15 @@ impl MemNet {
 impl Dial for MemNet {
     ghost use Rattle.ldm_outside.specs.Dial.{ConnectGives, DialTakesBack};
     ghost use Rattle.ldm_outside.specs.MemLink.{told_by_link};
-    ghost use Rattle.ldm_outside.specs.MemDial.{told_by_dial, ConnectsAsPlanned, after_back};
+    ghost use Rattle.ldm_outside.specs.MemDial.{told_by_dial, ConnectsAsPlanned};
+    ghost use Rattle.ldm_outside.specs.MemLending.{after_back};
 
     type Link = MemLink;
 
     ghost tells = { λ s. told_by_dial s.dial };
 
     fn connect(&mut self, host: &[u8], port: u16) -> Dialled<MemLink>
-        requires { self.old.dial.out ≡ false }
+        requires { self.old.dial.links.out ≡ false }
         ensures dialled { ConnectGives told_by_link result (record { host = host.now; port = port }) (told_by_dial self.old.dial) (told_by_dial self.new.dial) }
         ensures planned { ConnectsAsPlanned result (record { host = host.now; port = port }) self.old.dial self.new.dial }
         ensures rest { self.new ≡ record self.old { dial = self.new.dial } }
@@ -125,9 +126,9 @@ impl Dial for MemNet {
     }
 
     fn give_back(&mut self, link: MemLink)
-        requires { self.old.dial.out ≡ true }
+        requires { self.old.dial.links.out ≡ true }
         ensures given_back { DialTakesBack (told_by_link link) (told_by_dial self.old.dial) (told_by_dial self.new.dial) }
-        ensures planned { self.new ≡ record self.old { dial = after_back link self.old.dial } }
+        ensures planned { self.new ≡ record self.old { dial = record self.old.dial { links = after_back link self.old.dial.links } } }
     {
         self.dial.give_back(link);
     }

@@ -1,10 +1,11 @@
-use Rattle.std.proofs.Common.{rules, ◌≡◌, ◌∙◌, ℕ, List, Some, false, Result, Ok, Err, is_err, inl, sym, ap, arith}
-use Rattle.std.proofs.Math.Seq.{take-add}
-use Rattle.std.proofs.lemmas.List.{take_rest, drop-drop}
+use Rattle.std.proofs.Common.{◌≡◌, ◌∙◌, ℕ, List, Some, false, Result, Ok, Err, is_err, OnOk, refl, sym, ap, arith}
 use Rattle.ldm_outside.specs.declared.fault.Failed.{Failed}
 use Rattle.ldm_outside.specs.Memory.{after_call}
 use Rattle.ldm_outside.specs.MemCalls.{CallsState, Begins}
-use Rattle.ldm_outside.proofs.CopyFront.{drop-copied, take-copied}
+use Rattle.ldm_outside.specs.declared.link.Way.TheVariants as way
+use Rattle.ldm_outside.specs.Link.{then_all}
+use Rattle.ldm_outside.proofs.CopyFront.{drop-copied}
+use Rattle.std.proofs.lemmas.List.{take_rest}
 use Rattle.ldm_outside.proofs.mem_link.MemLinkLink.recv.Goals as goal
 
 -- a call that did not fail is counted, and nothing else
@@ -12,27 +13,19 @@ begun : (r : Result (Unit {0}) Failed) (old new : CallsState) → Begins r old n
 begun (Ok done) old new begins good = begins.1
 begun (Err failed) old new begins good = absurd (cc)
 
-pub returns-then-is_err-clause-planned : goal.returns-then-is_err-clause-planned
-returns-then-is_err-clause-planned c = (inl (search rules), search rules)
+-- what holds where there is no error
+kept : {E P : Type 0} (r : Result (Unit {0}) E) → OnOk r P → is_err r ≡ false → P
+kept (Ok done) holds good = holds
+kept (Err e) holds good = absurd (cc)
 
 pub returns-clause-given : goal.returns-clause-given
 returns-clause-given c =
-    let copied = rw (take_rest, c.deref.ensures.value) at c.copy_front-n.ensures.front in
+    let copied = rw (take_rest, c.deref.ensures.value) at c.copy_next.ensures.front in
     let calls = begun c.begin.result c.self.inside.calls c.begin.new.self c.begin.ensures.begun (sym c.is_err.ensures.value ∙ c.if-is_err.false) in
-    rw (← c.self.view_is, calls) (
+    let kept_bytes = kept c.keep.result (rw (take_rest, c.deref.ensures.value) at c.keep.ensures.kept) (sym c.is_err-2.ensures.value ∙ c.if-is_err-2.false) in
+    let passed = kept_bytes ∙ ap (λ (bytes : List ℕ). then_all way.Given bytes c.self.inside.passed.items) (sym copied) in
+    rw (← c.self.view_is, calls, passed) (
       omega arith,
       omega arith,
-      (
-        ap (λ (xs : List ℕ). Some xs) (drop-copied c.self.inside.bytes.items c.copy_front-n.new.into c.self.inside.at c.copy_front-n.result copied),
-        rw (take-copied c.self.inside.bytes.items c.copy_front-n.new.into c.self.inside.at c.copy_front-n.result copied),
-      ),
-    )
-
-pub returns-clause-planned : goal.returns-clause-planned
-returns-clause-planned c =
-    let calls = begun c.begin.result c.self.inside.calls c.begin.new.self c.begin.ensures.begun (sym c.is_err.ensures.value ∙ c.if-is_err.false) in
-    rw (← c.self.view_is) (
-      search rules,
-      rw (take_rest, c.deref.ensures.value, c.take_piece-most.ensures.most) at c.copy_front-n.ensures.count,
-      rw (take-add c.self.inside.at c.copy_front-n.result c.self.inside.bytes.items, drop-drop c.copy_front-n.result c.self.inside.at c.self.inside.bytes.items, c.take_piece-most.ensures.rest, calls),
+      (ap (λ (xs : List ℕ). Some xs) (drop-copied c.self.inside.bytes.items c.copy_next.new.into c.self.inside.at c.min-n.result copied), refl),
     )

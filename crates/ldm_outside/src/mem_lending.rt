@@ -1,7 +1,7 @@
 //! The links that a door or a dial in memory hands out, one at a time, and keeps once they were given back.
 ghost use Rattle.std.specs.Prelude.{◌≡◌};
-ghost use Rattle.ldm_outside.specs.LinkBack.{CountsBack};
-ghost use Rattle.ldm_outside.specs.MemBack.{counted};
+ghost use Rattle.ldm_outside.specs.Lending.{CountsBack};
+ghost use Rattle.ldm_outside.specs.MemLending.{counted};
 
 use crate::link::Link;
 use crate::mem_link::MemLink;
@@ -20,7 +20,7 @@ pub(crate) struct Lending {
 
 impl Model for Lending {
     ghost use Rattle.std.specs.Prelude.{◌≡◌, true, ◌<◌, vec_len, vec_capacity};
-    ghost use Rattle.ldm_outside.specs.MemBack.{LendingState};
+    ghost use Rattle.ldm_outside.specs.MemLending.{LendingState};
 
     ghost Value = { LendingState };
 
@@ -32,8 +32,9 @@ impl Model for Lending {
 
 impl Lending {
     ghost use Rattle.std.specs.Prelude.{◌≡◌, true, false, ◌∷◌, MatchOption};
-    ghost use Rattle.ldm_outside.specs.LinkBack.{CountsBack};
-    ghost use Rattle.ldm_outside.specs.MemBack.{nothing_lent, lending_after_back};
+    ghost use Rattle.ldm_outside.specs.Lending.{TakesBack};
+    ghost use Rattle.ldm_outside.specs.MemLink.{told_by_link};
+    ghost use Rattle.ldm_outside.specs.MemLending.{nothing_lent, lent, after_back, told_by_lending};
 
     pub(crate) fn new(alloc: Global) -> Lending
         ensures { result ≡ nothing_lent }
@@ -72,7 +73,7 @@ impl Lending {
     pub(crate) fn lend_next<T>(&mut self, waiting: &mut VecDeque<T>) -> Option<T>
         requires { self.old.out ≡ false }
         ensures next { MatchOption result (waiting.new.items ≡ waiting.old.items) (λ next. waiting.old.items ≡ next ∷ waiting.new.items) }
-        ensures out { MatchOption result (self.new ≡ self.old) (λ _. self.new ≡ record self.old { out = true }) }
+        ensures out { MatchOption result (self.new ≡ self.old) (λ _. self.new ≡ lent self.old) }
     {
         if waiting.is_empty() || self.back.reserve(1).is_err() {
             return None;
@@ -84,9 +85,8 @@ impl Lending {
     /// Takes a link back, and counts it where it had ended and where it had failed.
     pub(crate) fn take_back(&mut self, link: MemLink)
         requires { self.old.out ≡ true }
-        ensures back { self.new ≡ lending_after_back link self.old }
-        ensures ended { CountsBack link.ends self.old.ended self.new.ended }
-        ensures failed { CountsBack link.faults self.old.failed self.new.failed }
+        ensures back { self.new ≡ after_back link self.old }
+        ensures told { TakesBack (told_by_link link) (told_by_lending self.old) (told_by_lending self.new) }
     {
         self.ended = raised_where(link.ends(), self.ended);
         self.failed = raised_where(link.faults(), self.failed);
