@@ -25,45 +25,52 @@ BODY = {
         for _ in rt.forever() {
             let word = self.see(seat);
             if word >= WORN {
-                self.table.shared.wake_all(0);
+                self.take_over(seat);
+                self.table.shared.wake_all(MAY_SLEEP);
                 return Turn::Worn { turns: MOST_TURNS };
             }
             if word % 2 == 0 {
                 if self.try_take(seat, word) == word {
-                    self.speak_for_sleepers(slept);
+                    self.speak(seat, slept);
                     return Turn::Done(());
                 }
-            } else if looks < LOOKS && !self.may_sleep.load(Ordering::SeqCst) {
+            } else if looks < LOOKS && !self.may_sleep() {
                 looks += 1;
                 spin_loop();
             } else {
                 looks = 0;
                 slept = true;
-                self.sleep(rt, word);
+                self.sleep(rt, seat);
             }
         }
         unreachable!()""",
     "sleep": """
-        self.may_sleep.store(true, Ordering::SeqCst);
-        self.table.shared.park(rt, 0, (word & 0xffff_ffff) as u32);""",
-    "speak_for_sleepers": """
+        self.say(seat);
+        if self.table.shared.peek(TURNS) % 2 == 1 {
+            self.table.shared.park(rt, MAY_SLEEP, 1);
+        }""",
+    "speak": """
         if slept {
-            self.may_sleep.store(true, Ordering::SeqCst);
+            self.say(seat);
         }""",
     "end": """
-        let took_over = self.take_over_sleepers();
-        self.table.shared.fetch_add::<Add<C>>(seat, 0, 1);
-        self.wake(took_over);""",
-    "take_over_sleepers": """
-        self.may_sleep.load(Ordering::SeqCst) && self.may_sleep.swap(false, Ordering::SeqCst)""",
-    "wake": """
-        if took_over || self.may_sleep.load(Ordering::SeqCst) {
-            self.table.shared.wake_one(0);
+        self.table.shared.fetch_add::<Add<C>>(seat, TURNS, 1);
+        if self.take_over(seat) {
+            self.table.shared.wake_one(MAY_SLEEP);
         }""",
+    "take_over": """
+        self.may_sleep() && self.table.shared.swap::<Say>(seat, MAY_SLEEP, 0) == 1""",
+    "may_sleep": """
+        self.table.shared.peek(MAY_SLEEP) == 1""",
+    "say": """
+        self.table.shared.store::<Say>(seat, MAY_SLEEP, 1);""",
 }
 
 # What a line has that reads or writes what callers share.
-SHARED = ("self.may_sleep.", "self.table.shared.", "self.see(", "self.try_take(")
+SHARED = ("self.may_sleep()", "self.take_over(", "self.say(", "self.see(", "self.try_take(", "self.table.shared.")
+
+# Lines that another line, which calls them, stands for.
+WITHIN = ("self.table.shared.peek(MAY_SLEEP) == 1", "self.table.shared.store::<Say>(seat, MAY_SLEEP, 1);")
 
 
 class Caller(NamedTuple):
@@ -108,10 +115,18 @@ class Now:
     def see(self, queue, me):
         me = me._replace(word=queue.word)
         if me.word >= self.worn:
-            return [(queue, me._replace(at="wake_all"), None)]
+            return [(queue, me._replace(at="worn_asks"), None)]
         return [(queue, me._replace(at="try_take" if me.word % 2 == 0 else "look"), None)]
 
-    @line("self.table.shared.wake_all(0);")
+    @line("self.take_over(seat);")
+    def worn_asks(self, queue, me):
+        return [(queue, me._replace(at="worn_takes_over" if queue.may_sleep else "wake_all"), None)]
+
+    @line("self.take_over(seat);")
+    def worn_takes_over(self, queue, me):
+        return [(queue._replace(may_sleep=False), me._replace(took_over=queue.may_sleep, at="wake_all"), None)]
+
+    @line("self.table.shared.wake_all(MAY_SLEEP);")
     def wake_all(self, queue, me):
         return [(queue, self.ended(me), "all")]
 
@@ -121,57 +136,57 @@ class Now:
             return [(queue, me._replace(at="see"), None)]
         return [(queue._replace(word=queue.word + 1), self.taken(me), None)]
 
-    @line("} else if looks < LOOKS && !self.may_sleep.load(Ordering::SeqCst) {")
+    @line("} else if looks < LOOKS && !self.may_sleep() {")
     def look(self, queue, me):
-        sleeps = (queue, me._replace(at="say"), None)
+        sleeps = (queue, me._replace(slept=True, at="say"), None)
         if queue.may_sleep:
             return [sleeps]
         return [sleeps, (queue, me._replace(at="see"), None)]
 
     # sleep
 
-    @line("self.may_sleep.store(true, Ordering::SeqCst);")
+    @line("self.say(seat);")
     def say(self, queue, me):
-        return [(queue._replace(may_sleep=True), me._replace(at="park"), None)]
+        return [(queue._replace(may_sleep=True), me._replace(at="see_again"), None)]
 
-    @line("self.table.shared.park(rt, 0, (word & 0xffff_ffff) as u32);")
+    @line("if self.table.shared.peek(TURNS) % 2 == 1 {")
+    def see_again(self, queue, me):
+        return [(queue, me._replace(at="park" if queue.word % 2 == 1 else "see"), None)]
+
+    @line("self.table.shared.park(rt, MAY_SLEEP, 1);")
     def park(self, queue, me):
-        return [(queue, me._replace(slept=True, at="asleep" if queue.word == me.word else self.awake), None)]
+        return [(queue, me._replace(at="asleep" if queue.may_sleep else "see"), None)]
 
-    # speak_for_sleepers
+    # speak
 
     def taken(self, me):
-        return me._replace(at="speak" if me.slept else self.give)
+        return me._replace(at="speak" if me.slept else "add")
 
-    @line("self.may_sleep.store(true, Ordering::SeqCst);")
+    @line("self.say(seat);")
     def speak(self, queue, me):
-        return [(queue._replace(may_sleep=True), me._replace(slept=False, at=self.give), None)]
+        return [(queue._replace(may_sleep=True), me._replace(slept=False, at="add"), None)]
 
-    # end: take_over_sleepers, the turn is given back, wake
+    # end, take_over
 
-    @line("self.may_sleep.load(Ordering::SeqCst) && self.may_sleep.swap(false, Ordering::SeqCst)")
-    def asks(self, queue, me):
-        return [(queue, me._replace(at="takes_over" if queue.may_sleep else "add"), None)]
-
-    @line("self.may_sleep.load(Ordering::SeqCst) && self.may_sleep.swap(false, Ordering::SeqCst)")
-    def takes_over(self, queue, me):
-        return [(queue._replace(may_sleep=False), me._replace(took_over=queue.may_sleep, at="add"), None)]
-
-    @line("self.table.shared.fetch_add::<Add<C>>(seat, 0, 1);")
+    @line("self.table.shared.fetch_add::<Add<C>>(seat, TURNS, 1);")
     def add(self, queue, me):
-        return [(queue._replace(word=queue.word + 1), me._replace(at="wake_one" if me.took_over else "asks_again"), None)]
+        return [(queue._replace(word=queue.word + 1), me._replace(at="asks"), None)]
 
-    @line("if took_over || self.may_sleep.load(Ordering::SeqCst) {")
-    def asks_again(self, queue, me):
-        return [(queue, me._replace(at="wake_one") if queue.may_sleep else self.ended(me), None)]
+    @line("if self.take_over(seat) {")
+    def asks(self, queue, me):
+        return [(queue, me._replace(at="takes_over") if queue.may_sleep else self.ended(me), None)]
 
-    @line("self.table.shared.wake_one(0);")
+    @line("self.may_sleep() && self.table.shared.swap::<Say>(seat, MAY_SLEEP, 0) == 1")
+    def takes_over(self, queue, me):
+        then = me._replace(took_over=True, at="wake_one") if queue.may_sleep else self.ended(me)
+        return [(queue._replace(may_sleep=False), then, None)]
+
+    @line("self.table.shared.wake_one(MAY_SLEEP);")
     def wake_one(self, queue, me):
         return [(queue, self.ended(me), "one")]
 
     # between steps
 
-    give = "asks"  # the step that ends a call
     awake = "see"  # the step of a caller that slept
 
     def ended(self, me):
@@ -179,59 +194,78 @@ class Now:
 
 
 class Before(Now):
-    """The body that was in use before: a caller that has given its turn back makes it unsaid that others sleep."""
+    """The body that was in use before: callers slept on the word that they saw."""
 
-    give = "add"
     awake = "say_again"
+
+    def say(self, queue, me):
+        return [(queue._replace(may_sleep=True), me._replace(at="park"), None)]
+
+    def park(self, queue, me):
+        return [(queue, me._replace(at="asleep" if queue.word == me.word else self.awake), None)]
 
     def say_again(self, queue, me):
         return [(queue._replace(may_sleep=True), me._replace(slept=False, at="see"), None)]
 
-    def add(self, queue, me):
-        return [(queue._replace(word=queue.word + 1), me._replace(at="asks"), None)]
 
-    def asks(self, queue, me):
-        return [(queue, me._replace(at="takes_over") if queue.may_sleep else self.ended(me), None)]
+class SeesNoMore(Now):
+    """Does not look whether the turn is still taken, once it has said that it sleeps."""
 
-    def takes_over(self, queue, me):
-        after = me._replace(at="wake_one") if queue.may_sleep else self.ended(me)
-        return [(queue._replace(may_sleep=False), after, None)]
+    def say(self, queue, me):
+        return [(queue._replace(may_sleep=True), me._replace(at="park"), None)]
 
 
-class LooksNoMore(Now):
-    """Does not look again once the turn is given back."""
+class SaysItLate(Now):
+    """Looks whether the turn is still taken, and then says that it sleeps."""
 
-    def asks_again(self, queue, me):
-        return [(queue, self.ended(me), None)]
+    def look(self, queue, me):
+        return [(queue_then, me_then._replace(at=me_then.at.replace("say", "see_again")), None) for queue_then, me_then, _ in super().look(queue, me)]
+
+    def see_again(self, queue, me):
+        return [(queue, me._replace(at="say" if queue.word % 2 == 1 else "see"), None)]
+
+    def say(self, queue, me):
+        return [(queue._replace(may_sleep=True), me._replace(at="park"), None)]
 
 
 class SpeaksForNone(Now):
     """A caller that slept does not speak for those that sleep still."""
 
     def taken(self, me):
-        return me._replace(at=self.give)
+        return me._replace(at="add")
 
 
 class TakesOverAndForgets(Now):
     """Does not wake one where it took the sleepers over."""
 
-    def add(self, queue, me):
-        return [(queue._replace(word=queue.word + 1), me._replace(at="asks_again"), None)]
+    def takes_over(self, queue, me):
+        return [(queue._replace(may_sleep=False), self.ended(me), None)]
 
 
-class TakesOverLate(Now):
-    """Takes the sleepers over once the turn is given back, and not before."""
+class TakesOverEarly(Now):
+    """Takes the sleepers over before it gives the turn back, and not after."""
 
-    give = "add"
+    def taken(self, me):
+        return me._replace(at="speak" if me.slept else "asks")
 
-    def add(self, queue, me):
-        return [(queue._replace(word=queue.word + 1), me._replace(at="asks"), None)]
+    def speak(self, queue, me):
+        return [(queue._replace(may_sleep=True), me._replace(slept=False, at="asks"), None)]
 
     def asks(self, queue, me):
-        return [(queue, me._replace(at="takes_over" if queue.may_sleep else "asks_again"), None)]
+        return [(queue, me._replace(at="takes_over" if queue.may_sleep else "add"), None)]
 
     def takes_over(self, queue, me):
-        return [(queue._replace(may_sleep=False), me._replace(at="wake_one" if queue.may_sleep else "asks_again"), None)]
+        return [(queue._replace(may_sleep=False), me._replace(took_over=queue.may_sleep, at="add"), None)]
+
+    def add(self, queue, me):
+        return [(queue._replace(word=queue.word + 1), me._replace(at="wake_one") if me.took_over else self.ended(me), None)]
+
+
+class WornTakesNoneOver(Now):
+    """A caller that finds the queue worn wakes all, and does not take them over."""
+
+    def see(self, queue, me):
+        return [(queue, me._replace(at=me.at.replace("worn_asks", "wake_all")), None) for queue, me, _ in super().see(queue, me)]
 
 
 class WornWakesNone(Now):
@@ -268,12 +302,12 @@ def woken_of(body, others, woken):
 def are_cared_for(queue, callers):
     """What holds wherever a caller sleeps: one took the sleepers over, and has not woken one yet; or one that slept is awake and
     has not spoken for others; or it is said that a caller may sleep, and whoever has the turn, or gave it back, will see that."""
-    will_look = queue.word % 2 == 1 or any(me.at in ("asks_again", "wake_one") for me in callers)
+    will_ask = queue.word % 2 == 1 or any(me.at in ("asks", "takes_over") for me in callers)
     return (
         all(me.at != "asleep" for me in callers)
         or any(me.took_over for me in callers)
         or any(me.slept and me.at != "asleep" for me in callers)
-        or (queue.may_sleep and will_look)
+        or (queue.may_sleep and will_ask)
     )
 
 
@@ -325,15 +359,17 @@ def differences(source):
         if code_of(source, function) != [part.strip() for part in text.strip().splitlines()]:
             yield f"the body of {function} in steps.rt is not that of the model"
     shared = {part.strip() for text in BODY.values() for part in text.splitlines() if any(word in part for word in SHARED)}
+    shared -= set(WITHIN)
     steps = {step.line for step in vars(Now).values() if hasattr(step, "line")}
     for text in shared ^ steps:
         yield f"the model has no step for a line of the body, or one too many: {text}"
-    for function in ("may_sleep", "wake_one", "wake_all", "park"):
-        if sum(text.count(function) for text in BODY.values()) != source_count(source, function):
-            yield f"steps.rt names {function} outside of the functions of the model"
+    for word in ("MAY_SLEEP", "wake_one", "wake_all", "park("):
+        outside = 1 if word == "MAY_SLEEP" else 0
+        if sum(text.count(word) for text in BODY.values()) + outside != count(source, word):
+            yield f"steps.rt has {word} outside of the functions of the model"
 
 
-def source_count(source, word):
+def count(source, word):
     return sum(text.count(word) for text in source.splitlines() if not text.lstrip().startswith("//"))
 
 
@@ -351,10 +387,12 @@ def main():
             faults.append(f"a caller is left asleep, or not cared for: {stuck}")
     for body, callers, calls, worn in [
         (Before, 3, 1, never),
-        (LooksNoMore, 2, 1, never),
+        (SeesNoMore, 2, 1, never),
+        (SaysItLate, 3, 1, never),
         (SpeaksForNone, 3, 1, never),
         (TakesOverAndForgets, 3, 1, never),
-        (TakesOverLate, 3, 1, never),
+        (TakesOverEarly, 3, 1, never),
+        (WornTakesNoneOver, 4, 1, 2),
         (WornWakesNone, 3, 2, 2),
     ]:
         states, stuck = search(body(worn), callers, calls)

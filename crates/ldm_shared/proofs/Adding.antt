@@ -101,7 +101,9 @@ module _ (sizes : Sizes) where
           legal = subst (λ (n : ℕ). IsLegal n sizes.slots H) knows.arena (subst (λ (n : ℕ). IsLegal v.arena n H) knows.slots legal);
           below = below-append sizes.passes v.seen (entry ∷ []) (subst (AreBelow sizes.passes) (sym has.seen) k.below) ((knows.actors entry.actor answers).0, tt);
           few = omega (arith, long, few);
-          word = ap (λ (ws : List ℕ). set ws 0 ((get_or s.words 0 0 + 1) % 2 ^ 64)) k.word ∙ ap (λ (n : ℕ). n ∷ []) (omega (arith, fits, now));
+          may_sleep = k.may_sleep;
+          word = ap (λ (ws : List ℕ). set ws 0 ((get_or s.words 0 0 + 1) % 2 ^ 64)) k.word ∙ ap (λ (n : ℕ). n ∷ k.may_sleep ∷ []) (omega (arith, fits, now));
+          flag = k.flag;
           one_turn = omega (arith, now);
           book = λ _. (
             book,

@@ -9,7 +9,7 @@ use native.Mathlib.Decide.{ℕ_discrete}
 use lib.ListN.{get_elem?}
 use prog.Atomic.{either}
 use Rattle.atomic_table.specs.Table.{State, Me, step, keeps, takes as takes_slot, stepped, Allows}
-use Rattle.atomic_table.proofs.Lists.{at_set}
+use Rattle.atomic_table.proofs.Lists.{at_set, set_again}
 use Rattle.ldm_model.specs.declared.event.Entry.{Entry}
 use Rattle.ldm_model.specs.History.{after, IsLegal}
 use Rattle.ldm_book.specs.View.{BookView}
@@ -45,7 +45,9 @@ module _ (sizes : Sizes) where
     legal = k.legal;
     below = k.below;
     few = k.few;
-    word = k.word ∙ ap (λ (n : ℕ). (2 * length k.history + n) ∷ []) (sym same);
+    may_sleep = k.may_sleep;
+    word = k.word ∙ ap (λ (n : ℕ). (2 * length k.history + n) ∷ k.may_sleep ∷ []) (sym same);
+    flag = k.flag;
     one_turn = subst (λ (n : ℕ). n ≤ 1) (sym same) k.one_turn;
     book = λ free. k.book (sym same ∙ free);
     apart = λ actor. let a = k.apart actor in let b = fewer actor in omega arith;
@@ -164,6 +166,32 @@ module _ (sizes : Sizes) where
         (sees s k id v false at off some_pass knows, refl, free),
       )
 
+  -- what is said of callers that sleep
+  pub saying : (count id : ℕ) (me : Me Content View) (f : ℕ → ℕ) → ((n : ℕ) → n ≤ 1 → f n ≤ 1)
+      → Allows (IsKept sizes) count id me 1 f (λ n after. after ≡ me)
+  saying count id me f few s k len at small =
+      let x : ℕ = get_or s.words 1 0 in
+      let found : x ≡ k.may_sleep = ap (λ (ws : List ℕ). get_or ws 1 0) k.word in
+      let more : IsKept sizes record { words = set s.words 1 (f x); homes = s.homes; views = s.views } = record {
+        history = k.history;
+        legal = k.legal;
+        below = k.below;
+        few = k.few;
+        may_sleep = f x;
+        word = ap (λ (ws : List ℕ). set ws 1 (f x)) k.word;
+        flag = few x (subst (λ (n : ℕ). n ≤ 1) (sym found) k.flag);
+        one_turn = k.one_turn;
+        book = k.book;
+        apart = k.apart;
+        seats = k.seats;
+      } in (
+        me.0,
+        keeps,
+        tt,
+        subst (λ (vs : List View). IsKept sizes record { words = set s.words 1 (f x); homes = s.homes; views = vs }) (sym (set_again s.views id me.0 at)) more,
+        refl,
+      )
+
   abbrev MayTake : View → ℕ → Type 0
   MayTake v old = (((actor : ℕ) × (v.actors ≡ actor ∷ [])) × (old < 2 ^ 63)) ⊎ AnswersForAll v
 
@@ -189,7 +217,9 @@ module _ (sizes : Sizes) where
         legal = k.legal;
         below = k.below;
         few = k.few;
-        word = ap (λ (ws : List ℕ). set ws 0 (old + 1)) k.word ∙ ap (λ (n : ℕ). n ∷ []) (omega (arith, found, hit, free, now));
+        may_sleep = k.may_sleep;
+        word = ap (λ (ws : List ℕ). set ws 0 (old + 1)) k.word ∙ ap (λ (n : ℕ). n ∷ k.may_sleep ∷ []) (omega (arith, found, hit, free, now));
+        flag = k.flag;
         one_turn = omega (arith, now);
         book = λ none. absurd (omega (arith, now, none));
         apart = λ actor. let a = k.apart actor in let b = sum-set (λ (u : View). times actor u.actors) s.views id v w at in omega arith;

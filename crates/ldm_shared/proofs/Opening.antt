@@ -61,13 +61,15 @@ module _ (sizes : Sizes) where
   first_seat zero v at = subst (Knows sizes []) (some-injective (opening sizes) v at) knows_none
   first_seat (suc id) v at = absurd (some-ne-none v (sym at))
 
-  pub opened : (book : BookView) → StandsFor book (empty sizes.arena sizes.slots) → IsKept sizes (table.opening (0 ∷ []) (Some book ∷ []) (opening sizes))
+  pub opened : (book : BookView) → StandsFor book (empty sizes.arena sizes.slots) → IsKept sizes (table.opening (0 ∷ 0 ∷ []) (Some book ∷ []) (opening sizes))
   opened book stands = record {
     history = [];
     legal = tt;
     below = tt;
     few = omega arith;
+    may_sleep = 0;
     word = refl;
+    flag = omega arith;
     one_turn = omega arith;
     book = λ _. (book, refl, stands);
     apart = λ actor. let one = times_range_one actor 0 sizes.passes in omega (arith, one, zero_first (times actor (range_with_len 0 sizes.passes)));

@@ -1,14 +1,16 @@
 -- What a seat knows after its looks.
-use Rattle.std.proofs.Common.{◌≡◌, ℕ, ◌+◌, ◌*◌, ◌^◌, ◌<◌, ◌≤◌, Bool, false, List, [], length, Option, refl, ap, sym, subst, ◌∙◌, arith, ⊎_elim, nat_eq, MatchBool, ◌≢◌, eq-eqb, ne_eqb}
+use Rattle.std.proofs.Common.{◌≡◌, ℕ, ◌+◌, ◌*◌, ◌^◌, ◌<◌, ◌≤◌, Bool, true, false, List, [], length, Option, refl, ap, sym, subst, ◌∙◌, arith, ⊎_elim, nat_eq, MatchBool, ◌≢◌, eq-eqb, ne_eqb}
 use Rattle.atomic_table.specs.declared.shared.Seat.{Seat}
-use Rattle.ldm_model.specs.History.{IsLegal}
+use Rattle.atomic_table.specs.Table.{Me}
+use Rattle.ldm_model.specs.History.{after, IsLegal}
 use Rattle.ldm_book.specs.View.{BookView}
+use Rattle.ldm_book.specs.Stands.{StandsFor}
 use Rattle.ldm_shared.specs.declared.view.View.{View}
 use Rattle.ldm_shared.specs.Own.{AreBelow}
 use Rattle.ldm_shared.specs.Passes.{SharedView}
 use Rattle.ldm_shared.specs.Rule.{times}
 use Rattle.ldm_shared.specs.Steps.{Sees, HasTaken}
-use Rattle.ldm_shared.specs.Seats.{IsReady, CanCall, IsSame, GoesOn, IsHistory, Waits}
+use Rattle.ldm_shared.specs.Seats.{IsReady, IsWorn, CanCall, IsSame, GoesOn, IsHistory, Waits}
 use Rattle.ldm_shared.proofs.Histories.{prefix_self, prefix_trans}
 
 abbrev pub ASeat : Type 0
@@ -83,6 +85,36 @@ has_taken w slots found word same taken = subst (λ (b : Bool). MatchBool b (Has
 pub has_missed : (w : View) (slots : List (ℕ × Option BookView)) (found word : ℕ) → found ≢ word
     → MatchBool (nat_eq found word) (HasTaken w slots) ((w.turn ≡ false) × (slots ≡ [])) → (w.turn ≡ false) × (slots ≡ [])
 has_missed w slots found word other taken = subst (λ (b : Bool). MatchBool b (HasTaken w slots) ((w.turn ≡ false) × (slots ≡ []))) (ne_eqb found word other) taken
+
+-- a seat that stays as it was, at a step that changes nothing that it knows
+module _ (shared : SharedView) (now then : ASeat) (same : IsSame now then) (me : then.me ≡ now.me) where
+  pub still_goes_on : (v : View) → GoesOn v now.me.0 × IsHistory now.me.0 → GoesOn v then.me.0 × IsHistory then.me.0
+  still_goes_on v on = subst (λ (m : Me (Option BookView) View). GoesOn v m.0 × IsHistory m.0) (sym me) on
+
+  pub still_worn : (turns : ℕ) → IsWorn shared now turns → IsWorn shared then turns
+  still_worn turns worn = record {
+    ready = record {
+      queue = same.table ∙ worn.ready.queue;
+      idle = subst (λ (m : Me (Option BookView) View). m.0.turn ≡ false) (sym me) worn.ready.idle;
+      free = subst (λ (m : Me (Option BookView) View). m.1 ≡ []) (sym me) worn.ready.free;
+      passes = subst (λ (m : Me (Option BookView) View). 0 < m.0.passes) (sym me) worn.ready.passes;
+    };
+    turns_are = worn.turns_are;
+    long = subst (λ (m : Me (Option BookView) View). length m.0.seen ≡ 2 ^ 62) (sym me) worn.long;
+  }
+
+  pub still_can_call : CanCall shared now → CanCall shared then
+  still_can_call can = record {
+    book = can.book;
+    turn = record {
+      queue = same.table ∙ can.turn.queue;
+      turn = subst (λ (m : Me (Option BookView) View). m.0.turn ≡ true) (sym me) can.turn.turn;
+      slot = ap (λ (m : Me (Option BookView) View). m.1) me ∙ can.turn.slot;
+      passes = subst (λ (m : Me (Option BookView) View). 0 < m.0.passes) (sym me) can.turn.passes;
+    };
+    stands = subst (λ (m : Me (Option BookView) View). StandsFor can.book (after m.0.arena m.0.slots m.0.seen)) (sym me) can.stands;
+    few = subst (λ (m : Me (Option BookView) View). length m.0.seen < 2 ^ 62) (sym me) can.few;
+  }
 
 -- the turn was taken
 module _ (shared : SharedView) (before now then : ASeat) (found : ℕ) (ready : IsReady shared before) (waits : Waits before now)

@@ -11,9 +11,9 @@ view_of_shared s = record {
   passes = s.table.shared.key.passes;
 }
 
--- one word and one slot, and some pass
+-- two words and one slot, and some pass
 pub record IsShared (s : Inside) : Type 0 where
-  pub words : s.table.shared.table_id.words ≡ 1
+  pub words : s.table.shared.table_id.words ≡ 2
   pub slots : s.table.shared.table_id.slots ≡ 1
   pub arena : s.table.shared.key.arena ≡ s.arena
   pub passes : 0 < s.table.shared.key.passes

@@ -83,8 +83,10 @@ pub record IsKept (sizes : Sizes) (s : State (Option BookView) View) : Type 0 wh
   pub legal : IsLegal sizes.arena sizes.slots history
   pub below : AreBelow sizes.passes history
   pub few : length history ≤ 2 ^ 62
-  -- the word is twice its length, and one more while a seat has the turn
-  pub word : s.words ≡ (2 * length history + turns s.views) ∷ []
+  -- The first word is twice its length, and one more while a seat has the turn. The second is 1 where a caller may sleep.
+  pub may_sleep : ℕ
+  pub word : s.words ≡ (2 * length history + turns s.views) ∷ may_sleep ∷ []
+  pub flag : may_sleep ≤ 1
   pub one_turn : turns s.views ≤ 1
   pub book : turns s.views ≡ 0 → HasBook sizes history s.homes
   -- no actor stands in two lists, or twice in one

@@ -41,6 +41,10 @@ abbrev pub takes : Step (Option BookView) → Me (Option BookView) View → ℕ 
 takes step me found after =
     Sees me.0 found after.0 × MatchBool (found == step.first) (HasTaken after.0 after.1) ((after.0.turn ≡ false) × (after.1 ≡ []))
 
+-- what is said of callers that sleep changes, and the seat stays as it was
+abbrev pub says : Step (Option BookView) → Me (Option BookView) View → ℕ → Me (Option BookView) View → Type 0
+says step me found after = after ≡ me
+
 -- the turn and the slot are given back, with one more entry in the history
 abbrev pub adds : Entry → Step (Option BookView) → Me (Option BookView) View → ℕ → Me (Option BookView) View → Type 0
 adds entry step me found after =

@@ -20,7 +20,6 @@ use atomic_table::{Seat, Table};
 use ldm_book::{Book, CreateFault as BookFault};
 use ldm_types::Actor;
 use std::alloc::Global;
-use std::sync::atomic::AtomicBool;
 
 impl Shared {
     /// A queue with an arena of so many bytes and so many product slots, which that many passes can call. Pass i is of actor i.
@@ -70,12 +69,11 @@ impl Shared {
     {
         let mut row = Vec::with_capacity(alloc, 1)?;
         row.push_reserved(Some(book));
-        match Table::new(alloc, &[0], row, &sizes) {
+        match Table::new(alloc, &[0, 0], row, &sizes) {
             Ok((table, seat)) => Ok((
                 Shared {
                     table,
                     arena: sizes.arena,
-                    may_sleep: AtomicBool::new(false),
                 },
                 seat,
             )),

@@ -1,5 +1,5 @@
-//! The rule of the shared word and slot, and what each step on them tells.
-ghost use Rattle.ldm_shared.specs.Steps.{looks, takes};
+//! The rule of the shared words and slot, and what each step on them tells.
+ghost use Rattle.ldm_shared.specs.Steps.{looks, says, takes};
 
 use crate::sizes::Sizes;
 use crate::view::View;
@@ -30,6 +30,13 @@ pub(crate) struct Take;
 
 impl Play<Option<Book>, View> for Take {
     ghost then = { takes };
+}
+
+/// A caller says whether one may sleep.
+pub(crate) struct Say;
+
+impl Play<Option<Book>, View> for Say {
+    ghost then = { says };
 }
 
 /// An entry of the history: who called what, and what was answered.

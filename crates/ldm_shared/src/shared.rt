@@ -8,15 +8,12 @@ use atomic_table::Table;
 use ldm_book::Book;
 use std::alloc::Global;
 use std::marker::Model;
-use std::sync::atomic::AtomicBool;
 
 /// The queue of many threads, which is lent to all of them.
 #[derive(Drop)]
 pub struct Shared {
     pub(crate) table: Table<Option<Book>, View, Sizes, Law, Global>,
     pub(crate) arena: u64,
-    // Whether a caller may sleep, or is about to.
-    pub(crate) may_sleep: AtomicBool,
 }
 
 impl Model for Shared {

@@ -9,7 +9,7 @@ ghost use Rattle.ldm_shared.specs.Steps.{Sees, HasTaken};
 ghost use Rattle.ldm_shared.specs.Seats.{IsReady, HasTheTurn, CanCall, IsWorn, IsSame, GoesOn, IsHistory};
 ghost use Rattle.ldm_shared.specs.Turns.{IfDone, IfWorn};
 
-use crate::rule::{Add, Called, Look, Take};
+use crate::rule::{Add, Called, Look, Say, Take};
 use crate::shared::Shared;
 use crate::turn::Turn;
 use crate::view::View;
@@ -19,12 +19,17 @@ use ldm_model::histories_append;
 use ldm_types::Actor;
 use std::hint::spin_loop;
 use std::sync::Wait;
-use std::sync::atomic::Ordering;
 
 /// How many calls a shared queue can have.
 pub const MOST_TURNS: u64 = 1 << 62;
 
-// The word that counts so many calls, with no turn taken.
+// The word that counts calls, and one more while a turn is taken.
+const TURNS: usize = 0;
+
+// The word that is 1 where a caller may sleep, on which callers sleep.
+const MAY_SLEEP: usize = 1;
+
+// The first word where it counts so many calls, with no turn taken.
 const WORN: u64 = 2 * MOST_TURNS;
 
 // How often a caller looks at a turn that is taken before it sleeps, where no other sleeps yet.
@@ -38,7 +43,7 @@ impl Shared {
         ensures sees { Sees seat.old.me.0 result seat.new.me.0 }
         ensures idle { (seat.new.me.0.turn ≡ false) × (seat.new.me.1 ≡ []) }
     {
-        self.table.shared.load::<Look>(seat, 0)
+        self.table.shared.load::<Look>(seat, TURNS)
     }
 
     // Takes the turn, and the slot with the book, if the word is still the one that is given. Answers the word.
@@ -53,7 +58,7 @@ impl Shared {
     {
         self.table
             .shared
-            .compare_exchange::<Take>(seat, 0, word, word + 1)
+            .compare_exchange::<Take>(seat, TURNS, word, word + 1)
     }
 
     // Takes the book out of the slot, which the seat has with the turn.
@@ -70,38 +75,58 @@ impl Shared {
         book
     }
 
-    // Sleeps while the low half of the word is that of the one that was seen, until a wake. It may also return for no reason.
-    fn sleep<H: Wait>(&self, rt: &H, word: u64) {
-        self.may_sleep.store(true, Ordering::SeqCst);
-        self.table.shared.park(rt, 0, (word & 0xffff_ffff) as u32);
+    // Whether a caller may sleep, or is about to.
+    fn may_sleep(&self) -> bool {
+        self.table.shared.peek(MAY_SLEEP) == 1
     }
 
-    // Says that others may sleep still, if the caller that has the turn now has slept.
-    fn speak_for_sleepers(&self, slept: bool) {
+    // Says that a caller may sleep.
+    fn say(&self, seat: &mut Seat<Option<Book>, View>)
+        requires queue { seat.old.table_id ≡ self.now.queue }
+        ensures same { IsSame seat.old seat.new }
+        ensures me { seat.new.me ≡ seat.old.me }
+    {
+        self.table.shared.store::<Say>(seat, MAY_SLEEP, 1);
+    }
+
+    // Whether a caller may sleep, which nobody says any more from then on. Who takes that over wakes one.
+    fn take_over(&self, seat: &mut Seat<Option<Book>, View>) -> bool
+        requires queue { seat.old.table_id ≡ self.now.queue }
+        ensures same { IsSame seat.old seat.new }
+        ensures me { seat.new.me ≡ seat.old.me }
+    {
+        self.may_sleep() && self.table.shared.swap::<Say>(seat, MAY_SLEEP, 0) == 1
+    }
+
+    // Says for others that they may sleep still, if this caller slept.
+    fn speak(&self, seat: &mut Seat<Option<Book>, View>, slept: bool)
+        requires queue { seat.old.table_id ≡ self.now.queue }
+        ensures same { IsSame seat.old seat.new }
+        ensures me { seat.new.me ≡ seat.old.me }
+    {
         if slept {
-            self.may_sleep.store(true, Ordering::SeqCst);
+            self.say(seat);
         }
     }
 
-    // Whether a caller may sleep, which is not said any more from then on. The caller that has the turn asks, and wakes one.
-    fn take_over_sleepers(&self) -> bool {
-        self.may_sleep.load(Ordering::SeqCst) && self.may_sleep.swap(false, Ordering::SeqCst)
-    }
-
-    // Wakes one caller that sleeps, if this one took that over, or one has said since that it sleeps: to ask the system each
-    // time would cost more than most calls.
-    fn wake(&self, took_over: bool) {
-        if took_over || self.may_sleep.load(Ordering::SeqCst) {
-            self.table.shared.wake_one(0);
+    // Sleeps, if the turn is still taken, until a wake. It may also return for no reason.
+    fn sleep<H: Wait>(&self, rt: &H, seat: &mut Seat<Option<Book>, View>)
+        requires queue { seat.old.table_id ≡ self.now.queue }
+        ensures same { IsSame seat.old seat.new }
+        ensures me { seat.new.me ≡ seat.old.me }
+    {
+        self.say(seat);
+        if self.table.shared.peek(TURNS) % 2 == 1 {
+            self.table.shared.park(rt, MAY_SLEEP, 1);
         }
     }
 
     // Waits for the turn, and takes it with the book.
     //
-    // No caller sleeps on while the turn is free. One that goes to sleep first says so, and sleeps only on the word of a turn
-    // that is taken. Only who has the turn makes that unsaid, and then wakes one; and looks once more when the word is changed,
-    // for who said it in between. The caller that is woken speaks for those that sleep still, as soon as it has the turn or
-    // sleeps again; until then nobody else is woken. The README has the whole argument.
+    // No caller sleeps on while the turn is free. One that goes to sleep first says so, and then sees that the turn is taken; it
+    // sleeps only while that is still said. Who gives the turn back makes it unsaid, and wakes one. The caller that is woken
+    // speaks for those that sleep still, when it has the turn or sleeps again; until then nobody else is woken. The README has
+    // the whole argument.
     pub(crate) fn take<H: Wait>(&self, rt: &H, seat: &mut Seat<Option<Book>, View>) -> Turn<()>
         requires ready { IsReady self.now seat.old }
         requires one { (actor : ℕ) × (seat.old.me.0.actors ≡ actor ∷ []) }
@@ -116,21 +141,22 @@ impl Shared {
         for _ in rt.forever() {
             let word = self.see(seat);
             if word >= WORN {
-                self.table.shared.wake_all(0);
+                self.take_over(seat);
+                self.table.shared.wake_all(MAY_SLEEP);
                 return Turn::Worn { turns: MOST_TURNS };
             }
             if word % 2 == 0 {
                 if self.try_take(seat, word) == word {
-                    self.speak_for_sleepers(slept);
+                    self.speak(seat, slept);
                     return Turn::Done(());
                 }
-            } else if looks < LOOKS && !self.may_sleep.load(Ordering::SeqCst) {
+            } else if looks < LOOKS && !self.may_sleep() {
                 looks += 1;
                 spin_loop();
             } else {
                 looks = 0;
                 slept = true;
-                self.sleep(rt, word);
+                self.sleep(rt, seat);
             }
         }
         unreachable!()
@@ -166,9 +192,10 @@ impl Shared {
         ensures same { IsSame seat.old seat.new }
         ensures added { seat.new.me ≡ (record seat.old.me.0 { seen = seat.old.me.0.seen ++ C.entry ∷ []; turn = false }, []) }
     {
-        let took_over = self.take_over_sleepers();
-        self.table.shared.fetch_add::<Add<C>>(seat, 0, 1);
-        self.wake(took_over);
+        self.table.shared.fetch_add::<Add<C>>(seat, TURNS, 1);
+        if self.take_over(seat) {
+            self.table.shared.wake_one(MAY_SLEEP);
+        }
     }
 
     // Ends a call of an actor, whose answer and the buffer that it left are for the proof alone.

@@ -8,6 +8,6 @@ use Rattle.ldm_shared.proofs.shared.Shared.open.Goals as goal
 
 pub new-requires : goal.new-requires
 new-requires c =
-    subst (λ (row : List (Option BookView)). IsKept c.args.sizes (table.opening (0 ∷ []) row (opening c.args.sizes)))
+    subst (λ (row : List (Option BookView)). IsKept c.args.sizes (table.opening (0 ∷ 0 ∷ []) row (opening c.args.sizes)))
     (sym (c.push_reserved.ensures.items ∙ ap (λ (row : List (Option BookView)). row ++ Some c.args.book ∷ []) c.in_ok-row.ensures.items))
     (opened c.args.sizes c.args.book c.requires.stands)

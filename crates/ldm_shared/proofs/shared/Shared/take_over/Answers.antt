@@ -1,0 +1,11 @@
+use Rattle.std.proofs.Common.{◌∙◌, sym, ap, arith}
+use Rattle.ldm_shared.specs.Passes.{SharedView}
+use Rattle.ldm_shared.proofs.Keeping.{saying}
+use Rattle.ldm_shared.proofs.shared.Shared.take_over.Goals as goal
+
+pub swap-requires : goal.swap-requires
+swap-requires c = (
+  c.requires.queue ∙ sym (ap (λ (v : SharedView). v.queue) c.self.view_is),
+  (let words = c.self.invariant.words in omega arith),
+  saying _ _ _ _ (λ _. 0) (λ n few. omega arith),
+)
