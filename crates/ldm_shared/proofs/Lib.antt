@@ -1,5 +1,8 @@
 pub mod Histories
 pub mod Made
+pub mod OwnFolds
+pub mod OwnPoints
+pub mod OwnLaw
 pub mod Counts
 pub mod Keeping
 pub mod Adding

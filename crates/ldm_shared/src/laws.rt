@@ -1,14 +1,22 @@
 //! Laws of passes: what the clauses of their calls amount to.
-ghost use Rattle.std.specs.Prelude.{◌≡◌, ℕ, ◌++◌, ◌∷◌, [], List};
+ghost use Rattle.std.specs.Prelude.{◌≡◌, ◌↔◌, ℕ, ◌+◌, ◌++◌, ◌∷◌, [], List, true, All, Some};
+ghost use Rattle.std.specs.List.Sorted.{IsStrictlyIncreasing};
 ghost use mathlib.Core.List.{IsPrefix};
+ghost use Rattle.ldm_types.specs.Info.{Metadata};
 ghost use Rattle.ldm_model.specs.declared.event.Event.{Event};
+ghost use Rattle.ldm_model.specs.declared.event.Event.TheVariants.{Step, Read};
 ghost use Rattle.ldm_model.specs.declared.event.Reply.{Reply};
+ghost use Rattle.ldm_model.specs.declared.event.Reply.TheVariants as reply;
 ghost use Rattle.ldm_model.specs.declared.event.Entry.{Entry};
 ghost use Rattle.ldm_model.specs.History.{IsLegal};
+ghost use Rattle.ldm_model.specs.Law.{Point, is_step, IsServed, IsAnsweredAt};
 ghost use Rattle.ldm_shared.specs.Own.{own, Adds};
 ghost use Rattle.ldm_shared.specs.Passes.{SharedView, PassView, new_pass, HasSeen, Makes, entry_of, Grows, FindsWorn, HasMet, HasAllOf, IsLast};
+ghost use Rattle.ldm_shared.specs.OwnReaders.{OwnPoint, IsSeenAt, IsCalledAt, Agrees, HasLost, IsInsertedFor, IsInsertedWith, ReadsOfHeld, AtEveryOwnPoint, AtEveryOwnCall};
+ghost use Rattle.ldm_shared.specs.OwnReaders.{numbers_given, losses_told, number_held};
 
-use ldm_model::histories_append;
+use ldm_book::fifo;
+use ldm_model::{histories_append, products_were_inserted};
 
 /// What a run of calls on a pass comes to: just these entries of its own, in order, whatever other passes did meanwhile.
 ///
@@ -39,3 +47,39 @@ pub fn one_pass()
     ensures at_end { (shared : SharedView) (pass last : PassView) (made : List Entry) → Makes (new_pass shared 0) pass made → shared.passes ≡ 1 →
         IsLast shared last → HasAllOf last pass → last.seen ≡ made }
 {}
+
+/// The law of readers over a pass's own entries: what a caller can conclude of a cursor from its own calls and their answers
+/// alone, whatever other actors did in between.
+///
+/// It holds of every pass and every cursor that it opened, at every point until it closes it. What was inserted, it may have been
+/// by any actor: by an entry of the history that the pass has seen.
+pub fn own_readers()
+    // The numbers that it was given rise strictly, and under each a product of its feedtypes was inserted.
+    ensures in_order { AtEveryOwnPoint (λ (pass : PassView) (q : OwnPoint). IsStrictlyIncreasing (numbers_given q)) }
+    ensures of_its_feeds { AtEveryOwnPoint (λ (pass : PassView) (q : OwnPoint). All (IsInsertedFor pass.seen q.feed) (numbers_given q)) }
+    // What it is given was inserted with that time and these metadata, and what it reads is of the body of what it holds.
+    ensures gives_inserted { AtEveryOwnCall (λ (pass : PassView) (q : OwnPoint) (entry : Entry). (n time : ℕ) (info : Metadata) →
+        entry.reply ≡ reply.Product n time info → IsInsertedWith pass.seen n time info) }
+    ensures reads_inserted { AtEveryOwnCall (λ (pass : PassView) (q : OwnPoint) (entry : Entry). (offset len : ℕ) (bytes : List ℕ) →
+        entry.event ≡ Read q.k offset len → entry.reply ≡ reply.Bytes bytes → ReadsOfHeld pass.seen (number_held q) offset len bytes) }
+    // With each gap it was told just what it had lost by then, and at a product or the end it has been told all.
+    ensures gap_tells_all { AtEveryOwnCall (λ (pass : PassView) (q : OwnPoint) (entry : Entry). (count first last : ℕ) →
+        entry.event ≡ Step q.k → entry.reply ≡ reply.Gap count first last → HasLost pass q entry (losses_told q + count)) }
+    ensures product_after_all { AtEveryOwnCall (λ (pass : PassView) (q : OwnPoint) (entry : Entry). (n time : ℕ) (info : Metadata) →
+        entry.reply ≡ reply.Product n time info → HasLost pass q entry (losses_told q)) }
+    ensures end_after_all { AtEveryOwnCall (λ (pass : PassView) (q : OwnPoint) (entry : Entry). (at : ℕ) →
+        entry.reply ≡ reply.End at → HasLost pass q entry (losses_told q)) }
+    // A step is answered so exactly while it holds a product.
+    ensures holding { AtEveryOwnCall (λ (pass : PassView) (q : OwnPoint) (entry : Entry). (n : ℕ) → is_step entry.event ≡ true →
+        (entry.reply ≡ reply.Holding n) ↔ (number_held q ≡ Some n)) }
+
+    // Each point of its own entries is one of the whole history, where the law of readers holds, and there both say the same.
+    ensures seen { AtEveryOwnPoint (λ (pass : PassView) (q : OwnPoint). (p : Point) × IsSeenAt pass q p) }
+    ensures agrees { AtEveryOwnPoint (λ (pass : PassView) (q : OwnPoint). (p : Point) → IsSeenAt pass q p → Agrees q p) }
+    ensures served { AtEveryOwnPoint (λ (pass : PassView) (q : OwnPoint). (p : Point) → IsSeenAt pass q p → IsServed p) }
+    ensures answered { AtEveryOwnCall (λ (pass : PassView) (q : OwnPoint) (entry : Entry). (p : Point) × IsCalledAt pass q entry p × IsAnsweredAt p entry) }
+{
+    fifo();
+    histories_append();
+    products_were_inserted();
+}

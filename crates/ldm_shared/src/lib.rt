@@ -21,7 +21,7 @@ mod turn;
 mod view;
 
 pub use fault::CreateFault;
-pub use laws::{calls_made, one_pass};
+pub use laws::{calls_made, one_pass, own_readers};
 pub use pass::Pass;
 pub use shared::Shared;
 pub use steps::MOST_TURNS;
