@@ -3,13 +3,13 @@ ghost use Rattle.std.specs.Prelude.{◌≡◌, ◌<◌, ◌++◌, ◌∷◌, [],
 ghost use Rattle.ldm_outside.specs.Launcher.{spelled, new_child};
 ghost use Rattle.ldm_adapters.specs.Front.{TakesFront, TakesPiped};
 
+use crate::processes::Processes;
 use crate::streams::write_once;
 use ldm_outside::{ChildNo, Failed, Launcher, Put};
 use std::alloc::{AllocError, Global};
 use std::io;
 use std::marker::Model;
-use std::os::unix::process::ExitStatusExt;
-use std::process::{Child, Command, ExitStatus, Stdio};
+use std::process::{Child, ChildStdin, Command, Stdio};
 use std::rt::HostRuntime;
 
 // A program that was started. Its input is closed where it is shut, or where it is waited for.
@@ -19,7 +19,7 @@ struct RealChild {
     piped: bool,
     shut: bool,
     waited: bool,
-    child: Child,
+    input: Option<ChildStdin>,
 }
 
 impl Model for RealChild {
@@ -31,7 +31,7 @@ impl Model for RealChild {
 }
 
 impl RealChild {
-    fn new(words: Vec<String>, piped: bool, child: Child) -> RealChild
+    fn new(words: Vec<String>, piped: bool, input: Option<ChildStdin>) -> RealChild
         ensures { result ≡ new_child words.items piped }
     {
         RealChild {
@@ -39,14 +39,14 @@ impl RealChild {
             piped,
             shut: false,
             waited: false,
-            child,
+            input,
         }
     }
 
     fn write(&self, piece: &[u8]) -> Put
         ensures { TakesPiped result self.now.piped piece.now }
     {
-        match &self.child.stdin {
+        match &self.input {
             Some(input) if self.piped => {
                 let mut input = input;
                 write_once(&mut input, piece)
@@ -58,29 +58,19 @@ impl RealChild {
     fn shut(&mut self)
         ensures { self.new ≡ record self.old { shut = true } }
     {
-        self.child.stdin = None;
+        self.input = None;
         self.shut = true;
     }
 
-    fn wait(&mut self) -> io::Result<u32>
+    // Waits for the program of that number, with its input closed, so that one that reads to its end can end.
+    fn wait(&mut self, processes: &mut Processes, number: usize) -> io::Result<u32>
         ensures waited { OnOk result (self.new ≡ record self.old { waited = true }) }
         ensures kept { OnErr result (self.new ≡ self.old) }
     {
-        let status = self.child.wait()?;
+        self.input = None;
+        let status = processes.wait(number)?;
         self.waited = true;
-        Ok(number_of(status))
-    }
-}
-
-// The status that a shell gives: 128 and the signal's number where a signal ended the program.
-fn number_of(status: ExitStatus) -> u32 {
-    match status.code() {
-        Some(code) => code.cast_unsigned(),
-        None => status
-            .signal()
-            .unwrap_or(0)
-            .cast_unsigned()
-            .saturating_add(128),
+        Ok(status)
     }
 }
 
@@ -95,7 +85,7 @@ fn copied(alloc: Global, words: &[String]) -> Result<Vec<String>, AllocError>
 }
 
 // Starts the program. Where it is not piped it has nothing to read.
-fn spawn(rt: HostRuntime, words: &[String], piped: bool) -> io::Result<Child>
+pub(crate) fn spawn(rt: HostRuntime, words: &[String], piped: bool) -> io::Result<Child>
     requires { 0 < length words.now }
 {
     let mut command = Command::new(rt.alloc(), words[0].as_str())?;
@@ -109,6 +99,7 @@ fn spawn(rt: HostRuntime, words: &[String], piped: bool) -> io::Result<Child>
 fn push_child(
     rt: HostRuntime,
     children: &mut Vec<RealChild>,
+    processes: &mut Processes,
     words: &[String],
     piped: bool,
 ) -> io::Result<()>
@@ -118,10 +109,11 @@ fn push_child(
 {
     let copies = copied(rt.alloc(), words)?;
     children.reserve(1)?;
-    let child = spawn(rt, words, piped)?;
-    children
-        .push(RealChild::new(copies, piped, child))
-        .map_err(AllocError::from)?;
+    processes.reserve()?;
+    let mut process = spawn(rt, words, piped)?;
+    let input = process.stdin.take();
+    processes.add(children.len(), process)?;
+    children.push_reserved(RealChild::new(copies, piped, input));
     Ok(())
 }
 
@@ -129,11 +121,13 @@ fn push_child(
 ///
 /// A program is found as the system's search path says. One that is not piped has nothing to read; what a program writes
 /// goes where this program's own output goes. A program that a signal ended has the status 128 and the signal's number.
-/// It keeps the words of each program that it started.
+/// It keeps the words of each program that it started. A program that ended is collected by the next call of `start` or
+/// `wait`, whichever program that is for, and its status is kept until it is waited for.
 #[derive(Drop)]
 pub struct RealLauncher {
     rt: HostRuntime,
     children: Vec<RealChild>,
+    processes: Processes,
     faults: u64,
 }
 
@@ -146,6 +140,7 @@ impl RealLauncher {
         RealLauncher {
             rt,
             children: Vec::new(rt.alloc()),
+            processes: Processes::new(rt.alloc()),
             faults: 0,
         }
     }
@@ -164,8 +159,10 @@ impl Launcher for RealLauncher {
     ghost tells = { λ s. record { faults = s.faults; children = s.children.items; inputs = None } };
 
     fn start(&mut self, words: &[String], piped: bool) -> Result<ChildNo, Failed> {
+        self.processes.collect();
         let at = self.children.len();
-        if push_child(self.rt, &mut self.children, words, piped).is_err() {
+        let processes = &mut self.processes;
+        if push_child(self.rt, &mut self.children, processes, words, piped).is_err() {
             self.faults = self.faults.saturating_add(1);
             return Err(Failed);
         }
@@ -189,7 +186,7 @@ impl Launcher for RealLauncher {
 
     fn wait(&mut self, child: ChildNo) -> Result<u32, Failed> {
         let it = &mut self.children[child.0];
-        match it.wait() {
+        match it.wait(&mut self.processes, child.0) {
             Ok(status) => Ok(status),
             Err(_) => {
                 self.faults = self.faults.saturating_add(1);

@@ -15,6 +15,7 @@ mod gate;
 mod lending;
 mod links;
 mod net;
+mod processes;
 mod streams;
 
 pub use children::RealLauncher;

@@ -2,14 +2,18 @@ ghost use Rattle.std.specs.Prelude.{◌≡◌, ◌<◌, length, false};
 ghost use Rattle.ldm_outside.specs.Link.{IsNotClosed};
 
 use super::*;
+use crate::children::spawn;
+use crate::processes::Processes;
 use ldm_outside::{
     Came, Clock, Dial, Dialled, Door, Failed, FileRead, Gate, Go, Got, Launcher, Link, Manned, Net,
     Put, Store,
 };
 use ldm_types::Micros;
+use std::alloc::AllocError;
+use std::net::{Ipv4Addr, TcpListener};
 use std::process::Abort;
 use std::test::Fail;
-use std::{env, fs, process};
+use std::{env, fs, io, process};
 
 // A folder that no other run uses.
 fn folder(rt: HostRuntime, name: &str) -> Result<String, Fail> {
@@ -65,6 +69,15 @@ fn run<L: Launcher>(launcher: &mut L, words: &[String], piped: bool) -> Result<u
     launcher.wait(child)
 }
 
+// The words that start a shell with this line.
+fn shell_words(rt: HostRuntime, line: &str) -> Result<[String; 3], AllocError> {
+    Ok([
+        String::from_str(rt.alloc(), "sh")?,
+        String::from_str(rt.alloc(), "-c")?,
+        String::from_str(rt.alloc(), line)?,
+    ])
+}
+
 // The status of a shell that was given this line.
 fn shell(
     rt: HostRuntime,
@@ -72,11 +85,7 @@ fn shell(
     line: &str,
     piped: bool,
 ) -> Result<Result<u32, Failed>, Fail> {
-    let words = [
-        String::from_str(rt.alloc(), "sh")?,
-        String::from_str(rt.alloc(), "-c")?,
-        String::from_str(rt.alloc(), line)?,
-    ];
+    let words = shell_words(rt, line)?;
     Ok(run(launcher, &words, piped))
 }
 
@@ -97,6 +106,27 @@ fn programs_are_fed_and_waited_for(rt: HostRuntime) -> Result<(), Fail> {
     assert_eq!(rt; run(&mut launcher, &words, true), Err(Failed));
     assert_eq!(rt; launcher.faults(), 2);
     fs::remove_dir_all(&rt, folder.as_str())?;
+    Ok(())
+}
+
+// Both programs end before the first of them is waited for: they are collected, and their statuses are kept.
+#[test]
+fn ended_programs_are_collected(rt: HostRuntime) -> Result<(), Fail> {
+    let mut processes = Processes::new(rt.alloc());
+    for (number, line) in [(0, "exit 5"), (1, "exit 6")] {
+        let words = shell_words(rt, line)?;
+        processes.add(number, spawn(rt, &words, false)?)?;
+    }
+    let mut gate = RealGate::new(rt, None);
+    for _ in 0..100 {
+        if processes.running() > 0 {
+            idle(&mut gate);
+            processes.collect();
+        }
+    }
+    assert_eq!(rt; processes.running(), 0);
+    assert_eq!(rt; processes.wait(1).ok(), Some(6));
+    assert_eq!(rt; processes.wait(0).ok(), Some(5));
     Ok(())
 }
 
@@ -200,5 +230,24 @@ fn peers_meet(rt: HostRuntime) -> Result<(), Fail> {
     let door = &second.door;
     assert_eq!(rt; (door.peers(), door.ended(), door.failed()), (1, 1, 1));
     net.keep(stations);
+    Ok(())
+}
+
+// A port that nobody listens on.
+fn free_port(rt: HostRuntime) -> io::Result<u16> {
+    let listener = TcpListener::bind(&rt, (Ipv4Addr::LOCALHOST, 0))?;
+    Ok(listener.local_addr()?.port())
+}
+
+#[test]
+fn stations_are_as_they_were_asked_for(rt: HostRuntime) -> Result<(), Fail> {
+    let port = free_port(rt)?;
+    let mut net = RealNet::new(rt);
+    let Manned::Stations(mut stations) = net.stations(port, 1, Some(1)) else {
+        panic!(rt; "no stations");
+    };
+    assert_eq!(rt; stations[0].door.port()?, port);
+    let gate = &mut stations[0].gate;
+    assert_eq!(rt; (idle(gate), idle(gate)), (Go::On, Go::Stop));
     Ok(())
 }

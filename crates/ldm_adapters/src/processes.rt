@@ -1,0 +1,111 @@
+//! The processes of a launcher: those that run, and how those ended that were not waited for yet.
+
+use std::alloc::{AllocError, Global};
+use std::collections::BTreeMap;
+use std::io::{self, ErrorKind};
+use std::os::unix::process::ExitStatusExt;
+use std::process::{Child, ExitStatus};
+
+// A process that was not collected yet.
+#[derive(Drop)]
+struct Process {
+    number: usize,
+    child: Child,
+}
+
+impl Process {
+    // Its status, where it ended.
+    fn status(&mut self) -> Option<u32> {
+        let status = self.child.try_wait().ok()??;
+        Some(number_of(status))
+    }
+
+    fn wait(&mut self) -> io::Result<u32> {
+        Ok(number_of(self.child.wait()?))
+    }
+}
+
+/// Processes under the numbers of a launcher's children.
+///
+/// A process that ended is collected, so that the system can forget it. Its status is kept until it is asked for.
+#[derive(Drop)]
+pub(crate) struct Processes {
+    running: Vec<Process>,
+    ended: BTreeMap<usize, u32>,
+}
+
+impl Processes {
+    pub(crate) fn new(alloc: Global) -> Processes {
+        Processes {
+            running: Vec::new(alloc),
+            ended: BTreeMap::new(alloc),
+        }
+    }
+
+    /// Makes room for one process more.
+    pub(crate) fn reserve(&mut self) -> Result<(), AllocError> {
+        self.running.reserve(1)
+    }
+
+    /// Adds a process, for which room was made.
+    pub(crate) fn add(&mut self, number: usize, child: Child) -> Result<(), AllocError> {
+        self.running.push(Process { number, child })?;
+        Ok(())
+    }
+
+    /// Collects those that ended.
+    pub(crate) fn collect(&mut self) {
+        for at in (0..self.running.len()).rev() {
+            if let Some((number, status)) = ended_at(&mut self.running, at)
+                && self.ended.insert(number, status).is_ok()
+                && at < self.running.len()
+            {
+                self.running.swap_remove(at);
+            }
+        }
+    }
+
+    /// How many were not collected yet.
+    #[cfg(test)]
+    pub(crate) fn running(&self) -> usize {
+        self.running.len()
+    }
+
+    /// Waits until the process of that number ends, if it did not yet, and answers its status.
+    pub(crate) fn wait(&mut self, number: usize) -> io::Result<u32> {
+        self.collect();
+        if let Some(status) = self.ended.remove(&number) {
+            return Ok(status);
+        }
+        for at in 0..self.running.len() {
+            if self.running[at].number == number {
+                let process = &mut self.running[at];
+                let status = process.wait()?;
+                if at < self.running.len() {
+                    self.running.swap_remove(at);
+                }
+                return Ok(status);
+            }
+        }
+        Err(io::Error::from(ErrorKind::NotFound))
+    }
+}
+
+// The number and the status of the process at that place, where it ended.
+fn ended_at(running: &mut Vec<Process>, at: usize) -> Option<(usize, u32)> {
+    let process = running.get_mut(at)?;
+    let number = process.number;
+    Some((number, process.status()?))
+}
+
+// The status that a shell gives: 128 and the signal's number where a signal ended the program.
+fn number_of(status: ExitStatus) -> u32 {
+    match status.code() {
+        Some(code) => code.cast_unsigned(),
+        None => status
+            .signal()
+            .unwrap_or(0)
+            .cast_unsigned()
+            .saturating_add(128),
+    }
+}
