@@ -29,10 +29,3 @@ pub use message::{
 pub use procedure::{PROGRAM, VERSION};
 pub use record::write_message;
 pub use reply::read_reply;
-
-#[cfg(test)]
-mod mutated_tests;
-#[cfg(test)]
-mod samples;
-#[cfg(test)]
-mod tests;

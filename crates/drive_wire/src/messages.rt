@@ -1,0 +1,113 @@
+//! Messages that are read, and written again.
+ghost use Rattle.std.specs.Prelude.{◌≡◌, ◌≤◌, length, IfOk};
+ghost use Rattle.ldm_types.specs.Info.{metadata_len};
+ghost use Rattle.ldm_relay.specs.MessageView.{sent_of};
+ghost use Rattle.ldm_relay.specs.Writable.{IsWritable};
+ghost use Rattle.ldm_relay.specs.declared.message.TheConstants.{LARGEST_CONTENT};
+
+use anyhow::{Context, Result, bail, ensure};
+use ldm_drive::{Case, digits_of};
+use ldm_relay::{
+    Hereis, LARGEST_BLOCK, LARGEST_CONTENT, Message, RelayFault, read_call, read_reply,
+    write_message,
+};
+use ldm_types::{Feed, Info, Micros, Signature};
+use std::alloc::Global;
+
+/// Reads a content as a call for procedure 0, or else as a reply to a call of that procedure.
+pub fn read(content: &[u8], procedure: u32) -> Result<Message<'_>, RelayFault>
+    requires { length content.now ≤ LARGEST_CONTENT }
+    ensures { IfOk result (λ m. IsWritable (sent_of m)) }
+{
+    if procedure == 0 {
+        read_call(content)
+    } else {
+        read_reply(content, procedure)
+    }
+}
+
+/// Whether the message is written, behind what stands there, as that record.
+pub fn is_written(alloc: Global, message: &Message, record: &[u8]) -> Result<bool>
+    requires { IsWritable (sent_of message.now) }
+{
+    let out = written(alloc, message)?;
+    Ok(out.strip_prefix(b"before") == Some(record))
+}
+
+fn written(alloc: Global, message: &Message) -> Result<Vec<u8>>
+    requires { IsWritable (sent_of message.now) }
+{
+    let mut out = Vec::from_slice(alloc, b"before")?;
+    write_message(message, &mut out)?;
+    Ok(out)
+}
+
+/// `call RECORD`: the content of a record as a call, and how it is written again; or the fault.
+pub fn read_as_call(alloc: Global, case: &mut Case) -> Result<String> {
+    told_of(alloc, &case.bytes(alloc)?, 0)
+}
+
+/// `reply PROCEDURE RECORD`: the content of a record as a reply to a call of that procedure, and how it is written again;
+/// or the fault.
+pub fn read_as_reply(alloc: Global, case: &mut Case) -> Result<String> {
+    let procedure = case.small()?;
+    ensure!(procedure != 0, "no procedure");
+    told_of(alloc, &case.bytes(alloc)?, procedure)
+}
+
+fn told_of(alloc: Global, record: &[u8], procedure: u32) -> Result<String> {
+    let content = record.get(4..).context("no header")?;
+    ensure!(content.len() <= LARGEST_CONTENT, "a long content");
+    match read(content, procedure) {
+        Ok(message) => told_of_message(alloc, &message, record),
+        Err(fault) => Ok(format!(in alloc; "{fault:?}")?),
+    }
+}
+
+fn told_of_message(alloc: Global, message: &Message, record: &[u8]) -> Result<String>
+    requires { IsWritable (sent_of message.now) }
+{
+    let text = shortened(alloc, format!(in alloc; "{message:?}")?)?;
+    if is_written(alloc, message, record)? {
+        return Ok(format!(in alloc; "{text}, written as it was")?);
+    }
+    let out = written(alloc, message)?;
+    let digits = digits_of(alloc, out.get(6..).unwrap_or(&[]))?;
+    Ok(format!(in alloc; "{text}, written {digits}")?)
+}
+
+// The first 400 characters of a long text, and how many it has.
+fn shortened(alloc: Global, text: String) -> Result<String> {
+    let len = text.len();
+    match text.as_str().get(..400) {
+        Some(front) => Ok(format!(in alloc; "{front}.. {len} characters")?),
+        None => Ok(text),
+    }
+}
+
+/// `made BODY`: the record of a HEREIS that is made here and not read, of a body of at most 16,384 bytes.
+pub fn made_message(alloc: Global, case: &mut Case) -> Result<String> {
+    let body = case.bytes(alloc)?;
+    ensure!(body.len() <= LARGEST_BLOCK, "a long body");
+    let out = written(alloc, &hereis_of(&body)?)?;
+    digits_of(alloc, out.get(6..).unwrap_or(&[]))
+}
+
+fn hereis_of(body: &[u8]) -> Result<Message<'_>>
+    requires { length body.now ≤ 16384 }
+    ensures { IfOk result (λ m. IsWritable (sent_of m)) }
+{
+    let info = info_of(body.len() as u32)?;
+    Ok(Message::Hereis(Hereis { xid: 1, info, body }))
+}
+
+fn info_of(size: u32) -> Result<Info>
+    ensures { IfOk result (λ info. (info.size ≡ size) × (metadata_len info ≡ 52)) }
+{
+    let arrival = Micros::new(100).context("no such instant")?;
+    let signature = Signature([1; 16]);
+    match Info::new(arrival, signature, b"h", Feed(2), 1, b"p", size) {
+        Ok(info) => Ok(info),
+        Err(_) => bail!("no metadata"),
+    }
+}
