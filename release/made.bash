@@ -9,16 +9,19 @@ say() {
     printf 'ldm: %s\n' "$*" >&2
 }
 
-# What each crate of this repository stands on; and for ldm and each crate below it, the crates of this repository below.
-declare -A stands_on=() below=()
+# The line of each crate of this repository in crates.txt, and what the crate stands on; and for ldm and each crate below it,
+# the crates of this repository below.
+declare -A line_of=() stands_on=() below=()
 
 read_crates() {
-    local line crate
+    local line crate words
     while IFS= read -r line; do
         line=${line%%#*}
         [[ $line == *:* ]] || continue
         read -r crate _ <<<"${line%%:*}"
         stands_on[$crate]=${line#*:}
+        read -ra words <<<"$line"
+        line_of[$crate]=${words[*]}
     done <"$top/crates.txt"
 }
 
@@ -56,14 +59,12 @@ sum() {
     read -r digits _ < <(sha256sum) && printf '%s\n' "$digits"
 }
 
-# The digest of the sources: of what crates.txt says of ldm and the crates below it, sorted, and then of what sha256sum
-# prints of each file, sorted by path.
+# The digest of the sources: of the lines of ldm and the crates below it in crates.txt, sorted, with one blank between words;
+# and then of what sha256sum prints of each file, sorted by path.
 digest_of_sources() {
     {
         for crate in "${!below[@]}"; do
-            printf '%s:' "$crate"
-            printf ' %s' ${stands_on[$crate]}
-            printf '\n'
+            printf '%s\n' "${line_of[$crate]}"
         done | LC_ALL=C sort
         cd "$top" && find "${sources[@]}" ! -type d -print0 | LC_ALL=C sort -z | xargs -0 sha256sum
     } | sum
