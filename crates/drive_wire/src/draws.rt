@@ -2,7 +2,7 @@
 ghost use Rattle.std.specs.Prelude.{◌<◌};
 
 /// Knuth's linear congruential generator.
-#[derive(Debug, Drop)]
+#[derive(Drop)]
 pub struct Draws(u64);
 
 impl Draws {

@@ -13,7 +13,7 @@ use std::alloc::Global;
 const LIMIT: u32 = 1024;
 
 /// A message: 0 for a call, else the procedure to whose call it is a reply, and the content of its record.
-#[derive(Debug, Drop)]
+#[derive(Drop)]
 pub struct Sample {
     procedure: u32,
     content: Vec<u8>,

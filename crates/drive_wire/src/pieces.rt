@@ -6,12 +6,19 @@ use ldm_drive::{Case, digits_of};
 use ldm_rpc::Records;
 use std::alloc::Global;
 
+// Adds a content behind others, in hexadecimal digits and with a blank before it.
+fn add_content(alloc: Global, contents: &mut String, content: &[u8]) -> Result<()> {
+    contents.push(' ')?;
+    contents.push_str(&digits_of(alloc, content)?)?;
+    Ok(())
+}
+
 // Gives a piece of a stream to a reader, and adds the contents that come out.
 fn read_on(
     alloc: Global,
     records: &mut Records,
     piece: &[u8],
-    out: &mut Vec<Vec<u8>>,
+    contents: &mut String,
 ) -> Result<()> {
     let mut rest = piece;
     for _ in 0..piece.len() {
@@ -21,7 +28,7 @@ fn read_on(
         records.next();
         let taken = records.push(rest)?;
         if let Some(content) = records.whole() {
-            out.push(content.to_vec(alloc)?)?;
+            add_content(alloc, contents, content)?;
         }
         rest = rest.get(taken..).context("more was taken than there is")?;
     }
@@ -35,14 +42,14 @@ pub fn cuts(alloc: Global, case: &mut Case) -> Result<String> {
     let limit = case.small()?;
     let stream = case.bytes(alloc)?;
     let mut told = String::new(alloc);
-    let mut contents: Vec<Vec<u8>> = Vec::new(alloc);
+    let mut contents = String::new(alloc);
     for cut in 0..=stream.len() {
         let (front, behind) = stream
             .as_slice()
             .split_at_checked(cut)
             .context("no such cut")?;
         let mut records = Records::create(alloc, limit);
-        let mut out = Vec::new(alloc);
+        let mut out = String::new(alloc);
         read_on(alloc, &mut records, front, &mut out)?;
         let is_pending = records.pending();
         read_on(alloc, &mut records, behind, &mut out)?;
@@ -50,10 +57,7 @@ pub fn cuts(alloc: Global, case: &mut Case) -> Result<String> {
         told.push_str(mark(is_pending, is_alike && !records.pending()))?;
         contents = out;
     }
-    for content in &contents {
-        told.push(' ')?;
-        told.push_str(&digits_of(alloc, content)?)?;
-    }
+    told.push_str(&contents)?;
     Ok(told)
 }
 
@@ -89,29 +93,25 @@ fn add_record(alloc: Global, draws: &mut Draws, stream: &mut Vec<u8>) -> Result<
 }
 
 /// `random_pieces SEED COUNT`: so many drawn records, given in drawn pieces of up to 21 bytes, at most ten pieces a record.
-/// How many contents come out, how many of these are those that were drawn, what is left and whether a record is pending.
+/// Whether the contents that come out are those that were drawn, what is left, and whether a record is pending.
 pub fn random_pieces(alloc: Global, case: &mut Case) -> Result<String> {
     let mut draws = Draws::behind(case.number()?);
     let count = case.small()?;
     let mut stream = Vec::new(alloc);
-    let mut contents = Vec::new(alloc);
+    let mut drawn = String::new(alloc);
     for _ in 0..count {
-        contents.push(add_record(alloc, &mut draws, &mut stream)?)?;
+        let content = add_record(alloc, &mut draws, &mut stream)?;
+        add_content(alloc, &mut drawn, &content)?;
     }
     let mut records = Records::create(alloc, 240);
-    let mut out = Vec::new(alloc);
+    let mut contents = String::new(alloc);
     let mut rest = stream.as_slice();
     for _ in 0..10 * u64::from(count) {
         let len = rest.len().min(draws.below(22) as usize);
         let (piece, behind) = rest.split_at(len);
-        read_on(alloc, &mut records, piece, &mut out)?;
+        read_on(alloc, &mut records, piece, &mut contents)?;
         rest = behind;
     }
-    let (read, left, pending) = (out.len(), rest.len(), records.pending());
-    let alike = out
-        .iter()
-        .zip(contents.iter())
-        .filter(|(a, b)| a == b)
-        .count();
-    Ok(format!(in alloc; "{read} contents, {alike} as drawn, {left} left, pending {pending}")?)
+    let (alike, left, pending) = (contents == drawn, rest.len(), records.pending());
+    Ok(format!(in alloc; "as drawn {alike}, {left} left, pending {pending}")?)
 }
