@@ -6,7 +6,7 @@
 #[allow(dead_code)]
 mod queue;
 
-use queue::{Answer, Queue};
+use queue::{Answer, Queue, Start};
 use std::sync::Mutex;
 use std::thread;
 use std::time::Instant;
@@ -67,16 +67,19 @@ fn look(mut queue: impl Call, number: u64, calls: u64) -> u64 {
 
 // In turn inserts a product, steps twice, since the first step may tell a loss, and releases what it was given.
 fn relay(mut queue: impl Call, number: u64, calls: u64) -> u64 {
-    let k = queue.call(|queue| queue.open(FEED));
+    let actor = number as u32;
+    let Answer::Opened { k } = queue.call(|queue| queue.open(actor, FEED, Start::Oldest)) else {
+        return 0;
+    };
     let mut given = 0;
     for i in 0..calls / 4 {
         insert(&mut queue, signature(number, i));
         for _ in 0..2 {
-            if let Answer::Product { .. } = queue.call(|queue| queue.step(k)) {
+            if let Answer::Product { .. } = queue.call(|queue| queue.step(actor, k)) {
                 given += 1;
             }
         }
-        queue.call(|queue| queue.release(k));
+        queue.call(|queue| queue.release(actor, k));
     }
     given
 }

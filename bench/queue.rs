@@ -1,27 +1,37 @@
-//! A plain Rust queue, for comparison: it stands on the maps and sets of the standard library, and proves nothing. A cursor is
-//! opened at the oldest product, and it takes for granted that room can always be made.
+//! A plain Rust queue, for comparison: it stands on the maps and sets of the standard library, and proves nothing.
 
 use std::collections::{BTreeMap, BTreeSet, HashMap};
 use std::fmt;
 
-const GREATEST_INSTANT: u64 = 4_294_967_295_999_999;
+pub const GREATEST_INSTANT: u64 = 4_294_967_295_999_999;
+
+// How many cursors can be open.
+const CURSORS: usize = 64;
 
 pub enum Answer {
-    Admitted { n: u64, time: u64, evicted: u64 },
+    Admitted { n: u64, time: u64, evicted: usize },
     TooBig { need: u64, arena: u64 },
     Duplicate { n: u64 },
     TimeEnd,
+    Locked { held: usize },
     Queued { n: u64, time: u64 },
     Absent,
     Expired { n: u64 },
     Nothing,
     Opened { k: usize },
+    AllBusy,
+    NotQueued,
     Product { n: u64, time: u64, info: String },
     Holding { n: u64 },
-    Gap { count: u64, first: u64, last: u64 },
+    Gap { count: u64, least: u64, greatest: u64 },
     End { at: u64 },
+    Bytes { bytes: Vec<u8> },
+    BadOffset { size: usize },
     Released { n: u64 },
     NotHeld,
+    Closed,
+    NoCursor,
+    Tally { given: u64, lost: u64, left: usize },
     Stat { admitted: u64, queued: usize, held: usize, used: u64, largest: u64 },
 }
 
@@ -33,22 +43,43 @@ impl fmt::Display for Answer {
             Answer::TooBig { need, arena } => write!(f, "toobig {need} {arena}"),
             Answer::Duplicate { n } => write!(f, "duplicate {n}"),
             Answer::TimeEnd => write!(f, "timeend"),
+            Answer::Locked { held } => write!(f, "locked {held}"),
             Answer::Queued { n, time } => write!(f, "queued {n} {time}"),
             Answer::Absent => write!(f, "absent"),
             Answer::Expired { n } => write!(f, "expired {n}"),
             Answer::Nothing => write!(f, "nothing"),
             Answer::Opened { k } => write!(f, "opened {k}"),
+            Answer::AllBusy => write!(f, "allbusy"),
+            Answer::NotQueued => write!(f, "notqueued"),
             Answer::Product { n, time, info } => write!(f, "product {n} {time} {info}"),
             Answer::Holding { n } => write!(f, "holding {n}"),
-            Answer::Gap { count, first, last } => write!(f, "gap {count} {first} {last}"),
+            Answer::Gap { count, least, greatest } => write!(f, "gap {count} {least} {greatest}"),
             Answer::End { at } => write!(f, "end {at}"),
+            Answer::Bytes { bytes } if bytes.is_empty() => write!(f, "bytes -"),
+            Answer::Bytes { bytes } => {
+                write!(f, "bytes ")?;
+                bytes.iter().try_for_each(|byte| write!(f, "{byte:02x}"))
+            }
+            Answer::BadOffset { size } => write!(f, "badoffset {size}"),
             Answer::Released { n } => write!(f, "released {n}"),
             Answer::NotHeld => write!(f, "notheld"),
+            Answer::Closed => write!(f, "closed"),
+            Answer::NoCursor => write!(f, "nocursor"),
+            Answer::Tally { given, lost, left } => write!(f, "tally {given} {lost} {left}"),
             Answer::Stat { admitted, queued, held, used, largest } => {
                 write!(f, "stat {admitted} {queued} {held} {used} {largest}")
             }
         }
     }
+}
+
+/// Where a cursor begins: at the oldest product, behind the last one, behind those that were inserted up to a time, or behind
+/// the one with that signature.
+pub enum Start {
+    Oldest,
+    Next,
+    After(u64),
+    Signature([u8; 16]),
 }
 
 struct Product {
@@ -57,15 +88,21 @@ struct Product {
     place: u64,
     extent: u64,
     feed: u32,
+    // Where its body begins in the arena, and its bytes.
+    body: usize,
+    size: usize,
     // The fields of an answer behind the insertion time.
     info: String,
 }
 
 struct Cursor {
+    actor: u32,
     feed: u32,
     position: u64,
     held: Option<u64>,
-    // How many losses were not told, the first and the last.
+    given: u64,
+    lost: u64,
+    // How many losses were not told, the least number among them and the greatest.
     untold: Option<(u64, u64, u64)>,
 }
 
@@ -74,13 +111,15 @@ pub struct Queue {
     slots: usize,
     by_number: BTreeMap<u64, Product>,
     by_signature: HashMap<[u8; 16], u64>,
+    by_time: BTreeMap<u64, u64>,
     // Gaps by their start, and by their length and start.
     gaps: BTreeMap<u64, u64>,
     by_length: BTreeSet<(u64, u64)>,
     admitted: u64,
     last: Option<u64>,
     used: u64,
-    cursors: Vec<Cursor>,
+    // The places for cursors, up to the last that was ever taken.
+    cursors: Vec<Option<Cursor>>,
 }
 
 impl Queue {
@@ -90,6 +129,7 @@ impl Queue {
             slots,
             by_number: BTreeMap::new(),
             by_signature: HashMap::new(),
+            by_time: BTreeMap::new(),
             gaps: BTreeMap::new(),
             by_length: BTreeSet::new(),
             admitted: 0,
@@ -128,23 +168,44 @@ impl Queue {
         self.add_gap(start, length);
     }
 
+    // The numbers of the products that are held.
+    fn held(&self) -> BTreeSet<u64> {
+        self.cursors.iter().flatten().filter_map(|cursor| cursor.held).collect()
+    }
+
     fn holds(&self, n: u64) -> bool {
-        self.cursors.iter().any(|cursor| cursor.held == Some(n))
+        self.cursors.iter().flatten().any(|cursor| cursor.held == Some(n))
     }
 
     fn evict(&mut self) -> Option<u64> {
         let n = self.by_number.keys().copied().find(|n| !self.holds(*n))?;
         let product = self.by_number.remove(&n)?;
-        for cursor in &mut self.cursors {
+        for cursor in self.cursors.iter_mut().flatten() {
             if cursor.position <= n && cursor.feed & product.feed != 0 {
-                let (count, first, _) = cursor.untold.unwrap_or((0, n, n));
-                cursor.untold = Some((count + 1, first, n));
+                let (count, least, greatest) = cursor.untold.unwrap_or((0, n, n));
+                cursor.untold = Some((count + 1, least.min(n), greatest.max(n)));
+                cursor.lost += 1;
             }
         }
         self.by_signature.remove(&product.signature);
+        self.by_time.remove(&product.time);
         self.give_back(product.place, product.extent);
         self.used -= product.extent;
         Some(n)
+    }
+
+    // Whether there is a slot and a gap of so many bytes once all is evicted that nobody holds.
+    fn can_make_room(&self, need: u64, held: &BTreeSet<u64>) -> bool {
+        let mut regions: Vec<_> = held.iter().map(|n| (self.by_number[n].place, self.by_number[n].extent)).collect();
+        regions.sort();
+        regions.push((self.arena.len() as u64, 0));
+        let mut end = 0;
+        let mut longest = 0;
+        for (place, extent) in regions {
+            longest = longest.max(place - end);
+            end = place + extent;
+        }
+        held.len() < self.slots && need <= longest
     }
 
     /// Inserts a product whose two texts take so many bytes of its metadata.
@@ -163,6 +224,10 @@ impl Queue {
             Some(last) => now.max(last + 1),
             None => now,
         };
+        let held = self.held();
+        if !held.is_empty() && !self.can_make_room(need, &held) {
+            return Answer::Locked { held: held.len() };
+        }
         let mut evicted = 0;
         let place = loop {
             if self.by_number.len() < self.slots {
@@ -182,6 +247,7 @@ impl Queue {
         self.last = Some(time);
         self.used += need;
         self.by_signature.insert(signature, n);
+        self.by_time.insert(time, n);
         self.by_number.insert(
             n,
             Product {
@@ -190,6 +256,8 @@ impl Queue {
                 place,
                 extent: need,
                 feed,
+                body: front,
+                size: body.len(),
                 info,
             },
         );
@@ -214,39 +282,72 @@ impl Queue {
     }
 
     pub fn stat(&self) -> Answer {
-        let held: BTreeSet<u64> = self.cursors.iter().filter_map(|cursor| cursor.held).collect();
         Answer::Stat {
             admitted: self.admitted,
             queued: self.by_number.len(),
-            held: held.len(),
+            held: self.held().len(),
             used: self.used,
             largest: self.by_length.last().map_or(0, |gap| gap.0),
         }
     }
 
-    pub fn open(&mut self, feed: u32) -> usize {
-        let position = self.by_number.keys().next().copied().unwrap_or(self.admitted);
-        self.cursors.push(Cursor {
+    // The number of the product at which a cursor begins.
+    fn position(&self, start: Start) -> Option<u64> {
+        match start {
+            Start::Oldest => Some(self.by_number.keys().next().copied().unwrap_or(self.admitted)),
+            Start::Next => Some(self.admitted),
+            Start::After(time) => Some(self.by_time.range(time + 1..).next().map_or(self.admitted, |entry| *entry.1)),
+            Start::Signature(signature) => self.by_signature.get(&signature).map(|n| n + 1),
+        }
+    }
+
+    pub fn open(&mut self, actor: u32, feed: u32, start: Start) -> Answer {
+        let k = self.cursors.iter().position(Option::is_none).unwrap_or(self.cursors.len());
+        if k == CURSORS {
+            return Answer::AllBusy;
+        }
+        let Some(position) = self.position(start) else {
+            return Answer::NotQueued;
+        };
+        if k == self.cursors.len() {
+            self.cursors.push(None);
+        }
+        self.cursors[k] = Some(Cursor {
+            actor,
             feed,
             position,
             held: None,
+            given: 0,
+            lost: 0,
             untold: None,
         });
-        self.cursors.len() - 1
+        Answer::Opened { k }
     }
 
-    pub fn step(&mut self, k: usize) -> Answer {
-        let cursor = &mut self.cursors[k];
+    // The cursor at a place, where it is one of that actor.
+    fn cursor(&self, actor: u32, k: usize) -> Option<&Cursor> {
+        self.cursors.get(k)?.as_ref().filter(|cursor| cursor.actor == actor)
+    }
+
+    fn cursor_mut(&mut self, actor: u32, k: usize) -> Option<&mut Cursor> {
+        self.cursors.get_mut(k)?.as_mut().filter(|cursor| cursor.actor == actor)
+    }
+
+    pub fn step(&mut self, actor: u32, k: usize) -> Answer {
+        let Some(cursor) = self.cursors.get_mut(k).and_then(Option::as_mut).filter(|cursor| cursor.actor == actor) else {
+            return Answer::NoCursor;
+        };
         if let Some(n) = cursor.held {
             return Answer::Holding { n };
         }
-        if let Some((count, first, last)) = cursor.untold.take() {
-            return Answer::Gap { count, first, last };
+        if let Some((count, least, greatest)) = cursor.untold.take() {
+            return Answer::Gap { count, least, greatest };
         }
         let feed = cursor.feed;
         match self.by_number.range(cursor.position..).find(|(_, product)| product.feed & feed != 0) {
             Some((&n, product)) => {
                 cursor.held = Some(n);
+                cursor.given += 1;
                 cursor.position = n + 1;
                 Answer::Product {
                     n,
@@ -261,10 +362,50 @@ impl Queue {
         }
     }
 
-    pub fn release(&mut self, k: usize) -> Answer {
-        match self.cursors[k].held.take() {
-            Some(n) => Answer::Released { n },
-            None => Answer::NotHeld,
+    pub fn read(&self, actor: u32, k: usize, offset: usize, len: usize) -> Answer {
+        let Some(cursor) = self.cursor(actor, k) else {
+            return Answer::NoCursor;
+        };
+        let Some(n) = cursor.held else {
+            return Answer::NotHeld;
+        };
+        let product = &self.by_number[&n];
+        if offset > product.size {
+            return Answer::BadOffset { size: product.size };
+        }
+        let end = product.size.min(offset + len);
+        Answer::Bytes {
+            bytes: self.arena[product.body + offset..product.body + end].to_vec(),
+        }
+    }
+
+    pub fn release(&mut self, actor: u32, k: usize) -> Answer {
+        match self.cursor_mut(actor, k) {
+            None => Answer::NoCursor,
+            Some(cursor) => match cursor.held.take() {
+                Some(n) => Answer::Released { n },
+                None => Answer::NotHeld,
+            },
+        }
+    }
+
+    pub fn close(&mut self, actor: u32, k: usize) -> Answer {
+        if self.cursor(actor, k).is_none() {
+            return Answer::NoCursor;
+        }
+        self.cursors[k] = None;
+        Answer::Closed
+    }
+
+    pub fn tally(&self, actor: u32, k: usize) -> Answer {
+        let Some(cursor) = self.cursor(actor, k) else {
+            return Answer::NoCursor;
+        };
+        let behind = self.by_number.range(cursor.position..);
+        Answer::Tally {
+            given: cursor.given,
+            lost: cursor.lost,
+            left: behind.filter(|(_, product)| product.feed & cursor.feed != 0).count(),
         }
     }
 }

@@ -1,0 +1,115 @@
+//! Lines of a script, answered by the plain queue as `ldm play` answers them. Every line is taken to be well formed, a
+//! signature to be digits, and feedtypes to be a number.
+
+use crate::queue::{Answer, Queue, Start};
+use std::collections::HashMap;
+
+/// A queue, and what a script on it needs besides.
+pub struct Script {
+    queue: Queue,
+    // The place of the cursor that each actor opened last.
+    opened: HashMap<u32, usize>,
+    body: Vec<u8>,
+}
+
+fn number<T: std::str::FromStr>(text: &str) -> T {
+    text.parse().ok().expect("a number")
+}
+
+fn signature(text: &str) -> [u8; 16] {
+    u128::from_str_radix(text, 16).unwrap().to_be_bytes()
+}
+
+fn feed(text: &str) -> u32 {
+    match text.strip_prefix("0x") {
+        Some(digits) => u32::from_str_radix(digits, 16).unwrap(),
+        None => number(text),
+    }
+}
+
+// The bytes of a body: `COUNT*HH`, `-`, or two digits for each byte.
+fn body_into(text: &str, body: &mut Vec<u8>) {
+    body.clear();
+    match text.split_once('*') {
+        Some((count, byte)) => body.resize(number(count), u8::from_str_radix(byte, 16).unwrap()),
+        None => body.extend((0..text.len() / 2).map(|i| u8::from_str_radix(&text[2 * i..2 * i + 2], 16).unwrap())),
+    }
+}
+
+// How many bytes a text takes in the metadata: `-` spells none, and `%` and two digits one.
+fn text_len(text: &str) -> u64 {
+    let bytes = if text == "-" { 0 } else { text.len() - 2 * text.matches('%').count() };
+    bytes.next_multiple_of(4) as u64
+}
+
+impl Script {
+    pub fn new(arena: u64, slots: usize) -> Script {
+        Script {
+            queue: Queue::new(arena, slots),
+            opened: HashMap::new(),
+            body: Vec::new(),
+        }
+    }
+
+    // The place that a field names. No cursor stands at the place behind the last.
+    fn place(&self, actor: u32, text: &str) -> usize {
+        match text {
+            "." => self.opened.get(&actor).copied().unwrap_or(usize::MAX),
+            _ => number(text),
+        }
+    }
+
+    fn insert(&mut self, fields: &[&str]) -> Answer {
+        body_into(fields[6], &mut self.body);
+        let feed = feed(fields[2]);
+        let info = format!(
+            "{} {} 0x{feed:08x} {} {} {} {}",
+            fields[0],
+            fields[1],
+            fields[3],
+            fields[4],
+            fields[5],
+            self.body.len()
+        );
+        let texts = text_len(fields[4]) + text_len(fields[5]);
+        self.queue.insert(number(fields[0]), signature(fields[1]), feed, info, texts, &self.body)
+    }
+
+    fn open(&mut self, actor: u32, fields: &[&str]) -> Answer {
+        let start = match fields[1] {
+            "oldest" => Start::Oldest,
+            "next" => Start::Next,
+            "after" => Start::After(number(fields[2])),
+            _ => Start::Signature(signature(fields[2])),
+        };
+        let answer = self.queue.open(actor, feed(fields[0]), start);
+        if let Answer::Opened { k } = answer {
+            self.opened.insert(actor, k);
+        }
+        answer
+    }
+
+    /// The answer to a line.
+    pub fn answer(&mut self, line: &str) -> Answer {
+        let fields: Vec<&str> = line.split(' ').collect();
+        let actor = number(fields[0]);
+        match fields[1] {
+            "insert" => self.insert(&fields[2..]),
+            "open" => self.open(actor, &fields[2..]),
+            "look" => self.queue.look(&signature(fields[2])),
+            "expire" => self.queue.expire(),
+            "stat" => self.queue.stat(),
+            word => {
+                let k = self.place(actor, fields[2]);
+                match word {
+                    "step" => self.queue.step(actor, k),
+                    "read" => self.queue.read(actor, k, number(fields[3]), number(fields[4])),
+                    "release" => self.queue.release(actor, k),
+                    "close" => self.queue.close(actor, k),
+                    "tally" => self.queue.tally(actor, k),
+                    other => panic!("no word: {other}"),
+                }
+            }
+        }
+    }
+}
