@@ -53,6 +53,7 @@ fn one_pass_sees_what_another_did(rt: HostRuntime) -> Result<(), Fail> {
     shared.meet(&mut first, &mut second);
     let found = shared.look(&rt, &mut second, &signature);
     assert!(rt; found == Turn::Done(LookReply::Queued { n: 0, time: now }));
+    assert!(rt; found.map(|reply| reply == LookReply::Absent) == Turn::Done(false));
     let (mut book, last) = end_of_two(shared, passes, first, second)?;
     let stat = book.stat(last.actor());
     assert!(rt;
