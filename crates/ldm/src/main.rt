@@ -5,8 +5,8 @@
 #![tactic(auto)]
 
 use ldm_adapters::{RealSink, RealSource};
-use ldm_commands::{Status, run_ldm};
-use ldm_outside::World;
+use ldm_commands::run_ldm;
+use ldm_status::{Status, World};
 use std::env;
 use std::io::{self, ErrorKind};
 use std::process::ExitCode;

@@ -1,15 +1,4 @@
 pub mod Unbuilt
 pub mod Command
-pub mod Lines
-pub mod Play
-pub mod PlayerView
-pub mod PendingView
-pub mod Calls
-pub mod Ending
-pub mod WholeScript
-pub mod CrowdEnding
-pub mod CrowdStep
-pub mod Step
-pub mod Status
 pub mod Run
 pub mod Complete

@@ -1,15 +1,15 @@
 //! The top call: does what the words of the program ask for.
-ghost use Rattle.std.specs.Prelude.{◌≤◌, map, string_bytes};
-ghost use Rattle.ldm_outside.specs.World.{WorldRecord};
+ghost use Rattle.std.specs.Prelude.{map, string_bytes};
+ghost use Rattle.ldm_status.specs.World.{KeepsFaults, world_tells};
 ghost use Rattle.ldm_commands.specs.Command.{command_of};
 ghost use Rattle.ldm_commands.specs.Complete.{RunCompletes};
 ghost use Rattle.ldm_commands.specs.Run.{RunEnds};
 
 use crate::command::{Command, read_command};
-use crate::crowd_command::crowd;
-use crate::play_command::play;
-use crate::status::Status;
-use ldm_outside::{Sink, Source, World};
+use ldm_crowd_command::crowd;
+use ldm_outside::{Sink, Source};
+use ldm_play::play;
+use ldm_status::{Status, Word, World};
 use std::alloc::Global;
 use std::sync::Wait;
 use std::thread::Threads;
@@ -25,42 +25,22 @@ pub fn run_ldm<H: Threads + Wait + Sync, S: Source, K: Sink, E: Sink>(
     words: &[String],
     world: &mut World<S, K, E>,
 ) -> u8
-    ensures ends { let old : WorldRecord = record { source = S.tells world.old.source; sink = K.tells world.old.sink; log = E.tells world.old.log } in
-        let new : WorldRecord = record { source = S.tells world.new.source; sink = K.tells world.new.sink; log = E.tells world.new.log } in
-        RunEnds (command_of (map string_bytes words.now)) result old new }
-    ensures completes { let old : WorldRecord = record { source = S.tells world.old.source; sink = K.tells world.old.sink; log = E.tells world.old.log } in
-        let new : WorldRecord = record { source = S.tells world.new.source; sink = K.tells world.new.sink; log = E.tells world.new.log } in
-        RunCompletes (command_of (map string_bytes words.now)) result old new }
-    ensures source_faults_kept { (S.tells world.old.source).faults ≤ (S.tells world.new.source).faults }
-    ensures sink_faults_kept { (K.tells world.old.sink).faults ≤ (K.tells world.new.sink).faults }
-    ensures log_faults_kept { (E.tells world.old.log).faults ≤ (E.tells world.new.log).faults }
+    ensures ends { RunEnds (command_of (map string_bytes words.now)) result (world_tells S.tells K.tells E.tells world.old) (world_tells S.tells K.tells E.tells world.new) }
+    ensures completes { RunCompletes (command_of (map string_bytes words.now)) result (world_tells S.tells K.tells E.tells world.old) (world_tells S.tells K.tells E.tells world.new) }
+    ensures faults_kept { KeepsFaults (world_tells S.tells K.tells E.tells world.old) (world_tells S.tells K.tells E.tells world.new) }
 {
     match read_command(words) {
-        Some(Command::Play { arena, slots }) => play(
-            alloc,
-            arena,
-            slots,
-            &mut world.source,
-            &mut world.sink,
-            &mut world.log,
-        ),
+        Some(Command::Play { arena, slots }) => play(alloc, arena, slots, world),
         Some(
             Command::Crowd {
                 arena,
                 slots,
                 workers,
             },
-        ) => crowd(
-            rt,
-            alloc,
-            arena,
-            slots,
-            workers,
-            &mut world.source,
-            &mut world.sink,
-            &mut world.log,
-        ),
-        Some(Command::NotBuilt(what)) => Status::NotBuilt(what).report(&mut world.log),
+        ) => crowd(rt, alloc, arena, slots, workers, world),
+        Some(Command::NotBuilt(what)) => {
+            Status::NotBuilt(Word::new(what.text())).report(&mut world.log)
+        }
         None => Status::Usage.report(&mut world.log),
     }
 }

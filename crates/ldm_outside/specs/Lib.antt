@@ -1,6 +1,5 @@
 pub mod Count
 pub mod Io
-pub mod World
 pub mod Memory
 pub mod MemCalls
 pub mod Told

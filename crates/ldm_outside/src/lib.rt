@@ -29,7 +29,6 @@ mod net;
 mod open_gate;
 mod store;
 mod sure;
-mod world;
 
 pub use clock::Clock;
 pub use dial::{Dial, Dialled};
@@ -52,7 +51,6 @@ pub use net::{Manned, Net, Station};
 pub use open_gate::OpenGate;
 pub use store::{FileNo, FileRead, Store};
 pub use sure::{SureSink, SureSource};
-pub use world::World;
 
 #[cfg(test)]
 mod door_tests;

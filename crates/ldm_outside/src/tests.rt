@@ -91,22 +91,17 @@ fn sinks_keep_what_they_take_of_a_piece(rt: HostRuntime) -> Result<(), Fail> {
 }
 
 #[test]
-fn sure_forms_make_a_world(rt: HostRuntime) -> Result<(), Fail> {
-    let mut world = World {
-        source: SureSource::new(b"abc".to_vec(rt.alloc())?),
-        sink: SureSink,
-        log: MemSink::new(rt.alloc(), Vec::new(rt.alloc())),
-    };
+fn sure_forms_never_fail(rt: HostRuntime) -> Result<(), Fail> {
+    let mut source = SureSource::new(b"abc".to_vec(rt.alloc())?);
+    let mut sink = SureSink;
     let wanted: [(Got, &[u8]); 4] = [
         (Got::Bytes(2), b"ab"),
         (Got::Bytes(1), b"c"),
         (Got::End, b""),
         (Got::End, b""),
     ];
-    expect_reads(&rt, &mut world.source, &wanted);
-    expect_writes(&rt, &mut world.sink, &[(b"abc", Put::Took(3))]);
-    assert!(rt; write_all(&mut world.sink, b"abc").is_ok());
-    assert!(rt; write_all(&mut world.log, b"abc").is_ok());
-    expect_bytes(&rt, world.log.written(), b"abc");
+    expect_reads(&rt, &mut source, &wanted);
+    expect_writes(&rt, &mut sink, &[(b"abc", Put::Took(3))]);
+    assert!(rt; write_all(&mut sink, b"abc").is_ok());
     Ok(())
 }

@@ -1,6 +1,7 @@
 //! Scripts with their answers, as one text of pairs.
 use ldm_commands::run_ldm;
-use ldm_outside::{MemSink, MemSource, World};
+use ldm_outside::{MemSink, MemSource};
+use ldm_status::World;
 use std::alloc::{AllocError, Global};
 use std::process::Abort;
 use std::sync::Wait;

@@ -1,9 +1,0 @@
-pub mod PlayLineLemmas
-pub mod PlayLemmas
-pub mod GoesOnLemmas
-pub mod PlaysScriptLemmas
-pub mod CompletesLemmas
-pub mod CrowdTextLemmas
-pub mod CrowdWorkerLemmas
-pub mod CrowdPlayLemmas
-pub mod CrowdCompletesLemmas

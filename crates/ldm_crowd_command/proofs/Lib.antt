@@ -1,0 +1,4 @@
+pub mod CrowdTextLemmas
+pub mod CrowdWorkerLemmas
+pub mod CrowdPlayLemmas
+pub mod CrowdCompletesLemmas

@@ -1,0 +1,6 @@
+pub mod WholeScript
+pub mod CrowdEnding
+pub mod CrowdStep
+pub mod Statuses
+pub mod Run
+pub mod Complete

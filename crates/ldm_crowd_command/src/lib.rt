@@ -1,0 +1,11 @@
+//! The command `crowd`: a script, played by as many workers as actors.
+//!
+//! [`crowd`] takes the script of its world whole, has `ldm_crowd` play it on a shared queue, and writes the answers. Its
+//! contract says how that ends.
+#![tactic(auto)]
+
+mod crowd_command;
+mod statuses;
+mod whole_script;
+
+pub use crowd_command::crowd;

@@ -1,0 +1,5 @@
+pub mod PlayLineLemmas
+pub mod PlayLemmas
+pub mod GoesOnLemmas
+pub mod PlaysScriptLemmas
+pub mod CompletesLemmas

@@ -1,0 +1,52 @@
+use Rattle.std.proofs.Common.{◌∙◌, [], ◌++◌, ap, take, refl, arith, length-append, length-take}
+use Rattle.ldm_status.specs.World.{WorldRecord}
+use Rattle.ldm_outside.proofs.CallerLemmas.{Gives-nothing, Gives-then}
+use Rattle.ldm_play.specs.PendingView.{PendingView}
+use Rattle.ldm_play.proofs.GoesOnLemmas.{GoesOn-nothing}
+use Rattle.ldm_play.proofs.PlaysScriptLemmas.{stopped_within}
+use Rattle.ldm_play.proofs.play_command.play_script.Goals as goal
+
+pub loop-taken-init : goal.loop-taken-init
+loop-taken-init g c = record {
+  limit = omega arith;
+  number = let first = ap (λ (v : PendingView). v.number) c.requires.fresh in omega arith;
+  source_faults = omega arith;
+  sink_faults = omega arith;
+  ends = refl;
+  script = ([], refl, Gives-nothing (g.S.Source.tells c.args.source.now) (g.S.Source.tells c.args.source.now) refl, λ p stands. GoesOn-nothing p c.args.player.now c.args.pending.now (g.K.Sink.tells c.args.sink.now) c.requires.fresh stands);
+}
+
+pub returns-in-Err-clause-plays : goal.returns-in-Err-clause-plays
+returns-in-Err-clause-plays g c = λ p log_before log_after stands.
+    let so_far = c.loop-taken.invariant.script in
+    let n = c.in-Bytes.n in
+    let piece = take n c.read.new.into in
+    let given = c.in-Bytes.ensures.given in
+    let before : WorldRecord = record { source = g.S.Source.tells c.args.source.now; sink = g.K.Sink.tells c.args.sink.now; log = log_before } in
+    let after : WorldRecord = record { source = g.S.Source.tells c.read.new.self; sink = g.K.Sink.tells c.play_piece.new.sink; log = log_after } in
+    record {
+      script = so_far.0 ++ piece;
+      taken = Gives-then (g.S.Source.tells c.args.source.now) (g.S.Source.tells c.loop-taken.source) (g.S.Source.tells c.read.new.self) so_far.0 piece so_far.2 given.2;
+      limit = omega (arith, length-append so_far.0 piece, length-take n c.read.new.into, so_far.1, given.1, c.read.auto.into, length-take c.min-room.result c.loop-taken.piece, c.min-room.ensures, c.loop-taken-test.true);
+      ends = stopped_within c.in-Err.stop p (so_far.0 ++ piece) before after (c.in-Err.ensures.played p so_far.0 (g.K.Sink.tells c.args.sink.now) (so_far.3 p stands));
+    }
+
+pub loop-taken-preserved : goal.loop-taken-preserved
+loop-taken-preserved g c =
+    let so_far = c.loop-taken.invariant.script in
+    let n = c.in-Bytes.n in
+    let piece = take n c.read.new.into in
+    let given = c.in-Bytes.ensures.given in
+    record {
+      limit = omega (arith, given.1, c.read.auto.into, length-take c.min-room.result c.loop-taken.piece, c.min-room.ensures, c.loop-taken-test.true);
+      number = omega (arith, c.loop-taken.invariant.number, c.in_default.ensures.number, length-take n c.read.new.into, given.1);
+      source_faults = omega (arith, c.loop-taken.invariant.source_faults, c.in-Bytes.ensures.faults_kept);
+      sink_faults = omega (arith, c.loop-taken.invariant.sink_faults, c.in_default.ensures.faults_kept);
+      ends = given.3 ∙ c.loop-taken.invariant.ends;
+      script = (
+        so_far.0 ++ piece,
+        omega (arith, length-append so_far.0 piece, length-take n c.read.new.into, so_far.1, given.1),
+        Gives-then (g.S.Source.tells c.args.source.now) (g.S.Source.tells c.loop-taken.source) (g.S.Source.tells c.read.new.self) so_far.0 piece so_far.2 given.2,
+        λ p stands. c.in_default.ensures.played p so_far.0 (g.K.Sink.tells c.args.sink.now) (so_far.3 p stands),
+      );
+    }

@@ -1,0 +1,10 @@
+pub mod Lines
+pub mod Play
+pub mod PlayerView
+pub mod PendingView
+pub mod Calls
+pub mod Ending
+pub mod Step
+pub mod Statuses
+pub mod Run
+pub mod Complete

@@ -1,0 +1,13 @@
+//! The command `play`: a script, played on a queue.
+//!
+//! [`play`] reads the script of its world line by line, and answers each line before it looks at the next. Its contract says
+//! how that ends.
+#![tactic(auto)]
+
+mod calls;
+mod pending;
+mod play_command;
+mod player;
+mod statuses;
+
+pub use play_command::{SCRIPT_LIMIT, play};

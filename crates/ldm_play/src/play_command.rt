@@ -1,0 +1,205 @@
+//! `ldm play`: a script, played on a queue.
+ghost use Rattle.std.specs.Prelude.{◌≡◌, ◌+◌, ◌^◌, ◌<◌, ◌≤◌, ◌++◌, ℕ, List, length, OnOk, Result};
+ghost use Rattle.ldm_outside.specs.Io.{SinkRecord};
+ghost use Rattle.ldm_status.specs.World.{WorldRecord, KeepsFaults, world_tells};
+ghost use Rattle.ldm_script.specs.Resolve.{Playing};
+ghost use Rattle.ldm_play.specs.Play.{play_line};
+ghost use Rattle.ldm_play.specs.PlayerView.{StandsForPlay};
+ghost use Rattle.ldm_play.specs.PendingView.{fresh_line};
+ghost use Rattle.ldm_play.specs.Ending.{PlaysScript, PlayEnds};
+ghost use Rattle.ldm_play.specs.Step.{GoesOn, LineGives, PieceGives, EndGives};
+ghost use Rattle.ldm_play.specs.Run.{Plays};
+ghost use Rattle.ldm_play.specs.Complete.{Completes};
+
+use crate::pending::Pending;
+use crate::player::{Player, Stop};
+use crate::statuses::status_of;
+use ldm_book::{Book, CreateFault};
+use ldm_outside::{Got, Sink, Source};
+use ldm_script::LONGEST_LINE;
+use ldm_status::{PIECE, World};
+use memchr::memchr;
+use std::alloc::Global;
+
+/// How many bytes of a script are too many: a play that took so many ends.
+pub const SCRIPT_LIMIT: u64 = 1 << 40;
+
+/// How the play of a script ended.
+#[derive(Clone, Copy, Debug, PartialEq, Eq)]
+pub enum ScriptEnd {
+    /// The script was read to its end, and all its lines are answered.
+    Done,
+    /// As many bytes were taken as are too many.
+    StreamLimit,
+    /// The source failed.
+    SourceFault,
+    /// The play stopped at a line.
+    Stopped(Stop),
+}
+
+// A line that is longer than a line may be is refused behind the last byte that it may have.
+fn too_long(number: u64) -> Stop
+    ensures { result ≡ Stop.BadLine number (LONGEST_LINE + 1) }
+{
+    Stop::BadLine {
+        line: number,
+        column: LONGEST_LINE as u32 + 1,
+    }
+}
+
+// Plays the line that ends here: what is pending, and then its end.
+fn play_ended<K: Sink>(
+    player: &mut Player,
+    pending: &mut Pending,
+    end: &[u8],
+    sink: &mut K,
+) -> Result<(), Stop>
+    ensures played { (p : Playing) → StandsForPlay player.old p
+        → LineGives result (play_line pending.old.number p (pending.old.bytes ++ end.now)) player.new (K.tells sink.old) (K.tells sink.new) }
+    ensures number { pending.new.number ≡ pending.old.number }
+    ensures faults_kept { (K.tells sink.old).faults ≤ (K.tells sink.new).faults }
+{
+    if pending.is_empty() {
+        return player.play_line(pending.number(), end, sink);
+    }
+    if !pending.add(end) {
+        return Err(too_long(pending.number()));
+    }
+    player.play_line(pending.number(), pending.as_slice(), sink)
+}
+
+// Plays the line that ends here, and goes on to the next.
+fn end_line<K: Sink>(
+    player: &mut Player,
+    pending: &mut Pending,
+    end: &[u8],
+    sink: &mut K,
+) -> Result<(), Stop>
+    requires { pending.old.number + 1 < 2 ^ 64 }
+    ensures played { (p : Playing) → StandsForPlay player.old p
+        → LineGives result (play_line pending.old.number p (pending.old.bytes ++ end.now)) player.new (K.tells sink.old) (K.tells sink.new) }
+    ensures next { OnOk result (pending.new ≡ fresh_line (pending.old.number + 1)) }
+    ensures faults_kept { (K.tells sink.old).faults ≤ (K.tells sink.new).faults }
+{
+    play_ended(player, pending, end, sink)?;
+    pending.next_line();
+    Ok(())
+}
+
+// Plays the lines that end in a piece of the script, and keeps what is left of it.
+fn play_piece<K: Sink>(
+    player: &mut Player,
+    pending: &mut Pending,
+    piece: &[u8],
+    sink: &mut K,
+) -> Result<(), Stop>
+    requires { pending.old.number + length piece.now < 2 ^ 64 }
+    ensures played { (p : Playing) (script : List ℕ) (before : SinkRecord) → GoesOn p script player.old pending.old before (K.tells sink.old) →
+        PieceGives result p (script ++ piece.now) player.new pending.new before (K.tells sink.new) }
+    ensures number { OnOk result (pending.new.number ≤ pending.old.number + length piece.now) }
+    ensures faults_kept { (K.tells sink.old).faults ≤ (K.tells sink.new).faults }
+{
+    let mut rest = piece;
+    while let Some(at) = memchr(b'\n', rest) {
+        end_line(player, pending, &rest[..at], sink)?;
+        rest = &rest[at + 1..];
+    }
+    if !pending.add(rest) {
+        return Err(too_long(pending.number()));
+    }
+    Ok(())
+}
+
+// Plays the last line of a script, which no newline ends.
+fn play_last<K: Sink>(player: &mut Player, pending: &Pending, sink: &mut K) -> Result<(), Stop>
+    ensures played { (p : Playing) (script : List ℕ) (before : SinkRecord) → GoesOn p script player.old pending.now before (K.tells sink.old) →
+        EndGives result p script before (K.tells sink.new) }
+    ensures faults_kept { (K.tells sink.old).faults ≤ (K.tells sink.new).faults }
+{
+    if pending.is_empty() {
+        return Ok(());
+    }
+    player.play_line(pending.number(), pending.as_slice(), sink)
+}
+
+// Reads the script piece by piece, up to its end or its limit, and plays its lines.
+fn play_script<S: Source, K: Sink>(
+    player: &mut Player,
+    pending: &mut Pending,
+    piece: &mut [u8],
+    source: &mut S,
+    sink: &mut K,
+) -> ScriptEnd
+    requires room { 0 < length piece.old }
+    requires fresh { pending.old ≡ fresh_line 1 }
+    ensures plays { (p : Playing) (log_before log_after : SinkRecord) → StandsForPlay player.old p →
+        let old : WorldRecord = record { source = S.tells source.old; sink = K.tells sink.old; log = log_before } in
+        let new : WorldRecord = record { source = S.tells source.new; sink = K.tells sink.new; log = log_after } in
+        PlaysScript result p old new }
+    ensures source_faults_kept { (S.tells source.old).faults ≤ (S.tells source.new).faults }
+    ensures sink_faults_kept { (K.tells sink.old).faults ≤ (K.tells sink.new).faults }
+{
+    let mut taken = 0u64;
+    while taken < SCRIPT_LIMIT {
+        let room = piece.len().min((SCRIPT_LIMIT - taken) as usize);
+        let buffer = &mut piece[..room];
+        match source.read(buffer) {
+            Got::Bytes(n) => {
+                taken += n as u64;
+                if let Err(stop) = play_piece(player, pending, &buffer[..n], sink) {
+                    return ScriptEnd::Stopped(stop);
+                }
+            }
+            Got::End => {
+                return match play_last(player, pending, sink) {
+                    Ok(()) => ScriptEnd::Done,
+                    Err(stop) => ScriptEnd::Stopped(stop),
+                };
+            }
+            Got::Failed => return ScriptEnd::SourceFault,
+        }
+    }
+    ScriptEnd::StreamLimit
+}
+
+// Makes the queue and all the memory that playing takes, and plays the script.
+fn play_new<S: Source, K: Sink>(
+    alloc: Global,
+    arena: u64,
+    slots: u32,
+    source: &mut S,
+    sink: &mut K,
+) -> Result<ScriptEnd, CreateFault>
+    ensures ends { (log_before log_after : SinkRecord) →
+        let old : WorldRecord = record { source = S.tells source.old; sink = K.tells sink.old; log = log_before } in
+        let new : WorldRecord = record { source = S.tells source.new; sink = K.tells sink.new; log = log_after } in
+        PlayEnds result (record { arena = arena; slots = slots }) old new }
+    ensures source_faults_kept { (S.tells source.old).faults ≤ (S.tells source.new).faults }
+    ensures sink_faults_kept { (K.tells sink.old).faults ≤ (K.tells sink.new).faults }
+{
+    let book = Book::create(alloc, arena, slots)?;
+    let mut player = Player::new(alloc, book)?;
+    let mut pending = Pending::new(alloc)?;
+    let mut piece = vec![in alloc; 0u8; PIECE]?;
+    Ok(play_script(&mut player, &mut pending, &mut piece, source, sink))
+}
+
+/// Plays a script on a new queue with an arena of so many bytes and so many slots: reads the source to its end, and
+/// answers each line that asks for something with one line on the sink, before the next line is looked at. Answers
+/// the number that the program ends with, and writes its line to the log.
+///
+/// All memory is taken before the first read. The clause `ends` gives each status its cause, and what was read and
+/// written then: see `Plays`. The clause `completes` says when a play comes to its end: see `Unhindered`.
+pub fn play<S: Source, K: Sink, E: Sink>(
+    alloc: Global,
+    arena: u64,
+    slots: u32,
+    world: &mut World<S, K, E>,
+) -> u8
+    ensures ends { Plays (record { arena = arena; slots = slots }) result (world_tells S.tells K.tells E.tells world.old) (world_tells S.tells K.tells E.tells world.new) }
+    ensures completes { Completes (record { arena = arena; slots = slots }) result (world_tells S.tells K.tells E.tells world.old) (world_tells S.tells K.tells E.tells world.new) }
+    ensures faults_kept { KeepsFaults (world_tells S.tells K.tells E.tells world.old) (world_tells S.tells K.tells E.tells world.new) }
+{
+    let ending = play_new(alloc, arena, slots, &mut world.source, &mut world.sink);
+    status_of(ending).report(&mut world.log)
+}

@@ -1,0 +1,44 @@
+-- The statuses, with their log lines.
+use Rattle.std.specs.Prelude.{◌≡◌, ◌⊎◌, ℕ, ◌++◌, List, [], ◌∷◌, codes, decimal}
+use Rattle.ldm_outside.specs.Count.{Rose}
+use Rattle.ldm_outside.specs.Io.{SinkRecord, Takes, WritesFront}
+use Rattle.ldm_status.specs.declared.status.TheConstants.{LOG_FAULT}
+use Rattle.ldm_status.specs.declared.status.Status.{Status}
+use Rattle.ldm_status.specs.declared.status.Status.TheVariants as status
+
+-- the number that the program ends with
+abbrev pub code_of : Status → ℕ
+code_of status.Done = 0
+code_of status.Usage = 64
+code_of (status.BadLine line column) = 65
+code_of status.StreamLimit = 66
+code_of (status.RefusedArena arena) = 67
+code_of (status.RefusedSlots slots) = 67
+code_of (status.RefusedPasses passes) = 67
+code_of (status.NotBuilt word) = 68
+code_of status.NoMemory = 71
+code_of status.SourceFault = 74
+code_of status.SinkFault = 75
+code_of status.Worn = 77
+
+-- the log line, with its newline: nothing where all went well
+abbrev pub log_line : Status → List ℕ
+log_line status.Done = []
+log_line status.Usage = codes "ldm: usage\n"
+log_line (status.BadLine line column) = codes "ldm: bad line " ++ decimal line ++ codes " column " ++ decimal column ++ 10 ∷ []
+log_line status.StreamLimit = codes "ldm: stream limit\n"
+log_line (status.RefusedArena arena) = codes "ldm: refused arena " ++ decimal arena ++ 10 ∷ []
+log_line (status.RefusedSlots slots) = codes "ldm: refused slots " ++ decimal slots ++ 10 ∷ []
+log_line (status.RefusedPasses passes) = codes "ldm: refused passes " ++ decimal passes ++ 10 ∷ []
+log_line (status.NotBuilt word) = codes "ldm: not built " ++ word ++ 10 ∷ []
+log_line status.NoMemory = codes "ldm: no memory\n"
+log_line status.SourceFault = codes "ldm: source fault\n"
+log_line status.SinkFault = codes "ldm: sink fault\n"
+log_line status.Worn = codes "ldm: worn\n"
+
+-- The number that ends the program, and what the log took: the status and its line; or 76, where the log failed,
+-- and a front of the line.
+abbrev pub Reports : Status → ℕ → SinkRecord → SinkRecord → Type 0
+Reports ending code old new =
+    ((code ≡ code_of ending) × Takes old (log_line ending) new)
+    ⊎ ((code ≡ LOG_FAULT) × Rose old.faults new.faults × WritesFront old (log_line ending) new)

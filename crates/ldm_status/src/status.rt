@@ -1,0 +1,124 @@
+//! How the program ends: statuses with their log lines.
+ghost use Rattle.std.specs.Prelude.{◌≡◌, ◌≤◌};
+
+use crate::word::Word;
+use arrayvec::ArrayVec;
+use ldm_outside::{Sink, SinkFailed, write_all};
+use ldm_script::{put, put_number};
+
+// The most bytes of a log line, with its newline.
+const LONGEST_LOG_LINE: usize = 64;
+
+// A log line, with room for the longest.
+type LogLine = ArrayVec<u8, LONGEST_LOG_LINE>;
+
+/// How the program ends, its log apart.
+#[derive(Debug, Drop)]
+pub enum Status {
+    /// All input was read, and all owed text is written.
+    Done,
+    /// The words are no form of a command.
+    Usage,
+    /// A line of a script is outside the grammar: its number, from 1, and the column of its first fault.
+    BadLine { line: u64, column: u32 },
+    /// As many bytes of a script were taken as are too many.
+    StreamLimit,
+    /// No queue has an arena of so many bytes.
+    RefusedArena(u64),
+    /// No queue has so many slots.
+    RefusedSlots(u32),
+    /// No queue of many threads has so many passes.
+    RefusedPasses(u32),
+    /// The words ask for a command that is not built yet: its word.
+    NotBuilt(Word),
+    /// There is no memory.
+    NoMemory,
+    /// The source failed.
+    SourceFault,
+    /// The sink failed.
+    SinkFault,
+    /// The queue has had all the calls that it can have.
+    Worn,
+}
+
+/// The status where the log line of another status could not be written.
+pub const LOG_FAULT: u8 = 76;
+
+impl Status {
+    ghost use Rattle.ldm_status.specs.Status.{code_of, log_line, Reports};
+
+    /// The number that the program ends with.
+    pub fn code(&self) -> u8
+        ensures { result ≡ code_of self.now }
+    {
+        match self {
+            Status::Done => 0,
+            Status::Usage => 64,
+            Status::BadLine { .. } => 65,
+            Status::StreamLimit => 66,
+            Status::RefusedArena(_) | Status::RefusedSlots(_) | Status::RefusedPasses(_) => 67,
+            Status::NotBuilt(_) => 68,
+            Status::NoMemory => 71,
+            Status::SourceFault => 74,
+            Status::SinkFault => 75,
+            Status::Worn => 77,
+        }
+    }
+
+    /// Writes the log line, with its newline, over what the buffer had: nothing where all went well.
+    fn write_line(&self, out: &mut LogLine)
+        ensures { out.new.items ≡ log_line self.now }
+    {
+        out.clear();
+        match self {
+            Status::Done => {}
+            Status::Usage => put(out, b"ldm: usage\n"),
+            Status::BadLine { line, column } => {
+                put(out, b"ldm: bad line ");
+                put_number(out, *line);
+                put(out, b" column ");
+                put_number(out, u64::from(*column));
+                put(out, b"\n");
+            }
+            Status::StreamLimit => put(out, b"ldm: stream limit\n"),
+            Status::RefusedArena(arena) => {
+                put(out, b"ldm: refused arena ");
+                put_number(out, *arena);
+                put(out, b"\n");
+            }
+            Status::RefusedSlots(slots) => {
+                put(out, b"ldm: refused slots ");
+                put_number(out, u64::from(*slots));
+                put(out, b"\n");
+            }
+            Status::RefusedPasses(passes) => {
+                put(out, b"ldm: refused passes ");
+                put_number(out, u64::from(*passes));
+                put(out, b"\n");
+            }
+            Status::NotBuilt(word) => {
+                put(out, b"ldm: not built ");
+                put(out, word.as_slice());
+                put(out, b"\n");
+            }
+            Status::NoMemory => put(out, b"ldm: no memory\n"),
+            Status::SourceFault => put(out, b"ldm: source fault\n"),
+            Status::SinkFault => put(out, b"ldm: sink fault\n"),
+            Status::Worn => put(out, b"ldm: worn\n"),
+        }
+    }
+
+    /// Writes the log line to the log, and answers the number that the program ends with: that of the status, or
+    /// [`LOG_FAULT`] where the log failed.
+    pub fn report<E: Sink>(&self, log: &mut E) -> u8
+        ensures reports { Reports self.now result (E.tells log.old) (E.tells log.new) }
+        ensures faults_kept { (E.tells log.old).faults ≤ (E.tells log.new).faults }
+    {
+        let mut line = LogLine::new();
+        self.write_line(&mut line);
+        match write_all(log, line.as_slice()) {
+            Ok(()) => self.code(),
+            Err(SinkFailed) => LOG_FAULT,
+        }
+    }
+}
