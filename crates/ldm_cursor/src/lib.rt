@@ -4,7 +4,5 @@
 mod cursor;
 mod cursors;
 mod marks;
-#[cfg(test)]
-mod tests;
 
 pub use cursors::Cursors;

@@ -14,4 +14,3 @@ pub mod Search
 pub mod Bound
 pub mod Held
 pub mod Kept
-pub mod Tried

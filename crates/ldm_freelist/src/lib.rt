@@ -4,8 +4,6 @@
 mod free_set;
 mod node_table;
 mod steps;
-#[cfg(test)]
-mod tests;
 mod tree;
 
 pub use free_set::FreeSet;

@@ -12,4 +12,3 @@ pub mod Cut
 pub mod Joint
 pub mod Ways
 pub mod Whole
-pub mod Tried

@@ -4,7 +4,5 @@
 mod gaps;
 mod links;
 mod regions;
-#[cfg(test)]
-mod tests;
 
 pub use regions::Regions;

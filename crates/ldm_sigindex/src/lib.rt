@@ -3,7 +3,5 @@
 
 mod chain;
 mod index;
-#[cfg(test)]
-mod tests;
 
 pub use index::SigIndex;

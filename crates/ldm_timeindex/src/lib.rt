@@ -4,8 +4,6 @@
 mod bound;
 mod entry;
 mod ring;
-#[cfg(test)]
-mod tests;
 mod time_index;
 
 pub use time_index::TimeIndex;

@@ -1,0 +1,142 @@
+//! The regions of an arena.
+ghost use Rattle.std.specs.Prelude.{◌≡◌, ℕ, ◌%◌, ◌≤◌, false, length, is_some, slice_index_or};
+ghost use Rattle.std.specs.FinMap as map;
+
+use crate::draws::{drawn, with_answer};
+use anyhow::{Result, bail, ensure};
+use ldm_drive::Case;
+use ldm_regions::Regions;
+use std::alloc::Global;
+
+/// Regions, and who owns one.
+#[derive(Drop)]
+pub struct Owners {
+    regions: Regions,
+    owns: Vec<bool>,
+    ghost slots: { length owns.items ≡ regions.slots },
+    ghost agree: { (k : ℕ) → slice_index_or owns.items k false ≡ is_some (map.get regions.owned k) },
+}
+
+// The marks that a text of zeros and ones spells.
+fn marks_of(alloc: Global, text: &str) -> Result<Vec<bool>> {
+    let mut marks = Vec::new(alloc);
+    for byte in text.as_bytes() {
+        marks.push(*byte == b'1')?;
+    }
+    Ok(marks)
+}
+
+impl Owners {
+    pub fn create(alloc: Global, arena: u64, slots: u32) -> Result<Owners> {
+        ensure!(arena >= 64 && arena % 8 == 0, "no such arena");
+        ensure!(slots <= 1_048_576, "too many slots");
+        let regions = Regions::create(alloc, arena, slots)?;
+        let owns = vec![in alloc; false; slots as usize]?;
+        Ok(Owners { regions, owns })
+    }
+
+    /// A case: `new ARENA SLOTS`, `take OWNER NEED`, `back OWNER`, `kept MARKS`, `turns SEED COUNT`, `orders`.
+    pub fn answer(&mut self, alloc: Global, case: &mut Case) -> Result<String> {
+        match case.word()? {
+            "new" => {
+                let arena = case.number()?;
+                *self = Owners::create(alloc, arena, case.small()?)?;
+                Ok(format!(in alloc; "longest {}", self.regions.largest())?)
+            }
+            "take" => {
+                let owner = case.small()?;
+                let start = self.take(case.number()?, owner);
+                Ok(format!(in alloc; "{start:?} longest {}", self.regions.largest())?)
+            }
+            "back" => {
+                self.give_back(case.small()?);
+                Ok(format!(in alloc; "longest {}", self.regions.largest())?)
+            }
+            "kept" => {
+                let marks = marks_of(alloc, case.word()?)?;
+                Ok(format!(in alloc; "{:?}", self.largest_if(&marks))?)
+            }
+            "turns" => {
+                let (seed, count) = (case.number()?, case.number()?);
+                Ok(format!(in alloc; "{}", self.turns(seed, count))?)
+            }
+            "orders" => Ok(format!(in alloc; "{}", self.orders())?),
+            _ => bail!("no such word"),
+        }
+    }
+
+    // What `take` answers, where it may be called.
+    fn take(&mut self, need: u64, owner: u32) -> Option<u64> {
+        let place = owner as usize;
+        if need == 0 || place >= self.owns.len() || self.owns[place] {
+            return None;
+        }
+        let start = self.regions.take(need, owner)?;
+        self.owns[place] = true;
+        Some(start)
+    }
+
+    // Gives a region back, where there is one.
+    fn give_back(&mut self, owner: u32) {
+        let place = owner as usize;
+        if place < self.owns.len() && self.owns[place] {
+            self.regions.give_back(owner);
+            self.owns[place] = false;
+        }
+    }
+
+    // What `largest_if` answers, where there is a mark for each slot.
+    fn largest_if(&self, kept: &[bool]) -> Option<u64> {
+        if kept.len() == self.owns.len() {
+            Some(self.regions.largest_if(kept))
+        } else {
+            None
+        }
+    }
+
+    fn owns(&self, owner: u32) -> bool {
+        self.owns.get(owner as usize).copied().unwrap_or(false)
+    }
+
+    // Random turns of 8 owners, of which each gives its region back or is given one: the sum of the starts, of the longest
+    // gaps, and of those that would be there if only the marked owners kept theirs.
+    fn turns(&mut self, seed: u64, count: u64) -> u64 {
+        let (mut state, mut sum) = (seed, 0);
+        for _ in 0..count {
+            state = drawn(state);
+            let owner = ((state >> 33) % 8) as u32;
+            if self.owns(owner) {
+                self.give_back(owner);
+            } else {
+                sum = with_answer(sum, self.take((state >> 40) % 32 + 1, owner));
+            }
+            let mut kept = [false; 8];
+            for (place, mark) in kept.iter_mut().enumerate() {
+                *mark = (state >> place) & 1 == 1;
+            }
+            sum = with_answer(sum, Some(self.regions.largest()));
+            sum = with_answer(sum, self.largest_if(&kept));
+        }
+        sum
+    }
+
+    // Takes five regions, and gives them back in each of the 120 orders: the sum of the starts and of the longest gaps.
+    fn orders(&mut self) -> u64 {
+        let mut sum = 0;
+        for number in 0..120u32 {
+            for (owner, extent) in [(0u32, 8u64), (1, 16), (2, 24), (3, 8), (4, 8)] {
+                sum = with_answer(sum, self.take(extent, owner));
+            }
+            let mut order = number;
+            for count in [5u32, 4, 3, 2, 1] {
+                let place = (order % count) as usize;
+                order /= count;
+                if let Some(owner) = (0..5u32).filter(|owner| self.owns(*owner)).nth(place) {
+                    self.give_back(owner);
+                }
+                sum = with_answer(sum, Some(self.regions.largest()));
+            }
+        }
+        sum
+    }
+}
