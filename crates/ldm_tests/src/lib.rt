@@ -15,8 +15,6 @@ mod lines;
 #[cfg(test)]
 mod pairs;
 #[cfg(test)]
-mod random;
-#[cfg(test)]
 mod runs;
 #[cfg(test)]
 mod scripts;
