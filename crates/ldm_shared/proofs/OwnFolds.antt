@@ -1,5 +1,5 @@
 -- What replies say over a whole history, they say over the owner's entries alone.
-use Rattle.std.proofs.Common.{◌≡◌, ℕ, ◌==◌, Bool, true, false, cond, List, [], ◌∷◌, ◌++◌, Option, Some, None, refl, sym, ap, ◌∙◌}
+use Rattle.std.proofs.Common.{◌≡◌, ℕ, ◌==◌, Bool, true, false, cond, List, [], ◌∷◌, ◌++◌, Option, refl, ap, ◌∙◌}
 use Rattle.std.specs.Prelude.{◌&&◌}
 use Rattle.std.specs.Option.{option_map}
 use Rattle.ldm_model.specs.declared.event.Reply.{Reply}
@@ -35,7 +35,8 @@ number_of-entry : (at : Point) (hold : Option Hold) (r : Reply) (mine : Bool) �
 number_of-entry at hold r true = number_of-reply at hold r
 number_of-entry at hold r false = refl
 
-pub over_own-held : (p : Point) (hold : Option Hold) (so_far entries : List Entry) → number_of (over_replies p after_hold hold so_far entries) ≡ over_own p.k with_held (number_of hold) (own p.owner entries)
+pub over_own-held : (p : Point) (hold : Option Hold) (so_far entries : List Entry)
+    → number_of (over_replies p after_hold hold so_far entries) ≡ over_own p.k with_held (number_of hold) (own p.owner entries)
 over_own-held p hold so_far [] = refl
 over_own-held p hold so_far (entry ∷ entries) =
     over_own-held p (cond (is_own p entry) (after_hold (at_entries p so_far) hold entry.reply) hold) (so_far ++ entry ∷ []) entries

@@ -1,5 +1,5 @@
 -- The law of readers, over a pass's own entries.
-use Rattle.std.proofs.Common.{◌≡◌, ℕ, zero, suc, ◌+◌, ◌<◌, ◌==◌, Bool, true, false, cond, List, [], ◌∷◌, ◌++◌, length, All, Contains, Option, Some, None, refl, sym, ap, subst, ◌∙◌, arith, append_assoc}
+use Rattle.std.proofs.Common.{◌≡◌, ℕ, zero, suc, ◌+◌, ◌<◌, ◌==◌, true, false, cond, List, [], ◌∷◌, ◌++◌, length, All, Contains, Option, Some, None, refl, sym, ap, subst, ◌∙◌, arith, append_assoc}
 use Rattle.std.specs.Prelude.{◌&&◌, ◌↔◌, slice_get}
 use Rattle.std.specs.List.{range_with_len}
 use Rattle.std.specs.List.Sorted.{IsStrictlyIncreasing}
@@ -9,12 +9,11 @@ use Rattle.ldm_types.specs.Info.{Metadata}
 use Rattle.ldm_types.specs.Feed.{feeds_meet}
 use Rattle.ldm_model.specs.declared.event.Event.TheVariants.{Step, Read}
 use Rattle.ldm_model.specs.declared.event.Reply.TheVariants as reply
-use Rattle.ldm_model.specs.declared.event.Reply.{Reply}
 use Rattle.ldm_model.specs.declared.event.Entry.{Entry}
 use Rattle.ldm_model.specs.Product.{Product}
 use Rattle.ldm_model.specs.State.{Row, end_of}
 use Rattle.ldm_model.specs.History.{after, IsLegal, IsInserted}
-use Rattle.ldm_model.specs.Law.{Point, opening, history_of, is_step, state_at, row_of, feed_of_row, is_own, is_close, is_due, due, with_given, given, lost, told, after_gap, count_told, with_count, hold_of}
+use Rattle.ldm_model.specs.Law.{Point, opening, history_of, is_step, state_at, row_of, feed_of_row, is_own, is_close, is_due, due, with_given, given, lost, told, after_gap, count_told, with_count}
 use Rattle.ldm_model.specs.Law.{IsPointOf, IsServed, IsAnsweredAt, ObeysLaw, TellsOnce, AtEveryPoint, AtEveryCall, GivesInserted, ReadsInserted}
 use Rattle.ldm_model.proofs.Points.{next_point, told-next, count-next}
 use Rattle.ldm_shared.specs.Own.{own}
@@ -78,7 +77,8 @@ abbrev pub GivesEverywhere : Type 0
 GivesEverywhere = AtEveryCall (λ (p : Point) (entry : Entry). (n time : ℕ) (info : Metadata) → entry.reply ≡ reply.Product n time info → GivesInserted p n time info)
 
 abbrev pub ReadsEverywhere : Type 0
-ReadsEverywhere = AtEveryCall (λ (p : Point) (entry : Entry). (offset len : ℕ) (bytes : List ℕ) → entry.event ≡ Read p.k offset len → entry.reply ≡ reply.Bytes bytes → ReadsInserted p offset len bytes)
+ReadsEverywhere = AtEveryCall (λ (p : Point) (entry : Entry). (offset len : ℕ) (bytes : List ℕ) → entry.event ≡ Read p.k offset len → entry.reply ≡ reply.Bytes bytes
+    → ReadsInserted p offset len bytes)
 
 abbrev pub LawOfAll : Type 0
 LawOfAll = (arena slots : ℕ) (history : List Entry) → IsLegal arena slots history → ObeysLaw arena slots history
@@ -110,7 +110,8 @@ of_its_feeds law products fronts pass has q own_at =
     (All-weaker (Contains (due p)) (IsInsertedFor pass.seen q.feed) each (given p) (served law pass has q own_at p at).only_due)
 
 -- a call of the owner on its cursor
-module _ (pass : PassView) (has : HasSeen pass) (q : OwnPoint) (own_at : IsOwnPointOf pass q) (entry : Entry) (later : List Entry) (next : own_at.rest ≡ entry ∷ later) (about : is_about q.k entry ≡ true) where
+module _ (pass : PassView) (has : HasSeen pass) (q : OwnPoint) (own_at : IsOwnPointOf pass q)
+    (entry : Entry) (later : List Entry) (next : own_at.rest ≡ entry ∷ later) (about : is_about q.k entry ≡ true) where
   abbrev came : (p : Point) × IsCalledAt pass q entry p × ((entry.actor == pass.actor) ≡ true)
   came = point_called pass q own_at entry later next
 
@@ -141,7 +142,8 @@ module _ (pass : PassView) (has : HasSeen pass) (q : OwnPoint) (own_at : IsOwnPo
         info_is = found.info_of_product;
       }
 
-  pub reads_inserted : ReadsEverywhere → (offset len : ℕ) (bytes : List ℕ) → entry.event ≡ Read q.k offset len → entry.reply ≡ reply.Bytes bytes → ReadsOfHeld pass.seen (number_held q) offset len bytes
+  pub reads_inserted : ReadsEverywhere → (offset len : ℕ) (bytes : List ℕ) → entry.event ≡ Read q.k offset len → entry.reply ≡ reply.Bytes bytes
+      → ReadsOfHeld pass.seen (number_held q) offset len bytes
   reads_inserted reads offset len bytes is_event is_reply =
       let found = reads pass.arena pass.slots pass.seen has.legal p called.at.is_point entry called.later called.next is_own_call offset len bytes
       (is_event ∙ ap (λ (k : ℕ). Read k offset len) (sym called.at.place)) is_reply in

@@ -4,7 +4,7 @@ use Rattle.std.specs.Prelude.{◌&&◌}
 use Rattle.std.proofs.lemmas.Bool.{cases_Bool}
 use Rattle.std.proofs.lemmas.List.Elements.{All-nil, All-cons, All-head, All-tail}
 use Rattle.ldm_model.specs.declared.event.Entry.{Entry}
-use Rattle.ldm_model.specs.Law.{Point, opening, history_of, is_own, is_close}
+use Rattle.ldm_model.specs.Law.{Point, history_of, is_own, is_close}
 use Rattle.ldm_shared.specs.Own.{own}
 use Rattle.ldm_shared.specs.Passes.{PassView}
 use Rattle.ldm_shared.specs.OwnReaders.{OwnPoint, opening_by, is_about, IsOwnPointOf, IsSeenAt, IsCalledAt}

@@ -2,7 +2,7 @@
 --
 -- The law of readers speaks of whole histories. A caller knows its own calls and what they were answered. What follows is said
 -- over these, whatever calls of other actors stand between them.
-use Rattle.std.specs.Prelude.{◌≡◌, ℕ, ◌+◌, Bool, true, false, ◌&&◌, if◌then◌else◌, List, [], ◌∷◌, ◌++◌, length, All, Option, Some, None}
+use Rattle.std.specs.Prelude.{◌≡◌, ℕ, Bool, true, false, ◌&&◌, if◌then◌else◌, List, [], ◌∷◌, ◌++◌, length, All, Option, Some, None}
 use Rattle.std.specs.Option.{option_map}
 use Rattle.ldm_types.specs.Info.{Metadata}
 use Rattle.ldm_types.specs.Feed.{feeds_meet}
