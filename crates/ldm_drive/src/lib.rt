@@ -7,7 +7,9 @@
 mod bytes;
 mod case;
 mod lines;
+mod printed;
 
 pub use bytes::{bytes_of, digits_of, text_of};
 pub use case::Case;
 pub use lines::drive;
+pub use printed::shown;

@@ -10,8 +10,6 @@ mod lines;
 mod options;
 mod parse;
 mod reader;
-#[cfg(test)]
-mod tests;
 mod words;
 
 pub use action::ActionKind;

@@ -11,8 +11,6 @@ mod matching;
 mod moment;
 mod sources;
 mod substitute;
-#[cfg(test)]
-mod tests;
 mod text;
 
 pub use action::{Action, ActionWord};
