@@ -1,20 +1,5 @@
-//! Tests of whole runs, and of the crates whose proofs are long, through their public calls alone: a crate with tests is
-//! proved twice, and so is this one.
+//! A test of the rules of access, through public calls alone.
 #![tactic(auto)]
 
 #[cfg(test)]
 mod access;
-#[cfg(test)]
-mod answers;
-#[cfg(test)]
-mod book;
-#[cfg(test)]
-mod crowds;
-#[cfg(test)]
-mod lines;
-#[cfg(test)]
-mod pairs;
-#[cfg(test)]
-mod runs;
-#[cfg(test)]
-mod scripts;
