@@ -11,8 +11,6 @@ mod line;
 mod policy;
 mod reduce;
 mod search;
-#[cfg(test)]
-mod tests;
 mod verdict;
 
 pub use answers::{Reduced, Verdict};

@@ -11,8 +11,6 @@ mod limits;
 mod lines;
 mod parse;
 mod reader;
-#[cfg(test)]
-mod tests;
 mod words;
 
 pub use conf::{Conf, Request};

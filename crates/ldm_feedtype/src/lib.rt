@@ -18,8 +18,6 @@ mod fault;
 mod names;
 mod parts;
 mod reader;
-#[cfg(test)]
-mod tests;
 mod text;
 mod words;
 

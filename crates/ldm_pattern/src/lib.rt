@@ -5,8 +5,6 @@
 
 mod groups;
 mod pattern;
-#[cfg(test)]
-mod tests;
 
 pub use groups::{GroupNo, Groups};
 pub use pattern::{Pattern, Refusal};

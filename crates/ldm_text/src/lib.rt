@@ -3,8 +3,6 @@
 
 mod lines;
 mod scan;
-#[cfg(test)]
-mod tests;
 mod words;
 
 pub use lines::first_line;
