@@ -2,6 +2,7 @@
 
 use crate::Kept;
 use crate::classes::shown_class;
+use crate::patterns::word_text;
 use anyhow::Result;
 use ldm_conf::{Conf, ConfFault, read_conf};
 use ldm_drive::{Case, shown};
@@ -22,7 +23,8 @@ pub fn prepare(alloc: Global, name: &str, kept: &mut Kept, case: &mut Case) -> R
             }
         }
         _ => {
-            let path = String::from_str(alloc, case.word()?)?;
+            let path = word_text(alloc, case)?;
+            let path = String::from_str(alloc, str::from_utf8(&path)?)?;
             let bytes = text_or_bytes(alloc, name == "file", case)?;
             kept.files.push(MemFile::new(path, bytes))?;
         }
