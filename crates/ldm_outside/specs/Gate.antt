@@ -13,6 +13,10 @@ pub record GateRecord : Type 0 where
   -- the calls that it let pass and those that it was told of, in order, where it tells them
   pub calls : Option (List GateCall)
 
+-- From one moment to another a gate let pass and was told just these calls, in order, where it tells them.
+abbrev pub HasCalls : List GateCall → GateRecord → GateRecord → Type 0
+HasCalls more old new = new.calls ≡ option_map (λ calls. calls ++ more) old.calls
+
 -- what a gate tells with these calls more
 abbrev pub with_calls : List GateCall → GateRecord → GateRecord
 with_calls more old = record old { calls = option_map (λ calls. calls ++ more) old.calls }
