@@ -1,8 +1,11 @@
 -- How far a worker came, after one line more and at its end.
-use Rattle.std.proofs.Common.{◌≡◌, ℕ, ◌+◌, ◌^◌, ◌<◌, ◌≤◌, List, [], ◌∷◌, ◌++◌, length, take, get_or, Option, Some, None, Result, Ok, Err, refl, sym, ap, subst, ◌∙◌, arith}
+use Rattle.std.proofs.Common.{◌≡◌, ℕ, suc, ◌+◌, ◌^◌, ◌<◌, ◌≤◌, List, [], ◌∷◌, ◌++◌, length, take, get_or, append-nil, Option, Some, None, Result, Ok, Err, refl, sym, ap, subst, ◌∙◌, arith}
 use Rattle.std.proofs.lemmas.List.{take_more, take_all}
-use Rattle.ldm_outside.specs.Gate.{GateRecord}
+use Rattle.ldm_outside.specs.declared.gate.GateCall.{GateCall}
+use Rattle.ldm_outside.specs.declared.gate.GateCall.TheVariants.{Before}
+use Rattle.ldm_outside.specs.Gate.{GateRecord, HasCalls}
 use Rattle.ldm_outside.proofs.CallerLemmas.{Rose-later}
+use Rattle.ldm_outside.proofs.GateLemmas.{HasCalls-none, HasCalls-then}
 use Rattle.ldm_model.specs.declared.event.Event.{Event}
 use Rattle.ldm_model.specs.declared.event.Event.TheVariants as event
 use Rattle.ldm_model.specs.declared.event.Reply.{Reply}
@@ -13,11 +16,12 @@ use Rattle.ldm_shared.specs.Own.{own}
 use Rattle.ldm_shared.specs.Passes.{PassView, IsSamePass}
 use Rattle.ldm_crowd.specs.declared.outcome.CrowdEnd.{CrowdEnd}
 use Rattle.ldm_crowd.specs.declared.outcome.CrowdEnd.TheVariants as crowd_end
-use Rattle.ldm_crowd.specs.declared.worker.Worker.{Worker}
+use Rattle.ldm_crowd.specs.declared.player.Player.{Player}
 use Rattle.ldm_crowd.specs.Calls.{GrowsBy}
 use Rattle.ldm_crowd.specs.Lines.{AreEntriesOf, last_after, last_of}
 use Rattle.ldm_crowd.specs.Interleaving.{IsFront, actor_text, crowd_line}
-use Rattle.ldm_crowd.specs.Workers.{HasPlayed, WorkerEnds, PlaysLine, LineFails}
+use Rattle.ldm_crowd.specs.Parts.{Part, Played, PlayedAll, passing, passings, passings_and_one}
+use Rattle.ldm_crowd.specs.Players.{HasPlayed, PlayerEnds, PlaysLine, LineFails, part_seen}
 use Rattle.ldm_crowd.proofs.OneMore.{made_at, made_for, said, entries-more, last-more, text-more, said-is, own-grows, own-worn}
 
 -- the entries of the same pass's actor
@@ -72,43 +76,77 @@ module _ (lines : List Asked) (count : ℕ) (less : count < length lines) (asked
           ∙ ap (λ (p : PassView). actor_text p.actor (take (count + 1) lines) (own new.actor new.seen)) (sym same);
     }
 
--- a worker that played the line after these
-pub plays_on : {G : Type 0} (lines : List Asked) (count : ℕ) → count < length lines → (asked : Asked) → asked ≡ get_or lines count (Plain event.Stat) → (old new : Worker G)
-    → HasPlayed lines count old.pass old.last old.answers.items → IsSamePass old.pass new.pass → PlaysLine asked old new → HasPlayed lines (count + 1) new.pass new.last new.answers.items
-plays_on lines count less asked is old new played same line =
-    played_more lines count less asked is old.pass new.pass old.last old.answers.items played same line.reply line.grows new.last new.answers.items line.last_is line.answered
+-- a player that played the line after these
+pub plays_on : {G : Type 0} (tells : G → GateRecord) (lines : List Asked) (count i : ℕ) → count < length lines → (asked : Asked) → asked ≡ get_or lines count (Plain event.Stat)
+    → (old_pass : PassView) (old : Player G) (new_pass : PassView) (new : Player G)
+    → HasPlayed lines count old_pass old.last old.answers.items → IsSamePass old_pass new_pass → PlaysLine tells i asked old_pass old new_pass new → HasPlayed lines (count + 1) new_pass new.last new.answers.items
+plays_on tells lines count i less asked is old_pass old new_pass new played same line =
+    played_more lines count less asked is old_pass new_pass old.last old.answers.items played same line.reply line.grows new.last new.answers.items line.last_is line.answered
 
--- a worker at which the line after these failed
-pub fails_on : {G : Type 0} (tells : G → GateRecord) (lines : List Asked) (count : ℕ) → count < length lines → (asked : Asked) → asked ≡ get_or lines count (Plain event.Stat) → (first : GateRecord) (old new : Worker G)
-    → first.stops ≤ (tells old.gate).stops → HasPlayed lines count old.pass old.last old.answers.items → IsSamePass old.pass new.pass → (end : CrowdEnd) → LineFails tells end asked old new
-    → WorkerEnds end lines new.pass new.answers.items first (tells new.gate)
-fails_on tells lines count less asked is first old new kept played same crowd_end.Done failed = absurd failed
-fails_on tells lines count less asked is first old new kept played same crowd_end.Stopped failed =
-    let own_is : own new.pass.actor new.pass.seen ≡ own old.pass.actor old.pass.seen = ap (λ (p : PassView). own p.actor p.seen) failed.1 in (
-      Rose-later first.stops (tells old.gate).stops (tells new.gate).stops kept failed.0,
-      record { count = count; within = played.within; made = subst (AreEntriesOf None (take count lines)) (sym own_is) played.made },
+-- the gate was asked and told of one line more
+pub asked_on : (actor by count : ℕ) (first mid new : GateRecord) → by ≡ actor → HasCalls (passings actor count) first mid → HasCalls (passing by count) mid new → HasCalls (passings actor (count + 1)) first new
+asked_on actor by count first mid new is before now =
+    let next : count + 1 ≡ suc count = omega arith in
+    subst (λ (n : ℕ). HasCalls (passings actor n) first new) (sym next)
+    (HasCalls-then first mid new (passings actor count) (passing actor count) before (subst (λ (a : ℕ). HasCalls (passing a count) mid new) is now))
+
+-- the lines that were played, of a pass with the same entries
+module _ (lines : List Asked) (count : ℕ) (old new : PassView) (last : Option ℕ) (text new_text : List ℕ) (first now : GateRecord)
+    (played : HasPlayed lines count old last text) (actor_is : new.actor ≡ old.actor) (own_is : own new.actor new.seen ≡ own old.actor old.seen) (same_text : new_text ≡ text) where
+  pub stays : (calls : ℕ → List GateCall) → HasCalls (calls count) first now → Played calls new.actor lines (part_seen new new_text first now)
+  stays calls asked = record {
+    front = record { count = count; within = played.within; made = subst (AreEntriesOf None (take count lines)) (sym own_is) played.made };
+    answered =
+        same_text ∙ played.answered ∙ ap (λ (es : List Entry). actor_text old.actor (take count lines) es) (sym own_is)
+        ∙ ap (λ (a : ℕ). actor_text a (take count lines) (own new.actor new.seen)) (sym actor_is);
+    asked = asked;
+  }
+
+-- the calls of the lines that were played, and then these
+more_calls : {G : Type 0} (tells : G → GateRecord) (count : ℕ) (first : GateRecord) (actor by : ℕ) (old new : Player G) → by ≡ actor → (more : List GateCall)
+    → HasCalls (passings actor count) first (tells old.gate) → HasCalls more (tells old.gate) (tells new.gate) → HasCalls (passings by count ++ more) first (tells new.gate)
+more_calls tells count first actor by old new is more asked then =
+    subst (λ (a : ℕ). HasCalls (passings a count ++ more) first (tells new.gate)) (sym is)
+    (HasCalls-then first (tells old.gate) (tells new.gate) (passings actor count) more asked then)
+
+-- a player at which the line after these failed
+pub fails_on : {G : Type 0} (tells : G → GateRecord) (lines : List Asked) (count : ℕ) (first : GateRecord) (old_pass : PassView) (old : Player G) (new_pass : PassView) (new : Player G)
+    → first.stops ≤ (tells old.gate).stops → HasPlayed lines count old_pass old.last old.answers.items → HasCalls (passings old_pass.actor count) first (tells old.gate)
+    → IsSamePass old_pass new_pass → new.answers.items ≡ old.answers.items → (end : CrowdEnd) → LineFails tells end count old_pass old new_pass new
+    → PlayerEnds end lines new_pass new.answers.items first (tells new.gate)
+fails_on tells lines count first old_pass old new_pass new kept played asked same unanswered crowd_end.Done failed = absurd failed
+fails_on tells lines count first old_pass old new_pass new kept played asked same unanswered crowd_end.Stopped failed =
+    let actor_is : new_pass.actor ≡ old_pass.actor = ap (λ (p : PassView). p.actor) failed.0 in
+    let own_is : own new_pass.actor new_pass.seen ≡ own old_pass.actor old_pass.seen = ap (λ (p : PassView). own p.actor p.seen) failed.0 in
+    let calls = more_calls tells count first old_pass.actor new_pass.actor old new actor_is [] asked failed.1 in (
+      Rose-later first.stops (tells old.gate).stops (tells new.gate).stops kept failed.2,
+      stays lines count old_pass new_pass old.last old.answers.items new.answers.items first (tells new.gate) played actor_is own_is unanswered (passings new_pass.actor)
+          (subst (λ (cs : List GateCall). HasCalls cs first (tells new.gate)) (append-nil (passings new_pass.actor count)) calls),
     )
-fails_on tells lines count less asked is first old new kept played same crowd_end.Worn failed =
-    let worn = failed.1 in
-    let own_is : own new.pass.actor new.pass.seen ≡ own old.pass.actor old.pass.seen = own-same old.pass new.pass same ∙ own-worn old.pass new.pass failed.0 worn in (
+fails_on tells lines count first old_pass old new_pass new kept played asked same unanswered crowd_end.Worn failed =
+    let worn = failed.0.1 in
+    let actor_is : new_pass.actor ≡ old_pass.actor = ap (λ (p : PassView). p.actor) same in
+    let own_is : own new_pass.actor new_pass.seen ≡ own old_pass.actor old_pass.seen = own-same old_pass new_pass same ∙ own-worn old_pass new_pass failed.0.0 worn in
+    let one = subst (λ (a : ℕ). HasCalls (Before a count ∷ []) (tells old.gate) (tells new.gate)) (sym actor_is) failed.1 in
+    let calls = more_calls tells count first old_pass.actor new_pass.actor old new actor_is (Before new_pass.actor count ∷ []) asked one in (
       worn.long ∙ worn.turns_are,
-      record { count = count; within = played.within; made = subst (AreEntriesOf None (take count lines)) (sym own_is) played.made },
+      stays lines count old_pass new_pass old.last old.answers.items new.answers.items first (tells new.gate) played actor_is own_is unanswered (passings_and_one new_pass.actor) calls,
     )
-fails_on tells lines count less asked is first old new kept played same crowd_end.OutOfMemory failed =
-    record { count = count + 1; within = omega arith; made = made_more lines count less asked is old.pass new.pass old.last old.answers.items played same failed.0 failed.1 }
+fails_on tells lines count first old_pass old new_pass new kept played asked same unanswered crowd_end.OutOfMemory failed =
+    let actor_is : new_pass.actor ≡ old_pass.actor = ap (λ (p : PassView). p.actor) failed.0 in
+    let own_is : own new_pass.actor new_pass.seen ≡ own old_pass.actor old_pass.seen = ap (λ (p : PassView). own p.actor p.seen) failed.0 in
+    let calls = more_calls tells count first old_pass.actor new_pass.actor old new actor_is [] asked failed.1 in
+    stays lines count old_pass new_pass old.last old.answers.items new.answers.items first (tells new.gate) played actor_is own_is unanswered (passings new_pass.actor)
+    (subst (λ (cs : List GateCall). HasCalls cs first (tells new.gate)) (append-nil (passings new_pass.actor count)) calls)
 
 -- all lines were played
-pub played_all : (lines : List Asked) (count : ℕ) → length lines ≤ count → (pass : PassView) (last : Option ℕ) (text : List ℕ) (old new : GateRecord) → HasPlayed lines count pass last text → WorkerEnds crowd_end.Done lines pass text old new
-played_all lines count all pass last text old new played =
-    let whole : take count lines ≡ lines = take_all count lines all in (
-      subst (λ (ls : List Asked). AreEntriesOf None ls (own pass.actor pass.seen)) whole played.made,
-      played.answered ∙ ap (λ (ls : List Asked). actor_text pass.actor ls (own pass.actor pass.seen)) whole,
-    )
-
--- however a worker ended, it made the calls of its first lines
-pub end_front : (end : CrowdEnd) (lines : List Asked) (pass : PassView) (text : List ℕ) (old new : GateRecord) → WorkerEnds end lines pass text old new → IsFront lines (own pass.actor pass.seen)
-end_front crowd_end.Done lines pass text old new ends =
-    record { count = length lines; within = omega arith; made = subst (λ (ls : List Asked). AreEntriesOf None ls (own pass.actor pass.seen)) (sym (take_all (length lines) lines (omega arith))) ends.0 }
-end_front crowd_end.Stopped lines pass text old new ends = ends.1
-end_front crowd_end.Worn lines pass text old new ends = ends.1
-end_front crowd_end.OutOfMemory lines pass text old new ends = ends
+pub played_all : (lines : List Asked) (count : ℕ) → length lines ≤ count → (pass : PassView) (last : Option ℕ) (text : List ℕ) (old new : GateRecord) → HasPlayed lines count pass last text
+    → HasCalls (passings pass.actor count) old new → PlayerEnds crowd_end.Done lines pass text old new
+played_all lines count all pass last text old new played asked =
+    let whole : take count lines ≡ lines = take_all count lines all in
+    let is : count ≡ length lines = let within = played.within in omega arith in
+    record {
+      made = subst (λ (ls : List Asked). AreEntriesOf None ls (own pass.actor pass.seen)) whole played.made;
+      answered = played.answered ∙ ap (λ (ls : List Asked). actor_text pass.actor ls (own pass.actor pass.seen)) whole;
+      asked = subst (λ (n : ℕ). HasCalls (passings pass.actor n) old new) is asked;
+    }

@@ -1,28 +1,30 @@
--- What all workers together did.
-use Rattle.std.proofs.Common.{◌≡◌, ℕ, zero, suc, ◌+◌, ◌-◌, ◌^◌, ◌<◌, ◌≤◌, ◌⊎◌, Vec, Global, List, [], ◌∷◌, ◌++◌, length, map, reverse, get_or, None, refl, sym, ap, subst, ◌∙◌, inl, inr, arith, length-append}
+-- What all players together did.
+use Rattle.std.proofs.Common.{◌≡◌, ℕ, zero, suc, ◌+◌, ◌^◌, ◌<◌, ◌≤◌, Vec, Global, List, [], ◌∷◌, length, map, take, get_or, None, Result, Ok, Err, refl, sym, ap, subst, ◌∙◌, inl, inr, arith, length-append, append-nil}
+use Rattle.std.specs.Prelude.{OnOk, OnErr}
 use Rattle.std.specs.List.{All, range_with_len}
-use Rattle.std.proofs.lemmas.List.{length-map, length-reverse, get_or-map, get_or-reverse}
+use Rattle.std.proofs.lemmas.List.{length-map, get_or-map, take_all}
 use Rattle.std.proofs.lemmas.List.FromFn.{length-map-range_with_len, get_or-map-range_with_len}
-use mathlib.Core.List.{IsPrefix}
 use Rattle.ldm_outside.specs.Count.{Rose}
-use Rattle.ldm_outside.specs.Gate.{GateRecord}
+use Rattle.ldm_outside.specs.Gate.{GateRecord, HasCalls}
+use Rattle.ldm_outside.proofs.GateLemmas.{HasCalls-none}
 use Rattle.ldm_model.specs.declared.event.Entry.{Entry}
 use Rattle.ldm_script.specs.Order.{Asked}
+use Rattle.ldm_model.specs.History.{IsLegal}
 use Rattle.ldm_shared.specs.Own.{own, AreBelow}
-use Rattle.ldm_shared.specs.Passes.{SharedView, PassView, IsPassOf, IsLast, IsSamePass, HasAllOf, AreAllOf, new_pass}
-use Rattle.ldm_shared.proofs.CallerLemmas.{new_are_all, still_are_all}
+use Rattle.ldm_shared.specs.Passes.{SharedView, PassView, IsLast, HasAllOf, new_pass}
+use Rattle.ldm_workers.specs.Work.{AllWorked}
 use Rattle.ldm_crowd.specs.declared.outcome.CrowdEnd.{CrowdEnd}
 use Rattle.ldm_crowd.specs.declared.outcome.CrowdEnd.TheVariants as crowd_end
-use Rattle.ldm_crowd.specs.declared.worker.Worker.{Worker}
-use Rattle.ldm_crowd.specs.Crowd.{CrowdEnds, StopsKept}
+use Rattle.ldm_crowd.specs.declared.player.Worker.{Worker}
+use Rattle.ldm_crowd.specs.Crowd.{CrowdEnds, HasCome, Outcome, StopsKept, gate_of}
 use Rattle.ldm_crowd.specs.Lines.{AreEntriesOf}
-use Rattle.ldm_crowd.specs.Interleaving.{IsBegun, IsFront, IsInterleaving, actor_text, lines_of_actor, texts_from}
-use Rattle.ldm_crowd.specs.Workers.{Begins, IsNew, Plays, WorkerEnds}
+use Rattle.ldm_crowd.specs.Interleaving.{actor_text, lines_of_actor, texts_from}
+use Rattle.ldm_crowd.specs.Parts.{Part, Came, passings}
+use Rattle.ldm_crowd.specs.Players.{Begins, IsNew, Plays, PlayerEnds, part_seen}
 use Rattle.ldm_crowd.specs.Ends.{first_end, or_end}
-use Rattle.ldm_crowd.proofs.Fronts.{end_front}
 
 -- the element of a place
-pub element : {X : Type 0} (xs : List X) (i : ℕ) → i < length xs → (x : X) × ((d : X) → get_or xs i d ≡ x)
+element : {X : Type 0} (xs : List X) (i : ℕ) → i < length xs → (x : X) × ((d : X) → get_or xs i d ≡ x)
 element [] i less = absurd (omega arith)
 element (x ∷ xs) zero less = (x, λ d. refl)
 element (x ∷ xs) (suc i) less = element xs i (omega arith)
@@ -59,226 +61,265 @@ texts_are (lines ∷ script) (text ∷ texts) first history same each =
 
 -- what is taken from a worker
 module _ {G : Type 0} where
-  abbrev pub pass_of : Worker G → PassView
-  pass_of worker = worker.pass
-
-  abbrev pub gate_of : Worker G → G
-  gate_of worker = worker.gate
+  abbrev pub player_gate : Worker G → G
+  player_gate worker = worker.player.gate
 
   abbrev pub answers_of : Worker G → Vec ℕ Global
-  answers_of worker = worker.answers
-
-  abbrev pub text_of : Worker G → List ℕ
-  text_of worker = worker.answers.items
+  answers_of worker = worker.player.answers
 
   abbrev pub end_of : Worker G → CrowdEnd
-  end_of worker = worker.end
+  end_of worker = worker.player.end
 
-  abbrev pub stops_by : (G → GateRecord) → Worker G → ℕ
-  stops_by tells worker = (tells worker.gate).stops
+  -- what a worker does
+  abbrev pub plays_lines : (G → GateRecord) → List (List Asked) → PassView → Worker G → PassView → Worker G → Type 0
+  plays_lines tells script old_pass old new_pass new = Plays tells script old_pass old.player new_pass new.player
 
--- the workers of a crowd, before and after, in the order of their actors
-module _ {G : Type 0} (tells : G → GateRecord) (shared : SharedView) (script : List (List Asked)) (olds news : List (Worker G))
-    (passes : map pass_of olds ≡ map (new_pass shared) (range_with_len 0 shared.passes)) (actors : length script ≡ shared.passes)
-    (count : length news ≡ length olds) (each : (i : ℕ) (d : Worker G) → i < length olds → Plays tells script (get_or olds i d) (get_or news i d)) where
-  size : length olds ≡ shared.passes
-  size = sym (length-map olds pass_of) ∙ ap length passes ∙ length-map-range_with_len (new_pass shared) 0 shared.passes
+-- however a player ended, it came so far
+end_came : (end : CrowdEnd) (lines : List Asked) (pass : PassView) (text : List ℕ) (old new : GateRecord) → PlayerEnds end lines pass text old new → Came pass.actor lines (part_seen pass text old new)
+end_came crowd_end.Done lines pass text old new ends =
+    let whole : take (length lines) lines ≡ lines = take_all (length lines) lines (omega arith) in
+    inl (record {
+      front = record { count = length lines; within = omega arith; made = subst (λ (ls : List Asked). AreEntriesOf None ls (own pass.actor pass.seen)) (sym whole) ends.made };
+      answered = ends.answered ∙ ap (λ (ls : List Asked). actor_text pass.actor ls (own pass.actor pass.seen)) (sym whole);
+      asked = ends.asked;
+    })
+end_came crowd_end.Stopped lines pass text old new ends = inl ends.1
+end_came crowd_end.Worn lines pass text old new ends = inr ends.1
+end_came crowd_end.OutOfMemory lines pass text old new ends = inl ends
 
-  begun : (i : ℕ) (d : Worker G) → i < length olds → (get_or olds i d).pass ≡ new_pass shared i
-  begun i d less =
-      let p : PassView = new_pass shared 0 in
-      sym (get_or-map pass_of olds i d p less) ∙ ap (λ (ps : List PassView). get_or ps i p) passes
-      ∙ get_or-map-range_with_len (new_pass shared) 0 shared.passes i i p (omega (arith, size)) (omega arith)
+-- the same of what is seen in other words
+came_as : (actor by : ℕ) (lines : List Asked) (entries seen : List Entry) (text told : List ℕ) (before first now last : GateRecord)
+    → by ≡ actor → entries ≡ seen → text ≡ told → before ≡ first → now ≡ last
+    → Came by lines (record { entries = seen; text = told; gate_before = first; gate = last }) → Came actor lines (record { entries = entries; text = text; gate_before = before; gate = now })
+came_as actor by lines entries seen text told before first now last actor_is entries_are text_is before_is now_is came =
+    subst (λ (a : ℕ). Came a lines (record { entries = entries; text = text; gate_before = before; gate = now })) actor_is
+    (subst (λ (es : List Entry). Came by lines (record { entries = es; text = text; gate_before = before; gate = now })) (sym entries_are)
+    (subst (λ (t : List ℕ). Came by lines (record { entries = seen; text = t; gate_before = before; gate = now })) (sym text_is)
+    (subst (λ (r : GateRecord). Came by lines (record { entries = seen; text = told; gate_before = r; gate = now })) (sym before_is)
+    (subst (λ (r : GateRecord). Came by lines (record { entries = seen; text = told; gate_before = first; gate = r })) (sym now_is) came))))
 
-  actor_of : (i : ℕ) (d : Worker G) → i < length olds → (get_or news i d).pass.actor ≡ i
-  actor_of i d less = ap (λ (p : PassView). p.actor) ((each i d less).same) ∙ ap (λ (p : PassView). p.actor) (begun i d less)
+-- what the gate of a worker tells
+gate_at : {G : Type 0} (tells : G → GateRecord) (workers : List (Worker G)) (gates : List G) → gates ≡ map player_gate workers
+    → (i : ℕ) (d : Worker G) → i < length workers → gate_of (map tells gates) i ≡ tells (get_or workers i d).player.gate
+gate_at tells workers gates is i d less =
+    let none : GateRecord = record { stops = 0; calls = None } in
+    get_or-map tells gates i d.player.gate none (omega (arith, less, ap length is, length-map workers player_gate))
+    ∙ ap tells (ap (λ gs. get_or gs i d.player.gate) is ∙ get_or-map player_gate workers i d d.player.gate less)
 
-  -- all passes come back
-  pub come_back : AreAllOf shared (map pass_of news)
-  come_back =
-      still_are_all shared (map pass_of olds) (map pass_of news)
-      (subst (AreAllOf shared) (sym passes) (new_are_all shared))
-      (length-map news pass_of ∙ count ∙ sym (length-map olds pass_of))
-      (λ i d less.
-      let inside : i < length olds = omega (arith, length-map olds pass_of) in
-      let old = element olds i inside in
-      subst (λ (p : PassView). IsSamePass p (get_or (map pass_of news) i d)) (sym (get_or-map pass_of olds i old.0 d inside))
-      (subst (λ (p : PassView). IsSamePass (get_or olds i old.0).pass p) (sym (get_or-map pass_of news i old.0 d (omega (arith, count))))
-      ((each i old.0 inside).same)))
+-- what a worker was answered
+text_at : {G : Type 0} (workers : List (Worker G)) (answers : List (Vec ℕ Global)) → answers ≡ map answers_of workers
+    → (i : ℕ) (d : Worker G) (e : List ℕ) → i < length workers → get_or (map (λ text. text.items) answers) i e ≡ (get_or workers i d).player.answers.items
+text_at workers answers is i d e less =
+    get_or-map (λ (text : Vec ℕ Global). text.items) answers i d.player.answers e (omega (arith, less, ap length is, length-map workers answers_of))
+    ∙ ap (λ (text : Vec ℕ Global). text.items) (ap (λ vs. get_or vs i d.player.answers) is ∙ get_or-map answers_of workers i d d.player.answers less)
 
-  -- the gates' counts did not fall
-  pub gates_kept : StopsKept (map (stops_by tells) olds) (map (stops_by tells) news)
-  gates_kept = record {
-    count = length-map news (stops_by tells) ∙ count ∙ sym (length-map olds (stops_by tells));
-    kept = λ i less.
-        let inside : i < length olds = omega (arith, length-map olds (stops_by tells)) in
-        let old = element olds i inside in
-        let before = get_or-map (stops_by tells) olds i old.0 0 inside in
-        let after = get_or-map (stops_by tells) news i old.0 0 (omega (arith, count)) in
-        omega (arith, before, after, (each i old.0 inside).stops_kept);
+-- the workers of a crowd that played, before and after
+module _ {G : Type 0} (tells : G → GateRecord) (shared : SharedView) (script : List (List Asked)) (olds news : List (Worker G)) (last : PassView)
+    (is_last : IsLast shared last) (actors : length script ≡ shared.passes) (size : length olds ≡ shared.passes) (count : length news ≡ length olds)
+    (worked : AllWorked (plays_lines tells script) shared last olds news)
+    (old_gates new_gates : List G) (old_is : old_gates ≡ map player_gate olds) (new_is : new_gates ≡ map player_gate news)
+    (answers : List (Vec ℕ Global)) (answers_are : answers ≡ map answers_of news) where
+  abbrev outcome : Outcome
+  outcome = record {
+    history = last.seen;
+    answers = map (λ text. text.items) answers;
+    gates_before = map tells old_gates;
+    gates = map tells new_gates;
   }
 
-  module _ (last : PassView) (is_last : IsLast shared last) (all : All (HasAllOf last) (map pass_of news)) where
-    below : AreBelow (length script) last.seen
-    below = subst (λ (n : ℕ). AreBelow n last.seen) (ap (λ (p : PassView). p.passes) is_last.ended ∙ sym actors) is_last.has_seen.below
+  below : AreBelow (length script) last.seen
+  below = subst (λ (n : ℕ). AreBelow n last.seen) (ap (λ (p : PassView). p.passes) is_last.ended ∙ sym actors) is_last.has_seen.below
 
-    has_all : (i : ℕ) (d : Worker G) → i < length olds → HasAllOf last (get_or news i d).pass
-    has_all i d less =
-        let inside : i < length news = omega (arith, count) in
-        let p : PassView = last in
-        subst (HasAllOf last) (get_or-map pass_of news i d p inside) (all i p (omega (arith, length-map news pass_of)))
+  actor_is : (i : ℕ) (d : Worker G) (less : i < length olds) → (worked i d less).pass.actor ≡ i
+  actor_is i d less = ap (λ (p : PassView). p.actor) (worked i d less).same
 
-    -- the history has just the entries that a worker's pass saw of its own
-    own_of : (i : ℕ) (d : Worker G) → i < length olds → own i last.seen ≡ own (get_or news i d).pass.actor (get_or news i d).pass.seen
-    own_of i d less = ap (λ (a : ℕ). own a last.seen) (sym (actor_of i d less)) ∙ (has_all i d less).own
+  own_is : (i : ℕ) (d : Worker G) (less : i < length olds) → own i last.seen ≡ own (worked i d less).pass.actor (worked i d less).pass.seen
+  own_is i d less =
+      let did = worked i d less in
+      ap (λ (a : ℕ). own a last.seen) (sym (actor_is i d less)) ∙ did.has_all.own ∙ append-nil (own did.pass.actor did.pass.seen)
 
-    ended : (i : ℕ) (d : Worker G) → i < length olds → WorkerEnds (get_or news i d).end (lines_of_actor script i) (get_or news i d).pass (get_or news i d).answers.items (tells (get_or olds i d).gate) (tells (get_or news i d).gate)
-    ended i d less =
-        let plays = each i d less in
-        subst (λ (a : ℕ). WorkerEnds (get_or news i d).end (lines_of_actor script a) (get_or news i d).pass (get_or news i d).answers.items (tells (get_or olds i d).gate) (tells (get_or news i d).gate))
-        (ap (λ (p : PassView). p.actor) (begun i d less)) plays.ended
+  came_at : (i : ℕ) → i < length script → Came i (lines_of_actor script i) (record {
+    entries = own i last.seen;
+    text = get_or (map (λ text. text.items) answers) i [];
+    gate_before = gate_of (map tells old_gates) i;
+    gate = gate_of (map tells new_gates) i;
+  })
+  came_at i less =
+      let inside : i < length olds = omega (arith, size, actors) in
+      let there : i < length news = omega (arith, count) in
+      let d = (element olds i inside).0 in
+      let did = worked i d inside in
+      let old = get_or olds i d in
+      let new = get_or news i d in
+      came_as i did.pass.actor (lines_of_actor script i) (own i last.seen) (own did.pass.actor did.pass.seen) (get_or (map (λ text. text.items) answers) i []) new.player.answers.items
+      (gate_of (map tells old_gates) i) (tells old.player.gate) (gate_of (map tells new_gates) i) (tells new.player.gate)
+      (actor_is i d inside) (own_is i d inside) (text_at news answers answers_are i d [] there) (gate_at tells olds old_gates old_is i d inside) (gate_at tells news new_gates new_is i d there)
+      (end_came new.player.end (lines_of_actor script i) did.pass new.player.answers.items (tells old.player.gate) (tells new.player.gate) did.works.ended)
 
-    is_begun : IsBegun script last.seen
-    is_begun = record {
-      below = below;
-      each = λ i less.
-          let inside : i < length olds = omega (arith, size, actors) in
-          let d = (element olds i inside).0 in
-          let new = get_or news i d in
-          subst (IsFront (lines_of_actor script i)) (sym (own_of i d inside)) (end_front new.end (lines_of_actor script i) new.pass new.answers.items (tells (get_or olds i d).gate) (tells new.gate) (ended i d inside));
-    }
+  has_come : HasCome script outcome
+  has_come = record { below = below; each = came_at }
 
-    done_at : ((k : ℕ) (d : CrowdEnd) → k < length (map end_of news) → get_or (map end_of news) k d ≡ crowd_end.Done) → (i : ℕ) → i < length script
-        → AreEntriesOf None (lines_of_actor script i) (own i last.seen)
-        × ((d : List ℕ) → get_or (map text_of news) i d ≡ actor_text i (lines_of_actor script i) (own i last.seen))
-    done_at done i less =
-        let inside : i < length olds = omega (arith, size, actors) in
+  done_at : first_end (map end_of news) ≡ crowd_end.Done → (i : ℕ) → i < length script
+      → AreEntriesOf None (lines_of_actor script i) (own i last.seen)
+      × ((e : List ℕ) → get_or (map (λ text. text.items) answers) i e ≡ actor_text i (lines_of_actor script i) (own i last.seen))
+      × HasCalls (passings i (length (lines_of_actor script i))) (gate_of (map tells old_gates) i) (gate_of (map tells new_gates) i)
+  done_at done i less =
+      let inside : i < length olds = omega (arith, size, actors) in
+      let there : i < length news = omega (arith, count) in
+      let d = (element olds i inside).0 in
+      let did = worked i d inside in
+      let old = get_or olds i d in
+      let new = get_or news i d in
+      let lines = lines_of_actor script i in
+      let is : new.player.end ≡ crowd_end.Done =
+      sym (get_or-map end_of news i d crowd_end.Done there) ∙ all_from (map end_of news) done i crowd_end.Done (omega (arith, length-map news end_of)) in
+      let ends = subst (λ (e : CrowdEnd). PlayerEnds e lines did.pass new.player.answers.items (tells old.player.gate) (tells new.player.gate)) is did.works.ended in (
+        subst (AreEntriesOf None lines) (sym (own_is i d inside)) ends.made,
+        λ e.
+            text_at news answers answers_are i d e there ∙ ends.answered
+            ∙ ap (λ (a : ℕ). actor_text a lines (own did.pass.actor did.pass.seen)) (actor_is i d inside)
+            ∙ ap (actor_text i lines) (sym (own_is i d inside)),
+        subst (λ (r : GateRecord). HasCalls (passings i (length lines)) r (gate_of (map tells new_gates) i)) (sym (gate_at tells olds old_gates old_is i d inside))
+            (subst (λ (r : GateRecord). HasCalls (passings i (length lines)) (tells old.player.gate) r) (sym (gate_at tells news new_gates new_is i d there))
+            (subst (λ (a : ℕ). HasCalls (passings a (length lines)) (tells old.player.gate) (tells new.player.gate)) (actor_is i d inside) ends.asked)),
+      )
+
+  -- the worker of the first end that is not Done
+  first_at : (e : CrowdEnd) → first_end (map end_of news) ≡ e → (e ≡ crowd_end.Done → ⊥)
+      → (i : ℕ) × (d : Worker G) × (less : i < length olds)
+      × PlayerEnds e (lines_of_actor script i) (worked i d less).pass (get_or news i d).player.answers.items (tells (get_or olds i d).player.gate) (tells (get_or news i d).player.gate)
+  first_at e is not =
+      let at = place_of (map end_of news) (λ done. not (sym is ∙ done)) in
+      let there : at.0 < length news = let less = at.1 in omega (arith, length-map news end_of) in
+      let inside : at.0 < length olds = omega (arith, count) in
+      let d = (element olds at.0 inside).0 in
+      let did = worked at.0 d inside in
+      let new = get_or news at.0 d in
+      let end_is : new.player.end ≡ e = sym (get_or-map end_of news at.0 d e there) ∙ at.2 e ∙ is in
+      (at.0, d, inside, subst (λ (x : CrowdEnd). PlayerEnds x (lines_of_actor script at.0) did.pass new.player.answers.items (tells (get_or olds at.0 d).player.gate) (tells new.player.gate)) end_is did.works.ended)
+
+  -- the end of the crowd, by that of the first worker that did not play all its lines
+  pub crowd_ends : (e : CrowdEnd) → first_end (map end_of news) ≡ e → CrowdEnds e script outcome
+  crowd_ends crowd_end.Done is = (
+    record { below = below; each = λ i less. (done_at is i less).0 },
+    texts_are script (map (λ text. text.items) answers) 0 last.seen (length-map answers (λ text. text.items) ∙ ap length answers_are ∙ length-map news answers_of ∙ count ∙ size ∙ sym actors)
+        (λ k d less. (done_at is k less).1 d ∙ ap (λ (a : ℕ). actor_text a (get_or script k []) (own a last.seen)) (omega arith)),
+    λ i less. (done_at is i less).2,
+  )
+  crowd_ends crowd_end.Stopped is =
+      let at = first_at crowd_end.Stopped is (λ e. absurd (cc e)) in
+      let there : at.0 < length news = let less = at.2 in omega (arith, count) in (
+        has_come,
+        (
+          at.0,
+          (let less = at.2 in omega (arith, size, actors)),
+          subst (λ (r : GateRecord). Rose r.stops (gate_of (map tells new_gates) at.0).stops) (sym (gate_at tells olds old_gates old_is at.0 at.1 at.2))
+              (subst (λ (r : GateRecord). Rose (tells (get_or olds at.0 at.1).player.gate).stops r.stops) (sym (gate_at tells news new_gates new_is at.0 at.1 there)) at.3.0),
+        ),
+      )
+  crowd_ends crowd_end.Worn is =
+      let at = first_at crowd_end.Worn is (λ e. absurd (cc e)) in
+      let did = worked at.0 at.1 at.2 in
+      let begins = did.has_all.begins in
+      let long : length last.seen ≡ length did.pass.seen + length begins.0 = ap length (sym begins.1) ∙ length-append did.pass.seen begins.0 in
+      let few = is_last.has_seen.few in
+      (has_come, omega (arith, long, at.3.0, few))
+  crowd_ends crowd_end.OutOfMemory is = has_come
+
+  -- no gate's count fell
+  pub stops_kept : StopsKept (map tells old_gates) (map tells new_gates)
+  stops_kept = record {
+    count =
+        length-map new_gates tells ∙ ap length new_is ∙ length-map news player_gate ∙ count ∙ sym (length-map olds player_gate) ∙ sym (ap length old_is)
+        ∙ sym (length-map old_gates tells);
+    kept = λ i less.
+        let inside : i < length olds = omega (arith, less, length-map old_gates tells, ap length old_is, length-map olds player_gate) in
         let there : i < length news = omega (arith, count) in
         let d = (element olds i inside).0 in
-        let new = get_or news i d in
-        let lines = lines_of_actor script i in
-        let is : new.end ≡ crowd_end.Done = sym (get_or-map end_of news i d crowd_end.Done there) ∙ done i crowd_end.Done (omega (arith, length-map news end_of)) in
-        let ends = subst (λ (e : CrowdEnd). WorkerEnds e lines new.pass new.answers.items (tells (get_or olds i d).gate) (tells new.gate)) is (ended i d inside) in (
-          subst (AreEntriesOf None lines) (sym (own_of i d inside)) ends.0,
-          λ e.
-              get_or-map text_of news i d e there ∙ ends.1
-              ∙ ap (λ (a : ℕ). actor_text a lines (own new.pass.actor new.pass.seen)) (actor_of i d inside)
-              ∙ ap (actor_text i lines) (sym (own_of i d inside)),
-        )
+        let kept = (worked i d inside).works.stops_kept in
+        subst (λ (r : GateRecord). r.stops ≤ (gate_of (map tells new_gates) i).stops) (sym (gate_at tells olds old_gates old_is i d inside))
+        (subst (λ (r : GateRecord). (tells (get_or olds i d).player.gate).stops ≤ r.stops) (sym (gate_at tells news new_gates new_is i d there)) kept);
+  }
 
-    -- the worker of the first end that is not Done
-    first_at : (e : CrowdEnd) → first_end (map end_of news) ≡ e → (e ≡ crowd_end.Done → ⊥)
-        → (i : ℕ) × (d : Worker G) × (i < length olds) × WorkerEnds e (lines_of_actor script i) (get_or news i d).pass (get_or news i d).answers.items (tells (get_or olds i d).gate) (tells (get_or news i d).gate)
-    first_at e is not =
-        let at = place_of (map end_of news) (λ done. not (sym is ∙ done)) in
-        let there : at.0 < length news = let less = at.1 in omega (arith, length-map news end_of) in
-        let inside : at.0 < length olds = omega (arith, count) in
-        let d = (element olds at.0 inside).0 in
-        let new = get_or news at.0 d in
-        let end_is : new.end ≡ e = sym (get_or-map end_of news at.0 d e there) ∙ at.2 e ∙ is in
-        (at.0, d, inside, subst (λ (x : CrowdEnd). WorkerEnds x (lines_of_actor script at.0) new.pass new.answers.items (tells (get_or olds at.0 d).gate) (tells new.gate)) end_is (ended at.0 d inside))
-
-    -- the end of the crowd, by that of the first worker that did not play all its lines
-    pub crowd_ends : (e : CrowdEnd) → first_end (map end_of news) ≡ e
-        → CrowdEnds e script last.seen (map text_of news) (map (stops_by tells) olds) (map (stops_by tells) news)
-    crowd_ends crowd_end.Done is =
-        let done = done_at (all_from (map end_of news) is) in (
-          record { below = below; each = λ i less. (done i less).0 },
-          texts_are script (map text_of news) 0 last.seen (length-map news text_of ∙ count ∙ size ∙ sym actors)
-              (λ k d less. (done k less).1 d ∙ ap (λ (a : ℕ). actor_text a (get_or script k []) (own a last.seen)) (omega arith)),
-        )
-    crowd_ends crowd_end.Stopped is =
-        let at = first_at crowd_end.Stopped is (λ e. absurd (cc e)) in
-        let old_is = get_or-map (stops_by tells) olds at.0 at.1 0 at.2 in
-        let new_is = get_or-map (stops_by tells) news at.0 at.1 0 (let less = at.2 in omega (arith, count)) in (
-          is_begun,
-          (
-            at.0,
-            (let less = at.2 in omega (arith, size, actors)),
-            subst (λ (n : ℕ). Rose n (get_or (map (stops_by tells) news) at.0 0)) (sym old_is)
-                (subst (λ (n : ℕ). Rose (tells (get_or olds at.0 at.1).gate).stops n) (sym new_is) at.3.0),
-          ),
-        )
-    crowd_ends crowd_end.Worn is =
-        let at = first_at crowd_end.Worn is (λ e. absurd (cc e)) in
-        let begins = (has_all at.0 at.1 at.2).begins in
-        let seen = (get_or news at.0 at.1).pass.seen in
-        let long : length last.seen ≡ length seen + length begins.0 = ap length (sym begins.1) ∙ length-append seen begins.0 in
-        let few = is_last.has_seen.few in
-        (is_begun, omega (arith, long, at.3.0, few))
-    crowd_ends crowd_end.OutOfMemory is = is_begun
-
-map-map : {X Y Z : Type 0} (f : X → Y) (g : Y → Z) (xs : List X) → map g (map f xs) ≡ map (λ x. g (f x)) xs
-map-map f g [] = refl
-map-map f g (x ∷ xs) = ap (λ ys. g (f x) ∷ ys) (map-map f g xs)
-
--- the same, of what is taken from the workers
-module _ {G : Type 0} (tells : G → GateRecord) (shared : SharedView) (script : List (List Asked)) (olds news : List (Worker G))
-    (passes : map pass_of olds ≡ map (new_pass shared) (range_with_len 0 shared.passes)) (actors : length script ≡ shared.passes)
-    (count : length news ≡ length olds) (each : (i : ℕ) (d : Worker G) → i < length olds → Plays tells script (get_or olds i d) (get_or news i d))
-    (old_gates new_gates : List G) (old_is : old_gates ≡ map gate_of olds) (new_is : new_gates ≡ map gate_of news) where
-  before : map (λ gate. (tells gate).stops) old_gates ≡ map (stops_by tells) olds
-  before = ap (λ gates. map (λ gate. (tells gate).stops) gates) old_is ∙ map-map gate_of (λ gate. (tells gate).stops) olds
-
-  after : map (λ gate. (tells gate).stops) new_gates ≡ map (stops_by tells) news
-  after = ap (λ gates. map (λ gate. (tells gate).stops) gates) new_is ∙ map-map gate_of (λ gate. (tells gate).stops) news
-
-  pub crowd_stops : StopsKept (map (λ gate. (tells gate).stops) old_gates) (map (λ gate. (tells gate).stops) new_gates)
-  crowd_stops =
-      subst (λ (xs : List ℕ). StopsKept xs (map (λ gate. (tells gate).stops) new_gates)) (sym before)
-      (subst (StopsKept (map (stops_by tells) olds)) (sym after) (gates_kept tells shared script olds news passes actors count each))
-
-  pub crowd_result : (last : PassView) → IsLast shared last → All (HasAllOf last) (map pass_of news) → (answers : List (Vec ℕ Global)) → answers ≡ map answers_of news
-      → (end : CrowdEnd) → end ≡ first_end (map end_of news)
-      → CrowdEnds end script last.seen (map (λ text. text.items) answers) (map (λ gate. (tells gate).stops) old_gates) (map (λ gate. (tells gate).stops) new_gates)
-  crowd_result last is_last all answers answers_are end end_is =
-      let texts : map (λ text. text.items) answers ≡ map text_of news = ap (λ (vs : List (Vec ℕ Global)). map (λ text. text.items) vs) answers_are ∙ map-map answers_of (λ text. text.items) news in
-      subst (λ (ts : List (List ℕ)). CrowdEnds end script last.seen ts (map (λ gate. (tells gate).stops) old_gates) (map (λ gate. (tells gate).stops) new_gates)) (sym texts)
-      (subst (λ (xs : List ℕ). CrowdEnds end script last.seen (map text_of news) xs (map (λ gate. (tells gate).stops) new_gates)) (sym before)
-      (subst (λ (xs : List ℕ). CrowdEnds end script last.seen (map text_of news) (map (stops_by tells) olds) xs) (sym after)
-      (crowd_ends tells shared script olds news passes actors count each last is_last all end (sym end_is))))
-
--- passes with which no call was made
-pub none_begun : (shared : SharedView) (script : List (List Asked)) (passes : List PassView) (last : PassView) → passes ≡ map (new_pass shared) (range_with_len 0 shared.passes)
-    → length script ≡ shared.passes → IsLast shared last → All (HasAllOf last) passes → IsBegun script last.seen
-none_begun shared script passes last are actors is_last all = record {
-  below = subst (λ (n : ℕ). AreBelow n last.seen) (ap (λ (p : PassView). p.passes) is_last.ended ∙ sym actors) is_last.has_seen.below;
+-- nobody made a call
+none_came : (script : List (List Asked)) (outcome : Outcome) → AreBelow (length script) outcome.history → ((i : ℕ) → i < length script → own i outcome.history ≡ [])
+    → ((i : ℕ) → i < length script → get_or outcome.answers i [] ≡ []) → outcome.gates ≡ outcome.gates_before → HasCome script outcome
+none_came script outcome below unseen unanswered same = record {
+  below = below;
   each = λ i less.
-      let size = length-map-range_with_len (new_pass shared) 0 shared.passes in
-      let here : get_or passes i last ≡ new_pass shared i = ap (λ (ps : List PassView). get_or ps i last) are ∙ get_or-map-range_with_len (new_pass shared) 0 shared.passes i i last (omega arith) (omega arith) in
-      let has = subst (HasAllOf last) here (all i last (omega (arith, size, ap length are))) in
-      record { count = 0; within = omega arith; made = has.own };
+      inl (record {
+        front = record { count = 0; within = omega arith; made = unseen i less };
+        answered = unanswered i less;
+        asked = HasCalls-none (gate_of outcome.gates_before i) (gate_of outcome.gates i) (ap (λ (gs : List GateRecord). (gate_of gs i).calls) same);
+      });
 }
 
-pub stops_same : (stops : List ℕ) → StopsKept stops stops
-stops_same stops = record { count = refl; kept = λ i less. omega arith }
+-- there was no memory for the workers
+pub none_made : {G : Type 0} (tells : G → GateRecord) (shared : SharedView) (script : List (List Asked)) (passes : List PassView) (last : PassView) (gates : List G)
+    → passes ≡ map (new_pass shared) (range_with_len 0 shared.passes) → length script ≡ shared.passes → IsLast shared last → All (HasAllOf last) passes
+    → HasCome script (record { history = last.seen; answers = []; gates_before = map tells gates; gates = map tells gates })
+none_made tells shared script passes last gates are actors is_last all =
+    none_came script (record { history = last.seen; answers = []; gates_before = map tells gates; gates = map tells gates })
+    (subst (λ (n : ℕ). AreBelow n last.seen) (ap (λ (p : PassView). p.passes) is_last.ended ∙ sym actors) is_last.has_seen.below)
+    (λ i less.
+    let size = length-map-range_with_len (new_pass shared) 0 shared.passes in
+    let here : get_or passes i last ≡ new_pass shared i =
+    ap (λ (ps : List PassView). get_or ps i last) are ∙ get_or-map-range_with_len (new_pass shared) 0 shared.passes i i last (omega arith) (omega arith) in
+    (subst (HasAllOf last) here (all i last (omega (arith, size, ap length are)))).own)
+    (λ i less. refl) refl
 
--- workers with new passes begin
-pub all_begin : {G : Type 0} (shared : SharedView) (script : List (List Asked)) (workers : List (Worker G)) → map pass_of (reverse workers) ≡ map (new_pass shared) (range_with_len 0 shared.passes)
-    → length script ≡ shared.passes → All IsNew workers → All (Begins shared script) workers
-all_begin shared script workers passes actors new k d less =
-    let size : length workers ≡ shared.passes =
-    sym (length-reverse workers) ∙ sym (length-map (reverse workers) pass_of) ∙ ap length passes ∙ length-map-range_with_len (new_pass shared) 0 shared.passes in
-    let at = length workers - 1 - k in
-    let p : PassView = new_pass shared 0 in
-    let back : get_or (reverse workers) at d ≡ get_or workers k d = get_or-reverse workers at d (omega arith) ∙ ap (λ (n : ℕ). get_or workers n d) (omega arith) in
-    let is : (get_or workers k d).pass ≡ new_pass shared at =
-    ap pass_of (sym back) ∙ sym (get_or-map pass_of (reverse workers) at d p (omega (arith, length-reverse workers))) ∙ ap (λ (ps : List PassView). get_or ps at p) passes
-    ∙ get_or-map-range_with_len (new_pass shared) 0 shared.passes at at p (omega (arith, size)) (omega arith) in
-    record {
-      of = subst (IsPassOf shared) (sym is) (record { queue = refl; arena = refl; slots = refl; passes = refl });
-      unseen = ap (λ (v : PassView). v.seen) is;
-      actor = let a = ap (λ (v : PassView). v.actor) is in omega (arith, a, size, actors);
-      unopened = (new k d less).0;
-      unanswered = (new k d less).1;
-    }
+-- there was none for their passes
+pub none_began : {G : Type 0} (tells : G → GateRecord) (script : List (List Asked)) (workers : List (Worker G)) (seen : List Entry) (gates left : List G) (answers : List (Vec ℕ Global))
+    → seen ≡ [] → length workers ≡ length script → gates ≡ map player_gate workers → left ≡ map player_gate workers → answers ≡ map answers_of workers → All IsNew workers
+    → HasCome script (record { history = seen; answers = map (λ text. text.items) answers; gates_before = map tells gates; gates = map tells left })
+none_began tells script workers seen gates left answers unseen size gates_are left_are answers_are new =
+    none_came script (record { history = seen; answers = map (λ text. text.items) answers; gates_before = map tells gates; gates = map tells left })
+    (subst (AreBelow (length script)) (sym unseen) tt)
+    (λ i less. ap (own i) unseen)
+    (λ i less.
+    let inside : i < length workers = omega arith in
+    let d = (element workers i inside).0 in
+    text_at workers answers answers_are i d [] inside ∙ (new i d inside).1)
+    (ap (map tells) (left_are ∙ sym gates_are))
 
--- two lists of workers, seen from their ends
-pub seen_from_end : {X : Type 0} (R : X → X → Type 0) (xs ys : List X) → length ys ≡ length xs → ((i : ℕ) (d : X) → i < length xs → R (get_or xs i d) (get_or ys i d))
-    → (i : ℕ) (d : X) → i < length (reverse xs) → R (get_or (reverse xs) i d) (get_or (reverse ys) i d)
-seen_from_end R xs ys same each i d less =
-    let inside : i < length xs = omega (arith, length-reverse xs) in
-    let at = length xs - 1 - i in
-    subst (λ x. R x (get_or (reverse ys) i d)) (sym (get_or-reverse xs i d inside))
-    (subst (λ y. R (get_or xs at d) y) (sym (get_or-reverse ys i d (omega arith) ∙ ap (λ (n : ℕ). get_or ys (n - 1 - i) d) same))
-    (each at d (omega arith)))
+pub stops_same : (gates : List GateRecord) → StopsKept gates gates
+stops_same gates = record { count = refl; kept = λ i less. omega arith }
+
+-- the end of the crowd, whether its workers began or not
+pub hired_ends : {G E : Type 0} (tells : G → GateRecord) (shared : SharedView) (script : List (List Asked)) (olds news : List (Worker G)) (last : PassView)
+    → IsLast shared last → length script ≡ shared.passes → length olds ≡ shared.passes → length news ≡ length olds → All IsNew olds
+    → (old_gates new_gates : List G) → old_gates ≡ map player_gate olds → new_gates ≡ map player_gate news → (answers : List (Vec ℕ Global)) → answers ≡ map answers_of news
+    → (done : Result (Unit {0}) E) → OnOk done (AllWorked (plays_lines tells script) shared last olds news) → OnErr done (news ≡ olds) → OnErr done (last.seen ≡ [])
+    → (end ended : CrowdEnd) → ended ≡ first_end (map end_of news) → OnOk done (end ≡ ended) → OnErr done (end ≡ crowd_end.OutOfMemory)
+    → CrowdEnds end script (record { history = last.seen; answers = map (λ text. text.items) answers; gates_before = map tells old_gates; gates = map tells new_gates })
+hired_ends tells shared script olds news last is_last actors size count new old_gates new_gates old_is new_is answers answers_are (Ok done) worked untouched unseen end ended ended_is played none_began_is =
+    crowd_ends tells shared script olds news last is_last actors size count worked old_gates new_gates old_is new_is answers answers_are end (sym (played ∙ ended_is))
+hired_ends tells shared script olds news last is_last actors size count new old_gates new_gates old_is new_is answers answers_are (Err error) worked untouched unseen end ended ended_is played none_began_is =
+    subst
+    (λ (e : CrowdEnd). CrowdEnds e script (record { history = last.seen; answers = map (λ text. text.items) answers; gates_before = map tells old_gates; gates = map tells new_gates }))
+    (sym none_began_is)
+    (none_began tells script olds last.seen old_gates new_gates answers unseen (size ∙ sym actors) old_is (new_is ∙ ap (map player_gate) untouched) (answers_are ∙ ap (map answers_of) untouched) new)
+
+-- and no gate's count fell
+pub hired_stops : {G E : Type 0} (tells : G → GateRecord) (shared : SharedView) (script : List (List Asked)) (olds news : List (Worker G)) (last : PassView)
+    → IsLast shared last → length script ≡ shared.passes → length olds ≡ shared.passes → length news ≡ length olds
+    → (old_gates new_gates : List G) → old_gates ≡ map player_gate olds → new_gates ≡ map player_gate news → (answers : List (Vec ℕ Global)) → answers ≡ map answers_of news
+    → (done : Result (Unit {0}) E) → OnOk done (AllWorked (plays_lines tells script) shared last olds news) → OnErr done (news ≡ olds) → StopsKept (map tells old_gates) (map tells new_gates)
+hired_stops tells shared script olds news last is_last actors size count old_gates new_gates old_is new_is answers answers_are (Ok done) worked untouched =
+    stops_kept tells shared script olds news last is_last actors size count worked old_gates new_gates old_is new_is answers answers_are
+hired_stops tells shared script olds news last is_last actors size count old_gates new_gates old_is new_is answers answers_are (Err error) worked untouched =
+    subst (λ gs. StopsKept (map tells old_gates) (map tells gs)) (old_is ∙ ap (map player_gate) (sym untouched) ∙ sym new_is) (stops_same (map tells old_gates))
+
+-- new workers may begin with new passes
+pub all_may_begin : {G : Type 0} (script : List (List Asked)) (shared : SharedView) (workers : List (Worker G)) → length script ≡ shared.passes → length workers ≡ shared.passes → All IsNew workers
+    → (i : ℕ) (d : Worker G) → i < length workers → Begins script (new_pass shared i) (get_or workers i d).player
+all_may_begin script shared workers actors size new i d less = record {
+  unseen = refl;
+  actor = omega (arith, actors, size);
+  unopened = (new i d less).0;
+  unanswered = (new i d less).1;
+}
+
+-- what the last pass has seen is a legal history of its queue
+pub last_legal : (shared : SharedView) (last : PassView) → IsLast shared last → IsLegal shared.arena shared.slots last.seen
+last_legal shared last is = subst (λ (p : PassView). IsLegal p.arena p.slots last.seen) is.ended is.has_seen.legal

@@ -1,8 +1,7 @@
 -- One line more: the entries that it makes, and what it is answered.
-use Rattle.std.proofs.Common.{◌≡◌, ℕ, ◌+◌, ◌<◌, ◌≤◌, Bool, cond, List, [], ◌∷◌, ◌++◌, length, map, take, get_or, Option, Some, None, refl, sym, ap, subst, ◌∙◌, arith, append_assoc, append-nil, eq-eqb, eqb}
+use Rattle.std.proofs.Common.{◌≡◌, ℕ, List, [], ◌∷◌, ◌++◌, map, Option, Some, None, refl, sym, ap, subst, ◌∙◌, append_assoc, append-nil}
 use Rattle.std.specs.List.{concat}
 use Rattle.std.proofs.lemmas.List.{map_push}
-use Rattle.std.proofs.lemmas.List.Elements.{filter-append}
 use Rattle.ldm_model.specs.declared.event.Event.{Event}
 use Rattle.ldm_model.specs.declared.event.Reply.{Reply}
 use Rattle.ldm_model.specs.declared.event.Reply.TheVariants as reply
@@ -99,9 +98,6 @@ module _ (asked : Asked) (actor : ℕ) (answer : Reply) where
       ∙ ap concat (map_push (crowd_line by) (replies_of None lines entries) last)
       ∙ concat_push (map (crowd_line by) (replies_of None lines entries)) (crowd_line by last)
 
-own-append : (actor : ℕ) (xs ys : List Entry) → own actor (xs ++ ys) ≡ own actor xs ++ own actor ys
-own-append actor xs ys = filter-append (λ (entry : Entry). eqb entry.actor actor) xs ys
-
 -- what is said is the answer of the call
 pub said-is : (event : Option Event) (answer : Reply) (old new : PassView) → GrowsBy event answer old new → said event answer ≡ answer
 said-is None answer old new grows = sym grows.0
@@ -110,15 +106,8 @@ said-is (Some event) answer old new grows = refl
 -- the entries of a pass after a call
 pub own-grows : (event : Option Event) (answer : Reply) (old new : PassView) → GrowsBy event answer old new → own old.actor new.seen ≡ own old.actor old.seen ++ made_for old.actor event answer
 own-grows None answer old new grows = ap (λ (p : PassView). own old.actor p.seen) grows.1 ∙ sym (append-nil (own old.actor old.seen))
-own-grows (Some event) answer old new grows =
-    let entry : Entry = record { actor = old.actor; event = event; reply = answer } in
-    let before : own old.actor (old.seen ++ grows.between) ≡ own old.actor old.seen =
-    own-append old.actor old.seen grows.between ∙ (ap (λ (w : List Entry). own old.actor old.seen ++ w) grows.others ∙ append-nil (own old.actor old.seen)) in
-    let last : own old.actor (entry ∷ []) ≡ entry ∷ [] = ap (λ (b : Bool). cond b (entry ∷ []) []) (eq-eqb old.actor old.actor refl) in
-    ap (own old.actor) grows.seen ∙ (own-append old.actor (old.seen ++ grows.between) (entry ∷ [])
-    ∙ (ap (λ (w : List Entry). w ++ own old.actor (entry ∷ [])) before ∙ ap (λ (w : List Entry). own old.actor old.seen ++ w) last))
+own-grows (Some event) answer old new grows = grows.makes.adds.own
 
 -- a pass that found the queue worn has no entry more of its own
 pub own-worn : (old new : PassView) (turns : ℕ) → FindsWorn old new turns → own old.actor new.seen ≡ own old.actor old.seen
-own-worn old new turns worn =
-    ap (own old.actor) worn.seen ∙ (own-append old.actor old.seen worn.between ∙ (ap (λ (w : List Entry). own old.actor old.seen ++ w) worn.others ∙ append-nil (own old.actor old.seen)))
+own-worn old new turns worn = worn.makes.adds.own ∙ append-nil (own old.actor old.seen)

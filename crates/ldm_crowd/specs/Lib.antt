@@ -2,7 +2,8 @@ pub mod Script
 pub mod OrdersView
 pub mod Lines
 pub mod Interleaving
+pub mod Parts
 pub mod Calls
 pub mod Ends
-pub mod Workers
+pub mod Players
 pub mod Crowd

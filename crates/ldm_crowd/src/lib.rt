@@ -9,9 +9,9 @@ mod actor_lines;
 mod calls;
 mod orders;
 mod outcome;
+mod player;
 mod room;
 mod run;
-mod worker;
 
 pub use orders::{MOST_SCRIPT, Orders, OrdersFault};
 pub use outcome::{Crowd, CrowdEnd};

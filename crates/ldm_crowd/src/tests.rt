@@ -32,9 +32,9 @@ struct MeetingGate<'a> {
 }
 
 impl Gate for MeetingGate<'_> {
-    ghost use Rattle.ldm_outside.specs.Gate.{GateGives};
+    ghost use Rattle.std.specs.Prelude.{None};
 
-    ghost tells = { λ gate. record { stops = gate.stops } };
+    ghost tells = { λ gate. record { stops = gate.stops; calls = None } };
 
     fn before(&mut self, _actor: Actor, _i: u64) -> Go {
         self.own.store(true, Ordering::SeqCst);
@@ -122,7 +122,7 @@ fn a_gate_stops_its_worker(rt: HostRuntime) -> Result<(), Fail> {
     assert!(rt; crowd.answers.len() == 1);
     assert!(rt; crowd.answers[0].as_slice() == b"0 stat 0 0 0 0 168\n".as_slice());
     assert!(rt; crowd.gates.len() == 1);
-    assert!(rt; crowd.gates[0].stops() == 1 && crowd.gates[0].afters() == 1);
+    assert!(rt; crowd.gates[0].stops() == 1 && crowd.gates[0].told().len() == 2);
     Ok(())
 }
 

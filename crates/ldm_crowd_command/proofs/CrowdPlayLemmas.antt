@@ -39,6 +39,7 @@ plays_whole size good_arena good_slots good_workers text old new taken history b
     read = played.read;
     history = history;
     legal = played.legal;
+    law = played.law;
     interleaving = played.interleaving;
     answers_are = ap (λ (texts : List (List ℕ)). all_answers size history texts) played.answered;
   };

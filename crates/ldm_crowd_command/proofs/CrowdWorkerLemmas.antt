@@ -1,8 +1,10 @@
 -- What workers with open gates leave: for `HasPlayed`, and why a text is not played to its end.
-use Rattle.std.proofs.Common.{◌≡◌, ℕ, List, [], ◌∷◌, map, Ok, refl, subst, arith, zero, suc, inl, inr}
+use Rattle.std.proofs.Common.{◌≡◌, ℕ, List, [], ◌∷◌, map, None, Ok, refl, subst, arith, zero, suc, inl, inr}
 use Rattle.ldm_outside.specs.Count.{Rose}
+use Rattle.ldm_outside.specs.Gate.{GateRecord}
 use Rattle.ldm_model.specs.declared.event.Entry.{Entry}
 use Rattle.ldm_model.specs.History.{IsLegal, after}
+use Rattle.ldm_model.specs.Law.{ObeysLaw}
 use Rattle.ldm_script.specs.Order.{Asked}
 use Rattle.ldm_book.specs.View.{BookView}
 use Rattle.ldm_book.specs.Stands.{StandsFor}
@@ -10,7 +12,8 @@ use Rattle.ldm_shared.specs.Passes.{SharedView, PassView, IsLast}
 use Rattle.ldm_crowd.specs.declared.outcome.CrowdEnd.{CrowdEnd}
 use Rattle.ldm_crowd.specs.declared.outcome.CrowdEnd.TheVariants as crowd_end
 use Rattle.ldm_crowd.specs.Script.{script_of}
-use Rattle.ldm_crowd.specs.Crowd.{CrowdEnds, stops_of}
+use Rattle.ldm_crowd.specs.Crowd.{CrowdEnds, HasCome, Outcome, gate_of}
+use Rattle.ldm_crowd.specs.Interleaving.{IsBegun}
 use Rattle.ldm_crowd_command.specs.CrowdEnding.{IsWornOut}
 use Rattle.ldm_crowd_command.specs.CrowdStep.{HasPlayed}
 
@@ -18,33 +21,45 @@ use Rattle.ldm_crowd_command.specs.CrowdStep.{HasPlayed}
 last_legal : (shared : SharedView) (last : PassView) → IsLast shared last → IsLegal shared.arena shared.slots last.seen
 last_legal shared last is = subst (λ (p : PassView). IsLegal p.arena p.slots last.seen) is.ended is.has_seen.legal
 
-module _ (shared : SharedView) (workers : ℕ) (text : List ℕ) (script : List (List Asked)) (read : script_of workers text ≡ Ok script) (last : PassView) (is : IsLast shared last) (answers : List (List ℕ)) (end : CrowdEnd) (old new : List ℕ) where
-  pub all_played : (book : BookView) → StandsFor book (after shared.arena shared.slots last.seen) → end ≡ crowd_end.Done → CrowdEnds end script last.seen answers old new
+-- where each actor came so far, each made the calls of its first lines
+begun_of : (script : List (List Asked)) (outcome : Outcome) → HasCome script outcome → IsBegun script outcome.history
+begun_of script outcome come = record {
+  below = come.below;
+  each = λ actor less. elim (come.each actor less) [ inl played ↦ played.front | inr played ↦ played.front ];
+}
+
+module _ (shared : SharedView) (workers : ℕ) (text : List ℕ) (script : List (List Asked)) (read : script_of workers text ≡ Ok script) (last : PassView) (is : IsLast shared last) (answers : List (List ℕ)) (end : CrowdEnd) (old new : List GateRecord) where
+  abbrev outcome : Outcome
+  outcome = record { history = last.seen; answers = answers; gates_before = old; gates = new }
+
+  pub all_played : (book : BookView) → StandsFor book (after shared.arena shared.slots last.seen) → ObeysLaw shared.arena shared.slots last.seen → end ≡ crowd_end.Done → CrowdEnds end script outcome
       → HasPlayed (record { arena = shared.arena; slots = shared.slots; workers = workers }) text last.seen book answers
-  all_played book stands done ends =
-      let ended = subst (λ (e : CrowdEnd). CrowdEnds e script last.seen answers old new) done ends in
-      record { script = script; read = read; legal = last_legal shared last is; interleaving = ended.0; stands = stands; answered = ended.1 }
+  all_played book stands law done ends =
+      let ended = subst (λ (e : CrowdEnd). CrowdEnds e script outcome) done ends in
+      record { script = script; read = read; legal = last_legal shared last is; law = law; interleaving = ended.0; stands = stands; answered = ended.1 }
 
-  pub worn_out : end ≡ crowd_end.Worn → CrowdEnds end script last.seen answers old new → IsWornOut (record { arena = shared.arena; slots = shared.slots; workers = workers }) text
+  pub worn_out : end ≡ crowd_end.Worn → CrowdEnds end script outcome → IsWornOut (record { arena = shared.arena; slots = shared.slots; workers = workers }) text
   worn_out worn ends =
-      let ended = subst (λ (e : CrowdEnd). CrowdEnds e script last.seen answers old new) worn ends in
-      record { script = script; read = read; history = last.seen; legal = last_legal shared last is; begun = ended.0; all_calls = ended.1 }
+      let ended = subst (λ (e : CrowdEnd). CrowdEnds e script outcome) worn ends in
+      record { script = script; read = read; history = last.seen; legal = last_legal shared last is; begun = begun_of script outcome ended.0; all_calls = ended.1 }
 
--- how often an open gate stopped
-abbrev pub open_stops : {G : Type 0} → G → ℕ
-open_stops gate = 0
+-- what an open gate tells
+abbrev pub open_tells : {G : Type 0} → G → GateRecord
+open_tells gate = record { stops = 0; calls = None }
 
-no_stops : {G : Type 0} (gates : List G) (actor : ℕ) → stops_of (map open_stops gates) actor ≡ 0
+no_stops : {G : Type 0} (gates : List G) (actor : ℕ) → (gate_of (map open_tells gates) actor).stops ≡ 0
 no_stops [] actor = refl
 no_stops (gate ∷ gates) zero = refl
 no_stops (gate ∷ gates) (suc actor) = no_stops gates actor
 
 -- no worker with an open gate ends since it stopped
-pub never_stops : {G : Type 0} (gates left : List G) (script : List (List Asked)) (history : List Entry) (answers : List (List ℕ)) (end : CrowdEnd) → end ≡ crowd_end.Stopped → CrowdEnds end script history answers (map open_stops gates) (map open_stops left) → ⊥
+pub never_stops : {G : Type 0} (gates left : List G) (script : List (List Asked)) (history : List Entry) (answers : List (List ℕ)) (end : CrowdEnd) → end ≡ crowd_end.Stopped
+    → CrowdEnds end script (record { history = history; answers = answers; gates_before = map open_tells gates; gates = map open_tells left }) → ⊥
 never_stops gates left script history answers end stopped ends =
-    let ended = subst (λ (e : CrowdEnd). CrowdEnds e script history answers (map open_stops gates) (map open_stops left)) stopped ends in
+    let outcome : Outcome = record { history = history; answers = answers; gates_before = map open_tells gates; gates = map open_tells left } in
+    let ended = subst (λ (e : CrowdEnd). CrowdEnds e script outcome) stopped ends in
     let actor = ended.1.0 in
-    let rose : Rose (stops_of (map open_stops gates) actor) (stops_of (map open_stops left) actor) = ended.1.2 in
+    let rose : Rose (gate_of (map open_tells gates) actor).stops (gate_of (map open_tells left) actor).stops = ended.1.2 in
     let before = no_stops gates actor in
     let behind = no_stops left actor in
     elim rose [ inl more ↦ omega (arith, more, before, behind) | inr still ↦ omega (arith, still.0, before) ]

@@ -2,6 +2,7 @@
 use Rattle.std.specs.Prelude.{◌≡◌, ℕ, List, Ok}
 use Rattle.ldm_model.specs.declared.event.Entry.{Entry}
 use Rattle.ldm_model.specs.History.{IsLegal, after}
+use Rattle.ldm_model.specs.Law.{ObeysLaw}
 use Rattle.ldm_script.specs.Order.{Asked}
 use Rattle.ldm_book.specs.View.{BookView}
 use Rattle.ldm_book.specs.Stands.{StandsFor}
@@ -15,6 +16,7 @@ pub record HasPlayed (size : CrowdSize) (text : List ℕ) (history : List Entry)
   pub script : List (List Asked)
   pub read : script_of size.workers text ≡ Ok script
   pub legal : IsLegal size.arena size.slots history
+  pub law : ObeysLaw size.arena size.slots history
   pub interleaving : IsInterleaving script history
   pub stands : StandsFor book (after size.arena size.slots history)
   pub answered : answers ≡ texts_from 0 script history
