@@ -40,10 +40,9 @@ pub(crate) fn call<'a, H: Wait>(
 {
     match act {
         Act::Insert { now, info, body } => insert(rt, shared, pass, body_room, *now, info, body),
-        Act::OpenCursor { feed, start } => match shared.open_cursor(rt, pass, *feed, *start) {
-            Turn::Done(reply) => Turn::Done(Answer::from(reply)),
-            Turn::Worn { turns } => Turn::Worn { turns },
-        },
+        Act::OpenCursor { feed, start } => shared
+            .open_cursor(rt, pass, *feed, *start)
+            .map(|reply| Answer::from(reply)),
         Act::Step { k } => step(rt, shared, pass, last, *k),
         Act::Read { k, offset, len } => {
             let into = &mut read_room[..*len as usize];
@@ -51,19 +50,12 @@ pub(crate) fn call<'a, H: Wait>(
         }
         Act::Release { k } => release(rt, shared, pass, last, *k),
         Act::Close { k } => close(rt, shared, pass, last, *k),
-        Act::Look { signature } => match shared.look(rt, pass, signature) {
-            Turn::Done(reply) => Turn::Done(Answer::from(reply)),
-            Turn::Worn { turns } => Turn::Worn { turns },
-        },
-        Act::Expire => match shared.expire(rt, pass) {
-            Turn::Done(reply) => Turn::Done(Answer::from(reply)),
-            Turn::Worn { turns } => Turn::Worn { turns },
-        },
+        Act::Look { signature } => shared
+            .look(rt, pass, signature)
+            .map(|reply| Answer::from(reply)),
+        Act::Expire => shared.expire(rt, pass).map(|reply| Answer::from(reply)),
         Act::Tally { k } => tally(rt, shared, pass, last, *k),
-        Act::Stat => match shared.stat(rt, pass) {
-            Turn::Done(stat) => Turn::Done(Answer::from(stat)),
-            Turn::Worn { turns } => Turn::Worn { turns },
-        },
+        Act::Stat => shared.stat(rt, pass).map(|reply| Answer::from(reply)),
     }
 }
 
@@ -87,10 +79,9 @@ fn insert<'a, H: Wait>(
     ensures worn { IfWorn result (FindsWorn pass.old pass.new) }
 {
     let len = body_into(body, room);
-    match shared.insert(rt, pass, now, info, &room[..len]) {
-        Turn::Done(reply) => Turn::Done(Answer::from(reply)),
-        Turn::Worn { turns } => Turn::Worn { turns },
-    }
+    shared
+        .insert(rt, pass, now, info, &room[..len])
+        .map(|reply| Answer::from(reply))
 }
 
 fn step<'a, H: Wait>(
@@ -109,10 +100,7 @@ fn step<'a, H: Wait>(
     let Some(k) = k.cursor(last) else {
         return Turn::Done(Answer::NoCursor);
     };
-    match shared.step(rt, pass, k) {
-        Turn::Done(reply) => Turn::Done(Answer::from(reply)),
-        Turn::Worn { turns } => Turn::Worn { turns },
-    }
+    shared.step(rt, pass, k).map(|reply| Answer::from(reply))
 }
 
 fn read<'a, H: Wait>(
@@ -134,10 +122,9 @@ fn read<'a, H: Wait>(
     let Some(k) = k.cursor(last) else {
         return Turn::Done(Answer::NoCursor);
     };
-    match shared.read(rt, pass, k, offset, into) {
-        Turn::Done(reply) => Turn::Done(Answer::from_read(reply, into)),
-        Turn::Worn { turns } => Turn::Worn { turns },
-    }
+    shared
+        .read(rt, pass, k, offset, into)
+        .map(|reply| Answer::from_read(reply, into))
 }
 
 fn release<'a, H: Wait>(
@@ -156,10 +143,7 @@ fn release<'a, H: Wait>(
     let Some(k) = k.cursor(last) else {
         return Turn::Done(Answer::NoCursor);
     };
-    match shared.release(rt, pass, k) {
-        Turn::Done(reply) => Turn::Done(Answer::from(reply)),
-        Turn::Worn { turns } => Turn::Worn { turns },
-    }
+    shared.release(rt, pass, k).map(|reply| Answer::from(reply))
 }
 
 fn close<'a, H: Wait>(
@@ -178,10 +162,7 @@ fn close<'a, H: Wait>(
     let Some(k) = k.cursor(last) else {
         return Turn::Done(Answer::NoCursor);
     };
-    match shared.close(rt, pass, k) {
-        Turn::Done(reply) => Turn::Done(Answer::from(reply)),
-        Turn::Worn { turns } => Turn::Worn { turns },
-    }
+    shared.close(rt, pass, k).map(|reply| Answer::from(reply))
 }
 
 fn tally<'a, H: Wait>(
@@ -200,8 +181,5 @@ fn tally<'a, H: Wait>(
     let Some(k) = k.cursor(last) else {
         return Turn::Done(Answer::NoCursor);
     };
-    match shared.tally(rt, pass, k) {
-        Turn::Done(reply) => Turn::Done(Answer::from(reply)),
-        Turn::Worn { turns } => Turn::Worn { turns },
-    }
+    shared.tally(rt, pass, k).map(|reply| Answer::from(reply))
 }
