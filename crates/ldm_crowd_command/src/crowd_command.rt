@@ -228,7 +228,8 @@ pub fn crowd<H: Threads + Wait + Sync, S: Source, K: Sink, E: Sink>(
     world: &mut World<S, K, E>,
 ) -> u8
     ensures ends { CrowdRuns (record { arena = arena; slots = slots; workers = workers }) result (world_tells S.tells K.tells E.tells world.old) (world_tells S.tells K.tells E.tells world.new) }
-    ensures completes { CrowdCompletes (record { arena = arena; slots = slots; workers = workers }) result (world_tells S.tells K.tells E.tells world.old) (world_tells S.tells K.tells E.tells world.new) }
+    ensures completes { CrowdCompletes (record { arena = arena; slots = slots; workers = workers }) result
+        (world_tells S.tells K.tells E.tells world.old) (world_tells S.tells K.tells E.tells world.new) }
     ensures faults_kept { KeepsFaults (world_tells S.tells K.tells E.tells world.old) (world_tells S.tells K.tells E.tells world.new) }
 {
     let ending = run_crowd(
