@@ -3,7 +3,9 @@ pub mod Appending
 pub mod Lengths
 pub mod FieldsAgain
 pub mod ClassesAgain
+pub mod Refusals
 pub mod MessagesAgain
+pub mod NoResults
 pub mod FieldsFound
 pub mod ClassesFound
 pub mod MessagesFound

@@ -21,14 +21,15 @@ use Rattle.ldm_relay.specs.Procedure.{number_of, numbered, procedure_of, answere
 use Rattle.ldm_relay.specs.Sent.{Sent}
 use Rattle.ldm_relay.specs.Sent as sent
 use Rattle.ldm_relay.specs.Headers.{call_header_in, reply_header_in}
-use Rattle.ldm_relay.specs.Calls.{call_in, feedme_in, hiya_in, product_in, hereis_in, put_in, comingsoon_in, blkdata_in}
+use Rattle.ldm_relay.specs.Calls.{call_in, feedme_in, hiya_in, product_in, hereis_in, put_in, comingsoon_in, blkdata_in, notifyme_in, notification_in}
 use Rattle.ldm_relay.specs.Replies.{result_in, accepted_in, feedme_reply_in, hiya_reply_in, comingsoon_reply_in, figures_in, told_in, stat_in, qstat_reply_in}
-use Rattle.ldm_relay.specs.Replies.{admitted_in, too_big_in, duplicate_in, locked_in, put_answer_in, put_reply_in}
-use Rattle.ldm_relay.specs.Reading.{whole, call_of, reply_of, reply_to, read_as}
+use Rattle.ldm_relay.specs.Replies.{admitted_in, too_big_in, duplicate_in, locked_in, put_answer_in, put_reply_in, notifyme_reply_in}
+use Rattle.ldm_relay.specs.Reading.{whole, call_of, reply_of, kind_of, read_as}
 use Rattle.ldm_relay.specs.Fits.{Is32, Is64, ClassFits, ClassAnswerFits, StatFits, PutAnswerFits, Fits}
-use Rattle.ldm_relay.specs.Spelling.{unsigned, hyper, padded, opaque, class_bytes, class_answer_bytes, soon_answer_bytes, stat_bytes, put_answer_bytes, no_authentication, call_header, reply_header, written}
+use Rattle.ldm_relay.specs.Spelling.{unsigned, hyper, padded, opaque, class_bytes, class_answer_bytes, soon_answer_bytes, stat_bytes, put_answer_bytes, no_authentication, call_header, accepted_header, reply_header, written}
 use Rattle.ldm_relay.proofs.FieldsAgain.{unsigned_again, hyper_again, up_to_again, exactly_again, padded_again, opaque_again, authentication_again, signature_again, info_again}
 use Rattle.ldm_relay.proofs.ClassesAgain.{class_again, class_answer_again}
+use Rattle.ldm_relay.proofs.Refusals.{accepted_header_is, refusal_read}
 
 -- ---- headers
 
@@ -41,6 +42,8 @@ number_small procedure.Blkdata = lit< tt
 number_small procedure.Isalive = lit< tt
 number_small procedure.Qstat = lit< tt
 number_small procedure.Put = lit< tt
+number_small procedure.Notification = lit< tt
+number_small procedure.Notifyme = lit< tt
 
 pub numbered_again : (p : Procedure) → numbered (number_of p) ≡ Some p
 unfolding numbered
@@ -52,14 +55,17 @@ numbered_again procedure.Blkdata = refl
 numbered_again procedure.Isalive = refl
 numbered_again procedure.Qstat = refl
 numbered_again procedure.Put = refl
+numbered_again procedure.Notification = refl
+numbered_again procedure.Notifyme = refl
 
-answered_again : (a : Answered) → answered (number_of (procedure_of a)) ≡ Some a
+pub answered_again : (a : Answered) → answered (number_of (procedure_of a)) ≡ Some a
 unfolding answered
 answered_again with_reply.Feedme = refl
 answered_again with_reply.Hiya = refl
 answered_again with_reply.Comingsoon = refl
 answered_again with_reply.Qstat = refl
 answered_again with_reply.Put = refl
+answered_again with_reply.Notifyme = refl
 
 abbrev pub header_of : ℕ → Procedure → CallHeader
 header_of xid p = record { xid = xid; program = PROGRAM; version = VERSION; procedure = number_of p }
@@ -88,20 +94,11 @@ call_header_again xid p rest lt =
     ) refl
 
 pub reply_header_again : (xid : ℕ) (rest : List ℕ) → Is32 xid → reply_header_in (reply_header xid ++ rest) ≡ Ok (xid, unsigned 0 ++ rest)
-unfolding reply_header_in reply_header
+unfolding reply_header
 reply_header_again xid rest lt =
-    let r3 : List ℕ = no_authentication ++ (unsigned 0 ++ rest) in
-    let r2 : List ℕ = unsigned 0 ++ r3 in
-    let r1 : List ℕ = unsigned 1 ++ r2 in
-    let regrouped : reply_header xid ++ rest ≡ unsigned xid ++ r1 = simp append_assoc in
-    ap reply_header_in regrouped
-    ∙ rw (
-      unsigned_again xid r1 lt,
-      exactly_again 1 r2 (lit< tt),
-      exactly_again 0 r3 (lit< tt),
-      authentication_again (unsigned 0 ++ rest),
-      up_to_again 5 0 rest (lit< tt) (lit≤ tt),
-    ) refl
+    ap reply_header_in (append_assoc (accepted_header xid) (unsigned 0) rest)
+    ∙ accepted_header_is xid (unsigned 0 ++ rest) lt
+    ∙ rw (up_to_again 5 0 rest (lit< tt) (lit≤ tt)) refl
 
 call_read : (xid : ℕ) (p : Procedure) (body : List ℕ) (m : Sent) → Is32 xid → call_in p xid (body ++ []) ≡ Ok (m, []) → call_of (call_header xid p ++ body) ≡ Ok m
 unfolding call_of whole
@@ -214,8 +211,8 @@ put_answer_again put_answer.Denied rest fits = rw (unsigned_again 5 rest (lit< t
 
 -- ---- messages
 
-pub message_again : (m : Sent) → Fits m → read_as (reply_to m) (written m) ≡ Ok m
-unfolding written hiya_in hereis_in put_in feedme_reply_in qstat_reply_in put_reply_in
+pub message_again : (m : Sent) → Fits m → read_as (kind_of m) (written m) ≡ Ok m
+unfolding written hiya_in hereis_in put_in notifyme_in notification_in feedme_reply_in qstat_reply_in put_reply_in notifyme_reply_in
 message_again (sent.Feedme xid class max_hereis) fits =
     call_read xid procedure.Feedme (class_bytes class ++ unsigned max_hereis) _ fits.0 (feedme_again xid class max_hereis [] fits.1 fits.2)
 message_again (sent.FeedmeReply xid answer) fits =
@@ -240,3 +237,8 @@ message_again (sent.Put xid info body) fits =
     call_read xid procedure.Put (spelling info ++ padded body) _ fits.0 (rw (product_again info body [] fits.1 fits.2) refl)
 message_again (sent.PutReply xid answer) fits =
     reply_read xid with_reply.Put (put_answer_bytes answer) _ fits.0 (rw (put_answer_again answer [] fits.1) refl)
+message_again (sent.Notifyme xid class) fits = call_read xid procedure.Notifyme (class_bytes class) _ fits.0 (rw (class_again class [] fits.1) refl)
+message_again (sent.NotifymeReply xid answer) fits =
+    reply_read xid with_reply.Notifyme (class_answer_bytes answer) _ fits.0 (rw (class_answer_again answer [] fits.1) refl)
+message_again (sent.Notification xid info) fits = call_read xid procedure.Notification (spelling info) _ fits.0 (rw (info_again info [] fits.1) refl)
+message_again (sent.Refused xid why) fits = refusal_read xid why fits.0 fits.1

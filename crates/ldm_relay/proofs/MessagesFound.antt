@@ -7,6 +7,8 @@ use Rattle.ldm_types.specs.Info.{Metadata}
 use Rattle.ldm_xdr.specs.Spelling.{spelling}
 use Rattle.ldm_relay.specs.declared.fault.RelayFault.{RelayFault}
 use Rattle.ldm_relay.specs.declared.fault.RelayFault.TheVariants.{BadMessage}
+use Rattle.ldm_relay.specs.declared.message.Refusal.{Refusal}
+use Rattle.ldm_relay.specs.declared.message.Refusal.TheVariants as refusal
 use Rattle.ldm_relay.specs.declared.message.PutAnswer.{PutAnswer}
 use Rattle.ldm_relay.specs.declared.message.PutAnswer.TheVariants as put_answer
 use Rattle.ldm_relay.specs.declared.message.SoonAnswer.{SoonAnswer}
@@ -18,15 +20,17 @@ use Rattle.ldm_relay.specs.declared.procedure.Procedure.{Procedure}
 use Rattle.ldm_relay.specs.declared.procedure.Procedure.TheVariants as procedure
 use Rattle.ldm_relay.specs.Sent.{Sent}
 use Rattle.ldm_relay.specs.Sent as sent
-use Rattle.ldm_relay.specs.Fields.{number_in, fixed_in, opaque_in, no_more}
+use Rattle.ldm_relay.specs.Fields.{number_in, up_to_in, fixed_in, opaque_in, no_more}
 use Rattle.ldm_relay.specs.Classes.{class_in, class_answer_in}
-use Rattle.ldm_relay.specs.Calls.{info_in, call_in, feedme_in, hiya_in, product_in, hereis_in, put_in, comingsoon_in, blkdata_in}
+use Rattle.ldm_relay.specs.Calls.{info_in, call_in, feedme_in, hiya_in, product_in, hereis_in, put_in, comingsoon_in, blkdata_in, notifyme_in, notification_in}
 use Rattle.ldm_relay.specs.Replies.{result_in, accepted_in, feedme_reply_in, hiya_reply_in, comingsoon_reply_in, figures_in, told_in, stat_in, qstat_reply_in}
-use Rattle.ldm_relay.specs.Replies.{admitted_in, too_big_in, duplicate_in, locked_in, coded_put_answer, put_answer_in, put_reply_in}
-use Rattle.ldm_relay.specs.Reading.{whole, or_at, call_of, reply_of}
+use Rattle.ldm_relay.specs.Replies.{admitted_in, too_big_in, duplicate_in, locked_in, coded_put_answer, put_answer_in, put_reply_in, notifyme_reply_in}
+use Rattle.ldm_relay.specs.Refusals.{versions_in, coded_refusal, refusal_in, refused_in}
+use Rattle.ldm_relay.specs.Reading.{whole, or_at, call_of, reply_of, refusal_of}
 use Rattle.ldm_relay.specs.Procedure.{answered}
-use Rattle.ldm_relay.specs.Spelling.{unsigned, hyper, padded, opaque, class_bytes, class_answer_bytes, soon_answer_bytes, stat_bytes, put_answer_bytes, call_header, reply_header, written}
+use Rattle.ldm_relay.specs.Spelling.{unsigned, hyper, padded, opaque, class_bytes, class_answer_bytes, soon_answer_bytes, stat_bytes, put_answer_bytes, refusal_bytes, call_header, accepted_header, reply_header, written}
 use Rattle.ldm_relay.proofs.FieldsAgain.{exactly_again}
+use Rattle.ldm_relay.proofs.Refusals.{accepted_header_is}
 use Rattle.ldm_relay.proofs.MessagesAgain.{numbered_again, call_header_again, reply_header_again}
 use Rattle.ldm_relay.proofs.FieldsFound.{IsBytes, bind_ok, ok_is, Takes, both_taken, taken_as, unsigned_found, hyper_found, padded_found, opaque_found, signature_found, info_found}
 use Rattle.ldm_relay.proofs.ClassesFound.{class_found, class_answer_found, chosen, err_is_no_ok, code_taken, code_with}
@@ -112,6 +116,20 @@ blkdata_found xid bytes x fits e =
       spelled = refl;
     })
 
+notifyme_found : (xid : ℕ) (bytes : List ℕ) (x : Sent × List ℕ) → IsBytes bytes → notifyme_in xid bytes ≡ Ok x → IsSaid (call_header xid procedure.Notifyme) bytes x
+unfolding notifyme_in written
+notifyme_found xid bytes x fits e =
+    let a = bind_ok (class_in bytes) _ x e in
+    let made : Sent × List ℕ = (sent.Notifyme xid a.0.0, a.0.1) in
+    subst (IsSaid (call_header xid procedure.Notifyme) bytes) (ok_is made x a.2) (record { body = class_bytes a.0.0; takes = class_found bytes a.0 fits a.1; spelled = refl })
+
+notification_found : (xid : ℕ) (bytes : List ℕ) (x : Sent × List ℕ) → IsBytes bytes → notification_in xid bytes ≡ Ok x → IsSaid (call_header xid procedure.Notification) bytes x
+unfolding notification_in written
+notification_found xid bytes x fits e =
+    let a = bind_ok (info_in bytes) _ x e in
+    let made : Sent × List ℕ = (sent.Notification xid a.0.0, a.0.1) in
+    subst (IsSaid (call_header xid procedure.Notification) bytes) (ok_is made x a.2) (record { body = spelling a.0.0; takes = info_found bytes a.0 fits a.1; spelled = refl })
+
 -- a call without a body
 empty_found : (xid : ℕ) (p : Procedure) (bytes : List ℕ) (m : Sent) (x : Sent × List ℕ) → IsBytes bytes → written m ≡ call_header xid p → (m, bytes) ≡ x
     → IsSaid (call_header xid p) bytes x
@@ -129,6 +147,8 @@ call_found procedure.Blkdata xid bytes x fits e = blkdata_found xid bytes x fits
 call_found procedure.Isalive xid bytes x fits e = empty_found xid procedure.Isalive bytes (sent.Isalive xid) x fits refl (ok_is _ x e)
 call_found procedure.Qstat xid bytes x fits e = empty_found xid procedure.Qstat bytes (sent.Qstat xid) x fits refl (ok_is _ x e)
 call_found procedure.Put xid bytes x fits e = put_found xid bytes x fits e
+call_found procedure.Notification xid bytes x fits e = notification_found xid bytes x fits e
+call_found procedure.Notifyme xid bytes x fits e = notifyme_found xid bytes x fits e
 
 -- ---- replies
 
@@ -311,12 +331,76 @@ put_reply_found xid bytes x fits e =
     subst (IsSaid (reply_header xid) bytes) (ok_is made x a.2)
     (record { body = put_answer_bytes a.0.0; takes = coded bytes b.0 (put_answer_bytes a.0.0) a.0.1 code.0 answer; spelled = refl })
 
+notifyme_reply_found : (xid : ℕ) (bytes : List ℕ) (x : Sent × List ℕ) → IsBytes bytes → notifyme_reply_in xid bytes ≡ Ok x → IsSaid (reply_header xid) bytes x
+unfolding notifyme_reply_in written
+notifyme_reply_found xid bytes x fits e =
+    let a = bind_ok (class_answer_in bytes) _ x e in
+    let made : Sent × List ℕ = (sent.NotifymeReply xid a.0.0, a.0.1) in
+    subst (IsSaid (reply_header xid) bytes) (ok_is made x a.2) (record { body = class_answer_bytes a.0.0; takes = class_answer_found bytes a.0 fits a.1; spelled = refl })
+
 result_found : (p : Answered) (xid : ℕ) (bytes : List ℕ) (x : Sent × List ℕ) → IsBytes bytes → result_in p xid bytes ≡ Ok x → IsSaid (reply_header xid) bytes x
 result_found with_reply.Feedme xid bytes x fits e = feedme_reply_found xid bytes x fits e
 result_found with_reply.Hiya xid bytes x fits e = hiya_reply_found xid bytes x fits e
 result_found with_reply.Comingsoon xid bytes x fits e = comingsoon_reply_found xid bytes x fits e
 result_found with_reply.Qstat xid bytes x fits e = qstat_reply_found xid bytes x fits e
 result_found with_reply.Put xid bytes x fits e = put_reply_found xid bytes x fits e
+result_found with_reply.Notifyme xid bytes x fits e = notifyme_reply_found xid bytes x fits e
+
+-- ---- refusals
+
+-- what stands from an accept status on
+abbrev CodedRefusal : ℕ → List ℕ → Refusal × List ℕ → Type 0
+CodedRefusal status left x = Takes (unsigned status ++ left) (refusal_bytes x.0) x.1
+
+versions_found : (status : ℕ) (left : List ℕ) (x : Refusal × List ℕ) → IsBytes left → eqb status 2 ≡ true → versions_in left ≡ Ok x → CodedRefusal status left x
+unfolding versions_in
+versions_found status left x fits is e =
+    let a = bind_ok (number_in w32 left) _ x e in
+    let b = bind_ok (number_in w32 a.0.1) _ x a.2 in
+    let ta = (unsigned_found left a.0 fits a.1).0 in
+    let tb = (unsigned_found a.0.1 b.0 ta.rest_fits b.1).0 in
+    let one = code_with status 2 left (unsigned a.0.0) a.0.1 fits is ta in
+    let made : Refusal × List ℕ = (refusal.ProgramMismatch a.0.0 b.0.0, b.0.1) in
+    subst (CodedRefusal status left) (ok_is made x b.2) (both_taken (unsigned status ++ left) (unsigned 2 ++ unsigned a.0.0) a.0.1 (unsigned b.0.0) b.0.1 one tb)
+
+bare_refusal : (status n : ℕ) (left : List ℕ) (why : Refusal) (x : Refusal × List ℕ) → IsBytes left → eqb status n ≡ true → refusal_bytes why ≡ unsigned n
+    → (why, left) ≡ x → CodedRefusal status left x
+bare_refusal status n left why x fits is spelled e =
+    subst (CodedRefusal status left) e (taken_as (unsigned status ++ left) (unsigned n) (refusal_bytes why) left (sym spelled) (code_taken status n left fits is))
+
+coded_refusal_found : (field status : ℕ) (left : List ℕ) (x : Refusal × List ℕ) → IsBytes left → coded_refusal field status left ≡ Ok x → CodedRefusal status left x
+coded_refusal_found field status left x fits e =
+    elim (chosen (eqb status 1) _ _ _ e) [
+      | inl h ↦ bare_refusal status 1 left refusal.ProgramUnavailable x fits h.0 refl (ok_is _ x h.1)
+      | inr h ↦
+          elim (chosen (eqb status 2) _ _ _ h.1) [
+            | inl k ↦ versions_found status left x fits k.0 k.1
+            | inr k ↦
+                elim (chosen (eqb status 3) _ _ _ k.1) [
+                  | inl l ↦ bare_refusal status 3 left refusal.ProcedureUnavailable x fits l.0 refl (ok_is _ x l.1)
+                  | inr l ↦
+                      elim (chosen (eqb status 4) _ _ _ l.1) [
+                        | inl m ↦ bare_refusal status 4 left refusal.GarbageArguments x fits m.0 refl (ok_is _ x m.1)
+                        | inr m ↦
+                            elim (chosen (eqb status 5) _ _ _ m.1) [
+                              | inl n ↦ bare_refusal status 5 left refusal.SystemError x fits n.0 refl (ok_is _ x n.1)
+                              | inr n ↦ absurd (err_is_no_ok field x n.1)
+                            ]
+                      ]
+                ]
+          ]
+    ]
+
+refused_found : (xid : ℕ) (bytes : List ℕ) (x : Sent × List ℕ) → IsBytes bytes → refused_in xid bytes ≡ Ok x → IsSaid (accepted_header xid) bytes x
+unfolding refused_in refusal_in written
+refused_found xid bytes x fits e =
+    let a = bind_ok (refusal_in bytes) _ x e in
+    let b = bind_ok (number_in w32 bytes) _ a.0 a.1 in
+    let status = unsigned_found bytes b.0 fits b.1 in
+    let why = coded_refusal_found (length bytes) b.0.0 b.0.1 a.0 status.0.rest_fits b.2 in
+    let made : Sent × List ℕ = (sent.Refused xid a.0.0, a.0.1) in
+    subst (IsSaid (accepted_header xid) bytes) (ok_is made x a.2)
+    (record { body = refusal_bytes a.0.0; takes = coded bytes b.0 (refusal_bytes a.0.0) a.0.1 status.0 why; spelled = refl })
 
 -- ---- the whole content
 
@@ -344,7 +428,7 @@ pub call_spelled : (xid : ℕ) (p : Procedure) (body : List ℕ) (m : Sent) → 
 unfolding call_of
 call_spelled xid p body m lt fits e =
     let under = rw (call_header_again xid p body lt, numbered_again p) at e in
-    all_found (call_header xid p) body (call_in p xid body) m (λ x is. call_found p xid body x fits is) (or_at_ok (λ (at : ℕ). BadMessage at) (call_header xid p ++ body) (whole (call_in p xid body)) m under)
+    all_found (call_header xid p) body (call_in p xid body) m (λ x is. call_found p xid body x fits is) (or_at_ok (λ (at : ℕ). BadMessage xid at) (call_header xid p ++ body) (whole (call_in p xid body)) m under)
 
 answered_spelled : (xid : ℕ) (number : ℕ) (p : Option Answered) (body : List ℕ) (m : Sent) → xid < 2 ^ 32 → IsBytes body → answered number ≡ p
     → reply_of number (reply_header xid ++ body) ≡ Ok m → written m ≡ reply_header xid ++ body
@@ -352,7 +436,7 @@ unfolding reply_of accepted_in
 answered_spelled xid number (Some p) body m lt fits is e =
     let under = rw (reply_header_again xid body lt, is, exactly_again 0 body (lit< tt)) at e in
     all_found (reply_header xid) body (result_in p xid body) m (λ x found. result_found p xid body x fits found)
-    (or_at_ok (λ (at : ℕ). BadMessage at) (reply_header xid ++ body) (whole (result_in p xid body)) m under)
+    (or_at_ok (λ (at : ℕ). BadMessage xid at) (reply_header xid ++ body) (whole (result_in p xid body)) m under)
 answered_spelled xid number None body m lt fits is e =
     let under = rw (reply_header_again xid body lt, is) at e in
     absurd cc
@@ -360,3 +444,18 @@ answered_spelled xid number None body m lt fits is e =
 pub reply_spelled : (xid number : ℕ) (body : List ℕ) (m : Sent) → xid < 2 ^ 32 → IsBytes body → reply_of number (reply_header xid ++ body) ≡ Ok m
     → written m ≡ reply_header xid ++ body
 reply_spelled xid number body m lt fits e = answered_spelled xid number (answered number) body m lt fits refl e
+
+status_spelled : (xid : ℕ) (body : List ℕ) (status : Result (ℕ × List ℕ) ℕ) (m : Sent) → xid < 2 ^ 32 → IsBytes body → up_to_in 5 body ≡ status
+    → refusal_of (accepted_header xid ++ body) ≡ Ok m → written m ≡ accepted_header xid ++ body
+unfolding refusal_of
+status_spelled xid body (Ok status) m lt fits is e =
+    let under = rw (accepted_header_is xid body lt, is) at e in
+    all_found (accepted_header xid) body (refused_in xid body) m (λ x found. refused_found xid body x fits found)
+    (or_at_ok (λ (at : ℕ). BadMessage xid at) (accepted_header xid ++ body) (whole (refused_in xid body)) m under)
+status_spelled xid body (Err left) m lt fits is e =
+    let under = rw (accepted_header_is xid body lt, is) at e in
+    absurd cc
+
+pub refusal_spelled : (xid : ℕ) (body : List ℕ) (m : Sent) → xid < 2 ^ 32 → IsBytes body → refusal_of (accepted_header xid ++ body) ≡ Ok m
+    → written m ≡ accepted_header xid ++ body
+refusal_spelled xid body m lt fits e = status_spelled xid body (up_to_in 5 body) m lt fits refl e

@@ -17,7 +17,7 @@ use Rattle.ldm_relay.specs.Sent as sent
 use Rattle.ldm_relay.specs.Fields.{number_in, up_to_in, exactly_in, fixed_in, opaque_in, passed_in, no_more}
 use Rattle.ldm_relay.specs.Headers.{authentication_in, call_header_in}
 use Rattle.ldm_relay.specs.Classes.{class_in}
-use Rattle.ldm_relay.specs.Calls.{with_rest, info_in, call_in, feedme_in, hiya_in, product_in, hereis_in, put_in, comingsoon_in, blkdata_in}
+use Rattle.ldm_relay.specs.Calls.{with_rest, info_in, call_in, feedme_in, hiya_in, product_in, hereis_in, put_in, comingsoon_in, blkdata_in, notifyme_in, notification_in}
 use Rattle.ldm_relay.specs.Reading.{whole}
 use Rattle.ldm_relay.specs.Spelling.{padded}
 use Rattle.ldm_relay.specs.Writable.{IsShort}
@@ -172,6 +172,14 @@ blkdata_short xid bytes x e =
     let c = bind_ok (opaque_in LARGEST_BLOCK b.0.1) _ x b.2 in
     subst (λ (y : Sent × List ℕ). IsShort y.0) (ok_is _ x c.2) tt
 
+notifyme_short : (xid : ℕ) (bytes : List ℕ) (x : Sent × List ℕ) → notifyme_in xid bytes ≡ Ok x → IsShort x.0
+unfolding notifyme_in
+notifyme_short xid bytes x e = let a = bind_ok (class_in bytes) _ x e in subst (λ (y : Sent × List ℕ). IsShort y.0) (ok_is _ x a.2) tt
+
+notification_short : (xid : ℕ) (bytes : List ℕ) (x : Sent × List ℕ) → notification_in xid bytes ≡ Ok x → IsShort x.0
+unfolding notification_in
+notification_short xid bytes x e = let a = bind_ok (info_in bytes) _ x e in subst (λ (y : Sent × List ℕ). IsShort y.0) (ok_is _ x a.2) tt
+
 body_short : (p : Procedure) (xid : ℕ) (bytes : List ℕ) (x : Sent × List ℕ) → IsBytes bytes → call_in p xid bytes ≡ Ok x → ShortIn bytes x
 body_short procedure.Hereis xid bytes x fits e = hereis_short xid bytes x fits e
 body_short procedure.Feedme xid bytes x fits e = λ _. feedme_short xid bytes x e
@@ -181,6 +189,8 @@ body_short procedure.Blkdata xid bytes x fits e = λ _. blkdata_short xid bytes 
 body_short procedure.Isalive xid bytes x fits e = λ _. subst (λ (y : Sent × List ℕ). IsShort y.0) (ok_is _ x e) tt
 body_short procedure.Qstat xid bytes x fits e = λ _. subst (λ (y : Sent × List ℕ). IsShort y.0) (ok_is _ x e) tt
 body_short procedure.Put xid bytes x fits e = put_short xid bytes x fits e
+body_short procedure.Notification xid bytes x fits e = λ _. notification_short xid bytes x e
+body_short procedure.Notifyme xid bytes x fits e = λ _. notifyme_short xid bytes x e
 
 whole_short : (p : Procedure) (xid : ℕ) (bytes : List ℕ) (m : Sent) → IsBytes bytes → whole (call_in p xid bytes) ≡ Ok m → 40 + length bytes ≤ LARGEST_CONTENT → IsShort m
 unfolding whole

@@ -69,6 +69,16 @@ blkdata_in xid left = do
   block ← opaque_in LARGEST_BLOCK number.1
   Ok (sent.Blkdata xid signature.0 number.0 block.0, block.1)
 
+unfoldable pub notifyme_in : ℕ → List ℕ → Result (Sent × List ℕ) ℕ
+notifyme_in xid left = do
+  class ← class_in left
+  Ok (sent.Notifyme xid class.0, class.1)
+
+unfoldable pub notification_in : ℕ → List ℕ → Result (Sent × List ℕ) ℕ
+notification_in xid left = do
+  info ← info_in left
+  Ok (sent.Notification xid info.0, info.1)
+
 -- what stands behind the header of a call
 abbrev pub call_in : Procedure → ℕ → List ℕ → Result (Sent × List ℕ) ℕ
 call_in procedure.Hereis xid left = hereis_in xid left
@@ -79,3 +89,5 @@ call_in procedure.Blkdata xid left = blkdata_in xid left
 call_in procedure.Isalive xid left = Ok (sent.Isalive xid, left)
 call_in procedure.Qstat xid left = Ok (sent.Qstat xid, left)
 call_in procedure.Put xid left = put_in xid left
+call_in procedure.Notification xid left = notification_in xid left
+call_in procedure.Notifyme xid left = notifyme_in xid left

@@ -10,6 +10,8 @@ use Rattle.ldm_relay.specs.declared.message.ClassAnswer.{ClassAnswer}
 use Rattle.ldm_relay.specs.declared.message.ClassAnswer.TheVariants as class_answer
 use Rattle.ldm_relay.specs.declared.message.PutAnswer.{PutAnswer}
 use Rattle.ldm_relay.specs.declared.message.PutAnswer.TheVariants as put_answer
+use Rattle.ldm_relay.specs.declared.message.Refusal.{Refusal}
+use Rattle.ldm_relay.specs.declared.message.Refusal.TheVariants as refusal
 use Rattle.ldm_relay.specs.declared.message.TheConstants.{LARGEST_BLOCK}
 use Rattle.ldm_relay.specs.Sent.{Sent}
 use Rattle.ldm_relay.specs.Sent as sent
@@ -45,6 +47,10 @@ PutAnswerFits put_answer.TimeEnd = Unit {0}
 PutAnswerFits (put_answer.Locked held) = Is64 held
 PutAnswerFits put_answer.Denied = Unit {0}
 
+abbrev pub RefusalFits : Refusal → Type 0
+RefusalFits (refusal.ProgramMismatch lowest highest) = Is32 lowest × Is32 highest
+RefusalFits _ = Unit {0}
+
 abbrev pub Fits : Sent → Type 0
 Fits (sent.Feedme xid class max_hereis) = Is32 xid × ClassFits class × Is32 max_hereis
 Fits (sent.FeedmeReply xid answer) = Is32 xid × ClassAnswerFits answer
@@ -59,3 +65,7 @@ Fits (sent.Qstat xid) = Is32 xid
 Fits (sent.QstatReply xid stat) = Is32 xid × StatFits stat
 Fits (sent.Put xid info body) = Is32 xid × InfoFits info × (length body ≡ info.size)
 Fits (sent.PutReply xid answer) = Is32 xid × PutAnswerFits answer
+Fits (sent.Notifyme xid class) = Is32 xid × ClassFits class
+Fits (sent.NotifymeReply xid answer) = Is32 xid × ClassAnswerFits answer
+Fits (sent.Notification xid info) = Is32 xid × InfoFits info
+Fits (sent.Refused xid why) = Is32 xid × RefusalFits why

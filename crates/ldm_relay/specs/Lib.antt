@@ -8,6 +8,7 @@ pub mod Headers
 pub mod Classes
 pub mod Calls
 pub mod Replies
+pub mod Refusals
 pub mod Reading
 pub mod Spelling
 pub mod Writable

@@ -1,6 +1,7 @@
 -- What a contract sees of a message.
 use Rattle.ldm_relay.specs.declared.message.Message.{Message}
 use Rattle.ldm_relay.specs.declared.message.Message.TheVariants as message
+use Rattle.ldm_relay.specs.declared.message.Refused.{Refused}
 use Rattle.ldm_relay.specs.Sent.{Sent}
 use Rattle.ldm_relay.specs.Sent as sent
 
@@ -18,3 +19,10 @@ sent_of (message.Qstat m) = sent.Qstat m.xid
 sent_of (message.QstatReply m) = sent.QstatReply m.xid m.stat
 sent_of (message.Put m) = sent.Put m.xid m.info m.body.now
 sent_of (message.PutReply m) = sent.PutReply m.xid m.answer
+sent_of (message.Notifyme m) = sent.Notifyme m.xid m.class
+sent_of (message.NotifymeReply m) = sent.NotifymeReply m.xid m.answer
+sent_of (message.Notification m) = sent.Notification m.xid m.info
+sent_of (message.Refused m) = sent.Refused m.xid m.why
+
+abbrev pub refused_of : Refused → Sent
+refused_of m = sent.Refused m.xid m.why

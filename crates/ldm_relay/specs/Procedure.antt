@@ -15,6 +15,8 @@ number_of procedure.Blkdata = 13
 number_of procedure.Isalive = 14
 number_of procedure.Qstat = 100
 number_of procedure.Put = 101
+number_of procedure.Notification = 6
+number_of procedure.Notifyme = 7
 
 abbrev pub procedures : List Procedure
 procedures =
@@ -26,6 +28,8 @@ procedures =
     ∷ procedure.Isalive
     ∷ procedure.Qstat
     ∷ procedure.Put
+    ∷ procedure.Notification
+    ∷ procedure.Notifyme
     ∷ []
 
 -- the procedure of a number, where there is one
@@ -38,9 +42,10 @@ procedure_of with_reply.Hiya = procedure.Hiya
 procedure_of with_reply.Comingsoon = procedure.Comingsoon
 procedure_of with_reply.Qstat = procedure.Qstat
 procedure_of with_reply.Put = procedure.Put
+procedure_of with_reply.Notifyme = procedure.Notifyme
 
 abbrev pub with_replies : List Answered
-with_replies = with_reply.Feedme ∷ with_reply.Hiya ∷ with_reply.Comingsoon ∷ with_reply.Qstat ∷ with_reply.Put ∷ []
+with_replies = with_reply.Feedme ∷ with_reply.Hiya ∷ with_reply.Comingsoon ∷ with_reply.Qstat ∷ with_reply.Put ∷ with_reply.Notifyme ∷ []
 
 -- the procedure of a number, where there is one and it has a reply
 unfoldable pub answered : ℕ → Option Answered

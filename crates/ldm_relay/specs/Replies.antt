@@ -99,6 +99,11 @@ put_reply_in xid left = do
   answer ← put_answer_in left
   Ok (sent.PutReply xid answer.0, answer.1)
 
+unfoldable pub notifyme_reply_in : ℕ → List ℕ → Result (Sent × List ℕ) ℕ
+notifyme_reply_in xid left = do
+  answer ← class_answer_in left
+  Ok (sent.NotifymeReply xid answer.0, answer.1)
+
 -- what stands behind the accept status
 abbrev pub result_in : Answered → ℕ → List ℕ → Result (Sent × List ℕ) ℕ
 result_in answered.Feedme xid left = feedme_reply_in xid left
@@ -106,6 +111,7 @@ result_in answered.Hiya xid left = hiya_reply_in xid left
 result_in answered.Comingsoon xid left = comingsoon_reply_in xid left
 result_in answered.Qstat xid left = qstat_reply_in xid left
 result_in answered.Put xid left = put_reply_in xid left
+result_in answered.Notifyme xid left = notifyme_reply_in xid left
 
 -- a reply from its accept status on: success, and the result
 unfoldable pub accepted_in : Answered → ℕ → List ℕ → Result (Sent × List ℕ) ℕ

@@ -5,6 +5,7 @@ use Rattle.ldm_types.specs.declared.class.ClassSpec.{ClassSpec}
 use Rattle.ldm_relay.specs.declared.message.ClassAnswer.{ClassAnswer}
 use Rattle.ldm_relay.specs.declared.message.SoonAnswer.{SoonAnswer}
 use Rattle.ldm_relay.specs.declared.message.PutAnswer.{PutAnswer}
+use Rattle.ldm_relay.specs.declared.message.Refusal.{Refusal}
 
 pub data Sent : Type 0 where
   Feedme : (xid : ℕ) → (class : ClassSpec) → (max_hereis : ℕ) → Sent
@@ -20,3 +21,7 @@ pub data Sent : Type 0 where
   QstatReply : (xid : ℕ) → (stat : Option (List ℕ)) → Sent
   Put : (xid : ℕ) → (info : Metadata) → (body : List ℕ) → Sent
   PutReply : (xid : ℕ) → (answer : PutAnswer) → Sent
+  Notifyme : (xid : ℕ) → (class : ClassSpec) → Sent
+  NotifymeReply : (xid : ℕ) → (answer : ClassAnswer) → Sent
+  Notification : (xid : ℕ) → (info : Metadata) → Sent
+  Refused : (xid : ℕ) → (why : Refusal) → Sent

@@ -13,6 +13,8 @@ use Rattle.ldm_relay.specs.declared.message.SoonAnswer.{SoonAnswer}
 use Rattle.ldm_relay.specs.declared.message.SoonAnswer.TheVariants as soon_answer
 use Rattle.ldm_relay.specs.declared.message.PutAnswer.{PutAnswer}
 use Rattle.ldm_relay.specs.declared.message.PutAnswer.TheVariants as put_answer
+use Rattle.ldm_relay.specs.declared.message.Refusal.{Refusal}
+use Rattle.ldm_relay.specs.declared.message.Refusal.TheVariants as refusal
 use Rattle.ldm_relay.specs.declared.procedure.Procedure.{Procedure}
 use Rattle.ldm_relay.specs.declared.procedure.Procedure.TheVariants as procedure
 use Rattle.ldm_relay.specs.declared.procedure.TheConstants.{PROGRAM, VERSION}
@@ -85,8 +87,22 @@ call_header xid p =
     unsigned xid ++ unsigned CALL ++ unsigned RPC_VERSION ++ unsigned PROGRAM ++ unsigned VERSION ++ unsigned (number_of p)
     ++ no_authentication ++ no_authentication
 
+-- what stands before the accept status of a reply
+unfoldable pub accepted_header : ℕ → List ℕ
+accepted_header xid = unsigned xid ++ unsigned REPLY ++ unsigned ACCEPTED ++ no_authentication
+
 unfoldable pub reply_header : ℕ → List ℕ
-reply_header xid = unsigned xid ++ unsigned REPLY ++ unsigned ACCEPTED ++ no_authentication ++ unsigned SUCCESS
+reply_header xid = accepted_header xid ++ unsigned SUCCESS
+
+-- ---- refusals
+
+-- the accept status, and the versions behind the one of a mismatch
+abbrev pub refusal_bytes : Refusal → List ℕ
+refusal_bytes refusal.ProgramUnavailable = unsigned 1
+refusal_bytes (refusal.ProgramMismatch lowest highest) = unsigned 2 ++ unsigned lowest ++ unsigned highest
+refusal_bytes refusal.ProcedureUnavailable = unsigned 3
+refusal_bytes refusal.GarbageArguments = unsigned 4
+refusal_bytes refusal.SystemError = unsigned 5
 
 -- ---- messages
 
@@ -105,6 +121,10 @@ written (sent.Qstat xid) = call_header xid procedure.Qstat
 written (sent.QstatReply xid stat) = reply_header xid ++ stat_bytes stat
 written (sent.Put xid info body) = call_header xid procedure.Put ++ (spelling info ++ padded body)
 written (sent.PutReply xid answer) = reply_header xid ++ put_answer_bytes answer
+written (sent.Notifyme xid class) = call_header xid procedure.Notifyme ++ class_bytes class
+written (sent.NotifymeReply xid answer) = reply_header xid ++ class_answer_bytes answer
+written (sent.Notification xid info) = call_header xid procedure.Notification ++ spelling info
+written (sent.Refused xid why) = accepted_header xid ++ refusal_bytes why
 
 -- A record of one fragment (RFC 5531, section 11): a header of four bytes whose highest bit says that it is the last, and
 -- whose other bits are the length of the content; and the content.

@@ -1,7 +1,7 @@
 //! Reading calls.
 ghost use Rattle.std.specs.Prelude.{◌≡◌, ◌≤◌, length, IfOk};
 ghost use Rattle.ldm_relay.specs.MessageView.{sent_of};
-ghost use Rattle.ldm_relay.specs.Calls.{call_in, feedme_in, hiya_in, product_in, hereis_in, put_in, comingsoon_in, blkdata_in};
+ghost use Rattle.ldm_relay.specs.Calls.{call_in, feedme_in, hiya_in, product_in, hereis_in, put_in, comingsoon_in, blkdata_in, notifyme_in, notification_in};
 ghost use Rattle.ldm_relay.specs.Fields.{fixed_in};
 ghost use Rattle.ldm_relay.specs.FieldReads.{Gives};
 ghost use Rattle.ldm_relay.specs.Writable.{IsSized, IsWritable};
@@ -13,7 +13,8 @@ use crate::fault::RelayFault;
 use crate::fields::Fields;
 use crate::header::read_call_header;
 use crate::message::{
-    Blkdata, Comingsoon, Feedme, Hereis, Hiya, Isalive, LARGEST_BLOCK, Message, Put, Qstat,
+    Blkdata, Comingsoon, Feedme, Hereis, Hiya, Isalive, LARGEST_BLOCK, Message, Notification,
+    Notifyme, Put, Qstat,
 };
 use crate::procedure::{PROGRAM, Procedure, VERSION};
 use ldm_types::{Info, Signature};
@@ -38,18 +39,21 @@ pub fn read_call(bytes: &[u8]) -> Result<Message<'_>, RelayFault>
     };
     if header.program != PROGRAM || header.version != VERSION {
         return Err(RelayFault::WrongProgram {
+            xid: header.xid,
             program: header.program,
             version: header.version,
         });
     }
     let Some(procedure) = Procedure::of_number(header.procedure) else {
         return Err(RelayFault::WrongProcedure {
+            xid: header.xid,
             procedure: header.procedure,
         });
     };
     match read_rest(procedure, header.xid, fields) {
         Ok(message) => Ok(message),
         Err(left) => Err(RelayFault::BadMessage {
+            xid: header.xid,
             at: bytes.len().saturating_sub(left),
         }),
     }
@@ -85,6 +89,8 @@ fn read_body<'a>(
         Procedure::Isalive => Ok(Message::Isalive(Isalive { xid })),
         Procedure::Qstat => Ok(Message::Qstat(Qstat { xid })),
         Procedure::Put => read_put(xid, fields),
+        Procedure::Notification => read_notification(xid, fields),
+        Procedure::Notifyme => read_notifyme(xid, fields),
     }
 }
 
@@ -172,6 +178,24 @@ fn read_blkdata<'a>(xid: u32, fields: &mut Fields<'a>) -> Result<Message<'a>, us
         number,
         block,
     }))
+}
+
+#[tactic(auto, unfolding(crate::specs::Calls::notifyme_in))]
+fn read_notifyme<'a>(xid: u32, fields: &mut Fields<'a>) -> Result<Message<'a>, usize>
+    ensures read { Gives sent_of result (notifyme_in xid fields.old) fields.new }
+    ensures sized { IfOk result (λ m. IsSized (sent_of m)) }
+{
+    let class = read_class(fields)?;
+    Ok(Message::Notifyme(Notifyme { xid, class }))
+}
+
+#[tactic(auto, unfolding(crate::specs::Calls::notification_in))]
+fn read_notification<'a>(xid: u32, fields: &mut Fields<'a>) -> Result<Message<'a>, usize>
+    ensures read { Gives sent_of result (notification_in xid fields.old) fields.new }
+    ensures sized { IfOk result (λ m. IsSized (sent_of m)) }
+{
+    let info = fields.info()?;
+    Ok(Message::Notification(Notification { xid, info }))
 }
 
 fn read_signature(fields: &mut Fields) -> Result<Signature, usize>

@@ -1,15 +1,20 @@
 //! What holds of all messages. These functions do nothing: their contracts are the laws.
-ghost use Rattle.std.specs.Prelude.{◌≡◌, ℕ, ◌<◌, ◌^◌, ◌++◌, List, All, Ok};
+ghost use Rattle.std.specs.Prelude.{◌≡◌, ℕ, ◌<◌, ◌^◌, ◌++◌, List, All, Ok, Err};
 ghost use Rattle.ldm_relay.specs.declared.procedure.Procedure.{Procedure};
 ghost use Rattle.ldm_relay.specs.Sent.{Sent};
-ghost use Rattle.ldm_relay.specs.Fits.{Fits};
-ghost use Rattle.ldm_relay.specs.Spelling.{written, call_header, reply_header};
-ghost use Rattle.ldm_relay.specs.Reading.{reply_to, read_as, call_of, reply_of};
+ghost use Rattle.ldm_relay.specs.declared.procedure.Answered.{Answered};
+ghost use Rattle.ldm_relay.specs.declared.message.Refusal.{Refusal};
+ghost use Rattle.ldm_relay.specs.declared.fault.RelayFault.TheVariants.{BadMessage};
+ghost use Rattle.ldm_relay.specs.Sent as sent;
+ghost use Rattle.ldm_relay.specs.Procedure.{number_of, procedure_of};
+ghost use Rattle.ldm_relay.specs.Fits.{Fits, RefusalFits};
+ghost use Rattle.ldm_relay.specs.Spelling.{written, call_header, accepted_header, reply_header};
+ghost use Rattle.ldm_relay.specs.Reading.{kind_of, read_as, call_of, reply_of, refusal_of};
 
-/// What is written is read again as the same message: a call as a call, and a reply as a reply to its procedure. So no
-/// two messages that are read alike have one spelling.
+/// What is written is read again as the same message: a call as a call, a reply as a reply to its procedure, and a
+/// refusal as a refusal. So no two messages that are read alike have one spelling.
 pub fn what_is_written_is_read()
-    ensures { (m : Sent) → Fits m → read_as (reply_to m) (written m) ≡ Ok m }
+    ensures { (m : Sent) → Fits m → read_as (kind_of m) (written m) ≡ Ok m }
 {}
 
 /// What is read behind a header as a writer writes it, without a credential, is written again as it was.
@@ -18,4 +23,13 @@ pub fn what_is_read_is_written()
         → call_of (call_header xid p ++ body) ≡ Ok m → written m ≡ call_header xid p ++ body }
     ensures reply { (xid number : ℕ) (body : List ℕ) (m : Sent) → xid < 2 ^ 32 → All (λ byte. byte < 256) body
         → reply_of number (reply_header xid ++ body) ≡ Ok m → written m ≡ reply_header xid ++ body }
+    ensures refusal { (xid : ℕ) (body : List ℕ) (m : Sent) → xid < 2 ^ 32 → All (λ byte. byte < 256) body
+        → refusal_of (accepted_header xid ++ body) ≡ Ok m → written m ≡ accepted_header xid ++ body }
+{}
+
+/// A refusal that was written is never read as a result, whatever procedure was called: who reads a reply is told the
+/// place of its accept status.
+pub fn a_refusal_is_no_result()
+    ensures { (xid : ℕ) (why : Refusal) (a : Answered) → xid < 2 ^ 32 → RefusalFits why
+        → reply_of (number_of (procedure_of a)) (written (sent.Refused xid why)) ≡ Err (BadMessage xid 20) }
 {}

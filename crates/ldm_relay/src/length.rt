@@ -4,18 +4,21 @@ ghost use Rattle.std.specs.List.{flat_map};
 ghost use Rattle.ldm_types.specs.Info.{pad4, metadata_len};
 ghost use Rattle.ldm_xdr.specs.Spelling.{spelling};
 ghost use Rattle.ldm_relay.specs.MessageView.{sent_of};
-ghost use Rattle.ldm_relay.specs.Spelling.{hyper, class_bytes, class_answer_bytes, stat_bytes, put_answer_bytes, written};
+ghost use Rattle.ldm_relay.specs.Spelling.{hyper, class_bytes, class_answer_bytes, stat_bytes, put_answer_bytes, refusal_bytes, written};
 ghost use Rattle.ldm_relay.specs.Writable.{IsWritable};
 ghost use Rattle.ldm_relay.specs.declared.message.TheConstants.{LARGEST_BLOCK, LARGEST_CONTENT};
 ghost use Rattle.ldm_relay.specs.declared.length.TheConstants.{LONGEST_CLASS, LONGEST_METADATA};
 
-use crate::message::{ClassAnswer, Message, PutAnswer};
+use crate::message::{ClassAnswer, Message, PutAnswer, Refusal};
 use ldm_types::{ClassSpec, Info, Signature};
 use ldm_xdr::info_len;
 
 const CALL_HEADER: usize = 40;
 
 const REPLY_HEADER: usize = 24;
+
+// A reply up to its accept status.
+const ACCEPTED_HEADER: usize = 20;
 
 // The most bytes of a class: 32 specifications with patterns of 255 bytes.
 const LONGEST_CLASS: usize = 8_468;
@@ -44,6 +47,10 @@ pub(crate) fn content_len(message: &Message) -> usize
         Message::QstatReply(m) => REPLY_HEADER + stat_len(&m.stat),
         Message::Put(m) => CALL_HEADER + spelling_len(&m.info) + padded(m.body.len()),
         Message::PutReply(m) => REPLY_HEADER + put_answer_len(m.answer),
+        Message::Notifyme(m) => CALL_HEADER + class_len(&m.class),
+        Message::NotifymeReply(m) => REPLY_HEADER + class_answer_len(&m.answer),
+        Message::Notification(m) => CALL_HEADER + spelling_len(&m.info),
+        Message::Refused(m) => ACCEPTED_HEADER + refusal_len(m.why),
     }
 }
 
@@ -108,6 +115,20 @@ fn put_answer_len(answer: PutAnswer) -> usize
         PutAnswer::TooBig { .. } => 20,
         PutAnswer::Duplicate { .. } | PutAnswer::Locked { .. } => 12,
         PutAnswer::TimeEnd | PutAnswer::Denied => 4,
+    }
+}
+
+#[tactic(auto, using(crate::proofs::Lengths::lengths))]
+fn refusal_len(why: Refusal) -> usize
+    ensures value { result ≡ length (refusal_bytes why) }
+    ensures bound { result ≤ 12 }
+{
+    match why {
+        Refusal::ProgramMismatch { .. } => 12,
+        Refusal::ProgramUnavailable
+        | Refusal::ProcedureUnavailable
+        | Refusal::GarbageArguments
+        | Refusal::SystemError => 4,
     }
 }
 

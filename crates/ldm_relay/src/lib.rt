@@ -15,17 +15,19 @@ mod length;
 mod message;
 mod procedure;
 mod record;
+mod refusal;
 mod reply;
 mod write;
 
 pub use call::read_call;
 pub use fault::RelayFault;
-pub use laws::{what_is_read_is_written, what_is_written_is_read};
+pub use laws::{a_refusal_is_no_result, what_is_read_is_written, what_is_written_is_read};
 pub use message::{
     Blkdata, ClassAnswer, Comingsoon, ComingsoonReply, Feedme, FeedmeReply, Hereis, Hiya,
-    HiyaReply, Isalive, LARGEST_BLOCK, LARGEST_CONTENT, Message, Put, PutAnswer, PutReply, Qstat,
-    QstatReply, SoonAnswer,
+    HiyaReply, Isalive, LARGEST_BLOCK, LARGEST_CONTENT, Message, Notification, Notifyme,
+    NotifymeReply, Put, PutAnswer, PutReply, Qstat, QstatReply, Refusal, Refused, SoonAnswer,
 };
 pub use procedure::{PROGRAM, VERSION};
 pub use record::write_message;
+pub use refusal::read_refusal;
 pub use reply::read_reply;

@@ -26,6 +26,10 @@ pub enum Message<'a> {
     QstatReply(QstatReply),
     Put(Put<'a>),
     PutReply(PutReply),
+    Notifyme(Notifyme),
+    NotifymeReply(NotifymeReply),
+    Notification(Notification),
+    Refused(Refused),
 }
 
 /// Asks to be fed the products of a class.
@@ -173,4 +177,47 @@ pub enum PutAnswer {
     Locked { held: u64 },
     /// The caller may not insert it.
     Denied,
+}
+
+/// Asks to be told of the products of a class: of each its metadata, and not its body.
+#[derive(Debug, Drop)]
+pub struct Notifyme {
+    pub xid: u32,
+    pub class: ClassSpec,
+}
+
+/// The answer to [`Notifyme`].
+#[derive(Debug, Drop)]
+pub struct NotifymeReply {
+    pub xid: u32,
+    pub answer: ClassAnswer,
+}
+
+/// Tells of a product that was inserted. It has no reply.
+#[derive(Debug, Drop)]
+pub struct Notification {
+    pub xid: u32,
+    pub info: Info,
+}
+
+/// A reply that says that a call was not carried out. It answers a call of any procedure, or of none.
+#[derive(Clone, Copy, Debug, PartialEq, Eq)]
+pub struct Refused {
+    pub xid: u32,
+    pub why: Refusal,
+}
+
+/// Why a call was not carried out: an accept status above 0 (RFC 5531, section 9).
+#[derive(Clone, Copy, Debug, PartialEq, Eq)]
+pub enum Refusal {
+    /// There is no such program.
+    ProgramUnavailable,
+    /// The program has other versions: the least and the greatest one.
+    ProgramMismatch { lowest: u32, highest: u32 },
+    /// The program has no such procedure.
+    ProcedureUnavailable,
+    /// The body of the call could not be read.
+    GarbageArguments,
+    /// Another cause, such as want of memory.
+    SystemError,
 }

@@ -19,10 +19,12 @@ pub(crate) enum Procedure {
     Isalive,
     Qstat,
     Put,
+    Notification,
+    Notifyme,
 }
 
 impl Procedure {
-    const ALL: [Procedure; 8] = [
+    const ALL: [Procedure; 10] = [
         Procedure::Hereis,
         Procedure::Feedme,
         Procedure::Hiya,
@@ -31,6 +33,8 @@ impl Procedure {
         Procedure::Isalive,
         Procedure::Qstat,
         Procedure::Put,
+        Procedure::Notification,
+        Procedure::Notifyme,
     ];
 
     /// Its number.
@@ -46,6 +50,8 @@ impl Procedure {
             Procedure::Isalive => 14,
             Procedure::Qstat => 100,
             Procedure::Put => 101,
+            Procedure::Notification => 6,
+            Procedure::Notifyme => 7,
         }
     }
 
@@ -69,15 +75,17 @@ pub(crate) enum Answered {
     Comingsoon,
     Qstat,
     Put,
+    Notifyme,
 }
 
 impl Answered {
-    const ALL: [Answered; 5] = [
+    const ALL: [Answered; 6] = [
         Answered::Feedme,
         Answered::Hiya,
         Answered::Comingsoon,
         Answered::Qstat,
         Answered::Put,
+        Answered::Notifyme,
     ];
 
     /// The procedure.
@@ -90,6 +98,7 @@ impl Answered {
             Answered::Comingsoon => Procedure::Comingsoon,
             Answered::Qstat => Procedure::Qstat,
             Answered::Put => Procedure::Put,
+            Answered::Notifyme => Procedure::Notifyme,
         }
     }
 

@@ -1,7 +1,7 @@
 //! Reading replies.
 ghost use Rattle.std.specs.Prelude.{IfOk};
 ghost use Rattle.ldm_relay.specs.MessageView.{sent_of};
-ghost use Rattle.ldm_relay.specs.Replies.{accepted_in, result_in, feedme_reply_in, hiya_reply_in, comingsoon_reply_in};
+ghost use Rattle.ldm_relay.specs.Replies.{accepted_in, result_in, feedme_reply_in, hiya_reply_in, comingsoon_reply_in, notifyme_reply_in};
 ghost use Rattle.ldm_relay.specs.Replies.{figures_in, stat_in, qstat_reply_in, admitted_in, too_big_in, put_answer_in, put_reply_in};
 ghost use Rattle.ldm_relay.specs.FieldReads.{Gives};
 ghost use Rattle.ldm_relay.specs.Writable.{IsWritable};
@@ -12,14 +12,16 @@ use crate::fault::RelayFault;
 use crate::fields::Fields;
 use crate::header::{SUCCESS, read_reply_header};
 use crate::message::{
-    ComingsoonReply, FeedmeReply, HiyaReply, Message, PutAnswer, PutReply, QstatReply, SoonAnswer,
+    ComingsoonReply, FeedmeReply, HiyaReply, Message, NotifymeReply, PutAnswer, PutReply,
+    QstatReply, SoonAnswer,
 };
 use crate::procedure::Answered;
 
 /// The reply that is the whole content of a record, to a call of that procedure. It takes no memory.
 ///
-/// A reply that tells why the procedure was not carried out is `BadMessage`, at the place of its accept status. The
-/// verifier must be of flavour 0 and have at most 400 bytes, which are not looked at.
+/// A reply that tells why the procedure was not carried out is `BadMessage`, at the place of its accept status:
+/// [`read_refusal`](crate::read_refusal) reads it. The verifier must be of flavour 0 and have at most 400 bytes, which
+/// are not looked at.
 #[tactic(auto, unfolding(crate::specs::Reading::reply_of))]
 pub fn read_reply(bytes: &[u8], procedure: u32) -> Result<Message<'_>, RelayFault>
     ensures read { Answers sent_of result (reply_of procedure bytes.now) }
@@ -35,11 +37,12 @@ pub fn read_reply(bytes: &[u8], procedure: u32) -> Result<Message<'_>, RelayFaul
         }
     };
     let Some(answered) = Answered::of_number(procedure) else {
-        return Err(RelayFault::WrongProcedure { procedure });
+        return Err(RelayFault::WrongProcedure { xid, procedure });
     };
     match read_rest(answered, xid, fields) {
         Ok(message) => Ok(message),
         Err(left) => Err(RelayFault::BadMessage {
+            xid,
             at: bytes.len().saturating_sub(left),
         }),
     }
@@ -85,6 +88,7 @@ fn read_result<'a>(
         Answered::Comingsoon => read_comingsoon_reply(xid, fields),
         Answered::Qstat => read_qstat_reply(xid, fields),
         Answered::Put => read_put_reply(xid, fields),
+        Answered::Notifyme => read_notifyme_reply(xid, fields),
     }
 }
 
@@ -95,6 +99,15 @@ fn read_feedme_reply<'a>(xid: u32, fields: &mut Fields<'a>) -> Result<Message<'a
 {
     let answer = read_class_answer(fields)?;
     Ok(Message::FeedmeReply(FeedmeReply { xid, answer }))
+}
+
+#[tactic(auto, unfolding(crate::specs::Replies::notifyme_reply_in))]
+fn read_notifyme_reply<'a>(xid: u32, fields: &mut Fields<'a>) -> Result<Message<'a>, usize>
+    ensures read { Gives sent_of result (notifyme_reply_in xid fields.old) fields.new }
+    ensures writable { IfOk result (λ m. IsWritable (sent_of m)) }
+{
+    let answer = read_class_answer(fields)?;
+    Ok(Message::NotifymeReply(NotifymeReply { xid, answer }))
 }
 
 #[tactic(auto, unfolding(crate::specs::Replies::hiya_reply_in))]

@@ -7,14 +7,14 @@ ghost use Rattle.ldm_xdr.specs.Spelling.{spelling};
 ghost use Rattle.ldm_relay.specs.Sent as sent;
 ghost use Rattle.ldm_relay.specs.MessageView.{sent_of};
 ghost use Rattle.ldm_relay.specs.Spelling.{number, hyper, padded, opaque, instant_bytes, spec_bytes, class_bytes, class_answer_bytes, soon_answer_bytes, stat_bytes};
-ghost use Rattle.ldm_relay.specs.Spelling.{put_answer_bytes, no_authentication, call_header, reply_header, written, record_of};
+ghost use Rattle.ldm_relay.specs.Spelling.{put_answer_bytes, refusal_bytes, no_authentication, call_header, accepted_header, reply_header, written, record_of};
 ghost use Rattle.ldm_relay.specs.Writable.{IsWritable};
 ghost use Rattle.ldm_relay.specs.Appends.{HasRoom, Appends};
 ghost use Rattle.ldm_relay.specs.declared.message.TheConstants.{LARGEST_BLOCK};
 
 use crate::header::{ACCEPTED, CALL, NO_AUTHENTICATION, REPLY, RPC_VERSION, SUCCESS};
 use crate::length::LONGEST_METADATA;
-use crate::message::{Blkdata, ClassAnswer, Message, PutAnswer, SoonAnswer};
+use crate::message::{Blkdata, ClassAnswer, Message, PutAnswer, Refusal, SoonAnswer};
 use crate::procedure::{PROGRAM, Procedure, VERSION};
 use byteorder::{BigEndian, ByteOrder};
 use ldm_types::{ClassSpec, Info, Micros, Spec};
@@ -43,6 +43,10 @@ pub(crate) fn put_message(out: &mut Vec<u8>, message: &Message)
         Message::QstatReply(m) => put_qstat_reply(out, m.xid, &m.stat),
         Message::Put(m) => put_product(out, m.xid, Procedure::Put, &m.info, m.body),
         Message::PutReply(m) => put_put_reply(out, m.xid, m.answer),
+        Message::Notifyme(m) => put_notifyme(out, m.xid, &m.class),
+        Message::NotifymeReply(m) => put_notifyme_reply(out, m.xid, &m.answer),
+        Message::Notification(m) => put_notification(out, m.xid, &m.info),
+        Message::Refused(m) => put_refused(out, m.xid, m.why),
     }
 }
 
@@ -144,6 +148,60 @@ fn put_put_reply(out: &mut Vec<u8>, xid: u32, answer: PutAnswer)
     put_put_answer(out, answer);
 }
 
+#[tactic(auto, using(crate::proofs::Appending::appending), unfolding(crate::specs::Spelling::written))]
+fn put_notifyme(out: &mut Vec<u8>, xid: u32, class: &ClassSpec)
+    requires { HasRoom out.old (written (sent.Notifyme xid class.now)) }
+    ensures { Appends out.old out.new (written (sent.Notifyme xid class.now)) }
+{
+    put_call_header(out, xid, Procedure::Notifyme);
+    put_class(out, class);
+}
+
+#[tactic(auto, using(crate::proofs::Appending::appending), unfolding(crate::specs::Spelling::written))]
+fn put_notifyme_reply(out: &mut Vec<u8>, xid: u32, answer: &ClassAnswer)
+    requires { HasRoom out.old (written (sent.NotifymeReply xid answer.now)) }
+    ensures { Appends out.old out.new (written (sent.NotifymeReply xid answer.now)) }
+{
+    put_reply_header(out, xid);
+    put_class_answer(out, answer);
+}
+
+#[tactic(auto, using(crate::proofs::Appending::appending), unfolding(crate::specs::Spelling::written))]
+fn put_notification(out: &mut Vec<u8>, xid: u32, info: &Info)
+    requires { HasRoom out.old (written (sent.Notification xid info.now)) }
+    ensures { Appends out.old out.new (written (sent.Notification xid info.now)) }
+{
+    put_call_header(out, xid, Procedure::Notification);
+    put_info(out, info);
+}
+
+#[tactic(auto, using(crate::proofs::Appending::appending), unfolding(crate::specs::Spelling::written))]
+fn put_refused(out: &mut Vec<u8>, xid: u32, why: Refusal)
+    requires { HasRoom out.old (written (sent.Refused xid why)) }
+    ensures { Appends out.old out.new (written (sent.Refused xid why)) }
+{
+    put_accepted_header(out, xid);
+    put_refusal(out, why);
+}
+
+#[tactic(auto, using(crate::proofs::Appending::appending))]
+fn put_refusal(out: &mut Vec<u8>, why: Refusal)
+    requires { HasRoom out.old (refusal_bytes why) }
+    ensures { Appends out.old out.new (refusal_bytes why) }
+{
+    match why {
+        Refusal::ProgramUnavailable => put_unsigned(out, 1),
+        Refusal::ProgramMismatch { lowest, highest } => {
+            put_unsigned(out, 2);
+            put_unsigned(out, lowest);
+            put_unsigned(out, highest);
+        }
+        Refusal::ProcedureUnavailable => put_unsigned(out, 3),
+        Refusal::GarbageArguments => put_unsigned(out, 4),
+        Refusal::SystemError => put_unsigned(out, 5),
+    }
+}
+
 #[tactic(auto, using(crate::proofs::Appending::appending), unfolding(crate::specs::Spelling::call_header))]
 fn put_call_header(out: &mut Vec<u8>, xid: u32, procedure: Procedure)
     requires { HasRoom out.old (call_header xid procedure) }
@@ -164,11 +222,19 @@ fn put_reply_header(out: &mut Vec<u8>, xid: u32)
     requires { HasRoom out.old (reply_header xid) }
     ensures { Appends out.old out.new (reply_header xid) }
 {
+    put_accepted_header(out, xid);
+    put_unsigned(out, SUCCESS);
+}
+
+#[tactic(auto, using(crate::proofs::Appending::appending), unfolding(crate::specs::Spelling::accepted_header))]
+fn put_accepted_header(out: &mut Vec<u8>, xid: u32)
+    requires { HasRoom out.old (accepted_header xid) }
+    ensures { Appends out.old out.new (accepted_header xid) }
+{
     put_unsigned(out, xid);
     put_unsigned(out, REPLY);
     put_unsigned(out, ACCEPTED);
     put_no_authentication(out);
-    put_unsigned(out, SUCCESS);
 }
 
 #[tactic(auto, using(crate::proofs::Appending::appending), unfolding(crate::specs::Spelling::no_authentication))]
