@@ -9,7 +9,7 @@ mod records;
 
 use anyhow::{Result, bail};
 use ldm_drive::{Case, drive};
-use messages::{made_message, read_as_call, read_as_reply};
+use messages::{made_message, read_as_call, read_as_refusal, read_as_reply};
 use mutated::{Sample, add_sample, mutate};
 use pieces::{cuts, random_pieces};
 use records::steps;
@@ -23,6 +23,7 @@ fn answer(alloc: Global, samples: &mut Vec<Sample>, case: &mut Case) -> Result<S
         "random_pieces" => random_pieces(alloc, case),
         "call" => read_as_call(alloc, case),
         "reply" => read_as_reply(alloc, case),
+        "refusal" => read_as_refusal(alloc, case),
         "made" => made_message(alloc, case),
         "sample" => add_sample(alloc, samples, case),
         "mutate" => mutate(alloc, samples, case),

@@ -8,8 +8,8 @@ ghost use Rattle.ldm_relay.specs.declared.message.TheConstants.{LARGEST_CONTENT}
 use anyhow::{Context, Result, bail, ensure};
 use ldm_drive::{Case, digits_of};
 use ldm_relay::{
-    Hereis, LARGEST_BLOCK, LARGEST_CONTENT, Message, RelayFault, read_call, read_reply,
-    write_message,
+    Hereis, LARGEST_BLOCK, LARGEST_CONTENT, Message, RelayFault, read_call, read_refusal,
+    read_reply, write_message,
 };
 use ldm_types::{Feed, Info, Micros, Signature};
 use std::alloc::Global;
@@ -53,6 +53,17 @@ pub fn read_as_reply(alloc: Global, case: &mut Case) -> Result<String> {
     let procedure = case.small()?;
     ensure!(procedure != 0, "no procedure");
     told_of(alloc, &case.bytes(alloc)?, procedure)
+}
+
+/// `refusal RECORD`: the content of a record as a reply to a call that was not carried out, and how it is written again; or
+/// the fault.
+pub fn read_as_refusal(alloc: Global, case: &mut Case) -> Result<String> {
+    let record = case.bytes(alloc)?;
+    let content = record.get(4..).context("no header")?;
+    match read_refusal(content) {
+        Ok(refused) => told_of_message(alloc, &Message::Refused(refused), &record),
+        Err(fault) => Ok(format!(in alloc; "{fault:?}")?),
+    }
 }
 
 fn told_of(alloc: Global, record: &[u8], procedure: u32) -> Result<String> {

@@ -121,7 +121,7 @@ impl Found {
             }
             RelayFault::WrongProgram { .. } => add(&mut self.wrong_program, 1),
             RelayFault::WrongProcedure { .. } => add(&mut self.wrong_procedure, 1),
-            RelayFault::BadMessage { at } => {
+            RelayFault::BadMessage { at, .. } => {
                 add(&mut self.bad_message, 1);
                 add(&mut self.places, at as u64);
             }
