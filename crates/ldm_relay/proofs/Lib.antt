@@ -10,3 +10,4 @@ pub mod FieldsFound
 pub mod ClassesFound
 pub mod MessagesFound
 pub mod Room
+pub mod Records

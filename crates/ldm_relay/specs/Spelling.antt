@@ -1,11 +1,12 @@
 -- The one spelling of each message: what a writer writes (RFC 4506, RFC 5531), in this project's profile.
-use Rattle.std.specs.Prelude.{ℕ, ◌+◌, ◌-◌, ◌/◌, ◌%◌, ◌^◌, List, ◌++◌, length, replicate, Option, Some, None}
+use Rattle.std.specs.Prelude.{ℕ, ◌+◌, ◌-◌, ◌/◌, ◌%◌, ◌^◌, List, [], ◌++◌, length, replicate, Option, Some, None}
 use Rattle.std.specs.Int.{Width, w32, w64, to_be_bytes}
 use Rattle.std.specs.List.{flat_map}
 use Rattle.ldm_types.specs.Info.{pad4}
 use Rattle.ldm_types.specs.declared.class.ClassSpec.{ClassSpec}
 use Rattle.ldm_types.specs.declared.class.Spec.{Spec}
 use Rattle.ldm_xdr.specs.Spelling.{spelling}
+use Rattle.ldm_rpc.specs.Spelling.{Record, spelling as record_spelling}
 use Rattle.ldm_relay.specs.declared.header.TheConstants.{CALL, REPLY, RPC_VERSION, ACCEPTED, SUCCESS, NO_AUTHENTICATION}
 use Rattle.ldm_relay.specs.declared.message.ClassAnswer.{ClassAnswer}
 use Rattle.ldm_relay.specs.declared.message.ClassAnswer.TheVariants as class_answer
@@ -126,7 +127,10 @@ written (sent.NotifymeReply xid answer) = reply_header xid ++ class_answer_bytes
 written (sent.Notification xid info) = call_header xid procedure.Notification ++ spelling info
 written (sent.Refused xid why) = accepted_header xid ++ refusal_bytes why
 
--- A record of one fragment (RFC 5531, section 11): a header of four bytes whose highest bit says that it is the last, and
--- whose other bits are the length of the content; and the content.
+-- the record of one fragment that has a content
+abbrev pub in_one : List ℕ → Record
+in_one content = record { before = []; last = content }
+
+-- its spelling: a header of four bytes, and the content
 abbrev pub record_of : List ℕ → List ℕ
-record_of content = unsigned (2 ^ 31 + length content) ++ content
+record_of content = record_spelling (in_one content)

@@ -16,3 +16,4 @@ pub use laws::{
     records_are_read, too_long_at_the_header, what_is_read_is_spelled,
 };
 pub use records::Records;
+pub use stage::LAST_FRAGMENT;
