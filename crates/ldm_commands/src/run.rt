@@ -1,11 +1,15 @@
 //! The top call: does what the words of the program ask for.
-ghost use Rattle.std.specs.Prelude.{map, string_bytes};
+ghost use Rattle.std.specs.Prelude.{◌≤◌, map, string_bytes};
 ghost use Rattle.ldm_status.specs.World.{KeepsFaults, world_tells};
+ghost use Rattle.ldm_status.specs.declared.status.Status.TheVariants as status;
+ghost use Rattle.ldm_status.specs.Status.{Reports};
 ghost use Rattle.ldm_commands.specs.Command.{command_of};
 ghost use Rattle.ldm_commands.specs.Complete.{RunCompletes};
 ghost use Rattle.ldm_commands.specs.Run.{RunEnds};
+ghost use Rattle.ldm_commands.specs.Unbuilt.{unbuilt_text};
 
 use crate::command::{Command, read_command};
+use crate::unbuilt::Unbuilt;
 use ldm_crowd_command::crowd;
 use ldm_outside::{Sink, Source};
 use ldm_play::play;
@@ -38,9 +42,15 @@ pub fn run_ldm<H: Threads + Wait + Sync, S: Source, K: Sink, E: Sink>(
                 workers,
             },
         ) => crowd(rt, alloc, arena, slots, workers, world),
-        Some(Command::NotBuilt(what)) => {
-            Status::NotBuilt(Word::new(what.text())).report(&mut world.log)
-        }
+        Some(Command::NotBuilt(what)) => report_unbuilt(what, &mut world.log),
         None => Status::Usage.report(&mut world.log),
     }
+}
+
+// Tells that a command is not built yet.
+fn report_unbuilt<E: Sink>(what: Unbuilt, log: &mut E) -> u8
+    ensures reports { Reports (status.NotBuilt (unbuilt_text what)) result (E.tells log.old) (E.tells log.new) }
+    ensures faults_kept { (E.tells log.old).faults ≤ (E.tells log.new).faults }
+{
+    Status::NotBuilt(Word::new(what.text())).report(log)
 }
