@@ -64,16 +64,19 @@ pub fn ident(alloc: Global, case: &mut Case) -> Result<String> {
 /// The status of a run and the lines that it wrote, each with how often it stands there in a row.
 pub fn count_line(alloc: Global, outcome: &Outcome) -> Result<String> {
     let mut text = format!(in alloc; "{}", outcome.status)?;
-    let (mut last, mut times) = ("", 0u64);
-    for line in from_utf8(&outcome.written)?.split('\n') {
-        if line == last {
-            times = times.saturating_add(1);
-        } else {
-            add_count(alloc, &mut text, last, times)?;
-            (last, times) = (line, 1);
+    let lines: Vec<&str> = from_utf8(&outcome.written)?.split('\n').collect(alloc)?;
+    let mut times = 0u64;
+    for (i, line) in lines.iter().enumerate() {
+        times = times.saturating_add(1);
+        let goes_on = match lines.get(i.saturating_add(1)) {
+            Some(next) => *next == *line,
+            None => false,
+        };
+        if !goes_on {
+            add_count(alloc, &mut text, line, times)?;
+            times = 0;
         }
     }
-    add_count(alloc, &mut text, last, times)?;
     Ok(text)
 }
 
