@@ -11,3 +11,4 @@ pub mod ClassesFound
 pub mod MessagesFound
 pub mod Room
 pub mod Records
+pub mod Sized

@@ -1,5 +1,5 @@
 -- A content that is not too long is one record.
-use Rattle.std.proofs.Common.{◌≡◌, ℕ, ◌≤◌, List, length, arith}
+use Rattle.std.proofs.Common.{ℕ, ◌≤◌, List, length, arith}
 use Rattle.std.proofs.lemmas.List.Elements.{All-nil}
 use Rattle.ldm_rpc.specs.Spelling.{IsShort, Fits as RecordFits}
 use Rattle.ldm_relay.specs.declared.message.TheConstants.{LARGEST_CONTENT}

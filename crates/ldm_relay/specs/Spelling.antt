@@ -1,5 +1,5 @@
 -- The one spelling of each message: what a writer writes (RFC 4506, RFC 5531), in this project's profile.
-use Rattle.std.specs.Prelude.{ℕ, ◌+◌, ◌-◌, ◌/◌, ◌%◌, ◌^◌, List, [], ◌++◌, length, replicate, Option, Some, None}
+use Rattle.std.specs.Prelude.{ℕ, ◌-◌, ◌/◌, ◌%◌, List, [], ◌++◌, length, replicate, Option, Some, None}
 use Rattle.std.specs.Int.{Width, w32, w64, to_be_bytes}
 use Rattle.std.specs.List.{flat_map}
 use Rattle.ldm_types.specs.Info.{pad4}

@@ -5,6 +5,8 @@ ghost use Rattle.ldm_relay.specs.Calls.{call_in, feedme_in, hiya_in, product_in,
 ghost use Rattle.ldm_relay.specs.Fields.{fixed_in};
 ghost use Rattle.ldm_relay.specs.FieldReads.{Gives};
 ghost use Rattle.ldm_relay.specs.Writable.{IsSized, IsWritable};
+ghost use Rattle.ldm_relay.specs.Fits.{Fits};
+ghost use Rattle.ldm_xdr.specs.Spelling.{Fits as InfoFits};
 ghost use Rattle.ldm_relay.specs.declared.message.TheConstants.{LARGEST_CONTENT};
 ghost use Rattle.ldm_relay.specs.Reading.{Answers, whole, call_of};
 
@@ -22,10 +24,12 @@ use ldm_types::{Info, Signature};
 /// The call that is the whole content of a record. It borrows the bytes that it carries. It takes no memory.
 ///
 /// The credential and the verifier must be of flavour 0 and have at most 400 bytes, which are not looked at.
-#[tactic(auto, unfolding(crate::specs::Reading::call_of))]
+#[tactic(auto, using(crate::proofs::Sized::fits_sized), unfolding(crate::specs::Reading::call_of))]
 pub fn read_call(bytes: &[u8]) -> Result<Message<'_>, RelayFault>
     ensures read { Answers sent_of result (call_of bytes.now) }
     ensures sized { IfOk result (λ m. IsSized (sent_of m)) }
+    // So what is written of it is read again as the same message.
+    ensures fits { IfOk result (λ m. Fits (sent_of m)) }
     ensures writable { length bytes.now ≤ LARGEST_CONTENT → IfOk result (λ m. IsWritable (sent_of m)) }
 {
     let mut fields = Fields::of(bytes);
@@ -65,7 +69,7 @@ pub fn read_call(bytes: &[u8]) -> Result<Message<'_>, RelayFault>
 #[tactic(auto, unfolding(crate::specs::Reading::whole))]
 fn read_rest(procedure: Procedure, xid: u32, mut fields: Fields<'_>) -> Result<Message<'_>, usize>
     ensures read { Answers sent_of result (whole (call_in procedure xid fields.entry)) }
-    ensures sized { IfOk result (λ m. IsSized (sent_of m)) }
+    ensures fits { IfOk result (λ m. Fits (sent_of m)) }
 {
     let message = read_body(procedure, xid, &mut fields)?;
     fields.end()?;
@@ -78,7 +82,7 @@ fn read_body<'a>(
     fields: &mut Fields<'a>,
 ) -> Result<Message<'a>, usize>
     ensures read { Gives sent_of result (call_in procedure xid fields.old) fields.new }
-    ensures sized { IfOk result (λ m. IsSized (sent_of m)) }
+    ensures fits { IfOk result (λ m. Fits (sent_of m)) }
 {
     match procedure {
         Procedure::Hereis => read_hereis(xid, fields),
@@ -97,7 +101,7 @@ fn read_body<'a>(
 #[tactic(auto, unfolding(crate::specs::Calls::feedme_in))]
 fn read_feedme<'a>(xid: u32, fields: &mut Fields<'a>) -> Result<Message<'a>, usize>
     ensures read { Gives sent_of result (feedme_in xid fields.old) fields.new }
-    ensures sized { IfOk result (λ m. IsSized (sent_of m)) }
+    ensures fits { IfOk result (λ m. Fits (sent_of m)) }
 {
     let class = read_class(fields)?;
     let max_hereis = fields.unsigned()?;
@@ -111,7 +115,7 @@ fn read_feedme<'a>(xid: u32, fields: &mut Fields<'a>) -> Result<Message<'a>, usi
 #[tactic(auto, unfolding(crate::specs::Calls::hiya_in))]
 fn read_hiya<'a>(xid: u32, fields: &mut Fields<'a>) -> Result<Message<'a>, usize>
     ensures read { Gives sent_of result (hiya_in xid fields.old) fields.new }
-    ensures sized { IfOk result (λ m. IsSized (sent_of m)) }
+    ensures fits { IfOk result (λ m. Fits (sent_of m)) }
 {
     let class = read_class(fields)?;
     Ok(Message::Hiya(Hiya { xid, class }))
@@ -126,6 +130,7 @@ struct Product<'a> {
 fn read_product<'a>(fields: &mut Fields<'a>) -> Result<Product<'a>, usize>
     ensures read { Gives (λ product. (product.info, product.body.now)) result (product_in fields.old) fields.new }
     ensures sized { IfOk result (λ product. length product.body.now ≡ product.info.size) }
+    ensures fits { IfOk result (λ product. InfoFits product.info) }
 {
     let info = fields.info()?;
     let body = fields.fixed(info.size())?;
@@ -135,7 +140,7 @@ fn read_product<'a>(fields: &mut Fields<'a>) -> Result<Product<'a>, usize>
 #[tactic(auto, unfolding(crate::specs::Calls::hereis_in))]
 fn read_hereis<'a>(xid: u32, fields: &mut Fields<'a>) -> Result<Message<'a>, usize>
     ensures read { Gives sent_of result (hereis_in xid fields.old) fields.new }
-    ensures sized { IfOk result (λ m. IsSized (sent_of m)) }
+    ensures fits { IfOk result (λ m. Fits (sent_of m)) }
 {
     let Product { info, body } = read_product(fields)?;
     Ok(Message::Hereis(Hereis { xid, info, body }))
@@ -144,7 +149,7 @@ fn read_hereis<'a>(xid: u32, fields: &mut Fields<'a>) -> Result<Message<'a>, usi
 #[tactic(auto, unfolding(crate::specs::Calls::put_in))]
 fn read_put<'a>(xid: u32, fields: &mut Fields<'a>) -> Result<Message<'a>, usize>
     ensures read { Gives sent_of result (put_in xid fields.old) fields.new }
-    ensures sized { IfOk result (λ m. IsSized (sent_of m)) }
+    ensures fits { IfOk result (λ m. Fits (sent_of m)) }
 {
     let Product { info, body } = read_product(fields)?;
     Ok(Message::Put(Put { xid, info, body }))
@@ -153,7 +158,7 @@ fn read_put<'a>(xid: u32, fields: &mut Fields<'a>) -> Result<Message<'a>, usize>
 #[tactic(auto, unfolding(crate::specs::Calls::comingsoon_in))]
 fn read_comingsoon<'a>(xid: u32, fields: &mut Fields<'a>) -> Result<Message<'a>, usize>
     ensures read { Gives sent_of result (comingsoon_in xid fields.old) fields.new }
-    ensures sized { IfOk result (λ m. IsSized (sent_of m)) }
+    ensures fits { IfOk result (λ m. Fits (sent_of m)) }
 {
     let info = fields.info()?;
     let block_size = fields.unsigned()?;
@@ -167,7 +172,7 @@ fn read_comingsoon<'a>(xid: u32, fields: &mut Fields<'a>) -> Result<Message<'a>,
 #[tactic(auto, unfolding(crate::specs::Calls::blkdata_in))]
 fn read_blkdata<'a>(xid: u32, fields: &mut Fields<'a>) -> Result<Message<'a>, usize>
     ensures read { Gives sent_of result (blkdata_in xid fields.old) fields.new }
-    ensures sized { IfOk result (λ m. IsSized (sent_of m)) }
+    ensures fits { IfOk result (λ m. Fits (sent_of m)) }
 {
     let signature = read_signature(fields)?;
     let number = fields.unsigned()?;
@@ -183,7 +188,7 @@ fn read_blkdata<'a>(xid: u32, fields: &mut Fields<'a>) -> Result<Message<'a>, us
 #[tactic(auto, unfolding(crate::specs::Calls::notifyme_in))]
 fn read_notifyme<'a>(xid: u32, fields: &mut Fields<'a>) -> Result<Message<'a>, usize>
     ensures read { Gives sent_of result (notifyme_in xid fields.old) fields.new }
-    ensures sized { IfOk result (λ m. IsSized (sent_of m)) }
+    ensures fits { IfOk result (λ m. Fits (sent_of m)) }
 {
     let class = read_class(fields)?;
     Ok(Message::Notifyme(Notifyme { xid, class }))
@@ -192,7 +197,7 @@ fn read_notifyme<'a>(xid: u32, fields: &mut Fields<'a>) -> Result<Message<'a>, u
 #[tactic(auto, unfolding(crate::specs::Calls::notification_in))]
 fn read_notification<'a>(xid: u32, fields: &mut Fields<'a>) -> Result<Message<'a>, usize>
     ensures read { Gives sent_of result (notification_in xid fields.old) fields.new }
-    ensures sized { IfOk result (λ m. IsSized (sent_of m)) }
+    ensures fits { IfOk result (λ m. Fits (sent_of m)) }
 {
     let info = fields.info()?;
     Ok(Message::Notification(Notification { xid, info }))

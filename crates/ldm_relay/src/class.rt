@@ -1,5 +1,7 @@
 //! Classes of products, and what is said to one.
-ghost use Rattle.std.specs.Prelude.{◌≤◌, List};
+ghost use Rattle.std.specs.Prelude.{◌≤◌, List, length, IfOk};
+ghost use Rattle.std.specs.List.{AllByRecursion};
+ghost use Rattle.ldm_relay.specs.Fits.{SpecFits, ClassFits, ClassAnswerFits};
 ghost use Rattle.ldm_types.specs.declared.limits.TheConstants.{MOST_SPECS};
 ghost use Rattle.ldm_relay.specs.Classes.{instant_in, spec_in, specs_in, class_in, reclass_in, class_answer_in};
 ghost use Rattle.ldm_relay.specs.FieldReads.{Gives};
@@ -23,7 +25,8 @@ fn read_instant(fields: &mut Fields) -> Result<Micros, usize>
 
 #[tactic(auto, unfolding(crate::specs::Classes::spec_in))]
 fn read_spec(fields: &mut Fields) -> Result<Spec, usize>
-    ensures { Gives (λ spec. spec) result (spec_in fields.old) fields.new }
+    ensures read { Gives (λ spec. spec) result (spec_in fields.old) fields.new }
+    ensures fits { IfOk result (λ spec. SpecFits spec) }
 {
     let feed = fields.unsigned()?;
     let pattern = fields.opaque(LONGEST_PATTERN as u32)?;
@@ -39,7 +42,9 @@ fn read_spec(fields: &mut Fields) -> Result<Spec, usize>
 // So many specifications.
 fn read_specs(count: u32, fields: &mut Fields) -> Result<ArrayVec<Spec, MOST_SPECS>, usize>
     requires { count ≤ MOST_SPECS }
-    ensures { Gives (λ specs. specs.items) result (specs_in count fields.old) fields.new }
+    ensures read { Gives (λ specs. specs.items) result (specs_in count fields.old) fields.new }
+    ensures few { IfOk result (λ specs. length specs.items ≤ MOST_SPECS) }
+    ensures fits { IfOk result (λ specs. AllByRecursion SpecFits specs.items) }
 {
     let mut specs = ArrayVec::new();
     for _ in 0..count {
@@ -52,7 +57,8 @@ fn read_specs(count: u32, fields: &mut Fields) -> Result<ArrayVec<Spec, MOST_SPE
 /// Reads a class.
 #[tactic(auto, unfolding(crate::specs::Classes::class_in))]
 pub(crate) fn read_class(fields: &mut Fields) -> Result<ClassSpec, usize>
-    ensures { Gives (λ class. class) result (class_in fields.old) fields.new }
+    ensures read { Gives (λ class. class) result (class_in fields.old) fields.new }
+    ensures fits { IfOk result (λ class. ClassFits class) }
 {
     let from = read_instant(fields)?;
     let to = read_instant(fields)?;
@@ -64,7 +70,8 @@ pub(crate) fn read_class(fields: &mut Fields) -> Result<ClassSpec, usize>
 /// Reads what is said to a class: a code, and behind the code of `Reclass` a class.
 #[tactic(auto, unfolding(crate::specs::Classes::class_answer_in, crate::specs::Classes::reclass_in))]
 pub(crate) fn read_class_answer(fields: &mut Fields) -> Result<ClassAnswer, usize>
-    ensures { Gives (λ answer. answer) result (class_answer_in fields.old) fields.new }
+    ensures read { Gives (λ answer. answer) result (class_answer_in fields.old) fields.new }
+    ensures fits { IfOk result (λ answer. ClassAnswerFits answer) }
 {
     let left = fields.left();
     match fields.unsigned()? {

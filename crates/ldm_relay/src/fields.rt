@@ -5,6 +5,7 @@ ghost use Rattle.ldm_types.specs.Info.{pad4};
 ghost use Rattle.ldm_relay.specs.Fields.{number_in, up_to_in, exactly_in, padded_in, fixed_in, opaque_in, passed_in, no_more};
 ghost use Rattle.ldm_relay.specs.FieldReads.{Gives};
 ghost use Rattle.ldm_relay.specs.Calls.{place_of, info_in};
+ghost use Rattle.ldm_xdr.specs.Spelling.{Fits as InfoFits};
 
 use ldm_types::Info;
 use ldm_xdr::{XdrFault, read_info};
@@ -167,7 +168,8 @@ impl<'a> Fields<'a> {
     /// The metadata of a product.
     #[tactic(auto, unfolding(crate::specs::Calls::info_in))]
     pub fn info(&mut self) -> Result<Info, usize>
-        ensures { Gives (λ info. info) result (info_in self.old) self.new }
+        ensures field { Gives (λ info. info) result (info_in self.old) self.new }
+        ensures fits { IfOk result (λ info. InfoFits info) }
     {
         let rest = self.rest;
         match read_info(rest) {

@@ -1,24 +1,19 @@
 //! How long messages are when they are written.
-ghost use Rattle.std.specs.Prelude.{◌≡◌, ◌≤◌, ◌<◌, ◌+◌, ◌^◌, length};
+ghost use Rattle.std.specs.Prelude.{Some, ◌≡◌, ◌≤◌, ◌<◌, ◌+◌, ◌^◌, length};
 ghost use Rattle.std.specs.List.{flat_map};
 ghost use Rattle.ldm_types.specs.Info.{pad4, metadata_len};
 ghost use Rattle.ldm_xdr.specs.Spelling.{spelling};
 ghost use Rattle.ldm_relay.specs.MessageView.{sent_of};
 ghost use Rattle.ldm_relay.specs.Spelling.{hyper, class_bytes, class_answer_bytes, stat_bytes, put_answer_bytes, refusal_bytes, written};
 ghost use Rattle.ldm_relay.specs.Writable.{IsWritable};
+ghost use Rattle.ldm_relay.specs.Fits.{Is32, SpecFits, ClassFits, ClassAnswerFits, StatFits, PutAnswerFits, RefusalFits, Fits};
+ghost use Rattle.ldm_xdr.specs.Spelling.{Fits as InfoFits};
 ghost use Rattle.ldm_relay.specs.declared.message.TheConstants.{LARGEST_BLOCK, LARGEST_CONTENT};
 ghost use Rattle.ldm_relay.specs.declared.length.TheConstants.{LONGEST_CLASS, LONGEST_METADATA};
 
 use crate::message::{ClassAnswer, Message, PutAnswer, Refusal};
-use ldm_types::{ClassSpec, Info, Signature};
+use ldm_types::{ClassSpec, Info, Signature, Spec};
 use ldm_xdr::info_len;
-
-const CALL_HEADER: usize = 40;
-
-const REPLY_HEADER: usize = 24;
-
-// A reply up to its accept status.
-const ACCEPTED_HEADER: usize = 20;
 
 // The most bytes of a class: 32 specifications with patterns of 255 bytes.
 const LONGEST_CLASS: usize = 8_468;
@@ -32,44 +27,94 @@ pub(crate) fn content_len(message: &Message) -> usize
     requires { IsWritable (sent_of message.now) }
     ensures value { result ≡ length (written (sent_of message.now)) }
     ensures bound { result ≤ LARGEST_CONTENT }
+    ensures fits { Fits (sent_of message.now) }
 {
     match message {
-        Message::Feedme(m) => CALL_HEADER + class_len(&m.class) + 4,
-        Message::FeedmeReply(m) => REPLY_HEADER + class_answer_len(&m.answer),
-        Message::Hiya(m) => CALL_HEADER + class_len(&m.class),
-        Message::HiyaReply(m) => REPLY_HEADER + 4 + class_answer_len(&m.answer),
-        Message::Hereis(m) => CALL_HEADER + spelling_len(&m.info) + padded(m.body.len()),
-        Message::Comingsoon(m) => CALL_HEADER + spelling_len(&m.info) + 4,
-        Message::ComingsoonReply(_) => REPLY_HEADER + 4,
-        Message::Blkdata(m) => CALL_HEADER + block_len(m.signature, m.block),
-        Message::Isalive(_) => CALL_HEADER,
-        Message::Qstat(_) => CALL_HEADER,
-        Message::QstatReply(m) => REPLY_HEADER + stat_len(&m.stat),
-        Message::Put(m) => CALL_HEADER + spelling_len(&m.info) + padded(m.body.len()),
-        Message::PutReply(m) => REPLY_HEADER + put_answer_len(m.answer),
-        Message::Notifyme(m) => CALL_HEADER + class_len(&m.class),
-        Message::NotifymeReply(m) => REPLY_HEADER + class_answer_len(&m.answer),
-        Message::Notification(m) => CALL_HEADER + spelling_len(&m.info),
-        Message::Refused(m) => ACCEPTED_HEADER + refusal_len(m.why),
+        Message::Feedme(m) => call_header_len(m.xid)
+            + class_len(&m.class)
+            + number_len(m.max_hereis),
+        Message::FeedmeReply(m) => reply_header_len(m.xid) + class_answer_len(&m.answer),
+        Message::Hiya(m) => call_header_len(m.xid) + class_len(&m.class),
+        Message::HiyaReply(m) => reply_header_len(m.xid)
+            + number_len(m.max_hereis)
+            + class_answer_len(&m.answer),
+        Message::Hereis(m) => call_header_len(m.xid) + spelling_len(&m.info) + padded(m.body.len()),
+        Message::Comingsoon(m) => call_header_len(m.xid)
+            + spelling_len(&m.info)
+            + number_len(m.block_size),
+        Message::ComingsoonReply(m) => reply_header_len(m.xid) + 4,
+        Message::Blkdata(m) => call_header_len(m.xid) + block_len(m.signature, m.number, m.block),
+        Message::Isalive(m) => call_header_len(m.xid),
+        Message::Qstat(m) => call_header_len(m.xid),
+        Message::QstatReply(m) => reply_header_len(m.xid) + stat_len(&m.stat),
+        Message::Put(m) => call_header_len(m.xid) + spelling_len(&m.info) + padded(m.body.len()),
+        Message::PutReply(m) => reply_header_len(m.xid) + put_answer_len(m.answer),
+        Message::Notifyme(m) => call_header_len(m.xid) + class_len(&m.class),
+        Message::NotifymeReply(m) => reply_header_len(m.xid) + class_answer_len(&m.answer),
+        Message::Notification(m) => call_header_len(m.xid) + spelling_len(&m.info),
+        Message::Refused(m) => accepted_header_len(m.xid) + refusal_len(m.why),
     }
+}
+
+// Each header begins with the number of the call.
+fn call_header_len(xid: u32) -> usize
+    ensures len { result ≡ 40 }
+    ensures fits { Is32 xid }
+{
+    40
+}
+
+fn reply_header_len(xid: u32) -> usize
+    ensures len { result ≡ 24 }
+    ensures fits { Is32 xid }
+{
+    24
+}
+
+// A reply up to its accept status.
+fn accepted_header_len(xid: u32) -> usize
+    ensures len { result ≡ 20 }
+    ensures fits { Is32 xid }
+{
+    20
+}
+
+fn number_len(n: u32) -> usize
+    ensures len { result ≡ 4 }
+    ensures fits { Is32 n }
+{
+    4
 }
 
 #[tactic(auto, using(crate::proofs::Lengths::lengths))]
 fn class_len(class: &ClassSpec) -> usize
     ensures value { result ≡ length (class_bytes class.now) }
     ensures bound { result ≤ LONGEST_CLASS }
+    ensures fits { ClassFits class.now }
 {
     let mut len = 20;
     for spec in class.specs.as_slice() {
-        len += 8 + padded(spec.pattern.as_slice().len());
+        len += spec_len(spec);
     }
+    let _instants = (class.from.get(), class.to.get());
     len
+}
+
+// The length of a specification.
+fn spec_len(spec: &Spec) -> usize
+    ensures value { result ≡ 8 + pad4 (length spec.now.pattern.items) }
+    ensures bound { result ≤ 264 }
+    ensures fits { SpecFits spec.now }
+{
+    let _feed = spec.feed.0;
+    8 + padded(spec.pattern.as_slice().len())
 }
 
 #[tactic(auto, using(crate::proofs::Lengths::lengths))]
 fn class_answer_len(answer: &ClassAnswer) -> usize
     ensures value { result ≡ length (class_answer_bytes answer.now) }
     ensures bound { result ≤ 4 + LONGEST_CLASS }
+    ensures fits { ClassAnswerFits answer.now }
 {
     match answer {
         ClassAnswer::Reclass(class) => 4 + class_len(class),
@@ -81,6 +126,7 @@ fn class_answer_len(answer: &ClassAnswer) -> usize
 fn stat_len(stat: &Option<[u64; 5]>) -> usize
     ensures value { result ≡ length (stat_bytes stat.now) }
     ensures bound { result ≤ 44 }
+    ensures fits { StatFits stat.now }
 {
     match stat {
         Some(figures) => 4 + figures_len(figures),
@@ -89,18 +135,21 @@ fn stat_len(stat: &Option<[u64; 5]>) -> usize
 }
 
 #[tactic(auto, using(crate::proofs::Lengths::lengths))]
-fn figures_len(figures: &[u64; 5]) -> usize
+fn figures_len(figures: &[u64]) -> usize
+    requires { length figures.now ≡ 5 }
     ensures value { result ≡ length (flat_map hyper figures.now) }
     ensures len { result ≡ 40 }
+    ensures fits { StatFits (Some figures.now) }
 {
-    40
+    8 * figures.len()
 }
 
 // A signature, the number of a block, and the block.
-fn block_len(signature: Signature, block: &[u8]) -> usize
+fn block_len(signature: Signature, number: u32, block: &[u8]) -> usize
     requires { length block.now ≤ LARGEST_BLOCK }
     ensures value { result ≡ length signature.0 + 8 + pad4 (length block.now) }
     ensures bound { result ≤ 24 + LARGEST_BLOCK }
+    ensures fits { (length signature.0 ≡ 16) × Is32 number }
 {
     24 + padded(block.len())
 }
@@ -109,6 +158,7 @@ fn block_len(signature: Signature, block: &[u8]) -> usize
 fn put_answer_len(answer: PutAnswer) -> usize
     ensures value { result ≡ length (put_answer_bytes answer) }
     ensures bound { result ≤ 28 }
+    ensures fits { PutAnswerFits answer }
 {
     match answer {
         PutAnswer::Admitted { .. } => 28,
@@ -122,6 +172,7 @@ fn put_answer_len(answer: PutAnswer) -> usize
 fn refusal_len(why: Refusal) -> usize
     ensures value { result ≡ length (refusal_bytes why) }
     ensures bound { result ≤ 12 }
+    ensures fits { RefusalFits why }
 {
     match why {
         Refusal::ProgramMismatch { .. } => 12,
@@ -132,14 +183,23 @@ fn refusal_len(why: Refusal) -> usize
     }
 }
 
-// The length of the spelling of metadata. That their signature has 16 bytes is known where it is read.
+// The length of the spelling of metadata. Their fields are read since their bounds are known where they are.
 #[tactic(auto, using(crate::proofs::Lengths::spelling_of_16))]
 fn spelling_len(info: &Info) -> usize
     ensures value { result ≡ length (spelling info.now) }
     ensures len { result ≡ metadata_len info.now }
     ensures bound { result ≤ LONGEST_METADATA }
+    ensures fits { InfoFits info.now }
 {
+    let _numbers = (
+        info.arrival().get(),
+        info.feed().0,
+        info.seqno(),
+        info.size(),
+    );
     let _signature = info.signature();
+    let _origin = info.origin();
+    let _ident = info.ident();
     info_len(info)
 }
 

@@ -5,6 +5,7 @@ ghost use Rattle.ldm_relay.specs.Spelling.{written, in_one, record_of};
 ghost use Rattle.ldm_rpc.specs.Spelling.{Fits as RecordFits};
 ghost use Rattle.ldm_relay.specs.declared.message.TheConstants.{LARGEST_CONTENT};
 ghost use Rattle.ldm_relay.specs.Writable.{IsWritable};
+ghost use Rattle.ldm_relay.specs.Fits.{Fits};
 ghost use Rattle.ldm_relay.specs.Appends.{HasRoom};
 
 use crate::length::content_len;
@@ -23,6 +24,8 @@ use ldm_types::OutOfMemory;
 pub fn write_message(message: &Message, out: &mut Vec<u8>) -> Result<(), OutOfMemory>
     requires { IsWritable (sent_of message.now) }
     ensures ok { OnOk result (out.new.items ≡ out.old.items ++ record_of (written (sent_of message.now))) }
+    // The message is within the bounds of the law that it is read again.
+    ensures fits { Fits (sent_of message.now) }
     // It is one record of a stream whose limit is the largest content.
     ensures record_fits { RecordFits LARGEST_CONTENT (in_one (written (sent_of message.now))) }
     ensures err { OnErr result (out.new.items ≡ out.old.items) }

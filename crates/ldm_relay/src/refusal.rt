@@ -1,4 +1,6 @@
 //! Reading replies to calls that were not carried out.
+ghost use Rattle.std.specs.Prelude.{IfOk};
+ghost use Rattle.ldm_relay.specs.Fits.{RefusalFits, Fits};
 ghost use Rattle.ldm_relay.specs.MessageView.{refused_of};
 ghost use Rattle.ldm_relay.specs.Refusals.{versions_in, refusal_in, refused_in};
 ghost use Rattle.ldm_relay.specs.FieldReads.{Gives};
@@ -15,7 +17,8 @@ use crate::message::{Refusal, Refused};
 /// reads it. The verifier must be of flavour 0 and have at most 400 bytes, which are not looked at.
 #[tactic(auto, unfolding(crate::specs::Reading::refusal_of))]
 pub fn read_refusal(bytes: &[u8]) -> Result<Refused, RelayFault>
-    ensures { Answers refused_of result (refusal_of bytes.now) }
+    ensures read { Answers refused_of result (refusal_of bytes.now) }
+    ensures fits { IfOk result (λ m. Fits (refused_of m)) }
 {
     let mut fields = Fields::of(bytes);
     let xid = match read_reply_header(&mut fields) {
@@ -40,7 +43,8 @@ pub fn read_refusal(bytes: &[u8]) -> Result<Refused, RelayFault>
 // What stands from the accept status on, and nothing behind it.
 #[tactic(auto, unfolding(crate::specs::Reading::whole, crate::specs::Refusals::refused_in))]
 fn read_rest(xid: u32, mut fields: Fields<'_>) -> Result<Refused, usize>
-    ensures { Answers refused_of result (whole (refused_in xid fields.entry)) }
+    ensures read { Answers refused_of result (whole (refused_in xid fields.entry)) }
+    ensures fits { IfOk result (λ m. Fits (refused_of m)) }
 {
     let why = read_why(&mut fields)?;
     fields.end()?;
@@ -49,7 +53,8 @@ fn read_rest(xid: u32, mut fields: Fields<'_>) -> Result<Refused, usize>
 
 #[tactic(auto, unfolding(crate::specs::Refusals::refusal_in))]
 fn read_why(fields: &mut Fields) -> Result<Refusal, usize>
-    ensures { Gives (λ why. why) result (refusal_in fields.old) fields.new }
+    ensures read { Gives (λ why. why) result (refusal_in fields.old) fields.new }
+    ensures fits { IfOk result (λ why. RefusalFits why) }
 {
     let left = fields.left();
     match fields.unsigned()? {
@@ -64,7 +69,8 @@ fn read_why(fields: &mut Fields) -> Result<Refusal, usize>
 
 #[tactic(auto, unfolding(crate::specs::Refusals::versions_in))]
 fn read_versions(fields: &mut Fields) -> Result<Refusal, usize>
-    ensures { Gives (λ why. why) result (versions_in fields.old) fields.new }
+    ensures read { Gives (λ why. why) result (versions_in fields.old) fields.new }
+    ensures fits { IfOk result (λ why. RefusalFits why) }
 {
     let lowest = fields.unsigned()?;
     let highest = fields.unsigned()?;

@@ -1,10 +1,11 @@
 //! Reading replies.
-ghost use Rattle.std.specs.Prelude.{IfOk};
+ghost use Rattle.std.specs.Prelude.{IfOk, Some};
 ghost use Rattle.ldm_relay.specs.MessageView.{sent_of};
 ghost use Rattle.ldm_relay.specs.Replies.{accepted_in, result_in, feedme_reply_in, hiya_reply_in, comingsoon_reply_in, notifyme_reply_in};
 ghost use Rattle.ldm_relay.specs.Replies.{figures_in, stat_in, qstat_reply_in, admitted_in, too_big_in, put_answer_in, put_reply_in};
 ghost use Rattle.ldm_relay.specs.FieldReads.{Gives};
 ghost use Rattle.ldm_relay.specs.Writable.{IsWritable};
+ghost use Rattle.ldm_relay.specs.Fits.{StatFits, PutAnswerFits, Fits};
 ghost use Rattle.ldm_relay.specs.Reading.{Answers, whole, reply_of};
 
 use crate::class::read_class_answer;
@@ -26,6 +27,7 @@ use crate::procedure::Answered;
 pub fn read_reply(bytes: &[u8], procedure: u32) -> Result<Message<'_>, RelayFault>
     ensures read { Answers sent_of result (reply_of procedure bytes.now) }
     ensures writable { IfOk result (λ m. IsWritable (sent_of m)) }
+    ensures fits { IfOk result (λ m. Fits (sent_of m)) }
 {
     let mut fields = Fields::of(bytes);
     let xid = match read_reply_header(&mut fields) {
@@ -55,6 +57,7 @@ pub fn read_reply(bytes: &[u8], procedure: u32) -> Result<Message<'_>, RelayFaul
 fn read_rest(answered: Answered, xid: u32, mut fields: Fields<'_>) -> Result<Message<'_>, usize>
     ensures read { Answers sent_of result (whole (accepted_in answered xid fields.entry)) }
     ensures writable { IfOk result (λ m. IsWritable (sent_of m)) }
+    ensures fits { IfOk result (λ m. Fits (sent_of m)) }
 {
     let message = read_accepted(answered, xid, &mut fields)?;
     fields.end()?;
@@ -69,6 +72,7 @@ fn read_accepted<'a>(
 ) -> Result<Message<'a>, usize>
     ensures read { Gives sent_of result (accepted_in answered xid fields.old) fields.new }
     ensures writable { IfOk result (λ m. IsWritable (sent_of m)) }
+    ensures fits { IfOk result (λ m. Fits (sent_of m)) }
 {
     fields.exactly(SUCCESS)?;
     read_result(answered, xid, fields)
@@ -81,6 +85,7 @@ fn read_result<'a>(
 ) -> Result<Message<'a>, usize>
     ensures read { Gives sent_of result (result_in answered xid fields.old) fields.new }
     ensures writable { IfOk result (λ m. IsWritable (sent_of m)) }
+    ensures fits { IfOk result (λ m. Fits (sent_of m)) }
 {
     match answered {
         Answered::Feedme => read_feedme_reply(xid, fields),
@@ -96,6 +101,7 @@ fn read_result<'a>(
 fn read_feedme_reply<'a>(xid: u32, fields: &mut Fields<'a>) -> Result<Message<'a>, usize>
     ensures read { Gives sent_of result (feedme_reply_in xid fields.old) fields.new }
     ensures writable { IfOk result (λ m. IsWritable (sent_of m)) }
+    ensures fits { IfOk result (λ m. Fits (sent_of m)) }
 {
     let answer = read_class_answer(fields)?;
     Ok(Message::FeedmeReply(FeedmeReply { xid, answer }))
@@ -105,6 +111,7 @@ fn read_feedme_reply<'a>(xid: u32, fields: &mut Fields<'a>) -> Result<Message<'a
 fn read_notifyme_reply<'a>(xid: u32, fields: &mut Fields<'a>) -> Result<Message<'a>, usize>
     ensures read { Gives sent_of result (notifyme_reply_in xid fields.old) fields.new }
     ensures writable { IfOk result (λ m. IsWritable (sent_of m)) }
+    ensures fits { IfOk result (λ m. Fits (sent_of m)) }
 {
     let answer = read_class_answer(fields)?;
     Ok(Message::NotifymeReply(NotifymeReply { xid, answer }))
@@ -114,6 +121,7 @@ fn read_notifyme_reply<'a>(xid: u32, fields: &mut Fields<'a>) -> Result<Message<
 fn read_hiya_reply<'a>(xid: u32, fields: &mut Fields<'a>) -> Result<Message<'a>, usize>
     ensures read { Gives sent_of result (hiya_reply_in xid fields.old) fields.new }
     ensures writable { IfOk result (λ m. IsWritable (sent_of m)) }
+    ensures fits { IfOk result (λ m. Fits (sent_of m)) }
 {
     let max_hereis = fields.unsigned()?;
     let answer = read_class_answer(fields)?;
@@ -128,6 +136,7 @@ fn read_hiya_reply<'a>(xid: u32, fields: &mut Fields<'a>) -> Result<Message<'a>,
 fn read_comingsoon_reply<'a>(xid: u32, fields: &mut Fields<'a>) -> Result<Message<'a>, usize>
     ensures read { Gives sent_of result (comingsoon_reply_in xid fields.old) fields.new }
     ensures writable { IfOk result (λ m. IsWritable (sent_of m)) }
+    ensures fits { IfOk result (λ m. Fits (sent_of m)) }
 {
     let left = fields.left();
     let answer = match fields.unsigned()? {
@@ -142,6 +151,7 @@ fn read_comingsoon_reply<'a>(xid: u32, fields: &mut Fields<'a>) -> Result<Messag
 fn read_qstat_reply<'a>(xid: u32, fields: &mut Fields<'a>) -> Result<Message<'a>, usize>
     ensures read { Gives sent_of result (qstat_reply_in xid fields.old) fields.new }
     ensures writable { IfOk result (λ m. IsWritable (sent_of m)) }
+    ensures fits { IfOk result (λ m. Fits (sent_of m)) }
 {
     let stat = read_stat(fields)?;
     Ok(Message::QstatReply(QstatReply { xid, stat }))
@@ -149,7 +159,8 @@ fn read_qstat_reply<'a>(xid: u32, fields: &mut Fields<'a>) -> Result<Message<'a>
 
 #[tactic(auto, unfolding(crate::specs::Replies::stat_in, crate::specs::Replies::told_in))]
 fn read_stat(fields: &mut Fields) -> Result<Option<[u64; 5]>, usize>
-    ensures { Gives (λ stat. stat) result (stat_in fields.old) fields.new }
+    ensures read { Gives (λ stat. stat) result (stat_in fields.old) fields.new }
+    ensures fits { IfOk result (λ stat. StatFits stat) }
 {
     let left = fields.left();
     match fields.unsigned()? {
@@ -161,7 +172,8 @@ fn read_stat(fields: &mut Fields) -> Result<Option<[u64; 5]>, usize>
 
 #[tactic(auto, unfolding(crate::specs::Replies::figures_in))]
 fn read_figures(fields: &mut Fields) -> Result<[u64; 5], usize>
-    ensures { Gives (λ figures. figures) result (figures_in fields.old) fields.new }
+    ensures read { Gives (λ figures. figures) result (figures_in fields.old) fields.new }
+    ensures fits { IfOk result (λ figures. StatFits (Some figures)) }
 {
     let admitted = fields.hyper()?;
     let queued = fields.hyper()?;
@@ -175,6 +187,7 @@ fn read_figures(fields: &mut Fields) -> Result<[u64; 5], usize>
 fn read_put_reply<'a>(xid: u32, fields: &mut Fields<'a>) -> Result<Message<'a>, usize>
     ensures read { Gives sent_of result (put_reply_in xid fields.old) fields.new }
     ensures writable { IfOk result (λ m. IsWritable (sent_of m)) }
+    ensures fits { IfOk result (λ m. Fits (sent_of m)) }
 {
     let answer = read_put_answer(fields)?;
     Ok(Message::PutReply(PutReply { xid, answer }))
@@ -182,7 +195,8 @@ fn read_put_reply<'a>(xid: u32, fields: &mut Fields<'a>) -> Result<Message<'a>, 
 
 #[tactic(auto, unfolding(crate::specs::Replies::put_answer_in, crate::specs::Replies::duplicate_in, crate::specs::Replies::locked_in))]
 fn read_put_answer(fields: &mut Fields) -> Result<PutAnswer, usize>
-    ensures { Gives (λ answer. answer) result (put_answer_in fields.old) fields.new }
+    ensures read { Gives (λ answer. answer) result (put_answer_in fields.old) fields.new }
+    ensures fits { IfOk result (λ answer. PutAnswerFits answer) }
 {
     let left = fields.left();
     match fields.unsigned()? {
@@ -200,7 +214,8 @@ fn read_put_answer(fields: &mut Fields) -> Result<PutAnswer, usize>
 
 #[tactic(auto, unfolding(crate::specs::Replies::admitted_in))]
 fn read_admitted(fields: &mut Fields) -> Result<PutAnswer, usize>
-    ensures { Gives (λ answer. answer) result (admitted_in fields.old) fields.new }
+    ensures read { Gives (λ answer. answer) result (admitted_in fields.old) fields.new }
+    ensures fits { IfOk result (λ answer. PutAnswerFits answer) }
 {
     let n = fields.hyper()?;
     let time = fields.hyper()?;
@@ -210,7 +225,8 @@ fn read_admitted(fields: &mut Fields) -> Result<PutAnswer, usize>
 
 #[tactic(auto, unfolding(crate::specs::Replies::too_big_in))]
 fn read_too_big(fields: &mut Fields) -> Result<PutAnswer, usize>
-    ensures { Gives (λ answer. answer) result (too_big_in fields.old) fields.new }
+    ensures read { Gives (λ answer. answer) result (too_big_in fields.old) fields.new }
+    ensures fits { IfOk result (λ answer. PutAnswerFits answer) }
 {
     let need = fields.hyper()?;
     let arena = fields.hyper()?;
