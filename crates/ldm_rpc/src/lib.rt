@@ -15,5 +15,5 @@ pub use laws::{
     no_record_begins_another, pending_from_the_first_byte, pieces_join, pushes_read_the_stream,
     records_are_read, too_long_at_the_header, what_is_read_is_spelled,
 };
-pub use records::Records;
+pub use records::{LARGEST_KEPT, Records};
 pub use stage::LAST_FRAGMENT;

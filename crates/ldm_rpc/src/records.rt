@@ -1,5 +1,7 @@
 //! The records of a stream that comes in pieces.
-ghost use Rattle.std.specs.Prelude.{◌≡◌, ◌^◌, ◌≤◌, ◌<◌, IfOk, IfErr, IfSome, OnErr, Err, length, true, false};
+ghost use Rattle.std.specs.Prelude.{◌≡◌, ◌^◌, ◌≤◌, ◌<◌, IfOk, IfErr, IfSome, OnErr, Err, length, true, false, []};
+ghost use Rattle.std.specs.Vec.{vec_capacity};
+ghost use Rattle.ldm_rpc.specs.declared.records.TheConstants.{LARGEST_KEPT};
 ghost use Rattle.std.specs.Option.{option_copied};
 ghost use Rattle.ldm_rpc.specs.declared.fault.RpcFault.{RpcFault};
 ghost use Rattle.ldm_rpc.specs.declared.stage.Stage.TheVariants.{Faulty};
@@ -11,10 +13,14 @@ use crate::stage::{LAST_FRAGMENT, Stage, stage_before};
 use std::alloc::{AllocError, Global};
 use std::marker::Model;
 
+/// The largest buffer that is kept from one record to the next, in bytes. A larger one is given back, so that one large
+/// record does not keep its memory for the rest of a session.
+pub const LARGEST_KEPT: usize = 262_144;
+
 /// A reader of records (RFC 5531, section 11), to which a stream is given in pieces of any size.
 ///
 /// It holds the content of one record at a time. Its memory grows with the bytes that came, whatever a header
-/// announces, and is kept for the next record.
+/// announces. What a record took is kept for the next one, up to [`LARGEST_KEPT`] bytes.
 #[derive(Debug, Drop)]
 pub struct Records {
     limit: u32,
@@ -82,13 +88,14 @@ impl Records {
         }
     }
 
-    /// Forgets a complete record, and does nothing where none is complete.
+    /// Forgets a complete record, and does nothing where none is complete. A buffer of more than [`LARGEST_KEPT`] bytes
+    /// is given back.
     pub fn next(&mut self)
         ensures after { self.new ≡ next_of self.old }
         ensures ready { is_whole self.new ≡ false }
     {
         if let Stage::Whole = self.stage {
-            self.content.clear();
+            empty(&mut self.content);
             self.next_header_at = 0;
             self.stage = Stage::Header { came: 0, number: 0 };
         }
@@ -185,5 +192,17 @@ impl Records {
         }
         self.stage = stage_before(left - count as u32, last);
         Ok(count)
+    }
+}
+
+// Empties a buffer, and gives it back where it is large.
+fn empty(buffer: &mut Vec<u8>)
+    ensures empty { buffer.new.items ≡ [] }
+    ensures small { vec_capacity buffer.new ≤ LARGEST_KEPT }
+{
+    if buffer.capacity() > LARGEST_KEPT {
+        *buffer = Vec::new(*buffer.allocator());
+    } else {
+        buffer.clear();
     }
 }
