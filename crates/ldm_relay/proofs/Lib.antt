@@ -9,6 +9,7 @@ pub mod NoResults
 pub mod FieldsFound
 pub mod ClassesFound
 pub mod MessagesFound
+pub mod Credentials
 pub mod Room
 pub mod Records
 pub mod Sized

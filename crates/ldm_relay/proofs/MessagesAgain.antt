@@ -33,7 +33,7 @@ use Rattle.ldm_relay.proofs.Refusals.{accepted_header_is, refusal_read}
 
 -- ---- headers
 
-number_small : (p : Procedure) → number_of p < 2 ^ 32
+pub number_small : (p : Procedure) → number_of p < 2 ^ 32
 number_small procedure.Hereis = lit< tt
 number_small procedure.Feedme = lit< tt
 number_small procedure.Hiya = lit< tt

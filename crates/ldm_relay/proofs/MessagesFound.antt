@@ -404,7 +404,7 @@ refused_found xid bytes x fits e =
 
 -- ---- the whole content
 
-or_at_ok : {A : Type 0} (fault : ℕ → RelayFault) (bytes : List ℕ) (r : Result A ℕ) (y : A) → or_at fault bytes r ≡ Ok y → r ≡ Ok y
+pub or_at_ok : {A : Type 0} (fault : ℕ → RelayFault) (bytes : List ℕ) (r : Result A ℕ) (y : A) → or_at fault bytes r ≡ Ok y → r ≡ Ok y
 or_at_ok fault bytes (Ok x) y e = cc
 or_at_ok fault bytes (Err left) y e = absurd cc
 

@@ -13,6 +13,9 @@ use Rattle.ldm_relay.specs.declared.message.PutAnswer.TheVariants as put_answer
 use Rattle.ldm_relay.specs.declared.message.Refusal.{Refusal}
 use Rattle.ldm_relay.specs.declared.message.Refusal.TheVariants as refusal
 use Rattle.ldm_relay.specs.declared.message.TheConstants.{LARGEST_BLOCK}
+use Rattle.ldm_relay.specs.declared.header.TheConstants.{LONGEST_AUTHENTICATION}
+use Rattle.ldm_types.specs.Info.{pad4}
+use Rattle.ldm_relay.specs.Spelling.{Authentication}
 use Rattle.ldm_relay.specs.Sent.{Sent}
 use Rattle.ldm_relay.specs.Sent as sent
 
@@ -46,6 +49,11 @@ PutAnswerFits (put_answer.Duplicate n) = Is64 n
 PutAnswerFits put_answer.TimeEnd = Unit {0}
 PutAnswerFits (put_answer.Locked held) = Is64 held
 PutAnswerFits put_answer.Denied = Unit {0}
+
+-- the body of a credential or verifier is not too long
+pub record AuthenticationFits (a : Authentication) : Type 0 where
+  pub short : a.len ≤ LONGEST_AUTHENTICATION
+  pub whole : length a.bytes ≡ pad4 a.len
 
 abbrev pub RefusalFits : Refusal → Type 0
 RefusalFits (refusal.ProgramMismatch lowest highest) = Is32 lowest × Is32 highest

@@ -95,6 +95,24 @@ accepted_header xid = unsigned xid ++ unsigned REPLY ++ unsigned ACCEPTED ++ no_
 unfoldable pub reply_header : ℕ → List ℕ
 reply_header xid = accepted_header xid ++ unsigned SUCCESS
 
+-- a credential or verifier with a body of so many bytes, and these bytes with their padding, which say nothing
+pub record Authentication : Type 0 where
+  pub len : ℕ
+  pub bytes : List ℕ
+
+unfoldable pub authentication : Authentication → List ℕ
+authentication a = unsigned NO_AUTHENTICATION ++ unsigned a.len ++ a.bytes
+
+-- the header of a call with a credential and a verifier
+unfoldable pub call_header_with : ℕ → Procedure → Authentication → Authentication → List ℕ
+call_header_with xid p credential verifier =
+    unsigned xid ++ unsigned CALL ++ unsigned RPC_VERSION ++ unsigned PROGRAM ++ unsigned VERSION ++ unsigned (number_of p)
+    ++ authentication credential ++ authentication verifier
+
+-- the header of a reply with a verifier
+unfoldable pub reply_header_with : ℕ → Authentication → List ℕ
+reply_header_with xid verifier = unsigned xid ++ unsigned REPLY ++ unsigned ACCEPTED ++ authentication verifier ++ unsigned SUCCESS
+
 -- ---- refusals
 
 -- the accept status, and the versions behind the one of a mismatch

@@ -21,13 +21,17 @@ mod write;
 
 pub use call::read_call;
 pub use fault::RelayFault;
-pub use laws::{a_refusal_is_no_result, what_is_read_is_written, what_is_written_is_read};
+pub use laws::{
+    a_refusal_is_no_result, credentials_are_passed_over, what_is_read_is_written,
+    what_is_written_is_read,
+};
 pub use message::{
     Blkdata, ClassAnswer, Comingsoon, ComingsoonReply, Feedme, FeedmeReply, Hereis, Hiya,
-    HiyaReply, Isalive, LARGEST_BLOCK, LARGEST_CONTENT, Message, Notification, Notifyme,
-    NotifymeReply, Put, PutAnswer, PutReply, Qstat, QstatReply, Refusal, Refused, SoonAnswer,
+    HiyaReply, Isalive, LARGEST_BLOCK, LARGEST_CONTENT, LARGEST_RECORD, LARGEST_REPLY, Message,
+    Notification, Notifyme, NotifymeReply, Put, PutAnswer, PutReply, Qstat, QstatReply, Refusal,
+    Refused, SoonAnswer,
 };
-pub use procedure::{PROGRAM, VERSION};
+pub use procedure::{PROGRAM, Procedure, VERSION};
 pub use record::write_message;
 pub use refusal::read_refusal;
 pub use reply::read_reply;

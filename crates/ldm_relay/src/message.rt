@@ -8,6 +8,12 @@ pub const LARGEST_BLOCK: usize = 16_384;
 /// The most bytes of the content of a record.
 pub const LARGEST_CONTENT: usize = 1_073_742_848;
 
+/// The same as the limit of a reader of records, where calls are read.
+pub const LARGEST_RECORD: u32 = LARGEST_CONTENT as u32;
+
+/// The limit of a reader of records where only replies are read.
+pub const LARGEST_REPLY: u32 = 1_024;
+
 /// A call or a reply. It borrows the bytes that it carries.
 ///
 /// A reply has the number that the caller gave its call, the `xid`. A message without a reply of its own is not answered.

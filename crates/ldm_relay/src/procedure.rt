@@ -10,7 +10,7 @@ pub const VERSION: u32 = 6;
 
 /// A procedure: what a call asks for.
 #[derive(Clone, Copy, Debug, PartialEq, Eq)]
-pub(crate) enum Procedure {
+pub enum Procedure {
     Hereis,
     Feedme,
     Hiya,
