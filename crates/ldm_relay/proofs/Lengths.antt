@@ -11,7 +11,7 @@ use Rattle.ldm_xdr.proofs.Whole.{length-spelling}
 use Rattle.ldm_types.specs.declared.class.ClassSpec.{ClassSpec}
 use Rattle.ldm_types.specs.declared.class.Spec.{Spec}
 use Rattle.ldm_relay.specs.declared.procedure.Procedure.{Procedure}
-use Rattle.ldm_relay.specs.Spelling.{number, unsigned, hyper, padded, opaque, instant_bytes, spec_bytes, class_bytes, no_authentication, call_header, accepted_header, reply_header}
+use Rattle.ldm_relay.specs.Spelling.{number, unsigned, padded, opaque, instant_bytes, spec_bytes, class_bytes, no_authentication, call_header, accepted_header, reply_header}
 
 pub length_unsigned : (n : ℕ) → length (number w32 n) ≡ 4
 unfolding number
@@ -58,10 +58,6 @@ pub length_reply_header : (xid : ℕ) → length (reply_header xid) ≡ 24
 unfolding reply_header
 length_reply_header xid = simp (length-append, length_unsigned, length_accepted_header)
 
-pub length_figures : (figures : List ℕ) → length (flat_map hyper figures) ≡ 8 * length figures
-length_figures [] = refl
-length_figures (figure ∷ figures) = length-append (hyper figure) (flat_map hyper figures) ∙ omega (arith, length_hyper figure, length_figures figures)
-
 pub spelling_of_16 : (info : Metadata) → length info.signature ≡ 16 → length (spelling info) ≡ metadata_len info
 spelling_of_16 info len = length-spelling info len
 
@@ -79,4 +75,4 @@ one_more_spec specs i spec lt =
 pub length_two : (x y : List ℕ) (m n : ℕ) → length x ≡ m → length y ≡ n → length (x ++ y) ≡ m + n
 length_two x y m n x_is y_is = length-append x y ∙ omega arith
 
-pub ruleset lengths = (length_unsigned, length_hyper, length_padded, length_opaque, length_class, length_call_header, length_accepted_header, length_reply_header, length_figures, length-append)
+pub ruleset lengths = (length_unsigned, length_hyper, length_padded, length_opaque, length_class, length_call_header, length_accepted_header, length_reply_header, length-append)

@@ -1,6 +1,5 @@
 -- Messages that were written are read again.
-use Rattle.std.proofs.Common.{◌≡◌, ℕ, ◌^◌, ◌<◌, ◌≤◌, List, [], ◌∷◌, ◌++◌, length, Option, Some, None, Ok, refl, sym, ap, ◌∙◌, append_assoc, arith, lit<, lit≤}
-use Rattle.std.specs.List.{flat_map, AllByRecursion}
+use Rattle.std.proofs.Common.{◌≡◌, ℕ, ◌^◌, ◌<◌, ◌≤◌, List, [], ◌++◌, length, Option, Some, None, Ok, refl, sym, ap, ◌∙◌, append_assoc, lit<, lit≤}
 use Rattle.std.proofs.lemmas.List.{append-nil}
 use Rattle.ldm_types.specs.Info.{Metadata}
 use Rattle.ldm_xdr.specs.Spelling.{Fits as InfoFits, spelling}
@@ -10,6 +9,7 @@ use Rattle.ldm_relay.specs.declared.message.ClassAnswer.{ClassAnswer}
 use Rattle.ldm_relay.specs.declared.message.PutAnswer.{PutAnswer}
 use Rattle.ldm_relay.specs.declared.message.PutAnswer.TheVariants as put_answer
 use Rattle.ldm_relay.specs.declared.message.SoonAnswer.{SoonAnswer}
+use Rattle.ldm_relay.specs.declared.message.Stat.{Stat}
 use Rattle.ldm_relay.specs.declared.message.SoonAnswer.TheVariants as soon_answer
 use Rattle.ldm_relay.specs.declared.message.TheConstants.{LARGEST_BLOCK}
 use Rattle.ldm_relay.specs.declared.procedure.Answered.{Answered}
@@ -25,8 +25,8 @@ use Rattle.ldm_relay.specs.Calls.{call_in, feedme_in, hiya_in, product_in, herei
 use Rattle.ldm_relay.specs.Replies.{result_in, accepted_in, feedme_reply_in, hiya_reply_in, comingsoon_reply_in, figures_in, told_in, stat_in, qstat_reply_in}
 use Rattle.ldm_relay.specs.Replies.{admitted_in, too_big_in, duplicate_in, locked_in, put_answer_in, put_reply_in, notifyme_reply_in}
 use Rattle.ldm_relay.specs.Reading.{whole, call_of, reply_of, kind_of, read_as}
-use Rattle.ldm_relay.specs.Fits.{Is32, Is64, ClassFits, ClassAnswerFits, StatFits, PutAnswerFits, Fits}
-use Rattle.ldm_relay.specs.Spelling.{unsigned, hyper, padded, opaque, class_bytes, class_answer_bytes, soon_answer_bytes, stat_bytes, put_answer_bytes, no_authentication, call_header, accepted_header, reply_header, written}
+use Rattle.ldm_relay.specs.Fits.{Is32, ClassFits, ClassAnswerFits, StatFits, PutAnswerFits, Fits}
+use Rattle.ldm_relay.specs.Spelling.{unsigned, hyper, padded, opaque, class_bytes, class_answer_bytes, soon_answer_bytes, figures_bytes, stat_bytes, put_answer_bytes, no_authentication, call_header, accepted_header, reply_header, written}
 use Rattle.ldm_relay.proofs.FieldsAgain.{unsigned_again, hyper_again, up_to_again, exactly_again, padded_again, opaque_again, authentication_again, signature_again, info_again}
 use Rattle.ldm_relay.proofs.ClassesAgain.{class_again, class_answer_again}
 use Rattle.ldm_relay.proofs.Refusals.{accepted_header_is, refusal_read}
@@ -153,34 +153,28 @@ hiya_reply_again xid max_hereis answer rest lt fits =
     ap (hiya_reply_in xid) (append_assoc (unsigned max_hereis) (class_answer_bytes answer) rest)
     ∙ rw (unsigned_again max_hereis (class_answer_bytes answer ++ rest) lt, class_answer_again answer rest fits) refl
 
-figures_again : (figures rest : List ℕ) → length figures ≡ 5 → AllByRecursion Is64 figures → figures_in (flat_map hyper figures ++ rest) ≡ Ok (figures, rest)
+figures_again : (stat : Stat) (rest : List ℕ) → StatFits (Some stat) → figures_in (figures_bytes stat ++ rest) ≡ Ok (stat, rest)
 unfolding figures_in
-figures_again (a ∷ b ∷ c ∷ d ∷ e ∷ []) rest len fits =
-    let r4 : List ℕ = hyper e ++ rest in
-    let r3 : List ℕ = hyper d ++ r4 in
-    let r2 : List ℕ = hyper c ++ r3 in
-    let r1 : List ℕ = hyper b ++ r2 in
-    let regrouped : flat_map hyper (a ∷ b ∷ c ∷ d ∷ e ∷ []) ++ rest ≡ hyper a ++ r1 = simp append_assoc in
+figures_again stat rest fits =
+    let r4 : List ℕ = hyper stat.largest_free ++ rest in
+    let r3 : List ℕ = hyper stat.used ++ r4 in
+    let r2 : List ℕ = hyper stat.held ++ r3 in
+    let r1 : List ℕ = hyper stat.queued ++ r2 in
+    let regrouped : figures_bytes stat ++ rest ≡ hyper stat.admitted ++ r1 = simp append_assoc in
     ap figures_in regrouped
     ∙ rw (
-      hyper_again a r1 fits.0,
-      hyper_again b r2 fits.1.0,
-      hyper_again c r3 fits.1.1.0,
-      hyper_again d r4 fits.1.1.1.0,
-      hyper_again e rest fits.1.1.1.1.0,
+      hyper_again stat.admitted r1 fits.0,
+      hyper_again stat.queued r2 fits.1,
+      hyper_again stat.held r3 fits.2,
+      hyper_again stat.used r4 fits.3,
+      hyper_again stat.largest_free rest fits.4,
     ) refl
-figures_again [] rest len fits = absurd (omega (arith, len))
-figures_again (a ∷ []) rest len fits = absurd (omega (arith, len))
-figures_again (a ∷ b ∷ []) rest len fits = absurd (omega (arith, len))
-figures_again (a ∷ b ∷ c ∷ []) rest len fits = absurd (omega (arith, len))
-figures_again (a ∷ b ∷ c ∷ d ∷ []) rest len fits = absurd (omega (arith, len))
-figures_again (a ∷ b ∷ c ∷ d ∷ e ∷ f ∷ more) rest len fits = absurd (omega (arith, len))
 
-stat_again : (stat : Option (List ℕ)) (rest : List ℕ) → StatFits stat → stat_in (stat_bytes stat ++ rest) ≡ Ok (stat, rest)
+stat_again : (stat : Option Stat) (rest : List ℕ) → StatFits stat → stat_in (stat_bytes stat ++ rest) ≡ Ok (stat, rest)
 unfolding stat_in told_in
-stat_again (Some figures) rest fits =
-    ap stat_in (append_assoc (unsigned 0) (flat_map hyper figures) rest)
-    ∙ rw (unsigned_again 0 (flat_map hyper figures ++ rest) (lit< tt), figures_again figures rest fits.0 fits.1) refl
+stat_again (Some stat) rest fits =
+    ap stat_in (append_assoc (unsigned 0) (figures_bytes stat) rest)
+    ∙ rw (unsigned_again 0 (figures_bytes stat ++ rest) (lit< tt), figures_again stat rest fits) refl
 stat_again None rest fits = rw (unsigned_again 2 rest (lit< tt)) refl
 
 soon_again : (xid : ℕ) (answer : SoonAnswer) (rest : List ℕ) → comingsoon_reply_in xid (soon_answer_bytes answer ++ rest) ≡ Ok (sent.ComingsoonReply xid answer, rest)

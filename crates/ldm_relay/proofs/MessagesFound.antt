@@ -1,7 +1,6 @@
 -- Messages that are read under the header that a writer writes are spelled so.
 use Rattle.std.proofs.Common.{◌≡◌, ℕ, ◌^◌, ◌<◌, true, eqb, List, [], ◌∷◌, ◌++◌, length, Option, Some, None, Result, Ok, Err, refl, sym, ap, subst, ◌∙◌, inl, inr, lit<}
 use Rattle.std.specs.Int.{w32, w64}
-use Rattle.std.specs.List.{flat_map}
 use Rattle.std.proofs.lemmas.List.{append-nil}
 use Rattle.ldm_types.specs.Info.{Metadata}
 use Rattle.ldm_xdr.specs.Spelling.{spelling}
@@ -12,6 +11,7 @@ use Rattle.ldm_relay.specs.declared.message.Refusal.TheVariants as refusal
 use Rattle.ldm_relay.specs.declared.message.PutAnswer.{PutAnswer}
 use Rattle.ldm_relay.specs.declared.message.PutAnswer.TheVariants as put_answer
 use Rattle.ldm_relay.specs.declared.message.SoonAnswer.{SoonAnswer}
+use Rattle.ldm_relay.specs.declared.message.Stat.{Stat}
 use Rattle.ldm_relay.specs.declared.message.SoonAnswer.TheVariants as soon_answer
 use Rattle.ldm_relay.specs.declared.message.TheConstants.{LARGEST_BLOCK}
 use Rattle.ldm_relay.specs.declared.procedure.Answered.{Answered}
@@ -28,7 +28,7 @@ use Rattle.ldm_relay.specs.Replies.{admitted_in, too_big_in, duplicate_in, locke
 use Rattle.ldm_relay.specs.Refusals.{versions_in, coded_refusal, refusal_in, refused_in}
 use Rattle.ldm_relay.specs.Reading.{whole, or_at, call_of, reply_of, refusal_of}
 use Rattle.ldm_relay.specs.Procedure.{answered}
-use Rattle.ldm_relay.specs.Spelling.{unsigned, hyper, padded, opaque, class_bytes, class_answer_bytes, soon_answer_bytes, stat_bytes, put_answer_bytes, refusal_bytes, call_header, accepted_header, reply_header, written}
+use Rattle.ldm_relay.specs.Spelling.{unsigned, hyper, padded, opaque, class_bytes, class_answer_bytes, soon_answer_bytes, figures_bytes, stat_bytes, put_answer_bytes, refusal_bytes, call_header, accepted_header, reply_header, written}
 use Rattle.ldm_relay.proofs.FieldsAgain.{exactly_again}
 use Rattle.ldm_relay.proofs.Refusals.{accepted_header_is}
 use Rattle.ldm_relay.proofs.MessagesAgain.{numbered_again, call_header_again, reply_header_again}
@@ -194,7 +194,7 @@ comingsoon_reply_found xid bytes x fits e =
           ]
     ]
 
-figures_found : (bytes : List ℕ) (x : List ℕ × List ℕ) → IsBytes bytes → figures_in bytes ≡ Ok x → Takes bytes (flat_map hyper x.0) x.1
+figures_found : (bytes : List ℕ) (x : Stat × List ℕ) → IsBytes bytes → figures_in bytes ≡ Ok x → Takes bytes (figures_bytes x.0) x.1
 unfolding figures_in
 figures_found bytes x fits e =
     let a = bind_ok (number_in w64 bytes) _ x e in
@@ -207,16 +207,14 @@ figures_found bytes x fits e =
     let tc = (hyper_found b.0.1 c.0 tb.rest_fits c.1).0 in
     let td = (hyper_found c.0.1 d.0 tc.rest_fits d.1).0 in
     let tf = (hyper_found d.0.1 f.0 td.rest_fits f.1).0 in
-    let end : Takes f.0.1 [] f.0.1 = record { parts = refl; rest_fits = tf.rest_fits } in
-    let one = both_taken d.0.1 (hyper f.0.0) f.0.1 [] f.0.1 tf end in
-    let two = both_taken c.0.1 (hyper d.0.0) d.0.1 _ f.0.1 td one in
-    let three = both_taken b.0.1 (hyper c.0.0) c.0.1 _ f.0.1 tc two in
-    let four = both_taken a.0.1 (hyper b.0.0) b.0.1 _ f.0.1 tb three in
-    let five = both_taken bytes (hyper a.0.0) a.0.1 _ f.0.1 ta four in
-    let made : List ℕ × List ℕ = (a.0.0 ∷ b.0.0 ∷ c.0.0 ∷ d.0.0 ∷ f.0.0 ∷ [], f.0.1) in
-    subst (λ (y : List ℕ × List ℕ). Takes bytes (flat_map hyper y.0) y.1) (ok_is made x f.2) five
+    let two = both_taken bytes (hyper a.0.0) a.0.1 (hyper b.0.0) b.0.1 ta tb in
+    let three = both_taken bytes (hyper a.0.0 ++ hyper b.0.0) b.0.1 (hyper c.0.0) c.0.1 two tc in
+    let four = both_taken bytes (hyper a.0.0 ++ hyper b.0.0 ++ hyper c.0.0) c.0.1 (hyper d.0.0) d.0.1 three td in
+    let five = both_taken bytes (hyper a.0.0 ++ hyper b.0.0 ++ hyper c.0.0 ++ hyper d.0.0) d.0.1 (hyper f.0.0) f.0.1 four tf in
+    let made : Stat × List ℕ = (record { admitted = a.0.0; queued = b.0.0; held = c.0.0; used = d.0.0; largest_free = f.0.0 }, f.0.1) in
+    subst (λ (y : Stat × List ℕ). Takes bytes (figures_bytes y.0) y.1) (ok_is made x f.2) five
 
-stat_found : (bytes : List ℕ) (x : Option (List ℕ) × List ℕ) → IsBytes bytes → stat_in bytes ≡ Ok x → Takes bytes (stat_bytes x.0) x.1
+stat_found : (bytes : List ℕ) (x : Option Stat × List ℕ) → IsBytes bytes → stat_in bytes ≡ Ok x → Takes bytes (stat_bytes x.0) x.1
 unfolding stat_in told_in
 stat_found bytes x fits e =
     let a = bind_ok (number_in w32 bytes) _ x e in
@@ -224,14 +222,14 @@ stat_found bytes x fits e =
     elim (chosen (eqb a.0.0 0) _ _ _ a.2) [
       | inl h ↦
           let b = bind_ok (figures_in a.0.1) _ x h.1 in
-          let made : Option (List ℕ) × List ℕ = (Some b.0.0, b.0.1) in
-          subst (λ (y : Option (List ℕ) × List ℕ). Takes bytes (stat_bytes y.0) y.1) (ok_is made x b.2)
-          (coded bytes a.0 _ b.0.1 code.0 (code_with a.0.0 0 a.0.1 (flat_map hyper b.0.0) b.0.1 code.0.rest_fits h.0 (figures_found a.0.1 b.0 code.0.rest_fits b.1)))
+          let made : Option Stat × List ℕ = (Some b.0.0, b.0.1) in
+          subst (λ (y : Option Stat × List ℕ). Takes bytes (stat_bytes y.0) y.1) (ok_is made x b.2)
+          (coded bytes a.0 _ b.0.1 code.0 (code_with a.0.0 0 a.0.1 (figures_bytes b.0.0) b.0.1 code.0.rest_fits h.0 (figures_found a.0.1 b.0 code.0.rest_fits b.1)))
       | inr h ↦
           elim (chosen (eqb a.0.0 2) _ _ _ h.1) [
             | inl k ↦
-                let made : Option (List ℕ) × List ℕ = (None, a.0.1) in
-                subst (λ (y : Option (List ℕ) × List ℕ). Takes bytes (stat_bytes y.0) y.1) (ok_is made x k.1)
+                let made : Option Stat × List ℕ = (None, a.0.1) in
+                subst (λ (y : Option Stat × List ℕ). Takes bytes (stat_bytes y.0) y.1) (ok_is made x k.1)
                 (coded bytes a.0 _ a.0.1 code.0 (code_taken a.0.0 2 a.0.1 code.0.rest_fits k.0))
             | inr k ↦ absurd (err_is_no_ok (length bytes) x k.1)
           ]

@@ -1,6 +1,6 @@
 -- Which plain data are messages: each field is within the bounds of its type, and each body has the size that its metadata
 -- tell.
-use Rattle.std.specs.Prelude.{◌≡◌, ℕ, ◌<◌, ◌≤◌, ◌^◌, List, length, Option, Some, None}
+use Rattle.std.specs.Prelude.{◌≡◌, ℕ, ◌<◌, ◌≤◌, ◌^◌, length, Option, Some, None}
 use Rattle.std.specs.List.{AllByRecursion}
 use Rattle.ldm_types.specs.declared.limits.TheConstants.{GREATEST_INSTANT, LONGEST_PATTERN, MOST_SPECS}
 use Rattle.ldm_types.specs.declared.class.ClassSpec.{ClassSpec}
@@ -9,6 +9,7 @@ use Rattle.ldm_xdr.specs.Spelling.{Fits as InfoFits}
 use Rattle.ldm_relay.specs.declared.message.ClassAnswer.{ClassAnswer}
 use Rattle.ldm_relay.specs.declared.message.ClassAnswer.TheVariants as class_answer
 use Rattle.ldm_relay.specs.declared.message.PutAnswer.{PutAnswer}
+use Rattle.ldm_relay.specs.declared.message.Stat.{Stat}
 use Rattle.ldm_relay.specs.declared.message.PutAnswer.TheVariants as put_answer
 use Rattle.ldm_relay.specs.declared.message.Refusal.{Refusal}
 use Rattle.ldm_relay.specs.declared.message.Refusal.TheVariants as refusal
@@ -38,8 +39,8 @@ abbrev pub ClassAnswerFits : ClassAnswer → Type 0
 ClassAnswerFits (class_answer.Reclass class) = ClassFits class
 ClassAnswerFits _ = Unit {0}
 
-abbrev pub StatFits : Option (List ℕ) → Type 0
-StatFits (Some figures) = (length figures ≡ 5) × AllByRecursion Is64 figures
+abbrev pub StatFits : Option Stat → Type 0
+StatFits (Some stat) = Is64 stat.admitted × Is64 stat.queued × Is64 stat.held × Is64 stat.used × Is64 stat.largest_free
 StatFits None = Unit {0}
 
 abbrev pub PutAnswerFits : PutAnswer → Type 0

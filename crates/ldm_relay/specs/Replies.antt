@@ -1,11 +1,12 @@
 -- The results of replies, by the procedures that were called.
-use Rattle.std.specs.Prelude.{ℕ, List, [], ◌∷◌, length, ◌==◌, Option, Some, None, Result, Ok, Err, if◌then◌else◌}
+use Rattle.std.specs.Prelude.{ℕ, List, length, ◌==◌, Option, Some, None, Result, Ok, Err, if◌then◌else◌}
 use Rattle.std.specs.Int.{w64}
 use Rattle.ldm_relay.specs.declared.procedure.Answered.{Answered}
 use Rattle.ldm_relay.specs.declared.procedure.Answered.TheVariants as answered
 use Rattle.ldm_relay.specs.declared.message.PutAnswer.{PutAnswer}
 use Rattle.ldm_relay.specs.declared.message.PutAnswer.TheVariants as put_answer
 use Rattle.ldm_relay.specs.declared.message.SoonAnswer.TheVariants as soon_answer
+use Rattle.ldm_relay.specs.declared.message.Stat.{Stat}
 use Rattle.ldm_relay.specs.declared.header.TheConstants.{SUCCESS}
 use Rattle.ldm_relay.specs.Sent.{Sent}
 use Rattle.ldm_relay.specs.Sent as sent
@@ -31,22 +32,22 @@ comingsoon_reply_in xid left = do
       else (if code.0 == 1 then Ok (sent.ComingsoonReply xid soon_answer.DontSend, code.1) else Err (length left))
 
 -- five numbers of eight bytes
-unfoldable pub figures_in : List ℕ → Result (List ℕ × List ℕ) ℕ
+unfoldable pub figures_in : List ℕ → Result (Stat × List ℕ) ℕ
 figures_in left = do
   admitted ← number_in w64 left
   queued ← number_in w64 admitted.1
   held ← number_in w64 queued.1
   used ← number_in w64 held.1
   largest ← number_in w64 used.1
-  Ok (admitted.0 ∷ queued.0 ∷ held.0 ∷ used.0 ∷ largest.0 ∷ [], largest.1)
+  Ok (record { admitted = admitted.0; queued = queued.0; held = held.0; used = used.0; largest_free = largest.0 }, largest.1)
 
-unfoldable pub told_in : List ℕ → Result (Option (List ℕ) × List ℕ) ℕ
+unfoldable pub told_in : List ℕ → Result (Option Stat × List ℕ) ℕ
 told_in left = do
   figures ← figures_in left
   Ok (Some figures.0, figures.1)
 
 -- 0 and the figures, or 2
-unfoldable pub stat_in : List ℕ → Result (Option (List ℕ) × List ℕ) ℕ
+unfoldable pub stat_in : List ℕ → Result (Option Stat × List ℕ) ℕ
 stat_in left = do
   code ← unsigned_in left
   if code.0 == 0 then told_in code.1 else (if code.0 == 2 then Ok (None, code.1) else Err (length left))

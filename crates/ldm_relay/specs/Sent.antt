@@ -6,6 +6,7 @@ use Rattle.ldm_relay.specs.declared.message.ClassAnswer.{ClassAnswer}
 use Rattle.ldm_relay.specs.declared.message.SoonAnswer.{SoonAnswer}
 use Rattle.ldm_relay.specs.declared.message.PutAnswer.{PutAnswer}
 use Rattle.ldm_relay.specs.declared.message.Refusal.{Refusal}
+use Rattle.ldm_relay.specs.declared.message.Stat.{Stat}
 
 pub data Sent : Type 0 where
   Feedme : (xid : ℕ) → (class : ClassSpec) → (max_hereis : ℕ) → Sent
@@ -18,7 +19,7 @@ pub data Sent : Type 0 where
   Blkdata : (xid : ℕ) → (signature : List ℕ) → (number : ℕ) → (block : List ℕ) → Sent
   Isalive : (xid : ℕ) → Sent
   Qstat : (xid : ℕ) → Sent
-  QstatReply : (xid : ℕ) → (stat : Option (List ℕ)) → Sent
+  QstatReply : (xid : ℕ) → (stat : Option Stat) → Sent
   Put : (xid : ℕ) → (info : Metadata) → (body : List ℕ) → Sent
   PutReply : (xid : ℕ) → (answer : PutAnswer) → Sent
   Notifyme : (xid : ℕ) → (class : ClassSpec) → Sent

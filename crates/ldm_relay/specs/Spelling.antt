@@ -12,6 +12,7 @@ use Rattle.ldm_relay.specs.declared.message.ClassAnswer.{ClassAnswer}
 use Rattle.ldm_relay.specs.declared.message.ClassAnswer.TheVariants as class_answer
 use Rattle.ldm_relay.specs.declared.message.SoonAnswer.{SoonAnswer}
 use Rattle.ldm_relay.specs.declared.message.SoonAnswer.TheVariants as soon_answer
+use Rattle.ldm_relay.specs.declared.message.Stat.{Stat}
 use Rattle.ldm_relay.specs.declared.message.PutAnswer.{PutAnswer}
 use Rattle.ldm_relay.specs.declared.message.PutAnswer.TheVariants as put_answer
 use Rattle.ldm_relay.specs.declared.message.Refusal.{Refusal}
@@ -65,8 +66,11 @@ abbrev pub soon_answer_bytes : SoonAnswer → List ℕ
 soon_answer_bytes soon_answer.Ok = unsigned 0
 soon_answer_bytes soon_answer.DontSend = unsigned 1
 
-abbrev pub stat_bytes : Option (List ℕ) → List ℕ
-stat_bytes (Some figures) = unsigned 0 ++ flat_map hyper figures
+abbrev pub figures_bytes : Stat → List ℕ
+figures_bytes stat = hyper stat.admitted ++ hyper stat.queued ++ hyper stat.held ++ hyper stat.used ++ hyper stat.largest_free
+
+abbrev pub stat_bytes : Option Stat → List ℕ
+stat_bytes (Some stat) = unsigned 0 ++ figures_bytes stat
 stat_bytes None = unsigned 2
 
 abbrev pub put_answer_bytes : PutAnswer → List ℕ

@@ -1,5 +1,5 @@
 //! How long messages are when they are written.
-ghost use Rattle.std.specs.Prelude.{Some, ◌≡◌, ◌≤◌, ◌<◌, ◌+◌, ◌^◌, length};
+ghost use Rattle.std.specs.Prelude.{◌≡◌, ◌≤◌, ◌<◌, ◌+◌, ◌^◌, length};
 ghost use Rattle.std.specs.List.{flat_map};
 ghost use Rattle.ldm_types.specs.Info.{pad4, metadata_len};
 ghost use Rattle.ldm_xdr.specs.Spelling.{spelling};
@@ -11,7 +11,7 @@ ghost use Rattle.ldm_xdr.specs.Spelling.{Fits as InfoFits};
 ghost use Rattle.ldm_relay.specs.declared.message.TheConstants.{LARGEST_BLOCK, LARGEST_CONTENT};
 ghost use Rattle.ldm_relay.specs.declared.length.TheConstants.{LONGEST_CLASS, LONGEST_METADATA};
 
-use crate::message::{ClassAnswer, Message, PutAnswer, Refusal};
+use crate::message::{ClassAnswer, Message, PutAnswer, Refusal, Stat};
 use ldm_types::{ClassSpec, Info, Signature, Spec};
 use ldm_xdr::info_len;
 
@@ -46,7 +46,7 @@ pub(crate) fn content_len(message: &Message) -> usize
         Message::Blkdata(m) => call_header_len(m.xid) + block_len(m.signature, m.number, m.block),
         Message::Isalive(m) => call_header_len(m.xid),
         Message::Qstat(m) => call_header_len(m.xid),
-        Message::QstatReply(m) => reply_header_len(m.xid) + stat_len(&m.stat),
+        Message::QstatReply(m) => reply_header_len(m.xid) + stat_len(m.stat),
         Message::Put(m) => call_header_len(m.xid) + spelling_len(&m.info) + padded(m.body.len()),
         Message::PutReply(m) => reply_header_len(m.xid) + put_answer_len(m.answer),
         Message::Notifyme(m) => call_header_len(m.xid) + class_len(&m.class),
@@ -123,25 +123,15 @@ fn class_answer_len(answer: &ClassAnswer) -> usize
 }
 
 #[tactic(auto, using(crate::proofs::Lengths::lengths))]
-fn stat_len(stat: &Option<[u64; 5]>) -> usize
-    ensures value { result ≡ length (stat_bytes stat.now) }
+fn stat_len(stat: Option<Stat>) -> usize
+    ensures value { result ≡ length (stat_bytes stat) }
     ensures bound { result ≤ 44 }
-    ensures fits { StatFits stat.now }
+    ensures fits { StatFits stat }
 {
     match stat {
-        Some(figures) => 4 + figures_len(figures),
+        Some(_) => 44,
         None => 4,
     }
-}
-
-#[tactic(auto, using(crate::proofs::Lengths::lengths))]
-fn figures_len(figures: &[u64]) -> usize
-    requires { length figures.now ≡ 5 }
-    ensures value { result ≡ length (flat_map hyper figures.now) }
-    ensures len { result ≡ 40 }
-    ensures fits { StatFits (Some figures.now) }
-{
-    8 * figures.len()
 }
 
 // A signature, the number of a block, and the block.

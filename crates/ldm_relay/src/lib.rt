@@ -29,7 +29,7 @@ pub use message::{
     Blkdata, ClassAnswer, Comingsoon, ComingsoonReply, Feedme, FeedmeReply, Hereis, Hiya,
     HiyaReply, Isalive, LARGEST_BLOCK, LARGEST_CONTENT, LARGEST_RECORD, LARGEST_REPLY, Message,
     Notification, Notifyme, NotifymeReply, Put, PutAnswer, PutReply, Qstat, QstatReply, Refusal,
-    Refused, SoonAnswer,
+    Refused, SoonAnswer, Stat,
 };
 pub use procedure::{PROGRAM, Procedure, VERSION};
 pub use record::write_message;

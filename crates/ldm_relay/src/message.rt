@@ -147,9 +147,23 @@ pub struct Qstat {
 #[derive(Debug, Drop)]
 pub struct QstatReply {
     pub xid: u32,
-    /// How many products were admitted, are queued and are held, the bytes in use, and the bytes of the longest gap; or
     /// `None` where the caller may not know.
-    pub stat: Option<[u64; 5]>,
+    pub stat: Option<Stat>,
+}
+
+/// The figures of a queue.
+#[derive(Clone, Copy, Debug, PartialEq, Eq)]
+pub struct Stat {
+    /// How many products were admitted since the queue was made.
+    pub admitted: u64,
+    /// How many are queued.
+    pub queued: u64,
+    /// How many of these are held.
+    pub held: u64,
+    /// The bytes in use.
+    pub used: u64,
+    /// The bytes of the longest gap.
+    pub largest_free: u64,
 }
 
 /// A product to be inserted into the queue of the other side.

@@ -14,7 +14,7 @@ use crate::fields::Fields;
 use crate::header::{SUCCESS, read_reply_header};
 use crate::message::{
     ComingsoonReply, FeedmeReply, HiyaReply, Message, NotifymeReply, PutAnswer, PutReply,
-    QstatReply, SoonAnswer,
+    QstatReply, SoonAnswer, Stat,
 };
 use crate::procedure::Answered;
 
@@ -158,7 +158,7 @@ fn read_qstat_reply<'a>(xid: u32, fields: &mut Fields<'a>) -> Result<Message<'a>
 }
 
 #[tactic(auto, unfolding(crate::specs::Replies::stat_in, crate::specs::Replies::told_in))]
-fn read_stat(fields: &mut Fields) -> Result<Option<[u64; 5]>, usize>
+fn read_stat(fields: &mut Fields) -> Result<Option<Stat>, usize>
     ensures read { Gives (λ stat. stat) result (stat_in fields.old) fields.new }
     ensures fits { IfOk result (λ stat. StatFits stat) }
 {
@@ -171,7 +171,7 @@ fn read_stat(fields: &mut Fields) -> Result<Option<[u64; 5]>, usize>
 }
 
 #[tactic(auto, unfolding(crate::specs::Replies::figures_in))]
-fn read_figures(fields: &mut Fields) -> Result<[u64; 5], usize>
+fn read_figures(fields: &mut Fields) -> Result<Stat, usize>
     ensures read { Gives (λ figures. figures) result (figures_in fields.old) fields.new }
     ensures fits { IfOk result (λ figures. StatFits (Some figures)) }
 {
@@ -179,8 +179,14 @@ fn read_figures(fields: &mut Fields) -> Result<[u64; 5], usize>
     let queued = fields.hyper()?;
     let held = fields.hyper()?;
     let used = fields.hyper()?;
-    let largest = fields.hyper()?;
-    Ok([admitted, queued, held, used, largest])
+    let largest_free = fields.hyper()?;
+    Ok(Stat {
+        admitted,
+        queued,
+        held,
+        used,
+        largest_free,
+    })
 }
 
 #[tactic(auto, unfolding(crate::specs::Replies::put_reply_in))]

@@ -6,7 +6,7 @@ ghost use Rattle.ldm_types.specs.Info.{pad4};
 ghost use Rattle.ldm_xdr.specs.Spelling.{spelling};
 ghost use Rattle.ldm_relay.specs.Sent as sent;
 ghost use Rattle.ldm_relay.specs.MessageView.{sent_of};
-ghost use Rattle.ldm_relay.specs.Spelling.{number, hyper, padded, opaque, instant_bytes, spec_bytes, class_bytes, class_answer_bytes, soon_answer_bytes, stat_bytes};
+ghost use Rattle.ldm_relay.specs.Spelling.{number, hyper, padded, opaque, instant_bytes, spec_bytes, class_bytes, class_answer_bytes, soon_answer_bytes, figures_bytes, stat_bytes};
 ghost use Rattle.ldm_relay.specs.Spelling.{put_answer_bytes, refusal_bytes, no_authentication, call_header, accepted_header, reply_header, written, record_of};
 ghost use Rattle.ldm_relay.specs.Writable.{IsWritable};
 ghost use Rattle.ldm_relay.specs.Appends.{HasRoom, Appends};
@@ -14,7 +14,7 @@ ghost use Rattle.ldm_relay.specs.declared.message.TheConstants.{LARGEST_BLOCK};
 
 use crate::header::{ACCEPTED, CALL, NO_AUTHENTICATION, REPLY, RPC_VERSION, SUCCESS};
 use crate::length::LONGEST_METADATA;
-use crate::message::{Blkdata, ClassAnswer, Message, PutAnswer, Refusal, SoonAnswer};
+use crate::message::{Blkdata, ClassAnswer, Message, PutAnswer, Refusal, SoonAnswer, Stat};
 use crate::procedure::{PROGRAM, Procedure, VERSION};
 use byteorder::{BigEndian, ByteOrder};
 use ldm_types::{ClassSpec, Info, Micros, Spec};
@@ -40,7 +40,7 @@ pub(crate) fn put_message(out: &mut Vec<u8>, message: &Message)
         Message::Blkdata(m) => put_blkdata(out, m),
         Message::Isalive(m) => put_call_header(out, m.xid, Procedure::Isalive),
         Message::Qstat(m) => put_call_header(out, m.xid, Procedure::Qstat),
-        Message::QstatReply(m) => put_qstat_reply(out, m.xid, &m.stat),
+        Message::QstatReply(m) => put_qstat_reply(out, m.xid, m.stat),
         Message::Put(m) => put_product(out, m.xid, Procedure::Put, &m.info, m.body),
         Message::PutReply(m) => put_put_reply(out, m.xid, m.answer),
         Message::Notifyme(m) => put_notifyme(out, m.xid, &m.class),
@@ -131,9 +131,9 @@ fn put_blkdata(out: &mut Vec<u8>, message: &Blkdata)
 }
 
 #[tactic(auto, using(crate::proofs::Appending::appending), unfolding(crate::specs::Spelling::written))]
-fn put_qstat_reply(out: &mut Vec<u8>, xid: u32, stat: &Option<[u64; 5]>)
-    requires { HasRoom out.old (written (sent.QstatReply xid stat.now)) }
-    ensures { Appends out.old out.new (written (sent.QstatReply xid stat.now)) }
+fn put_qstat_reply(out: &mut Vec<u8>, xid: u32, stat: Option<Stat>)
+    requires { HasRoom out.old (written (sent.QstatReply xid stat)) }
+    ensures { Appends out.old out.new (written (sent.QstatReply xid stat)) }
 {
     put_reply_header(out, xid);
     put_stat(out, stat);
@@ -274,26 +274,29 @@ fn put_soon_answer(out: &mut Vec<u8>, answer: SoonAnswer)
 }
 
 #[tactic(auto, using(crate::proofs::Appending::appending))]
-fn put_stat(out: &mut Vec<u8>, stat: &Option<[u64; 5]>)
-    requires { HasRoom out.old (stat_bytes stat.now) }
-    ensures { Appends out.old out.new (stat_bytes stat.now) }
+fn put_stat(out: &mut Vec<u8>, stat: Option<Stat>)
+    requires { HasRoom out.old (stat_bytes stat) }
+    ensures { Appends out.old out.new (stat_bytes stat) }
 {
     match stat {
-        Some(figures) => {
+        Some(stat) => {
             put_unsigned(out, 0);
-            put_figures(out, figures);
+            put_figures(out, stat);
         }
         None => put_unsigned(out, 2),
     }
 }
 
-fn put_figures(out: &mut Vec<u8>, figures: &[u64])
-    requires { HasRoom out.old (flat_map hyper figures.now) }
-    ensures { Appends out.old out.new (flat_map hyper figures.now) }
+#[tactic(auto, using(crate::proofs::Appending::appending))]
+fn put_figures(out: &mut Vec<u8>, stat: Stat)
+    requires { HasRoom out.old (figures_bytes stat) }
+    ensures { Appends out.old out.new (figures_bytes stat) }
 {
-    for figure in figures {
-        put_hyper(out, *figure);
-    }
+    put_hyper(out, stat.admitted);
+    put_hyper(out, stat.queued);
+    put_hyper(out, stat.held);
+    put_hyper(out, stat.used);
+    put_hyper(out, stat.largest_free);
 }
 
 #[tactic(auto, using(crate::proofs::Appending::appending))]
