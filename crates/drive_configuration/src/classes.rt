@@ -51,7 +51,11 @@ pub fn class_of(alloc: Global, case: &mut Case) -> Result<ClassSpec> {
     let from = Micros::new(case.number()?).context("no instant")?;
     let to = Micros::new(case.number()?).context("no instant")?;
     let mut specs = ArrayVec::new();
-    while !case.is_done() {
+    // a class has at most 32; one more is told
+    for _ in 0..=32 {
+        if case.is_done() {
+            break;
+        }
         specs.try_push(spec_of(alloc, case.word()?)?)?;
     }
     Ok(ClassSpec { from, to, specs })

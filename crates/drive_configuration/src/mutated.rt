@@ -51,7 +51,7 @@ pub fn read(alloc: Global, kept: &Kept, case: &mut Case) -> Result<String> {
             }
         }
     }
-    let told = u64::from(read) + u64::from(refused);
+    let told = u64::from(read).saturating_add(u64::from(refused));
     Ok(format!(in alloc;
         "{told} told, some read {}, some refused {}",
         read > 0,

@@ -10,7 +10,8 @@ pub fn lines(alloc: Global, case: &mut Case) -> Result<String> {
     let text = case.text(alloc)?;
     let mut told = String::from_str(alloc, "lines")?;
     let mut rest = Some(text.as_slice());
-    while let Some(left) = rest {
+    for _ in 0..=text.len() {
+        let Some(left) = rest else { break };
         let (line, behind) = first_line(left);
         write!(told, " {}", shown(alloc, line)?)?;
         rest = behind;
@@ -28,7 +29,10 @@ pub fn words(alloc: Global, case: &mut Case) -> Result<String> {
     let text = case.text(alloc)?;
     let mut told = String::from_str(alloc, "words")?;
     let mut rest = to_word(comments, &text);
-    while !rest.is_empty() {
+    for _ in 0..=text.len() {
+        if rest.is_empty() {
+            break;
+        }
         let Some((word, behind)) = first_word(comments, rest) else {
             told.push_str(" and a wrong quote")?;
             break;
