@@ -28,8 +28,9 @@ pub fn words(alloc: Global, case: &mut Case) -> Result<String> {
     };
     let text = case.text(alloc)?;
     let mut told = String::from_str(alloc, "words")?;
-    let mut rest = to_word(comments, &text);
+    let mut left = text.as_slice();
     for _ in 0..=text.len() {
+        let rest = to_word(comments, left);
         if rest.is_empty() {
             break;
         }
@@ -38,7 +39,7 @@ pub fn words(alloc: Global, case: &mut Case) -> Result<String> {
             break;
         };
         write!(told, " {}", shown(alloc, word)?)?;
-        rest = to_word(comments, behind);
+        left = behind;
     }
     Ok(told)
 }
