@@ -21,6 +21,14 @@ use Rattle.ldm_model.specs.declared.replies.CloseReply.{CloseReply}
 use Rattle.ldm_model.specs.declared.replies.CloseReply.TheVariants as closing
 use Rattle.ldm_model.specs.declared.replies.TallyReply.{TallyReply}
 use Rattle.ldm_model.specs.declared.replies.TallyReply.TheVariants as tallying
+use Rattle.ldm_model.specs.declared.replies.ReserveReply.{ReserveReply}
+use Rattle.ldm_model.specs.declared.replies.ReserveReply.TheVariants as reserving
+use Rattle.ldm_model.specs.declared.replies.FillReply.{FillReply}
+use Rattle.ldm_model.specs.declared.replies.FillReply.TheVariants as filling
+use Rattle.ldm_model.specs.declared.replies.CommitReply.{CommitReply}
+use Rattle.ldm_model.specs.declared.replies.CommitReply.TheVariants as committing
+use Rattle.ldm_model.specs.declared.replies.DiscardReply.{DiscardReply}
+use Rattle.ldm_model.specs.declared.replies.DiscardReply.TheVariants as discarding
 
 abbrev pub insert_answer : InsertReply → Reply
 insert_answer (insert.Admitted n time evicted) = reply.Admitted n time evicted
@@ -81,6 +89,29 @@ abbrev pub tally_answer : TallyReply → Reply
 tally_answer tallying.NoCursor = reply.NoCursor
 tally_answer (tallying.Tally given lost left) = reply.Tally given lost left
 
+abbrev pub reserve_answer : ReserveReply → Reply
+reserve_answer (reserving.TooBig need arena) = reply.TooBig need arena
+reserve_answer (reserving.Duplicate n) = reply.Duplicate n
+reserve_answer reserving.AllReserved = reply.AllReserved
+reserve_answer (reserving.Locked held) = reply.Locked held
+reserve_answer (reserving.Reserved r evicted) = reply.Reserved r evicted
+
+abbrev pub fill_answer : FillReply → Reply
+fill_answer filling.NoReservation = reply.NoReservation
+fill_answer (filling.Overfill left) = reply.Overfill left
+fill_answer (filling.Filled left) = reply.Filled left
+
+abbrev pub commit_answer : CommitReply → Reply
+commit_answer committing.NoReservation = reply.NoReservation
+commit_answer (committing.Unfilled left) = reply.Unfilled left
+commit_answer (committing.Duplicate n) = reply.Duplicate n
+commit_answer committing.TimeEnd = reply.TimeEnd
+commit_answer (committing.Committed n time) = reply.Committed n time
+
+abbrev pub discard_answer : DiscardReply → Reply
+discard_answer discarding.NoReservation = reply.NoReservation
+discard_answer discarding.Discarded = reply.Discarded
+
 -- a refusal changes nothing
 abbrev pub IfRefused : InsertReply → Type 0 → Type 0
 IfRefused (insert.Admitted n time evicted) P = Unit {0}
@@ -109,3 +140,27 @@ IfNotReleased _ P = P
 abbrev pub IfNotClosed : CloseReply → Type 0 → Type 0
 IfNotClosed closing.NoCursor P = P
 IfNotClosed closing.Closed P = Unit {0}
+
+abbrev pub IfNotReserved : ReserveReply → Type 0 → Type 0
+IfNotReserved (reserving.Reserved r evicted) P = Unit {0}
+IfNotReserved _ P = P
+
+abbrev pub IfNotFilled : FillReply → Type 0 → Type 0
+IfNotFilled (filling.Filled left) P = Unit {0}
+IfNotFilled _ P = P
+
+-- a reservation that does not end is left as it was
+abbrev pub IfNotEnded : CommitReply → Type 0 → Type 0
+IfNotEnded committing.NoReservation P = P
+IfNotEnded (committing.Unfilled left) P = P
+IfNotEnded _ P = Unit {0}
+
+-- a commit that is refused although its body is whole ends the reservation
+abbrev pub IfEndedOnly : CommitReply → Type 0 → Type 0
+IfEndedOnly (committing.Duplicate n) P = P
+IfEndedOnly committing.TimeEnd P = P
+IfEndedOnly _ P = Unit {0}
+
+abbrev pub IfNotDiscarded : DiscardReply → Type 0 → Type 0
+IfNotDiscarded discarding.NoReservation P = P
+IfNotDiscarded discarding.Discarded P = Unit {0}

@@ -6,8 +6,8 @@ use Rattle.ldm_model.specs.Outcome.{Outcome, unchanged}
 use Rattle.ldm_model.specs.declared.event.Reply.TheVariants as reply
 
 -- the least empty place
-abbrev pub least_empty : List (Option Cursor) → Option ℕ
-least_empty cursors = position is_none cursors
+abbrev pub least_empty : {A : Type 0} → List (Option A) → Option ℕ
+least_empty places = position is_none places
 
 -- the cursor of a place, if it is open
 abbrev pub cursor_at : State → ℕ → Option Cursor

@@ -1,8 +1,8 @@
 -- Which products are held, and what evicting one does.
-use Rattle.std.specs.Prelude.{ℕ, zero, suc, Bool, false, not, ◌&&◌, ◌==◌, nat_le, List, [], ◌∷◌, ◌++◌, length, map, filter, Option, Some, None, if◌then◌else◌, slice_get}
+use Rattle.std.specs.Prelude.{ℕ, zero, suc, ◌+◌, Bool, false, not, ◌&&◌, ◌==◌, nat_le, List, [], ◌∷◌, ◌++◌, length, map, filter, Option, Some, None, if◌then◌else◌, slice_get}
 use Rattle.std.specs.List.{list_any, range_with_len}
 use Rattle.ldm_types.specs.Feed.{feeds_meet}
-use Rattle.ldm_model.specs.State.{State, Row, Cursor, Queued, end_of, queued}
+use Rattle.ldm_model.specs.State.{State, Row, Cursor, Queued, end_of, queued, reserved}
 
 abbrev pub is_number : ℕ → Option ℕ → Bool
 is_number n None = false
@@ -24,9 +24,9 @@ numbers s = map (λ (q : Queued). q.number) (queued s)
 abbrev pub held : State → List ℕ
 held s = filter (is_held s) (range_with_len 0 (end_of s))
 
--- how many products are held
+-- how many regions are held: those of the products that cursors hold, and those that are reserved
 abbrev pub count_held : State → ℕ
-count_held s = length (held s)
+count_held s = length (held s) + length (reserved s)
 
 -- the numbers of the present rows that nobody holds, in ascending order
 abbrev pub unheld : State → List ℕ

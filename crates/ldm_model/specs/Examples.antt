@@ -3,7 +3,7 @@ use Rattle.std.specs.Prelude.{ℕ, ◌-◌, List, [], ◌∷◌, ◌++◌, lengt
 use Rattle.ldm_types.specs.Info.{Metadata}
 use Rattle.ldm_types.specs.Arena.{Region}
 use Rattle.ldm_model.specs.declared.event.Event.{Event}
-use Rattle.ldm_model.specs.declared.event.Event.TheVariants.{Insert, OpenCursor, Step, Release, Tally, Look, Expire}
+use Rattle.ldm_model.specs.declared.event.Event.TheVariants.{Insert, OpenCursor, Step, Release, Tally, Look, Expire, Reserve, Fill}
 use Rattle.ldm_model.specs.declared.event.Start.{Start}
 use Rattle.ldm_model.specs.declared.event.Start.TheVariants as start
 use Rattle.ldm_model.specs.declared.event.Entry.{Entry}
@@ -12,6 +12,7 @@ use Rattle.ldm_model.specs.State.{State, Cursor, empty}
 use Rattle.ldm_model.specs.Next.{Call, next, replies}
 use Rattle.ldm_model.specs.History.{entries_of}
 use Rattle.ldm_model.specs.Law.{Point}
+use Rattle.ldm_model.specs.Reservation.{new_reservation}
 
 -- 16 times the same byte
 abbrev pub signature_of : ℕ → List ℕ
@@ -38,6 +39,13 @@ open_from from = OpenCursor (record { 0 = 2 }) from
 
 abbrev pub after_signature : ℕ → Start
 after_signature byte = start.AfterSignature (record { 0 = signature_of byte })
+
+-- a region for such a product is reserved, and bytes are filled in
+abbrev pub reserve_of : ℕ → ℕ → Event
+reserve_of byte size = Reserve (sample_info byte size)
+
+abbrev pub fill_of : ℕ → List ℕ → Event
+fill_of r bytes = Fill r bytes
 
 -- an actor's call
 abbrev pub by : ℕ → Event → Call
@@ -69,6 +77,11 @@ state_after arena slots events = after_calls (empty arena slots) (map (by 0) eve
 
 abbrev pub insert_into : State → ℕ → ℕ → ℕ → Reply
 insert_into s now byte size = (next s 0 (insert_of now byte size)).reply
+
+-- what reserving is answered with so many places taken, by reservations of actor 1 at the front of the arena
+abbrev pub reserved_first : ℕ → State → ℕ → ℕ → Reply
+reserved_first count s byte size =
+    (next (record s { reservations = replicate count (Some (new_reservation 1 (sample_info 9 0) 0)) }) 0 (reserve_of byte size)).reply
 
 abbrev pub region : ℕ → ℕ → Region
 region start extent = record { start = start; extent = extent }

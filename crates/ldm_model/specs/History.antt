@@ -1,18 +1,19 @@
 -- Histories: what was called and answered, one entry after another.
-use Rattle.std.specs.Prelude.{◌≡◌, ℕ, ◌<◌, ◌≤◌, ◌^◌, Bool, true, false, List, [], ◌∷◌, ◌++◌, length, filter, All}
+use Rattle.std.specs.Prelude.{◌≡◌, ◌⊎◌, ℕ, ◌<◌, ◌≤◌, ◌^◌, Bool, true, false, List, [], ◌∷◌, ◌++◌, length, filter, All}
 use Rattle.ldm_types.specs.declared.limits.TheConstants.{GREATEST_INSTANT}
 use Rattle.ldm_types.specs.Info.{Metadata, TextsFit}
 use Rattle.ldm_model.specs.declared.event.Start.{Start}
 use Rattle.ldm_model.specs.declared.event.Start.TheVariants.{Oldest, Next, After, AfterSignature}
 use Rattle.ldm_model.specs.declared.event.Event.{Event}
-use Rattle.ldm_model.specs.declared.event.Event.TheVariants.{Insert, OpenCursor, Step, Read, Release, Close, Look, Expire, Tally, Stat}
+use Rattle.ldm_model.specs.declared.event.Event.TheVariants.{Insert, OpenCursor, Step, Read, Release, Close, Look, Expire, Tally, Stat, Reserve, Fill, Commit, Discard}
 use Rattle.ldm_model.specs.declared.event.Entry.{Entry}
 use Rattle.ldm_model.specs.declared.event.Reply.{Reply}
-use Rattle.ldm_model.specs.declared.event.Reply.TheVariants.{Admitted}
+use Rattle.ldm_model.specs.declared.event.Reply.TheVariants.{Admitted, Reserved, Committed}
 use Rattle.ldm_model.specs.Product.{Product}
 use Rattle.ldm_model.specs.State.{State, empty}
 use Rattle.ldm_model.specs.Outcome.{Outcome}
 use Rattle.ldm_model.specs.Next.{Call, next}
+use Rattle.ldm_model.specs.Filled.{bytes_filled, ends}
 
 abbrev pub AreBytes : List ℕ → Type 0
 AreBytes bytes = All (λ byte. byte < 256) bytes
@@ -43,7 +44,7 @@ IsStart Next = Unit {0}
 IsStart (After time) = time ≤ GREATEST_INSTANT
 IsStart (AfterSignature signature) = IsSignature signature.0
 
--- one of the 64 cursor places
+-- one of the 64 cursor places, or of the 64 reservation places
 abbrev pub IsPlace : ℕ → Type 0
 IsPlace k = k < 64
 
@@ -60,6 +61,10 @@ IsPossible (Look signature) = IsSignature signature.0
 IsPossible Expire = Unit {0}
 IsPossible (Tally k) = IsPlace k
 IsPossible Stat = Unit {0}
+IsPossible (Reserve info) = IsMetadata info
+IsPossible (Fill r bytes) = IsPlace r × AreBytes bytes
+IsPossible (Commit r now) = IsPlace r × (now ≤ GREATEST_INSTANT)
+IsPossible (Discard r) = IsPlace r
 
 -- what the queue does at the call of an entry
 abbrev pub next_entry : State → Entry → Outcome
@@ -105,10 +110,30 @@ pub record IsInserted (history : List Entry) (n : ℕ) (product : Product) (time
   pub behind : List Entry
   pub is_entry : history ≡ front ++ record { actor = actor; event = Insert now product.info product.body; reply = Admitted n time evicted } ∷ behind
 
+-- An actor reserved a region for a product's metadata, filled its body in, and committed it as that number and at that time.
+pub record IsCommitted (history : List Entry) (n : ℕ) (product : Product) (time : ℕ) : Type 0 where
+  pub front : List Entry
+  pub actor : ℕ
+  pub r : ℕ
+  pub evicted : ℕ
+  pub between : List Entry
+  pub now : ℕ
+  pub behind : List Entry
+  pub is_entries : history ≡ front ++ record { actor = actor; event = Reserve product.info; reply = Reserved r evicted }
+    ∷ (between ++ record { actor = actor; event = Commit r now; reply = Committed n time } ∷ behind)
+  -- the reservation is the one that was made then
+  pub not_ended : All (λ entry. ends actor r entry ≡ false) between
+  pub body : product.body ≡ bytes_filled actor r between
+
+-- A history admitted a product, as that number and at that time: it was inserted or committed.
+abbrev pub IsAdmitted : List Entry → ℕ → Product → ℕ → Type 0
+IsAdmitted history n product time = IsInserted history n product time ⊎ IsCommitted history n product time
+
 abbrev pub is_admission : Reply → Bool
 is_admission (Admitted n time evicted) = true
+is_admission (Committed n time) = true
 is_admission _ = false
 
--- how many products a history inserted
+-- how many products a history admitted
 abbrev pub count_admissions : List Entry → ℕ
 count_admissions history = length (filter (λ (entry : Entry). is_admission entry.reply) history)

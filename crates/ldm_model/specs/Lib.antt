@@ -14,7 +14,13 @@ pub mod Look
 pub mod Expire
 pub mod Tally
 pub mod Stat
+pub mod Reservation
+pub mod Reserve
+pub mod Fill
+pub mod Commit
 pub mod Next
+pub mod Filled
 pub mod History
 pub mod Law
+pub mod Filling
 pub mod Examples

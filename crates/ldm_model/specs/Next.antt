@@ -1,7 +1,7 @@
 -- One event of the queue, and a run of many.
 use Rattle.std.specs.Prelude.{ℕ, List, [], ◌∷◌}
 use Rattle.ldm_model.specs.declared.event.Event.{Event}
-use Rattle.ldm_model.specs.declared.event.Event.TheVariants.{Insert, OpenCursor, Step, Read, Release, Close, Look, Expire, Tally, Stat}
+use Rattle.ldm_model.specs.declared.event.Event.TheVariants.{Insert, OpenCursor, Step, Read, Release, Close, Look, Expire, Tally, Stat, Reserve, Fill, Commit, Discard}
 use Rattle.ldm_model.specs.declared.event.Reply.{Reply}
 use Rattle.ldm_model.specs.State.{State}
 use Rattle.ldm_model.specs.Outcome.{Outcome}
@@ -14,6 +14,9 @@ use Rattle.ldm_model.specs.Look.{look}
 use Rattle.ldm_model.specs.Expire.{expire}
 use Rattle.ldm_model.specs.Tally.{tally}
 use Rattle.ldm_model.specs.Stat.{stat}
+use Rattle.ldm_model.specs.Reserve.{reserve}
+use Rattle.ldm_model.specs.Fill.{fill, discard}
+use Rattle.ldm_model.specs.Commit.{commit}
 
 -- what the queue answers to an actor's event, and the state that follows
 abbrev pub next : State → ℕ → Event → Outcome
@@ -27,6 +30,10 @@ next s actor (Look signature) = look s signature.0
 next s actor Expire = expire s
 next s actor (Tally k) = tally s actor k
 next s actor Stat = stat s
+next s actor (Reserve info) = reserve s actor info
+next s actor (Fill r bytes) = fill s actor r bytes
+next s actor (Commit r now) = commit s actor r now
+next s actor (Discard r) = discard s actor r
 
 -- an event, and who makes it
 pub record Call : Type 0 where

@@ -12,8 +12,8 @@ abbrev pub extents : List Region → ℕ
 extents [] = 0
 extents (region ∷ regions) = region.extent + extents regions
 
--- how many products were admitted, are queued and are held, the bytes that the queued ones take, and the extent
--- of the longest gap
+-- how many products were admitted and are queued, how many regions are held, the bytes that products and reservations take,
+-- and the extent of the longest gap
 abbrev pub stat_reply : State → Reply
 stat_reply s = reply.Stat (end_of s) (length (queued s)) (count_held s) (extents (occupied s)) (longest (gaps (occupied s) s.arena))
 

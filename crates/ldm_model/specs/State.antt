@@ -1,7 +1,8 @@
 -- The state of a queue.
-use Rattle.std.specs.Prelude.{ℕ, ◌+◌, Bool, List, [], ◌∷◌, length, map, replicate, Option, Some, None, is_some, slice_get, bytes_eq}
+use Rattle.std.specs.Prelude.{ℕ, ◌+◌, Bool, List, [], ◌∷◌, ◌++◌, length, map, replicate, Option, Some, None, is_some, slice_get, bytes_eq}
 use Rattle.std.specs.List.{find}
 use Rattle.std.specs.Option.{option_and_then}
+use Rattle.ldm_types.specs.Info.{Metadata}
 use Rattle.ldm_types.specs.Arena.{Region}
 use Rattle.ldm_model.specs.Product.{Product, extent_of}
 
@@ -26,6 +27,15 @@ pub record Cursor : Type 0 where
   pub told : List ℕ
   pub untold : List ℕ
 
+-- What an open reservation place has: a region of the arena for a product that comes in pieces.
+pub record Reservation : Type 0 where
+  pub actor : ℕ
+  pub info : Metadata
+  -- where its region begins
+  pub place : ℕ
+  -- the bytes of the body that were filled in so far
+  pub filled : List ℕ
+
 pub record State : Type 0 where
   -- bytes of the arena
   pub arena : ℕ
@@ -33,10 +43,12 @@ pub record State : Type 0 where
   pub rows : List Row
   -- 64 places, each empty or with an open cursor
   pub cursors : List (Option Cursor)
+  -- 64 places, each empty or with an open reservation
+  pub reservations : List (Option Reservation)
 
 -- the state at the beginning
 abbrev pub empty : ℕ → ℕ → State
-empty arena slots = record { arena = arena; slots = slots; rows = []; cursors = replicate 64 None }
+empty arena slots = record { arena = arena; slots = slots; rows = []; cursors = replicate 64 None; reservations = replicate 64 None }
 
 -- the end: how many products were admitted
 abbrev pub end_of : State → ℕ
@@ -91,10 +103,24 @@ is_queued s n = is_some (place_of_row (slice_get s.rows n))
 abbrev pub region_of : Queued → Region
 region_of q = record { start = q.place; extent = extent_of q.product.info }
 
--- what occupies the arena
+-- the open ones of these reservation places, in order
+abbrev pub open_ones : List (Option Reservation) → List Reservation
+open_ones [] = []
+open_ones (None ∷ places) = open_ones places
+open_ones (Some reservation ∷ places) = reservation ∷ open_ones places
+
+-- the open reservations, in the order of their places
+abbrev pub reserved : State → List Reservation
+reserved s = open_ones s.reservations
+
+-- the region that is reserved
+abbrev pub reserved_region : Reservation → Region
+reserved_region reservation = record { start = reservation.place; extent = extent_of reservation.info }
+
+-- what occupies the arena: the present rows and the open reservations
 abbrev pub occupied : State → List Region
-occupied s = map region_of (queued s)
+occupied s = map region_of (queued s) ++ map reserved_region (reserved s)
 
 -- how many slots are taken
 abbrev pub slots_taken : State → ℕ
-slots_taken s = length (queued s)
+slots_taken s = length (queued s) + length (reserved s)

@@ -1,6 +1,7 @@
 //! Events of the queue, the replies to them, and the entries of a history.
 
 use crate::bytes::Bytes;
+use crate::numbers::ReserveNo;
 use ldm_types::{Actor, CursorNo, Feed, Info, Micros, Signature};
 
 /// Where a cursor begins.
@@ -60,6 +61,24 @@ pub enum Event {
     },
     /// How full the queue is.
     Stat,
+    /// A region is reserved for a product with these metadata.
+    Reserve {
+        info: Info,
+    },
+    /// More bytes of the body are filled into a reserved region, behind those that it has.
+    Fill {
+        r: ReserveNo,
+        bytes: Bytes,
+    },
+    /// A reservation whose body is whole becomes a product, at the moment `now`.
+    Commit {
+        r: ReserveNo,
+        now: Micros,
+    },
+    /// A reservation is given up.
+    Discard {
+        r: ReserveNo,
+    },
 }
 
 /// What the queue answers. Numbers of products count admitted products from 0.
@@ -82,7 +101,8 @@ pub enum Reply {
     },
     /// The last insertion time is the greatest instant.
     TimeEnd,
-    /// Evicting every product that no cursor holds would not make room. `held` products are held.
+    /// Evicting every product that no cursor holds would not make room. `held` regions are held: those of the products that
+    /// cursors hold, and the reserved ones.
     Locked {
         held: u64,
     },
@@ -152,8 +172,8 @@ pub enum Reply {
         lost: u64,
         left: u64,
     },
-    /// How many products were admitted, are queued, and are held; the sum of the extents of those that are queued,
-    /// and the extent of the longest gap, 0 where there is none. Both in bytes.
+    /// How many products were admitted and are queued, and how many regions are held; the sum of the extents of the queued
+    /// products and the open reservations, and the extent of the longest gap, 0 where there is none. Both in bytes.
     Stat {
         admitted: u64,
         queued: u64,
@@ -161,6 +181,34 @@ pub enum Reply {
         used: u64,
         largest_free: u64,
     },
+    /// The reservation has place `r`; `evicted` products made room for it.
+    Reserved {
+        r: ReserveNo,
+        evicted: u64,
+    },
+    /// All 64 reservation places are taken.
+    AllReserved,
+    /// The place has no reservation of this actor.
+    NoReservation,
+    /// The bytes were filled in. So many of the body are left.
+    Filled {
+        left: u32,
+    },
+    /// More bytes were given than are left of the body. So many are left.
+    Overfill {
+        left: u32,
+    },
+    /// The body is not whole. So many bytes are left.
+    Unfilled {
+        left: u32,
+    },
+    /// The product is number `n` and got that insertion time.
+    Committed {
+        n: u64,
+        time: Micros,
+    },
+    /// The reservation is given up.
+    Discarded,
 }
 
 /// One call of a history: who called, what was called, and what was answered.

@@ -4,6 +4,7 @@ ghost use Rattle.ldm_model.specs.declared.event.Reply.TheVariants as reply;
 ghost use Rattle.ldm_model.specs.declared.event.Entry.{Entry};
 ghost use Rattle.ldm_model.specs.State.{end_of, is_queued, Row};
 ghost use Rattle.ldm_model.specs.Evict.{is_held};
+ghost use Rattle.ldm_model.specs.Filling.{ObeysFilling};
 ghost use Rattle.ldm_model.specs.History.{after, after_entries, IsLegal, IsLegalFrom, IsInserted, count_admissions};
 
 /// How a history that is appended to goes on: it is legal exactly where its front is, and what stands behind is legal
@@ -33,4 +34,11 @@ pub fn admissions_are_numbered()
     ensures number { (arena slots : ℕ) (front : List Entry) (entry : Entry) (behind : List Entry) → IsLegal arena slots (front ++ entry ∷ behind) →
         (n time evicted : ℕ) → entry.reply ≡ reply.Admitted n time evicted → n ≡ count_admissions front }
     ensures end { (arena slots : ℕ) (history : List Entry) → IsLegal arena slots history → end_of (after arena slots history) ≡ count_admissions history }
+{}
+
+/// The filling law: from the entry that reserves a region to the one that ends the reservation, its positions are covered by
+/// no queued product and no other reservation, and it has the bytes that its owner filled in. A commit admits the reserved
+/// metadata with these bytes.
+pub fn reservations_are_filled()
+    ensures { (arena slots : ℕ) (history : List Entry) → IsLegal arena slots history → ObeysFilling arena slots history }
 {}

@@ -1,8 +1,8 @@
 //! What the queue is, as definitions that contracts cite, and the events and replies that they speak of.
 //!
 //! The definitions stand in `specs/`: products, states, gaps and the best fit, eviction, insertion, cursors with
-//! opening, stepping, reading, releasing and closing, looking, expiring, counting, one event and legal histories, and the
-//! law that every reader's history obeys. `Event`, `Reply` and `Entry` are types of the definitions: no running call makes a
+//! opening, stepping, reading, releasing and closing, looking, expiring, counting, reservations with reserving, filling,
+//! committing and discarding, one event and legal histories, and the laws that every history obeys. `Event`, `Reply` and `Entry` are types of the definitions: no running call makes a
 //! value of them. What a call of a queue answers has a type of its own, and `specs/Answers.antt` says which reply it is.
 #![tactic(auto)]
 
@@ -10,15 +10,20 @@ mod bytes;
 mod event;
 mod examples;
 mod laws;
+mod numbers;
 mod replies;
+mod reserving;
 
 pub use bytes::Bytes;
 pub use event::{Entry, Event, Reply, Start};
 pub use examples::{worked_example_of_the_law, worked_examples, worked_examples_of_cursors};
 pub use laws::{
     admissions_are_numbered, held_products_are_queued, histories_append, products_were_inserted,
+    reservations_are_filled,
 };
+pub use numbers::ReserveNo;
 pub use replies::{
-    CloseReply, ExpireReply, InsertReply, LookReply, OpenReply, ReadReply, ReleaseReply, Stat,
-    StepReply, TallyReply,
+    CloseReply, CommitReply, DiscardReply, ExpireReply, FillReply, InsertReply, LookReply,
+    OpenReply, ReadReply, ReleaseReply, ReserveReply, Stat, StepReply, TallyReply,
 };
+pub use reserving::worked_examples_of_reservations;

@@ -1,5 +1,6 @@
 //! What the calls of a queue answer. Numbers of products count admitted products from 0.
 
+use crate::numbers::ReserveNo;
 use ldm_types::{CursorNo, Info, Micros};
 
 /// What inserting a product led to.
@@ -13,7 +14,8 @@ pub enum InsertReply {
     Duplicate { n: u64 },
     /// The last insertion time is the greatest instant.
     TimeEnd,
-    /// Evicting every product that no cursor holds would not make room. `held` products are held.
+    /// Evicting every product that no cursor holds would not make room. `held` regions are held: those of the products that
+    /// cursors hold, and the reserved ones.
     Locked { held: u64 },
 }
 
@@ -112,10 +114,61 @@ pub struct Stat {
     pub admitted: u64,
     /// How many of them are queued.
     pub queued: u64,
-    /// How many of these are held.
+    /// How many regions are held: those of the queued products that cursors hold, and the reserved ones.
     pub held: u64,
-    /// The sum of the extents of the queued products, in bytes.
+    /// The sum of the extents of the queued products and of the open reservations, in bytes.
     pub used: u64,
     /// The extent of the longest gap, in bytes, 0 where there is none.
     pub largest_free: u64,
+}
+
+/// What reserving a region led to. The answers are tried in this order.
+#[derive(Clone, Copy, Debug, PartialEq, Eq)]
+pub enum ReserveReply {
+    /// The product's extent is larger than the arena. Both in bytes.
+    TooBig { need: u64, arena: u64 },
+    /// Queued product `n` has the signature.
+    Duplicate { n: u64 },
+    /// All 64 reservation places are taken.
+    AllReserved,
+    /// Evicting every product that no cursor holds would not make room. `held` regions are held: those of the products that
+    /// cursors hold, and the reserved ones.
+    Locked { held: u64 },
+    /// The reservation has place `r`, the least that was empty; `evicted` products made room for it.
+    Reserved { r: ReserveNo, evicted: u64 },
+}
+
+/// What filling bytes into a reserved region led to. The answers are tried in this order.
+#[derive(Clone, Copy, Debug, PartialEq, Eq)]
+pub enum FillReply {
+    /// The place has no reservation of this actor.
+    NoReservation,
+    /// More bytes were given than are left of the body, which are `left`. None was filled in.
+    Overfill { left: u32 },
+    /// The bytes were filled in. So many of the body are left.
+    Filled { left: u32 },
+}
+
+/// What committing a reservation led to. The answers are tried in this order.
+#[derive(Clone, Copy, Debug, PartialEq, Eq)]
+pub enum CommitReply {
+    /// The place has no reservation of this actor.
+    NoReservation,
+    /// The body is not whole: `left` bytes of it are left. The reservation stays.
+    Unfilled { left: u32 },
+    /// Queued product `n` has the signature. The reservation has ended.
+    Duplicate { n: u64 },
+    /// The last insertion time is the greatest instant. The reservation has ended.
+    TimeEnd,
+    /// The product is number `n` and got that insertion time. It lies where it was filled in.
+    Committed { n: u64, time: Micros },
+}
+
+/// What giving a reservation up led to.
+#[derive(Clone, Copy, Debug, PartialEq, Eq)]
+pub enum DiscardReply {
+    /// The place has no reservation of this actor.
+    NoReservation,
+    /// The place is empty, and the region is free.
+    Discarded,
 }
