@@ -262,6 +262,10 @@ module _ (p : Point) (t : TiedAt p) where
   answered-call actor (event.Look signature) own = absurd (not_about (actor == p.owner) own)
   answered-call actor event.Expire own = absurd (not_about (actor == p.owner) own)
   answered-call actor event.Stat own = absurd (not_about (actor == p.owner) own)
+  answered-call actor (event.Reserve info) own = absurd (not_about (actor == p.owner) own)
+  answered-call actor (event.Fill r bytes) own = absurd (not_about (actor == p.owner) own)
+  answered-call actor (event.Commit r now) own = absurd (not_about (actor == p.owner) own)
+  answered-call actor (event.Discard r) own = absurd (not_about (actor == p.owner) own)
 
   pub answered : (entry : Entry) → IsAnswered (state_at p) entry → is_own p entry ≡ true → IsAnsweredAt p entry
   answered entry h own = subst (λ (r : Reply). IsAnsweredSo p entry.actor entry.event r) (sym h.reply) (answered-call entry.actor entry.event own)

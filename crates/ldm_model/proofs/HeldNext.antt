@@ -7,6 +7,7 @@ use Rattle.ldm_model.specs.declared.event.Event.{Event}
 use Rattle.ldm_model.specs.declared.event.Event.TheVariants as event
 use Rattle.ldm_model.specs.declared.event.Start.{Start}
 use Rattle.ldm_model.specs.declared.event.Entry.{Entry}
+use Rattle.ldm_types.specs.Info.{Metadata}
 use Rattle.ldm_model.specs.Product.{Product, extent_of}
 use Rattle.ldm_model.specs.State.{State, Row, Cursor, Queued, empty, last_time, queued, queued_with, is_queued}
 use Rattle.ldm_model.specs.Outcome.{Outcome, unchanged}
@@ -14,6 +15,7 @@ use Rattle.ldm_model.specs.declared.event.Reply.TheVariants as reply
 use Rattle.ldm_model.specs.Evict.{unheld}
 use Rattle.ldm_model.specs.Insert.{insert, insert_fitting, insert_by_evictions, is_last, evictions, after_evicting}
 use Rattle.ldm_model.specs.Cursor.{cursor_of, least_empty, awaits}
+use Rattle.ldm_model.specs.Reservation.{with_reservation}
 use Rattle.ldm_model.specs.Open.{open_cursor, open_at, open_from, open_position}
 use Rattle.ldm_model.specs.Step.{step, step_held, step_free, step_to}
 use Rattle.ldm_model.specs.Read.{read, read_row, part_of}
@@ -22,9 +24,13 @@ use Rattle.ldm_model.specs.Look.{look}
 use Rattle.ldm_model.specs.Expire.{expire, expire_first}
 use Rattle.ldm_model.specs.Tally.{tally}
 use Rattle.ldm_model.specs.Stat.{stat}
+use Rattle.ldm_model.specs.Reserve.{reserve}
+use Rattle.ldm_model.specs.Fill.{fill, discard}
+use Rattle.ldm_model.specs.Commit.{commit}
 use Rattle.ldm_model.specs.Next.{next}
 use Rattle.ldm_model.specs.History.{after_entries, next_entry}
 use Rattle.ldm_model.proofs.Held.{HoldsQueued, AreFree, AreFree-unheld, AreFree-take, HoldsQueued-evict, HoldsQueued-evict_all, HoldsQueued-append, HoldsQueued-place, HoldsQueued-on_cursor, HoldsQueued-on_held, queued-held, is_queued-found}
+use Rattle.ldm_model.proofs.ReservationCases.{by_reserve, by_fill, by_discard, by_commit}
 
 abbrev Leaves : Outcome → Type 0
 Leaves outcome = HoldsQueued outcome.state
@@ -107,6 +113,31 @@ module _ (s : State) (kept : HoldsQueued s) where
   unfolding stat
   after_stat = kept
 
+  -- reservations hold no product
+  after_reserve : (actor : ℕ) (info : Metadata) → Leaves (reserve s actor info)
+  after_reserve actor info = by_reserve s Leaves actor info (record {
+    too_big = kept;
+    duplicate = λ n. kept;
+    all_reserved = kept;
+    locked = λ held. kept;
+    reserved = λ r j place e. HoldsQueued-evict_all (take j (unheld s)) s (AreFree-take s j (unheld s) (AreFree-unheld s)) kept;
+  })
+
+  after_fill : (actor r : ℕ) (bytes : List ℕ) → Leaves (fill s actor r bytes)
+  after_fill actor r bytes = by_fill s Leaves actor r bytes (record { no_reservation = λ e. kept; overfill = λ reservation e. kept; filled = λ reservation e fits. kept })
+
+  after_discard : (actor r : ℕ) → Leaves (discard s actor r)
+  after_discard actor r = by_discard s Leaves actor r (λ e. kept) (λ reservation e. kept)
+
+  after_commit : (actor r now : ℕ) → Leaves (commit s actor r now)
+  after_commit actor r now = by_commit s Leaves actor r now (record {
+    no_reservation = λ e. kept;
+    unfilled = λ reservation e. kept;
+    duplicate = λ reservation e n. kept;
+    time_end = λ reservation e. kept;
+    committed = λ reservation e whole. HoldsQueued-append (with_reservation s r None) _ kept;
+  })
+
   pub HoldsQueued-next : (actor : ℕ) (e : Event) → Leaves (next s actor e)
   HoldsQueued-next actor (event.Insert now info body) = after_insert now (record { info = info; body = body })
   HoldsQueued-next actor (event.OpenCursor feed start) = after_open actor feed.0 start
@@ -118,6 +149,10 @@ module _ (s : State) (kept : HoldsQueued s) where
   HoldsQueued-next actor event.Expire = after_expire
   HoldsQueued-next actor (event.Tally k) = after_tally actor k
   HoldsQueued-next actor event.Stat = after_stat
+  HoldsQueued-next actor (event.Reserve info) = after_reserve actor info
+  HoldsQueued-next actor (event.Fill r bytes) = after_fill actor r bytes
+  HoldsQueued-next actor (event.Commit r now) = after_commit actor r now
+  HoldsQueued-next actor (event.Discard r) = after_discard actor r
 
 pub HoldsQueued-after : (entries : List Entry) (s : State) → HoldsQueued s → HoldsQueued (after_entries s entries)
 HoldsQueued-after [] s kept = kept

@@ -4,10 +4,10 @@ use Rattle.ldm_types.specs.Info.{Metadata}
 use Rattle.ldm_model.specs.declared.event.Event.TheVariants.{Read}
 use Rattle.ldm_model.specs.declared.event.Reply.TheVariants as reply
 use Rattle.ldm_model.specs.declared.event.Entry.{Entry}
-use Rattle.ldm_model.specs.History.{IsLegal, IsLegalFrom, IsInserted}
-use Rattle.ldm_model.specs.Law.{Point, history_of, state_at, IsServed, IsAnsweredAt, PassesOverNone, GivesQueued, TellsOnce, GivesInserted, ReadsInserted}
+use Rattle.ldm_model.specs.History.{IsLegal, IsLegalFrom, IsAdmitted}
+use Rattle.ldm_model.specs.Law.{Point, history_of, state_at, IsServed, IsAnsweredAt, PassesOverNone, GivesQueued, TellsOnce, GivesAdmitted, ReadsAdmitted}
 use Rattle.ldm_model.specs.Law.{ObeysLaw, AtEveryPoint, AtEveryCall}
-use Rattle.ldm_model.proofs.Inserted.{AreInserted-after}
+use Rattle.ldm_model.proofs.Admitted.{AreAdmitted-after}
 use Rattle.ldm_model.proofs.TiedPoints.{TiedAt-point, IsLegalAt-point}
 use Rattle.ldm_model.proofs.Served.{served, passes-over-none, gives-queued, tells-once}
 use Rattle.ldm_model.proofs.Answered.{answered}
@@ -35,21 +35,21 @@ ObeysLaw-legal arena slots history legal = record {
 pub gives-queued-everywhere : AtEveryPoint GivesQueued
 gives-queued-everywhere arena slots history legal p at = gives-queued p (TiedAt-point arena slots history legal p at)
 
--- the product that is given was inserted
-pub gives-inserted-everywhere : AtEveryCall (λ (p : Point) (entry : Entry). (n time : ℕ) (info : Metadata) → entry.reply ≡ reply.Product n time info → GivesInserted p n time info)
-gives-inserted-everywhere arena slots history legal p at entry later behind own n time info is_reply =
+-- the product that is given was admitted
+pub gives-admitted-everywhere : AtEveryCall (λ (p : Point) (entry : Entry). (n time : ℕ) (info : Metadata) → entry.reply ≡ reply.Product n time info → GivesAdmitted p n time info)
+gives-admitted-everywhere arena slots history legal p at entry later behind own n time info is_reply =
     let gives = (answered-everywhere arena slots history legal p at entry later behind own).next_given n time info is_reply in
     let so_far = (IsLegalAt-point arena slots history legal p at).so_far in
     record {
       product = gives.row.product;
-      inserted = subst (λ (i : ℕ). IsInserted (history_of p) n gives.row.product i) (sym gives.time_of_row) (AreInserted-after p.arena p.slots (history_of p) so_far n gives.row gives.is_row);
+      admitted = subst (λ (i : ℕ). IsAdmitted (history_of p) n gives.row.product i) (sym gives.time_of_row) (AreAdmitted-after p.arena p.slots (history_of p) so_far n gives.row gives.is_row);
       info_of_product = gives.info_of_row;
     }
 
--- and the bytes that are read are of the body that was inserted
-pub reads-inserted-everywhere : AtEveryCall (λ (p : Point) (entry : Entry). (offset len : ℕ) (bytes : List ℕ) → entry.event ≡ Read p.k offset len → entry.reply ≡ reply.Bytes bytes
-    → ReadsInserted p offset len bytes)
-reads-inserted-everywhere arena slots history legal p at entry later behind own offset len bytes is_event is_reply =
+-- and the bytes that are read are of the body that was admitted
+pub reads-admitted-everywhere : AtEveryCall (λ (p : Point) (entry : Entry). (offset len : ℕ) (bytes : List ℕ) → entry.event ≡ Read p.k offset len → entry.reply ≡ reply.Bytes bytes
+    → ReadsAdmitted p offset len bytes)
+reads-admitted-everywhere arena slots history legal p at entry later behind own offset len bytes is_event is_reply =
     let reads = (answered-everywhere arena slots history legal p at entry later behind own).held_bytes offset len bytes is_event is_reply in
     let so_far = (IsLegalAt-point arena slots history legal p at).so_far in
     record {
@@ -57,6 +57,6 @@ reads-inserted-everywhere arena slots history legal p at entry later behind own 
       holds = reads.holds;
       product = reads.row.product;
       time = reads.row.time;
-      inserted = AreInserted-after p.arena p.slots (history_of p) so_far reads.hold.number reads.row reads.is_row;
+      admitted = AreAdmitted-after p.arena p.slots (history_of p) so_far reads.hold.number reads.row reads.is_row;
       part = reads.part;
     }

@@ -1,3 +1,6 @@
+pub mod Places
+pub mod Cases
+pub mod ReservationCases
 mod Held
 mod HeldNext
 pub mod Appended
@@ -18,5 +21,7 @@ pub mod TiedPoints
 pub mod Served
 pub mod Answered
 pub mod Lawful
-pub mod Inserted
+pub mod Effects
+pub mod Opened
+pub mod Admitted
 pub mod Numbered

@@ -3,9 +3,10 @@ use Rattle.std.proofs.Common.{◌≡◌, ◌∙◌, ◌≢◌, ℕ, zero, suc, �
 use Rattle.std.specs.Prelude.{◌&&◌, ◌||◌, nat_le, is_some, slice_get, slice_index_or}
 use Rattle.std.proofs.lemmas.Bool.{both_ways, eq-eqb}
 use Rattle.ldm_types.specs.Feed.{feeds_meet}
-use Rattle.ldm_model.specs.State.{State, Row, Cursor, end_of, is_queued}
+use Rattle.ldm_model.specs.State.{State, Row, Cursor, Reservation, end_of, is_queued}
 use Rattle.ldm_model.specs.Evict.{is_number, is_held, numbers, with_loss, evict, evict_row, evict_all}
 use Rattle.ldm_model.specs.Cursor.{cursor_at, with_place}
+use Rattle.ldm_model.specs.Reservation.{with_reservation}
 use Rattle.ldm_model.specs.Open.{open_position}
 use Rattle.ldm_model.specs.Law.{Point, Hold, state_before, is_among, is_not_below}
 use Rattle.ldm_model.proofs.Held.{list_any-at}
@@ -81,6 +82,10 @@ module _ (p : Point) (given told : List ℕ) (hold : Option Hold) (counted : ℕ
     owner = t.owner;
     reads = Reads-admitted p.feed (begun_at p) s.rows t.cursor given told hold counted t.reads row placed;
   }
+
+  -- a reservation changes
+  pub Tied-reservation : (s : State) (r : ℕ) (place : Option Reservation) → Tied p s given told hold counted → Tied p (with_reservation s r place) given told hold counted
+  Tied-reservation s r place t = record { cursor = t.cursor; is_at = t.is_at; owner = t.owner; reads = t.reads }
 
   -- another place changes
   pub Tied-other : (s : State) (k : ℕ) (place : Option Cursor) → p.k ≢ k → Tied p s given told hold counted → Tied p (with_place s k place) given told hold counted

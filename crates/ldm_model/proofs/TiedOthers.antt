@@ -9,6 +9,7 @@ use Rattle.ldm_model.specs.declared.event.Event.{Event}
 use Rattle.ldm_model.specs.declared.event.Event.TheVariants as event
 use Rattle.ldm_model.specs.declared.event.Start.{Start}
 use Rattle.ldm_model.specs.declared.event.Reply.TheVariants as reply
+use Rattle.ldm_types.specs.Info.{Metadata}
 use Rattle.ldm_model.specs.Product.{Product, extent_of}
 use Rattle.ldm_model.specs.State.{State, Row, Cursor, Queued, last_time, queued, queued_with}
 use Rattle.ldm_model.specs.Outcome.{Outcome, unchanged}
@@ -16,6 +17,7 @@ use Rattle.ldm_model.specs.Room.{fit_in, has_room}
 use Rattle.ldm_model.specs.Evict.{unheld}
 use Rattle.ldm_model.specs.Insert.{insert, insert_fitting, insert_by_evictions, is_last, evictions, after_evicting}
 use Rattle.ldm_model.specs.Cursor.{if_owned, cursor_at, cursor_of, least_empty, awaits, on_cursor, on_held}
+use Rattle.ldm_model.specs.Reservation.{with_reservation}
 use Rattle.ldm_model.specs.Open.{open_cursor, open_at, open_from, open_position}
 use Rattle.ldm_model.specs.Step.{step, step_held, step_free, step_to}
 use Rattle.ldm_model.specs.Read.{read, read_row, part_of}
@@ -24,12 +26,16 @@ use Rattle.ldm_model.specs.Look.{look}
 use Rattle.ldm_model.specs.Expire.{expire, expire_first}
 use Rattle.ldm_model.specs.Tally.{tally}
 use Rattle.ldm_model.specs.Stat.{stat}
+use Rattle.ldm_model.specs.Reserve.{reserve}
+use Rattle.ldm_model.specs.Fill.{fill, discard}
+use Rattle.ldm_model.specs.Commit.{commit}
 use Rattle.ldm_model.specs.Next.{next}
 use Rattle.ldm_model.specs.Law.{Point, Hold, is_number, place_of_event}
 use Rattle.ldm_model.proofs.Held.{cursor-owned}
 use Rattle.ldm_model.proofs.Coming.{find-range_before}
 use Rattle.ldm_model.proofs.Evictable.{AreEvictable-unheld, evictable-first}
-use Rattle.ldm_model.proofs.Tied.{Tied, Tied-evict, Tied-evict_all, Tied-admit, Tied-other}
+use Rattle.ldm_model.proofs.Tied.{Tied, Tied-evict, Tied-evict_all, Tied-admit, Tied-other, Tied-reservation}
+use Rattle.ldm_model.proofs.ReservationCases.{by_reserve, by_fill, by_discard, by_commit}
 
 -- the place that is found for a product that is admitted
 pub fit-found : (s : State) (need j : ℕ) → evictions s need ≡ Some j → is_some (fit_in (after_evicting s j) need) ≡ true
@@ -96,6 +102,36 @@ module _ (p : Point) (s : State) (given told : List ℕ) (hold : Option Hold) (c
   after_stat : Leaves (stat s)
   unfolding stat
   after_stat = t
+
+  after_reserve : (actor : ℕ) (info : Metadata) → Leaves (reserve s actor info)
+  after_reserve actor info = by_reserve s Leaves actor info (record {
+    too_big = t;
+    duplicate = λ n. t;
+    all_reserved = t;
+    locked = λ held. t;
+    reserved = λ r j place e. Tied-reservation p given told hold counted (after_evicting s j) r _ (Tied-evict_all p given told hold counted (take j (unheld s)) s (AreEvictable-unheld s j) t);
+  })
+
+  after_fill : (actor r : ℕ) (bytes : List ℕ) → Leaves (fill s actor r bytes)
+  after_fill actor r bytes = by_fill s Leaves actor r bytes (record {
+    no_reservation = λ e. t;
+    overfill = λ reservation e. t;
+    filled = λ reservation e fits. Tied-reservation p given told hold counted s r _ t;
+  })
+
+  after_discard : (actor r : ℕ) → Leaves (discard s actor r)
+  after_discard actor r = by_discard s Leaves actor r (λ e. t) (λ reservation e. Tied-reservation p given told hold counted s r None t)
+
+  after_commit : (actor r now : ℕ) → Leaves (commit s actor r now)
+  after_commit actor r now =
+      let ended = Tied-reservation p given told hold counted s r None t in
+      by_commit s Leaves actor r now (record {
+        no_reservation = λ e. t;
+        unfilled = λ reservation e. t;
+        duplicate = λ reservation e n. ended;
+        time_end = λ reservation e. ended;
+        committed = λ reservation e whole. Tied-admit p given told hold counted (with_reservation s r None) _ refl ended;
+      })
 
   module _ (actor k : ℕ) (other : (actor == p.owner && k == p.k) ≡ false) where
     -- a cursor that another actor has, or at another place, is another one
@@ -165,3 +201,7 @@ module _ (p : Point) (s : State) (given told : List ℕ) (hold : Option Hold) (c
   Tied-others actor event.Expire other = after_expire
   Tied-others actor (event.Tally k) other = after_tally actor k other
   Tied-others actor event.Stat other = after_stat
+  Tied-others actor (event.Reserve info) other = after_reserve actor info
+  Tied-others actor (event.Fill r bytes) other = after_fill actor r bytes
+  Tied-others actor (event.Commit r now) other = after_commit actor r now
+  Tied-others actor (event.Discard r) other = after_discard actor r

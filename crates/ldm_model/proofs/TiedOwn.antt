@@ -122,3 +122,7 @@ module _ (p : Point) (t : TiedAt p) where
   TiedAfter-own actor (event.Look signature) own open_still = absurd (not_about (actor == p.owner) own)
   TiedAfter-own actor event.Expire own open_still = absurd (not_about (actor == p.owner) own)
   TiedAfter-own actor event.Stat own open_still = absurd (not_about (actor == p.owner) own)
+  TiedAfter-own actor (event.Reserve info) own open_still = absurd (not_about (actor == p.owner) own)
+  TiedAfter-own actor (event.Fill r bytes) own open_still = absurd (not_about (actor == p.owner) own)
+  TiedAfter-own actor (event.Commit r now) own open_still = absurd (not_about (actor == p.owner) own)
+  TiedAfter-own actor (event.Discard r) own open_still = absurd (not_about (actor == p.owner) own)

@@ -1,15 +1,15 @@
 -- The law of reservations: from the entry that reserves a region to the one that ends the reservation.
 use Rattle.std.specs.Prelude.{◌≡◌, ◌≢◌, ℕ, ◌+◌, ◌≤◌, ◌==◌, Bool, false, true, ◌&&◌, List, [], ◌∷◌, ◌++◌, length, All, IfSome, Option, Some, None, slice_get}
 use Rattle.ldm_types.specs.Info.{Metadata}
-use Rattle.ldm_types.specs.Arena.{Region, AreApart}
+use Rattle.ldm_types.specs.Arena.{AreApart}
 use Rattle.ldm_model.specs.declared.event.Event.{Event}
 use Rattle.ldm_model.specs.declared.event.Event.TheVariants.{Reserve, Fill, Commit, Discard}
 use Rattle.ldm_model.specs.declared.event.Reply.TheVariants as reply
 use Rattle.ldm_model.specs.declared.event.Entry.{Entry}
-use Rattle.ldm_model.specs.Product.{Product, extent_of}
-use Rattle.ldm_model.specs.State.{State, Reservation, queued, region_of, reserved_region}
+use Rattle.ldm_model.specs.Product.{extent_of}
+use Rattle.ldm_model.specs.State.{State, queued, region_of, reserved_region}
 use Rattle.ldm_model.specs.Reservation.{reservation_at, new_reservation}
-use Rattle.ldm_model.specs.History.{after, after_entries, next_entry, IsLegal}
+use Rattle.ldm_model.specs.History.{after, next_entry}
 use Rattle.ldm_model.specs.Filled.{bytes_filled, ends}
 
 -- A point of a reservation: the entries before it was made, the entry that made it, and those since then, of all actors.
@@ -85,7 +85,7 @@ pub record CommitsFilled (f : Filling) (entry : Entry) (n time : ℕ) : Type 0 w
   pub place : ℕ
   pub made : reservation_at (state_reserved f) f.r ≡ Some (new_reservation f.owner f.info place)
   pub row : slice_get (next_entry (state_filling f) entry).state.rows n
-    ≡ Some (record { product = record { info = f.info; body = body_so_far f }; time = time; place = Some place })
+      ≡ Some (record { product = record { info = f.info; body = body_so_far f }; time = time; place = Some place })
 
 -- What the owner is answered on its reservation.
 pub record IsFillingAnswered (f : Filling) (entry : Entry) : Type 0 where

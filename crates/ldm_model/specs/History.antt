@@ -120,7 +120,7 @@ pub record IsCommitted (history : List Entry) (n : ℕ) (product : Product) (tim
   pub now : ℕ
   pub behind : List Entry
   pub is_entries : history ≡ front ++ record { actor = actor; event = Reserve product.info; reply = Reserved r evicted }
-    ∷ (between ++ record { actor = actor; event = Commit r now; reply = Committed n time } ∷ behind)
+      ∷ (between ++ record { actor = actor; event = Commit r now; reply = Committed n time } ∷ behind)
   -- the reservation is the one that was made then
   pub not_ended : All (λ entry. ends actor r entry ≡ false) between
   pub body : product.body ≡ bytes_filled actor r between

@@ -22,7 +22,7 @@ use Rattle.ldm_model.specs.Open.{open_position}
 use Rattle.ldm_model.specs.Step.{least_of, greatest_of}
 use Rattle.ldm_model.specs.Read.{part_of}
 use Rattle.ldm_model.specs.Product.{Product}
-use Rattle.ldm_model.specs.History.{after, IsLegal, IsInserted}
+use Rattle.ldm_model.specs.History.{after, IsLegal, IsAdmitted}
 
 -- A point of a life: the entries before the opening, the opening, and the entries since then, of all actors.
 pub record Point : Type 0 where
@@ -196,19 +196,19 @@ pub record ReadsHeld (p : Point) (offset len : ℕ) (bytes : List ℕ) : Type 0 
   pub is_row : row_of p hold.number ≡ Some row
   pub part : bytes ≡ part_of row.product offset len
 
--- The product that was given is one that was inserted, with its insertion time and metadata.
-pub record GivesInserted (p : Point) (n time : ℕ) (info : Metadata) : Type 0 where
+-- The product that was given is one that was admitted, inserted or committed, with its insertion time and metadata.
+pub record GivesAdmitted (p : Point) (n time : ℕ) (info : Metadata) : Type 0 where
   pub product : Product
-  pub inserted : IsInserted (history_of p) n product time
+  pub admitted : IsAdmitted (history_of p) n product time
   pub info_of_product : info ≡ product.info
 
--- The bytes that were read are the part that was asked for of the body that was inserted.
-pub record ReadsInserted (p : Point) (offset len : ℕ) (bytes : List ℕ) : Type 0 where
+-- The bytes that were read are the part that was asked for of the body that was admitted.
+pub record ReadsAdmitted (p : Point) (offset len : ℕ) (bytes : List ℕ) : Type 0 where
   pub hold : Hold
   pub holds : hold_of p ≡ Some hold
   pub product : Product
   pub time : ℕ
-  pub inserted : IsInserted (history_of p) hold.number product time
+  pub admitted : IsAdmitted (history_of p) hold.number product time
   pub part : bytes ≡ part_of product offset len
 
 -- What is true of a reader at every point of its life.

@@ -1,11 +1,15 @@
 //! Laws of histories: what follows from the definitions for every one of them.
-ghost use Rattle.std.specs.Prelude.{◌≡◌, ◌↔◌, ◌++◌, ◌∷◌, ℕ, List, true, Some, slice_get};
+ghost use Rattle.std.specs.Prelude.{◌≡◌, ◌↔◌, ◌++◌, ◌∷◌, ◌+◌, ◌≤◌, ℕ, List, true, All, Some, slice_get};
+ghost use Rattle.ldm_types.specs.Arena.{Region, AreApart};
+ghost use Rattle.ldm_types.specs.Info.{Metadata};
+ghost use Rattle.ldm_model.specs.declared.event.Event.TheVariants.{Read};
 ghost use Rattle.ldm_model.specs.declared.event.Reply.TheVariants as reply;
 ghost use Rattle.ldm_model.specs.declared.event.Entry.{Entry};
-ghost use Rattle.ldm_model.specs.State.{end_of, is_queued, Row};
+ghost use Rattle.ldm_model.specs.State.{end_of, is_queued, occupied, Row};
 ghost use Rattle.ldm_model.specs.Evict.{is_held};
+ghost use Rattle.ldm_model.specs.Law.{Point, PassesOverNone, GivesQueued, TellsOnce, GivesAdmitted, ReadsAdmitted, ObeysLaw, AtEveryPoint, AtEveryCall};
 ghost use Rattle.ldm_model.specs.Filling.{ObeysFilling};
-ghost use Rattle.ldm_model.specs.History.{after, after_entries, IsLegal, IsLegalFrom, IsInserted, count_admissions};
+ghost use Rattle.ldm_model.specs.History.{after, after_entries, IsLegal, IsLegalFrom, IsAdmitted, count_admissions};
 
 /// How a history that is appended to goes on: it is legal exactly where its front is, and what stands behind is legal
 /// from the state after the front on.
@@ -22,18 +26,34 @@ pub fn held_products_are_queued()
         (n : ℕ) → is_held (after arena slots history) n ≡ true → is_queued (after arena slots history) n ≡ true }
 {}
 
-/// Every product of the state that a legal history leads to was inserted by an entry of the history, as the number and at the
-/// time that it has.
-pub fn products_were_inserted()
+/// Every product of the state that a legal history leads to was admitted by the history, as the number and at the time that it
+/// has: one entry inserted it, or one reserved a region for its metadata, others of that actor filled its body in, and one
+/// committed it.
+pub fn products_were_admitted()
     ensures { (arena slots : ℕ) (history : List Entry) → IsLegal arena slots history →
-        (n : ℕ) (row : Row) → slice_get (after arena slots history).rows n ≡ Some row → IsInserted history n row.product row.time }
+        (n : ℕ) (row : Row) → slice_get (after arena slots history).rows n ≡ Some row → IsAdmitted history n row.product row.time }
 {}
 
 /// Products are numbered in the order of their admission, from 0: each has as its number how many were admitted before it.
 pub fn admissions_are_numbered()
     ensures number { (arena slots : ℕ) (front : List Entry) (entry : Entry) (behind : List Entry) → IsLegal arena slots (front ++ entry ∷ behind) →
         (n time evicted : ℕ) → entry.reply ≡ reply.Admitted n time evicted → n ≡ count_admissions front }
+    ensures committed { (arena slots : ℕ) (front : List Entry) (entry : Entry) (behind : List Entry) → IsLegal arena slots (front ++ entry ∷ behind) →
+        (n time : ℕ) → entry.reply ≡ reply.Committed n time → n ≡ count_admissions front }
     ensures end { (arena slots : ℕ) (history : List Entry) → IsLegal arena slots history → end_of (after arena slots history) ≡ count_admissions history }
+{}
+
+/// The law of readers: every legal history serves each reader in the order of insertion, passes over no product that is for
+/// it, and tells it of each loss once. What it is given, and what it reads, was admitted.
+pub fn every_reader_is_served()
+    ensures obeys_law { (arena slots : ℕ) (history : List Entry) → IsLegal arena slots history → ObeysLaw arena slots history }
+    ensures passes_over_none { AtEveryPoint PassesOverNone }
+    ensures gives_queued { AtEveryPoint GivesQueued }
+    ensures tells_once { AtEveryPoint TellsOnce }
+    ensures gives_admitted { AtEveryCall (λ (p : Point) (entry : Entry). (n time : ℕ) (info : Metadata) →
+        entry.reply ≡ reply.Product n time info → GivesAdmitted p n time info) }
+    ensures reads_admitted { AtEveryCall (λ (p : Point) (entry : Entry). (offset len : ℕ) (bytes : List ℕ) →
+        entry.event ≡ Read p.k offset len → entry.reply ≡ reply.Bytes bytes → ReadsAdmitted p offset len bytes) }
 {}
 
 /// The filling law: from the entry that reserves a region to the one that ends the reservation, its positions are covered by

@@ -2,8 +2,9 @@
 //!
 //! The definitions stand in `specs/`: products, states, gaps and the best fit, eviction, insertion, cursors with
 //! opening, stepping, reading, releasing and closing, looking, expiring, counting, reservations with reserving, filling,
-//! committing and discarding, one event and legal histories, and the laws that every history obeys. `Event`, `Reply` and `Entry` are types of the definitions: no running call makes a
-//! value of them. What a call of a queue answers has a type of its own, and `specs/Answers.antt` says which reply it is.
+//! committing and discarding, one event and legal histories, and the laws that every history obeys. `Event`, `Reply` and
+//! `Entry` are types of the definitions: no running call makes a value of them. What a call of a queue answers has a type of
+//! its own, and `specs/Answers.antt` says which reply it is.
 #![tactic(auto)]
 
 mod bytes;
@@ -18,8 +19,8 @@ pub use bytes::Bytes;
 pub use event::{Entry, Event, Reply, Start};
 pub use examples::{worked_example_of_the_law, worked_examples, worked_examples_of_cursors};
 pub use laws::{
-    admissions_are_numbered, held_products_are_queued, histories_append, products_were_inserted,
-    reservations_are_filled,
+    admissions_are_numbered, every_reader_is_served, held_products_are_queued, histories_append,
+    products_were_admitted, reservations_are_filled,
 };
 pub use numbers::ReserveNo;
 pub use replies::{
