@@ -1,6 +1,9 @@
 pub mod Places
 pub mod Cases
 pub mod ReservationCases
+pub mod ApartFit
+pub mod ApartRegions
+pub mod ApartNext
 mod Held
 mod HeldNext
 pub mod Appended

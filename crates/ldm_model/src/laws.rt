@@ -1,5 +1,6 @@
 //! Laws of histories: what follows from the definitions for every one of them.
 ghost use Rattle.std.specs.Prelude.{◌≡◌, ◌↔◌, ◌++◌, ◌∷◌, ◌+◌, ◌≤◌, ℕ, List, true, All, Some, slice_get};
+ghost use Rattle.std.specs.List.{AllPairs};
 ghost use Rattle.ldm_types.specs.Arena.{Region, AreApart};
 ghost use Rattle.ldm_types.specs.Info.{Metadata};
 ghost use Rattle.ldm_model.specs.declared.event.Event.TheVariants.{Read};
@@ -54,6 +55,14 @@ pub fn every_reader_is_served()
         entry.reply ≡ reply.Product n time info → GivesAdmitted p n time info) }
     ensures reads_admitted { AtEveryCall (λ (p : Point) (entry : Entry). (offset len : ℕ) (bytes : List ℕ) →
         entry.event ≡ Read p.k offset len → entry.reply ≡ reply.Bytes bytes → ReadsAdmitted p offset len bytes) }
+{}
+
+/// What occupies the arena after a legal history, queued products and open reservations, lies within it, and no two regions
+/// share a position.
+pub fn regions_lie_apart()
+    ensures within { (arena slots : ℕ) (history : List Entry) → IsLegal arena slots history →
+        All (λ (region : Region). region.start + region.extent ≤ arena) (occupied (after arena slots history)) }
+    ensures apart { (arena slots : ℕ) (history : List Entry) → IsLegal arena slots history → AllPairs AreApart (occupied (after arena slots history)) }
 {}
 
 /// The filling law: from the entry that reserves a region to the one that ends the reservation, its positions are covered by

@@ -20,7 +20,7 @@ pub use event::{Entry, Event, Reply, Start};
 pub use examples::{worked_example_of_the_law, worked_examples, worked_examples_of_cursors};
 pub use laws::{
     admissions_are_numbered, every_reader_is_served, held_products_are_queued, histories_append,
-    products_were_admitted, reservations_are_filled,
+    products_were_admitted, regions_lie_apart, reservations_are_filled,
 };
 pub use numbers::ReserveNo;
 pub use replies::{

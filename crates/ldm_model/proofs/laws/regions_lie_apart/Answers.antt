@@ -1,0 +1,10 @@
+use Rattle.ldm_model.specs.History.{after}
+use Rattle.ldm_model.proofs.ApartRegions.{occupied-within, occupied-apart}
+use Rattle.ldm_model.proofs.ApartNext.{Laid-after}
+use Rattle.ldm_model.proofs.laws.regions_lie_apart.Goals as goal
+
+pub returns-clause-within : goal.returns-clause-within
+returns-clause-within c = λ arena slots history legal. occupied-within arena (after arena slots history) (Laid-after arena slots history)
+
+pub returns-clause-apart : goal.returns-clause-apart
+returns-clause-apart c = λ arena slots history legal. occupied-apart arena (after arena slots history) (Laid-after arena slots history)
