@@ -27,4 +27,6 @@ pub mod Lawful
 pub mod Effects
 pub mod Opened
 pub mod Admitted
+pub mod FillingPoints
+pub mod FillingAnswered
 pub mod Numbered
