@@ -9,10 +9,12 @@ ghost use Rattle.ldm_model.specs.declared.event.Entry.{Entry};
 ghost use Rattle.ldm_model.specs.State.{empty, place_of_row};
 ghost use Rattle.ldm_model.specs.History.{after, IsLegal};
 ghost use Rattle.ldm_model.specs.Law.{Point, Hold, row_of, is_step, due, given, lost, left, hold_of};
-ghost use Rattle.ldm_model.specs.Law.{GivesNext, TellsLosses, HasAll, ReadsHeld, PassesOverNone, GivesQueued, TellsOnce, GivesInserted, ReadsInserted, ObeysLaw, AtEveryPoint, AtEveryCall};
+ghost use Rattle.ldm_model.specs.Law.{GivesNext, TellsLosses, HasAll, ReadsHeld, PassesOverNone, GivesQueued, TellsOnce, GivesAdmitted, ReadsAdmitted, ObeysLaw, AtEveryPoint, AtEveryCall};
 ghost use Rattle.ldm_book.specs.View.{BookView};
 ghost use Rattle.ldm_book.specs.Stands.{StandsFor};
 ghost use Rattle.ldm_book.specs.Runs.{Made, IsCall, IsRun, entries};
+
+use ldm_model::{every_reader_is_served, histories_append};
 
 /// The first-in-first-out law: whatever is inserted, held, released, evicted and stepped over, each reader is given the
 /// queued products of its feeds whole, in insertion order and each once, and is told exactly how many were evicted unread
@@ -44,12 +46,14 @@ pub fn fifo()
     ensures tally_counts { AtEveryCall (λ (p : Point) (entry : Entry). (g l r : ℕ) →
         entry.reply ≡ reply.Tally g l r → (g ≡ length (given p)) × (l ≡ length (lost p)) × (r ≡ length (left p))) }
 
-    // What it is given, and what it reads, was inserted.
-    ensures gives_inserted { AtEveryCall (λ (p : Point) (entry : Entry). (n time : ℕ) (info : Metadata) →
-        entry.reply ≡ reply.Product n time info → GivesInserted p n time info) }
-    ensures reads_inserted { AtEveryCall (λ (p : Point) (entry : Entry). (offset len : ℕ) (bytes : List ℕ) →
-        entry.event ≡ Read p.k offset len → entry.reply ≡ reply.Bytes bytes → ReadsInserted p offset len bytes) }
-{}
+    // What it is given, and what it reads, was admitted.
+    ensures gives_admitted { AtEveryCall (λ (p : Point) (entry : Entry). (n time : ℕ) (info : Metadata) →
+        entry.reply ≡ reply.Product n time info → GivesAdmitted p n time info) }
+    ensures reads_admitted { AtEveryCall (λ (p : Point) (entry : Entry). (offset len : ℕ) (bytes : List ℕ) →
+        entry.event ≡ Read p.k offset len → entry.reply ≡ reply.Bytes bytes → ReadsAdmitted p offset len bytes) }
+{
+    every_reader_is_served();
+}
 
 /// A run of a book is a legal history: calls of a new book, each answered as its clause `answers` says by the book that the
 /// call before it left. So [`fifo`] holds of the replies of every run.
@@ -65,4 +69,6 @@ pub fn runs_are_legal()
     ensures call { (arena slots : ℕ) (history : List Entry) (book : BookView) (made : Made) →
         IsLegal arena slots history → StandsFor book (after arena slots history) → IsCall book made →
         IsLegal arena slots (history ++ made.entry ∷ []) × StandsFor made.book (after arena slots (history ++ made.entry ∷ [])) }
-{}
+{
+    histories_append();
+}

@@ -1,7 +1,6 @@
 use Rattle.std.proofs.Common.{List, [], ◌∷◌, sym, subst}
 use Rattle.ldm_model.specs.State.{State, empty}
 use Rattle.ldm_model.specs.History.{after, next_entry, IsLegalFrom}
-use Rattle.ldm_model.proofs.Appended.{after_entries-append, IsLegalFrom-append}
 use Rattle.ldm_book.specs.View.{BookView}
 use Rattle.ldm_book.specs.Stands.{StandsFor}
 use Rattle.ldm_book.specs.Runs.{Made, IsRun, entries}
@@ -25,7 +24,7 @@ pub returns-clause-call : goal.returns-clause-call
 returns-clause-call c = λ arena slots history book made legal stands is_call.
     let s = after arena slots history in
     let follows = is_call.answers s stands in (
-      (IsLegalFrom-append history (made.entry ∷ []) (empty arena slots)).1
+      (c.histories_append.ensures.legal arena slots history (made.entry ∷ [])).1
           (legal, (record { actor = is_call.actor; possible = is_call.possible; reply = follows.reply }, tt)),
-      subst (λ (state : State). StandsFor made.book state) (sym (after_entries-append history (made.entry ∷ []) (empty arena slots))) follows.state,
+      subst (λ (state : State). StandsFor made.book state) (sym (c.histories_append.ensures.state arena slots history (made.entry ∷ []))) follows.state,
     )
