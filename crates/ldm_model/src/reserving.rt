@@ -1,7 +1,8 @@
 //! A check of the definitions of reservations: worked examples that compute.
 ghost use Rattle.std.specs.Prelude.{◌≡◌, [], ◌∷◌, ◌++◌, replicate, Some};
-ghost use Rattle.ldm_model.specs.Insert.{evictions};
-ghost use Rattle.ldm_model.specs.Examples.{answers, answers_to, by, insert_of, open_from, sample_info, reserve_of, fill_of, state_after, reserved_first};
+ghost use Rattle.ldm_types.specs.Arena.{gaps};
+ghost use Rattle.ldm_model.specs.State.{occupied};
+ghost use Rattle.ldm_model.specs.Examples.{answers, answers_to, by, insert_of, open_from, sample_info, reserve_of, fill_of, state_after, reserved_first, region};
 ghost use Rattle.ldm_types.specs.declared.limits.TheConstants.{GREATEST_INSTANT};
 ghost use Rattle.ldm_model.specs.declared.event.Start.TheVariants.{Oldest};
 ghost use Rattle.ldm_model.specs.declared.event.Event.TheVariants.{Expire, Step, Read, Commit, Discard, Stat as StatCall};
@@ -23,6 +24,9 @@ pub fn worked_examples_of_reservations()
         ≡ Reserved 0 0 ∷ Admitted 0 100 0 ∷ Admitted 1 300 0 ∷ Committed 2 301 ∷ [] }
     ensures no_time_left { answers 168 10 (reserve_of 1 0 ∷ insert_of GREATEST_INSTANT 2 4 ∷ Commit 0 200 ∷ Discard 0 ∷ [])
         ≡ Reserved 0 0 ∷ Admitted 0 GREATEST_INSTANT 0 ∷ TimeEnd ∷ NoReservation ∷ [] }
+    // The product lies where it was filled in, although a lower gap is as long.
+    ensures stays_in_place { gaps (occupied (state_after 168 10 (reserve_of 1 0 ∷ reserve_of 2 0 ∷ Discard 0 ∷ Commit 1 200 ∷ []))) 168
+        ≡ region 0 56 ∷ region 112 56 ∷ [] }
     // A reservation is held, and is no row that could be evicted.
     ensures held { answers 64 10 (reserve_of 1 12 ∷ insert_of 100 2 4 ∷ Expire ∷ Discard 0 ∷ insert_of 100 2 4 ∷ reserve_of 3 12 ∷ [])
         ≡ Reserved 0 0 ∷ Locked 1 ∷ Nothing ∷ Discarded ∷ Admitted 0 100 0 ∷ Reserved 0 1 ∷ [] }

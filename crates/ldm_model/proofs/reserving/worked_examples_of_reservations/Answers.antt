@@ -27,6 +27,10 @@ pub returns-clause-no_time_left : goal.returns-clause-no_time_left
 unfolding insert open_cursor step read expire stat reserve fill discard commit
 returns-clause-no_time_left c = refl
 
+pub returns-clause-stays_in_place : goal.returns-clause-stays_in_place
+unfolding insert open_cursor step read expire stat reserve fill discard commit
+returns-clause-stays_in_place c = refl
+
 pub returns-clause-held : goal.returns-clause-held
 unfolding insert open_cursor step read expire stat reserve fill discard commit
 returns-clause-held c = refl
