@@ -18,8 +18,10 @@ pub fn worked_examples_of_reservations()
         ≡ Reserved 0 0 ∷ Opened 0 ∷ End 0 ∷ Filled 2 ∷ Unfilled 2 ∷ Overfill 2 ∷ Filled 0 ∷ NoReservation ∷ Committed 0 500
         ∷ Product 0 500 (sample_info 1 4) ∷ Bytes (65 ∷ 66 ∷ 67 ∷ 68 ∷ []) ∷ [] }
     // A product that was inserted meanwhile makes the commit a duplicate, which ends the reservation. Its time is that of the commit.
-    ensures duplicate_at_commit { answers 168 10 (reserve_of 1 4 ∷ insert_of 100 1 4 ∷ StatCall ∷ fill_of 0 (replicate 4 65) ∷ Commit 0 200 ∷ StatCall ∷ Commit 0 200 ∷ [])
-        ≡ Reserved 0 0 ∷ Admitted 0 100 0 ∷ Stat 1 1 1 112 56 ∷ Filled 0 ∷ Duplicate 0 ∷ Stat 1 1 0 56 56 ∷ NoReservation ∷ [] }
+    ensures duplicate_at_commit { answers 168 10 (reserve_of 1 4 ∷ insert_of 100 1 4 ∷ Commit 0 200 ∷ StatCall ∷ fill_of 0 (replicate 4 65) ∷ Commit 0 200 ∷ StatCall ∷ Commit 0 200 ∷ [])
+        ≡ Reserved 0 0 ∷ Admitted 0 100 0 ∷ Unfilled 4 ∷ Stat 1 1 1 112 56 ∷ Filled 0 ∷ Duplicate 0 ∷ Stat 1 1 0 56 56 ∷ NoReservation ∷ [] }
+    ensures duplicate_before_time_end { answers 168 10 (reserve_of 1 0 ∷ insert_of GREATEST_INSTANT 1 4 ∷ Commit 0 200 ∷ [])
+        ≡ Reserved 0 0 ∷ Admitted 0 GREATEST_INSTANT 0 ∷ Duplicate 0 ∷ [] }
     ensures time_of_the_commit { answers 168 10 (reserve_of 1 0 ∷ insert_of 100 2 4 ∷ insert_of 300 3 4 ∷ Commit 0 200 ∷ [])
         ≡ Reserved 0 0 ∷ Admitted 0 100 0 ∷ Admitted 1 300 0 ∷ Committed 2 301 ∷ [] }
     ensures no_time_left { answers 168 10 (reserve_of 1 0 ∷ insert_of GREATEST_INSTANT 2 4 ∷ Commit 0 200 ∷ Discard 0 ∷ [])
@@ -37,8 +39,8 @@ pub fn worked_examples_of_reservations()
     ensures least_place { answers 240 10 (reserve_of 1 4 ∷ reserve_of 1 4 ∷ Discard 0 ∷ reserve_of 2 4 ∷ reserve_of 3 4 ∷ [])
         ≡ Reserved 0 0 ∷ Reserved 1 0 ∷ Discarded ∷ Reserved 0 0 ∷ Reserved 2 0 ∷ [] }
     // The cases of reserving in their order.
-    ensures too_big { answers 168 10 (reserve_of 1 117 ∷ []) ≡ TooBig 176 168 ∷ [] }
-    ensures duplicate { answers 168 10 (insert_of 100 1 4 ∷ reserve_of 1 4 ∷ []) ≡ Admitted 0 100 0 ∷ Duplicate 0 ∷ [] }
+    ensures too_big { answers 168 10 (insert_of 100 1 4 ∷ reserve_of 1 117 ∷ []) ≡ Admitted 0 100 0 ∷ TooBig 176 168 ∷ [] }
+    ensures duplicate { reserved_first 64 (state_after 168 10 (insert_of 100 1 4 ∷ [])) 1 4 ≡ Duplicate 0 }
     ensures places_before_room { reserved_first 64 (state_after 64 10 (insert_of 100 1 4 ∷ [])) 2 4 ≡ AllReserved }
     ensures locked_before_times { answers 56 10 (reserve_of 1 4 ∷ reserve_of 2 4 ∷ []) ≡ Reserved 0 0 ∷ Locked 1 ∷ [] }
     ensures evicts { answers 168 10 (insert_of 100 1 4 ∷ insert_of 100 2 4 ∷ insert_of 100 3 4 ∷ reserve_of 4 12 ∷ StatCall ∷ [])

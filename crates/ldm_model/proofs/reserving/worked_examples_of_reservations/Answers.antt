@@ -19,6 +19,10 @@ pub returns-clause-duplicate_at_commit : goal.returns-clause-duplicate_at_commit
 unfolding insert open_cursor step read expire stat reserve fill discard commit
 returns-clause-duplicate_at_commit c = refl
 
+pub returns-clause-duplicate_before_time_end : goal.returns-clause-duplicate_before_time_end
+unfolding insert open_cursor step read expire stat reserve fill discard commit
+returns-clause-duplicate_before_time_end c = refl
+
 pub returns-clause-time_of_the_commit : goal.returns-clause-time_of_the_commit
 unfolding insert open_cursor step read expire stat reserve fill discard commit
 returns-clause-time_of_the_commit c = refl
