@@ -1,5 +1,5 @@
 -- What the owner is answered at a point of a life, from the reader's place in the state.
-use Rattle.std.proofs.Common.{◌≡◌, ◌∙◌, ◌↔◌, ℕ, ◌+◌, Bool, true, false, List, [], ◌∷◌, length, find, count_by, Option, Some, None, refl, sym, ap, subst, arith}
+use Rattle.std.proofs.Common.{◌≡◌, ◌∙◌, ◌↔◌, ℕ, ◌+◌, ◌≤◌, Bool, true, false, List, [], ◌∷◌, length, find, count_by, Option, Some, None, refl, sym, ap, subst, arith}
 use Rattle.std.specs.Prelude.{◌&&◌, ◌==◌, nat_lt, slice_get}
 use Rattle.std.proofs.lemmas.Bool.{false≢true, cond_both, and_parts, eqb-true}
 use Rattle.ldm_model.specs.declared.event.Event.{Event}
@@ -17,11 +17,10 @@ use Rattle.ldm_model.specs.Release.{release, close, after_release}
 use Rattle.ldm_model.specs.Tally.{tally, tally_reply}
 use Rattle.ldm_model.specs.Next.{next}
 use Rattle.ldm_model.specs.History.{IsAnswered}
-use Rattle.ldm_model.specs.Law.{Point, Hold, is_number, place_of_event, is_step, is_own, state_at, untold, hold_of, GivesNext, TellsLosses, HasAll, ReadsHeld, IsAnsweredAt}
-use Rattle.ldm_model.proofs.Ascending.{IsAmong, among-none, among-head, Rises}
-use Rattle.ldm_model.proofs.Apart.{AreApart, AreApart-from_rises, AreApart-right, length-same, least-same, greatest-same}
+use Rattle.ldm_model.specs.Law.{Point, Hold, held_number, is_number, place_of_event, is_step, is_release, is_own, state_at, untold, hold_of, GivesNext, TellsLosses, HasAll, ReadsHeld, IsAnsweredAt}
+use Rattle.ldm_model.proofs.Ascending.{IsAmong, Contains-from_among, All-from_among}
+use Rattle.ldm_model.proofs.Apart.{AreApart, AreApart-from_rises, AreApart-right, length-same, least-among, least-below, greatest-among, greatest-above}
 use Rattle.ldm_model.proofs.Coming.{comes, number_of, find-comes, find-range_none, IsRowOf-found}
-use Rattle.ldm_model.proofs.Reading.{held_number}
 use Rattle.ldm_model.proofs.TiedOwn.{TiedAt, cursor-same}
 use Rattle.ldm_model.proofs.Served.{all-told, among-untold, untold-among, Rises-untold, find-left, none-left, length-lost, length-left}
 
@@ -29,7 +28,6 @@ use Rattle.ldm_model.proofs.Served.{all-told, among-untold, untold-among, Rises-
 is_plain : Reply → Bool
 is_plain reply.NotHeld = true
 is_plain (reply.BadOffset size) = true
-is_plain (reply.Released n) = true
 is_plain reply.Closed = true
 is_plain _ = false
 
@@ -41,13 +39,22 @@ module _ (p : Point) (t : TiedAt p) where
   held-is : held_number (hold_of p) ≡ t.cursor.held
   held-is = sym t.reads.same_held
 
-  plain : (actor : ℕ) (e : Event) (r : Reply) → is_step e ≡ false → is_plain r ≡ true → IsAnsweredSo p actor e r
+  -- when a call is answered that it let a product go
+  abbrev Releases : Event → Reply → Type 0
+  Releases e r = (n : ℕ) → (r ≡ reply.Released n) ↔ ((is_release e ≡ true) × (held_number (hold_of p) ≡ Some n))
+
+  no-release : (e : Event) (r : Reply) → is_release e ≡ false → ((n : ℕ) → r ≡ reply.Released n → ⊥) → Releases e r
+  no-release e r none other n = (λ x. absurd (other n x), λ x. absurd (false≢true (sym none ∙ x.0)))
+
+  plain : (actor : ℕ) (e : Event) (r : Reply) → is_step e ≡ false → is_plain r ≡ true → Releases e r → IsAnsweredSo p actor e r
   unfolding is_plain
-  plain actor e r no_step h = record {
+  plain actor e r no_step h releases = record {
     next_given = λ n time info x. absurd (false≢true (ap is_plain (sym x) ∙ h));
     losses_told = λ count first last x. absurd (false≢true (ap is_plain (sym x) ∙ h));
     end_has_all = λ at x. absurd (false≢true (ap is_plain (sym x) ∙ h));
     one_at_a_time = λ n x. absurd (false≢true (sym no_step ∙ x));
+    holding_at_steps = λ n x. absurd (false≢true (ap is_plain (sym x) ∙ h));
+    released = releases;
     has_cursor = λ x. false≢true (ap is_plain (sym x) ∙ h);
     held_bytes = λ offset len bytes x y. absurd (false≢true (ap is_plain (sym y) ∙ h));
     tally_counts = λ g l r x. absurd (false≢true (ap is_plain (sym x) ∙ h));
@@ -66,28 +73,20 @@ module _ (p : Point) (t : TiedAt p) where
       }
 
   tells-losses : (m : ℕ) (ms : List ℕ) → t.cursor.untold ≡ m ∷ ms → TellsLosses p (length (m ∷ ms)) (least_of m ms) (greatest_of m ms)
-  tells-losses m ms e = by_list (untold p) refl
+  tells-losses m ms e = record {
+    counted = length-same (m ∷ ms) (untold p) (subst AreApart e (AreApart-right t.cursor.told t.cursor.untold t.reads.apart))
+        (AreApart-from_rises 0 (length (state_at p).rows) (untold p) (Rises-untold p t)) to from;
+    first_untold = Contains-from_among (untold p) (least_of m ms) (to (least_of m ms) (least-among m ms));
+    least = All-from_among (λ n. least_of m ms ≤ n) (untold p) (λ n h. least-below m n ms (from n h));
+    last_untold = Contains-from_among (untold p) (greatest_of m ms) (to (greatest_of m ms) (greatest-among m ms));
+    greatest = All-from_among (λ n. n ≤ greatest_of m ms) (untold p) (λ n h. greatest-above m n ms (from n h));
+  }
     where
       to : (n : ℕ) → IsAmong (m ∷ ms) n → IsAmong (untold p) n
       to n h = untold-among p t n (subst (λ (ns : List ℕ). IsAmong ns n) (sym e) h)
 
       from : (n : ℕ) → IsAmong (untold p) n → IsAmong (m ∷ ms) n
       from n h = subst (λ (ns : List ℕ). IsAmong ns n) e (among-untold p t n h)
-
-      by_list : (ns : List ℕ) → untold p ≡ ns → TellsLosses p (length (m ∷ ms)) (least_of m ms) (greatest_of m ms)
-      by_list [] is = absurd (among-none m (subst (λ (ns : List ℕ). IsAmong ns m) is (to m (among-head m ms))))
-      by_list (n ∷ ns) is =
-          let to' : (i : ℕ) → IsAmong (m ∷ ms) i → IsAmong (n ∷ ns) i = λ i h. subst (λ (ks : List ℕ). IsAmong ks i) is (to i h) in
-          let from' : (i : ℕ) → IsAmong (n ∷ ns) i → IsAmong (m ∷ ms) i = λ i h. from i (subst (λ (ks : List ℕ). IsAmong ks i) (sym is) h) in
-          record {
-            least = n;
-            others = ns;
-            some = is;
-            count_is = length-same (m ∷ ms) (n ∷ ns) (subst AreApart e (AreApart-right t.cursor.told t.cursor.untold t.reads.apart))
-                (AreApart-from_rises 0 (length (state_at p).rows) (n ∷ ns) (subst (λ (ks : List ℕ). Rises 0 ks (length (state_at p).rows)) is (Rises-untold p t))) to' from';
-            first_is = least-same m n ms ns to' from';
-            last_is = greatest-same m n ms ns to' from';
-          }
 
   has-all : t.cursor.untold ≡ [] → find (awaits t.cursor) (queued (state_at p)) ≡ None → HasAll p (end_of (state_at p))
   has-all none found = record {
@@ -111,6 +110,8 @@ module _ (p : Point) (t : TiedAt p) where
       losses_told = λ count first last x. absurd cc;
       end_has_all = λ at x. let same : end_of (state_at p) ≡ at = cc in subst (HasAll p) same (has-all none found);
       one_at_a_time = λ n x. not-holding free (reply.End (end_of (state_at p))) (λ i y. absurd cc) n;
+      holding_at_steps = λ n x. refl;
+      released = no-release (event.Step k) _ refl (λ n x. absurd cc);
       has_cursor = λ x. absurd cc;
       held_bytes = λ offset len bytes x y. absurd cc;
       tally_counts = λ g l r x. absurd cc;
@@ -124,6 +125,8 @@ module _ (p : Point) (t : TiedAt p) where
       losses_told = λ count first last x. absurd cc;
       end_has_all = λ at x. absurd cc;
       one_at_a_time = λ n x. not-holding free (reply.Product q.number q.time q.product.info) (λ i y. absurd cc) n;
+      holding_at_steps = λ n x. refl;
+      released = no-release (event.Step k) _ refl (λ n x. absurd cc);
       has_cursor = λ x. absurd cc;
       held_bytes = λ offset len bytes x y. absurd cc;
       tally_counts = λ g l r x. absurd cc;
@@ -140,6 +143,8 @@ module _ (p : Point) (t : TiedAt p) where
           coe 0 1 (i. TellsLosses p (same_count i) (same_first i) (same_last i)) (tells-losses m ms e);
       end_has_all = λ at x. absurd cc;
       one_at_a_time = λ n x. not-holding free (reply.Gap (length (m ∷ ms)) (least_of m ms) (greatest_of m ms)) (λ i y. absurd cc) n;
+      holding_at_steps = λ n x. refl;
+      released = no-release (event.Step k) _ refl (λ n x. absurd cc);
       has_cursor = λ x. absurd cc;
       held_bytes = λ offset len bytes x y. absurd cc;
       tally_counts = λ g l r x. absurd cc;
@@ -155,6 +160,8 @@ module _ (p : Point) (t : TiedAt p) where
         λ y. let same : m ≡ n = cc in held-is ∙ e ∙ ap (λ (i : ℕ). Some i) same,
         λ y. let same : Some m ≡ Some n = sym e ∙ sym held-is ∙ y in let number : m ≡ n = cc in ap (λ (i : ℕ). reply.Holding i) number,
       );
+      holding_at_steps = λ n x. refl;
+      released = no-release (event.Step k) _ refl (λ n x. absurd cc);
       has_cursor = λ x. absurd cc;
       held_bytes = λ offset len bytes x y. absurd cc;
       tally_counts = λ g l r x. absurd cc;
@@ -179,6 +186,8 @@ module _ (p : Point) (t : TiedAt p) where
       losses_told = λ count first last x. absurd cc;
       end_has_all = λ at x. absurd cc;
       one_at_a_time = λ n x. absurd (false≢true x);
+      holding_at_steps = λ n x. absurd cc;
+      released = no-release (event.Read k offset len) _ refl (λ n x. absurd cc);
       has_cursor = λ x. absurd cc;
       held_bytes = λ offset' len' bytes x y.
           let same_offset : offset ≡ offset' = cc in
@@ -190,16 +199,17 @@ module _ (p : Point) (t : TiedAt p) where
 
     read-row : (n offset len : ℕ) (row : Option Row) → held_number (hold_of p) ≡ Some n → slice_get (state_at p).rows n ≡ row → Reading offset len (read_row (state_at p) row offset len)
     unfolding is_plain
-    read-row n offset len None mine at = plain actor (event.Read k offset len) reply.NotHeld refl refl
+    read-row n offset len None mine at = plain actor (event.Read k offset len) reply.NotHeld refl refl (no-release (event.Read k offset len) reply.NotHeld refl (λ i x. absurd cc))
     read-row n offset len (Some row) mine at =
         cond_both (nat_lt row.product.info.size offset) (unchanged (state_at p) (reply.BadOffset row.product.info.size))
         (unchanged (state_at p) (reply.Bytes (part_of row.product offset len))) (Reading offset len)
-        (λ e. plain actor (event.Read k offset len) (reply.BadOffset row.product.info.size) refl refl)
+        (λ e. plain actor (event.Read k offset len) (reply.BadOffset row.product.info.size) refl refl
+        (no-release (event.Read k offset len) (reply.BadOffset row.product.info.size) refl (λ i x. absurd cc)))
         (λ e. read-bytes n offset len row mine at)
 
     read-held : (offset len : ℕ) (held : Option ℕ) → t.cursor.held ≡ held → Reading offset len (on_held (state_at p) held (λ n. read_row (state_at p) (slice_get (state_at p).rows n) offset len))
     unfolding is_plain
-    read-held offset len None e = plain actor (event.Read k offset len) reply.NotHeld refl refl
+    read-held offset len None e = plain actor (event.Read k offset len) reply.NotHeld refl refl (no-release (event.Read k offset len) reply.NotHeld refl (λ i x. absurd cc))
     read-held offset len (Some n) e = read-row n offset len (slice_get (state_at p).rows n) (held-is ∙ e) refl
 
     tally-own : IsAnsweredSo p actor (event.Tally k) (tally_reply (state_at p) t.cursor)
@@ -208,6 +218,8 @@ module _ (p : Point) (t : TiedAt p) where
       losses_told = λ count first last x. absurd cc;
       end_has_all = λ at x. absurd cc;
       one_at_a_time = λ n x. absurd (false≢true x);
+      holding_at_steps = λ n x. absurd cc;
+      released = no-release (event.Tally k) _ refl (λ n x. absurd cc);
       has_cursor = λ x. absurd cc;
       held_bytes = λ offset len bytes x y. absurd cc;
       tally_counts = λ g l r x.
@@ -215,6 +227,22 @@ module _ (p : Point) (t : TiedAt p) where
           let same_lost : length t.cursor.told + length t.cursor.untold ≡ l = cc in
           let same_left : count_by (awaits t.cursor) (queued (state_at p)) ≡ r = cc in
           (sym same_given ∙ ap (λ (ns : List ℕ). length ns) t.reads.same_given, sym same_lost ∙ length-lost p t, sym same_left ∙ length-left p t);
+    }
+
+    lets-go : (n : ℕ) → t.cursor.held ≡ Some n → IsAnsweredSo p actor (event.Release k) (reply.Released n)
+    lets-go n mine = record {
+      next_given = λ m time info x. absurd cc;
+      losses_told = λ count first last x. absurd cc;
+      end_has_all = λ at x. absurd cc;
+      one_at_a_time = λ m x. absurd (false≢true x);
+      holding_at_steps = λ m x. absurd cc;
+      released = λ m. (
+        λ x. let same : n ≡ m = cc in (refl, held-is ∙ mine ∙ ap (λ (i : ℕ). Some i) same),
+        λ x. let same : Some n ≡ Some m = sym mine ∙ sym held-is ∙ x.1 in let number : n ≡ m = cc in ap (λ (i : ℕ). reply.Released i) number,
+      );
+      has_cursor = λ x. absurd cc;
+      held_bytes = λ offset len bytes x y. absurd cc;
+      tally_counts = λ g l r x. absurd cc;
     }
 
     module _ (own : (actor == p.owner && k == p.k) ≡ true) where
@@ -232,16 +260,17 @@ module _ (p : Point) (t : TiedAt p) where
 
       release-own : IsAnsweredSo p actor (event.Release k) (release (state_at p) actor k).reply
       unfolding release is_plain
-      release-own = on_own (event.Release k) _ (by_held t.cursor.held)
+      release-own = on_own (event.Release k) _ (by_held t.cursor.held refl)
         where
-          by_held : (held : Option ℕ) → IsAnsweredSo p actor (event.Release k)
+          by_held : (held : Option ℕ) → t.cursor.held ≡ held → IsAnsweredSo p actor (event.Release k)
               (on_held (state_at p) held (λ n. record { reply = reply.Released n; state = with_place (state_at p) k (Some (after_release t.cursor)) })).reply
-          by_held None = plain actor (event.Release k) reply.NotHeld refl refl
-          by_held (Some n) = plain actor (event.Release k) (reply.Released n) refl refl
+          by_held None free = plain actor (event.Release k) reply.NotHeld refl refl
+              (λ n. (λ x. absurd cc, λ x. let both : None ≡ Some n = sym free ∙ sym held-is ∙ x.1 in absurd cc))
+          by_held (Some n) mine = lets-go n mine
 
       close-own : IsAnsweredSo p actor (event.Close k) (close (state_at p) actor k).reply
       unfolding close is_plain
-      close-own = on_own (event.Close k) _ (plain actor (event.Close k) reply.Closed refl refl)
+      close-own = on_own (event.Close k) _ (plain actor (event.Close k) reply.Closed refl refl (no-release (event.Close k) reply.Closed refl (λ n x. absurd cc)))
 
       tally-own-call : IsAnsweredSo p actor (event.Tally k) (tally (state_at p) actor k).reply
       unfolding tally

@@ -1,4 +1,4 @@
--- Lists of numbers without repeats that have the same members: their lengths, least and greatest numbers are the same.
+-- Lists of numbers without repeats, which are equally long where they have the same members; the least and the greatest of a list.
 use Rattle.std.proofs.Common.{◌≡◌, ◌∙◌, ℕ, suc, ◌≤◌, Bool, true, false, cond, not, min, max, List, [], ◌∷◌, ◌++◌, length, filter, refl, sym, ap, subst, inl, inr, arith}
 use Rattle.std.specs.Prelude.{◌⊎◌, ◌==◌, ◌||◌}
 use Rattle.std.proofs.lemmas.Bool.{true≢false, both_ways, eqb-true, eq-eqb, not-true, not_from_false, false_from_ne_true}
@@ -84,7 +84,7 @@ length-same (m ∷ ms) ns hm hn to from =
     ]) in
     ap (λ (i : ℕ). suc i) rest ∙ sym (length-without m ns hn (to m (among-head m ms)))
 
-least-among : (n : ℕ) (ns : List ℕ) → IsAmong (n ∷ ns) (least_of n ns)
+pub least-among : (n : ℕ) (ns : List ℕ) → IsAmong (n ∷ ns) (least_of n ns)
 least-among n [] = among-head n []
 least-among n (m ∷ ms) = by_order (min n (least_of m ms)) (least-among m ms) (elim_min n (least_of m ms))
   where
@@ -97,11 +97,11 @@ least-among n (m ∷ ms) = by_order (min n (least_of m ms)) (least-among m ms) (
       | inr x ↦ subst (IsAmong (n ∷ (m ∷ ms))) (sym x) (among-tail n (least_of m ms) (m ∷ ms) more)
     ]
 
-least-below : (n i : ℕ) (ns : List ℕ) → IsAmong (n ∷ ns) i → least_of n ns ≤ i
+pub least-below : (n i : ℕ) (ns : List ℕ) → IsAmong (n ∷ ns) i → least_of n ns ≤ i
 least-below n i [] h = elim (among-cons n i [] h) [ inl e ↦ omega arith | inr e ↦ absurd (among-none i e) ]
 least-below n i (m ∷ ms) h = elim (among-cons n i (m ∷ ms) h) [ inl e ↦ omega arith | inr e ↦ let more = least-below m i ms e in omega arith ]
 
-greatest-among : (n : ℕ) (ns : List ℕ) → IsAmong (n ∷ ns) (greatest_of n ns)
+pub greatest-among : (n : ℕ) (ns : List ℕ) → IsAmong (n ∷ ns) (greatest_of n ns)
 greatest-among n [] = among-head n []
 greatest-among n (m ∷ ms) = by_order (max n (greatest_of m ms)) (greatest-among m ms) (elim_max n (greatest_of m ms))
   where
@@ -114,18 +114,6 @@ greatest-among n (m ∷ ms) = by_order (max n (greatest_of m ms)) (greatest-amon
       | inr x ↦ subst (IsAmong (n ∷ (m ∷ ms))) (sym x) (among-tail n (greatest_of m ms) (m ∷ ms) more)
     ]
 
-greatest-above : (n i : ℕ) (ns : List ℕ) → IsAmong (n ∷ ns) i → i ≤ greatest_of n ns
+pub greatest-above : (n i : ℕ) (ns : List ℕ) → IsAmong (n ∷ ns) i → i ≤ greatest_of n ns
 greatest-above n i [] h = elim (among-cons n i [] h) [ inl e ↦ omega arith | inr e ↦ absurd (among-none i e) ]
 greatest-above n i (m ∷ ms) h = elim (among-cons n i (m ∷ ms) h) [ inl e ↦ omega arith | inr e ↦ let more = greatest-above m i ms e in omega arith ]
-
-pub least-same : (m n : ℕ) (ms ns : List ℕ) → ((i : ℕ) → IsAmong (m ∷ ms) i → IsAmong (n ∷ ns) i) → ((i : ℕ) → IsAmong (n ∷ ns) i → IsAmong (m ∷ ms) i) → least_of m ms ≡ least_of n ns
-least-same m n ms ns to from =
-    let a = least-below n (least_of m ms) ns (to (least_of m ms) (least-among m ms)) in
-    let b = least-below m (least_of n ns) ms (from (least_of n ns) (least-among n ns)) in
-    omega arith
-
-pub greatest-same : (m n : ℕ) (ms ns : List ℕ) → ((i : ℕ) → IsAmong (m ∷ ms) i → IsAmong (n ∷ ns) i) → ((i : ℕ) → IsAmong (n ∷ ns) i → IsAmong (m ∷ ms) i) → greatest_of m ms ≡ greatest_of n ns
-greatest-same m n ms ns to from =
-    let a = greatest-above n (greatest_of m ms) ns (to (greatest_of m ms) (greatest-among m ms)) in
-    let b = greatest-above m (greatest_of n ns) ms (from (greatest_of n ns) (greatest-among n ns)) in
-    omega arith

@@ -1,12 +1,11 @@
 -- What ties a cursor of the state to what its reader was given, lost, told, and holds.
 use Rattle.std.proofs.Common.{◌≡◌, ◌∙◌, ℕ, ◌<◌, ◌≤◌, Bool, true, false, List, [], ◌∷◌, ◌++◌, length, Option, Some, None, refl, sym, ap, subst, inl, inr, arith, append_assoc}
 use Rattle.std.specs.Prelude.{◌⊎◌, ◌&&◌, nat_le, is_some, slice_get, IfSome}
-use Rattle.std.specs.Option.{option_map}
 use Rattle.std.proofs.lemmas.Bool.{false≢true, both_ways, and_parts, and_from, cases_eq, cases_lt, leb-true, le-leb, cases_Bool, false_from_ne_true}
 use Rattle.ldm_types.specs.Feed.{feeds_meet}
 use Rattle.ldm_model.specs.State.{Row, Cursor, place_of_row}
 use Rattle.ldm_model.specs.Evict.{without_place}
-use Rattle.ldm_model.specs.Law.{Hold, is_among, feed_of_row}
+use Rattle.ldm_model.specs.Law.{Hold, held_number, is_among, feed_of_row}
 use Rattle.ldm_model.proofs.Held.{present}
 use Rattle.ldm_model.proofs.Ascending.{IsAmong, among-left, among-push, among-pushed, Rises, Rises-among, Rises-higher}
 use Rattle.ldm_model.proofs.Apart.{AreApart, AreApart-push}
@@ -30,9 +29,6 @@ Stays rows hold = IfSome hold (λ (h : Hold). (is_some h.place ≡ true) × (pla
 -- a hold that begins now
 abbrev pub hold_now : List Row → ℕ → Hold
 hold_now rows n = record { number = n; place = place_of_row (slice_get rows n) }
-
-abbrev pub held_number : Option Hold → Option ℕ
-held_number hold = option_map (λ (h : Hold). h.number) hold
 
 pub record Reads (feed : ℕ) (begun : ℕ → Bool) (rows : List Row) (c : Cursor) (given told : List ℕ) (hold : Option Hold) (counted : ℕ) : Type 0 where
   pub same_feed : c.feed ≡ feed

@@ -8,10 +8,10 @@ use Rattle.ldm_model.specs.Evict.{is_number, is_held, numbers, with_loss, evict,
 use Rattle.ldm_model.specs.Cursor.{cursor_at, with_place}
 use Rattle.ldm_model.specs.Reservation.{with_reservation}
 use Rattle.ldm_model.specs.Open.{open_position}
-use Rattle.ldm_model.specs.Law.{Point, Hold, state_before, is_among, is_not_below}
+use Rattle.ldm_model.specs.Law.{Point, Hold, held_number, state_before, is_among, is_not_below}
 use Rattle.ldm_model.proofs.Held.{list_any-at}
 use Rattle.ldm_model.proofs.Evictable.{AreEvictable}
-use Rattle.ldm_model.proofs.Reading.{held_number, Reads, Reads-noted, Reads-not_noted}
+use Rattle.ldm_model.proofs.Reading.{Reads, Reads-noted, Reads-not_noted}
 use Rattle.ldm_model.proofs.ReadingMoves.{Reads-admitted}
 
 -- whether a number is one from which on, or at which, rows are for the reader

@@ -120,6 +120,18 @@ told_and_given = by 1 (Step 0) ∷ by 1 (Step 0) ∷ by 1 (Tally 0) ∷ by 0 (in
 abbrev pub told_again : List Call
 told_again = by 1 (Step 0) ∷ by 1 (Step 0) ∷ by 1 (Tally 0) ∷ []
 
+-- Three products fill an arena of 168. Actor 2 holds the first while the second is evicted, and then the first is: actor 1 was
+-- given neither.
+abbrev pub evicted_out_of_order : List Call
+evicted_out_of_order =
+    by 0 (insert_of 100 1 4) ∷ by 0 (insert_of 100 2 4) ∷ by 0 (insert_of 100 3 4)
+    ∷ by 1 (open_from start.Oldest) ∷ by 2 (open_from start.Oldest) ∷ by 2 (Step 1) ∷ by 0 (insert_of 100 4 4)
+    ∷ by 2 (Release 1) ∷ by 0 (insert_of 100 5 4) ∷ []
+
+-- actor 1 opens a cursor at every place
+abbrev pub all_open : List Call
+all_open = replicate 64 (by 1 (open_from start.Oldest))
+
 abbrev pub example_calls : List Call
 example_calls = two_readers ++ told_and_given ++ told_again
 

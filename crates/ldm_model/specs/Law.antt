@@ -3,7 +3,7 @@
 -- A reader is a life of a cursor in a history: it begins with the entry that opened the cursor, and ends with the entry
 -- by which its owner closes it, or with the history. The law speaks of the replies to the owner and of rows alone: what
 -- the state keeps of the cursor does not appear.
-use Rattle.std.specs.Prelude.{◌≡◌, ◌≢◌, ◌↔◌, ◌⊎◌, ℕ, ◌+◌, ◌<◌, ◌==◌, Bool, true, false, not, ◌&&◌, ◌||◌, nat_le, List, [], ◌∷◌, ◌++◌, length, filter, All, Contains, IfSome, Option, Some}
+use Rattle.std.specs.Prelude.{◌≡◌, ◌≢◌, ◌↔◌, ◌⊎◌, ℕ, ◌+◌, ◌<◌, ◌≤◌, ◌==◌, Bool, true, false, not, ◌&&◌, ◌||◌, nat_le, List, [], ◌∷◌, ◌++◌, length, filter, All, Contains, IfSome, Option, Some}
 use Rattle.std.specs.Prelude.{None, is_some, if◌then◌else◌, slice_get}
 use Rattle.std.specs.List.{list_any, find, range_with_len}
 use Rattle.std.specs.List.Sorted.{IsStrictlyIncreasing}
@@ -19,7 +19,6 @@ use Rattle.ldm_model.specs.declared.event.Entry.{Entry}
 use Rattle.ldm_model.specs.State.{State, Row, end_of, place_of_row, is_queued}
 use Rattle.ldm_model.specs.Evict.{numbers}
 use Rattle.ldm_model.specs.Open.{open_position}
-use Rattle.ldm_model.specs.Step.{least_of, greatest_of}
 use Rattle.ldm_model.specs.Read.{part_of}
 use Rattle.ldm_model.specs.Product.{Product}
 use Rattle.ldm_model.specs.History.{after, IsLegal, IsAdmitted}
@@ -85,6 +84,10 @@ is_own p entry = entry.actor == p.owner && is_number p.k (place_of_event entry.e
 abbrev pub is_step : Event → Bool
 is_step (Step k) = true
 is_step _ = false
+
+abbrev pub is_release : Event → Bool
+is_release (Release k) = true
+is_release _ = false
 
 abbrev pub is_close : Event → Bool
 is_close (Close k) = true
@@ -164,6 +167,9 @@ after_hold at hold _ = hold
 abbrev pub hold_of : Point → Option Hold
 hold_of p = over_replies p after_hold None [] p.since
 
+abbrev pub held_number : Option Hold → Option ℕ
+held_number hold = option_map (λ (h : Hold). h.number) hold
+
 -- A step gives the first row for the reader that is left, with its time and metadata, and no loss is untold.
 pub record GivesNext (p : Point) (n time : ℕ) (info : Metadata) : Type 0 where
   pub all_told : lost p ≡ told p
@@ -173,14 +179,13 @@ pub record GivesNext (p : Point) (n time : ℕ) (info : Metadata) : Type 0 where
   pub time_of_row : time ≡ row.time
   pub info_of_row : info ≡ row.product.info
 
--- A gap tells how many losses are untold, and the least and the greatest number among them.
+-- A gap tells how many losses are untold, and the least and the greatest number among them. So there is one at least.
 pub record TellsLosses (p : Point) (count first last : ℕ) : Type 0 where
-  pub least : ℕ
-  pub others : List ℕ
-  pub some : untold p ≡ least ∷ others
-  pub count_is : count ≡ length (least ∷ others)
-  pub first_is : first ≡ least_of least others
-  pub last_is : last ≡ greatest_of least others
+  pub counted : count ≡ length (untold p)
+  pub first_untold : Contains (untold p) first
+  pub least : All (λ n. first ≤ n) (untold p)
+  pub last_untold : Contains (untold p) last
+  pub greatest : All (λ n. n ≤ last) (untold p)
 
 -- At the end no loss is untold, and every row for the reader was given or lost.
 pub record HasAll (p : Point) (at : ℕ) : Type 0 where
@@ -239,8 +244,11 @@ pub record IsAnsweredAt (p : Point) (entry : Entry) : Type 0 where
   pub next_given : (n time : ℕ) (info : Metadata) → entry.reply ≡ reply.Product n time info → GivesNext p n time info
   pub losses_told : (count first last : ℕ) → entry.reply ≡ reply.Gap count first last → TellsLosses p count first last
   pub end_has_all : (at : ℕ) → entry.reply ≡ reply.End at → HasAll p at
-  -- a step is answered so exactly while the reader holds a product
-  pub one_at_a_time : (n : ℕ) → is_step entry.event ≡ true → (entry.reply ≡ reply.Holding n) ↔ (option_map (λ (h : Hold). h.number) (hold_of p) ≡ Some n)
+  -- a step is answered so exactly while the reader holds a product, and no other call is
+  pub one_at_a_time : (n : ℕ) → is_step entry.event ≡ true → (entry.reply ≡ reply.Holding n) ↔ (held_number (hold_of p) ≡ Some n)
+  pub holding_at_steps : (n : ℕ) → entry.reply ≡ reply.Holding n → is_step entry.event ≡ true
+  -- a release lets just the product go that the reader holds, and no other call does
+  pub released : (n : ℕ) → (entry.reply ≡ reply.Released n) ↔ ((is_release entry.event ≡ true) × (held_number (hold_of p) ≡ Some n))
   pub has_cursor : entry.reply ≢ reply.NoCursor
   pub held_bytes : (offset len : ℕ) (bytes : List ℕ) → entry.event ≡ Read p.k offset len → entry.reply ≡ reply.Bytes bytes → ReadsHeld p offset len bytes
   pub tally_counts : (g l r : ℕ) → entry.reply ≡ reply.Tally g l r → (g ≡ length (given p)) × (l ≡ length (lost p)) × (r ≡ length (left p))

@@ -7,7 +7,7 @@ ghost use Rattle.ldm_model.specs.Evict.{held, unheld, evict, evict_all};
 ghost use Rattle.ldm_model.specs.Stat.{stat_reply};
 ghost use Rattle.ldm_model.specs.Law.{due, given, lost, told, left, hold_of};
 ghost use Rattle.ldm_model.specs.Examples.{answers, answers_to, last_answers, by, insert_of, insert_for, insert_body, open_from, after_signature, look_for, expire_from, state_after};
-ghost use Rattle.ldm_model.specs.Examples.{region, sample_info, holding_second, reading, untold_of_first, insert_into, two_readers, told_and_given, told_again, example_calls, reader};
+ghost use Rattle.ldm_model.specs.Examples.{region, sample_info, holding_second, reading, untold_of_first, insert_into, two_readers, told_and_given, told_again, evicted_out_of_order, all_open, example_calls, reader};
 ghost use Rattle.ldm_model.specs.declared.event.Start.TheVariants.{Oldest, Next, After};
 ghost use Rattle.ldm_model.specs.declared.event.Event.TheVariants.{Expire, Step, Read, Release, Close, Tally as TallyCall, Stat as StatCall};
 ghost use Rattle.ldm_model.specs.declared.event.Reply.TheVariants.{Admitted, TooBig, Duplicate, TimeEnd, Locked, Opened, AllBusy, NotQueued, Product, Gap, End, NoCursor};
@@ -68,6 +68,9 @@ pub fn worked_examples_of_cursors()
     // Product 1 is held, so the next eviction passes over it. The loss of product 0 is not told again.
     ensures held_passed_over { last_answers 6 example_calls
         ≡ Admitted 4 104 1 ∷ Holding 1 ∷ Released 1 ∷ Gap 1 2 2 ∷ Product 3 103 (sample_info 4 4) ∷ Tally 2 2 1 ∷ [] }
+    // Product 1 was evicted before product 0: the least and the greatest number are told, and not the first and the last loss.
+    ensures gap_of_two { last_answers 4 (evicted_out_of_order ++ by 1 (Step 0) ∷ [])
+        ≡ Admitted 3 103 1 ∷ Released 0 ∷ Admitted 4 104 1 ∷ Gap 2 0 1 ∷ [] }
     ensures loss_of_another_feed { last_answers 4 (by 0 (insert_for 4 1 4) ∷ by 1 (open_from Oldest) ∷ by 0 Expire ∷ by 1 (Step 0) ∷ by 1 (TallyCall 0) ∷ [])
         ≡ Opened 0 ∷ Expired 0 ∷ End 1 ∷ Tally 0 0 0 ∷ [] }
     ensures locked_by_a_reader { last_answers 4 (by 0 (insert_of 100 1 4) ∷ by 0 (insert_of 100 2 4) ∷ by 0 (insert_of 100 3 4)
@@ -84,6 +87,8 @@ pub fn worked_examples_of_cursors()
     ensures behind_a_product { last_answers 2 (by 0 (insert_of 100 1 4) ∷ by 0 (insert_of 100 2 4) ∷ by 1 (open_from (after_signature 1)) ∷ by 1 (Step 0) ∷ [])
         ≡ Opened 0 ∷ Product 1 101 (sample_info 2 4) ∷ [] }
     ensures behind_no_product { answers_to 168 10 (by 1 (open_from (after_signature 1)) ∷ by 1 (open_from Oldest) ∷ by 1 (Step 0) ∷ []) ≡ NotQueued ∷ Opened 0 ∷ End 0 ∷ [] }
+    // That all places are taken is told before that the product is not queued.
+    ensures all_busy { last_answers 2 (all_open ++ by 1 (open_from (after_signature 1)) ∷ []) ≡ Opened 63 ∷ AllBusy ∷ [] }
 
     // Only the owner has the cursor. A close ends a hold, so that the product can be evicted.
     ensures closed_while_held { last_answers 6 (by 0 (insert_of 100 1 4) ∷ by 1 (open_from Oldest) ∷ by 1 (Step 0) ∷ by 0 Expire

@@ -57,3 +57,11 @@ returns-clause-closed_while_held c = refl
 pub returns-clause-read_in_parts : goal.returns-clause-read_in_parts
 unfolding insert open_cursor step read release close look expire tally
 returns-clause-read_in_parts c = refl
+
+pub returns-clause-gap_of_two : goal.returns-clause-gap_of_two
+unfolding insert open_cursor step read release close look expire tally
+returns-clause-gap_of_two c = refl
+
+pub returns-clause-all_busy : goal.returns-clause-all_busy
+unfolding insert open_cursor step read release close look expire tally
+returns-clause-all_busy c = refl
