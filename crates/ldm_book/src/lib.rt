@@ -15,7 +15,7 @@ mod stored;
 
 pub use book::Book;
 pub use fault::CreateFault;
-pub use laws::{fifo, runs_are_legal};
+pub use laws::{fifo, filled, runs_are_legal};
 pub use ldm_model::{
     CloseReply, ExpireReply, InsertReply, LookReply, OpenReply, ReadReply, ReleaseReply, Stat,
     StepReply, TallyReply,

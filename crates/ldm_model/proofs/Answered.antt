@@ -17,10 +17,11 @@ use Rattle.ldm_model.specs.Release.{release, close, after_release}
 use Rattle.ldm_model.specs.Tally.{tally, tally_reply}
 use Rattle.ldm_model.specs.Next.{next}
 use Rattle.ldm_model.specs.History.{IsAnswered}
-use Rattle.ldm_model.specs.Law.{Point, Hold, held_number, is_number, place_of_event, is_step, is_release, is_own, state_at, untold, hold_of, GivesNext, TellsLosses, HasAll, ReadsHeld, IsAnsweredAt}
+use Rattle.ldm_model.specs.Law.{Point, Hold, held_number, is_number, place_of_event, is_step, is_release, is_own, history_of, state_at, untold, hold_of, GivesNext, TellsLosses, HasAll, ReadsHeld, IsAnsweredAt}
 use Rattle.ldm_model.proofs.Ascending.{IsAmong, Contains-from_among, All-from_among}
 use Rattle.ldm_model.proofs.Apart.{AreApart, AreApart-from_rises, AreApart-right, length-same, least-among, least-below, greatest-among, greatest-above}
 use Rattle.ldm_model.proofs.Coming.{comes, number_of, find-comes, find-range_none, IsRowOf-found}
+use Rattle.ldm_model.proofs.Admitted.{AreAdmitted}
 use Rattle.ldm_model.proofs.TiedOwn.{TiedAt, cursor-same}
 use Rattle.ldm_model.proofs.Served.{all-told, among-untold, untold-among, Rises-untold, find-left, none-left, length-lost, length-left}
 
@@ -35,7 +36,7 @@ is_plain _ = false
 abbrev IsAnsweredSo : Point → ℕ → Event → Reply → Type 0
 IsAnsweredSo p actor e r = IsAnsweredAt p (record { actor = actor; event = e; reply = r })
 
-module _ (p : Point) (t : TiedAt p) where
+module _ (p : Point) (t : TiedAt p) (all : AreAdmitted (history_of p) (state_at p)) where
   held-is : held_number (hold_of p) ≡ t.cursor.held
   held-is = sym t.reads.same_held
 
@@ -68,6 +69,7 @@ module _ (p : Point) (t : TiedAt p) where
         next = find-left p t ∙ ap number_of found;
         row = there.row;
         is_row = there.is_row;
+        admitted = all q.number there.row there.is_row;
         time_of_row = sym there.time;
         info_of_row = ap (λ (product : Product). product.info) (sym there.product);
       }
@@ -174,7 +176,8 @@ module _ (p : Point) (t : TiedAt p) where
         by_hold None is e = absurd cc
         by_hold (Some hold) is e =
             let same : n ≡ hold.number = cc in
-            record { hold = hold; holds = is; row = row; is_row = ap (λ (i : ℕ). slice_get (state_at p).rows i) (sym same) ∙ at; part = refl }
+            let there : slice_get (state_at p).rows hold.number ≡ Some row = ap (λ (i : ℕ). slice_get (state_at p).rows i) (sym same) ∙ at in
+            record { hold = hold; holds = is; row = row; is_row = there; admitted = all hold.number row there; part = refl }
 
     abbrev Reading : ℕ → ℕ → Outcome → Type 0
     Reading offset len outcome = IsAnsweredSo p actor (event.Read k offset len) outcome.reply

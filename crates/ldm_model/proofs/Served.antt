@@ -6,7 +6,7 @@ use Rattle.std.specs.List.{range_with_len}
 use Rattle.std.proofs.lemmas.Bool.{false≢true, both_ways, and_parts, and_from, cases_Bool, cases_lt, not-true, not_from_false, false_from_ne_true}
 use Rattle.ldm_model.specs.State.{queued}
 use Rattle.ldm_model.specs.Cursor.{awaits}
-use Rattle.ldm_model.specs.Law.{Point, state_at, is_among, due, given, lost, told, untold, left, count_told, hold_of, IsServed, PassesOverNone, GivesQueued, TellsOnce}
+use Rattle.ldm_model.specs.Law.{Point, state_at, is_among, due, given, lost, told, untold, left, count_told, hold_of, IsServed, TellsOnce}
 use Rattle.ldm_model.proofs.Held.{present}
 use Rattle.ldm_model.proofs.Ascending.{IsAmong, among-append, among-left, among-right, among-filter, filter-among, among-range, Contains-from_among, among-from_Contains, All-from_among}
 use Rattle.ldm_model.proofs.Ascending.{Rises, Rises-among, Rises-same, Rises-filter, Rises-range, IsStrictlyIncreasing-from_rises}
@@ -25,15 +25,6 @@ same-truth false true to from = absurd (false≢true (from refl))
 same-truth false false to from = refl
 
 module _ (p : Point) (t : TiedAt p) where
-  pub served : IsServed p
-  served = record {
-    in_order = IsStrictlyIncreasing-from_rises 0 t.cursor.position (given p) t.reads.rising;
-    only_due = All-from_among (Contains (due p)) (given p) (λ n h.
-        let bounds = Rises-among 0 t.cursor.position n (given p) t.reads.rising h in
-        Contains-from_among (due p) n (due-among p n (omega (arith, t.reads.within), t.reads.given_due n h)));
-    held_stays = t.reads.stays;
-  }
-
   -- a row for the reader that is not present was given or lost
   gone-or-given : (n : ℕ) → IsDue p n → present (state_at p).rows n ≡ false → IsAmong (given p) n ⊎ IsAmong (lost p) n
   gone-or-given n is_due gone = elim (cases_Bool (is_among (given p) n)) [
@@ -51,7 +42,7 @@ module _ (p : Point) (t : TiedAt p) where
   contained : (n : ℕ) → IsAmong (given p) n ⊎ IsAmong (lost p) n → Contains (given p) n ⊎ Contains (lost p) n
   contained n h = elim h [ inl x ↦ inl (Contains-from_among (given p) n x) | inr x ↦ inr (Contains-from_among (lost p) n x) ]
 
-  pub passes-over-none : PassesOverNone p
+  passes-over-none : (n m : ℕ) → Contains (given p) n → Contains (due p) m → m < n → Contains (given p) m ⊎ Contains (lost p) m
   passes-over-none n m there is_due lt =
       let bounds = Rises-among 0 t.cursor.position n (given p) t.reads.rising (among-from_Contains (given p) n there) in
       let due_m = among-due p m (among-from_Contains (due p) m is_due) in
@@ -60,19 +51,31 @@ module _ (p : Point) (t : TiedAt p) where
         | inr gone ↦ gone-or-given m due_m gone
       ])
 
-  pub gives-queued : GivesQueued p
+  gives-queued : (n m : ℕ) → Contains (given p) n → Contains (due p) m → m < n → present (state_at p).rows m ≡ true → Contains (given p) m
   gives-queued n m there is_due lt here =
       let bounds = Rises-among 0 t.cursor.position n (given p) t.reads.rising (among-from_Contains (given p) n there) in
       let due_m = among-due p m (among-from_Contains (due p) m is_due) in
       Contains-from_among (given p) m (t.reads.passed m (omega arith) due_m.1 here)
 
-  pub tells-once : TellsOnce p
+  tells-once : TellsOnce p
   tells-once = record {
     counted = t.reads.same_count ∙ length-same t.cursor.told (told p) (AreApart-left t.cursor.told t.cursor.untold t.reads.apart)
         (AreApart-from_rises 0 (length (state_at p).rows) (told p) t.reads.told_rising) t.reads.noted_told t.reads.told_noted;
     different = IsStrictlyIncreasing-from_rises 0 (length (state_at p).rows) (told p) t.reads.told_rising;
     only_lost = All-from_among (Contains (lost p)) (told p)
         (λ n h. Contains-from_among (lost p) n (lost-among p n (t.reads.noted n (among-left t.cursor.told t.cursor.untold n (t.reads.told_noted n h)))));
+  }
+
+  pub served : IsServed p
+  served = record {
+    in_order = IsStrictlyIncreasing-from_rises 0 t.cursor.position (given p) t.reads.rising;
+    only_due = All-from_among (Contains (due p)) (given p) (λ n h.
+        let bounds = Rises-among 0 t.cursor.position n (given p) t.reads.rising h in
+        Contains-from_among (due p) n (due-among p n (omega (arith, t.reads.within), t.reads.given_due n h)));
+    held_stays = t.reads.stays;
+    passes_over_none = passes-over-none;
+    gives_queued = gives-queued;
+    tells_once = tells-once;
   }
 
   -- where the cursor has no untold loss, all losses were told

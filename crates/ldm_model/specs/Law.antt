@@ -20,8 +20,7 @@ use Rattle.ldm_model.specs.State.{State, Row, end_of, place_of_row, is_queued}
 use Rattle.ldm_model.specs.Evict.{numbers}
 use Rattle.ldm_model.specs.Open.{open_position}
 use Rattle.ldm_model.specs.Read.{part_of}
-use Rattle.ldm_model.specs.Product.{Product}
-use Rattle.ldm_model.specs.History.{after, IsLegal, IsAdmitted}
+use Rattle.ldm_model.specs.History.{after, IsAdmitted}
 
 -- A point of a life: the entries before the opening, the opening, and the entries since then, of all actors.
 pub record Point : Type 0 where
@@ -170,12 +169,13 @@ hold_of p = over_replies p after_hold None [] p.since
 abbrev pub held_number : Option Hold → Option ℕ
 held_number hold = option_map (λ (h : Hold). h.number) hold
 
--- A step gives the first row for the reader that is left, with its time and metadata, and no loss is untold.
+-- A step gives the first row for the reader that is left, with its time and metadata, as it was admitted; and no loss is untold.
 pub record GivesNext (p : Point) (n time : ℕ) (info : Metadata) : Type 0 where
   pub all_told : lost p ≡ told p
   pub next : find (λ m. is_present p m && not (is_among (given p) m)) (due p) ≡ Some n
   pub row : Row
   pub is_row : row_of p n ≡ Some row
+  pub admitted : IsAdmitted (history_of p) n row.product row.time
   pub time_of_row : time ≡ row.time
   pub info_of_row : info ≡ row.product.info
 
@@ -193,28 +193,20 @@ pub record HasAll (p : Point) (at : ℕ) : Type 0 where
   pub none_left : All (λ n. Contains (given p) n ⊎ Contains (lost p) n) (due p)
   pub at_end : at ≡ end_of (state_at p)
 
--- The bytes that were read are the part that was asked for of the body of the product that the reader holds.
+-- The bytes that were read are the part that was asked for of the body of the product that the reader holds, as it was admitted.
 pub record ReadsHeld (p : Point) (offset len : ℕ) (bytes : List ℕ) : Type 0 where
   pub hold : Hold
   pub holds : hold_of p ≡ Some hold
   pub row : Row
   pub is_row : row_of p hold.number ≡ Some row
+  pub admitted : IsAdmitted (history_of p) hold.number row.product row.time
   pub part : bytes ≡ part_of row.product offset len
 
--- The product that was given is one that was admitted, inserted or committed, with its insertion time and metadata.
-pub record GivesAdmitted (p : Point) (n time : ℕ) (info : Metadata) : Type 0 where
-  pub product : Product
-  pub admitted : IsAdmitted (history_of p) n product time
-  pub info_of_product : info ≡ product.info
-
--- The bytes that were read are the part that was asked for of the body that was admitted.
-pub record ReadsAdmitted (p : Point) (offset len : ℕ) (bytes : List ℕ) : Type 0 where
-  pub hold : Hold
-  pub holds : hold_of p ≡ Some hold
-  pub product : Product
-  pub time : ℕ
-  pub admitted : IsAdmitted (history_of p) hold.number product time
-  pub part : bytes ≡ part_of product offset len
+-- Losses are told once: what the gaps counted adds up to the losses that were told, which are different ones.
+pub record TellsOnce (p : Point) : Type 0 where
+  pub counted : count_told p ≡ length (told p)
+  pub different : IsStrictlyIncreasing (told p)
+  pub only_lost : All (Contains (lost p)) (told p)
 
 -- What is true of a reader at every point of its life.
 pub record IsServed (p : Point) : Type 0 where
@@ -224,20 +216,11 @@ pub record IsServed (p : Point) : Type 0 where
   pub only_due : All (Contains (due p)) (given p)
   -- a product that it holds is present, at the place where it lay when it was given
   pub held_stays : IfSome (hold_of p) (λ hold. (is_some hold.place ≡ true) × (place_of_row (row_of p hold.number) ≡ hold.place))
-
--- No product is passed over: every row for the reader whose number is below one that it was given was given or lost.
-abbrev pub PassesOverNone : Point → Type 0
-PassesOverNone p = (n m : ℕ) → Contains (given p) n → Contains (due p) m → m < n → Contains (given p) m ⊎ Contains (lost p) m
-
--- And every one below that is still queued was given.
-abbrev pub GivesQueued : Point → Type 0
-GivesQueued p = (n m : ℕ) → Contains (given p) n → Contains (due p) m → m < n → is_present p m ≡ true → Contains (given p) m
-
--- Losses are told once: what the gaps counted adds up to the losses that were told, which are different ones.
-pub record TellsOnce (p : Point) : Type 0 where
-  pub counted : count_told p ≡ length (told p)
-  pub different : IsStrictlyIncreasing (told p)
-  pub only_lost : All (Contains (lost p)) (told p)
+  -- no product is passed over: every row for the reader whose number is below one that it was given was given or lost
+  pub passes_over_none : (n m : ℕ) → Contains (given p) n → Contains (due p) m → m < n → Contains (given p) m ⊎ Contains (lost p) m
+  -- and was given, where it is still queued
+  pub gives_queued : (n m : ℕ) → Contains (given p) n → Contains (due p) m → m < n → is_present p m ≡ true → Contains (given p) m
+  pub tells_once : TellsOnce p
 
 -- What the owner is answered at a point of the life.
 pub record IsAnsweredAt (p : Point) (entry : Entry) : Type 0 where
@@ -265,12 +248,3 @@ pub record IsPointOf (arena slots : ℕ) (history : List Entry) (p : Point) : Ty
 pub record ObeysLaw (arena slots : ℕ) (history : List Entry) : Type 0 where
   pub served : (p : Point) → IsPointOf arena slots history p → IsServed p
   pub answered : (p : Point) (at : IsPointOf arena slots history p) (entry : Entry) (later : List Entry) → at.rest ≡ entry ∷ later → is_own p entry ≡ true → IsAnsweredAt p entry
-
--- what holds at every point of every life in every legal history
-abbrev pub AtEveryPoint : (Point → Type 0) → Type 0
-AtEveryPoint Holds = (arena slots : ℕ) (history : List Entry) → IsLegal arena slots history → (p : Point) → IsPointOf arena slots history p → Holds p
-
--- what holds of every call there that the owner makes on its cursor
-abbrev pub AtEveryCall : (Point → Entry → Type 0) → Type 0
-AtEveryCall Holds = (arena slots : ℕ) (history : List Entry) → IsLegal arena slots history → (p : Point) (at : IsPointOf arena slots history p) (entry : Entry) (later : List Entry)
-    → at.rest ≡ entry ∷ later → is_own p entry ≡ true → Holds p entry

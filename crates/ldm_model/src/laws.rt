@@ -2,13 +2,11 @@
 ghost use Rattle.std.specs.Prelude.{◌≡◌, ◌↔◌, ◌++◌, ◌∷◌, ◌+◌, ◌≤◌, ℕ, List, true, All, Some, slice_get};
 ghost use Rattle.std.specs.List.{AllPairs};
 ghost use Rattle.ldm_types.specs.Arena.{Region, AreApart};
-ghost use Rattle.ldm_types.specs.Info.{Metadata};
-ghost use Rattle.ldm_model.specs.declared.event.Event.TheVariants.{Read};
 ghost use Rattle.ldm_model.specs.declared.event.Reply.TheVariants as reply;
 ghost use Rattle.ldm_model.specs.declared.event.Entry.{Entry};
 ghost use Rattle.ldm_model.specs.State.{end_of, is_queued, occupied, Row};
 ghost use Rattle.ldm_model.specs.Evict.{is_held};
-ghost use Rattle.ldm_model.specs.Law.{Point, PassesOverNone, GivesQueued, TellsOnce, GivesAdmitted, ReadsAdmitted, ObeysLaw, AtEveryPoint, AtEveryCall};
+ghost use Rattle.ldm_model.specs.Law.{ObeysLaw};
 ghost use Rattle.ldm_model.specs.Filling.{ObeysFilling};
 ghost use Rattle.ldm_model.specs.History.{after, after_entries, IsLegal, IsLegalFrom, IsAdmitted, count_admissions};
 
@@ -48,13 +46,6 @@ pub fn admissions_are_numbered()
 /// it, and tells it of each loss once. What it is given, and what it reads, was admitted.
 pub fn every_reader_is_served()
     ensures obeys_law { (arena slots : ℕ) (history : List Entry) → IsLegal arena slots history → ObeysLaw arena slots history }
-    ensures passes_over_none { AtEveryPoint PassesOverNone }
-    ensures gives_queued { AtEveryPoint GivesQueued }
-    ensures tells_once { AtEveryPoint TellsOnce }
-    ensures gives_admitted { AtEveryCall (λ (p : Point) (entry : Entry). (n time : ℕ) (info : Metadata) →
-        entry.reply ≡ reply.Product n time info → GivesAdmitted p n time info) }
-    ensures reads_admitted { AtEveryCall (λ (p : Point) (entry : Entry). (offset len : ℕ) (bytes : List ℕ) →
-        entry.event ≡ Read p.k offset len → entry.reply ≡ reply.Bytes bytes → ReadsAdmitted p offset len bytes) }
 {}
 
 /// What occupies the arena after a legal history, queued products and open reservations, lies within it, and no two regions

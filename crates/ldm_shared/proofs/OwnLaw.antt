@@ -14,7 +14,7 @@ use Rattle.ldm_model.specs.Product.{Product}
 use Rattle.ldm_model.specs.State.{Row, end_of}
 use Rattle.ldm_model.specs.History.{after, IsLegal, IsInserted}
 use Rattle.ldm_model.specs.Law.{Point, opening, history_of, is_step, state_at, row_of, feed_of_row, is_own, is_close, is_due, due, with_given, given, lost, told, after_gap, count_told, with_count}
-use Rattle.ldm_model.specs.Law.{IsPointOf, IsServed, IsAnsweredAt, ObeysLaw, TellsOnce, AtEveryPoint, AtEveryCall, GivesInserted, ReadsInserted}
+use Rattle.ldm_model.specs.Law.{IsPointOf, IsServed, IsAnsweredAt, ObeysLaw}
 use Rattle.ldm_model.proofs.Points.{next_point, told-next, count-next}
 use Rattle.ldm_shared.specs.Own.{own}
 use Rattle.ldm_shared.specs.Passes.{PassView, HasSeen}
@@ -73,13 +73,6 @@ ProductsInserted = (arena slots : ℕ) (history : List Entry) → IsLegal arena 
 abbrev pub FrontsAreLegal : Type 0
 FrontsAreLegal = (arena slots : ℕ) (front behind : List Entry) → IsLegal arena slots (front ++ behind) → IsLegal arena slots front
 
-abbrev pub GivesEverywhere : Type 0
-GivesEverywhere = AtEveryCall (λ (p : Point) (entry : Entry). (n time : ℕ) (info : Metadata) → entry.reply ≡ reply.Product n time info → GivesInserted p n time info)
-
-abbrev pub ReadsEverywhere : Type 0
-ReadsEverywhere = AtEveryCall (λ (p : Point) (entry : Entry). (offset len : ℕ) (bytes : List ℕ) → entry.event ≡ Read p.k offset len → entry.reply ≡ reply.Bytes bytes
-    → ReadsInserted p offset len bytes)
-
 abbrev pub LawOfAll : Type 0
 LawOfAll = (arena slots : ℕ) (history : List Entry) → IsLegal arena slots history → ObeysLaw arena slots history
 
@@ -133,26 +126,26 @@ module _ (pass : PassView) (has : HasSeen pass) (q : OwnPoint) (own_at : IsOwnPo
   pub answered : LawOfAll → (p : Point) × IsCalledAt pass q entry p × IsAnsweredAt p entry
   answered law = (p, called, answered_there law)
 
-  pub gives_inserted : GivesEverywhere → (n time : ℕ) (info : Metadata) → entry.reply ≡ reply.Product n time info → IsInsertedWith pass.seen n time info
-  gives_inserted gives n time info is_reply =
-      let found = gives pass.arena pass.slots pass.seen has.legal p called.at.is_point entry called.later called.next is_own_call n time info is_reply in
+  pub gives_inserted : LawOfAll → (n time : ℕ) (info : Metadata) → entry.reply ≡ reply.Product n time info → IsInsertedWith pass.seen n time info
+  gives_inserted law n time info is_reply =
+      let found = (answered_there law).next_given n time info is_reply in
       record {
-        product = found.product;
-        inserted = inserted_more (history_of p) called.at.is_point.rest pass.seen n found.product time called.at.is_point.front found.inserted;
-        info_is = found.info_of_product;
+        product = found.row.product;
+        inserted = inserted_more (history_of p) called.at.is_point.rest pass.seen n found.row.product time called.at.is_point.front
+            (subst (λ (at : ℕ). IsInserted (history_of p) n found.row.product at) (sym found.time_of_row) found.inserted);
+        info_is = found.info_of_row;
       }
 
-  pub reads_inserted : ReadsEverywhere → (offset len : ℕ) (bytes : List ℕ) → entry.event ≡ Read q.k offset len → entry.reply ≡ reply.Bytes bytes
+  pub reads_inserted : LawOfAll → (offset len : ℕ) (bytes : List ℕ) → entry.event ≡ Read q.k offset len → entry.reply ≡ reply.Bytes bytes
       → ReadsOfHeld pass.seen (number_held q) offset len bytes
-  reads_inserted reads offset len bytes is_event is_reply =
-      let found = reads pass.arena pass.slots pass.seen has.legal p called.at.is_point entry called.later called.next is_own_call offset len bytes
-      (is_event ∙ ap (λ (k : ℕ). Read k offset len) (sym called.at.place)) is_reply in
+  reads_inserted law offset len bytes is_event is_reply =
+      let found = (answered_there law).held_bytes offset len bytes (is_event ∙ ap (λ (k : ℕ). Read k offset len) (sym called.at.place)) is_reply in
       record {
         number = found.hold.number;
         is_held = sym agree.held ∙ ap number_of found.holds;
-        product = found.product;
-        time = found.time;
-        inserted = inserted_more (history_of p) called.at.is_point.rest pass.seen found.hold.number found.product found.time called.at.is_point.front found.inserted;
+        product = found.row.product;
+        time = found.row.time;
+        inserted = inserted_more (history_of p) called.at.is_point.rest pass.seen found.hold.number found.row.product found.row.time called.at.is_point.front found.inserted;
         part = found.part;
       }
 
@@ -160,20 +153,20 @@ module _ (pass : PassView) (has : HasSeen pass) (q : OwnPoint) (own_at : IsOwnPo
   holding law n a_step =
       subst (λ (held : Option ℕ). (entry.reply ≡ reply.Holding n) ↔ (held ≡ Some n)) agree.held ((answered_there law).one_at_a_time n a_step)
 
-  module _ (once : AtEveryPoint TellsOnce) where
+  module _ (law : LawOfAll) where
     -- where no loss is untold
     all_told : lost p ≡ told p → HasLost pass q entry (losses_told q)
     all_told all = record {
       point = p;
       called = called;
-      counted = sym agree.told ∙ ((once pass.arena pass.slots pass.seen has.legal p called.at.is_point).counted ∙ ap length (sym all));
+      counted = sym agree.told ∙ (((law pass.arena pass.slots pass.seen has.legal).served p called.at.is_point).tells_once.counted ∙ ap length (sym all));
     }
 
-    pub product_after_all : LawOfAll → (n time : ℕ) (info : Metadata) → entry.reply ≡ reply.Product n time info → HasLost pass q entry (losses_told q)
-    product_after_all law n time info is_reply = all_told ((answered_there law).next_given n time info is_reply).all_told
+    pub product_after_all : (n time : ℕ) (info : Metadata) → entry.reply ≡ reply.Product n time info → HasLost pass q entry (losses_told q)
+    product_after_all n time info is_reply = all_told ((answered_there law).next_given n time info is_reply).all_told
 
-    pub end_after_all : LawOfAll → (at : ℕ) → entry.reply ≡ reply.End at → HasLost pass q entry (losses_told q)
-    end_after_all law at is_reply = all_told ((answered_there law).end_has_all at is_reply).all_told
+    pub end_after_all : (at : ℕ) → entry.reply ≡ reply.End at → HasLost pass q entry (losses_told q)
+    end_after_all at is_reply = all_told ((answered_there law).end_has_all at is_reply).all_told
 
     -- the point behind the call
     point_behind : is_close entry.event ≡ false → IsPointOf pass.arena pass.slots pass.seen (next_point p entry)
@@ -194,7 +187,7 @@ module _ (pass : PassView) (has : HasSeen pass) (q : OwnPoint) (own_at : IsOwnPo
     pub gap_tells_all : (count first last : ℕ) → entry.event ≡ Step q.k → entry.reply ≡ reply.Gap count first last → HasLost pass q entry (losses_told q + count)
     gap_tells_all count first last is_event is_reply =
         let behind = point_behind (ap is_close is_event) in
-        let tells = once pass.arena pass.slots pass.seen has.legal (next_point p entry) behind in
+        let tells = ((law pass.arena pass.slots pass.seen has.legal).served (next_point p entry) behind).tells_once in
         let told_then : told (next_point p entry) ≡ lost p = told-next p entry ∙ (λ i. cond (is_own_call i) (after_gap p (told p) (is_reply i)) (told p)) in
         let count_then : count_told (next_point p entry) ≡ count_told p + count = count-next p entry ∙ (λ i. cond (is_own_call i) (with_count (count_told p) (is_reply i)) (count_told p)) in
         record {

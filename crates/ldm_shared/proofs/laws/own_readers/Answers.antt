@@ -11,19 +11,19 @@ returns-clause-of_its_feeds c =
     of_its_feeds c.fifo.ensures.obeys_law c.products_were_inserted.ensures fronts
 
 pub returns-clause-gives_inserted : goal.returns-clause-gives_inserted
-returns-clause-gives_inserted c = λ pass has q at entry later next about. gives_inserted pass has q at entry later next about c.fifo.ensures.gives_inserted
+returns-clause-gives_inserted c = λ pass has q at entry later next about. gives_inserted pass has q at entry later next about c.fifo.ensures.obeys_law
 
 pub returns-clause-reads_inserted : goal.returns-clause-reads_inserted
-returns-clause-reads_inserted c = λ pass has q at entry later next about. reads_inserted pass has q at entry later next about c.fifo.ensures.reads_inserted
+returns-clause-reads_inserted c = λ pass has q at entry later next about. reads_inserted pass has q at entry later next about c.fifo.ensures.obeys_law
 
 pub returns-clause-gap_tells_all : goal.returns-clause-gap_tells_all
-returns-clause-gap_tells_all c = λ pass has q at entry later next about. gap_tells_all pass has q at entry later next about c.fifo.ensures.tells_once
+returns-clause-gap_tells_all c = λ pass has q at entry later next about. gap_tells_all pass has q at entry later next about c.fifo.ensures.obeys_law
 
 pub returns-clause-product_after_all : goal.returns-clause-product_after_all
-returns-clause-product_after_all c = λ pass has q at entry later next about. product_after_all pass has q at entry later next about c.fifo.ensures.tells_once c.fifo.ensures.obeys_law
+returns-clause-product_after_all c = λ pass has q at entry later next about. product_after_all pass has q at entry later next about c.fifo.ensures.obeys_law
 
 pub returns-clause-end_after_all : goal.returns-clause-end_after_all
-returns-clause-end_after_all c = λ pass has q at entry later next about. end_after_all pass has q at entry later next about c.fifo.ensures.tells_once c.fifo.ensures.obeys_law
+returns-clause-end_after_all c = λ pass has q at entry later next about. end_after_all pass has q at entry later next about c.fifo.ensures.obeys_law
 
 pub returns-clause-holding : goal.returns-clause-holding
 returns-clause-holding c = λ pass has q at entry later next about. holding pass has q at entry later next about c.fifo.ensures.obeys_law
