@@ -28,7 +28,7 @@ use Rattle.ldm_model.proofs.Effects.{entry_of}
 use Rattle.ldm_model.proofs.Opened.{IsOpened, AreOpened, AreOpened-next}
 
 -- each of these rows has the product and the time of the row of its number among others
-abbrev Keeps : List Row → List Row → Type 0
+abbrev pub Keeps : List Row → List Row → Type 0
 Keeps rows rows' = (n : ℕ) (row' : Row) → slice_get rows' n ≡ Some row' → (row : Row) × (slice_get rows n ≡ Some row) × (row'.product ≡ row.product) × (row'.time ≡ row.time)
 
 Keeps-itself : (rows : List Row) → Keeps rows rows
@@ -41,7 +41,7 @@ Keeps-without_place (row ∷ rows) zero (suc n) row' at = (row', at, refl, refl)
 Keeps-without_place (row ∷ rows) (suc m) zero row' at = (row', at, refl, refl)
 Keeps-without_place (row ∷ rows) (suc m) (suc n) row' at = Keeps-without_place rows m n row' at
 
-Keeps-evict : (s : State) (m : ℕ) → Keeps s.rows (evict s m).rows
+pub Keeps-evict : (s : State) (m : ℕ) → Keeps s.rows (evict s m).rows
 Keeps-evict s m = by_row (slice_get s.rows m)
   where
     by_row : (row : Option Row) → Keeps s.rows (evict_row s m row).rows

@@ -30,3 +30,10 @@ pub mod Admitted
 pub mod FillingPoints
 pub mod FillingAnswered
 pub mod Numbered
+pub mod Space
+mod Fitting
+mod Changing
+mod Times
+mod Signatures
+mod Regions
+mod RoomKept

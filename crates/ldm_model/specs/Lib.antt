@@ -22,5 +22,6 @@ pub mod Next
 pub mod Filled
 pub mod History
 pub mod Law
+pub mod Always
 pub mod Filling
 pub mod Examples

@@ -1,12 +1,17 @@
 //! Laws of histories: what follows from the definitions for every one of them.
-ghost use Rattle.std.specs.Prelude.{◌≡◌, ◌↔◌, ◌++◌, ◌∷◌, ◌+◌, ◌≤◌, ℕ, List, true, All, Some, slice_get};
+ghost use Rattle.std.specs.Prelude.{◌≡◌, ◌↔◌, ◌++◌, ◌∷◌, ◌+◌, ◌≤◌, ℕ, List, true, false, All, Some, slice_get};
 ghost use Rattle.std.specs.List.{AllPairs};
 ghost use Rattle.ldm_types.specs.Arena.{Region, AreApart};
+ghost use Rattle.ldm_types.specs.Info.{Metadata};
 ghost use Rattle.ldm_model.specs.declared.event.Reply.TheVariants as reply;
 ghost use Rattle.ldm_model.specs.declared.event.Entry.{Entry};
-ghost use Rattle.ldm_model.specs.State.{end_of, is_queued, occupied, Row};
-ghost use Rattle.ldm_model.specs.Evict.{is_held};
+ghost use Rattle.ldm_model.specs.Product.{Product, extent_of};
+ghost use Rattle.ldm_model.specs.State.{State, Row, end_of, is_queued, occupied};
+ghost use Rattle.ldm_model.specs.Room.{has_room};
+ghost use Rattle.ldm_model.specs.Evict.{is_held, unheld, evict_all};
+ghost use Rattle.ldm_model.specs.Insert.{insert, after_evicting};
 ghost use Rattle.ldm_model.specs.Law.{ObeysLaw};
+ghost use Rattle.ldm_model.specs.Always.{Always, TimesRise, TimesAreInstants, LastIsNewest, SignaturesDiffer, LiesOnEights, HasSlots, IsInsertable};
 ghost use Rattle.ldm_model.specs.Filling.{ObeysFilling};
 ghost use Rattle.ldm_model.specs.History.{after, after_entries, IsLegal, IsLegalFrom, IsAdmitted, count_admissions};
 
@@ -48,12 +53,35 @@ pub fn every_reader_is_served()
     ensures obeys_law { (arena slots : ℕ) (history : List Entry) → IsLegal arena slots history → ObeysLaw arena slots history }
 {}
 
+/// Insertion times rise strictly with the numbers of products, and are instants. The last insertion time is that of the
+/// product that was admitted last.
+pub fn times_rise()
+    ensures rise { Always TimesRise }
+    ensures instants { Always TimesAreInstants }
+    ensures last { Always LastIsNewest }
+{}
+
+/// No two queued products have the same signature.
+pub fn signatures_differ()
+    ensures { Always SignaturesDiffer }
+{}
+
+/// Evicting more never takes room away. So a product that could be inserted otherwise is refused as locked exactly where evicting
+/// every product that nobody holds would not make room.
+pub fn evictions_make_room()
+    ensures kept { (s : State) (info : Metadata) (i j : ℕ) → i ≤ j → has_room (after_evicting s i) (extent_of info) ≡ true → has_room (after_evicting s j) (extent_of info) ≡ true }
+    ensures locked { (s : State) (now : ℕ) (p : Product) → IsInsertable s p →
+        ((held : ℕ) × ((insert s now p).reply ≡ reply.Locked held)) ↔ (has_room (evict_all s (unheld s)) (extent_of p.info) ≡ false) }
+{}
+
 /// What occupies the arena after a legal history, queued products and open reservations, lies within it, and no two regions
-/// share a position.
+/// share a position. All begin at multiples of eight, and are multiples of eight long. No more slots are taken than there are.
 pub fn regions_lie_apart()
     ensures within { (arena slots : ℕ) (history : List Entry) → IsLegal arena slots history →
         All (λ (region : Region). region.start + region.extent ≤ arena) (occupied (after arena slots history)) }
     ensures apart { (arena slots : ℕ) (history : List Entry) → IsLegal arena slots history → AllPairs AreApart (occupied (after arena slots history)) }
+    ensures eights { Always LiesOnEights }
+    ensures slots { Always HasSlots }
 {}
 
 /// The filling law: from the entry that reserves a region to the one that ends the reservation, its positions are covered by
