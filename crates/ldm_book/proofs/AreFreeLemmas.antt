@@ -5,20 +5,19 @@ use Rattle.std.specs.Option.{option_map}
 use Rattle.std.proofs.lemmas.List.{take_more, take_all}
 use Rattle.std.proofs.lemmas.Option.{slice_get_within, get_or_from_slice_get, slice_get-map, slice_get-get_or}
 use Rattle.ldm_book.specs.View.{Kept}
-use Rattle.ldm_book.specs.declared.products.Products.TheInside.{Inside}
-use Rattle.ldm_book.specs.Slots.{Slots, row_at, signature_of, slots_of, AreFree, IsSlotted}
+use Rattle.ldm_book.specs.Slots.{Slots, row_at, signature_of, AreFree}
 
 -- the free slots but the last
 abbrev pub but_last : List ℕ → List ℕ
 but_last free = take (length free - 1) free
 
 -- a slot is the last of the free ones
-pub record IsNext (p : Inside) (k : ℕ) : Type 0 where
-  pub inside : k < length (slots_of p)
-  pub none : row_at (slots_of p) k ≡ None
-  pub some : 0 < length p.free.items
-  pub apart : AllByRecursion (λ other. other ≢ k) (but_last p.free.items)
-  pub left : AreFree (slots_of p) (but_last p.free.items)
+pub record IsNext (slots : Slots) (free : List ℕ) (k : ℕ) : Type 0 where
+  pub inside : k < length slots
+  pub none : row_at slots k ≡ None
+  pub some : 0 < length free
+  pub apart : AllByRecursion (λ other. other ≢ k) (but_last free)
+  pub left : AreFree slots (but_last free)
 
 -- what a free slot behind others has, and what they have
 abbrev Parts : Slots → List ℕ → ℕ → Type 0
@@ -46,27 +45,25 @@ last_behind ks k is =
     ∙ sym (take_more ks (length ks - 1) k inside) ∙ take_all (length ks - 1 + 1) ks whole
 
 -- the slot that is read as the last of the free ones
-pub next_free : (p : Inside) → IsSlotted p → (read : List ℕ) (k : ℕ) → Some k ≡ slice_get read (length read - 1) → read ≡ p.free.items → IsNext p k
-next_free p kept read k is same =
-    let free = p.free.items in
+pub next_free : (slots : Slots) (free : List ℕ) → AreFree slots free → (read : List ℕ) (k : ℕ) → Some k ≡ slice_get read (length read - 1) → read ≡ free → IsNext slots free k
+next_free slots free are read k is same =
     let last = is ∙ ap (λ (ks : List ℕ). slice_get ks (length ks - 1)) same in
     let inside = slice_get_within free (length free - 1) k (sym last) in
-    let parts = free_parts (slots_of p) (but_last free) k (subst (AreFree (slots_of p)) (sym (last_behind free k last)) kept.free) in
+    let parts = free_parts slots (but_last free) k (subst (AreFree slots) (sym (last_behind free k last)) are) in
     record { inside = parts.0; none = parts.1; some = omega arith; apart = parts.2; left = parts.3 }
 
 -- free slots stay free when another gets a product
-free-set : (slots : Slots) (ks : List ℕ) (k : ℕ) (held : Option Kept) → AllByRecursion (λ other. other ≢ k) ks → AreFree slots ks → AreFree (set slots k held) ks
+pub free-set : (slots : Slots) (ks : List ℕ) (k : ℕ) (held : Option Kept) → AllByRecursion (λ other. other ≢ k) ks → AreFree slots ks → AreFree (set slots k held) ks
 free-set slots [] k held apart free = tt
 free-set slots (x ∷ xs) k held apart free =
     (omega (arith, free.0, length-set slots k held), get_or-set_other slots k x held None apart.0 ∙ free.1, free.2, free-set slots xs k held apart.1 free.3)
 
-module _ (p : Inside) (k : ℕ) (next : IsNext p k) where
-  -- the others stay free when it gets a product
-  pub others_free : (row : Kept) → AreFree (set (slots_of p) k (Some row)) (but_last p.free.items)
-  others_free row = free-set (slots_of p) (but_last p.free.items) k (Some row) next.apart next.left
+-- the others stay free when it gets a product
+pub others_free : (slots : Slots) (free : List ℕ) (k : ℕ) → IsNext slots free k → (row : Kept) → AreFree (set slots k (Some row)) (but_last free)
+others_free slots free k next row = free-set slots (but_last free) k (Some row) next.apart next.left
 
-  -- it has no signature
-  pub no_signature : slice_get (map signature_of (slots_of p)) k ≡ Some None
-  no_signature =
-      slice_get-map signature_of (slots_of p) k
-      ∙ ap (λ (held : Option (Option Kept)). option_map signature_of held) (slice_get-get_or (slots_of p) k None next.inside ∙ ap (λ (held : Option Kept). Some held) next.none)
+-- a slot without a product has no signature
+pub no_signature : (slots : Slots) (k : ℕ) → k < length slots → row_at slots k ≡ None → slice_get (map signature_of slots) k ≡ Some None
+no_signature slots k inside none =
+    slice_get-map signature_of slots k
+    ∙ ap (λ (held : Option (Option Kept)). option_map signature_of held) (slice_get-get_or slots k None inside ∙ ap (λ (held : Option Kept). Some held) none)

@@ -8,12 +8,12 @@ use Rattle.ldm_types.specs.Cursors.{KeptCursor, Places}
 use Rattle.ldm_cursor.specs.Places.{count_held, held_of, holds, is_held, is_last_hold, is_number}
 use Rattle.ldm_model.specs.State.{State}
 use Rattle.ldm_model.specs.Evict as model
-use Rattle.ldm_book.specs.View.{BookView, Kept}
+use Rattle.ldm_book.specs.View.{BookView, Kept, open_kept}
 use Rattle.ldm_book.specs.Products.{AreRising, has_number}
 use Rattle.ldm_book.specs.Readers.{AreReading, IsPlaceReading, is_kept_held}
 use Rattle.ldm_book.specs.Stands.{StandsFor}
 use Rattle.ldm_book.proofs.ReadingLemmas.{any_of}
-use Rattle.ldm_book.proofs.UnheldLemmas.{held-stands}
+use Rattle.ldm_book.proofs.UnheldLemmas.{count-reserved, held-stands}
 
 filter-alike : (p q : ℕ → Bool) (xs : List ℕ) → ((n : ℕ) → p n ≡ q n) → filter p xs ≡ filter q xs
 filter-alike p q [] same = refl
@@ -101,12 +101,15 @@ count-range a (place ∷ behind) below =
             ap (λ (x : Bool). cond (not x) 1 0 + count_held behind) e ∙ ap (λ (n : ℕ). 1 + n) rest
             ∙ sym (count-more (λ n. is_held n behind) m 0 a (omega arith) (let under = below m (ap (λ (x : Bool). x || is_held m behind) (eq-eqb m m refl)) in omega arith) e)
 
--- as many are held as the kept cursors say
-pub count-stands : (book : BookView) (s : State) → StandsFor book s → All (λ (k : Kept). k.number < book.admitted) book.rows → AreReading book.admitted book.rows book.cursors → count_held book.cursors ≡ model.count_held s
-count-stands book s stands below all =
-    count-range book.admitted book.cursors (λ n h. held_below book.admitted book.rows book.cursors n below all h)
-    ∙ ap (λ (ns : List ℕ). length ns) (filter-alike (λ n. is_held n book.cursors) (model.is_held s) (range_with_len 0 book.admitted) (λ n. held-stands book s n stands))
-    ∙ ap (λ (n : ℕ). length (filter (model.is_held s) (range_with_len 0 n))) stands.admitted
+-- as many regions are held as the kept cursors and the open reservations say
+pub count-stands : (book : BookView) (s : State) → StandsFor book s → All (λ (k : Kept). k.number < book.admitted) book.rows → AreReading book.admitted book.rows book.cursors → count_held book.cursors + length (open_kept book.reservations) ≡ model.count_held s
+count-stands book s stands below all = λ i. held i + count-reserved book s stands i
+  where
+    held : count_held book.cursors ≡ length (model.held s)
+    held =
+        count-range book.admitted book.cursors (λ n h. held_below book.admitted book.rows book.cursors n below all h)
+        ∙ ap (λ (ns : List ℕ). length ns) (filter-alike (λ n. is_held n book.cursors) (model.is_held s) (range_with_len 0 book.admitted) (λ n. held-stands book s n stands))
+        ∙ ap (λ (n : ℕ). length (filter (model.is_held s) (range_with_len 0 n))) stands.admitted
 
 -- none of these products has a number that is below all of theirs
 none_at : (a : ℕ) (rows : List Kept) → AllByRecursion (λ (k : Kept). a + 1 ≤ k.number) rows → list_any (has_number a) rows ≡ false

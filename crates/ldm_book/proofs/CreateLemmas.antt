@@ -12,11 +12,12 @@ use Rattle.ldm_types.specs.declared.limits.TheConstants.{LARGEST_ARENA, MOST_SLO
 use Rattle.ldm_regions.specs.Layout.{Layout, Tiles}
 use Rattle.ldm_sigindex.specs.Index.{IsOneToOne}
 use Rattle.ldm_timeindex.specs.Times.{Times, Queued, IsRising}
-use Rattle.ldm_book.specs.View.{Kept}
+use Rattle.ldm_book.specs.View.{Kept, KeptReservation, Reservations, open_kept}
+use Rattle.ldm_book.specs.Reserved.{KeptPlaces, reservations_of}
 use Rattle.ldm_book.proofs.SlotsLemmas.{slots-none}
 use Rattle.ldm_book.specs.declared.products.Products.TheInside.{Inside}
-use Rattle.ldm_book.specs.Products.{kept_region}
-use Rattle.ldm_book.specs.Slots.{Slots, row_at, signature_of, slots_from, slots_of, kept_entries, IsAt, AreFree, IsSlotted}
+use Rattle.ldm_book.specs.Products.{kept_region, reserved_region}
+use Rattle.ldm_book.specs.Slots.{Slots, row_at, signature_of, slots_from, slots_of, kept_entries, IsAt, AreFree, IsSlotted, taken_from, HaveOwn}
 
 -- the numbers below one, from the greatest down to 0
 abbrev pub down_from : ℕ → List ℕ
@@ -61,17 +62,38 @@ signatures-none (suc n) = ap (λ (rest : List (Option (List ℕ))). None ∷ res
 one_to_one-none : (n : ℕ) → IsOneToOne (replicate n None)
 one_to_one-none n a b signature at-a at-b = absurd (none-some signature (sym (none_at n a) ∙ get_or_from_slice_get (replicate n None) a (Some signature) None at-a))
 
+-- where no place has a reservation, nothing is reserved
+taken-none : (slots : Slots) (n : ℕ) → taken_from slots (replicate n None) ≡ slots
+taken-none slots zero = refl
+taken-none slots (suc n) = taken-none slots n
+
+own-none : (slots : Slots) (n : ℕ) → HaveOwn slots (replicate n None)
+own-none slots zero = tt
+own-none slots (suc n) = own-none slots n
+
+open-none : (n : ℕ) → open_kept (reservations_of (replicate n None)) ≡ []
+open-none zero = refl
+open-none (suc n) = open-none n
+
+-- and contracts see as many empty places
+pub reservations-none : (n : ℕ) → reservations_of (replicate n None) ≡ replicate n None
+reservations-none zero = refl
+reservations-none (suc n) = ap (λ (rest : Reservations). None ∷ rest) (reservations-none n)
+
 -- slots, none of which has a product, are kept as they should be
 pub slotted-none : (p : Inside) (n arena : ℕ) →
     length p.slots.items ≡ n → p.free.items ≡ down_from n → n ≤ vec_capacity p.free →
     p.regions ≡ record { arena = arena; slots = n; owned = fin.empty } → Tiles p.regions →
-    p.by_signature ≡ replicate n None → p.by_number ≡ record { slots = n; entries = [] } → p.used ≡ 0 →
+    p.by_signature ≡ replicate n None → p.by_number ≡ record { slots = n; entries = [] } → p.used ≡ 0 → p.reserved ≡ replicate 64 None →
     n ≤ MOST_SLOTS → arena ≤ LARGEST_ARENA → IsSlotted p
-slotted-none p n arena rows free roomy regions tiled signatures numbers used few small =
+slotted-none p n arena rows free roomy regions tiled signatures numbers used reserved few small =
     let as_many = ap (λ (layout : Layout). layout.slots) regions in
     let slots : slots_of p ≡ replicate n None = ap (slots_from p.slots.items) signatures ∙ slots-none p.slots.items n rows in
     let no_entries = ap (λ (times : Times). times.entries) numbers in
     let nothing = λ (k : ℕ). ap (λ (rows : Slots). row_at rows k) slots ∙ none_at n k in
+    let taken : taken_from (slots_of p) p.reserved ≡ replicate n None = ap (taken_from (slots_of p)) reserved ∙ taken-none (slots_of p) 64 ∙ slots in
+    let not_taken = λ (k : ℕ). ap (λ (rows : Slots). row_at rows k) taken ∙ none_at n k in
+    let none_open = ap (λ (places : KeptPlaces). open_kept (reservations_of places)) reserved ∙ open-none 64 in
     record {
       as_many = ap length slots ∙ length-replicate n None ∙ sym as_many;
       rowed = rows ∙ sym as_many;
@@ -81,12 +103,13 @@ slotted-none p n arena rows free roomy regions tiled signatures numbers used few
       listed = λ k row at. absurd (none-some row (sym (nothing k) ∙ at));
       signatures = signatures ∙ sym (ap (map signature_of) slots ∙ signatures-none n);
       one_to_one = subst IsOneToOne (sym signatures) (one_to_one-none n);
-      owned = λ k. ap (λ (layout : Layout). fin.get layout.owned k) regions ∙ fin.get-empty nat_cmp k ∙ ap (option_map kept_region) (sym (nothing k));
+      own = subst (HaveOwn (slots_of p)) (sym reserved) (own-none (slots_of p) 64);
+      owned = λ k. ap (λ (layout : Layout). fin.get layout.owned k) regions ∙ fin.get-empty nat_cmp k ∙ ap (option_map kept_region) (sym (not_taken k));
       tiles = tiled;
-      free = subst (λ (rows : Slots). AreFree rows p.free.items) (sym slots) (subst (AreFree (replicate n None)) (sym free) (free-down_from n n (omega arith)));
-      count = ap (λ (ks : List ℕ). length ks + length p.by_number.entries) free ∙ ap (λ (entries : List Queued). length (down_from n) + length entries) no_entries ∙ omega (arith, length-down_from n, as_many);
+      free = subst (λ (rows : Slots). AreFree rows p.free.items) (sym taken) (subst (AreFree (replicate n None)) (sym free) (free-down_from n n (omega arith)));
+      count = (let long = ap (λ (ks : List ℕ). length ks) free in let entries = ap (λ (entries : List Queued). length entries) no_entries in let opened = ap (λ (vs : List KeptReservation). length vs) none_open in omega (arith, long, entries, opened, length-down_from n, as_many));
       roomy = omega (arith, as_many);
-      used = used ∙ ap (λ (entries : List Queued). extents (map kept_region (kept_entries (slots_of p) entries))) (sym no_entries);
+      used = used ∙ (λ i. extents (map kept_region (kept_entries (slots_of p) (sym no_entries i)) ++ map reserved_region (sym none_open i)));
       few = omega (arith, as_many);
       small = let same = ap (λ (layout : Layout). layout.arena) regions in omega arith;
     }

@@ -129,4 +129,6 @@ StandsFor-place book s k place kept stands is =
       rows = stands.rows;
       stored = stands.stored;
       cursors = ap (λ (cs : Places). set cs k kept) stands.cursors ∙ ap (λ (o : Option KeptCursor). set (map kept_place s.cursors) k o) is ∙ sym (map-set kept_place s.cursors k place);
+      reservations = stands.reservations;
+      filled = stands.filled;
     }

@@ -48,4 +48,6 @@ StandsFor-evict book s n stands there =
           ap (λ (f : ℕ). map (kept_places.with_loss n f) book.cursors) feed
           ∙ ap (λ (cs : Places). map (kept_places.with_loss n row.product.info.feed) cs) stands.cursors
           ∙ sym (cursors-loss n row.product.info.feed s.cursors);
+      reservations = stands.reservations;
+      filled = stands.filled;
     })

@@ -1,16 +1,18 @@
 -- Whether there is room beside the held products, by where they lie.
-use Rattle.std.proofs.Common.{◌≡◌, ℕ, ◌+◌, ◌<◌, ◌≤◌, ◌||◌, Bool, true, false, cond, leb, ltb, max, List, [], ◌∷◌, map, Option, Some, None, refl, sym, ap, subst, ◌∙◌, inl, inr, arith}
+use Rattle.std.proofs.Common.{◌≡◌, ℕ, ◌+◌, ◌<◌, ◌≤◌, ◌||◌, Bool, true, false, cond, leb, ltb, max, List, [], ◌∷◌, ◌++◌, map, Option, Some, None, refl, sym, ap, subst, ◌∙◌, inl, inr, arith}
 use Rattle.std.specs.Prelude.{◌&&◌, filter, is_some}
 use Rattle.std.specs.List.{AllByRecursion, find, list_any}
 use Rattle.std.specs.Option.{IfSome}
 use Rattle.std.proofs.lemmas.Bool.{true≢false, false≢true, or_left, or_right, le-leb, lt-leb, le-ltb, lt-ltb, cases_lt, cases_eq, eq-eqb, ne_eqb, or_parts}
-use Rattle.ldm_types.specs.Arena.{covers, fit, is_covered}
+use Rattle.std.proofs.lemmas.List.Folds.{list_any-append}
+use Rattle.ldm_types.specs.Arena.{Region, covers, fit, is_covered}
+use Rattle.ldm_book.specs.declared.spans.Span.{Span}
 use Rattle.ldm_types.specs.Cursors.{KeptCursor, Places}
 use Rattle.ldm_cursor.specs.Places.{held_of, holds, is_held, is_number}
-use Rattle.ldm_book.specs.View.{Kept}
-use Rattle.ldm_book.specs.Products.{AreRising, at_number, has_number, kept_extent, kept_region}
+use Rattle.ldm_book.specs.View.{Kept, KeptReservation, Reservations, open_kept}
+use Rattle.ldm_book.specs.Products.{AreRising, at_number, has_number, kept_extent, kept_region, occupied_by, reserved_region}
 use Rattle.ldm_book.specs.Readers.{AreReading, IsPlaceReading, is_kept_held}
-use Rattle.ldm_book.specs.Spans.{has_gap, held_span, span_at, span_of}
+use Rattle.ldm_book.specs.Spans.{has_gap, held_span, held_spans, reserved_span, span_at, span_of}
 use Rattle.ldm_book.proofs.EveryLemmas.{found_of}
 use Rattle.ldm_book.proofs.SpaceLemmas.{fit-space, space-fit}
 use Rattle.ldm_book.proofs.SpanLemmas.{IsBeside, gap-found, room-found}
@@ -79,7 +81,7 @@ not_covered cs test i (r ∷ rs) k e held none = by_test (test r) (is_kept_held 
     by_test false true is more e none = more e held (or_parts (covers i (kept_region r)) (is_covered (map kept_region (filter (is_kept_held cs) rs)) i) none).1
     by_test false false is more e none = more e held none
 
-module _ (cs : Places) (a arena need : ℕ) (rows : List Kept) (rising : AreRising rows) (all : AreReading a rows cs) (headed : AllByRecursion (λ (k : Kept). 0 < k.head) rows) (some : 0 < need) where
+module _ (cs : Places) (a arena need : ℕ) (rows : List Kept) (reservations : Reservations) (rising : AreRising rows) (all : AreReading a rows cs) (headed : AllByRecursion (λ (k : Kept). 0 < k.head) rows) (reserved_headed : AllByRecursion (λ (v : KeptReservation). 0 < v.product.head) (open_kept reservations)) (some : 0 < need) where
   -- where the held products leave so much free, no span is met
   spans_beside : (p : ℕ) → ((i : ℕ) → p ≤ i → i < p + need → is_covered (map kept_region (filter (is_kept_held cs) rows)) i ≡ false) → (few : Places) → ((n : ℕ) → is_held n few ≡ true → is_held n cs ≡ true) → AreReading a rows few → AllByRecursion (IsBeside p need) (map (held_span rows) few)
   spans_beside p free [] among reading = tt
@@ -126,14 +128,58 @@ module _ (cs : Places) (a arena need : ℕ) (rows : List Kept) (rising : AreRisi
   same_bool false true f g = g refl
   same_bool false false f g = refl
 
-  -- a gap is found exactly where there is room beside the held products
-  pub gap-is : has_gap need arena (map (held_span rows) cs) ≡ is_some (fit need (map kept_region (filter (is_kept_held cs) rows)) arena)
+  -- so it is with the spans of reservations
+  reserved_beside : (p : ℕ) (rs : Reservations) → AllByRecursion (λ (v : KeptReservation). 0 < v.product.head) (open_kept rs) → ((i : ℕ) → p ≤ i → i < p + need → is_covered (map reserved_region (open_kept rs)) i ≡ false) → AllByRecursion (IsBeside p need) (map reserved_span rs)
+  reserved_beside p [] heads free = tt
+  reserved_beside p (None ∷ rs) heads free = (inr (omega arith), reserved_beside p rs heads free)
+  reserved_beside p (Some v ∷ rs) heads free = (
+    beside-from p need v.product some (omega (arith, heads.0)) (λ i low high. (or_parts (covers i (reserved_region v)) (is_covered (map reserved_region (open_kept rs)) i) (free i low high)).0),
+    reserved_beside p rs heads.1 (λ i low high. (or_parts (covers i (reserved_region v)) (is_covered (map reserved_region (open_kept rs)) i) (free i low high)).1),
+  )
+
+  reserved_free : (p i : ℕ) → p ≤ i → i < p + need → (rs : Reservations) → AllByRecursion (IsBeside p need) (map reserved_span rs) → is_covered (map reserved_region (open_kept rs)) i ≡ false
+  reserved_free p i low high [] beside = refl
+  reserved_free p i low high (None ∷ rs) beside = reserved_free p i low high rs beside.1
+  reserved_free p i low high (Some v ∷ rs) beside =
+      ap (λ (b : Bool). b || is_covered (map reserved_region (open_kept rs)) i) (covers-not p need i v.product beside.0 low high) ∙ reserved_free p i low high rs beside.1
+
+  abbrev spans : List Span
+  spans = held_spans rows cs reservations
+
+  abbrev regions : List Region
+  regions = occupied_by (filter (is_kept_held cs) rows) reservations
+
+  all_of : (xs ys : List Span) (p : ℕ) → AllByRecursion (IsBeside p need) xs → AllByRecursion (IsBeside p need) ys → AllByRecursion (IsBeside p need) (xs ++ ys)
+  all_of [] ys p one other = other
+  all_of (x ∷ xs) ys p one other = (one.0, all_of xs ys p one.1 other)
+
+  parts_of : (xs ys : List Span) (p : ℕ) → AllByRecursion (IsBeside p need) (xs ++ ys) → AllByRecursion (IsBeside p need) xs × AllByRecursion (IsBeside p need) ys
+  parts_of [] ys p both = (tt, both)
+  parts_of (x ∷ xs) ys p both = let rest = parts_of xs ys p both.1 in ((both.0, rest.0), rest.1)
+
+  -- a gap is found exactly where there is room beside the held products and the reservations
+  pub gap-is : has_gap need arena spans ≡ is_some (fit need regions arena)
   gap-is =
-      same_bool (has_gap need arena (map (held_span rows) cs)) (is_some (fit need (map kept_region (filter (is_kept_held cs) rows)) arena))
+      let held = map kept_region (filter (is_kept_held cs) rows) in
+      let reserved = map reserved_region (open_kept reservations) in
+      same_bool (has_gap need arena spans) (is_some (fit need regions arena))
       (λ gap.
-      let room = room-found need arena (map (held_span rows) cs) gap in
-      space-fit need arena (map kept_region (filter (is_kept_held cs) rows)) some
-      (record { start = room.start; above = omega arith; within = room.within; free = λ i low high. rows_free room.start i low high room.beside rows (find_self rows rising) }))
+      let room = room-found need arena spans gap in
+      let parts = parts_of (map (held_span rows) cs) (map reserved_span reservations) room.start room.beside in
+      space-fit need arena regions some
+      (record {
+        start = room.start;
+        above = omega arith;
+        within = room.within;
+        free = λ i low high.
+            list_any-append (covers i) held reserved
+            ∙ ap (λ (b : Bool). b || is_covered reserved i) (rows_free room.start i low high parts.0 rows (find_self rows rising))
+            ∙ reserved_free room.start i low high reservations parts.1;
+      }))
       (λ fits.
-      let space = fit-space need arena (map kept_region (filter (is_kept_held cs) rows)) fits in
-      gap-found space.start need arena (map (held_span rows) cs) space.within (spans_beside space.start space.free cs (λ n e. e) all))
+      let space = fit-space need arena regions fits in
+      let free = λ (i : ℕ) (low : space.start ≤ i) (high : i < space.start + need). or_parts (is_covered held i) (is_covered reserved i) (sym (list_any-append (covers i) held reserved) ∙ space.free i low high) in
+      gap-found space.start need arena spans space.within
+      (all_of (map (held_span rows) cs) (map reserved_span reservations) space.start
+      (spans_beside space.start (λ i low high. (free i low high).0) cs (λ n e. e) all)
+      (reserved_beside space.start reservations reserved_headed (λ i low high. (free i low high).1))))

@@ -1,4 +1,4 @@
--- The regions of the kept rows cover what the regions of the slots cover, so the gaps are the same.
+-- The regions of products and reservations cover what the regions of the slots cover, so the gaps are the same.
 use Rattle.std.proofs.Common.{◌≡◌, ℕ, zero, suc, ◌+◌, ◌<◌, length, Bool, true, false, cond, ◌&&◌, T, List, [], ◌∷◌, map, Some, None, arith, refl, sym, ap, ◌∙◌, ⊎_elim}
 use Rattle.std.specs.Cmp.{nat_cmp_total, eq_by_cmp_equiv, Equal-is}
 use Rattle.std.specs.FinMap as fin
@@ -9,7 +9,7 @@ use Rattle.std.specs.Option.{option_map}
 use Rattle.std.specs.Ordering.{nat_cmp, eq_by_cmp, is_eq, is_lt}
 use Rattle.std.specs.declared.cmp.Ordering.{Ordering}
 use Rattle.std.specs.declared.cmp.Ordering.TheVariants.{Less, Equal, Greater}
-use Rattle.std.proofs.lemmas.Bool.{lt-ltb, or_cases, or_left, or_right}
+use Rattle.std.proofs.lemmas.Bool.{le-ltb, lt-ltb, or_cases, or_left, or_right}
 use Rattle.std.proofs.lemmas.List.{length-map}
 use Rattle.std.proofs.lemmas.Bool.Decides.{same_from_decides}
 use Rattle.ldm_types.specs.Arena.{Region, covers, is_covered, with_free, free_runs, gaps, best_gap, fit}
@@ -17,9 +17,10 @@ use Rattle.ldm_timeindex.specs.Times.{Queued}
 use Rattle.ldm_regions.specs.Layout.{Owned, occupied}
 use Rattle.ldm_book.specs.declared.products.Products.TheInside.{Inside}
 use Rattle.ldm_book.specs.View.{Kept}
-use Rattle.ldm_book.specs.Products.{kept_region, room_for}
+use Rattle.ldm_book.specs.Products.{kept_region, occupied_in, room_for, taken_in}
 use Rattle.ldm_book.specs.Slots.{Slots, row_at, slots_of, kept_entry, kept_entries, products_of, IsAt, HasSlot, IsSlotted}
 use Rattle.ldm_book.proofs.KeptEntryLemmas.{kept_entry-row, row_of_region}
+use Rattle.ldm_book.proofs.AllEntriesLemmas.{all_entries, all_taken, all-at, all-listed, all-regions}
 
 -- only what is covered matters
 pub free_runs-same : (one other : List Region) → ((position : ℕ) → is_covered one position ≡ is_covered other position) → (position count : ℕ) → free_runs one position count ≡ free_runs other position count
@@ -126,15 +127,23 @@ module _ (slots : Slots) (entries : List Queued) (owned : Owned) (at : AllByRecu
       (held_from_any test slots entries at, λ held. any_from_held test slots entries held.0 held.1 (listed held.0 held.1 held.2) held.2 held.3)
 
 module _ (p : Inside) (kept : IsSlotted p) where
-  -- the gaps between the regions of the slots are those between the products
-  pub gaps_between : gaps (occupied p.regions.owned) p.regions.arena ≡ gaps (map kept_region (products_of p).rows) p.regions.arena
-  gaps_between = free_runs-same _ _ (same_covered (slots_of p) p.by_number.entries p.regions.owned kept.entries kept.listed kept.owned) 0 p.regions.arena
+  -- the gaps between the regions of the slots are those between products and reservations
+  pub gaps_between : gaps (occupied p.regions.owned) p.regions.arena ≡ gaps (occupied_in (products_of p)) p.regions.arena
+  gaps_between =
+      free_runs-same _ _ (same_covered (all_taken p) (all_entries p) p.regions.owned (all-at p kept) (all-listed p kept) kept.owned) 0 p.regions.arena
+      ∙ ap (λ (regions : List Region). gaps regions p.regions.arena) (all-regions p kept)
 
   -- where a slot is free, a product goes where a gap is long enough
   pub place_for : (need : ℕ) → 0 < length p.free.items → fit need (occupied p.regions.owned) p.regions.arena ≡ room_for (products_of p) need
   place_for need some =
-      let rows = (products_of p).rows in
-      let place = fit need (map kept_region rows) p.regions.arena in
+      let place = fit need (occupied_in (products_of p)) p.regions.arena in
       let count = length-map p.by_number.entries (kept_entry (slots_of p)) in
       ap (λ (gaps : List Region). option_map (λ (gap : Region). gap.start) (best_gap need gaps)) gaps_between
-      ∙ ap (λ b. cond b place None) (sym (lt-ltb (length rows) p.regions.slots (omega (arith, count, kept.count, some))))
+      ∙ ap (λ b. cond b place None) (sym (lt-ltb (taken_in (products_of p)) p.regions.slots (omega (arith, count, kept.count, some))))
+
+  -- where none is, a product goes nowhere
+  pub no_place_for : (need : ℕ) → length p.free.items ≡ 0 → room_for (products_of p) need ≡ None
+  no_place_for need none =
+      let place = fit need (occupied_in (products_of p)) p.regions.arena in
+      let count = length-map p.by_number.entries (kept_entry (slots_of p)) in
+      ap (λ b. cond b place None) (le-ltb (taken_in (products_of p)) p.regions.slots (omega (arith, count, kept.count, none)))

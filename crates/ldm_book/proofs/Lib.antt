@@ -1,5 +1,6 @@
 pub mod EveryLemmas
 pub mod QueuedLemmas
+pub mod ApartLemmas
 pub mod StoredLemmas
 pub mod IsTimedLemmas
 pub mod SlotsLemmas
@@ -10,6 +11,10 @@ pub mod KeptEntryLemmas
 pub mod KeptRegionLemmas
 pub mod FindLemmas
 pub mod AreFreeLemmas
+pub mod TakenLemmas
+pub mod OpenPlacesLemmas
+pub mod AllEntriesLemmas
+pub mod ReserveLemmas
 pub mod PutLemmas
 pub mod SlotOfLemmas
 pub mod TakeOutLemmas
@@ -23,9 +28,12 @@ pub mod MeetingLemmas
 pub mod CallLemmas
 pub mod ReadingLemmas
 pub mod UnheldLemmas
+pub mod BookLemmas
 pub mod RoomLemmas
 pub mod ExpireLemmas
 pub mod InsertLemmas
+pub mod ReservingLemmas
+pub mod FillLemmas
 pub mod CountLemmas
 pub mod StatLemmas
 pub mod SpanLemmas

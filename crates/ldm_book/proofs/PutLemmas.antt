@@ -1,24 +1,24 @@
 -- One more product: the slots with its row, and the entries with its own.
-use Rattle.std.proofs.Common.{◌≡◌, ◌≢◌, ℕ, suc, ◌+◌, ◌*◌, ◌≤◌, inl, inr, ⊎_elim, cond, List, [], ◌∷◌, ◌++◌, length, map, set, Option, Some, None, refl, sym, ap, subst, ◌∙◌, arith, get_or-set_other, get_or-set_same}
-use Rattle.std.specs.Cmp.{nat_cmp_total, eq_by_cmp_equiv, Equal-is}
+use Rattle.std.proofs.Common.{◌≡◌, ◌≢◌, ℕ, suc, ◌+◌, ◌*◌, ◌<◌, ◌≤◌, inl, inr, ⊎_elim, cond, List, [], ◌∷◌, ◌++◌, length, map, set, Option, Some, None, refl, sym, ap, subst, ◌∙◌, arith, get_or-set_other, get_or-set_same}
+use Rattle.std.specs.Cmp.{nat_cmp_total, eq_by_cmp_equiv}
 use Rattle.std.specs.FinMap as fin
-use Rattle.std.specs.FinMap.{nat_cmp-IsAntisymmetric}
 use Rattle.std.specs.List.{AllByRecursion}
 use Rattle.std.specs.Option.{option_map}
-use Rattle.std.specs.Ordering.{nat_cmp, eq_by_cmp}
-use Rattle.std.proofs.lemmas.Bool.{cases_eq, false_from_ne_true}
-use Rattle.std.proofs.lemmas.List.{map_push}
+use Rattle.std.proofs.lemmas.Bool.{cases_eq}
+use Rattle.std.proofs.lemmas.List.{length-append, map_push}
 use Rattle.ldm_types.specs.Arena.{Region}
 use Rattle.ldm_types.specs.declared.limits.TheConstants.{LARGEST_ARENA}
 use Rattle.ldm_model.specs.Stat.{extents}
 use Rattle.ldm_regions.specs.Layout.{Layout, Tiles, with_region}
 use Rattle.ldm_timeindex.specs.Times.{Queued}
 use Rattle.ldm_book.specs.declared.products.Products.TheInside.{Inside}
-use Rattle.ldm_book.specs.View.{Kept}
-use Rattle.ldm_book.specs.Products.{kept_extent, kept_region}
+use Rattle.ldm_book.specs.View.{Kept, Reservations, open_kept}
+use Rattle.ldm_book.specs.Products.{kept_extent, kept_region, occupied_by, reserved_region}
+use Rattle.ldm_book.specs.Reserved.{KeptPlaces, place_entries, reservations_of}
 use Rattle.ldm_book.specs.Slots.{Slots, row_at, slots_of, kept_or_none, with_entry, kept_entry, kept_entries, IsAt, HasSlot, IsSlotted}
 use Rattle.ldm_book.proofs.KeptEntryLemmas.{kept_entry-row}
-use Rattle.ldm_book.proofs.AreFreeLemmas.{IsNext}
+use Rattle.ldm_book.proofs.AllEntriesLemmas.{all_entries, all_taken, all-at, all-regions}
+use Rattle.ldm_book.proofs.OpenPlacesLemmas.{extents-append}
 
 -- a slot of an entry is still one with one more entry
 HasSlot-more : (k : ℕ) (entries : List Queued) (entry : Queued) → HasSlot k entries → HasSlot k (entries ++ entry ∷ [])
@@ -30,16 +30,11 @@ HasSlot-last : (entries : List Queued) (entry : Queued) → HasSlot entry.slot (
 HasSlot-last [] entry = inl refl
 HasSlot-last (first ∷ entries) entry = inr (HasSlot-last entries entry)
 
--- the extents with one more region
-extents-more : (regions : List Region) (region : Region) → extents (regions ++ region ∷ []) ≡ extents regions + region.extent
-extents-more [] region = omega arith
-extents-more (first ∷ regions) region = omega (arith, extents-more regions region)
-
 -- the entry of a row
 abbrev pub entry_of : ℕ → Kept → Queued
 entry_of slot row = record { n = row.number; time = row.time; slot = slot }
 
-module _ (p : Inside) (kept : IsSlotted p) (slot : ℕ) (row : Kept) (next : IsNext p slot) where
+module _ (p : Inside) (kept : IsSlotted p) (slot : ℕ) (row : Kept) (inside : slot < length (slots_of p)) (none : row_at (slots_of p) slot ≡ None) where
   abbrev slots : Slots
   slots = slots_of p
 
@@ -51,7 +46,7 @@ module _ (p : Inside) (kept : IsSlotted p) (slot : ℕ) (row : Kept) (next : IsN
 
   -- the slot has the row
   here : row_at filled slot ≡ Some row
-  here = get_or-set_same slots slot (Some row) None next.inside
+  here = get_or-set_same slots slot (Some row) None inside
 
   -- the other slots are as they were
   other : (k : ℕ) → k ≢ slot → row_at filled k ≡ row_at slots k
@@ -59,7 +54,7 @@ module _ (p : Inside) (kept : IsSlotted p) (slot : ℕ) (row : Kept) (next : IsN
 
   -- a slot with a row keeps it
   stays : (k : ℕ) (held : Kept) → row_at slots k ≡ Some held → row_at filled k ≡ row_at slots k
-  stays k held at = other k (λ same. let both : None ≡ Some held = sym next.none ∙ ap (row_at slots) (sym same) ∙ at in absurd cc)
+  stays k held at = other k (λ same. let both : None ≡ Some held = sym none ∙ ap (row_at slots) (sym same) ∙ at in absurd cc)
 
   -- the entries are kept as they were
   kept-same : (entries : List Queued) → AllByRecursion (IsAt slots) entries → kept_entries filled entries ≡ kept_entries slots entries
@@ -83,10 +78,11 @@ module _ (p : Inside) (kept : IsSlotted p) (slot : ℕ) (row : Kept) (next : IsN
       map_push (kept_entry filled) p.by_number.entries (entry_of slot row) ∙ (λ i. kept-same p.by_number.entries kept.entries i ++ new i ∷ [])
 
   -- and so are the extents
-  pub extents-added : extents (map kept_region (kept_entries filled (more p.by_number.entries))) ≡ extents (map kept_region rows) + kept_extent row
-  extents-added =
-      ap (λ (rows : List Kept). extents (map kept_region rows)) rows-added
-      ∙ ap extents (map_push kept_region rows row) ∙ extents-more (map kept_region rows) (kept_region row)
+  pub extents-added : (reservations : Reservations) → extents (occupied_by (kept_entries filled (more p.by_number.entries)) reservations) ≡ extents (occupied_by rows reservations) + kept_extent row
+  extents-added reservations =
+      let reserved = map reserved_region (open_kept reservations) in
+      let front = ap (λ (rows : List Kept). extents (map kept_region rows)) rows-added ∙ ap extents (map_push kept_region rows row) ∙ extents-append (map kept_region rows) (kept_region row ∷ []) in
+      omega (arith, front, extents-append (map kept_region (kept_entries filled (more p.by_number.entries))) reserved, extents-append (map kept_region rows) reserved)
 
   -- each entry has a slot with its row
   pub entries-added : AllByRecursion (IsAt filled) (more p.by_number.entries)
@@ -100,34 +96,32 @@ module _ (p : Inside) (kept : IsSlotted p) (slot : ℕ) (row : Kept) (next : IsN
         | inr apart ↦ HasSlot-more k p.by_number.entries (entry_of slot row) (kept.listed k held (sym (other k apart) ∙ at))
       ]
 
-  -- each slot owns the region of its row
-  pub owned-added : (k : ℕ) → fin.get (fin.insert p.regions.owned slot (kept_region row)) k ≡ option_map kept_region (row_at filled k)
-  owned-added k =
-      let owned = p.regions.owned in
-      fin.get-insert nat_cmp_total owned slot (kept_region row) k
-      ∙ elim (cases_eq k slot) [
-        | inl same ↦ ap (λ b. cond b (Some (kept_region row)) (fin.get owned k)) (ap (λ j. eq_by_cmp nat_cmp j slot) same ∙ (eq_by_cmp_equiv nat_cmp_total).refl slot)
-            ∙ ap (option_map kept_region) (sym (ap (row_at filled) same ∙ here))
-        | inr apart ↦ ap (λ b. cond b (Some (kept_region row)) (fin.get owned k)) (false_from_ne_true _ (λ tie. apart (nat_cmp-IsAntisymmetric k slot ((Equal-is (nat_cmp k slot)).0 tie))))
-            ∙ kept.owned k ∙ ap (option_map kept_region) (sym (other k apart))
-      ]
-
 module _ (p : Inside) (kept : IsSlotted p) where
   -- each extent is at most the arena's
-  extents-within : (entries : List Queued) → AllByRecursion (IsAt (slots_of p)) entries → extents (map kept_region (kept_entries (slots_of p) entries)) ≤ length entries * LARGEST_ARENA
+  extents-within : (entries : List Queued) → AllByRecursion (IsAt (all_taken p)) entries → extents (map kept_region (kept_entries (all_taken p) entries)) ≤ length entries * LARGEST_ARENA
   extents-within [] at = omega arith
   extents-within (entry ∷ entries) at =
       let rest = extents-within entries at.1 in
       let within = kept.tiles.within entry.slot (kept_region at.0.0) (kept.owned entry.slot ∙ ap (option_map kept_region) at.0.1) in
       let extent = ap (λ (held : Option Kept). kept_extent (kept_or_none held)) at.0.1 in
-      bounded (kept_extent (kept_or_none (row_at (slots_of p) entry.slot))) (kept_extent at.0.0) at.0.0.place (extents (map kept_region (kept_entries (slots_of p) entries))) (length entries) p.regions.arena extent within kept.small rest
+      bounded (kept_extent (kept_or_none (row_at (all_taken p) entry.slot))) (kept_extent at.0.0) at.0.0.place (extents (map kept_region (kept_entries (all_taken p) entries))) (length entries) p.regions.arena extent within kept.small rest
     where
       bounded : (one extent place rest count arena : ℕ) → one ≡ extent → place + extent ≤ arena → arena ≤ LARGEST_ARENA → rest ≤ count * LARGEST_ARENA → one + rest ≤ suc count * LARGEST_ARENA
       bounded one extent place rest count arena same within small below = omega arith
 
-  -- the sum of the extents is at most the greatest arena for each product
-  pub used-within : p.used ≤ length p.by_number.entries * LARGEST_ARENA
-  used-within = omega (arith, kept.used, extents-within p.by_number.entries kept.entries)
+  -- as many entries as slots are taken
+  length-places : (places : KeptPlaces) → length (place_entries places) ≡ length (open_kept (reservations_of places))
+  length-places [] = refl
+  length-places (None ∷ places) = length-places places
+  length-places (Some place ∷ places) = ap suc (length-places places)
+
+  -- the sum of the extents is at most the greatest arena for each slot that is taken
+  pub used-within : p.used ≤ (length p.by_number.entries + length (open_kept (reservations_of p.reserved))) * LARGEST_ARENA
+  used-within =
+      let count : length (all_entries p) ≡ length p.by_number.entries + length (open_kept (reservations_of p.reserved)) = omega (arith, length-append p.by_number.entries (place_entries p.reserved), length-places p.reserved) in
+      let all = extents-within (all_entries p) (all-at p kept) in
+      let used : p.used ≡ extents (map kept_region (kept_entries (all_taken p) (all_entries p))) = kept.used ∙ ap extents (sym (all-regions p kept)) in
+      subst (λ (n : ℕ). p.used ≤ n * LARGEST_ARENA) count (omega (arith, used, all))
 
 -- a region that was taken lies in the arena
 pub taken_within : (layout : Layout) (owner : ℕ) (region : Region) → Tiles (with_region layout owner region) → region.start + region.extent ≤ layout.arena

@@ -7,11 +7,12 @@ use Rattle.std.proofs.lemmas.Bool.{false≢true, cases_eq, eq-eqb, ne_eqb, le-le
 use Rattle.std.specs.Option.{option_map}
 use Rattle.ldm_types.specs.Arena.{Region}
 use Rattle.ldm_model.specs.declared.event.Reply.TheVariants as reply
-use Rattle.ldm_model.specs.State.{Row, Queued, latest, add_queued, queued_from, queued_with, region_of}
+use Rattle.ldm_model.specs.State.{Row, Reservation, Queued, latest, add_queued, open_ones, queued_from, queued_with, region_of}
+use Rattle.ldm_model.specs.State.{reserved_region as state_region}
 use Rattle.ldm_model.specs.Evict.{without_place}
 use Rattle.ldm_model.specs.Look.{look_reply}
-use Rattle.ldm_book.specs.View.{kept}
-use Rattle.ldm_book.specs.Products.{kept_region, at_number, has_number}
+use Rattle.ldm_book.specs.View.{KeptReservation, kept, kept_reservation, open_kept}
+use Rattle.ldm_book.specs.Products.{kept_region, at_number, has_number, occupied_by, reserved_region}
 use Rattle.ldm_book.specs.Lookup.{kept_signature, kept_with, look_kept}
 use Rattle.ldm_book.proofs.EveryLemmas.{find-map}
 
@@ -50,6 +51,23 @@ some_from_queued (Some q) n t e = (q, refl, cc)
 pub regions-kept : (qs : List Queued) → map region_of qs ≡ map kept_region (map kept qs)
 regions-kept [] = refl
 regions-kept (q ∷ qs) = ap (λ (rs : List Region). region_of q ∷ rs) (regions-kept qs)
+
+-- what the open reservations are kept as
+pub open-kept : (rs : List (Option Reservation)) → open_kept (map (option_map kept_reservation) rs) ≡ map kept_reservation (open_ones rs)
+open-kept [] = refl
+open-kept (None ∷ rs) = open-kept rs
+open-kept (Some v ∷ rs) = ap (λ (vs : List KeptReservation). kept_reservation v ∷ vs) (open-kept rs)
+
+-- and where they lie
+pub regions-reserved : (vs : List Reservation) → map reserved_region (map kept_reservation vs) ≡ map state_region vs
+regions-reserved [] = refl
+regions-reserved (v ∷ vs) = ap (λ (rs : List Region). state_region v ∷ rs) (regions-reserved vs)
+
+-- what occupies the arena
+pub occupied-kept : (qs : List Queued) (rs : List (Option Reservation)) → occupied_by (map kept qs) (map (option_map kept_reservation) rs) ≡ map region_of qs ++ map state_region (open_ones rs)
+occupied-kept qs rs =
+    let reserved = ap (map reserved_region) (open-kept rs) ∙ regions-reserved (open_ones rs) in
+    λ i. sym (regions-kept qs) i ++ reserved i
 
 -- whether a present row has another number
 abbrev pub other_number : ℕ → Queued → Bool

@@ -1,14 +1,14 @@
 -- Room for a product: evictions never take it away, and the last of them leave the held products.
 use Rattle.std.proofs.Common.{◌≡◌, ℕ, zero, suc, ◌+◌, ◌<◌, ◌≤◌, ◌||◌, Bool, true, false, cond, not, List, [], ◌∷◌, ◌++◌, length, map, take, drop, Option, Some, None, refl, sym, ap, subst, ◌∙◌, inl, inr, arith}
 use Rattle.std.specs.Prelude.{filter, is_some}
-use Rattle.std.specs.Option.{MatchOption}
 use Rattle.std.proofs.lemmas.Bool.{true≢false, false≢true, lt-ltb, le-ltb, cases_lt, eq-eqb, ne_eqb, cases_eq, or_parts}
+use Rattle.std.proofs.lemmas.List.Folds.{list_any-append}
 use Rattle.ldm_types.specs.Arena.{covers, fit, is_covered}
 use Rattle.ldm_types.specs.Cursors.{Places}
 use Rattle.ldm_cursor.specs.Places.{is_held}
-use Rattle.ldm_book.specs.View.{BookView, Kept}
+use Rattle.ldm_book.specs.View.{BookView, Kept, Reservations, open_kept}
 use Rattle.ldm_book.specs.Lookup.{kept_signature, kept_with}
-use Rattle.ldm_book.specs.Products.{AreRising, ProductsView, is_other, kept_number, kept_region, room_for}
+use Rattle.ldm_book.specs.Products.{AreRising, ProductsView, is_other, kept_number, kept_region, occupied_by, occupied_in, reserved_region, room_for, taken_in}
 use Rattle.ldm_book.specs.Readers.{AreAhead, first_of, free_numbers, held_products, is_kept_free, is_kept_held, products, unheld_numbers, without_all, without_oldest, without_product}
 use Rattle.ldm_book.proofs.SpaceLemmas.{fit-space, space-fit}
 use Rattle.ldm_book.proofs.FreeLemmas.{first-there, rising_left, unheld-evicted, held_left, held-alike, is_held-loss, ahead-alike}
@@ -32,23 +32,32 @@ length_filter test (k ∷ ks) = by_test (test k) (length_filter test ks)
     by_test true rest = omega arith
     by_test false rest = omega arith
 
+-- fewer products occupy no more
+covered_less : (test : Kept → Bool) (i : ℕ) (rows : List Kept) (rs : Reservations) → is_covered (occupied_by rows rs) i ≡ false → is_covered (occupied_by (filter test rows) rs) i ≡ false
+covered_less test i rows rs e =
+    let reserved = map reserved_region (open_kept rs) in
+    let parts = or_parts (is_covered (map kept_region rows) i) (is_covered reserved i) (sym (list_any-append (covers i) (map kept_region rows) reserved) ∙ e) in
+    list_any-append (covers i) (map kept_region (filter test rows)) reserved
+    ∙ ap (λ (b : Bool). b || is_covered reserved i) (covered_filter test i rows parts.0) ∙ parts.1
+
 -- the two parts of having room
-room_parts : (p : ProductsView) (need : ℕ) → is_some (room_for p need) ≡ true → (length p.rows < p.slots) × (is_some (fit need (map kept_region p.rows) p.arena) ≡ true)
-room_parts p need h = elim (cases_lt (length p.rows) p.slots) [
-  | inl below ↦ (below, ap (λ (b : Bool). is_some (cond b (fit need (map kept_region p.rows) p.arena) None)) (sym (lt-ltb (length p.rows) p.slots below)) ∙ h)
-  | inr above ↦ absurd (false≢true (ap (λ (b : Bool). is_some (cond b (fit need (map kept_region p.rows) p.arena) None)) (sym (le-ltb (length p.rows) p.slots above)) ∙ h))
+room_parts : (p : ProductsView) (need : ℕ) → is_some (room_for p need) ≡ true → (taken_in p < p.slots) × (is_some (fit need (occupied_in p) p.arena) ≡ true)
+room_parts p need h = elim (cases_lt (taken_in p) p.slots) [
+  | inl below ↦ (below, ap (λ (b : Bool). is_some (cond b (fit need (occupied_in p) p.arena) None)) (sym (lt-ltb (taken_in p) p.slots below)) ∙ h)
+  | inr above ↦ absurd (false≢true (ap (λ (b : Bool). is_some (cond b (fit need (occupied_in p) p.arena) None)) (sym (le-ltb (taken_in p) p.slots above)) ∙ h))
 ]
 
-pub room_of_parts : (p : ProductsView) (need : ℕ) → length p.rows < p.slots → is_some (fit need (map kept_region p.rows) p.arena) ≡ true → is_some (room_for p need) ≡ true
-room_of_parts p need slot fits = ap (λ (b : Bool). is_some (cond b (fit need (map kept_region p.rows) p.arena) None)) (lt-ltb (length p.rows) p.slots slot) ∙ fits
+pub room_of_parts : (p : ProductsView) (need : ℕ) → taken_in p < p.slots → is_some (fit need (occupied_in p) p.arena) ≡ true → is_some (room_for p need) ≡ true
+room_of_parts p need slot fits = ap (λ (b : Bool). is_some (cond b (fit need (occupied_in p) p.arena) None)) (lt-ltb (taken_in p) p.slots slot) ∙ fits
 
 -- with fewer products there is room still
 pub room_filter : (p : ProductsView) (need : ℕ) (test : Kept → Bool) → 0 < need → is_some (room_for p need) ≡ true → is_some (room_for (record p { rows = filter test p.rows }) need) ≡ true
 room_filter p need test some h =
     let parts = room_parts p need h in
-    let space = fit-space need p.arena (map kept_region p.rows) parts.1 in
+    let space = fit-space need p.arena (occupied_in p) parts.1 in
     room_of_parts (record p { rows = filter test p.rows }) need (omega (arith, length_filter test p.rows, parts.0))
-    (space-fit need p.arena (map kept_region (filter test p.rows)) some (record { start = space.start; above = space.above; within = space.within; free = λ i a b. covered_filter test i p.rows (space.free i a b) }))
+    (space-fit need p.arena (occupied_by (filter test p.rows) p.reservations) some
+    (record { start = space.start; above = space.above; within = space.within; free = λ i a b. covered_less test i p.rows p.reservations (space.free i a b) }))
 
 -- evicting what nobody holds leaves the held products
 held-evicted : (book : BookView) (n : ℕ) → is_held n book.cursors ≡ false → held_products (without_product n book) ≡ held_products book
@@ -186,12 +195,13 @@ pub record Alike (old new : BookView) : Type 0 where
   pub slots : new.slots ≡ old.slots
   pub admitted : new.admitted ≡ old.admitted
   pub last : new.last ≡ old.last
+  pub reservations : new.reservations ≡ old.reservations
 
 pub alike_all : (ns : List ℕ) (book : BookView) → Alike book (without_all ns book)
-alike_all [] book = record { arena = refl; bytes = refl; slots = refl; admitted = refl; last = refl }
+alike_all [] book = record { arena = refl; bytes = refl; slots = refl; admitted = refl; last = refl; reservations = refl }
 alike_all (n ∷ ns) book =
     let rest = alike_all ns (without_product n book) in
-    record { arena = rest.arena; bytes = rest.bytes; slots = rest.slots; admitted = rest.admitted; last = rest.last }
+    record { arena = rest.arena; bytes = rest.bytes; slots = rest.slots; admitted = rest.admitted; last = rest.last; reservations = rest.reservations }
 
 -- where a signature is absent, it is absent from what is left
 absent_filter : (signature : List ℕ) (test : Kept → Bool) (rows : List Kept) → kept_with signature rows ≡ None → kept_with signature (filter test rows) ≡ None
@@ -212,11 +222,11 @@ pub absent_all : (signature : List ℕ) (ns : List ℕ) (book : BookView) → ke
 absent_all signature [] book e = e
 absent_all signature (n ∷ ns) book e = absent_all signature ns (without_product n book) (absent_filter signature (is_other n) book.rows e)
 
--- what a call that puts a product in led to
-pub was_put : (E : Type 0) (F : ℕ → Type 0) (o : Option ℕ) (r : Bool) → r ≡ true → MatchOption o ((r ≡ false) × E) (λ place. (r ≡ true) × F place) → (place : ℕ) × (o ≡ Some place) × F place
-was_put E F None r is h = absurd (true≢false (sym is ∙ h.0))
-was_put E F (Some place) r is h = (place, refl, h.1)
+-- what there is room for has a place
+pub room_is : (o : Option ℕ) → is_some o ≡ true → (place : ℕ) × (o ≡ Some place)
+room_is None e = absurd (false≢true e)
+room_is (Some place) e = (place, refl)
 
-pub was_full : (E : Type 0) (F : ℕ → Type 0) (o : Option ℕ) (r : Bool) → r ≡ false → MatchOption o ((r ≡ false) × E) (λ place. (r ≡ true) × F place) → (o ≡ None) × E
-was_full E F None r is h = (refl, h.1)
-was_full E F (Some place) r is h = absurd (true≢false (sym h.0 ∙ is))
+pub room_none : (o : Option ℕ) → is_some o ≡ false → o ≡ None
+room_none None e = refl
+room_none (Some place) e = absurd (true≢false e)

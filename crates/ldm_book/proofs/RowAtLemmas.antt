@@ -1,5 +1,5 @@
 -- Slots that have a product, and one of them emptied.
-use Rattle.std.proofs.Common.{◌≡◌, ◌≢◌, ℕ, zero, suc, ◌<◌, cond, List, [], ◌∷◌, ◌++◌, length, set, Some, None, refl, sym, ap, ◌∙◌, inl, inr, get_or-set_other, length-set, arith}
+use Rattle.std.proofs.Common.{◌≡◌, ◌≢◌, ℕ, zero, suc, ◌<◌, cond, List, [], ◌∷◌, ◌++◌, length, set, Some, None, refl, sym, ap, ◌∙◌, inl, inr, get_or-set_other, get_or-set_same, length-set, arith}
 use Rattle.std.specs.Cmp.{nat_cmp_total, eq_by_cmp_equiv, Equal-is}
 use Rattle.std.specs.FinMap as fin
 use Rattle.std.specs.FinMap.{nat_cmp-IsAntisymmetric}
@@ -52,4 +52,15 @@ owned-emptied slots slot owned own k =
       | inr apart ↦ ap (λ b. cond b None (fin.get owned k)) (false_from_ne_true _ (λ tie. apart (nat_cmp-IsAntisymmetric k slot ((Equal-is (nat_cmp k slot)).0 tie))))
           ∙ own k
           ∙ ap (option_map kept_region) (sym (emptied-other slots slot k apart))
+    ]
+
+-- a slot owns the region of the product that it is given
+pub owned-set : (slots : Slots) (slot : ℕ) (row : Kept) (owned : Owned) → slot < length slots → ((k : ℕ) → fin.get owned k ≡ option_map kept_region (row_at slots k)) → (k : ℕ) → fin.get (fin.insert owned slot (kept_region row)) k ≡ option_map kept_region (row_at (set slots slot (Some row)) k)
+owned-set slots slot row owned inside own k =
+    fin.get-insert nat_cmp_total owned slot (kept_region row) k
+    ∙ elim (cases_eq k slot) [
+      | inl same ↦ ap (λ b. cond b (Some (kept_region row)) (fin.get owned k)) (ap (λ j. eq_by_cmp nat_cmp j slot) same ∙ (eq_by_cmp_equiv nat_cmp_total).refl slot)
+          ∙ ap (option_map kept_region) (sym (ap (row_at (set slots slot (Some row))) same ∙ get_or-set_same slots slot (Some row) None inside))
+      | inr apart ↦ ap (λ b. cond b (Some (kept_region row)) (fin.get owned k)) (false_from_ne_true _ (λ tie. apart (nat_cmp-IsAntisymmetric k slot ((Equal-is (nat_cmp k slot)).0 tie))))
+          ∙ own k ∙ ap (option_map kept_region) (sym (get_or-set_other slots slot k (Some row) None apart))
     ]

@@ -12,13 +12,17 @@ use Rattle.ldm_regions.specs.Layout.{Layout, Tiles, without_owner}
 use Rattle.ldm_sigindex.specs.Index.{Table, slot_of, IsOneToOne}
 use Rattle.ldm_timeindex.specs.Times.{Queued, IsRising, at_number, number_and_slot}
 use Rattle.ldm_book.specs.declared.products.Products.TheInside.{Inside}
-use Rattle.ldm_book.specs.View.{Kept}
-use Rattle.ldm_book.specs.Products.{ProductsView, kept_extent, kept_region, without}
-use Rattle.ldm_book.specs.Slots.{Slots, row_at, signature_of, slots_of, with_entry, kept_entry, kept_entries, products_of, kept_or_none, IsAt, HasSlot, AreFree, IsSlotted}
+use Rattle.ldm_book.specs.View.{Kept, open_kept}
+use Rattle.ldm_book.specs.Products.{ProductsView, kept_extent, kept_region, occupied_by, reserved_region, without}
+use Rattle.ldm_book.specs.Reserved.{KeptPlaces, reservations_of}
+use Rattle.ldm_book.specs.Slots.{Slots, row_at, signature_of, slots_of, with_entry, kept_entry, kept_entries, products_of, kept_or_none, IsAt, HasSlot, AreFree, IsSlotted, taken_from, HaveOwn}
 use Rattle.ldm_book.proofs.EntryLemmas.{others, all_others, IsAmong, among, any_entry, all_middle, rows-others, slot_middle, extents_middle}
 use Rattle.ldm_book.proofs.RowAtLemmas.{emptied, emptied-other, free-emptied, owned-emptied}
 use Rattle.ldm_book.proofs.KeptEntryLemmas.{other_slot}
 use Rattle.ldm_book.proofs.SlotOfLemmas.{slot_of_row}
+use Rattle.ldm_book.proofs.AllEntriesLemmas.{all_taken}
+use Rattle.ldm_book.proofs.OpenPlacesLemmas.{extents-append}
+use Rattle.ldm_book.proofs.TakenLemmas.{avoid_kept, own-set, taken-kept, taken-set}
 
 -- where entries do not have a slot, they stand for the same products once it is emptied
 kept-emptied : (slots : Slots) (slot : ℕ) (es : List Queued) → AllByRecursion (λ e. e.slot ≢ slot) es → kept_entries (set slots slot None) es ≡ kept_entries slots es
@@ -116,15 +120,31 @@ pub record HasLeft (p q : Inside) (n slot : ℕ) (row : Kept) : Type 0 where
   pub entries : q.by_number.entries ≡ others n p.by_number.entries
   pub rising : IsRising q.by_number.entries
   pub used : q.used + kept_extent row ≡ p.used
+  pub reserved : q.reserved ≡ p.reserved
 
 module _ {p q : Inside} {n slot : ℕ} (slotted : IsSlotted p) (at : IsNumbered (slots_of p) p.by_number.entries n slot) (left : HasLeft p q n slot at.row) where
+  -- the slots that are taken still
+  taken_left : taken_from (slots_of q) q.reserved ≡ set (all_taken p) slot None
+  taken_left =
+      (λ i. taken_from (left.slots i) (left.reserved i))
+      ∙ taken-set (slots_of p) p.reserved slot None (avoid_kept (slots_of p) p.reserved slot at.row slotted.own at.here)
+
+  -- the sum of the extents that are left
+  extents_then : p.used ≡ kept_extent at.row + extents (occupied_by (kept_entries (slots_of q) q.by_number.entries) (reservations_of q.reserved))
+  extents_then =
+      let before = kept_entries (slots_of p) p.by_number.entries in
+      let after = kept_entries (slots_of q) q.by_number.entries in
+      let now = ap (λ s. extents (map kept_region (kept_entries s q.by_number.entries))) left.slots ∙ ap (λ es. extents (map kept_region (kept_entries (set (slots_of p) slot None) es))) left.entries in
+      let reserved = ap (λ (places : KeptPlaces). extents (map reserved_region (open_kept (reservations_of places)))) left.reserved in
+      omega (arith, slotted.used, now, reserved, extents_left at slotted.entries, extents-append (map kept_region before) (map reserved_region (open_kept (reservations_of p.reserved))), extents-append (map kept_region after) (map reserved_region (open_kept (reservations_of q.reserved))))
+
   -- the others are kept in slots as before
   pub slotted_left : IsSlotted q
   slotted_left =
       let slots = slots_of p in
       let es = p.by_number.entries in
       let as_many : q.regions.slots ≡ p.regions.slots = ap (λ (r : Layout). r.slots) left.regions in
-      let extents_now = ap (λ s. extents (map kept_region (kept_entries s q.by_number.entries))) left.slots ∙ ap (λ es. extents (map kept_region (kept_entries (set slots slot None) es))) left.entries in
+      let opened = ap (λ (places : KeptPlaces). length (open_kept (reservations_of places))) left.reserved in
       record {
         as_many = ap length left.slots ∙ length-set slots slot None ∙ slotted.as_many ∙ sym as_many;
         rowed = left.rowed ∙ slotted.rowed ∙ sym as_many;
@@ -139,16 +159,20 @@ module _ {p q : Inside} {n slot : ℕ} (slotted : IsSlotted p) (at : IsNumbered 
             ∙ sym (map-set signature_of slots slot None)
             ∙ ap (map signature_of) (sym left.slots);
         one_to_one = left.one_to_one;
+        own =
+            subst (λ (s : Slots). HaveOwn s q.reserved) (sym left.slots)
+            (subst (λ (places : KeptPlaces). HaveOwn (set slots slot None) places) (sym left.reserved) (own-set slots p.reserved slot None (avoid_kept slots p.reserved slot at.row slotted.own at.here) slotted.own));
         owned = λ k.
-            ap (λ (r : Layout). fin.get r.owned k) left.regions ∙ owned-emptied slots slot p.regions.owned slotted.owned k
-            ∙ ap (λ s. option_map kept_region (row_at s k)) (sym left.slots);
+            ap (λ (r : Layout). fin.get r.owned k) left.regions ∙ owned-emptied (all_taken p) slot p.regions.owned slotted.owned k
+            ∙ ap (λ s. option_map kept_region (row_at s k)) (sym taken_left);
         tiles = left.tiles;
         free =
-            subst (λ s. AreFree s q.free.items) (sym left.slots)
-            (subst (AreFree (set slots slot None)) (sym left.free) (free-emptied slots slot at.row at.here p.free.items slotted.free));
-        count = omega (arith, ap length left.free, length-append p.free.items (slot ∷ []), count_left at, ap length left.entries, as_many);
+            subst (λ s. AreFree s q.free.items) (sym taken_left)
+            (subst (AreFree (set (all_taken p) slot None)) (sym left.free)
+            (free-emptied (all_taken p) slot at.row (taken-kept slots p.reserved slot at.row slotted.own at.here) p.free.items slotted.free));
+        count = omega (arith, ap length left.free, length-append p.free.items (slot ∷ []), count_left at, ap length left.entries, as_many, opened, slotted.count);
         roomy = omega (arith, as_many);
-        used = omega (arith, extents_now, extents_left at slotted.entries);
+        used = omega (arith, extents_then, left.used);
         few = omega (arith, as_many);
         small = omega (arith, ap (λ (r : Layout). r.arena) left.regions);
       }
@@ -158,6 +182,6 @@ module _ {p q : Inside} {n slot : ℕ} (slotted : IsSlotted p) (at : IsNumbered 
   products_left =
       let slots = slots_of p in
       let es = p.by_number.entries in
-      ap (λ (r : Layout). record { arena = r.arena; slots = r.slots; rows = kept_entries (slots_of q) q.by_number.entries }) left.regions
-      ∙ ap (λ rows. record { arena = p.regions.arena; slots = p.regions.slots; rows = rows })
+      (λ i. record { arena = (left.regions i).arena; slots = (left.regions i).slots; rows = kept_entries (slots_of q) q.by_number.entries; reservations = reservations_of (left.reserved i) })
+      ∙ ap (λ rows. record { arena = p.regions.arena; slots = p.regions.slots; rows = rows; reservations = reservations_of p.reserved })
       (ap (λ (s : Slots). kept_entries s q.by_number.entries) left.slots ∙ ap (kept_entries (set slots slot None)) left.entries ∙ kept_left at slotted.entries ∙ sym (rows-others slots n es))

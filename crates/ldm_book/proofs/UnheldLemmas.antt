@@ -6,18 +6,18 @@ use Rattle.std.proofs.lemmas.List.{length-map}
 use Rattle.ldm_types.specs.Arena.{Region, fit}
 use Rattle.ldm_types.specs.Cursors.{Places}
 use Rattle.ldm_cursor.specs.Places as kept_places
-use Rattle.ldm_model.specs.State.{State, Queued, queued, region_of}
+use Rattle.ldm_model.specs.State.{State, Queued, occupied, queued, reserved, slots_taken}
 use Rattle.ldm_model.specs.Room.{fit_in, has_room}
 use Rattle.ldm_model.specs.Evict.{is_held, unheld, evict, evict_all}
 use Rattle.ldm_model.specs.Insert.{after_evicting, evictions}
-use Rattle.ldm_book.specs.View.{BookView, Kept, kept}
-use Rattle.ldm_book.specs.Products.{AreRising, is_other, kept_number, kept_region, room_for}
+use Rattle.ldm_book.specs.View.{BookView, Kept, KeptReservation, Reservations, kept, kept_reservation, open_kept}
+use Rattle.ldm_book.specs.Products.{AreRising, is_other, kept_number, occupied_by, occupied_in, room_for, taken_in}
 use Rattle.ldm_book.specs.Readers.{first_of, free_numbers, is_kept_free, products, unheld_numbers, without_all, without_oldest, without_product}
 use Rattle.ldm_book.specs.Stands.{StandsFor}
 use Rattle.ldm_book.proofs.CursorsLemmas.{is_held-kept}
 use Rattle.ldm_book.proofs.EvictLemmas.{StandsFor-evict}
 use Rattle.ldm_book.proofs.FreeLemmas.{first-there, rising_left, unheld-evicted}
-use Rattle.ldm_book.proofs.QueuedLemmas.{regions-kept}
+use Rattle.ldm_book.proofs.QueuedLemmas.{occupied-kept, open-kept}
 
 -- who is held, by what is kept
 pub held-stands : (book : BookView) (s : State) (n : ℕ) → StandsFor book s → kept_places.is_held n book.cursors ≡ is_held s n
@@ -51,17 +51,26 @@ StandsFor-evicting j book s rising stands =
     let same = unheld-stands book s stands in
     subst (λ (ns : List ℕ). StandsFor (without_oldest j book) (evict_all s (take j ns))) same (evicting j (unheld_numbers book) book s refl rising stands)
 
+-- what occupies the arena
+pub occupied-stands : (book : BookView) (s : State) → StandsFor book s → occupied_in (products book) ≡ occupied s
+occupied-stands book s stands = (λ i. occupied_by (stands.rows i) (stands.reservations i)) ∙ occupied-kept (queued s) s.reservations
+
 -- the best fit
-pub fit-stands : (book : BookView) (s : State) (need : ℕ) → StandsFor book s → fit need (map kept_region book.rows) book.arena ≡ fit_in s need
+pub fit-stands : (book : BookView) (s : State) (need : ℕ) → StandsFor book s → fit need (occupied_in (products book)) book.arena ≡ fit_in s need
 fit-stands book s need stands =
-    ap (λ (ks : List Kept). fit need (map kept_region ks) book.arena) stands.rows
-    ∙ ap (λ (rs : List Region). fit need rs book.arena) (sym (regions-kept (queued s)))
-    ∙ ap (fit need (map region_of (queued s))) stands.arena
+    ap (λ (rs : List Region). fit need rs book.arena) (occupied-stands book s stands) ∙ ap (fit need (occupied s)) stands.arena
+
+-- how many are reserved
+pub count-reserved : (book : BookView) (s : State) → StandsFor book s → length (open_kept book.reservations) ≡ length (reserved s)
+count-reserved book s stands =
+    ap (λ (rs : Reservations). length (open_kept rs)) stands.reservations ∙ ap (λ (vs : List KeptReservation). length vs) (open-kept s.reservations) ∙ length-map (reserved s) kept_reservation
 
 -- whether a slot is free
-taken-stands : (book : BookView) (s : State) → StandsFor book s → ltb (length book.rows) book.slots ≡ ltb (length (queued s)) s.slots
+taken-stands : (book : BookView) (s : State) → StandsFor book s → ltb (taken_in (products book)) book.slots ≡ ltb (slots_taken s) s.slots
 taken-stands book s stands =
-    ap (λ (n : ℕ). ltb n book.slots) (ap (λ (ks : List Kept). length ks) stands.rows ∙ length-map (queued s) kept) ∙ ap (ltb (length (queued s))) stands.slots
+    let rows : length book.rows ≡ length (queued s) = ap (λ (ks : List Kept). length ks) stands.rows ∙ length-map (queued s) kept in
+    let count : taken_in (products book) ≡ slots_taken s = λ i. rows i + count-reserved book s stands i in
+    ap (λ (n : ℕ). ltb n book.slots) count ∙ ap (ltb (slots_taken s)) stands.slots
 
 some_if : (b : Bool) (place : Option ℕ) → is_some (cond b place None) ≡ (b && is_some place)
 some_if true place = refl
@@ -70,13 +79,13 @@ some_if false place = refl
 -- whether there is room
 pub room-stands : (book : BookView) (s : State) (need : ℕ) → StandsFor book s → is_some (room_for (products book) need) ≡ has_room s need
 room-stands book s need stands =
-    some_if (ltb (length book.rows) book.slots) (fit need (map kept_region book.rows) book.arena)
-    ∙ ap (λ (b : Bool). b && is_some (fit need (map kept_region book.rows) book.arena)) (taken-stands book s stands)
-    ∙ ap (λ (o : Option ℕ). ltb (length (queued s)) s.slots && is_some o) (fit-stands book s need stands)
+    some_if (ltb (taken_in (products book)) book.slots) (fit need (occupied_in (products book)) book.arena)
+    ∙ ap (λ (b : Bool). b && is_some (fit need (occupied_in (products book)) book.arena)) (taken-stands book s stands)
+    ∙ ap (λ (o : Option ℕ). ltb (slots_taken s) s.slots && is_some o) (fit-stands book s need stands)
 
 -- where there is room, it is the best fit
 pub room_place : (book : BookView) (s : State) (need place : ℕ) → StandsFor book s → room_for (products book) need ≡ Some place → fit_in s need ≡ Some place
-room_place book s need place stands is = sym (fit-stands book s need stands) ∙ by_slot (ltb (length book.rows) book.slots) (fit need (map kept_region book.rows) book.arena) is
+room_place book s need place stands is = sym (fit-stands book s need stands) ∙ by_slot (ltb (taken_in (products book)) book.slots) (fit need (occupied_in (products book)) book.arena) is
   where
     by_slot : (b : Bool) (o : Option ℕ) → cond b o None ≡ Some place → o ≡ Some place
     by_slot true o is = is

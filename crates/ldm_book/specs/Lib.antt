@@ -1,6 +1,7 @@
 pub mod View
 pub mod Stored
 pub mod Products
+pub mod Reserved
 pub mod Slots
 pub mod Stands
 pub mod Lookup

@@ -1,16 +1,17 @@
--- Where a cursor begins, and making room for a product by evicting the oldest ones that nobody holds.
-use Rattle.std.specs.Prelude.{◌≡◌, ℕ, ◌+◌, ◌<◌, ◌≤◌, Bool, true, false, List, [], ◌∷◌, ◌++◌, length, Option, Some, None}
+-- Where a cursor begins, and making room by evicting the oldest products that nobody holds, for a product or a reservation.
+use Rattle.std.specs.Prelude.{◌≡◌, ℕ, ◌+◌, ◌<◌, ◌≤◌, true, List, [], ◌∷◌, ◌++◌, length, set, is_some, Option, Some, None}
 use Rattle.std.specs.List.{find}
-use Rattle.std.specs.Option.{MatchOption, option_map}
+use Rattle.std.specs.Option.{option_map}
 use borrow.Rule.Slice.PartMut.{put_mid}
 use Rattle.ldm_types.specs.Info.{Metadata}
 use Rattle.ldm_model.specs.declared.event.Start.{Start}
 use Rattle.ldm_model.specs.declared.event.Start.TheVariants.{Oldest, Next, After, AfterSignature}
 use Rattle.ldm_model.specs.Product.{extent_of}
-use Rattle.ldm_book.specs.View.{BookView, Kept, kept_of}
+use Rattle.ldm_xdr.specs.Spelling.{spelling}
+use Rattle.ldm_book.specs.View.{BookView, Kept, KeptReservation, kept_of}
 use Rattle.ldm_book.specs.Stored.{bytes_of}
 use Rattle.ldm_book.specs.Lookup.{kept_with}
-use Rattle.ldm_book.specs.Products.{room_for, is_later}
+use Rattle.ldm_book.specs.Products.{committed, room_for, is_later}
 use Rattle.ldm_book.specs.Readers.{products, unheld_numbers, without_oldest}
 
 -- the number of a kept product, or the end where there is none
@@ -51,20 +52,47 @@ grown book time info body place = record book {
   rows = book.rows ++ new_kept book time info place ∷ [];
 }
 
--- Whether there was room for a product, and what the book is then: where there was, it has the product where it goes.
-abbrev pub Puts : ℕ → Metadata → List ℕ → BookView → Bool → BookView → Type 0
-Puts time info body old result new =
-    MatchOption (room_for (products old) (extent_of info))
-    ((result ≡ false) × (new ≡ old))
-    (λ place. (result ≡ true) × (new ≡ grown old time info body place))
-
--- A product was put in: there was no room for it until so many products were evicted, the oldest first of those that
--- nobody holds, and then it went where there was room.
-pub record PutEvicting (evicted time : ℕ) (info : Metadata) (body : List ℕ) (old new : BookView) : Type 0 where
-  pub free : evicted ≤ length (unheld_numbers old)
-  pub needed : (i : ℕ) → i < evicted → room_for (products (without_oldest i old)) (extent_of info) ≡ None
+-- A product was put in where there was room.
+pub record Puts (time : ℕ) (info : Metadata) (body : List ℕ) (old new : BookView) : Type 0 where
   pub place : ℕ
-  pub room : room_for (products (without_oldest evicted old)) (extent_of info) ≡ Some place
+  pub room : room_for (products old) (extent_of info) ≡ Some place
   pub within : place + extent_of info ≤ old.arena
   pub sized : length old.bytes ≡ old.arena
-  pub new_is : new ≡ grown (without_oldest evicted old) time info body place
+  pub new_is : new ≡ grown old time info body place
+
+-- a reservation with no byte of the body yet
+abbrev pub new_reservation : ℕ → Metadata → ℕ → KeptReservation
+new_reservation actor info place = record { actor = actor; product = kept_of 0 0 place info; filled = 0 }
+
+-- a book with a reservation place changed
+abbrev pub reserving : BookView → ℕ → Option KeptReservation → BookView
+reserving book r place = record book { reservations = set book.reservations r place }
+
+-- a book with a region reserved at a place, where the metadata stand
+abbrev pub reserved_at : BookView → ℕ → ℕ → Metadata → ℕ → BookView
+reserved_at book actor r info place = record (reserving book r (Some (new_reservation actor info place))) { bytes = written book.bytes (spelling info) place }
+
+-- A region was reserved where there was room.
+pub record Reserves (actor r : ℕ) (info : Metadata) (old new : BookView) : Type 0 where
+  pub bound : r < length old.reservations
+  pub place : ℕ
+  pub room : room_for (products old) (extent_of info) ≡ Some place
+  pub within : place + extent_of info ≤ old.arena
+  pub sized : length old.bytes ≡ old.arena
+  pub new_is : new ≡ reserved_at old actor r info place
+
+-- So many products were evicted, the oldest first of those that nobody holds, and fewer would not have made room for so many
+-- bytes.
+pub record MakesRoom (evicted need : ℕ) (old new : BookView) : Type 0 where
+  pub free : evicted ≤ length (unheld_numbers old)
+  pub needed : (i : ℕ) → i < evicted → room_for (products (without_oldest i old)) need ≡ None
+  pub room : is_some (room_for (products new) need) ≡ true
+  pub new_is : new ≡ without_oldest evicted old
+
+-- a book whose reservation became a product
+abbrev pub with_committed : BookView → ℕ → ℕ → KeptReservation → BookView
+with_committed book r time v = record (reserving book r None) {
+  admitted = book.admitted + 1;
+  last = Some time;
+  rows = book.rows ++ committed book.admitted time v ∷ [];
+}

@@ -2,10 +2,11 @@
 use Rattle.std.specs.Prelude.{◌≡◌, ℕ, ◌+◌, ◌≤◌, Bool, true, false, not, ◌∷◌, [], List, length, map, filter, take, Option, Some, None}
 use Rattle.std.specs.List.{AllByRecursion, find, list_any}
 use Rattle.std.specs.Option.{IfSome}
+use Rattle.ldm_types.specs.Arena.{Region}
 use Rattle.ldm_types.specs.Cursors.{KeptCursor, Losses, Places}
 use Rattle.ldm_cursor.specs.Places.{is_held, with_loss}
 use Rattle.ldm_book.specs.View.{BookView, Kept}
-use Rattle.ldm_book.specs.Products.{ProductsView, at_number, has_number, is_other, kept_number}
+use Rattle.ldm_book.specs.Products.{ProductsView, at_number, has_number, is_other, kept_number, occupied_in, taken_in}
 
 -- whether a cursor holds a kept product
 abbrev pub is_kept_held : Places → Kept → Bool
@@ -34,11 +35,18 @@ AreAhead n cursors rows = AllByRecursion (λ (k : Kept). is_kept_held cursors k 
 
 -- the products of a book
 abbrev pub products : BookView → ProductsView
-products book = record { arena = book.arena; slots = book.slots; rows = book.rows }
+products book = record { arena = book.arena; slots = book.slots; rows = book.rows; reservations = book.reservations }
 
--- those that are held
+-- what occupies the arena of a book, and how many of its slots are taken
+abbrev pub occupied : BookView → List Region
+occupied book = occupied_in (products book)
+
+abbrev pub slots_taken : BookView → ℕ
+slots_taken book = taken_in (products book)
+
+-- those that are held, and the reservations
 abbrev pub held_products : BookView → ProductsView
-held_products book = record { arena = book.arena; slots = book.slots; rows = filter (is_kept_held book.cursors) book.rows }
+held_products book = record (products book) { rows = filter (is_kept_held book.cursors) book.rows }
 
 -- the feedtypes of a product, if there is one
 abbrev pub feed_of : Option Kept → ℕ

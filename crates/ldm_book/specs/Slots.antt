@@ -1,5 +1,5 @@
--- How the products of a queue are kept: in slots, which the indexes name.
-use Rattle.std.specs.Prelude.{◌≡◌, ◌≢◌, ◌⊎◌, ℕ, ◌+◌, ◌<◌, ◌≤◌, List, [], ◌∷◌, length, map, slice_index_or, Option, Some, None}
+-- How the products of a queue are kept: in slots, which the indexes and the reservation places name.
+use Rattle.std.specs.Prelude.{◌≡◌, ◌≢◌, ◌⊎◌, ℕ, ◌+◌, ◌<◌, ◌≤◌, List, [], ◌∷◌, length, map, set, slice_index_or, Option, Some, None}
 use Rattle.std.specs.FinMap as fin
 use Rattle.std.specs.List.{AllByRecursion}
 use Rattle.std.specs.Option.{option_map}
@@ -11,8 +11,9 @@ use Rattle.ldm_sigindex.specs.Index.{Table, IsOneToOne}
 use Rattle.ldm_timeindex.specs.Times.{Queued, IsRising}
 use Rattle.ldm_book.specs.declared.row.Row.{Row}
 use Rattle.ldm_book.specs.declared.products.Products.TheInside.{Inside}
-use Rattle.ldm_book.specs.View.{Kept}
-use Rattle.ldm_book.specs.Products.{ProductsView, kept_region}
+use Rattle.ldm_book.specs.View.{Kept, open_kept}
+use Rattle.ldm_book.specs.Products.{ProductsView, kept_region, occupied_by}
+use Rattle.ldm_book.specs.Reserved.{KeptPlaces, reservations_of}
 use Rattle.ldm_book.specs.RowKept.{kept_row}
 
 -- the product of each slot that has one
@@ -58,6 +59,7 @@ products_of p = record {
   arena = p.regions.arena;
   slots = p.regions.slots;
   rows = kept_entries (slots_of p) p.by_number.entries;
+  reservations = reservations_of p.reserved;
 }
 
 -- the slot of an entry has a product, with the number and the time of the entry
@@ -74,6 +76,19 @@ abbrev pub AreFree : Slots → List ℕ → Type 0
 AreFree slots [] = Unit {0}
 AreFree slots (k ∷ ks) = (k < length slots) × (row_at slots k ≡ None) × AllByRecursion (λ other. other ≢ k) ks × AreFree slots ks
 
+-- the product of each slot that is taken: a queued one, or one that a region is reserved for
+abbrev pub taken_from : Slots → KeptPlaces → Slots
+taken_from slots [] = slots
+taken_from slots (None ∷ places) = taken_from slots places
+taken_from slots (Some place ∷ places) = set (taken_from slots places) place.slot (Some place.product)
+
+-- each open reservation has a slot of its own, and a product that has neither number nor time yet
+abbrev pub HaveOwn : Slots → KeptPlaces → Type 0
+HaveOwn slots [] = Unit {0}
+HaveOwn slots (None ∷ places) = HaveOwn slots places
+HaveOwn slots (Some place ∷ places) =
+    (place.slot < length slots) × (row_at (taken_from slots places) place.slot ≡ None) × (place.product.number ≡ 0) × (place.product.time ≡ 0) × HaveOwn slots places
+
 -- what is always true of the indexes, where the slots have these products
 pub record AreIndexed (slots : Slots) (p : Inside) : Type 0 where
   -- one number of slots for all
@@ -87,15 +102,16 @@ pub record AreIndexed (slots : Slots) (p : Inside) : Type 0 where
   -- the index by signature has the signatures of the slots
   pub signatures : p.by_signature ≡ map signature_of slots
   pub one_to_one : IsOneToOne p.by_signature
-  -- a slot owns the region of its product
-  pub owned : (k : ℕ) → fin.get p.regions.owned k ≡ option_map kept_region (row_at slots k)
+  -- a slot owns the region of its product, and that of an open reservation the region that is reserved
+  pub own : HaveOwn slots p.reserved
+  pub owned : (k : ℕ) → fin.get p.regions.owned k ≡ option_map kept_region (row_at (taken_from slots p.reserved) k)
   pub tiles : Tiles p.regions
-  -- all slots without a product are in the list of the free ones
-  pub free : AreFree slots p.free.items
-  pub count : length p.free.items + length p.by_number.entries ≡ p.regions.slots
+  -- all slots that are not taken are in the list of the free ones
+  pub free : AreFree (taken_from slots p.reserved) p.free.items
+  pub count : length p.free.items + length p.by_number.entries + length (open_kept (reservations_of p.reserved)) ≡ p.regions.slots
   -- so that a push takes no memory
   pub roomy : p.regions.slots ≤ vec_capacity p.free
-  pub used : p.used ≡ extents (map kept_region (kept_entries slots p.by_number.entries))
+  pub used : p.used ≡ extents (occupied_by (kept_entries slots p.by_number.entries) (reservations_of p.reserved))
   pub few : p.regions.slots ≤ MOST_SLOTS
   pub small : p.regions.arena ≤ LARGEST_ARENA
 

@@ -5,9 +5,9 @@ use Rattle.std.specs.Vec.{vec_len}
 use Rattle.ldm_types.specs.declared.limits.TheConstants.{GREATEST_INSTANT, LARGEST_ARENA, MOST_SLOTS}
 use Rattle.ldm_book.specs.declared.book.Book.TheInside.{Inside}
 use Rattle.ldm_book.specs.View.{BookView, Kept}
-use Rattle.ldm_book.specs.Products.{AreRising, LieApart}
+use Rattle.ldm_book.specs.Products.{AreRising, LieApart, occupied_in}
 use Rattle.ldm_book.specs.Readers.{AreReading}
-use Rattle.ldm_book.specs.Stored.{HaveMetadata}
+use Rattle.ldm_book.specs.Stored.{AreReserved, HaveMetadata}
 
 abbrev pub view_of : Inside → BookView
 view_of b = record {
@@ -18,6 +18,7 @@ view_of b = record {
   last = b.last;
   rows = b.products.rows;
   cursors = b.cursors;
+  reservations = b.products.reservations;
 }
 
 -- no product was admitted after the last insertion time, and times rise by one at least
@@ -29,7 +30,7 @@ pub record IsSound (b : Inside) : Type 0 where
   pub arena : vec_len b.arena ≡ b.products.arena
   pub timed : IsTimed b.last b.admitted b.products.rows
   pub rising : AreRising b.products.rows
-  pub apart : LieApart b.products.arena b.products.rows
+  pub apart : LieApart b.products.arena (occupied_in b.products)
   pub arena_small : vec_len b.arena ≤ LARGEST_ARENA
   pub slots_small : b.products.slots ≤ MOST_SLOTS
   pub some_slot : 0 < b.products.slots
@@ -39,3 +40,4 @@ pub record IsSound (b : Inside) : Type 0 where
   pub readers : AreReading b.admitted b.products.rows b.cursors
   -- so that metadata can be read back from the arena
   pub stored : HaveMetadata b.arena.items b.products.rows
+  pub reserved : AreReserved b.arena.items b.products.reservations

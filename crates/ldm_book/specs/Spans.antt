@@ -1,10 +1,10 @@
--- The parts of the arena that are held, and whether there is room beside them.
-use Rattle.std.specs.Prelude.{ℕ, ◌+◌, Bool, ◌&&◌, ◌||◌, nat_le, List, Option, Some, None}
+-- The parts of the arena that are held or reserved, and whether there is room beside them.
+use Rattle.std.specs.Prelude.{ℕ, ◌+◌, Bool, ◌&&◌, ◌||◌, nat_le, List, ◌++◌, map, Option, Some, None}
 use Rattle.std.specs.List.{find, list_any, list_all}
-use Rattle.ldm_types.specs.Cursors.{KeptCursor}
+use Rattle.ldm_types.specs.Cursors.{KeptCursor, Places}
 use Rattle.ldm_cursor.specs.Places.{held_of}
 use Rattle.ldm_book.specs.declared.spans.Span.{Span}
-use Rattle.ldm_book.specs.View.{Kept}
+use Rattle.ldm_book.specs.View.{Kept, KeptReservation, Reservations}
 use Rattle.ldm_book.specs.Products.{at_number, kept_extent}
 
 -- where a kept product lies; without one nowhere, at the front of the arena
@@ -20,6 +20,15 @@ span_at rows (Some n) = span_of (find (at_number n) rows)
 -- where the product lies that the cursor of a place holds
 abbrev pub held_span : List Kept → Option KeptCursor → Span
 held_span rows place = span_at rows (held_of place)
+
+-- where the region of a reservation place lies
+abbrev pub reserved_span : Option KeptReservation → Span
+reserved_span None = span_of None
+reserved_span (Some v) = span_of (Some v.product)
+
+-- the spans of the cursor places, and then those of the reservation places
+abbrev pub held_spans : List Kept → Places → Reservations → List Span
+held_spans rows cursors reservations = map (held_span rows) cursors ++ map reserved_span reservations
 
 -- whether so many bytes from a position on lie beside a span
 abbrev pub is_beside : ℕ → ℕ → Span → Bool

@@ -2,10 +2,10 @@
 use Rattle.std.specs.Prelude.{◌≡◌, ℕ, ◌+◌, List, [], ◌∷◌, length, map, Option, Some, None}
 use Rattle.std.specs.Option.{option_map}
 use Rattle.ldm_types.specs.Cursors.{Losses, KeptCursor}
-use Rattle.ldm_model.specs.State.{State, Cursor, end_of, last_time, queued}
+use Rattle.ldm_model.specs.State.{State, Cursor, end_of, last_time, queued, reserved}
 use Rattle.ldm_model.specs.Step.{least_of, greatest_of}
-use Rattle.ldm_book.specs.View.{BookView, kept}
-use Rattle.ldm_book.specs.Stored.{AreStored}
+use Rattle.ldm_book.specs.View.{BookView, kept, kept_reservation}
+use Rattle.ldm_book.specs.Stored.{AreStored, AreFilled}
 
 -- what is kept of losses: their number, and the least and the greatest of them
 abbrev pub losses_of : List ℕ → Option Losses
@@ -41,3 +41,7 @@ pub record StandsFor (book : BookView) (s : State) : Type 0 where
   pub stored : AreStored book.bytes (queued s)
   -- the kept cursors are the cursors, place by place
   pub cursors : book.cursors ≡ map kept_place s.cursors
+  -- and so are the kept reservations
+  pub reservations : book.reservations ≡ map (option_map kept_reservation) s.reservations
+  -- whose metadata the arena has, and then the bytes that were filled in
+  pub filled : AreFilled book.bytes (reserved s)

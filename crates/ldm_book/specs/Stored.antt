@@ -1,11 +1,11 @@
 -- What stands in the arena: the metadata of a product as they are spelled, and its body behind them.
-use Rattle.std.specs.Prelude.{◌≡◌, ℕ, ◌+◌, List, ◌++◌}
+use Rattle.std.specs.Prelude.{◌≡◌, ℕ, ◌+◌, ◌≤◌, List, ◌++◌, length}
 use Rattle.std.specs.List.{AllByRecursion, between}
 use Rattle.ldm_types.specs.Info.{Metadata, metadata_len}
 use Rattle.ldm_xdr.specs.Spelling.{Fits, spelling}
 use Rattle.ldm_model.specs.Product.{Product}
-use Rattle.ldm_model.specs.State.{Queued}
-use Rattle.ldm_book.specs.View.{Kept, kept, kept_of, stored_bytes}
+use Rattle.ldm_model.specs.State.{Queued, Reservation}
+use Rattle.ldm_book.specs.View.{Kept, KeptReservation, Reservations, kept, kept_of, open_kept, stored_bytes}
 
 -- the bytes of a product
 abbrev pub bytes_of : Product → List ℕ
@@ -19,6 +19,15 @@ pub record IsStored (bytes : List ℕ) (q : Queued) : Type 0 where
 -- so it is for each of these rows
 abbrev pub AreStored : List ℕ → List Queued → Type 0
 AreStored bytes rows = AllByRecursion (IsStored bytes) rows
+
+-- The metadata of a reservation can be spelled, and from its place on the arena has them and then the bytes that were filled in.
+pub record IsFilled (bytes : List ℕ) (v : Reservation) : Type 0 where
+  pub fits : Fits v.info
+  pub stands : between v.place (v.place + metadata_len v.info + length v.filled) bytes ≡ spelling v.info ++ v.filled
+
+-- so it is for each of these reservations
+abbrev pub AreFilled : List ℕ → List Reservation → Type 0
+AreFilled bytes reservations = AllByRecursion (IsFilled bytes) reservations
 
 -- metadata that can be spelled stand at a place
 pub record StandsAt (bytes : List ℕ) (place : ℕ) (info : Metadata) : Type 0 where
@@ -34,3 +43,12 @@ pub record HasMetadata (bytes : List ℕ) (k : Kept) : Type 0 where
 -- so it is for each of these products
 abbrev pub HaveMetadata : List ℕ → List Kept → Type 0
 HaveMetadata bytes rows = AllByRecursion (HasMetadata bytes) rows
+
+-- metadata stand at the place of a reservation, and no more was filled in than its body has
+pub record IsReserved (bytes : List ℕ) (v : KeptReservation) : Type 0 where
+  pub metadata : HasMetadata bytes v.product
+  pub part : v.filled ≤ v.product.size
+
+-- so it is for each open one
+abbrev pub AreReserved : List ℕ → Reservations → Type 0
+AreReserved bytes reservations = AllByRecursion (IsReserved bytes) (open_kept reservations)

@@ -1,7 +1,8 @@
 //! The book: the queue of one thread.
-ghost use Rattle.std.specs.Prelude.{◌≡◌, ◌+◌, ◌<◌, ◌≤◌, ◌++◌, ◌∷◌, [], ℕ, None, Some, true, false, is_some, length, drop, map, IfOk, IfErr, IfSome, MatchOption};
+ghost use Rattle.std.specs.Prelude.{◌≡◌, ◌+◌, ◌<◌, ◌≤◌, ◌++◌, ◌∷◌, [], ℕ, None, Some, true, false, is_some, length, drop, set, slice_index_or, IfOk, IfErr, IfSome, IsSome, MatchOption};
 ghost use Rattle.std.specs.List.{All, list_any};
-ghost use Rattle.ldm_cursor.specs.Places.{cursor_at, is_held};
+ghost use Rattle.std.specs.Option.{option_map};
+ghost use Rattle.ldm_cursor.specs.Places.{count_held, cursor_at, is_held};
 ghost use Rattle.ldm_model.specs.Product.{extent_of};
 ghost use Rattle.ldm_model.specs.State.{State, empty};
 ghost use Rattle.ldm_model.specs.Insert.{insert as insert_of, is_last, time_after as time_of};
@@ -13,21 +14,28 @@ ghost use Rattle.ldm_model.specs.Step.{step as step_of};
 ghost use Rattle.ldm_model.specs.Read.{read as read_of};
 ghost use Rattle.ldm_model.specs.Release.{release as release_of, close as close_of};
 ghost use Rattle.ldm_model.specs.Tally.{tally as tally_of};
+ghost use Rattle.ldm_model.specs.Reserve.{reserve as reserve_of};
+ghost use Rattle.ldm_model.specs.Fill.{fill as fill_of, discard as discard_of};
+ghost use Rattle.ldm_model.specs.Commit.{commit as commit_of};
 ghost use Rattle.ldm_xdr.specs.Spelling.{Fits};
 ghost use Rattle.ldm_book.specs.Lookup.{kept_with};
-ghost use Rattle.ldm_book.specs.Products.{AreRising, LieApart, has_number, room_for};
-ghost use Rattle.ldm_book.specs.Spans.{held_span};
-ghost use Rattle.ldm_book.specs.Making.{IsTimely, Puts, PutEvicting, start_at};
+ghost use Rattle.ldm_book.specs.Products.{AreRising, LieApart, has_number, if_reserved_by, kept_extent, reservation_at, room_for};
+ghost use Rattle.ldm_book.specs.Spans.{held_span, held_spans, reserved_span, span_of};
+ghost use Rattle.ldm_book.specs.Making.{IsTimely, MakesRoom, Puts, Reserves, reserving, start_at, with_committed};
+ghost use Rattle.ldm_book.specs.Reserved.{kept_place, reservation_of};
+ghost use Rattle.ldm_book.specs.View.{KeptReservation, open_kept};
 
 use crate::fault::CreateFault;
 use crate::products::Products;
+use crate::reservations::Place;
 use crate::row::extent;
 use crate::spans::{Span, has_gap};
 use crate::stored::{metadata_at, write_product};
 use ldm_cursor::Cursors;
 use ldm_model::{
-    CloseReply, ExpireReply, InsertReply, LookReply, OpenReply, ReadReply, ReleaseReply, Start,
-    Stat, StepReply, TallyReply,
+    CloseReply, CommitReply, DiscardReply, ExpireReply, FillReply, InsertReply, LookReply,
+    OpenReply, ReadReply, ReleaseReply, ReserveNo, ReserveReply, Start, Stat, StepReply,
+    TallyReply,
 };
 use ldm_types::{
     ARENA_UNIT, Actor, CursorNo, Feed, Info, LARGEST_ARENA, MOST_SLOTS, Micros, SMALLEST_ARENA,
@@ -61,11 +69,13 @@ impl Model for Book {
 
 impl Book {
     ghost use Rattle.ldm_book.specs.Stands.{StandsFor};
-    ghost use Rattle.ldm_book.specs.Answers.{KeepsPlaces, Follows};
+    ghost use Rattle.ldm_book.specs.Answers.{KeepsPlaces, KeepsReserved, Follows};
     ghost use Rattle.ldm_model.specs.Answers.{IfRefused, IfNothing, IfNotOpened, IfNotStepped, IfNotReleased, IfNotClosed};
+    ghost use Rattle.ldm_model.specs.Answers.{IfNotReserved, IfNotFilled, IfNotEnded, IfEndedOnly, IfNotDiscarded};
+    ghost use Rattle.ldm_model.specs.Answers.{reserve_answer, fill_answer, commit_answer, discard_answer};
     ghost use Rattle.ldm_model.specs.Answers.{insert_answer, look_answer, expire_answer, stat_answer, open_answer, step_answer};
     ghost use Rattle.ldm_model.specs.Answers.{read_answer, release_answer, close_answer, tally_answer, asked_bytes, bytes_read};
-    ghost use Rattle.ldm_book.specs.Readers.{AreAhead, first_of, held_products, products, unheld_numbers, without_product};
+    ghost use Rattle.ldm_book.specs.Readers.{AreAhead, first_of, held_products, occupied, products, unheld_numbers, without_product};
     ghost use Rattle.ldm_book.specs.Limits.{IsGoodArena, IsGoodSlots, IsFaultOf};
 
     /// An empty queue with an arena of so many bytes and so many product slots. It takes all the memory that
@@ -117,7 +127,8 @@ impl Book {
         ensures answers { (s : State) → StandsFor self.old s → Follows (insert_answer result) self.new (insert_of s now (record { info = info.now; body = body.now })) }
         ensures refused { IfRefused result (self.new ≡ self.old) }
         ensures places { KeepsPlaces self.old self.new }
-        ensures apart { LieApart self.new.arena self.new.rows }
+        ensures reserved { KeepsReserved self.old self.new }
+        ensures apart { LieApart self.new.arena (occupied self.new) }
     {
         let _ = actor;
         let need = extent(info);
@@ -132,19 +143,12 @@ impl Book {
             return InsertReply::TimeEnd;
         };
         let n = self.admitted;
-        if self.put(time, info, body) {
-            return InsertReply::Admitted {
-                n,
-                time,
-                evicted: 0,
-            };
-        }
-        if !self.has_room_beside_held(need) {
+        let Some(evicted) = self.make_room(need) else {
             return InsertReply::Locked {
-                held: self.cursors.count_held(),
+                held: self.count_held(),
             };
-        }
-        let evicted = self.put_evicting(time, info, body);
+        };
+        self.put(time, info, body);
         InsertReply::Admitted { n, time, evicted }
     }
 
@@ -163,7 +167,8 @@ impl Book {
         ensures answers { (s : State) → StandsFor self.old s → Follows (expire_answer result) self.new (expire_of s) }
         ensures nothing { IfNothing result (self.new ≡ self.old) }
         ensures places { KeepsPlaces self.old self.new }
-        ensures apart { LieApart self.new.arena self.new.rows }
+        ensures reserved { KeepsReserved self.old self.new }
+        ensures apart { LieApart self.new.arena (occupied self.new) }
     {
         let _ = actor;
         match self.first_free(0) {
@@ -185,7 +190,7 @@ impl Book {
         Stat {
             admitted: self.admitted,
             queued: self.products.len(),
-            held: self.cursors.count_held(),
+            held: self.count_held(),
             used: self.products.used(),
             largest_free: self.products.largest_free(),
         }
@@ -319,6 +324,112 @@ impl Book {
         }
     }
 
+    /// Reserves a region for a product with these metadata, and writes them there: its body comes later, in pieces. The region
+    /// is held from then on, until the reservation is committed or discarded, and takes a slot.
+    ///
+    /// The cases are tested in this order: larger than the arena, a duplicate of a queued product, all 64 places taken, locked.
+    /// Else room is made and used as in [`Book::insert`], and the reservation has the least empty place. Two reservations may
+    /// have one signature.
+    pub fn reserve(&mut self, actor: Actor, info: &Info) -> ReserveReply
+        ensures answers { (s : State) → StandsFor self.old s → Follows (reserve_answer result) self.new (reserve_of s actor info.now) }
+        ensures refused { IfNotReserved result (self.new ≡ self.old) }
+        ensures places { KeepsPlaces self.old self.new }
+        ensures reserved { KeepsReserved self.old self.new }
+        ensures apart { LieApart self.new.arena (occupied self.new) }
+    {
+        let need = extent(info);
+        let arena = self.arena.len() as u64;
+        if need > arena {
+            return ReserveReply::TooBig { need, arena };
+        }
+        if let LookReply::Queued { n, .. } = self.products.look(&info.signature()) {
+            return ReserveReply::Duplicate { n };
+        }
+        let Some(r) = self.products.first_empty() else {
+            return ReserveReply::AllReserved;
+        };
+        let Some(evicted) = self.make_room(need) else {
+            return ReserveReply::Locked {
+                held: self.count_held(),
+            };
+        };
+        self.put_reserved(actor, r, info);
+        ReserveReply::Reserved { r, evicted }
+    }
+
+    /// Fills bytes of the body into a reserved region, behind those that were filled in before. More than are left are
+    /// refused, and none of them is written.
+    pub fn fill(&mut self, actor: Actor, r: ReserveNo, bytes: &[u8]) -> FillReply
+        ensures answers { (s : State) → StandsFor self.old s → Follows (fill_answer result) self.new (fill_of s actor r bytes.now) }
+        ensures refused { IfNotFilled result (self.new ≡ self.old) }
+        ensures products { self.new ≡ record self.old { bytes = self.new.bytes; reservations = self.new.reservations } }
+        ensures places { KeepsPlaces self.old self.new }
+        ensures reserved { KeepsReserved self.old self.new }
+        ensures apart { LieApart self.new.arena (occupied self.new) }
+    {
+        let Some(place) = self.reservation(actor, r) else {
+            return FillReply::NoReservation;
+        };
+        let left = place.row.size - place.filled;
+        if bytes.len() > left as usize {
+            return FillReply::Overfill { left };
+        }
+        let count = bytes.len() as u32;
+        let start = place.row.place as usize + place.row.head as usize + place.filled as usize;
+        self.arena[start..start + bytes.len()].copy_from_slice(bytes);
+        self.products.fill(r, count);
+        FillReply::Filled { left: left - count }
+    }
+
+    /// Makes a reservation whose body is whole a product of the queue, at the moment `now`. It lies where it was filled in: no
+    /// byte is copied.
+    ///
+    /// The cases are tested in this order: no reservation of the actor at the place, bytes left, a duplicate of a queued
+    /// product, no insertion time left. In the first two nothing changes, in the others the reservation ends. Number and
+    /// insertion time are those of an insertion at that moment.
+    pub fn commit(&mut self, actor: Actor, r: ReserveNo, now: Micros) -> CommitReply
+        ensures answers { (s : State) → StandsFor self.old s → Follows (commit_answer result) self.new (commit_of s actor r now) }
+        ensures refused { IfNotEnded result (self.new ≡ self.old) }
+        ensures ended { IfEndedOnly result (self.new ≡ record self.old { reservations = set self.old.reservations r None }) }
+        ensures places { KeepsPlaces self.old self.new }
+        ensures reserved { KeepsReserved self.old self.new }
+        ensures apart { LieApart self.new.arena (occupied self.new) }
+    {
+        let Some(place) = self.reservation(actor, r) else {
+            return CommitReply::NoReservation;
+        };
+        let left = place.row.size - place.filled;
+        if left > 0 {
+            return CommitReply::Unfilled { left };
+        }
+        if let LookReply::Queued { n, .. } = self.products.look(&place.row.signature) {
+            self.end(r);
+            return CommitReply::Duplicate { n };
+        }
+        let Some(time) = time_after(self.last, now) else {
+            self.end(r);
+            return CommitReply::TimeEnd;
+        };
+        let n = self.admitted;
+        self.admit(r, time);
+        CommitReply::Committed { n, time }
+    }
+
+    /// Gives a reservation up: its region and its slot are free from then on.
+    pub fn discard(&mut self, actor: Actor, r: ReserveNo) -> DiscardReply
+        ensures answers { (s : State) → StandsFor self.old s → Follows (discard_answer result) self.new (discard_of s actor r) }
+        ensures refused { IfNotDiscarded result (self.new ≡ self.old) }
+        ensures places { KeepsPlaces self.old self.new }
+        ensures reserved { KeepsReserved self.old self.new }
+        ensures apart { LieApart self.new.arena (occupied self.new) }
+    {
+        let Some(_) = self.reservation(actor, r) else {
+            return DiscardReply::NoReservation;
+        };
+        self.end(r);
+        DiscardReply::Discarded
+    }
+
     // The number that a cursor begins at. `None` exactly where the product that it is to begin behind is not queued.
     fn start_at(&self, start: Start) -> Option<u64>
         ensures at { result ≡ start_at self.now start }
@@ -349,7 +460,7 @@ impl Book {
         ensures ahead { IfSome result (λ n. AreAhead n self.now.cursors self.now.rows) }
         ensures above { IfSome result (λ n. from ≤ n) }
         ensures small { IfSome result (λ n. n ≤ Micros.MAX) }
-        ensures apart { LieApart self.now.arena self.now.rows }
+        ensures apart { LieApart self.now.arena (occupied self.now) }
         ensures rising { AreRising self.now.rows }
     {
         let mut at = from;
@@ -367,7 +478,7 @@ impl Book {
         requires queued { list_any (has_number n) self.old.rows ≡ true }
         requires free { is_held n self.old.cursors ≡ false }
         ensures evicted { self.new ≡ without_product n self.old }
-        ensures apart { LieApart self.new.arena self.new.rows }
+        ensures apart { LieApart self.new.arena (occupied self.new) }
     {
         let Some(row) = self.products.first_row(n) else {
             unreachable!()
@@ -398,15 +509,55 @@ impl Book {
         }
     }
 
-    // Where the held products lie, by the places of the cursors that hold them.
-    fn held_spans(&self) -> [Span; 64]
-        ensures { result ≡ map (held_span self.now.rows) self.now.cursors }
+    // Where the region of a reservation place lies.
+    fn reserved_span(&self, place: u32) -> Span
+        requires { place < ReserveNo.COUNT }
+        ensures span { result ≡ reserved_span (reservation_at self.now.reservations place) }
+        ensures many { length self.now.reservations ≡ ReserveNo.COUNT }
     {
-        let mut spans = [Span::NONE; 64];
-        for place in 0..CursorNo::COUNT {
-            spans[place as usize] = self.held_span(place);
+        let Some(r) = ReserveNo::new(place) else {
+            unreachable!()
+        };
+        match self.products.reservation(r) {
+            Some(held) => Span {
+                start: held.row.place,
+                back: held.row.place + held.row.extent(),
+            },
+            None => Span::NONE,
+        }
+    }
+
+    // The span of a cursor place, or behind these of a reservation place.
+    fn span_at(&self, place: u32) -> Span
+        requires place { place < CursorNo.COUNT + ReserveNo.COUNT }
+        requires many { CursorNo.COUNT ≤ place → length self.now.cursors ≡ CursorNo.COUNT }
+        ensures span { result ≡ slice_index_or (held_spans self.now.rows self.now.cursors self.now.reservations) place (span_of None) }
+        ensures cursors { length self.now.cursors ≡ CursorNo.COUNT }
+        ensures reservations { CursorNo.COUNT ≤ place → length self.now.reservations ≡ ReserveNo.COUNT }
+    {
+        if place < CursorNo::COUNT {
+            self.held_span(place)
+        } else {
+            self.reserved_span(place - CursorNo::COUNT)
+        }
+    }
+
+    // Where the held products and the reserved regions lie, by their places.
+    fn held_spans(&self) -> [Span; 128]
+        ensures { result ≡ held_spans self.now.rows self.now.cursors self.now.reservations }
+    {
+        let mut spans = [Span::NONE; 128];
+        for place in 0..CursorNo::COUNT + ReserveNo::COUNT {
+            spans[place as usize] = self.span_at(place);
         }
         spans
+    }
+
+    // How many regions are held: those of the products that cursors hold, each counted once, and the reserved ones.
+    fn count_held(&self) -> u64
+        ensures { result ≡ count_held self.now.cursors + length (open_kept self.now.reservations) }
+    {
+        self.cursors.count_held() + self.products.count_reserved()
     }
 
     // Whether there would be room for so many bytes, if all products were evicted that nobody holds.
@@ -415,56 +566,109 @@ impl Book {
         requires need { need ≤ self.now.arena }
         ensures { result ≡ is_some (room_for (held_products self.now) need) }
     {
-        self.cursors.count_held() < self.products.slots()
+        self.count_held() < self.products.slots()
             && has_gap(&self.held_spans(), need, self.arena.len() as u64)
     }
 
-    // Puts a product in, and its metadata and its body into the arena. Whether there was room.
-    fn put(&mut self, time: Micros, info: &Info, body: &[u8]) -> bool
+    // Evicts as many of the oldest products that nobody holds as it takes until there is room for so many bytes, and no more.
+    // `None` exactly where all of them would not make room; nothing changes then.
+    fn make_room(&mut self, need: u64) -> Option<u64>
+        requires some { 0 < need }
+        requires need { need ≤ self.old.arena }
+        ensures locked { result ≡ None → is_some (room_for (held_products self.old) need) ≡ false }
+        ensures made { MatchOption result (self.new ≡ self.old) (λ evicted. MakesRoom evicted need self.old self.new) }
+        ensures apart { LieApart self.new.arena (occupied self.new) }
+    {
+        if self.products.has_room(need) {
+            return Some(0);
+        }
+        if !self.has_room_beside_held(need) {
+            return None;
+        }
+        let mut evicted = 0;
+        let mut from = 0;
+        while let Some(n) = self.first_free(from) {
+            self.evict(n);
+            evicted += 1;
+            if self.products.has_room(need) {
+                return Some(evicted);
+            }
+            from = n + 1;
+        }
+        unreachable!()
+    }
+
+    // Puts a product in, and its metadata and its body into the arena.
+    fn put(&mut self, time: Micros, info: &Info, body: &[u8])
         requires size { length body.now ≡ info.now.size }
         requires absent { kept_with info.now.signature self.old.rows ≡ None }
         requires timely { IsTimely self.old.last time }
         requires instant { time ≤ Micros.MAX }
-        ensures put { Puts time info.now body.now self.old result self.new }
-        ensures within { IfSome (room_for (products self.old) (extent_of info.now)) (λ place. place + extent_of info.now ≤ self.old.arena) }
-        ensures fits { result ≡ true → Fits info.now }
-        ensures sized { length self.old.bytes ≡ self.old.arena }
-        ensures apart { LieApart self.new.arena self.new.rows }
+        requires room { is_some (room_for (products self.old) (extent_of info.now)) ≡ true }
+        ensures put { Puts time info.now body.now self.old self.new }
+        ensures fits { Fits info.now }
+        ensures apart { LieApart self.new.arena (occupied self.new) }
     {
         let Some(place) = self.products.put(info, self.admitted, time) else {
-            return false;
+            unreachable!()
         };
         let start = place as usize;
         let end = start + info_len(info) + body.len();
         write_product(&mut self.arena[start..end], info, body);
         self.admitted += 1;
         self.last = Some(time);
-        true
     }
 
-    // Puts a product in, after evicting as many of the oldest products that nobody holds as it needs and no more.
-    fn put_evicting(&mut self, time: Micros, info: &Info, body: &[u8]) -> u64
-        requires size { length body.now ≡ info.now.size }
-        requires absent { kept_with info.now.signature self.old.rows ≡ None }
+    // Reserves a region at an empty reservation place, and writes the metadata there.
+    fn put_reserved(&mut self, actor: Actor, r: ReserveNo, info: &Info)
+        requires empty { reservation_at self.old.reservations r ≡ None }
+        requires room { is_some (room_for (products self.old) (extent_of info.now)) ≡ true }
+        ensures put { Reserves actor r info.now self.old self.new }
+        ensures fits { Fits info.now }
+        ensures apart { LieApart self.new.arena (occupied self.new) }
+    {
+        let Some(place) = self.products.reserve(actor, r, info) else {
+            unreachable!()
+        };
+        let start = place as usize;
+        write_product(&mut self.arena[start..start + info_len(info)], info, &[]);
+    }
+
+    // The actor's reservation at a place, if it has one there.
+    fn reservation(&self, actor: Actor, r: ReserveNo) -> Option<Place>
+        ensures own { option_map (λ place. reservation_of (kept_place place)) result ≡ if_reserved_by actor (reservation_at self.now.reservations r) }
+        ensures part { IfSome result (λ place. (kept_place place).filled ≤ (kept_place place).product.size) }
+        ensures within { IfSome result (λ place. (kept_place place).product.place + kept_extent (kept_place place).product ≤ self.now.arena) }
+        ensures small { length self.now.bytes ≡ self.now.arena }
+        ensures apart { LieApart self.now.arena (occupied self.now) }
+    {
+        let place = self.products.reservation(r)?;
+        if place.actor != actor {
+            return None;
+        }
+        Some(place)
+    }
+
+    // Ends an open reservation, whose region and slot are free from then on.
+    fn end(&mut self, r: ReserveNo)
+        requires { IsSome (reservation_at self.old.reservations r) }
+        ensures ended { self.new ≡ reserving self.old r None }
+        ensures apart { LieApart self.new.arena (occupied self.new) }
+    {
+        self.products.discard(r);
+    }
+
+    // Makes a whole reservation a product.
+    fn admit(&mut self, r: ReserveNo, time: Micros)
+        requires some { (v : KeptReservation) × (reservation_at self.old.reservations r ≡ Some v) × (kept_with v.product.signature self.old.rows ≡ None) }
         requires timely { IsTimely self.old.last time }
         requires instant { time ≤ Micros.MAX }
-        requires full { room_for (products self.old) (extent_of info.now) ≡ None }
-        requires beside { is_some (room_for (held_products self.old) (extent_of info.now)) ≡ true }
-        ensures put { PutEvicting result time info.now body.now self.old self.new }
-        ensures fits { Fits info.now }
-        ensures apart { LieApart self.new.arena self.new.rows }
+        ensures committed { (v : KeptReservation) → reservation_at self.old.reservations r ≡ Some v → self.new ≡ with_committed self.old r time v }
+        ensures apart { LieApart self.new.arena (occupied self.new) }
     {
-        let mut evicted = 0;
-        let mut from = 0;
-        while let Some(n) = self.first_free(from) {
-            self.evict(n);
-            evicted += 1;
-            if self.put(time, info, body) {
-                return evicted;
-            }
-            from = n + 1;
-        }
-        unreachable!()
+        self.products.commit(r, self.admitted, time);
+        self.admitted += 1;
+        self.last = Some(time);
     }
 }
 

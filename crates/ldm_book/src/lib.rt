@@ -9,6 +9,7 @@ mod book;
 mod fault;
 mod laws;
 mod products;
+mod reservations;
 mod row;
 mod spans;
 mod stored;
@@ -17,6 +18,6 @@ pub use book::Book;
 pub use fault::CreateFault;
 pub use laws::{fifo, filled, runs_are_legal};
 pub use ldm_model::{
-    CloseReply, ExpireReply, InsertReply, LookReply, OpenReply, ReadReply, ReleaseReply, Stat,
-    StepReply, TallyReply,
+    CloseReply, CommitReply, DiscardReply, ExpireReply, FillReply, InsertReply, LookReply,
+    OpenReply, ReadReply, ReleaseReply, ReserveNo, ReserveReply, Stat, StepReply, TallyReply,
 };

@@ -1,5 +1,5 @@
-//! The products of a queue, each in a slot of its own.
-ghost use Rattle.std.specs.Prelude.{◌≡◌, ◌%◌, ◌+◌, ◌^◌, ◌<◌, ◌≤◌, ℕ, count_by, None, Some, [], length, map, IfOk, MatchOption};
+//! The products and the reservations of a queue, each in a slot of its own.
+ghost use Rattle.std.specs.Prelude.{◌≡◌, ◌%◌, ◌+◌, ◌^◌, ◌<◌, ◌≤◌, ℕ, count_by, None, Some, [], is_none, is_some, length, position, replicate, IfOk, IfSome, IsSome, MatchOption};
 ghost use Rattle.std.specs.List.{All, Any, find};
 ghost use Rattle.std.specs.Option.{option_map};
 ghost use Rattle.ldm_types.specs.Arena.{gaps, longest};
@@ -7,24 +7,28 @@ ghost use Rattle.ldm_model.specs.Product.{extent_of};
 ghost use Rattle.ldm_model.specs.Stat.{extents};
 ghost use Rattle.ldm_model.specs.Answers.{look_answer};
 ghost use Rattle.ldm_book.specs.Lookup.{kept_with, look_kept};
-ghost use Rattle.ldm_book.specs.Products.{kept_region, at_number, awaits, is_later, kept_number, AreRising, LieApart, room_for, with_row, without};
+ghost use Rattle.ldm_book.specs.Products.{at_number, awaits, committed, is_later, kept_number, AreRising, LieApart, occupied_in, reservation_at};
+ghost use Rattle.ldm_book.specs.Products.{room_for, with_more, with_reservation, with_row, without};
+ghost use Rattle.ldm_book.specs.Making.{new_reservation};
+ghost use Rattle.ldm_book.specs.Reserved.{kept_place, reservation_of};
 ghost use Rattle.ldm_book.specs.RowKept.{row_kept};
-ghost use Rattle.ldm_book.specs.View.{kept_of};
+ghost use Rattle.ldm_book.specs.View.{Kept, KeptReservation, kept_of, open_kept};
 
+use crate::reservations::{Place, Reservations};
 use crate::row::{Row, extent};
-use ldm_model::LookReply;
+use ldm_model::{LookReply, ReserveNo};
 use ldm_regions::Regions;
 use ldm_sigindex::SigIndex;
 use ldm_timeindex::TimeIndex;
 use ldm_types::{
-    ARENA_UNIT, Feed, Info, LARGEST_ARENA, MOST_SLOTS, Micros, OutOfMemory, SMALLEST_ARENA,
+    ARENA_UNIT, Actor, Feed, Info, LARGEST_ARENA, MOST_SLOTS, Micros, OutOfMemory, SMALLEST_ARENA,
     Signature,
 };
 use std::alloc::Global;
 use std::marker::Model;
 
-/// The products that are queued, in the order of their numbers. Each has a slot, and its region in the arena is
-/// owned by that slot.
+/// The products that are queued, in the order of their numbers, and the reservations. Each has a slot, and its region in the
+/// arena is owned by that slot.
 ///
 /// `create` takes all memory; the other calls take none, and do not walk over the slots.
 #[derive(Drop)]
@@ -36,8 +40,9 @@ pub(crate) struct Products {
     regions: Regions,
     by_signature: SigIndex,
     by_number: TimeIndex,
-    // The sum of the extents.
+    // The sum of the extents of both.
     used: u64,
+    reserved: Reservations,
 }
 
 impl Model for Products {
@@ -60,7 +65,7 @@ impl Products {
         requires least { SMALLEST_ARENA ≤ arena }
         requires greatest { arena ≤ LARGEST_ARENA }
         requires slots { slots ≤ MOST_SLOTS }
-        ensures { IfOk result (λ products. products ≡ record { arena = arena; slots = slots; rows = [] }) }
+        ensures { IfOk result (λ products. products ≡ record { arena = arena; slots = slots; rows = []; reservations = replicate ReserveNo.COUNT None }) }
     {
         let mut free = Vec::with_capacity(alloc, slots as usize)?;
         for behind in 0..slots {
@@ -73,29 +78,38 @@ impl Products {
             by_signature: SigIndex::create(alloc, slots)?,
             by_number: TimeIndex::create(alloc, slots)?,
             used: 0,
+            reserved: Reservations::create(alloc)?,
         })
     }
 
-    /// How many there are.
+    /// How many products there are.
     pub(crate) fn len(&self) -> u64
         ensures count { result ≡ length self.now.rows }
         ensures few { result ≤ MOST_SLOTS }
     {
-        (self.slots.len() - self.free.len()) as u64
+        (self.slots.len() - self.free.len()) as u64 - self.reserved.count()
     }
 
-    /// The sum of their extents, in bytes.
+    /// The sum of the extents of the products and of the open reservations, in bytes.
     pub(crate) fn used(&self) -> u64
-        ensures { result ≡ extents (map kept_region self.now.rows) }
+        ensures { result ≡ extents (occupied_in self.now) }
     {
         self.used
     }
 
     /// The extent of the longest gap between them, in bytes, 0 where there is none.
     pub(crate) fn largest_free(&self) -> u64
-        ensures { result ≡ longest (gaps (map kept_region self.now.rows) self.now.arena) }
+        ensures { result ≡ longest (gaps (occupied_in self.now) self.now.arena) }
     {
         self.regions.largest()
+    }
+
+    /// Whether a slot is free and a gap has so many bytes.
+    pub(crate) fn has_room(&self, need: u64) -> bool
+        requires { 0 < need }
+        ensures { result ≡ is_some (room_for self.now need) }
+    {
+        !self.free.is_empty() && need <= self.regions.largest()
     }
 
     /// The product of that signature, if there is one.
@@ -116,7 +130,7 @@ impl Products {
     pub(crate) fn first_at(&self, n: u64) -> Option<u64>
         ensures first { result ≡ option_map kept_number (find (at_number n) self.now.rows) }
         ensures rising { AreRising self.now.rows }
-        ensures apart { LieApart self.now.arena self.now.rows }
+        ensures apart { LieApart self.now.arena (occupied_in self.now) }
     {
         match self.by_number.first_at(n) {
             Some((found, _)) => Some(found),
@@ -190,7 +204,7 @@ impl Products {
         ensures place { result ≡ room_for self.old (extent_of info.now) }
         ensures within { MatchOption result (Unit {0}) (λ place. place + extent_of info.now ≤ self.old.arena) }
         ensures rows { MatchOption result (self.new ≡ self.old) (λ place. self.new ≡ with_row self.old (kept_of n time place info.now)) }
-        ensures apart { LieApart self.new.arena self.new.rows }
+        ensures apart { LieApart self.new.arena (occupied_in self.new) }
     {
         let slot = *self.free.last()?;
         let need = extent(info);
@@ -207,7 +221,7 @@ impl Products {
     pub(crate) fn take_out(&mut self, n: u64)
         requires { Any (λ k. k.number ≡ n) self.old.rows }
         ensures left { self.new ≡ without n self.old }
-        ensures apart { LieApart self.new.arena self.new.rows }
+        ensures apart { LieApart self.new.arena (occupied_in self.new) }
     {
         let Some((_, slot)) = self.by_number.first_at(n) else {
             unreachable!()
@@ -220,5 +234,105 @@ impl Products {
         let Ok(()) = self.free.push(slot) else {
             unreachable!()
         };
+    }
+
+    /// The least empty reservation place. `None` exactly where all are taken.
+    pub(crate) fn first_empty(&self) -> Option<ReserveNo>
+        ensures { result ≡ position is_none self.now.reservations }
+    {
+        self.reserved.first_empty()
+    }
+
+    /// How many reservations are open.
+    pub(crate) fn count_reserved(&self) -> u64
+        ensures count { result ≡ length (open_kept self.now.reservations) }
+        ensures few { result ≤ ReserveNo.COUNT }
+    {
+        self.reserved.count()
+    }
+
+    /// The reservation of a place, if it is open.
+    pub(crate) fn reservation(&self, r: ReserveNo) -> Option<Place>
+        ensures at { option_map (λ place. reservation_of (kept_place place)) result ≡ reservation_at self.now.reservations r }
+        ensures many { length self.now.reservations ≡ ReserveNo.COUNT }
+    {
+        self.reserved.at(r)
+    }
+
+    /// Reserves a region for a product with these metadata, at an empty reservation place: with a free slot, at the start of the
+    /// shortest gap that is long enough, the lowest where several are equally short. Answers where it begins. `None` exactly
+    /// where no slot is free or no gap is long enough.
+    pub(crate) fn reserve(&mut self, actor: Actor, r: ReserveNo, info: &Info) -> Option<u64>
+        requires { reservation_at self.old.reservations r ≡ None }
+        ensures place { result ≡ room_for self.old (extent_of info.now) }
+        ensures within { MatchOption result (Unit {0}) (λ place. place + extent_of info.now ≤ self.old.arena) }
+        ensures bound { MatchOption result (Unit {0}) (λ place. r < length self.old.reservations) }
+        ensures reserved { MatchOption result (self.new ≡ self.old) (λ place. self.new ≡ with_reservation self.old r (Some (new_reservation actor info.now place))) }
+        ensures apart { LieApart self.new.arena (occupied_in self.new) }
+    {
+        let slot = *self.free.last()?;
+        let need = extent(info);
+        let place = self.regions.take(need, slot)?;
+        let _slot = self.free.pop();
+        self.reserved.set(
+            r,
+            Some(Place {
+                actor,
+                slot,
+                filled: 0,
+                row: Row::reserved(place, info),
+            }),
+        );
+        self.used += need;
+        Some(place)
+    }
+
+    /// Counts so many bytes of a reservation's body as filled in.
+    pub(crate) fn fill(&mut self, r: ReserveNo, count: u32)
+        requires { (v : KeptReservation) × (reservation_at self.old.reservations r ≡ Some v) × (v.filled + count ≤ v.product.size) }
+        ensures { (v : KeptReservation) → reservation_at self.old.reservations r ≡ Some v → self.new ≡ with_reservation self.old r (Some (with_more count v)) }
+    {
+        let Some(mut place) = self.reserved.at(r) else {
+            unreachable!()
+        };
+        place.filled += count;
+        self.reserved.set(r, Some(place));
+    }
+
+    /// Makes a reservation the product of that number, inserted at that time. It keeps its slot and its region, and its place is
+    /// empty from then on.
+    pub(crate) fn commit(&mut self, r: ReserveNo, n: u64, time: Micros)
+        requires some { (v : KeptReservation) × (reservation_at self.old.reservations r ≡ Some v) × (kept_with v.product.signature self.old.rows ≡ None) }
+        requires later { All (λ k. (k.number < n) × (k.time < time)) self.old.rows }
+        ensures committed { (v : KeptReservation) → reservation_at self.old.reservations r ≡ Some v → self.new ≡ with_reservation (with_row self.old (committed n time v)) r None }
+        ensures apart { LieApart self.new.arena (occupied_in self.new) }
+    {
+        let Some(place) = self.reserved.at(r) else {
+            unreachable!()
+        };
+        let mut row = place.row;
+        row.n = n;
+        row.time = time;
+        self.by_signature.put(row.signature, place.slot);
+        self.by_number.push(n, time, place.slot);
+        self.slots[place.slot as usize] = row;
+        self.reserved.set(r, None);
+    }
+
+    /// Gives a reservation up. Its slot, its region and its place are free from then on.
+    pub(crate) fn discard(&mut self, r: ReserveNo)
+        requires { IsSome (reservation_at self.old.reservations r) }
+        ensures discarded { self.new ≡ with_reservation self.old r None }
+        ensures apart { LieApart self.new.arena (occupied_in self.new) }
+    {
+        let Some(place) = self.reserved.at(r) else {
+            unreachable!()
+        };
+        self.regions.give_back(place.slot);
+        self.used -= place.row.extent();
+        let Ok(()) = self.free.push(place.slot) else {
+            unreachable!()
+        };
+        self.reserved.set(r, None);
     }
 }

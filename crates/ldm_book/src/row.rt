@@ -56,6 +56,16 @@ impl Row {
         }
     }
 
+    /// The row of a product with these metadata that a region is reserved for. It has neither number nor time yet.
+    pub(crate) fn reserved(place: u64, info: &Info) -> Row
+        ensures { kept_row result ≡ kept_of 0 0 place info.now }
+    {
+        let Some(time) = Micros::new(0) else {
+            unreachable!()
+        };
+        Row::new(0, time, place, info)
+    }
+
     /// The bytes of the arena that the product takes.
     pub(crate) fn extent(&self) -> u64
         ensures { result ≡ kept_extent (kept_row self.now) }

@@ -3,11 +3,11 @@ use Rattle.std.specs.List.{list_any}
 use Rattle.std.specs.Prelude.{filter}
 use Rattle.ldm_types.specs.Cursors.{Places}
 use Rattle.ldm_cursor.specs.Places.{is_held}
-use Rattle.ldm_book.specs.View.{BookView, Kept}
+use Rattle.ldm_book.specs.View.{BookView, Kept, Reservations}
 use Rattle.ldm_book.specs.Products.{AreRising, ProductsView, has_number, is_other}
 use Rattle.ldm_book.specs.Readers.{AreReading}
 use Rattle.ldm_book.specs.Sound.{IsTimed}
-use Rattle.ldm_book.specs.Stored.{HasMetadata, HaveMetadata}
+use Rattle.ldm_book.specs.Stored.{AreReserved, HasMetadata, HaveMetadata}
 use Rattle.ldm_book.proofs.EveryLemmas.{every_filter}
 use Rattle.ldm_book.proofs.FreeLemmas.{rising_left}
 use Rattle.ldm_book.proofs.IsTimedLemmas.{timed_below, timed_filter}
@@ -39,6 +39,7 @@ invariant_of-self c =
           (subst (λ (cs : Places). AreReading inside.admitted (filter (is_other c.args.n) inside.products.rows) cs) (sym c.lose.ensures.lost)
           (reading-loss inside.admitted c.args.n c.in-Some.row.now.feed.0 inside.products.rows there inside.cursors free c.self.invariant.readers));
       stored = subst (λ (ks : List Kept). HaveMetadata inside.arena.items ks) (sym rows) (every_filter (HasMetadata inside.arena.items) (is_other c.args.n) inside.products.rows c.self.invariant.stored);
+      reserved = subst (λ (rs : Reservations). AreReserved inside.arena.items rs) (sym (ap (λ (p : ProductsView). p.reservations) c.take_out.ensures.left)) c.self.invariant.reserved;
     }
 
 pub take_out-requires : goal.take_out-requires

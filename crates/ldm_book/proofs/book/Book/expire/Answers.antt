@@ -7,6 +7,7 @@ use Rattle.ldm_book.specs.Products.{is_other}
 use Rattle.ldm_book.specs.Answers.{Follows}
 use Rattle.ldm_book.proofs.ExpireLemmas.{contains_filter, expired, nothing}
 use Rattle.ldm_book.proofs.FreeLemmas.{ahead_zero, first-there}
+use Rattle.ldm_book.proofs.InsertLemmas.{keeps-same}
 use Rattle.ldm_book.proofs.book.Book.expire.Goals as goal
 
 pub first_free-requires : goal.first_free-requires
@@ -28,6 +29,13 @@ returns-in-Some-clause-places c = λ k in_new below.
       queued = contains_filter (is_other c.in-Some.n) c.args.self.now.rows k (subst (λ (b : BookView). Contains b.rows k) c.evict.ensures.evicted in_new);
       bytes = ap (λ (b : BookView). stored_bytes b.bytes k) c.evict.ensures.evicted;
     }
+
+pub returns-in-Some-clause-reserved : goal.returns-in-Some-clause-reserved
+returns-in-Some-clause-reserved c =
+    keeps-same c.args.self.now _ (ap (λ (b : BookView). b.reservations) c.evict.ensures.evicted) (ap (λ (b : BookView). b.bytes) c.evict.ensures.evicted)
+
+pub returns-in-None-clause-reserved : goal.returns-in-None-clause-reserved
+returns-in-None-clause-reserved c = keeps-same c.args.self.now c.args.self.now refl refl
 
 pub returns-in-None-clause-places : goal.returns-in-None-clause-places
 returns-in-None-clause-places c = λ k in_new below. record { queued = in_new; bytes = refl }

@@ -1,8 +1,8 @@
 use Rattle.std.proofs.Common.{◌≡◌, ◌∙◌, ◌+◌, ◌<◌, ℕ, false, true, Some, sym, ap, subst, arith}
 use Rattle.ldm_cursor.specs.Places.{is_held}
 use Rattle.ldm_book.specs.View.{BookView, Kept}
-use Rattle.ldm_book.specs.Products.{LieApart, at_number}
-use Rattle.ldm_book.specs.Readers.{AreAhead, first_of, unheld_numbers}
+use Rattle.ldm_book.specs.Products.{LieApart, at_number, occupied_in}
+use Rattle.ldm_book.specs.Readers.{AreAhead, first_of, occupied, unheld_numbers}
 use Rattle.ldm_book.proofs.FreeLemmas.{number_found, no_number, first_found, ahead_found, ahead_more, none_found}
 use Rattle.ldm_book.proofs.IsTimedLemmas.{timed_below}
 use Rattle.ldm_book.proofs.MeetingLemmas.{at_least, found_all}
@@ -69,7 +69,7 @@ returns-then-not-holds-clause-small c =
     omega (arith, below, found.2, c.self.invariant.admitted_small)
 
 pub returns-then-not-holds-clause-apart : goal.returns-then-not-holds-clause-apart
-returns-then-not-holds-clause-apart c = subst (λ (b : BookView). LieApart b.arena b.rows) c.self.view_is (subst (λ (a : ℕ). LieApart a c.self.inside.products.rows) (sym c.self.invariant.arena) c.self.invariant.apart)
+returns-then-not-holds-clause-apart c = subst (λ (b : BookView). LieApart b.arena (occupied b)) c.self.view_is (subst (λ (a : ℕ). LieApart a (occupied_in c.self.inside.products)) (sym c.self.invariant.arena) c.self.invariant.apart)
 
 pub returns-clause-apart : goal.returns-clause-apart
-returns-clause-apart c = subst (λ (b : BookView). LieApart b.arena b.rows) c.self.view_is (subst (λ (a : ℕ). LieApart a c.self.inside.products.rows) (sym c.self.invariant.arena) c.self.invariant.apart)
+returns-clause-apart c = subst (λ (b : BookView). LieApart b.arena (occupied b)) c.self.view_is (subst (λ (a : ℕ). LieApart a (occupied_in c.self.inside.products)) (sym c.self.invariant.arena) c.self.invariant.apart)

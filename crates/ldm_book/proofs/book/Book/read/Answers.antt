@@ -44,25 +44,25 @@ unreachable-requires c =
 pub overflow_add-front : goal.overflow_add-front
 overflow_add-front c =
     let row = row_kept c.in-Some-first_row.row in
-    let lie = lie_found c.self.inside.products.arena (at_number c.in-Some.n) c.self.inside.products.rows row c.self.invariant.apart (sym c.in-Some-first_row.ensures.first) in
+    let lie = lie_found c.self.inside.products.arena (at_number c.in-Some.n) c.self.inside.products.rows c.self.inside.products.reservations row c.self.invariant.apart (sym c.in-Some-first_row.ensures.first) in
     omega (arith, lie, c.self.invariant.arena, c.self.invariant.arena_small)
 
 pub overflow_add-front-2 : goal.overflow_add-front-2
 overflow_add-front-2 c =
     let row = row_kept c.in-Some-first_row.row in
-    let lie = lie_found c.self.inside.products.arena (at_number c.in-Some.n) c.self.inside.products.rows row c.self.invariant.apart (sym c.in-Some-first_row.ensures.first) in
+    let lie = lie_found c.self.inside.products.arena (at_number c.in-Some.n) c.self.inside.products.rows c.self.inside.products.reservations row c.self.invariant.apart (sym c.in-Some-first_row.ensures.first) in
     omega (arith, lie, c.self.invariant.arena, c.self.invariant.arena_small)
 
 pub overflow_add-front-3 : goal.overflow_add-front-3
 overflow_add-front-3 c =
     let row = row_kept c.in-Some-first_row.row in
-    let lie = lie_found c.self.inside.products.arena (at_number c.in-Some.n) c.self.inside.products.rows row c.self.invariant.apart (sym c.in-Some-first_row.ensures.first) in
+    let lie = lie_found c.self.inside.products.arena (at_number c.in-Some.n) c.self.inside.products.rows c.self.inside.products.reservations row c.self.invariant.apart (sym c.in-Some-first_row.ensures.first) in
     omega (arith, lie, c.min-len.ensures, c.self.invariant.arena, c.self.invariant.arena_small)
 
 pub slice_bounds-copy_from_slice-end-3 : goal.slice_bounds-copy_from_slice-end-3
 slice_bounds-copy_from_slice-end-3 c =
     let row = row_kept c.in-Some-first_row.row in
-    let lie = lie_found c.self.inside.products.arena (at_number c.in-Some.n) c.self.inside.products.rows row c.self.invariant.apart (sym c.in-Some-first_row.ensures.first) in
+    let lie = lie_found c.self.inside.products.arena (at_number c.in-Some.n) c.self.inside.products.rows c.self.inside.products.reservations row c.self.invariant.apart (sym c.in-Some-first_row.ensures.first) in
     let bytes = c.self.inside.arena.ok.0 in
     omega (arith, lie, bytes, c.min-len.ensures, c.self.invariant.arena, c.deref.ensures.len)
 
@@ -85,7 +85,7 @@ returns-clause-answers c = λ s stands.
     let some = at_cursor (λ (x : KeptCursor). Some c.in-Some.n ≡ x.held) (cursor_at inside.cursors c.args.k) (kept_cursor is.cursor) is.kept c.in-Some.ensures.value in
     let there = held_at_there inside.admitted inside.products.rows inside.cursors c.args.k c.in-Some.n (kept_cursor is.cursor) c.self.invariant.readers is.kept (sym some) in
     let row = row_kept c.in-Some-first_row.row in
-    let lie = lie_found inside.products.arena (at_number c.in-Some.n) inside.products.rows row c.self.invariant.apart (sym c.in-Some-first_row.ensures.first) in
+    let lie = lie_found inside.products.arena (at_number c.in-Some.n) inside.products.rows inside.products.reservations row c.self.invariant.apart (sym c.in-Some-first_row.ensures.first) in
     let bytes = inside.arena.ok.0 in
     let front = c.in-Some-first_row.row.now.place + c.in-Some-first_row.row.now.head + c.args.offset in
     let part = copied inside.arena.items c.args.into.now c.copy_from_slice.new.self row front c.args.offset c.min-len.result (asked_bytes (length c.args.into.now))

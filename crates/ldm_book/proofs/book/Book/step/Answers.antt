@@ -91,6 +91,7 @@ invariant_of-self-in-Some-first_meeting c =
       admitted_small = c.self.invariant.admitted_small;
       few = c.self.invariant.few;
       stored = c.self.invariant.stored;
+      reserved = c.self.invariant.reserved;
       readers = subst (λ (cs : Places). AreReading inside.admitted inside.products.rows cs) (sym held)
           (reading-hold inside.admitted inside.products.rows inside.cursors c.args.k row.number x.0 c.self.invariant.readers x.1 (omega (arith, above, position)) below there);
     }
@@ -98,7 +99,7 @@ invariant_of-self-in-Some-first_meeting c =
 pub metadata_at-requires-clause-within : goal.metadata_at-requires-clause-within
 metadata_at-requires-clause-within c =
     let inside = c.self.inside in
-    let lie = lie_found inside.products.arena (awaits c.position-position.result c.feed.result.0) inside.products.rows (row_kept c.in-Some-first_meeting.row) c.self.invariant.apart (sym c.in-Some-first_meeting.ensures) in
+    let lie = lie_found inside.products.arena (awaits c.position-position.result c.feed.result.0) inside.products.rows inside.products.reservations (row_kept c.in-Some-first_meeting.row) c.self.invariant.apart (sym c.in-Some-first_meeting.ensures) in
     omega (arith, lie, inside.arena.ok.0, c.self.invariant.arena, c.deref.ensures.len)
 
 pub metadata_at-requires-clause-some : goal.metadata_at-requires-clause-some

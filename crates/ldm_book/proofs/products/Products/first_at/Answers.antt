@@ -1,6 +1,6 @@
 use Rattle.std.proofs.Common.{ℕ, ap, subst, ◌∙◌}
 use Rattle.std.specs.Option.{option_map}
-use Rattle.ldm_book.specs.Products.{ProductsView, AreRising, LieApart, at_number, kept_number}
+use Rattle.ldm_book.specs.Products.{ProductsView, AreRising, LieApart, at_number, kept_number, occupied_in}
 use Rattle.std.specs.List.{find}
 use Rattle.ldm_book.specs.Slots.{slots_of}
 use Rattle.ldm_book.proofs.FindLemmas.{first_kept, rising_kept}
@@ -28,7 +28,7 @@ returns-in-None-clause-rising c =
     subst (λ (p : ProductsView). AreRising p.rows) c.self.view_is (rising_kept (slots_of c.self.inside) c.self.inside.by_number.entries c.self.invariant.rising)
 
 pub returns-in-Some-clause-apart : goal.returns-in-Some-clause-apart
-returns-in-Some-clause-apart c = subst (λ (p : ProductsView). LieApart p.arena p.rows) c.self.view_is (lie_apart c.self.inside c.self.invariant)
+returns-in-Some-clause-apart c = subst (λ (p : ProductsView). LieApart p.arena (occupied_in p)) c.self.view_is (lie_apart c.self.inside c.self.invariant)
 
 pub returns-in-None-clause-apart : goal.returns-in-None-clause-apart
-returns-in-None-clause-apart c = subst (λ (p : ProductsView). LieApart p.arena p.rows) c.self.view_is (lie_apart c.self.inside c.self.invariant)
+returns-in-None-clause-apart c = subst (λ (p : ProductsView). LieApart p.arena (occupied_in p)) c.self.view_is (lie_apart c.self.inside c.self.invariant)

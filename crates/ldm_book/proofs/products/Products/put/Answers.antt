@@ -1,4 +1,4 @@
-use Rattle.std.proofs.Common.{◌≡◌, ◌+◌, ◌-◌, ◌<◌, ℕ, List, length, map, set, take, slice_get, Some, sym, ap, subst, ◌∙◌, arith}
+use Rattle.std.proofs.Common.{◌≡◌, ◌+◌, ◌-◌, ◌<◌, ℕ, List, length, set, take, slice_get, Some, sym, ap, subst, ◌∙◌, arith}
 use Rattle.std.specs.FinMap as fin
 use Rattle.std.specs.List.{All, AllByRecursion}
 use Rattle.std.specs.Option.{option_map}
@@ -11,13 +11,17 @@ use Rattle.ldm_sigindex.specs.Index.{Table, slot_of}
 use Rattle.ldm_timeindex.specs.Times.{Queued}
 use Rattle.ldm_book.specs.Lookup.{kept_with}
 use Rattle.ldm_book.specs.View.{Kept, kept_of}
-use Rattle.ldm_book.specs.Products.{ProductsView, LieApart, kept_region, room_for, with_row}
-use Rattle.ldm_book.specs.Slots.{row_at, signature_of, slots_of, kept_entries, IsAt, HasSlot, AreFree, slots_from}
+use Rattle.ldm_book.specs.Products.{ProductsView, LieApart, kept_region, occupied_by, occupied_in, room_for, with_row}
+use Rattle.ldm_book.specs.Slots.{Slots, row_at, signature_of, slots_of, kept_entries, products_of, IsAt, HasSlot, AreFree, slots_from}
 use Rattle.ldm_book.proofs.SlotsLemmas.{slots-put, slotted_from}
 use Rattle.ldm_book.proofs.KeptEntryLemmas.{later_entries, absent_from_slots}
 use Rattle.ldm_book.proofs.KeptRegionLemmas.{place_for}
 use Rattle.ldm_book.proofs.AreFreeLemmas.{next_free, others_free, no_signature}
-use Rattle.ldm_book.proofs.PutLemmas.{rows-added, extents-added, entries-added, listed-added, owned-added, used-within, taken_within}
+use Rattle.ldm_book.proofs.PutLemmas.{rows-added, extents-added, entries-added, listed-added, used-within, taken_within}
+use Rattle.ldm_book.proofs.AllEntriesLemmas.{all_taken}
+use Rattle.ldm_book.proofs.RowAtLemmas.{owned-set}
+use Rattle.ldm_book.proofs.TakenLemmas.{avoid_free, free-kept, length-taken, own-set, taken-set}
+use Rattle.ldm_book.specs.Reserved.{reservations_of}
 use Rattle.ldm_book.proofs.LieApartLemmas.{lie_apart}
 use Rattle.ldm_book.proofs.products.Products.put.Goals as goal
 
@@ -26,15 +30,15 @@ take-requires-clause-owner c =
     let p = c.self.inside in
     let kept = c.self.invariant in
     let slot = c.in_ok-slot.field-0.now in
-    let next = next_free p kept c.deref.result.now slot c.in_ok-slot.ensures.value c.deref.ensures.value in
-    omega (arith, next.inside, kept.as_many)
+    let next = next_free (all_taken p) p.free.items kept.free c.deref.result.now slot c.in_ok-slot.ensures.value c.deref.ensures.value in
+    omega (arith, next.inside, length-taken (slots_of p) p.reserved, kept.as_many)
 
 pub take-requires-clause-none : goal.take-requires-clause-none
 take-requires-clause-none c =
     let p = c.self.inside in
     let kept = c.self.invariant in
     let slot = c.in_ok-slot.field-0.now in
-    let next = next_free p kept c.deref.result.now slot c.in_ok-slot.ensures.value c.deref.ensures.value in
+    let next = next_free (all_taken p) p.free.items kept.free c.deref.result.now slot c.in_ok-slot.ensures.value c.deref.ensures.value in
     kept.owned slot ∙ ap (option_map kept_region) next.none
 
 pub returns-in_err-place-clause-place : goal.returns-in_err-place-clause-place
@@ -42,7 +46,7 @@ returns-in_err-place-clause-place c =
     let p = c.self.inside in
     let kept = c.self.invariant in
     let slot = c.in_ok-slot.field-0.now in
-    let next = next_free p kept c.deref.result.now slot c.in_ok-slot.ensures.value c.deref.ensures.value in
+    let next = next_free (all_taken p) p.free.items kept.free c.deref.result.now slot c.in_ok-slot.ensures.value c.deref.ensures.value in
     c.from_residual-in_err-place.ensures ∙ c.in_err-place.ensures.place
     ∙ ap (λ need. fit need (occupied p.regions.owned) p.regions.arena) c.extent-need.ensures
     ∙ place_for p kept (extent_of c.args.info.now) next.some
@@ -61,8 +65,9 @@ put-requires-clause-free c =
     let p = c.self.inside in
     let kept = c.self.invariant in
     let slot = c.in_ok-slot.field-0.now in
-    let next = next_free p kept c.deref.result.now slot c.in_ok-slot.ensures.value c.deref.ensures.value in
-    ap (λ (table : Table). slice_get table slot) kept.signatures ∙ no_signature p slot next
+    let next = next_free (all_taken p) p.free.items kept.free c.deref.result.now slot c.in_ok-slot.ensures.value c.deref.ensures.value in
+    ap (λ (table : Table). slice_get table slot) kept.signatures
+    ∙ no_signature (slots_of p) slot (omega (arith, next.inside, length-taken (slots_of p) p.reserved)) (free-kept (slots_of p) p.reserved slot kept.own next.none)
 
 pub push-requires-clause-later : goal.push-requires-clause-later
 push-requires-clause-later c =
@@ -75,8 +80,8 @@ index_mut-requires c =
     let p = c.self.inside in
     let kept = c.self.invariant in
     let slot = c.in_ok-slot.field-0.now in
-    let next = next_free p kept c.deref.result.now slot c.in_ok-slot.ensures.value c.deref.ensures.value in
-    omega (arith, next.inside, kept.as_many, kept.rowed)
+    let next = next_free (all_taken p) p.free.items kept.free c.deref.result.now slot c.in_ok-slot.ensures.value c.deref.ensures.value in
+    omega (arith, next.inside, length-taken (slots_of p) p.reserved, kept.as_many, kept.rowed)
 
 pub overflow_add-self : goal.overflow_add-self
 overflow_add-self c =
@@ -94,10 +99,14 @@ invariant_of-self-2 c =
     let p = c.self.inside in
     let kept = c.self.invariant in
     let slot = c.in_ok-slot.field-0.now in
-    let next = next_free p kept c.deref.result.now slot c.in_ok-slot.ensures.value c.deref.ensures.value in
+    let next = next_free (all_taken p) p.free.items kept.free c.deref.result.now slot c.in_ok-slot.ensures.value c.deref.ensures.value in
     let row = kept_of c.args.n c.args.time c.in_ok-place.place c.args.info.now in
     let region : Region = record { start = c.in_ok-place.place; extent = c.extent-need.result } in
     let slots = set (slots_of p) slot (Some row) in
+    let inside : slot < length (slots_of p) = omega (arith, next.inside, length-taken (slots_of p) p.reserved) in
+    let none = free-kept (slots_of p) p.reserved slot kept.own next.none in
+    let avoid = avoid_free (slots_of p) p.reserved slot kept.own next.none in
+    let all = taken-set (slots_of p) p.reserved slot (Some row) avoid in
     let filled : slots_from (set p.slots.items slot c.new.result) c.put.new.self ≡ slots =
     (λ i. slots_from (set p.slots.items slot c.new.result) ((c.put.ensures.put ∙ ap (λ (s : List ℕ). set p.by_signature slot (Some s)) c.signature.ensures) i))
     ∙ slots-put p.slots.items p.by_signature slot c.new.result c.args.info.now.signature ∙ ap (λ (k : Kept). set (slots_of p) slot (Some k)) c.new.ensures in
@@ -117,16 +126,20 @@ invariant_of-self-2 c =
       rowed = length-set p.slots.items slot c.new.result ∙ kept.rowed ∙ sym same_slots;
       numbered = c.push.ensures.slots ∙ kept.numbered ∙ sym same_slots;
       rising = c.push.ensures.rising;
-      entries = subst (AllByRecursion (IsAt slots)) (sym entries) (entries-added p kept slot row next);
-      listed = subst (λ (entries : List Queued). (k : ℕ) (held : Kept) → row_at slots k ≡ Some held → HasSlot k entries) (sym entries) (listed-added p kept slot row next);
+      entries = subst (AllByRecursion (IsAt slots)) (sym entries) (entries-added p kept slot row inside none);
+      listed = subst (λ (entries : List Queued). (k : ℕ) (held : Kept) → row_at slots k ≡ Some held → HasSlot k entries) (sym entries) (listed-added p kept slot row inside none);
       signatures = c.put.ensures.put ∙ (λ i. set (kept.signatures i) slot (Some (c.signature.ensures i))) ∙ sym (map-set signature_of (slots_of p) slot (Some row));
       one_to_one = c.put.ensures.one_to_one;
-      owned = λ k. ap (λ (layout : Layout). fin.get layout.owned k) regions ∙ ap (λ region. fin.get (fin.insert p.regions.owned slot region) k) taken ∙ owned-added p kept slot row next k;
+      own = own-set (slots_of p) p.reserved slot (Some row) avoid kept.own;
+      owned = λ k.
+          ap (λ (layout : Layout). fin.get layout.owned k) regions ∙ ap (λ region. fin.get (fin.insert p.regions.owned slot region) k) taken
+          ∙ owned-set (all_taken p) slot row p.regions.owned next.inside kept.owned k ∙ ap (λ (s : Slots). option_map kept_region (row_at s k)) (sym all);
       tiles = c.in_ok-place.ensures.tiles;
-      free = subst (AreFree slots) (sym popped) (others_free p slot next row);
+      free = subst (λ (s : Slots). AreFree s c.pop-slot.new.self.items) (sym all) (subst (AreFree (set (all_taken p) slot (Some row))) (sym popped) (others_free (all_taken p) p.free.items slot next row));
       count = omega (arith, left, pushed, next.some, kept.count, same_slots);
       roomy = omega (arith, same_slots, kept.roomy, c.pop-slot.ensures.capacity);
-      used = (λ i. kept.used i + extent i) ∙ sym (extents-added p kept slot row next) ∙ ap (λ (entries : List Queued). extents (map kept_region (kept_entries slots entries))) (sym entries);
+      used = (λ i. kept.used i + extent i) ∙ sym (extents-added p kept slot row inside none (reservations_of p.reserved))
+          ∙ ap (λ (entries : List Queued). extents (occupied_by (kept_entries slots entries) (reservations_of p.reserved))) (sym entries);
       few = omega (arith, same_slots, kept.few);
       small = omega (arith, same_arena, kept.small);
     })
@@ -136,7 +149,7 @@ returns-clause-place c =
     let p = c.self.inside in
     let kept = c.self.invariant in
     let slot = c.in_ok-slot.field-0.now in
-    let next = next_free p kept c.deref.result.now slot c.in_ok-slot.ensures.value c.deref.ensures.value in
+    let next = next_free (all_taken p) p.free.items kept.free c.deref.result.now slot c.in_ok-slot.ensures.value c.deref.ensures.value in
     c.in_ok-place.ensures.place
     ∙ ap (λ need. fit need (occupied p.regions.owned) p.regions.arena) c.extent-need.ensures
     ∙ place_for p kept (extent_of c.args.info.now) next.some
@@ -156,23 +169,24 @@ returns-clause-rows c =
     let p = c.self.inside in
     let kept = c.self.invariant in
     let slot = c.in_ok-slot.field-0.now in
-    let next = next_free p kept c.deref.result.now slot c.in_ok-slot.ensures.value c.deref.ensures.value in
+    let next = next_free (all_taken p) p.free.items kept.free c.deref.result.now slot c.in_ok-slot.ensures.value c.deref.ensures.value in
     let row = kept_of c.args.n c.args.time c.in_ok-place.place c.args.info.now in
     let after = c.in_ok-place.ensures.owned in
     let filled : slots_from (set p.slots.items slot c.new.result) c.put.new.self ≡ set (slots_of p) slot (Some row) =
     (λ i. slots_from (set p.slots.items slot c.new.result) ((c.put.ensures.put ∙ ap (λ (s : List ℕ). set p.by_signature slot (Some s)) c.signature.ensures) i))
     ∙ slots-put p.slots.items p.by_signature slot c.new.result c.args.info.now.signature ∙ ap (λ (k : Kept). set (slots_of p) slot (Some k)) c.new.ensures in
-    let rows = (λ i. kept_entries (filled i) (c.push.ensures.entries i)) ∙ rows-added p kept slot row next in
-    (λ i. record { arena = (after i).arena; slots = (after i).slots; rows = rows i })
+    let inside : slot < length (slots_of p) = omega (arith, next.inside, length-taken (slots_of p) p.reserved) in
+    let rows = (λ i. kept_entries (filled i) (c.push.ensures.entries i)) ∙ rows-added p kept slot row inside (free-kept (slots_of p) p.reserved slot kept.own next.none) in
+    (λ i. record { arena = (after i).arena; slots = (after i).slots; rows = rows i; reservations = reservations_of p.reserved })
     ∙ ap (λ (view : ProductsView). with_row view row) c.self.view_is
 
 pub returns-in_err-slot-clause-apart : goal.returns-in_err-slot-clause-apart
-returns-in_err-slot-clause-apart c = subst (λ (p : ProductsView). LieApart p.arena p.rows) c.self.view_is (lie_apart c.self.inside c.self.invariant)
+returns-in_err-slot-clause-apart c = subst (λ (p : ProductsView). LieApart p.arena (occupied_in p)) c.self.view_is (lie_apart c.self.inside c.self.invariant)
 
 pub returns-in_err-place-clause-apart : goal.returns-in_err-place-clause-apart
 returns-in_err-place-clause-apart c =
     let p = c.self.inside in
-    subst (λ (layout : Layout). LieApart layout.arena (kept_entries (slots_of p) p.by_number.entries)) (sym c.in_err-place.ensures.owned) (lie_apart p c.self.invariant)
+    subst (λ (layout : Layout). LieApart layout.arena (occupied_in (products_of p))) (sym c.in_err-place.ensures.owned) (lie_apart p c.self.invariant)
 
 pub returns-clause-apart : goal.returns-clause-apart
 returns-clause-apart c = lie_apart _ (invariant_of-self-2 c)

@@ -1,10 +1,13 @@
-use Rattle.std.proofs.Common.{◌≡◌, ◌-◌, None, is_some, set, refl, ap, subst, ◌∙◌, arith}
+use Rattle.std.proofs.Common.{◌≡◌, ◌-◌, None, is_some, map, set, refl, ap, subst, ◌∙◌, arith}
 use Rattle.std.specs.Option.{IfSome, option_map}
 use Rattle.ldm_sigindex.specs.Index.{slot_of}
 use Rattle.ldm_book.specs.declared.products.Products.TheInside.{Inside}
-use Rattle.ldm_book.specs.View.{Kept}
-use Rattle.ldm_book.specs.Slots.{slots_from, slots_of}
-use Rattle.ldm_book.specs.Products.{kept_extent, kept_region, without}
+use Rattle.ldm_book.specs.View.{Kept, open_kept}
+use Rattle.ldm_book.specs.Slots.{kept_entries, slots_from, slots_of}
+use Rattle.ldm_book.specs.Products.{kept_extent, kept_region, reserved_region, without}
+use Rattle.ldm_book.specs.Reserved.{reservations_of}
+use Rattle.ldm_book.proofs.OpenPlacesLemmas.{extents-append}
+use Rattle.ldm_book.proofs.TakenLemmas.{taken-kept}
 use Rattle.ldm_book.specs.RowKept.{kept_row}
 use Rattle.ldm_book.proofs.RowAtLemmas.{filled_within}
 use Rattle.ldm_book.proofs.SlotsLemmas.{slots-read, slots-taken}
@@ -33,13 +36,17 @@ take_out-requires-2 c =
 pub give_back-requires : goal.give_back-requires
 give_back-requires c =
     let at = numbered c.args.n c.self.invariant c.self.view_is c.requires c.in-Some.ensures.first in
-    ap is_some (c.self.invariant.owned c.in-Some.slot ∙ ap (option_map kept_region) at.here)
+    let p = c.self.inside in
+    ap is_some (c.self.invariant.owned c.in-Some.slot ∙ ap (option_map kept_region) (taken-kept (slots_of p) p.reserved c.in-Some.slot at.row c.self.invariant.own at.here))
 
 pub overflow_sub-self : goal.overflow_sub-self
 overflow_sub-self c =
     let at = numbered c.args.n c.self.invariant c.self.view_is c.requires c.in-Some.ensures.first in
     let row = ap kept_row c.index-row.ensures ∙ slots-read c.self.inside.slots.items c.self.inside.by_signature c.in-Some.slot at.row c.index-row.result.now at.here in
-    omega (arith, ap (λ (k : Kept). kept_extent k) row, c.extent.ensures, extents_left at c.self.invariant.entries)
+    let p = c.self.inside in
+    let rows = map kept_region (kept_entries (slots_of p) p.by_number.entries) in
+    let parts = extents-append rows (map reserved_region (open_kept (reservations_of p.reserved))) in
+    omega (arith, ap (λ (k : Kept). kept_extent k) row, c.extent.ensures, extents_left at c.self.invariant.entries, parts, c.self.invariant.used)
 
 -- the products at the end
 abbrev after : goal.In-Ok → Inside
@@ -50,6 +57,7 @@ after c = record {
   by_signature = c.take_out-2.new.self;
   by_number = c.take_out.new.self;
   used = c.self.inside.used - c.extent.result;
+  reserved = c.self.inside.reserved;
 }
 
 -- the product that is taken out
@@ -77,7 +85,12 @@ left c =
       numbered = c.take_out.ensures.slots;
       entries = c.take_out.ensures.entries;
       rising = c.take_out.ensures.rising;
-      used = omega (arith, ap (λ (k : Kept). kept_extent k) row, c.extent.ensures, extents_left at c.self.invariant.entries);
+      used = (
+          let p = c.self.inside in
+          let rows = map kept_region (kept_entries (slots_of p) p.by_number.entries) in
+          let parts = extents-append rows (map reserved_region (open_kept (reservations_of p.reserved))) in
+          omega (arith, ap (λ (k : Kept). kept_extent k) row, c.extent.ensures, extents_left at c.self.invariant.entries, parts, c.self.invariant.used));
+      reserved = refl;
     }
 
 pub invariant_of-self : goal.invariant_of-self
