@@ -9,9 +9,10 @@ use crate::words::Word;
 /// What is done with a product.
 #[derive(Clone, Copy, Debug, PartialEq, Eq)]
 pub enum ActionKind {
-    /// The body is appended to a file.
+    /// The body is appended to a file, or takes the place of what the file has (`-overwrite`).
     File,
-    /// The body is appended to a file.
+    /// The same as [`ActionKind::File`]: LDM writes such a file through a buffer of the C library, and this project's files have
+    /// none.
     StdioFile,
     /// The body is written to the standard input of a program, which may go on for the next product.
     Pipe,
