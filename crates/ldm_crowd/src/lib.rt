@@ -16,6 +16,3 @@ mod run;
 pub use orders::{MOST_SCRIPT, Orders, OrdersFault};
 pub use outcome::{Crowd, CrowdEnd};
 pub use run::crowd;
-
-#[cfg(test)]
-mod tests;

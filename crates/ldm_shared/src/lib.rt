@@ -26,6 +26,3 @@ pub use pass::Pass;
 pub use shared::Shared;
 pub use steps::MOST_TURNS;
 pub use turn::Turn;
-
-#[cfg(test)]
-mod tests;

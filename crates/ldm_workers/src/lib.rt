@@ -10,6 +10,3 @@ mod worker;
 
 pub use run::{Left, run_workers};
 pub use work::Work;
-
-#[cfg(test)]
-mod tests;

@@ -5,9 +5,9 @@ mod answers;
 mod threads;
 mod worker;
 
-use super::*;
 use ldm_book::Book;
 use ldm_model::{InsertReply, LookReply, Stat};
+use ldm_shared::{CreateFault, Pass, Shared, Turn};
 use ldm_types::{Feed, Info, Micros, Signature};
 use std::process::Abort;
 use std::test::*;

@@ -1,7 +1,7 @@
 use Rattle.std.proofs.Common.{◌∙◌, ◌∷◌, ◌++◌, [], List, sym, ap, subst}
 use Rattle.ldm_shared.specs.Passes.{PassView, AreAllOf}
 use Rattle.ldm_shared.proofs.CallerLemmas.{two_are_all}
-use Rattle.ldm_shared.proofs.tests.end_of_two.Goals as goal
+use Rattle.test_threads.proofs.shared.end_of_two.Goals as goal
 
 pub finish-requires : goal.finish-requires
 finish-requires c =

@@ -2,11 +2,11 @@
 ghost use Rattle.std.specs.Prelude.{◌≡◌, ◌<◌, ◌≤◌};
 ghost use Rattle.ldm_shared.specs.Passes.{IsPassOf, IsSamePass};
 
-use crate::{Pass, Shared, Turn};
 use ldm_model::{
     CloseReply, ExpireReply, InsertReply, LookReply, OpenReply, ReadReply, ReleaseReply, Start,
     Stat, StepReply, TallyReply,
 };
+use ldm_shared::{Pass, Shared, Turn};
 use ldm_types::{CursorNo, Feed, Info, Micros, Signature};
 use std::alloc::{AllocError, Global};
 use std::process::Abort;

@@ -1,7 +1,7 @@
 use Rattle.std.proofs.Common.{get_or, subst}
 use Rattle.ldm_shared.specs.Passes.{PassView, IsSamePass}
 use Rattle.ldm_shared.proofs.CallerLemmas.{still_are_all}
-use Rattle.ldm_shared.proofs.tests.threads.call_in_threads.Goals as goal
+use Rattle.test_threads.proofs.shared.threads.call_in_threads.Goals as goal
 
 pub returns : goal.returns
 returns g c =

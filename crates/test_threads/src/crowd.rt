@@ -2,8 +2,8 @@ ghost use Rattle.std.specs.Prelude.{◌≡◌, ◌<◌, ◌≤◌, length};
 ghost use Rattle.std.specs.Vec.{vec_len};
 ghost use Rattle.ldm_outside.specs.declared.gate.Go.{Go};
 
-use super::*;
 use itoa::Buffer;
+use ldm_crowd::{Crowd, CrowdEnd, MOST_SCRIPT, Orders, OrdersFault, crowd};
 use ldm_model::Stat;
 use ldm_outside::{Gate, Go, MemGate, OpenGate};
 use ldm_shared::Shared;
@@ -126,32 +126,49 @@ fn a_gate_stops_its_worker(rt: HostRuntime) -> Result<(), Fail> {
     Ok(())
 }
 
-// How many lines each of two actors has.
-fn counts(alloc: Global, text: &[u8]) -> Result<(usize, usize), OrdersFault>
-    requires { length text.now ≤ 100 }
-{
-    let orders = Orders::read(alloc, text, 2)?;
-    let (Some(first), Some(second)) = (Actor::new(0), Actor::new(1)) else {
-        unreachable!()
-    };
-    Ok((orders.of_actor(first).len(), orders.of_actor(second).len()))
+// How many answers each of two actors gets.
+fn answered<H: Threads + Wait + Sync>(
+    rt: &H,
+    alloc: Global,
+    text: &[u8],
+) -> Result<(usize, usize), Fail> {
+    let crowd = played(rt, alloc, text, 2, vec![in alloc; OpenGate; 2]?)?;
+    let mut counts = (0, 0);
+    for (actor, answers) in crowd.answers.iter().enumerate() {
+        let lines = answers.iter().filter(|byte| **byte == b'\n').count();
+        if actor == 0 {
+            counts.0 = lines;
+        } else {
+            counts.1 = lines;
+        }
+    }
+    Ok(counts)
 }
 
 #[test]
-fn lines_are_dealt_out(rt: HostRuntime) {
-    let bad = |line, column| Err(OrdersFault::BadLine { line, column });
+fn lines_are_dealt_out(rt: HostRuntime) -> Result<(), Fail> {
     for (text, wanted) in [
-        (b"".as_slice(), Ok((0, 0))),
-        (b"\n# a\n\n#", Ok((0, 0))),
-        (b"1 stat\n0 expire\n1 look 0101", bad(3, 8)),
-        (b"1 stat\n0 expire\n1 stat", Ok((1, 2))),
-        (b"1 stat\n\n0 expire\n# 0 stat\n1 stat\n", Ok((1, 2))),
-        (b"0 stat\n2 stat\n", bad(2, 1)),
-        (b"0 stat\n#\n0 stat x\n2 stat\n", bad(3, 7)),
-        (b"0 sta", bad(1, 3)),
+        (b"".as_slice(), (0, 0)),
+        (b"\n# a\n\n#", (0, 0)),
+        (b"1 stat\n0 expire\n1 stat", (1, 2)),
+        (b"1 stat\n\n0 expire\n# 0 stat\n1 stat\n", (1, 2)),
+    ] {
+        assert!(rt; answered(&rt, rt.alloc(), text)? == wanted);
+    }
+    Ok(())
+}
+
+#[test]
+fn bad_lines_are_told(rt: HostRuntime) {
+    for (text, line, column) in [
+        (b"1 stat\n0 expire\n1 look 0101".as_slice(), 3, 8),
+        (b"0 stat\n2 stat\n", 2, 1),
+        (b"0 stat\n#\n0 stat x\n2 stat\n", 3, 7),
+        (b"0 sta", 1, 3),
     ] {
         if text.len() <= 100 {
-            assert!(rt; counts(rt.alloc(), text) == wanted);
+            let fault = Orders::read(rt.alloc(), text, 2).err();
+            assert!(rt; fault == Some(OrdersFault::BadLine { line, column }));
         }
     }
 }

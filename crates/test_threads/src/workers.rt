@@ -1,13 +1,13 @@
 ghost use Rattle.std.specs.Prelude.{◌≡◌};
 ghost use Rattle.ldm_shared.specs.Passes.{PassView};
 
-use super::*;
 use ldm_model::Stat;
 use ldm_shared::{Pass, Shared, Turn};
 use ldm_types::Actor;
+use ldm_workers::{Work, run_workers};
 use std::process::Abort;
 use std::sync::Wait;
-use std::test::Fail;
+use std::test::*;
 use std::vec::Vec;
 
 // Asks once how full the queue is, and notes which actor asked.

@@ -1,6 +1,6 @@
 use Rattle.std.proofs.Common.{◌∙◌, rules}
 use Rattle.ldm_shared.proofs.CallerLemmas.{made_are_all}
-use Rattle.ldm_shared.proofs.tests.threads.run.Goals as goal
+use Rattle.test_threads.proofs.shared.threads.run.Goals as goal
 
 pub call_in_threads-requires-after_bounds : goal.call_in_threads-requires-after_bounds
 call_in_threads-requires-after_bounds g c =

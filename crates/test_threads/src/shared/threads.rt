@@ -3,8 +3,8 @@ ghost use Rattle.std.specs.Prelude.{◌≡◌, ◌<◌, ◌≤◌};
 ghost use Rattle.ldm_shared.specs.Passes.{AreAllOf, IsPassOf, IsSamePass};
 
 use super::worker::{Told, Worker};
-use crate::{Pass, Shared};
 use ldm_model::Stat;
+use ldm_shared::{Pass, Shared};
 use ldm_types::Micros;
 use std::alloc::{AllocError, Global};
 use std::process::Abort;

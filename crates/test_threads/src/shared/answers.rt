@@ -3,8 +3,8 @@ ghost use Rattle.std.specs.Prelude.{◌≡◌};
 ghost use Rattle.ldm_shared.specs.Passes.{IsPassOf, IsSamePass};
 
 use super::product;
-use crate::{Pass, Shared, Turn};
 use ldm_model::{Start, StepReply};
+use ldm_shared::{Pass, Shared, Turn};
 use ldm_types::{CursorNo, Feed, Micros, Signature};
 use std::alloc::Global;
 use std::process::Abort;
