@@ -1,5 +1,5 @@
 -- What contracts see of a shared queue and of its passes, and how a pass grows.
-use Rattle.std.specs.Prelude.{◌≡◌, ℕ, ◌<◌, ◌≤◌, ◌^◌, ◌++◌, ◌⊎◌, List, [], ◌∷◌, length, map, Option, Some, None}
+use Rattle.std.specs.Prelude.{◌≡◌, ℕ, ◌<◌, ◌≤◌, ◌++◌, ◌⊎◌, List, [], ◌∷◌, length, map, Option, Some, None}
 use Rattle.std.specs.List.{All, Contains}
 use mathlib.Core.List.{IsPrefix}
 use Rattle.atomic_table.specs.Seated.{TableId}
@@ -8,6 +8,7 @@ use Rattle.ldm_model.specs.declared.event.Reply.{Reply}
 use Rattle.ldm_model.specs.declared.event.Entry.{Entry}
 use Rattle.ldm_model.specs.History.{IsLegal}
 use Rattle.ldm_shared.specs.Own.{AreBelow, Adds}
+use Rattle.ldm_shared.specs.declared.steps.TheConstants.{MOST_TURNS}
 
 -- Which queue it is, and how large: bytes of the arena, product slots, and passes.
 pub record SharedView : Type 0 where
@@ -48,7 +49,7 @@ new_pass shared actor = record {
 pub record HasSeen (pass : PassView) : Type 0 where
   pub legal : IsLegal pass.arena pass.slots pass.seen
   pub below : AreBelow pass.passes pass.seen
-  pub few : length pass.seen ≤ 2 ^ 62
+  pub few : length pass.seen ≤ MOST_TURNS
 
 -- the same pass, which may have seen more
 abbrev pub IsSamePass : PassView → PassView → Type 0
@@ -72,7 +73,7 @@ pub record Grows (old new : PassView) (event : Event) (reply : Reply) : Type 0 w
 
 -- A pass finds that the queue has had all its calls, and that it can have no more: no call was made with it.
 pub record FindsWorn (old new : PassView) (turns : ℕ) : Type 0 where
-  pub turns_are : turns ≡ 2 ^ 62
+  pub turns_are : turns ≡ MOST_TURNS
   pub makes : Makes old new []
   pub long : length new.seen ≡ turns
 

@@ -1,5 +1,5 @@
 -- What holds of the word, the slot and the views of a shared queue between any two steps on them.
-use Rattle.std.specs.Prelude.{◌≡◌, ℕ, ◌+◌, ◌*◌, ◌<◌, ◌≤◌, ◌==◌, ◌^◌, ◌⊎◌, true, false, List, [], ◌∷◌, length, Option, Some, sum_by, count_by}
+use Rattle.std.specs.Prelude.{◌≡◌, ℕ, ◌+◌, ◌*◌, ◌<◌, ◌≤◌, ◌==◌, ◌⊎◌, true, false, List, [], ◌∷◌, length, Option, Some, sum_by, count_by}
 use Rattle.std.specs.List.{AllByRecursion, range_with_len}
 use mathlib.Core.Option.{some}
 use mathlib.Core.List.{IsPrefix}
@@ -13,6 +13,7 @@ use Rattle.ldm_shared.specs.declared.sizes.Sizes.{Sizes}
 use Rattle.ldm_shared.specs.declared.view.View.{View}
 use Rattle.ldm_shared.specs.declared.view.Old.{Old}
 use Rattle.ldm_shared.specs.Own.{own, AreBelow}
+use Rattle.ldm_shared.specs.declared.steps.TheConstants.{MOST_TURNS}
 
 -- how often an actor stands in a list
 abbrev pub times : ℕ → List ℕ → ℕ
@@ -60,7 +61,7 @@ pub record IsOld (history : List Entry) (actors : List ℕ) (old : Old) : Type 0
 pub record HasTurn (history : List Entry) (v : View) : Type 0 where
   pub seen : v.seen ≡ history
   pub olds : v.olds ≡ []
-  pub one : (((actor : ℕ) × (v.actors ≡ actor ∷ [])) × (length history < 2 ^ 62)) ⊎ AnswersForAll v
+  pub one : (((actor : ℕ) × (v.actors ≡ actor ∷ [])) × (length history < MOST_TURNS)) ⊎ AnswersForAll v
 
 -- what a seat knows of the history
 pub record Knows (sizes : Sizes) (history : List Entry) (v : View) : Type 0 where
@@ -82,7 +83,7 @@ pub record IsKept (sizes : Sizes) (s : State (Option BookView) View) : Type 0 wh
   pub history : List Entry
   pub legal : IsLegal sizes.arena sizes.slots history
   pub below : AreBelow sizes.passes history
-  pub few : length history ≤ 2 ^ 62
+  pub few : length history ≤ MOST_TURNS
   -- The first word is twice its length, and one more while a seat has the turn. The second is 1 where a caller may sleep.
   pub may_sleep : ℕ
   pub word : s.words ≡ (2 * length history + turns s.views) ∷ may_sleep ∷ []

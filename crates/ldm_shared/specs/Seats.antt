@@ -1,5 +1,5 @@
 -- What a seat knows, and how that changes.
-use Rattle.std.specs.Prelude.{◌≡◌, ℕ, ◌<◌, ◌≤◌, ◌^◌, ◌++◌, true, false, List, [], ◌∷◌, length, Option, Some}
+use Rattle.std.specs.Prelude.{◌≡◌, ℕ, ◌<◌, ◌≤◌, ◌++◌, true, false, List, [], ◌∷◌, length, Option, Some}
 use Rattle.std.specs.List.{AllByRecursion}
 use mathlib.Core.List.{IsPrefix}
 use Rattle.atomic_table.specs.declared.shared.Seat.{Seat}
@@ -10,6 +10,7 @@ use Rattle.ldm_shared.specs.declared.view.View.{View}
 use Rattle.ldm_shared.specs.Own.{own, AreBelow}
 use Rattle.ldm_shared.specs.Passes.{SharedView, PassView}
 use Rattle.ldm_shared.specs.Rule.{AnswersFor}
+use Rattle.ldm_shared.specs.declared.steps.TheConstants.{MOST_TURNS}
 
 -- a seat of a queue, with neither the turn nor the slot
 pub record IsReady (shared : SharedView) (seat : Seat (Option BookView) View) : Type 0 where
@@ -30,13 +31,13 @@ pub record CanCall (shared : SharedView) (seat : Seat (Option BookView) View) : 
   pub book : BookView
   pub turn : HasTheTurn shared seat book
   pub stands : StandsFor book (after seat.me.0.arena seat.me.0.slots seat.me.0.seen)
-  pub few : length seat.me.0.seen < 2 ^ 62
+  pub few : length seat.me.0.seen < MOST_TURNS
 
 -- a seat that found that the queue had so many calls, which are all that it can have
 pub record IsWorn (shared : SharedView) (seat : Seat (Option BookView) View) (turns : ℕ) : Type 0 where
   pub ready : IsReady shared seat
-  pub turns_are : turns ≡ 2 ^ 62
-  pub long : length seat.me.0.seen ≡ 2 ^ 62
+  pub turns_are : turns ≡ MOST_TURNS
+  pub long : length seat.me.0.seen ≡ MOST_TURNS
 
 -- the same seat
 pub record IsSame (old new : Seat (Option BookView) View) : Type 0 where
@@ -57,7 +58,7 @@ pub record GoesOn (v w : View) : Type 0 where
 pub record IsHistory (w : View) : Type 0 where
   pub legal : IsLegal w.arena w.slots w.seen
   pub below : AreBelow w.passes w.seen
-  pub few : length w.seen ≤ 2 ^ 62
+  pub few : length w.seen ≤ MOST_TURNS
   pub actors : (actor : ℕ) → AnswersFor w actor → actor < w.passes
 
 -- what a seat knows that took in another one and looked

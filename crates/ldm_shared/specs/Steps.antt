@@ -1,5 +1,5 @@
 -- What each step on the word of a shared queue tells the seat that makes it.
-use Rattle.std.specs.Prelude.{◌≡◌, ℕ, ◌+◌, ◌*◌, ◌<◌, ◌≤◌, ◌==◌, ◌^◌, ◌⊎◌, ◌++◌, true, false, List, [], ◌∷◌, length, Option, Some, MatchBool}
+use Rattle.std.specs.Prelude.{◌≡◌, ℕ, ◌+◌, ◌*◌, ◌<◌, ◌≤◌, ◌==◌, ◌⊎◌, ◌++◌, true, false, List, [], ◌∷◌, length, Option, Some, MatchBool}
 use Rattle.std.specs.List.{AllByRecursion}
 use mathlib.Core.List.{IsPrefix}
 use Rattle.atomic_table.specs.Table.{Me, Step, rest}
@@ -10,6 +10,7 @@ use Rattle.ldm_book.specs.Stands.{StandsFor}
 use Rattle.ldm_shared.specs.declared.view.View.{View}
 use Rattle.ldm_shared.specs.Own.{own, AreBelow}
 use Rattle.ldm_shared.specs.Rule.{AnswersFor, AnswersForAll, IsOld}
+use Rattle.ldm_shared.specs.declared.steps.TheConstants.{MOST_TURNS}
 
 -- The seat has seen the history that the word counts. It begins with all that the seat had seen, and has no more entries of
 -- the actors that the seat answers for.
@@ -20,7 +21,7 @@ pub record Sees (v : View) (found : ℕ) (w : View) : Type 0 where
   pub actors : (actor : ℕ) → AnswersFor v actor → (actor < v.passes) × (own actor w.seen ≡ own actor v.seen)
   pub legal : IsLegal v.arena v.slots w.seen
   pub below : AreBelow v.passes w.seen
-  pub few : length w.seen ≤ 2 ^ 62
+  pub few : length w.seen ≤ MOST_TURNS
   pub counted : (found ≡ 2 * length w.seen) ⊎ (found ≡ 2 * length w.seen + 1)
   -- where the seat answers for all actors, nobody can have called meanwhile
   pub whole : AnswersForAll v → (found ≡ 2 * length v.seen) × (w.seen ≡ v.seen)

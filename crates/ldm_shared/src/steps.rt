@@ -51,7 +51,7 @@ impl Shared {
         requires ready { IsReady self.now seat.old }
         requires even { word % 2 ≡ 0 }
         requires room { word + 1 < 2 ^ 64 }
-        requires may { (((actor : ℕ) × (seat.old.me.0.actors ≡ actor ∷ [])) × (word < 2 ^ 63)) ⊎ AnswersForAll seat.old.me.0 }
+        requires may { (((actor : ℕ) × (seat.old.me.0.actors ≡ actor ∷ [])) × (word < WORN)) ⊎ AnswersForAll seat.old.me.0 }
         ensures same { IsSame seat.old seat.new }
         ensures sees { Sees seat.old.me.0 result seat.new.me.0 }
         ensures taken { MatchBool (result == word) (HasTaken seat.new.me.0 seat.new.me.1) ((seat.new.me.0.turn ≡ false) × (seat.new.me.1 ≡ [])) }
@@ -187,7 +187,7 @@ impl Shared {
     fn end<C: Called>(&self, seat: &mut Seat<Option<Book>, View>)
         requires turn { (book : BookView) × HasTheTurn self.now seat.old book × StandsFor book (after seat.old.me.0.arena seat.old.me.0.slots (seat.old.me.0.seen ++ C.entry ∷ [])) }
         requires own { seat.old.me.0.actors ≡ C.entry.actor ∷ [] }
-        requires few { length seat.old.me.0.seen < 2 ^ 62 }
+        requires few { length seat.old.me.0.seen < MOST_TURNS }
         requires legal { IsLegal seat.old.me.0.arena seat.old.me.0.slots (seat.old.me.0.seen ++ C.entry ∷ []) }
         ensures same { IsSame seat.old seat.new }
         ensures added { seat.new.me ≡ (record seat.old.me.0 { seen = seat.old.me.0.seen ++ C.entry ∷ []; turn = false }, []) }
@@ -208,7 +208,7 @@ impl Shared {
     )
         requires turn { (book : BookView) × HasTheTurn self.now seat.old book × Follows C.entry.reply book (next_entry (after seat.old.me.0.arena seat.old.me.0.slots seat.old.me.0.seen) C.entry) }
         requires own { seat.old.me.0.actors ≡ C.entry.actor ∷ [] }
-        requires few { length seat.old.me.0.seen < 2 ^ 62 }
+        requires few { length seat.old.me.0.seen < MOST_TURNS }
         requires history { IsHistory seat.old.me.0 }
         requires actor { C.entry.actor ≡ actor }
         requires possible { IsPossible C.entry.event }
