@@ -2,20 +2,22 @@
 ghost use Rattle.std.specs.Prelude.{◌≡◌, ◌≤◌, ◌^◌, drop, length};
 ghost use Rattle.ldm_model.specs.declared.event.Event.TheVariants as event;
 ghost use Rattle.ldm_model.specs.Answers.{insert_answer, look_answer, expire_answer, stat_answer, open_answer, step_answer, read_answer, release_answer, close_answer, tally_answer};
+ghost use Rattle.ldm_model.specs.Answers.{reserve_answer, fill_answer, commit_answer, discard_answer};
 ghost use Rattle.ldm_model.specs.Answers.{asked_bytes, bytes_read};
 ghost use Rattle.ldm_shared.specs.Passes.{IsPassOf, IsSamePass, Grows, FindsWorn};
 ghost use Rattle.ldm_shared.specs.Turns.{IfDone, IfWorn};
 
 use crate::pass::Pass;
 use crate::possible::{
-    feed_is_possible, insert_is_possible, place_is_possible, signature_is_possible,
-    start_is_possible,
+    commit_is_possible, feed_is_possible, fill_is_possible, info_is_possible, insert_is_possible,
+    place_is_possible, reservation_is_possible, signature_is_possible, start_is_possible,
 };
 use crate::shared::Shared;
 use crate::turn::Turn;
 use ldm_model::{
-    CloseReply, ExpireReply, InsertReply, LookReply, OpenReply, ReadReply, ReleaseReply, Start,
-    Stat, StepReply, TallyReply,
+    CloseReply, CommitReply, DiscardReply, ExpireReply, FillReply, InsertReply, LookReply,
+    OpenReply, ReadReply, ReleaseReply, ReserveNo, ReserveReply, Start, Stat, StepReply,
+    TallyReply,
 };
 use ldm_types::{CursorNo, Feed, Info, Micros, Signature};
 use std::marker::Brand;
@@ -175,6 +177,72 @@ impl Shared {
     {
         self.call::<Brand, _, _, _, _>(rt, pass, &(), &mut [], |book, actor, _| {
             book.stat(actor)
+        })
+    }
+
+    /// Reserves a region for a product with these metadata, at the least empty reservation place. The cases are those of
+    /// [`ldm_book::Book::reserve`].
+    pub fn reserve<H: Wait>(&self, rt: &H, pass: &mut Pass, info: &Info) -> Turn<ReserveReply>
+        requires { IsPassOf self.now pass.old }
+        ensures kept { IsSamePass pass.old pass.new }
+        ensures done { IfDone result (λ reply. Grows pass.old pass.new (event.Reserve info.now) (reserve_answer reply)) }
+        ensures worn { IfWorn result (FindsWorn pass.old pass.new) }
+    {
+        info_is_possible(info);
+        self.call::<Brand, _, _, _, _>(rt, pass, info, &mut [], |book, actor, _| {
+            book.reserve(actor, info)
+        })
+    }
+
+    /// Fills bytes into a reserved region, behind those that it has.
+    pub fn fill<H: Wait>(
+        &self,
+        rt: &H,
+        pass: &mut Pass,
+        r: ReserveNo,
+        bytes: &[u8],
+    ) -> Turn<FillReply>
+        requires { IsPassOf self.now pass.old }
+        ensures kept { IsSamePass pass.old pass.new }
+        ensures done { IfDone result (λ reply. Grows pass.old pass.new (event.Fill r bytes.now) (fill_answer reply)) }
+        ensures worn { IfWorn result (FindsWorn pass.old pass.new) }
+    {
+        fill_is_possible(r, bytes);
+        self.call::<Brand, _, _, _, _>(rt, pass, &(r, bytes), &mut [], |book, actor, _| {
+            book.fill(actor, r, bytes)
+        })
+    }
+
+    /// Admits the product of a reservation whose body is whole, at the moment `now`. The cases are those of
+    /// [`ldm_book::Book::commit`].
+    pub fn commit<H: Wait>(
+        &self,
+        rt: &H,
+        pass: &mut Pass,
+        r: ReserveNo,
+        now: Micros,
+    ) -> Turn<CommitReply>
+        requires { IsPassOf self.now pass.old }
+        ensures kept { IsSamePass pass.old pass.new }
+        ensures done { IfDone result (λ reply. Grows pass.old pass.new (event.Commit r now) (commit_answer reply)) }
+        ensures worn { IfWorn result (FindsWorn pass.old pass.new) }
+    {
+        commit_is_possible(r, now);
+        self.call::<Brand, _, _, _, _>(rt, pass, &(r, now), &mut [], |book, actor, _| {
+            book.commit(actor, r, now)
+        })
+    }
+
+    /// Gives a reservation up.
+    pub fn discard<H: Wait>(&self, rt: &H, pass: &mut Pass, r: ReserveNo) -> Turn<DiscardReply>
+        requires { IsPassOf self.now pass.old }
+        ensures kept { IsSamePass pass.old pass.new }
+        ensures done { IfDone result (λ reply. Grows pass.old pass.new (event.Discard r) (discard_answer reply)) }
+        ensures worn { IfWorn result (FindsWorn pass.old pass.new) }
+    {
+        reservation_is_possible(r);
+        self.call::<Brand, _, _, _, _>(rt, pass, &r, &mut [], |book, actor, _| {
+            book.discard(actor, r)
         })
     }
 }

@@ -3,13 +3,19 @@ ghost use Rattle.std.specs.Prelude.{◌≡◌, length};
 ghost use Rattle.ldm_model.specs.History.{AreBytes, IsFeed, IsMetadata, IsPlace, IsPossible, IsSignature, IsStart};
 ghost use Rattle.ldm_model.specs.declared.event.Event.TheVariants as event;
 
-use ldm_model::Start;
+use ldm_model::{ReserveNo, Start};
 use ldm_types::{CursorNo, Feed, Info, Micros, Signature};
 
 pub(crate) fn place_is_possible(k: CursorNo)
     ensures { IsPlace k }
 {
     let _ = k.get();
+}
+
+pub(crate) fn reservation_is_possible(r: ReserveNo)
+    ensures { IsPlace r }
+{
+    let _ = r.get();
 }
 
 fn bytes_are_possible(bytes: &[u8])
@@ -63,4 +69,18 @@ pub(crate) fn insert_is_possible(now: Micros, info: &Info, body: &[u8])
     let _ = now.get();
     bytes_are_possible(body);
     info_is_possible(info);
+}
+
+pub(crate) fn fill_is_possible(r: ReserveNo, bytes: &[u8])
+    ensures { IsPossible (event.Fill r bytes.now) }
+{
+    reservation_is_possible(r);
+    bytes_are_possible(bytes);
+}
+
+pub(crate) fn commit_is_possible(r: ReserveNo, now: Micros)
+    ensures { IsPossible (event.Commit r now) }
+{
+    reservation_is_possible(r);
+    let _ = now.get();
 }
