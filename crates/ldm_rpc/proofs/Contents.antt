@@ -1,12 +1,12 @@
--- The contents of a stream of records.
-use Rattle.std.proofs.Common.{◌≡◌, ℕ, List, [], ◌∷◌, ◌++◌, map, drop, Some, refl, sym, ap, ◌∙◌, append_assoc}
+-- The records that come out of a stream of records.
+use Rattle.std.proofs.Common.{◌≡◌, ℕ, ◌+◌, List, [], ◌∷◌, ◌++◌, length, drop, Some, refl, sym, ap, ◌∙◌, append_assoc, arith}
 use Rattle.std.specs.Prelude.{All}
 use Rattle.std.specs.List.{flat_map}
-use Rattle.std.proofs.lemmas.List.{drop_at}
+use Rattle.std.proofs.lemmas.List.{drop_at, length-append}
 use Rattle.std.proofs.lemmas.List.Elements.{All-head, All-tail}
-use Rattle.ldm_rpc.specs.Reading.{Reading, after, begun, bytes_taken, next_of, whole_of}
+use Rattle.ldm_rpc.specs.Reading.{Reading, after, begun, bytes_taken, whole_of}
 use Rattle.ldm_rpc.specs.Spelling.{Record, Fits, content, spelling}
-use Rattle.ldm_rpc.specs.Streams.{contents, given, in_hand}
+use Rattle.ldm_rpc.specs.Streams.{Placed, at_start, before_record, forgets, given, in_hand, placed, records_in}
 use Rattle.ldm_rpc.proofs.Joined.{pushed}
 use Rattle.ldm_rpc.proofs.Once.{spelled_once}
 use Rattle.ldm_rpc.proofs.Spelled.{taken_record, whole_record}
@@ -17,41 +17,66 @@ record_whole limit r rest fits = ap whole_of (whole_record limit r rest fits)
 behind : (limit : ℕ) (r : Record) (rest : List ℕ) → Fits limit r → drop (bytes_taken (begun limit) (spelling r ++ rest)) (spelling r ++ rest) ≡ rest
 behind limit r rest fits = drop_at (spelling r) rest _ (sym (taken_record limit r rest fits))
 
-contents_record : (limit : ℕ) (r : Record) (rest : List ℕ) → Fits limit r → contents (begun limit) (spelling r ++ rest) ≡ content r ∷ contents (begun limit) rest
-contents_record limit r rest fits =
-    (pushed (begun limit) (spelling r ++ rest) refl).contents
-    ∙ ap (λ (s : Reading). given s ++ contents (next_of s) (drop (bytes_taken (begun limit) (spelling r ++ rest)) (spelling r ++ rest))) (whole_record limit r rest fits)
-    ∙ ap (λ (x : List ℕ). content r ∷ contents (begun limit) x) (behind limit r rest fits)
+-- one record from a place on, and then what stands behind it
+record_out : (limit at : ℕ) (r : Record) (rest : List ℕ) → Fits limit r
+    → records_in (before_record limit at) (spelling r ++ rest) ≡ record { at = at; content = content r } ∷ records_in (before_record limit (at + length (spelling r))) rest
+record_out limit at r rest fits =
+    let bytes = spelling r ++ rest in
+    let n = bytes_taken (begun limit) bytes in
+    (pushed (before_record limit at) bytes refl).records
+    ∙ ap (λ (s : Reading). given at s ++ records_in (forgets at (at + n) s) (drop n bytes)) (whole_record limit r rest fits)
+    ∙ ap (λ (x : List ℕ). record { at = at; content = content r } ∷ records_in (before_record limit (at + n)) x) (behind limit r rest fits)
+    ∙ ap (λ k. record { at = at; content = content r } ∷ records_in (before_record limit (at + k)) rest) (taken_record limit r rest fits)
 
-in_hand_record : (limit : ℕ) (r : Record) (rest : List ℕ) → Fits limit r → in_hand (begun limit) (spelling r ++ rest) ≡ in_hand (begun limit) rest
-in_hand_record limit r rest fits =
-    (pushed (begun limit) (spelling r ++ rest) refl).in_hand
-    ∙ ap (λ (s : Reading). in_hand (next_of s) (drop (bytes_taken (begun limit) (spelling r ++ rest)) (spelling r ++ rest))) (whole_record limit r rest fits)
-    ∙ ap (in_hand (begun limit)) (behind limit r rest fits)
+in_hand_record : (limit at : ℕ) (r : Record) (rest : List ℕ) → Fits limit r
+    → in_hand (before_record limit at) (spelling r ++ rest) ≡ in_hand (before_record limit (at + length (spelling r))) rest
+in_hand_record limit at r rest fits =
+    let bytes = spelling r ++ rest in
+    let n = bytes_taken (begun limit) bytes in
+    (pushed (before_record limit at) bytes refl).in_hand
+    ∙ ap (λ (s : Reading). in_hand (forgets at (at + n) s) (drop n bytes)) (whole_record limit r rest fits)
+    ∙ ap (λ (x : List ℕ). in_hand (before_record limit (at + n)) x) (behind limit r rest fits)
+    ∙ ap (λ k. in_hand (before_record limit (at + k)) rest) (taken_record limit r rest fits)
 
-pub contents_records : (limit : ℕ) (records : List Record) (rest : List ℕ) → All (Fits limit) records
-    → contents (begun limit) (flat_map spelling records ++ rest) ≡ map content records ++ contents (begun limit) rest
-contents_records limit [] rest fits = refl
-contents_records limit (r ∷ records) rest fits =
-    ap (contents (begun limit)) (append_assoc (spelling r) (flat_map spelling records) rest)
-    ∙ contents_record limit r (flat_map spelling records ++ rest) (All-head (Fits limit) r records fits)
-    ∙ ap (λ (x : List (List ℕ)). content r ∷ x) (contents_records limit records rest (All-tail (Fits limit) r records fits))
+-- the place behind several records, by that behind the first of them
+place_behind : (at : ℕ) (r : Record) (records : List Record)
+    → at + length (spelling r) + length (flat_map spelling records) ≡ at + length (flat_map spelling (r ∷ records))
+place_behind at r records = omega (arith, length-append (spelling r) (flat_map spelling records))
 
-pub in_hand_records : (limit : ℕ) (records : List Record) (rest : List ℕ) → All (Fits limit) records
-    → in_hand (begun limit) (flat_map spelling records ++ rest) ≡ in_hand (begun limit) rest
-in_hand_records limit [] rest fits = refl
-in_hand_records limit (r ∷ records) rest fits =
-    ap (in_hand (begun limit)) (append_assoc (spelling r) (flat_map spelling records) rest)
-    ∙ in_hand_record limit r (flat_map spelling records ++ rest) (All-head (Fits limit) r records fits)
-    ∙ in_hand_records limit records rest (All-tail (Fits limit) r records fits)
+here : (at : ℕ) → at ≡ at + 0
+here at = omega arith
+
+pub records_out : (limit at : ℕ) (records : List Record) (rest : List ℕ) → All (Fits limit) records
+    → records_in (before_record limit at) (flat_map spelling records ++ rest)
+    ≡ placed at records ++ records_in (before_record limit (at + length (flat_map spelling records))) rest
+unfolding placed
+records_out limit at [] rest fits = ap (λ k. records_in (before_record limit k) rest) (here at)
+records_out limit at (r ∷ records) rest fits =
+    let next = at + length (spelling r) in
+    ap (records_in (before_record limit at)) (append_assoc (spelling r) (flat_map spelling records) rest)
+    ∙ record_out limit at r (flat_map spelling records ++ rest) (All-head (Fits limit) r records fits)
+    ∙ ap (λ (x : List Placed). record { at = at; content = content r } ∷ x) (records_out limit next records rest (All-tail (Fits limit) r records fits))
+    ∙ ap (λ k. record { at = at; content = content r } ∷ (placed next records ++ records_in (before_record limit k) rest)) (place_behind at r records)
+
+pub in_hand_records : (limit at : ℕ) (records : List Record) (rest : List ℕ) → All (Fits limit) records
+    → in_hand (before_record limit at) (flat_map spelling records ++ rest) ≡ in_hand (before_record limit (at + length (flat_map spelling records))) rest
+in_hand_records limit at [] rest fits = ap (λ k. in_hand (before_record limit k) rest) (here at)
+in_hand_records limit at (r ∷ records) rest fits =
+    let next = at + length (spelling r) in
+    ap (in_hand (before_record limit at)) (append_assoc (spelling r) (flat_map spelling records) rest)
+    ∙ in_hand_record limit at r (flat_map spelling records ++ rest) (All-head (Fits limit) r records fits)
+    ∙ in_hand_records limit next records rest (All-tail (Fits limit) r records fits)
+    ∙ ap (λ k. in_hand (before_record limit k) rest) (place_behind at r records)
+
+no_first : (first : Placed) (others : List Placed) → [] ≡ first ∷ others → ⊥
+no_first first others e = cc
 
 -- bytes of which nothing comes out begin with no record
-none_in_front : (limit : ℕ) (x : List ℕ) (b : Record) (rest : List ℕ) → Fits limit b → contents (begun limit) x ≡ [] → x ≡ spelling b ++ rest → ⊥
+none_in_front : (limit : ℕ) (x : List ℕ) (b : Record) (rest : List ℕ) → Fits limit b → records_in (at_start limit) x ≡ [] → x ≡ spelling b ++ rest → ⊥
 none_in_front limit x b rest fits none is =
-    let some : [] ≡ content b ∷ contents (begun limit) rest = sym none ∙ ap (contents (begun limit)) is ∙ contents_record limit b rest fits in
-    cc
+    absurd (no_first _ _ (sym none ∙ ap (records_in (at_start limit)) is ∙ record_out limit 0 b rest fits))
 
-pub one_way : (limit : ℕ) (xs ys : List Record) (x y : List ℕ) → All (Fits limit) xs → All (Fits limit) ys → contents (begun limit) x ≡ [] → contents (begun limit) y ≡ []
+pub one_way : (limit : ℕ) (xs ys : List Record) (x y : List ℕ) → All (Fits limit) xs → All (Fits limit) ys → records_in (at_start limit) x ≡ [] → records_in (at_start limit) y ≡ []
     → flat_map spelling xs ++ x ≡ flat_map spelling ys ++ y → (xs ≡ ys) × (x ≡ y)
 one_way limit [] [] x y fits_x fits_y none_x none_y e = (refl, e)
 one_way limit [] (b ∷ ys) x y fits_x fits_y none_x none_y e =

@@ -4,7 +4,7 @@ use Rattle.std.proofs.lemmas.Bool.{cases_Bool}
 use Rattle.ldm_rpc.specs.declared.stage.Stage.{Stage}
 use Rattle.ldm_rpc.specs.declared.stage.Stage.TheVariants.{Header, Fragment, Whole, Faulty}
 use Rattle.ldm_rpc.specs.Reading.{Reading, after, after_byte, bytes_taken, is_open, is_open_at, is_whole, is_whole_at, next_of}
-use Rattle.ldm_rpc.specs.Streams.{contents, given, in_hand}
+use Rattle.ldm_rpc.specs.Streams.{Position, Placed, forgets, given, in_hand, records_in}
 use Rattle.ldm_rpc.proofs.Steps.{taken_open}
 use Rattle.ldm_rpc.proofs.Pushed.{after_end, taken_at_end}
 
@@ -25,17 +25,19 @@ taken-append s (byte ∷ a) b =
 taken_suc : (s : Reading) (byte : ℕ) (bytes : List ℕ) → is_open s ≡ true → bytes_taken s (byte ∷ bytes) ≡ suc (bytes_taken (after_byte s byte) bytes)
 taken_suc s byte bytes unended = taken_open s byte bytes unended ∙ omega arith
 
-pub contents-append : (s : Reading) (a b : List ℕ) → contents s (a ++ b) ≡ contents s a ++ contents (in_hand s a) b
-unfolding contents in_hand
-contents-append s [] b = refl
-contents-append s (byte ∷ a) b =
-    ap (λ (x : List (List ℕ)). given (after_byte s byte) ++ x) (contents-append (next_of (after_byte s byte)) a b)
-    ∙ sym (append_assoc (given (after_byte s byte)) (contents (next_of (after_byte s byte)) a) _)
+pub records-append : (p : Position) (a b : List ℕ) → records_in p (a ++ b) ≡ records_in p a ++ records_in (in_hand p a) b
+unfolding records_in in_hand
+records-append p [] b = refl
+records-append p (byte ∷ a) b =
+    let s = after_byte p.reading byte in
+    let t = forgets p.begins (p.came + 1) s in
+    ap (λ (x : List Placed). given p.begins s ++ x) (records-append t a b)
+    ∙ sym (append_assoc (given p.begins s) (records_in t a) _)
 
-pub in_hand-append : (s : Reading) (a b : List ℕ) → in_hand s (a ++ b) ≡ in_hand (in_hand s a) b
+pub in_hand-append : (p : Position) (a b : List ℕ) → in_hand p (a ++ b) ≡ in_hand (in_hand p a) b
 unfolding in_hand
-in_hand-append s [] b = refl
-in_hand-append s (byte ∷ a) b = in_hand-append (next_of (after_byte s byte)) a b
+in_hand-append p [] b = refl
+in_hand-append p (byte ∷ a) b = in_hand-append (forgets p.begins (p.came + 1) (after_byte p.reading byte)) a b
 
 -- ---- a push
 
@@ -45,54 +47,64 @@ not_whole_open (Fragment left last) whole = absurd cc
 not_whole_open Whole whole = refl
 not_whole_open (Faulty fault) whole = absurd cc
 
-pub given_none : (s : Reading) → is_whole s ≡ false → given s ≡ []
-given_none s not = rw not refl
+pub given_none : (begins : ℕ) (s : Reading) → is_whole s ≡ false → given begins s ≡ []
+given_none begins s not = rw not refl
 
-pub next_same : (s : Reading) → is_whole s ≡ false → next_of s ≡ s
-next_same s not = rw not refl
+abbrev pub position : ℕ → ℕ → Reading → Position
+position begins came s = record { reading = s; begins = begins; came = came }
 
--- the contents of a piece and what is in hand behind it, by what a push makes of it
-pub record IsPushed (s : Reading) (piece : List ℕ) : Type 0 where
-  pub contents : contents s piece ≡ given (after s piece) ++ contents (next_of (after s piece)) (drop (bytes_taken s piece) piece)
-  pub in_hand : in_hand s piece ≡ in_hand (next_of (after s piece)) (drop (bytes_taken s piece) piece)
+pub forgets_none : (begins came : ℕ) (s : Reading) → is_whole s ≡ false → forgets begins came s ≡ position begins came s
+forgets_none begins came s not = rw not refl
+
+-- where a piece has been pushed, and a complete record forgotten
+abbrev pub pushed_to : Position → List ℕ → Position
+pushed_to p piece = forgets p.begins (p.came + bytes_taken p.reading piece) (after p.reading piece)
+
+-- the records of a piece and what is in hand behind it, by what a push makes of it
+pub record IsPushed (p : Position) (piece : List ℕ) : Type 0 where
+  pub records : records_in p piece ≡ given p.begins (after p.reading piece) ++ records_in (pushed_to p piece) (drop (bytes_taken p.reading piece) piece)
+  pub in_hand : in_hand p piece ≡ in_hand (pushed_to p piece) (drop (bytes_taken p.reading piece) piece)
 
 -- nothing is taken
-pushed_end : (s : Reading) (piece : List ℕ) → is_open s ≡ false → is_whole s ≡ false → IsPushed s piece
-pushed_end s piece ended not =
-    let same : after s piece ≡ s = after_end s piece ended in
-    let none : bytes_taken s piece ≡ 0 = taken_at_end s piece ended in
-    record {
-      contents = rw (same, none, given_none s not, next_same s not) refl;
-      in_hand = rw (same, none, next_same s not) refl;
-    }
+pushed_end : (p : Position) (piece : List ℕ) → is_open p.reading ≡ false → is_whole p.reading ≡ false → IsPushed p piece
+pushed_end p piece ended not =
+    let same : after p.reading piece ≡ p.reading = after_end p.reading piece ended in
+    let none : bytes_taken p.reading piece ≡ 0 = taken_at_end p.reading piece ended in
+    let still : p.came + 0 ≡ p.came = omega arith in
+    record { records = rw (same, none, not, still) refl; in_hand = rw (same, none, not, still) refl }
 
-pushed_byte : (s : Reading) (byte : ℕ) (bytes : List ℕ) → is_open s ≡ true → (is_whole (after_byte s byte) ≡ false
-    → IsPushed (after_byte s byte) bytes) → IsPushed s (byte ∷ bytes)
-unfolding after contents in_hand
-pushed_byte s byte bytes unended more =
-    let t = after_byte s byte in
-    let count = taken_suc s byte bytes unended in
+pushed_byte : (p : Position) (byte : ℕ) (bytes : List ℕ) → is_open p.reading ≡ true
+    → (is_whole (after_byte p.reading byte) ≡ false → IsPushed (position p.begins (p.came + 1) (after_byte p.reading byte)) bytes) → IsPushed p (byte ∷ bytes)
+unfolding after records_in in_hand
+pushed_byte p byte bytes unended more =
+    let t = after_byte p.reading byte in
+    let count = taken_suc p.reading byte bytes unended in
     elim (cases_Bool (is_whole t)) [
       | inl whole ↦
           let ended : is_open t ≡ false = not_whole_open t.stage whole in
           let none : bytes_taken t bytes ≡ 0 = taken_at_end t bytes ended in
           let same : after t bytes ≡ t = after_end t bytes ended in
-          record { contents = rw (count, none, same) refl; in_hand = rw (count, none, same) refl }
+          record { records = rw (count, none, same) refl; in_hand = rw (count, none, same) refl }
       | inr not ↦
           let m = more not in
+          let k = bytes_taken t bytes in
+          let all : p.came + 1 + k ≡ p.came + suc k = omega arith in
           record {
-            contents = rw (count, given_none t not, next_same t not) m.contents;
-            in_hand = rw (count, next_same t not) m.in_hand;
+            records = rw (count, given_none p.begins t not, forgets_none p.begins (p.came + 1) t not)
+                (m.records ∙ ap (λ n. given p.begins (after t bytes) ++ records_in (forgets p.begins n (after t bytes)) (drop k bytes)) all);
+            in_hand = rw (count, forgets_none p.begins (p.came + 1) t not) (m.in_hand ∙ ap (λ n. in_hand (forgets p.begins n (after t bytes)) (drop k bytes)) all);
           }
     ]
 
-pub pushed : (s : Reading) (piece : List ℕ) → is_whole s ≡ false → IsPushed s piece
-unfolding after bytes_taken contents in_hand
-pushed s [] not = record { contents = rw (given_none s not) refl; in_hand = rw (next_same s not) refl }
-pushed s (byte ∷ bytes) not =
-    elim (cases_Bool (is_open s)) [
-      | inl unended ↦ pushed_byte s byte bytes unended (pushed (after_byte s byte) bytes)
-      | inr ended ↦ pushed_end s (byte ∷ bytes) ended not
+pub pushed : (p : Position) (piece : List ℕ) → is_whole p.reading ≡ false → IsPushed p piece
+unfolding after bytes_taken records_in in_hand
+pushed p [] not =
+    let still : p.came + 0 ≡ p.came = omega arith in
+    record { records = rw (given_none p.begins p.reading not) refl; in_hand = rw (not, still) refl }
+pushed p (byte ∷ bytes) not =
+    elim (cases_Bool (is_open p.reading)) [
+      | inl unended ↦ pushed_byte p byte bytes unended (pushed (position p.begins (p.came + 1) (after_byte p.reading byte)) bytes)
+      | inr ended ↦ pushed_end p (byte ∷ bytes) ended not
     ]
 
 open_first : (s : Reading) (byte : ℕ) (bytes : List ℕ) (n : ℕ) → is_open s ≡ true → n < bytes_taken s (byte ∷ bytes) → ((m : ℕ)

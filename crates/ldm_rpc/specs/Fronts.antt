@@ -1,6 +1,6 @@
 -- What a reader has in hand, by the bytes of the stream: the front of a record, a whole record, or one that is too
 -- long.
-use Rattle.std.specs.Prelude.{◌≡◌, ℕ, ◌+◌, ◌*◌, ◌<◌, ◌≤◌, List, ◌++◌, length, map, fold, Bool, All}
+use Rattle.std.specs.Prelude.{◌≡◌, ℕ, ◌+◌, ◌*◌, ◌<◌, ◌≤◌, List, ◌++◌, length, fold, Bool, All}
 use Rattle.std.specs.List.{flat_map}
 use Rattle.ldm_rpc.specs.declared.fault.RpcFault.{RpcFault}
 use Rattle.ldm_rpc.specs.declared.fault.RpcFault.TheVariants.{TooLong, OutOfMemory}
@@ -9,6 +9,7 @@ use Rattle.ldm_rpc.specs.declared.stage.Stage.TheVariants.{Header, Fragment, Who
 use Rattle.ldm_rpc.specs.declared.stage.TheConstants.{LAST_FRAGMENT}
 use Rattle.ldm_rpc.specs.Reading.{Reading, place}
 use Rattle.ldm_rpc.specs.Spelling.{Record, Fits, IsShort, content, fragments, header, joined, spelling}
+use Rattle.ldm_rpc.specs.Streams.{Position, Placed, placed}
 
 abbrev pub AreBytes : List ℕ → Type 0
 AreBytes bytes = All (λ byte. byte < 256) bytes
@@ -77,11 +78,14 @@ IsFrontAt (Faulty fault) s bytes = IsRefused fault s bytes
 abbrev pub IsFront : Reading → List ℕ → Type 0
 IsFront s bytes = IsFrontAt s.stage s bytes
 
--- a stream is records, one behind the other, with these contents, and then what a reader has in hand
-pub record Splits (limit : ℕ) (stream : List ℕ) (given : List (List ℕ)) (s : Reading) : Type 0 where
+-- A stream is records, one behind the other from a place on, and then what a reader has in hand. These records come out,
+-- each with its place, and the one in hand begins behind them.
+pub record Splits (limit at : ℕ) (stream : List ℕ) (out : List Placed) (p : Position) : Type 0 where
   pub records : List Record
   pub front : List ℕ
   pub spelled : stream ≡ flat_map spelling records ++ front
   pub fits : All (Fits limit) records
-  pub given_is : given ≡ map content records
-  pub front_is : IsFront s front
+  pub out_is : out ≡ placed at records
+  pub begins_is : p.begins ≡ at + length (flat_map spelling records)
+  pub came_is : p.came ≡ at + length stream
+  pub front_is : IsFront p.reading front

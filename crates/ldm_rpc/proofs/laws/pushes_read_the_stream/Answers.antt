@@ -3,8 +3,8 @@ use Rattle.ldm_rpc.proofs.laws.pushes_read_the_stream.Goals as goal
 
 pub returns : goal.returns
 returns c = record {
-  contents = λ s piece not. (pushed s piece not).contents;
-  in_hand = λ s piece not. (pushed s piece not).in_hand;
+  records = λ p piece not. (pushed p piece not).records;
+  in_hand = λ p piece not. (pushed p piece not).in_hand;
   until = open_before;
   up_to = after-taken;
 }
