@@ -1,6 +1,5 @@
 -- Writing one field behind another where there is room for both.
-use Rattle.std.proofs.Common.{◌≡◌, ℕ, zero, suc, ◌<◌, ◌≤◌, List, [], ◌∷◌, ◌++◌, length, get_or, take, refl, ap, ◌∙◌, append_assoc, arith}
-use Rattle.std.specs.Prelude.{replicate}
+use Rattle.std.proofs.Common.{ℕ, ◌<◌, List, ◌++◌, length, get_or, take, ap, ◌∙◌, append_assoc, arith}
 use Rattle.std.specs.Global.{Vec}
 use Rattle.std.specs.List.{flat_map}
 use Rattle.std.proofs.lemmas.List.{length-append}
@@ -26,10 +25,3 @@ pub ruleset appending = (room_first, room_behind, both_append)
 pub room_for_one : {X : Type 0} (old new : Vec ℕ) (f : X → List ℕ) (xs : List X) (i : ℕ) (x : X) → i < length xs → HasRoom old (flat_map f xs)
     → Appends old new (flat_map f (take i xs)) → HasRoom new (f (get_or xs i x))
 room_for_one old new f xs i x lt room so_far = omega (arith, length-flat_map-take f xs i x lt, so_far.len, so_far.capacity)
-
-pub few_zeros : (n : ℕ) → n ≤ 3 → take {A = ℕ} n (0 ∷ 0 ∷ 0 ∷ []) ≡ replicate n 0
-few_zeros zero le = refl
-few_zeros (suc zero) le = refl
-few_zeros (suc (suc zero)) le = refl
-few_zeros (suc (suc (suc zero))) le = refl
-few_zeros (suc (suc (suc (suc n)))) le = absurd (omega arith)

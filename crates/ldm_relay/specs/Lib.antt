@@ -14,3 +14,4 @@ pub mod Spelling
 pub mod Writable
 pub mod Appends
 pub mod Fits
+pub mod Bodies

@@ -1,16 +1,18 @@
 //! How long messages are when they are written.
-ghost use Rattle.std.specs.Prelude.{◌≡◌, ◌≤◌, ◌<◌, ◌+◌, ◌^◌, length};
+ghost use Rattle.std.specs.Prelude.{◌≡◌, ◌≤◌, ◌<◌, ◌+◌, ◌^◌, ℕ, List, length};
 ghost use Rattle.std.specs.List.{flat_map};
 ghost use Rattle.ldm_types.specs.Info.{pad4, metadata_len};
 ghost use Rattle.ldm_xdr.specs.Spelling.{spelling};
 ghost use Rattle.ldm_relay.specs.MessageView.{sent_of};
 ghost use Rattle.ldm_relay.specs.Spelling.{hyper, class_bytes, class_answer_bytes, stat_bytes, put_answer_bytes, refusal_bytes, written};
+ghost use Rattle.ldm_relay.specs.Bodies.{body_len, with_body, front_of, CanCarry};
 ghost use Rattle.ldm_relay.specs.Writable.{IsWritable};
 ghost use Rattle.ldm_relay.specs.Fits.{Is32, SpecFits, ClassFits, ClassAnswerFits, StatFits, PutAnswerFits, RefusalFits, Fits};
 ghost use Rattle.ldm_xdr.specs.Spelling.{Fits as InfoFits};
 ghost use Rattle.ldm_relay.specs.declared.message.TheConstants.{LARGEST_BLOCK, LARGEST_CONTENT};
 ghost use Rattle.ldm_relay.specs.declared.length.TheConstants.{LONGEST_CLASS, LONGEST_METADATA};
 
+use crate::body::CallWithBody;
 use crate::message::{ClassAnswer, Message, PutAnswer, Refusal, Stat};
 use ldm_types::{ClassSpec, Info, Signature, Spec};
 use ldm_xdr::info_len;
@@ -38,21 +40,53 @@ pub(crate) fn content_len(message: &Message) -> usize
         Message::HiyaReply(m) => reply_header_len(m.xid)
             + number_len(m.max_hereis)
             + class_answer_len(&m.answer),
-        Message::Hereis(m) => call_header_len(m.xid) + spelling_len(&m.info) + padded(m.body.len()),
+        Message::Hereis(m) => call_len(&CallWithBody::Hereis {
+            xid: m.xid,
+            info: &m.info,
+        }),
         Message::Comingsoon(m) => call_header_len(m.xid)
             + spelling_len(&m.info)
             + number_len(m.block_size),
         Message::ComingsoonReply(m) => reply_header_len(m.xid) + 4,
-        Message::Blkdata(m) => call_header_len(m.xid) + block_len(m.signature, m.number, m.block),
+        Message::Blkdata(m) => call_len(&CallWithBody::Blkdata {
+            xid: m.xid,
+            signature: m.signature,
+            number: m.number,
+            len: m.block.len() as u32,
+        }),
         Message::Isalive(m) => call_header_len(m.xid),
         Message::Qstat(m) => call_header_len(m.xid),
         Message::QstatReply(m) => reply_header_len(m.xid) + stat_len(m.stat),
-        Message::Put(m) => call_header_len(m.xid) + spelling_len(&m.info) + padded(m.body.len()),
+        Message::Put(m) => call_len(&CallWithBody::Put {
+            xid: m.xid,
+            info: &m.info,
+        }),
         Message::PutReply(m) => reply_header_len(m.xid) + put_answer_len(m.answer),
         Message::Notifyme(m) => call_header_len(m.xid) + class_len(&m.class),
         Message::NotifymeReply(m) => reply_header_len(m.xid) + class_answer_len(&m.answer),
         Message::Notification(m) => call_header_len(m.xid) + spelling_len(&m.info),
         Message::Refused(m) => accepted_header_len(m.xid) + refusal_len(m.why),
+    }
+}
+
+/// The length of the content of the record of a call that carries bytes.
+#[tactic(auto, using(crate::proofs::Lengths::lengths), unfolding(crate::specs::Bodies::front_of))]
+pub(crate) fn call_len(call: &CallWithBody) -> usize
+    requires { CanCarry call.now }
+    ensures value { result ≡ length (front_of call.now) + pad4 (body_len call.now) }
+    ensures bound { result ≤ LARGEST_CONTENT }
+    ensures fits { (body : List ℕ) → length body ≡ body_len call.now → Fits (with_body call.now body) }
+{
+    match call {
+        CallWithBody::Hereis { xid, info } | CallWithBody::Put { xid, info } => {
+            call_header_len(*xid) + spelling_len(info) + padded(info.size() as usize)
+        }
+        CallWithBody::Blkdata {
+            xid,
+            signature,
+            number,
+            len,
+        } => call_header_len(*xid) + block_len(*signature, *number, *len),
     }
 }
 
@@ -134,14 +168,14 @@ fn stat_len(stat: Option<Stat>) -> usize
     }
 }
 
-// A signature, the number of a block, and the block.
-fn block_len(signature: Signature, number: u32, block: &[u8]) -> usize
-    requires { length block.now ≤ LARGEST_BLOCK }
-    ensures value { result ≡ length signature.0 + 8 + pad4 (length block.now) }
+// A signature, the number of a block, and the block with its length.
+fn block_len(signature: Signature, number: u32, len: u32) -> usize
+    requires { len ≤ LARGEST_BLOCK }
+    ensures value { result ≡ length signature.0 + 8 + pad4 len }
     ensures bound { result ≤ 24 + LARGEST_BLOCK }
     ensures fits { (length signature.0 ≡ 16) × Is32 number }
 {
-    24 + padded(block.len())
+    24 + padded(len as usize)
 }
 
 #[tactic(auto, using(crate::proofs::Lengths::lengths))]
@@ -193,9 +227,9 @@ fn spelling_len(info: &Info) -> usize
     info_len(info)
 }
 
-// A length rounded up to a multiple of four.
-fn padded(length: usize) -> usize
-    requires { length ≤ LARGEST_CONTENT }
+/// A length rounded up to a multiple of four.
+pub(crate) fn padded(length: usize) -> usize
+    requires { length + 3 < 2 ^ 64 }
     ensures { result ≡ pad4 length }
 {
     length.div_ceil(4) * 4

@@ -5,6 +5,7 @@
 //! read borrows the record: no body is copied, and reading takes no memory.
 #![tactic(auto)]
 
+mod body;
 mod call;
 mod class;
 mod fault;
@@ -19,6 +20,7 @@ mod refusal;
 mod reply;
 mod write;
 
+pub use body::{BodyPlace, CallWithBody, write_with_room};
 pub use call::read_call;
 pub use fault::RelayFault;
 pub use laws::{

@@ -6,18 +6,20 @@ ghost use Rattle.ldm_types.specs.Info.{pad4};
 ghost use Rattle.ldm_xdr.specs.Spelling.{spelling};
 ghost use Rattle.ldm_relay.specs.Sent as sent;
 ghost use Rattle.ldm_relay.specs.MessageView.{sent_of};
-ghost use Rattle.ldm_relay.specs.Spelling.{number, hyper, padded, opaque, instant_bytes, spec_bytes, class_bytes, class_answer_bytes, soon_answer_bytes, figures_bytes, stat_bytes};
+ghost use Rattle.ldm_relay.specs.Spelling.{number, unsigned, hyper, padded, opaque, instant_bytes, spec_bytes, class_bytes, class_answer_bytes, soon_answer_bytes, figures_bytes, stat_bytes};
 ghost use Rattle.ldm_relay.specs.Spelling.{put_answer_bytes, refusal_bytes, no_authentication, call_header, accepted_header, reply_header, written, record_of};
+ghost use Rattle.ldm_relay.specs.Bodies.{body_len, with_body, front_of};
 ghost use Rattle.ldm_relay.specs.Writable.{IsWritable};
 ghost use Rattle.ldm_relay.specs.Appends.{HasRoom, Appends};
 ghost use Rattle.ldm_relay.specs.declared.message.TheConstants.{LARGEST_BLOCK};
 
+use crate::body::CallWithBody;
 use crate::header::{ACCEPTED, CALL, NO_AUTHENTICATION, REPLY, RPC_VERSION, SUCCESS};
 use crate::length::LONGEST_METADATA;
-use crate::message::{Blkdata, ClassAnswer, Message, PutAnswer, Refusal, SoonAnswer, Stat};
+use crate::message::{ClassAnswer, Message, PutAnswer, Refusal, SoonAnswer, Stat};
 use crate::procedure::{PROGRAM, Procedure, VERSION};
 use byteorder::{BigEndian, ByteOrder};
-use ldm_types::{ClassSpec, Info, Micros, Spec};
+use ldm_types::{ClassSpec, Info, Micros, Signature, Spec};
 use ldm_xdr::{info_len, write_info};
 
 // Each of these appends what there is room for.
@@ -34,14 +36,37 @@ pub(crate) fn put_message(out: &mut Vec<u8>, message: &Message)
         Message::FeedmeReply(m) => put_feedme_reply(out, m.xid, &m.answer),
         Message::Hiya(m) => put_hiya(out, m.xid, &m.class),
         Message::HiyaReply(m) => put_hiya_reply(out, m.xid, m.max_hereis, &m.answer),
-        Message::Hereis(m) => put_product(out, m.xid, Procedure::Hereis, &m.info, m.body),
+        Message::Hereis(m) => put_with_body(
+            out,
+            &CallWithBody::Hereis {
+                xid: m.xid,
+                info: &m.info,
+            },
+            m.body,
+        ),
         Message::Comingsoon(m) => put_comingsoon(out, m.xid, &m.info, m.block_size),
         Message::ComingsoonReply(m) => put_comingsoon_reply(out, m.xid, m.answer),
-        Message::Blkdata(m) => put_blkdata(out, m),
+        Message::Blkdata(m) => put_with_body(
+            out,
+            &CallWithBody::Blkdata {
+                xid: m.xid,
+                signature: m.signature,
+                number: m.number,
+                len: m.block.len() as u32,
+            },
+            m.block,
+        ),
         Message::Isalive(m) => put_call_header(out, m.xid, Procedure::Isalive),
         Message::Qstat(m) => put_call_header(out, m.xid, Procedure::Qstat),
         Message::QstatReply(m) => put_qstat_reply(out, m.xid, m.stat),
-        Message::Put(m) => put_product(out, m.xid, Procedure::Put, &m.info, m.body),
+        Message::Put(m) => put_with_body(
+            out,
+            &CallWithBody::Put {
+                xid: m.xid,
+                info: &m.info,
+            },
+            m.body,
+        ),
         Message::PutReply(m) => put_put_reply(out, m.xid, m.answer),
         Message::Notifyme(m) => put_notifyme(out, m.xid, &m.class),
         Message::NotifymeReply(m) => put_notifyme_reply(out, m.xid, &m.answer),
@@ -88,15 +113,53 @@ fn put_hiya_reply(out: &mut Vec<u8>, xid: u32, max_hereis: u32, answer: &ClassAn
     put_class_answer(out, answer);
 }
 
-// A call with a product: its metadata, and its body with padding.
+// A call that carries bytes.
+#[tactic(auto, using(crate::proofs::Appending::appending, crate::proofs::Bodies::front_and_body))]
+fn put_with_body(out: &mut Vec<u8>, call: &CallWithBody, body: &[u8])
+    requires len { length body.now ≡ body_len call.now }
+    requires room { HasRoom out.old (written (with_body call.now body.now)) }
+    ensures { Appends out.old out.new (written (with_body call.now body.now)) }
+{
+    put_front(out, call);
+    put_padded(out, body);
+}
+
+/// Writes a call that carries bytes up to these.
+#[tactic(auto, using(crate::proofs::Appending::appending), unfolding(crate::specs::Bodies::front_of))]
+pub(crate) fn put_front(out: &mut Vec<u8>, call: &CallWithBody)
+    requires { HasRoom out.old (front_of call.now) }
+    ensures { Appends out.old out.new (front_of call.now) }
+{
+    match call {
+        CallWithBody::Hereis { xid, info } => put_product_front(out, *xid, Procedure::Hereis, info),
+        CallWithBody::Put { xid, info } => put_product_front(out, *xid, Procedure::Put, info),
+        CallWithBody::Blkdata {
+            xid,
+            signature,
+            number,
+            len,
+        } => put_block_front(out, *xid, *signature, *number, *len),
+    }
+}
+
 #[tactic(auto, using(crate::proofs::Appending::appending))]
-fn put_product(out: &mut Vec<u8>, xid: u32, procedure: Procedure, info: &Info, body: &[u8])
-    requires { HasRoom out.old (call_header xid procedure ++ (spelling info.now ++ padded body.now)) }
-    ensures { Appends out.old out.new (call_header xid procedure ++ (spelling info.now ++ padded body.now)) }
+fn put_product_front(out: &mut Vec<u8>, xid: u32, procedure: Procedure, info: &Info)
+    requires { HasRoom out.old (call_header xid procedure ++ spelling info.now) }
+    ensures { Appends out.old out.new (call_header xid procedure ++ spelling info.now) }
 {
     put_call_header(out, xid, procedure);
     put_info(out, info);
-    put_padded(out, body);
+}
+
+#[tactic(auto, using(crate::proofs::Appending::appending))]
+fn put_block_front(out: &mut Vec<u8>, xid: u32, signature: Signature, number: u32, len: u32)
+    requires { HasRoom out.old (call_header xid Procedure.Blkdata ++ (signature.0 ++ unsigned number ++ unsigned len)) }
+    ensures { Appends out.old out.new (call_header xid Procedure.Blkdata ++ (signature.0 ++ unsigned number ++ unsigned len)) }
+{
+    put_call_header(out, xid, Procedure::Blkdata);
+    put(out, &signature.0);
+    put_unsigned(out, number);
+    put_unsigned(out, len);
 }
 
 #[tactic(auto, using(crate::proofs::Appending::appending), unfolding(crate::specs::Spelling::written))]
@@ -116,18 +179,6 @@ fn put_comingsoon_reply(out: &mut Vec<u8>, xid: u32, answer: SoonAnswer)
 {
     put_reply_header(out, xid);
     put_soon_answer(out, answer);
-}
-
-#[tactic(auto, using(crate::proofs::Appending::appending), unfolding(crate::specs::Spelling::written))]
-fn put_blkdata(out: &mut Vec<u8>, message: &Blkdata)
-    requires short { length message.now.block.now ≤ LARGEST_BLOCK }
-    requires room { HasRoom out.old (written (sent.Blkdata message.now.xid message.now.signature.0 message.now.number message.now.block.now)) }
-    ensures { Appends out.old out.new (written (sent.Blkdata message.now.xid message.now.signature.0 message.now.number message.now.block.now)) }
-{
-    put_call_header(out, message.xid, Procedure::Blkdata);
-    put(out, &message.signature.0);
-    put_unsigned(out, message.number);
-    put_opaque(out, message.block);
 }
 
 #[tactic(auto, using(crate::proofs::Appending::appending), unfolding(crate::specs::Spelling::written))]
@@ -398,13 +449,15 @@ fn put_padded(out: &mut Vec<u8>, bytes: &[u8])
     put_zeros(out, (4 - bytes.len() % 4) % 4);
 }
 
-// At most three zero bytes.
-fn put_zeros(out: &mut Vec<u8>, count: usize)
-    requires few { count ≤ 3 }
-    requires room { HasRoom out.old (replicate count 0) }
+/// Writes zero bytes.
+pub(crate) fn put_zeros(out: &mut Vec<u8>, count: usize)
+    requires { HasRoom out.old (replicate count 0) }
     ensures { Appends out.old out.new (replicate count 0) }
 {
-    put(out, &[0; 3][..count]);
+    let len = out.len() + count;
+    if out.resize(len, 0).is_err() {
+        unreachable!();
+    }
 }
 
 #[tactic(auto, unfolding(crate::specs::Spelling::number))]

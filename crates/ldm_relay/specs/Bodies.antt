@@ -1,0 +1,35 @@
+-- Calls that carry bytes: what stands before these, and the message with them.
+use Rattle.std.specs.Prelude.{ℕ, ◌+◌, ◌≤◌, List, ◌++◌}
+use Rattle.ldm_types.specs.Info.{pad4, metadata_len}
+use Rattle.ldm_xdr.specs.Spelling.{spelling}
+use Rattle.ldm_relay.specs.declared.body.CallWithBody.{CallWithBody}
+use Rattle.ldm_relay.specs.declared.body.CallWithBody.TheVariants as with
+use Rattle.ldm_relay.specs.declared.message.TheConstants.{LARGEST_BLOCK, LARGEST_CONTENT}
+use Rattle.ldm_relay.specs.declared.procedure.Procedure.TheVariants as procedure
+use Rattle.ldm_relay.specs.Spelling.{unsigned, call_header}
+use Rattle.ldm_relay.specs.Sent.{Sent}
+use Rattle.ldm_relay.specs.Sent as sent
+
+-- how many bytes it carries
+abbrev pub body_len : CallWithBody → ℕ
+body_len (with.Hereis xid info) = info.now.size
+body_len (with.Put xid info) = info.now.size
+body_len (with.Blkdata xid signature number len) = len
+
+-- the message with these bytes
+abbrev pub with_body : CallWithBody → List ℕ → Sent
+with_body (with.Hereis xid info) body = sent.Hereis xid info.now body
+with_body (with.Put xid info) body = sent.Put xid info.now body
+with_body (with.Blkdata xid signature number len) body = sent.Blkdata xid signature.0 number body
+
+-- The content with a body of that length is not too long.
+abbrev pub CanCarry : CallWithBody → Type 0
+CanCarry (with.Hereis xid info) = 40 + metadata_len info.now + pad4 info.now.size ≤ LARGEST_CONTENT
+CanCarry (with.Put xid info) = 40 + metadata_len info.now + pad4 info.now.size ≤ LARGEST_CONTENT
+CanCarry (with.Blkdata xid signature number len) = len ≤ LARGEST_BLOCK
+
+-- what stands before the body
+unfoldable pub front_of : CallWithBody → List ℕ
+front_of (with.Hereis xid info) = call_header xid procedure.Hereis ++ spelling info.now
+front_of (with.Put xid info) = call_header xid procedure.Put ++ spelling info.now
+front_of (with.Blkdata xid signature number len) = call_header xid procedure.Blkdata ++ (signature.0 ++ unsigned number ++ unsigned len)
