@@ -15,3 +15,4 @@ pub mod Writable
 pub mod Appends
 pub mod Fits
 pub mod Bodies
+pub mod Owed

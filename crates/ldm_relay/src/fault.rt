@@ -1,5 +1,11 @@
-//! Why a record is no message.
+//! Why a record is no message, and what a call is answered that is none.
+ghost use Rattle.std.specs.Prelude.{◌≡◌, IfSome};
+ghost use Rattle.ldm_relay.specs.Fits.{Fits};
+ghost use Rattle.ldm_relay.specs.MessageView.{refused_of};
+ghost use Rattle.ldm_relay.specs.Owed.{refusal_owed, wrong_program};
 
+use crate::message::{Refusal, Refused};
+use crate::procedure::{PROGRAM, VERSION};
 use thiserror::Error;
 
 /// What is wrong with the content of a record that was read as a message. The faults are tested in this order.
@@ -35,4 +41,46 @@ pub enum RelayFault {
         xid: u32,
         at: usize,
     },
+}
+
+impl RelayFault {
+    /// The refusal that a call with this fault is owed, as [`read_call`](crate::read_call) answers it: `None` where it is
+    /// no call that could be answered.
+    ///
+    /// A call of another program is told so, and a call of another version of this one is told the version that there is.
+    pub fn refusal(self) -> Option<Refused>
+        ensures refusal { result ≡ refusal_owed self }
+        // So it can be written, and is read again.
+        ensures fits { IfSome result (λ refused. Fits (refused_of refused)) }
+    {
+        match self {
+            RelayFault::NotRpc { .. } => None,
+            RelayFault::WrongProgram { xid, program, .. } => Some(Refused {
+                xid,
+                why: wrong_program(program),
+            }),
+            RelayFault::WrongProcedure { xid, .. } => Some(Refused {
+                xid,
+                why: Refusal::ProcedureUnavailable,
+            }),
+            RelayFault::BadMessage { xid, .. } => Some(Refused {
+                xid,
+                why: Refusal::GarbageArguments,
+            }),
+        }
+    }
+}
+
+// What a call of that program is told, or of another version of this one.
+fn wrong_program(program: u32) -> Refusal
+    ensures { result ≡ wrong_program program }
+{
+    if program == PROGRAM {
+        Refusal::ProgramMismatch {
+            lowest: VERSION,
+            highest: VERSION,
+        }
+    } else {
+        Refusal::ProgramUnavailable
+    }
 }
