@@ -1,14 +1,13 @@
 -- Calls that carry bytes: what stands before these, and the message with them.
-use Rattle.std.specs.Prelude.{ℕ, ◌+◌, ◌≤◌, List, ◌++◌}
-use Rattle.ldm_types.specs.Info.{pad4, metadata_len}
+use Rattle.std.specs.Prelude.{ℕ, List, ◌++◌}
 use Rattle.ldm_xdr.specs.Spelling.{spelling}
 use Rattle.ldm_relay.specs.declared.body.CallWithBody.{CallWithBody}
 use Rattle.ldm_relay.specs.declared.body.CallWithBody.TheVariants as with
-use Rattle.ldm_relay.specs.declared.message.TheConstants.{LARGEST_BLOCK, LARGEST_CONTENT}
 use Rattle.ldm_relay.specs.declared.procedure.Procedure.TheVariants as procedure
 use Rattle.ldm_relay.specs.Spelling.{unsigned, call_header}
 use Rattle.ldm_relay.specs.Sent.{Sent}
 use Rattle.ldm_relay.specs.Sent as sent
+use Rattle.ldm_relay.specs.Writable.{IsBlockLen, IsShortProduct}
 
 -- how many bytes it carries
 abbrev pub body_len : CallWithBody → ℕ
@@ -24,9 +23,9 @@ with_body (with.Blkdata xid signature number len) body = sent.Blkdata xid signat
 
 -- The content with a body of that length is not too long.
 abbrev pub CanCarry : CallWithBody → Type 0
-CanCarry (with.Hereis xid info) = 40 + metadata_len info.now + pad4 info.now.size ≤ LARGEST_CONTENT
-CanCarry (with.Put xid info) = 40 + metadata_len info.now + pad4 info.now.size ≤ LARGEST_CONTENT
-CanCarry (with.Blkdata xid signature number len) = len ≤ LARGEST_BLOCK
+CanCarry (with.Hereis xid info) = IsShortProduct info.now info.now.size
+CanCarry (with.Put xid info) = IsShortProduct info.now info.now.size
+CanCarry (with.Blkdata xid signature number len) = IsBlockLen len
 
 -- what stands before the body
 unfoldable pub front_of : CallWithBody → List ℕ

@@ -13,12 +13,12 @@ use Rattle.ldm_relay.specs.declared.message.Stat.{Stat}
 use Rattle.ldm_relay.specs.declared.message.PutAnswer.TheVariants as put_answer
 use Rattle.ldm_relay.specs.declared.message.Refusal.{Refusal}
 use Rattle.ldm_relay.specs.declared.message.Refusal.TheVariants as refusal
-use Rattle.ldm_relay.specs.declared.message.TheConstants.{LARGEST_BLOCK}
 use Rattle.ldm_relay.specs.declared.header.TheConstants.{LONGEST_AUTHENTICATION}
 use Rattle.ldm_types.specs.Info.{pad4}
 use Rattle.ldm_relay.specs.Spelling.{Authentication}
 use Rattle.ldm_relay.specs.Sent.{Sent}
 use Rattle.ldm_relay.specs.Sent as sent
+use Rattle.ldm_relay.specs.Writable.{IsSized}
 
 abbrev pub Is32 : ℕ → Type 0
 Is32 n = n < 2 ^ 32
@@ -37,7 +37,10 @@ pub record ClassFits (class : ClassSpec) : Type 0 where
 
 abbrev pub ClassAnswerFits : ClassAnswer → Type 0
 ClassAnswerFits (class_answer.Reclass class) = ClassFits class
-ClassAnswerFits _ = Unit {0}
+ClassAnswerFits class_answer.Ok = Unit {0}
+ClassAnswerFits class_answer.Denied = Unit {0}
+ClassAnswerFits class_answer.BadPattern = Unit {0}
+ClassAnswerFits class_answer.Busy = Unit {0}
 
 abbrev pub StatFits : Option Stat → Type 0
 StatFits (Some stat) = Is64 stat.admitted × Is64 stat.queued × Is64 stat.held × Is64 stat.used × Is64 stat.largest_free
@@ -58,21 +61,24 @@ pub record AuthenticationFits (a : Authentication) : Type 0 where
 
 abbrev pub RefusalFits : Refusal → Type 0
 RefusalFits (refusal.ProgramMismatch lowest highest) = Is32 lowest × Is32 highest
-RefusalFits _ = Unit {0}
+RefusalFits refusal.ProgramUnavailable = Unit {0}
+RefusalFits refusal.ProcedureUnavailable = Unit {0}
+RefusalFits refusal.GarbageArguments = Unit {0}
+RefusalFits refusal.SystemError = Unit {0}
 
 abbrev pub Fits : Sent → Type 0
 Fits (sent.Feedme xid class max_hereis) = Is32 xid × ClassFits class × Is32 max_hereis
 Fits (sent.FeedmeReply xid answer) = Is32 xid × ClassAnswerFits answer
 Fits (sent.Hiya xid class) = Is32 xid × ClassFits class
 Fits (sent.HiyaReply xid max_hereis answer) = Is32 xid × Is32 max_hereis × ClassAnswerFits answer
-Fits (sent.Hereis xid info body) = Is32 xid × InfoFits info × (length body ≡ info.size)
+Fits (sent.Hereis xid info body) = Is32 xid × InfoFits info × IsSized (sent.Hereis xid info body)
 Fits (sent.Comingsoon xid info block_size) = Is32 xid × InfoFits info × Is32 block_size
 Fits (sent.ComingsoonReply xid answer) = Is32 xid
-Fits (sent.Blkdata xid signature number block) = Is32 xid × (length signature ≡ 16) × Is32 number × (length block ≤ LARGEST_BLOCK)
+Fits (sent.Blkdata xid signature number block) = Is32 xid × (length signature ≡ 16) × Is32 number × IsSized (sent.Blkdata xid signature number block)
 Fits (sent.Isalive xid) = Is32 xid
 Fits (sent.Qstat xid) = Is32 xid
 Fits (sent.QstatReply xid stat) = Is32 xid × StatFits stat
-Fits (sent.Put xid info body) = Is32 xid × InfoFits info × (length body ≡ info.size)
+Fits (sent.Put xid info body) = Is32 xid × InfoFits info × IsSized (sent.Put xid info body)
 Fits (sent.PutReply xid answer) = Is32 xid × PutAnswerFits answer
 Fits (sent.Notifyme xid class) = Is32 xid × ClassFits class
 Fits (sent.NotifymeReply xid answer) = Is32 xid × ClassAnswerFits answer

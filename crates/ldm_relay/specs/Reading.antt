@@ -71,7 +71,16 @@ kind_of (sent.QstatReply xid stat) = Reply procedure.Qstat
 kind_of (sent.PutReply xid answer) = Reply procedure.Put
 kind_of (sent.NotifymeReply xid answer) = Reply procedure.Notifyme
 kind_of (sent.Refused xid why) = Refusal
-kind_of _ = Call
+kind_of (sent.Feedme xid class max_hereis) = Call
+kind_of (sent.Hiya xid class) = Call
+kind_of (sent.Hereis xid info body) = Call
+kind_of (sent.Comingsoon xid info block_size) = Call
+kind_of (sent.Blkdata xid signature number block) = Call
+kind_of (sent.Isalive xid) = Call
+kind_of (sent.Qstat xid) = Call
+kind_of (sent.Put xid info body) = Call
+kind_of (sent.Notifyme xid class) = Call
+kind_of (sent.Notification xid info) = Call
 
 -- what some bytes say, read as a message of a kind
 abbrev pub read_as : Kind → List ℕ → Result Sent RelayFault
