@@ -82,8 +82,7 @@ reads_fault p piece first t rest out r fault so_far r_is faulty =
     ap (λ (s : Reading). forgets t.begins (t.came + n) s) (sym r_is) ∙ forgets_none t.begins (t.came + n) r not in
     let stays_is = stays t.begins (t.came + n) r (drop n rest) ended not in
     let none : records_in t rest ≡ [] = pushed_is.records ∙ rw (there, ← r_is, given_none t.begins r not) stays_is.none in
-    let behind : in_hand t rest ≡ in_hand (position t.begins (t.came + n) r) (drop n rest) = pushed_is.in_hand ∙ ap (λ (q : Position). in_hand q (drop n rest)) there in
-    (
+    let behind : in_hand t rest ≡ in_hand (position t.begins (t.came + n) r) (drop n rest) = pushed_is.in_hand ∙ ap (λ (q : Position). in_hand q (drop n rest)) there in (
       sym (append-nil out) ∙ ap (λ (x : List Placed). out ++ x) (sym none) ∙ so_far.records_are,
       ap (λ (q : Position). q.reading) (sym so_far.in_hand_is ∙ behind) ∙ stays_is.reading,
       ap (λ (q : Position). q.begins) (sym so_far.in_hand_is ∙ behind) ∙ stays_is.begins,
