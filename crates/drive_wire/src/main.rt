@@ -5,13 +5,17 @@ mod draws;
 mod messages;
 mod mutated;
 mod pieces;
+mod places;
 mod records;
 
 use anyhow::{Result, bail};
 use ldm_drive::{Case, drive};
-use messages::{made_message, read_as_call, read_as_refusal, read_as_reply};
+use messages::{
+    made_message, read_as_call, read_as_refusal, read_as_reply, refusal_owed, with_room,
+};
 use mutated::{Sample, add_sample, mutate};
 use pieces::{cuts, random_pieces};
+use places::places;
 use records::steps;
 use std::alloc::Global;
 
@@ -20,11 +24,14 @@ fn answer(alloc: Global, samples: &mut Vec<Sample>, case: &mut Case) -> Result<S
     match case.word()? {
         "records" => steps(alloc, case),
         "cuts" => cuts(alloc, case),
+        "places" => places(alloc, case),
         "random_pieces" => random_pieces(alloc, case),
         "call" => read_as_call(alloc, case),
         "reply" => read_as_reply(alloc, case),
         "refusal" => read_as_refusal(alloc, case),
         "made" => made_message(alloc, case),
+        "room" => with_room(alloc, case),
+        "owed" => refusal_owed(alloc, case),
         "sample" => add_sample(alloc, samples, case),
         "mutate" => mutate(alloc, samples, case),
         _ => bail!("no such word"),

@@ -1,6 +1,7 @@
 //! Messages that are read, and written again.
 ghost use Rattle.std.specs.Prelude.{◌≡◌, ◌≤◌, length, IfOk};
 ghost use Rattle.ldm_types.specs.Info.{metadata_len};
+ghost use Rattle.ldm_relay.specs.Bodies.{CanCarry, body_len};
 ghost use Rattle.ldm_relay.specs.MessageView.{sent_of};
 ghost use Rattle.ldm_relay.specs.Writable.{IsWritable};
 ghost use Rattle.ldm_relay.specs.declared.message.TheConstants.{LARGEST_CONTENT};
@@ -8,8 +9,8 @@ ghost use Rattle.ldm_relay.specs.declared.message.TheConstants.{LARGEST_CONTENT}
 use anyhow::{Context, Result, bail, ensure};
 use ldm_drive::{Case, digits_of};
 use ldm_relay::{
-    Hereis, LARGEST_BLOCK, LARGEST_CONTENT, Message, RelayFault, read_call, read_refusal,
-    read_reply, write_message,
+    CallWithBody, Hereis, LARGEST_BLOCK, LARGEST_CONTENT, Message, RelayFault, read_call,
+    read_refusal, read_reply, write_message, write_with_room,
 };
 use ldm_types::{Feed, Info, Micros, Signature};
 use std::alloc::Global;
@@ -102,6 +103,69 @@ pub fn made_message(alloc: Global, case: &mut Case) -> Result<String> {
     ensure!(body.len() <= LARGEST_BLOCK, "a long body");
     let out = written(alloc, &hereis_of(&body)?)?;
     digits_of(alloc, out.get(6..).unwrap_or(&[]))
+}
+
+/// `room PROCEDURE BODY`: the record of a HEREIS, a PUT or a BLKDATA, that is written with room for the body, and then gets
+/// it.
+pub fn with_room(alloc: Global, case: &mut Case) -> Result<String> {
+    let procedure = case.small()?;
+    let body = case.bytes(alloc)?;
+    ensure!(body.len() <= LARGEST_BLOCK, "a long body");
+    let len = body.len() as u32;
+    let info = info_of(len)?;
+    let signature = Signature([1; 16]);
+    match procedure {
+        1 => filled(
+            alloc,
+            &CallWithBody::Hereis {
+                xid: 1,
+                info: &info,
+            },
+            &body,
+        ),
+        13 => filled(
+            alloc,
+            &CallWithBody::Blkdata {
+                xid: 1,
+                signature,
+                number: 2,
+                len,
+            },
+            &body,
+        ),
+        101 => filled(
+            alloc,
+            &CallWithBody::Put {
+                xid: 1,
+                info: &info,
+            },
+            &body,
+        ),
+        _ => bail!("no call with a body"),
+    }
+}
+
+fn filled(alloc: Global, call: &CallWithBody, body: &[u8]) -> Result<String>
+    requires short { CanCarry call.now }
+    requires len { length body.now ≡ body_len call.now }
+{
+    let mut out = Vec::from_slice(alloc, b"before")?;
+    let place = write_with_room(call, &mut out)?;
+    out[place.start..place.start + place.len].copy_from_slice(body);
+    digits_of(alloc, out.get(6..).unwrap_or(&[]))
+}
+
+/// `owed RECORD`: the refusal that a call is owed which cannot be read.
+pub fn refusal_owed(alloc: Global, case: &mut Case) -> Result<String> {
+    let record = case.bytes(alloc)?;
+    let content = record.get(4..).context("no header")?;
+    match read_call(content) {
+        Ok(_) => bail!("a call that is read"),
+        Err(fault) => {
+            let owed = fault.refusal();
+            Ok(format!(in alloc; "{owed:?}")?)
+        }
+    }
 }
 
 fn hereis_of(body: &[u8]) -> Result<Message<'_>>
