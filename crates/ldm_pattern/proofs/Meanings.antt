@@ -56,6 +56,12 @@ unfolding found
 finds r utf8 config h text bytes =
     alike (pattern_meaning (regex_source r)) (regex_pattern r) text bytes (means_what_is_built r utf8 config h)
 
+-- what is found by a search for what a pattern means is what is found of the pattern
+pub search_finds : (pattern : List ℕ) (a : Re) (text : List ℕ) → ((k : ℕ) → get_or text k 0 < 256) → IsSomeAnd (pattern_meaning pattern) (SameCaptures a) →
+    is_some (find a text 0) ≡ found pattern text
+unfolding found
+search_finds pattern a text bytes h = alike (pattern_meaning pattern) a text bytes h
+
 -- bytes that are not UTF-8 are no pattern
 pub nothing_of_other_bytes : (source : List ℕ) → ¬ (IsUtf8 source) → pattern_meaning source ≡ None
 unfolding pattern_meaning

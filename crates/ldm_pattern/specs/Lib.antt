@@ -1,5 +1,6 @@
 pub mod Patterns
 pub mod PatternView
+pub mod MatcherView
 pub mod GroupNumbers
 pub mod Parts
 pub mod Refusals

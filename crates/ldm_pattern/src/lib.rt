@@ -4,7 +4,9 @@
 #![tactic(auto)]
 
 mod groups;
+mod matcher;
 mod pattern;
 
 pub use groups::{GroupNo, Groups};
+pub use matcher::Matcher;
 pub use pattern::{Pattern, Refusal};

@@ -6,6 +6,7 @@ ghost use Rattle.ldm_pattern.specs.Patterns.{pattern_meaning, found};
 ghost use Rattle.ldm_pattern.specs.Refusals.{IsRefusedFor};
 
 use crate::groups::Groups;
+use crate::matcher::Matcher;
 use ldm_types::OutOfMemory;
 use regex::Error;
 use regex::bytes::Regex;
@@ -65,12 +66,23 @@ impl Pattern {
         }
     }
 
-    /// Whether it is found in a text.
+    /// What searches for it in many texts.
+    pub fn matcher(&self, alloc: Global) -> Result<Matcher<'_>, OutOfMemory>
+        ensures { IfOk result (λ matcher. matcher ≡ self.now) }
+    {
+        let search = self.regex.matcher(alloc)?;
+        Ok(Matcher {
+            pattern: self,
+            search,
+        })
+    }
+
+    /// Whether it is found in a text. [`Pattern::matcher`] is for a pattern that is searched for in many.
     pub fn is_in(&self, alloc: Global, text: &[u8]) -> Result<bool, OutOfMemory>
         ensures { IfOk result (λ is_in. is_in ≡ found self.now text.now) }
     {
-        let mut matcher = self.regex.matcher(alloc)?;
-        Ok(matcher.is_match(text))
+        let mut matcher = self.matcher(alloc)?;
+        Ok(matcher.finds(text))
     }
 
     /// The parts of a text that its groups have in the first match. None exactly where the pattern is not found.
