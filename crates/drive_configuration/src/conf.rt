@@ -84,7 +84,7 @@ fn summary(alloc: Global, conf: &Conf) -> Result<String> {
     }
     for command in conf.commands.as_slice() {
         told.push_str("; command")?;
-        for word in command.as_slice() {
+        for word in command.words.as_slice() {
             write!(told, " {}", shown(alloc, word.as_bytes())?)?;
         }
     }

@@ -1,3 +1,4 @@
 pub mod Building
+pub mod KeptRules
 pub mod Left
 pub mod Searches

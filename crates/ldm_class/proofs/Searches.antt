@@ -8,13 +8,9 @@ use Rattle.ldm_types.specs.Info.{Metadata}
 use Rattle.ldm_types.specs.declared.class.ClassSpec.{ClassSpec}
 use Rattle.ldm_types.specs.declared.class.Spec.{Spec}
 use Rattle.ldm_class.specs.Classes.{is_resumption, pattern_of, spec_wants, wants}
-use Rattle.ldm_class.specs.Searches.{search_of}
+use Rattle.ldm_class.specs.Searches.{search_of, search_wants}
 use Rattle.ldm_pattern.specs.Patterns.{found}
 use Rattle.ldm_class.specs.declared.search.Search.{Search}
-
--- whether a search wants a product
-abbrev pub search_wants : Metadata → Search → Bool
-search_wants info search = feeds_meet search.feed.0 info.feed && found search.pattern info.ident
 
 -- a list to which the rest of another is added, once nothing of that is left
 pub kept_whole : {X Y : Type 0} (f : X → Option Y) (kept : List Y) (xs : List X) (i : ℕ) → length xs ≤ i →

@@ -1,9 +1,13 @@
 pub mod Access
 pub mod ClassFaults
+pub mod ClassMatcherView
 pub mod ClassView
 pub mod Classes
-pub mod LineView
-pub mod Lines
+pub mod HostPolicyView
+pub mod HostRules
+pub mod KeptRules
 pub mod PolicyFaults
 pub mod PolicyView
+pub mod RuleView
+pub mod Rules
 pub mod Searches

@@ -1,4 +1,4 @@
--- Why a line is not added to a policy.
+-- Why a rule is not added to a policy.
 use Rattle.std.specs.Prelude.{◌≡◌, ℕ, List, ◌∷◌, ◌++◌, Option, Some, is_none}
 use Rattle.std.specs.List.{position_from}
 use Rattle.std.specs.Option.{option_to_list}
@@ -6,7 +6,7 @@ use Rattle.ldm_pattern.specs.Patterns.{pattern_meaning}
 use Rattle.ldm_class.specs.declared.policy.PolicyFault.{PolicyFault}
 use Rattle.ldm_class.specs.declared.policy.PolicyFault.TheVariants.{BadPattern, OutOfMemory}
 
--- the patterns of an ALLOW line, in the order in which they are given
+-- the patterns of an ALLOW rule, in the order in which they are given
 abbrev pub allow_patterns : List ℕ → Option (List ℕ) → Option (List ℕ) → List (List ℕ)
 allow_patterns host ok not = host ∷ (option_to_list ok ++ option_to_list not)
 

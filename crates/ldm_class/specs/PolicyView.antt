@@ -1,5 +1,5 @@
 -- What a contract sees of a `Policy`.
-use Rattle.ldm_class.specs.Lines.{Rules}
+use Rattle.ldm_class.specs.Rules.{Rules}
 use Rattle.ldm_class.specs.declared.policy.Policy.TheInside.{Inside}
 
 abbrev pub rules_of : Inside → Rules

@@ -7,12 +7,12 @@ use ldm_types::ClassSpec;
 pub enum Verdict {
     /// It may.
     Yes {
-        /// The number, from 1, of the first line that passes.
+        /// The number, from 1, of the first rule that passes.
         rule: u64,
     },
     /// It may not.
     No {
-        /// The number, from 1, of the first line that meets the host and the product, or 0 where none meets.
+        /// The number, from 1, of the first rule that meets the host and the product, or 0 where none meets.
         rule: u64,
     },
 }
@@ -26,7 +26,7 @@ pub enum Reduced {
     Fewer(ClassSpec),
     /// Nothing.
     Nothing {
-        /// The number, from 1, of the first line whose host pattern is found in the host, or 0 where there is none.
+        /// The number, from 1, of the first rule whose host pattern is found in the host, or 0 where there is none.
         rule: u64,
     },
 }

@@ -7,6 +7,7 @@ ghost use Rattle.ldm_class.specs.ClassFaults.{IsClassFaultOf, IsBuildFaultOf};
 ghost use Rattle.ldm_pattern.specs.Patterns.{pattern_meaning};
 ghost use Rattle.ldm_class.specs.Searches.{search_of};
 
+use crate::class_matcher::ClassMatcher;
 use crate::copy::copy_of;
 use crate::search::{Search, resumption};
 use ldm_pattern::{Pattern, Refusal};
@@ -107,8 +108,15 @@ impl Class {
         None
     }
 
+    /// What is asked which of many products the class wants.
+    pub fn matcher(&self, alloc: Global) -> Result<ClassMatcher<'_>, OutOfMemory>
+        ensures { IfOk result (λ class. class ≡ self.now) }
+    {
+        ClassMatcher::of(alloc, &self.spec, self.searches.as_slice())
+    }
+
     /// Whether the class wants a product: the feedtypes of some specification meet the product's, and its pattern is
-    /// found in the ident. When the product was inserted is not asked.
+    /// found in the ident. When the product was inserted is not asked. [`Class::matcher`] is for many products.
     pub fn wants(&self, alloc: Global, info: &Info) -> Result<bool, OutOfMemory>
         ensures { IfOk result (λ wanted. wanted ≡ wants self.now info.now) }
     {
@@ -128,7 +136,7 @@ fn searches_of(alloc: Global, specs: &[Spec]) -> Result<Vec<Search>, ClassFault>
         (λ searches. (searches.items ≡ filter_map search_of specs.now) × (bad_place specs.now ≡ None))
         (IsClassFaultOf specs.now) }
 {
-    let mut searches = Vec::new(alloc);
+    let mut searches = Vec::with_capacity(alloc, specs.len())?;
     for (place, spec) in specs.iter().enumerate() {
         if resumption(spec).is_none() {
             let pattern = build(alloc, spec.pattern.as_slice(), place as u32)?;

@@ -1,19 +1,24 @@
 //! Classes of products, as sites ask for them, and the rules of access: which products a host may be fed, and which
 //! it may push.
 //!
-//! Patterns are those of the crate `regex` on bytes. They are built once, where a class is built or a line added.
+//! Patterns are those of the crate `regex` on bytes. They are built once, where a class is built or a rule added. A session that
+//! asks for many products has a `ClassMatcher` and a `HostPolicy`, which search without taking memory again.
 #![tactic(auto)]
 
 mod answers;
 mod class;
+mod class_matcher;
 mod copy;
-mod line;
+mod host_policy;
 mod policy;
 mod reduce;
+mod rule;
 mod search;
 mod verdict;
 
 pub use answers::{Reduced, Verdict};
 pub use class::{Class, ClassFault};
+pub use class_matcher::ClassMatcher;
+pub use host_policy::HostPolicy;
 pub use policy::{Policy, PolicyFault};
 pub use reduce::same_is_left_whole;

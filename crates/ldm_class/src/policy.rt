@@ -2,12 +2,13 @@
 ghost use Rattle.std.specs.Prelude.{◌≡◌, [], ◌∷◌, ◌++◌, Ok, None, IfOk, MatchResult};
 ghost use Rattle.std.specs.Option.{option_copied, option_to_list};
 ghost use Rattle.ldm_class.specs.Access.{verdict, reduce};
-ghost use Rattle.ldm_class.specs.Lines.{no_rules, open_line, allow_line, accept_line, with_allow, with_accept, lines_for};
+ghost use Rattle.ldm_class.specs.Rules.{no_rules, open_rule, allow_rule, accept_rule, with_allow, with_accept, rules_for};
 ghost use Rattle.ldm_class.specs.PolicyFaults.{IsFaultFrom, allow_patterns, bad_from};
 
 use crate::answers::{Reduced, Verdict};
-use crate::line::Line;
+use crate::host_policy::HostPolicy;
 use crate::reduce::reduction_of;
+use crate::rule::Rule;
 use crate::verdict::verdict_of;
 use ldm_pattern::{Pattern, Refusal};
 use ldm_types::{ClassSpec, Feed, Info, OutOfMemory};
@@ -15,11 +16,11 @@ use std::alloc::{AllocFailed, Global};
 use std::marker::Model;
 use thiserror::Error;
 
-/// Why a line is not added.
+/// Why a rule is not added.
 #[derive(Clone, Copy, Debug, PartialEq, Eq, Error)]
 pub enum PolicyFault {
     /// A pattern is not UTF-8, the grammar of `regex` reads no pattern in it, or it nests too deep.
-    #[error("pattern {place} of the line is no pattern")]
+    #[error("pattern {place} of the rule is no pattern")]
     BadPattern {
         /// The place of the first such pattern among those that the call gives, from 0.
         place: u32,
@@ -29,26 +30,26 @@ pub enum PolicyFault {
     OutOfMemory,
 }
 
-impl From<AllocFailed<Line>> for PolicyFault {
+impl From<AllocFailed<Rule>> for PolicyFault {
     ghost use Rattle.std.specs.Prelude.{◌≡◌};
     ghost use Rattle.ldm_class.specs.declared.policy.PolicyFault.TheVariants.{OutOfMemory};
 
     ghost from_gives = { λ _ fault. fault ≡ OutOfMemory };
 
-    fn from(_error: AllocFailed<Line>) -> PolicyFault {
+    fn from(_error: AllocFailed<Rule>) -> PolicyFault {
         PolicyFault::OutOfMemory
     }
 }
 
-/// Which host may be fed what, and which may push what. Contracts see its two lists of lines.
+/// Which host may be fed what, and which may push what. Contracts see its two lists of rules.
 #[derive(Drop)]
 pub struct Policy {
-    allow: Vec<Line>,
-    accept: Vec<Line>,
+    allow: Vec<Rule>,
+    accept: Vec<Rule>,
 }
 
 impl Model for Policy {
-    ghost use Rattle.ldm_class.specs.Lines.{Rules};
+    ghost use Rattle.ldm_class.specs.Rules.{Rules};
 
     ghost Value = { Rules };
 
@@ -58,7 +59,7 @@ impl Model for Policy {
 }
 
 impl Policy {
-    /// A policy without lines: no host may be fed or push anything.
+    /// A policy without rules: no host may be fed or push anything.
     pub fn create(alloc: Global) -> Result<Policy, OutOfMemory>
         ensures { result ≡ Ok no_rules }
     {
@@ -68,12 +69,12 @@ impl Policy {
         })
     }
 
-    /// A policy with one ALLOW line, of feed ANY, that meets every host. No pattern is built for it.
+    /// A policy with one ALLOW rule, of feed ANY, that meets every host. No pattern is built for it.
     pub fn all(alloc: Global) -> Result<Policy, OutOfMemory>
-        ensures { IfOk result (λ policy. policy ≡ with_allow no_rules open_line) }
+        ensures { IfOk result (λ policy. policy ≡ with_allow no_rules open_rule) }
     {
         let mut policy = Policy::create(alloc)?;
-        policy.allow.push(Line {
+        policy.allow.push(Rule {
             feed: Feed(u32::MAX),
             host: None,
             ok: None,
@@ -82,7 +83,7 @@ impl Policy {
         Ok(policy)
     }
 
-    /// Adds the next ALLOW line: a host in whose name `host` is found may be fed the products whose feedtypes meet
+    /// Adds the next ALLOW rule: a host in whose name `host` is found may be fed the products whose feedtypes meet
     /// `feed`, in whose ident `ok` is found, if it is given, and `not` is not found, if it is given.
     ///
     /// After a fault the policy is as before.
@@ -95,12 +96,12 @@ impl Policy {
         not: Option<&[u8]>,
     ) -> Result<(), PolicyFault>
         ensures { let patterns = allow_patterns host.now (option_copied ok.entry) (option_copied not.entry) in MatchResult result
-            (λ _. (self.new ≡ with_allow self.old (allow_line feed.0 host.now (option_copied ok.entry) (option_copied not.entry))) × (bad_from 0 patterns ≡ None))
+            (λ _. (self.new ≡ with_allow self.old (allow_rule feed.0 host.now (option_copied ok.entry) (option_copied not.entry))) × (bad_from 0 patterns ≡ None))
             (λ fault. (self.new ≡ self.old) × IsFaultFrom 0 patterns fault) }
     {
         let host = build(alloc, host, 0)?;
         let (ok, not) = build_both(alloc, ok, not)?;
-        self.allow.push(Line {
+        self.allow.push(Rule {
             feed,
             host: Some(host),
             ok,
@@ -109,7 +110,7 @@ impl Policy {
         Ok(())
     }
 
-    /// Adds the next ACCEPT line: a host in whose name `host` is found may push the products whose feedtypes meet
+    /// Adds the next ACCEPT rule: a host in whose name `host` is found may push the products whose feedtypes meet
     /// `feed` and in whose ident `pattern` is found.
     ///
     /// After a fault the policy is as before.
@@ -121,12 +122,12 @@ impl Policy {
         host: &[u8],
     ) -> Result<(), PolicyFault>
         ensures { let patterns = pattern.now ∷ host.now ∷ [] in MatchResult result
-            (λ _. (self.new ≡ with_accept self.old (accept_line feed.0 pattern.now host.now)) × (bad_from 0 patterns ≡ None))
+            (λ _. (self.new ≡ with_accept self.old (accept_rule feed.0 pattern.now host.now)) × (bad_from 0 patterns ≡ None))
             (λ fault. (self.new ≡ self.old) × IsFaultFrom 0 patterns fault) }
     {
         let ok = build(alloc, pattern, 0)?;
         let host = build(alloc, host, 1)?;
-        self.accept.push(Line {
+        self.accept.push(Rule {
             feed,
             host: Some(host),
             ok: Some(ok),
@@ -135,7 +136,20 @@ impl Policy {
         Ok(())
     }
 
-    /// Whether a host may push a product, by the ACCEPT lines, or else be fed it, by the ALLOW lines.
+    /// What is asked which of many products a host may push, by the ACCEPT rules, or else be fed, by the ALLOW rules.
+    pub fn for_host(
+        &self,
+        alloc: Global,
+        host: &[u8],
+        push: bool,
+    ) -> Result<HostPolicy<'_>, OutOfMemory>
+        ensures { IfOk result (λ policy. policy ≡ record { rules = rules_for push self.now; host = host.now }) }
+    {
+        HostPolicy::of(alloc, self.rules(push), host)
+    }
+
+    /// Whether a host may push a product, by the ACCEPT rules, or else be fed it, by the ALLOW rules.
+    /// [`Policy::for_host`] is for many products.
     pub fn verdict(
         &self,
         alloc: Global,
@@ -143,14 +157,14 @@ impl Policy {
         info: &Info,
         push: bool,
     ) -> Result<Verdict, OutOfMemory>
-        ensures { IfOk result (λ answer. answer ≡ verdict (lines_for push self.now) host.now info.now) }
+        ensures { IfOk result (λ answer. answer ≡ verdict (rules_for push self.now) host.now info.now) }
     {
-        verdict_of(self.lines(push), alloc, host, info)
+        verdict_of(alloc, self.rules(push), host, info)
     }
 
-    /// What is left of a class that a host wants to push, by the ACCEPT lines, or else to be fed, by the ALLOW lines.
+    /// What is left of a class that a host wants to push, by the ACCEPT rules, or else to be fed, by the ALLOW rules.
     ///
-    /// The feedtypes of each specification are met with those of all lines that are about the host, and one that
+    /// The feedtypes of each specification are met with those of all rules that are about the host, and one that
     /// has none left is dropped. A specification of feed NONE with the pattern `SIG=` and 32 hexadecimal digits is kept,
     /// and does not count when nothing else is left.
     pub fn reduce(
@@ -160,13 +174,13 @@ impl Policy {
         class: &ClassSpec,
         push: bool,
     ) -> Result<Reduced, OutOfMemory>
-        ensures { IfOk result (λ answer. answer ≡ reduce (lines_for push self.now) host.now class.now) }
+        ensures { IfOk result (λ answer. answer ≡ reduce (rules_for push self.now) host.now class.now) }
     {
-        reduction_of(self.lines(push), alloc, host, class)
+        reduction_of(alloc, self.rules(push), host, class)
     }
 
-    fn lines(&self, push: bool) -> &[Line]
-        ensures { result.now ≡ lines_for push self.now }
+    fn rules(&self, push: bool) -> &[Rule]
+        ensures { result.now ≡ rules_for push self.now }
     {
         if push {
             self.accept.as_slice()
@@ -189,7 +203,7 @@ fn build(alloc: Global, pattern: &[u8], place: u32) -> Result<Pattern, PolicyFau
     }
 }
 
-// The patterns behind the first of a line.
+// The patterns behind the first of a rule.
 fn build_both(
     alloc: Global,
     ok: Option<&[u8]>,

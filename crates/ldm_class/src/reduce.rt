@@ -1,49 +1,49 @@
-//! What lines leave of a class.
+//! What rules leave of a class.
 ghost use Rattle.std.specs.Prelude.{◌≡◌, ◌↔◌, ℕ, List, true, IfOk};
 ghost use Rattle.std.specs.List.{list_any, list_all};
 ghost use Rattle.ldm_types.specs.Feed.{feeds_meet};
 ghost use Rattle.ldm_types.specs.declared.class.Spec.{Spec};
-ghost use Rattle.ldm_class.specs.Access.{feeds_for, first_line, is_about, is_within, left_of, narrowed, or_none, reduce, reduced};
+ghost use Rattle.ldm_class.specs.Access.{feeds_for, first_rule, is_about, is_within, left_of, narrowed, or_none, reduce, reduced};
 
 use crate::answers::Reduced;
 use crate::copy::copied_pattern;
-use crate::line::Line;
+use crate::rule::Rule;
 use crate::search::resumption;
 use arrayvec::ArrayVec;
 use ldm_types::{ClassSpec, Feed, MOST_SPECS, OutOfMemory, Spec};
 use std::alloc::Global;
 
-/// What is left of a class that a host asks for, by these lines.
+/// What is left of a class that a host asks for, by these rules.
 pub fn reduction_of(
-    lines: &[Line],
     alloc: Global,
+    rules: &[Rule],
     host: &[u8],
     class: &ClassSpec,
 ) -> Result<Reduced, OutOfMemory>
-    ensures { IfOk result (λ answer. answer ≡ reduce lines.now host.now class.now) }
+    ensures { IfOk result (λ answer. answer ≡ reduce rules.now host.now class.now) }
 {
-    let share = share_of(lines, alloc, host)?;
+    let share = share_of(alloc, rules, host)?;
     Ok(reduced(share, class))
 }
 
-/// What lines say of a host.
+/// What rules say of a host.
 #[derive(Clone, Copy)]
 struct Share {
-    // The feedtypes of all lines that are about it.
+    // The feedtypes of all rules that are about it.
     feeds: Feed,
-    // The number of the first such line, from 1, or 0 for none.
+    // The number of the first such rule, from 1, or 0 for none.
     rule: u64,
 }
 
-fn share_of(lines: &[Line], alloc: Global, host: &[u8]) -> Result<Share, OutOfMemory>
-    ensures feeds { IfOk result (λ share. share.feeds.0 ≡ feeds_for host.now lines.now) }
-    ensures rule { IfOk result (λ share. share.rule ≡ or_none (first_line (is_about host.now) lines.now)) }
+fn share_of(alloc: Global, rules: &[Rule], host: &[u8]) -> Result<Share, OutOfMemory>
+    ensures feeds { IfOk result (λ share. share.feeds.0 ≡ feeds_for host.now rules.now) }
+    ensures rule { IfOk result (λ share. share.rule ≡ or_none (first_rule (is_about host.now) rules.now)) }
 {
     let mut feeds = 0;
     let mut first = None;
-    for (place, line) in lines.iter().enumerate() {
-        if line.is_about(alloc, host)? {
-            feeds |= line.feed.0;
+    for (place, rule) in rules.iter().enumerate() {
+        if rule.is_about(alloc, host)? {
+            feeds |= rule.feed.0;
             first = first.or(Some(place as u64 + 1));
         }
     }

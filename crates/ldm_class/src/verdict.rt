@@ -1,29 +1,29 @@
-//! Whether lines let a product pass.
+//! Whether rules let a product pass.
 ghost use Rattle.std.specs.Prelude.{◌≡◌, IfOk};
 ghost use Rattle.ldm_class.specs.Access.{verdict};
 
 use crate::answers::Verdict;
-use crate::line::Line;
+use crate::rule::Rule;
 use ldm_types::{Info, OutOfMemory};
 use std::alloc::Global;
 
-/// The verdict of these lines on a host and a product. The feedtypes are asked first, then the host, then the ident.
+/// The verdict of these rules on a host and a product. The feedtypes are asked first, then the host, then the ident.
 pub fn verdict_of(
-    lines: &[Line],
     alloc: Global,
+    rules: &[Rule],
     host: &[u8],
     info: &Info,
 ) -> Result<Verdict, OutOfMemory>
-    ensures { IfOk result (λ answer. answer ≡ verdict lines.now host.now info.now) }
+    ensures { IfOk result (λ answer. answer ≡ verdict rules.now host.now info.now) }
 {
     let mut first_met = None;
-    for (place, line) in lines.iter().enumerate() {
-        if line.meets(alloc, host, info)? {
-            let rule = place as u64 + 1;
-            if line.passes(alloc, info)? {
-                return Ok(Verdict::Yes { rule });
+    for (place, rule) in rules.iter().enumerate() {
+        if rule.meets(alloc, host, info)? {
+            let number = place as u64 + 1;
+            if rule.passes(alloc, info)? {
+                return Ok(Verdict::Yes { rule: number });
             }
-            first_met = first_met.or(Some(rule));
+            first_met = first_met.or(Some(number));
         }
     }
     Ok(Verdict::No {

@@ -1,8 +1,8 @@
 -- The parts of a command, one after another.
-use Rattle.std.proofs.Common.{◌≡◌, ◌∙◌, ℕ, ◌+◌, ◌<◌, ◌≤◌, ◌==◌, inl, inr, Bool, true, false, not, List, [], ◌∷◌, ◌++◌, length, take, drop, get_or, filter, refl, sym, ap, subst, arith, append-nil}
+use Rattle.std.proofs.Common.{◌≡◌, ◌∙◌, ℕ, ◌+◌, ◌<◌, ◌≤◌, ◌==◌, inl, inr, Bool, true, false, not, List, [], ◌∷◌, ◌++◌, length, take, drop, get_or, filter, map, refl, sym, ap, subst, arith, append-nil}
 use Rattle.std.proofs.lemmas.Bool.{eqb-true, cases_lt, ne_eqb, not_from_false, or_cases}
 use Rattle.std.proofs.lemmas.Str.{IsUtf8-drop, IsCharBoundary-start, IsCharBoundary-end, IsCharBoundary-before_ascii, IsCharBoundary-after_ascii, IsCharBoundary-from_rest}
-use Rattle.std.specs.List.{position_or_len, prefix_len, slice_split}
+use Rattle.std.specs.List.{list_all, position_or_len, prefix_len, slice_split}
 use Rattle.std.specs.Str.{IsCharBoundary, IsUtf8}
 use Rattle.ldm_text.specs.Blanks.{begins_in_blank, is_blank}
 use Rattle.ldm_text.proofs.CallerLemmas.{passes, stops, is_here, is_behind}
@@ -60,6 +60,19 @@ first_part (byte ∷ bytes) some part =
     let long : has_bytes (take (position_or_len is_blank (byte ∷ bytes)) (byte ∷ bytes)) ≡ true =
     rw (is_behind is_blank byte bytes part) (has_one byte (take (position_or_len is_blank bytes) bytes)) in
     rw (front.is, long) (ap (λ parts. take (position_or_len is_blank (byte ∷ bytes)) (byte ∷ bytes) ∷ parts) front.left)
+
+-- a text with a byte that is no blank has a part
+pub has_part : (text : List ℕ) → list_all is_blank text ≡ false → 0 < length (parts_of text)
+has_part [] h = absurd cc
+has_part (byte ∷ bytes) h =
+    elim (is_blank byte) as (λ b. is_blank byte ≡ b → 0 < length (parts_of (byte ∷ bytes))) [
+      | true ↦ λ is. let later : list_all is_blank bytes ≡ false = rw is at h in rw (blank_first byte bytes is) (has_part bytes later)
+      | false ↦ λ is. rw (first_part (byte ∷ bytes) (omega arith) is) (omega arith)
+    ] refl
+
+pub some_mapped : {A B : Type 0} (f : A → B) (xs : List A) (ys : List B) → map f xs ≡ ys → 0 < length ys → 0 < length xs
+some_mapped f [] ys is some = let none : 0 ≡ length ys = ap length is in omega arith
+some_mapped f (x ∷ xs) ys is some = omega arith
 
 pub shorter : (text : List ℕ) → 0 < length text → begins_in_blank text ≡ false → 0 < position_or_len is_blank text
 shorter [] some part = absurd (omega arith)

@@ -1,4 +1,4 @@
-pub mod Addresses
+pub mod Ports
 pub mod Commands
 pub mod Parsing
 pub mod Progress

@@ -1,8 +1,8 @@
--- What a REQUEST line asks: `HOST` or `HOST:PORT`.
+-- Hosts and ports: `HOST` or `HOST:PORT`.
 use Rattle.std.specs.Prelude.{ℕ, ◌+◌, ◌-◌, ◌*◌, ◌^◌, Bool, false, ◌==◌, ◌&&◌, not, nat_le, nat_lt, if◌then◌else◌, List, [], ◌∷◌, length, Option, Some, None}
 use Rattle.std.specs.Char.{is_ascii_digit}
 use Rattle.std.specs.List.{list_all}
-use Rattle.ldm_conf.specs.declared.limits.TheConstants.{DEFAULT_PORT, LONGEST_HOST}
+use Rattle.ldm_conf.specs.declared.limits.TheConstants.{DEFAULT_PORT, LONGEST_HOST_NAME}
 
 -- a host, and the port to ask it at
 pub record Address : Type 0 where
@@ -40,7 +40,7 @@ port_of text = if is_port text then Some (digits_from 0 text) else None
 
 -- a host has at least one byte, and at most so many
 abbrev pub is_host : List ℕ → Bool
-is_host host = nat_le 1 (length host) && nat_le (length host) LONGEST_HOST
+is_host host = nat_le 1 (length host) && nat_le (length host) LONGEST_HOST_NAME
 
 -- a host with a port, if it is a host
 abbrev pub at_port : List ℕ → ℕ → Option Address

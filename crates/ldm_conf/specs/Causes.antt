@@ -37,7 +37,7 @@ pub record ReadsTo (store : StoreRecord) (text : List ℕ) (end : End) : Type 0 
 abbrev pub StandsAt : ConfFault → Line → Type 0
 StandsAt fault line = (fault.file ≡ line.file) × (fault.line ≡ line.number)
 
--- A fault at an INCLUDE line: reading comes to it, and the store answered so when it was asked for the file.
+-- A fault at an INCLUDE line: reading comes to it, and the store answered so.
 pub record IsOfFile (ends : End → Type 0) (answer : FileRead) (fault : ConfFault) (old new : StoreRecord) : Type 0 where
   pub line : Line
   pub path : List ℕ

@@ -6,7 +6,7 @@ use Rattle.ldm_text.specs.Words.{words_of}
 use Rattle.ldm_text.specs.declared.words.Comments.TheVariants.{Hash}
 use Rattle.ldm_feedtype.specs.Reading.{feed_number}
 use Rattle.ldm_types.specs.declared.limits.TheConstants.{LONGEST_PATTERN}
-use Rattle.ldm_class.specs.Lines.{allow_line, accept_line}
+use Rattle.ldm_class.specs.Rules.{allow_rule, accept_rule}
 use Rattle.ldm_conf.specs.declared.fault.ConfKind.{ConfKind}
 use Rattle.ldm_conf.specs.declared.fault.ConfKind.TheVariants as kind
 use Rattle.ldm_conf.specs.declared.keyword.Keyword.{Keyword}
@@ -39,21 +39,21 @@ adding feedtype directive = feed_of feedtype >>= λ feed. Ok (Adds (directive fe
 
 -- what a line says by the words behind its keyword: `ALLOW feedtype hostpattern [okpattern [notpattern]]`
 abbrev pub allowing : List (List ℕ) → Result Statement ConfKind
-allowing (feedtype ∷ host ∷ []) = adding feedtype (λ feed. Allow (allow_line feed host None None))
-allowing (feedtype ∷ host ∷ ok ∷ []) = adding feedtype (λ feed. Allow (allow_line feed host (Some ok) None))
-allowing (feedtype ∷ host ∷ ok ∷ not ∷ []) = adding feedtype (λ feed. Allow (allow_line feed host (Some ok) (Some not)))
+allowing (feedtype ∷ host ∷ []) = adding feedtype (λ feed. Allow (allow_rule feed host None None))
+allowing (feedtype ∷ host ∷ ok ∷ []) = adding feedtype (λ feed. Allow (allow_rule feed host (Some ok) None))
+allowing (feedtype ∷ host ∷ ok ∷ not ∷ []) = adding feedtype (λ feed. Allow (allow_rule feed host (Some ok) (Some not)))
 allowing words = Err kind.Fields
 
 -- `ACCEPT feedtype pattern hostpattern`
 abbrev pub accepting : List (List ℕ) → Result Statement ConfKind
-accepting (feedtype ∷ pattern ∷ host ∷ []) = adding feedtype (λ feed. Accept (accept_line feed pattern host))
+accepting (feedtype ∷ pattern ∷ host ∷ []) = adding feedtype (λ feed. Accept (accept_rule feed pattern host))
 accepting words = Err kind.Fields
 
 -- a pattern has at most so many bytes in a class
 abbrev pub asking_for : List ℕ → List ℕ → Address → Result Statement ConfKind
 asking_for feedtype pattern address =
     if nat_le (length pattern) LONGEST_PATTERN
-    then adding feedtype (λ feed. Request (record { class = all_times feed pattern; host = record { items = address.host }; port = address.port }))
+    then adding feedtype (λ feed. Request (record { class = all_times feed pattern; host = address.host; port = address.port }))
     else Err kind.Fields
 
 -- `REQUEST feedtype pattern host[:port]`

@@ -7,14 +7,32 @@ ghost use Rattle.ldm_text.specs.Blanks.{begins_in_blank};
 use ldm_text::{count_blanks, is_blank_text, place_of_blank};
 use std::alloc::{AllocError, Global};
 
+/// The words of a program to start, of which the first is the program. There is at least one.
+#[derive(Drop)]
+pub struct Command {
+    pub words: Vec<String>,
+    pub ghost some: { 0 < length words.items },
+}
+
+/// The text of a command. It has a part.
+#[derive(Clone, Copy)]
+pub struct CommandText<'a> {
+    pub text: &'a str,
+    pub ghost some: { 0 < length (parts_of text.now) },
+}
+
 /// The text of a command, if it is UTF-8 and has a part.
-pub fn read_command(word: &[u8]) -> Option<&str>
-    ensures { MatchOption result (is_command word.now ≡ false) (λ command. (is_command word.now ≡ true) × (command.now ≡ word.now)) }
+#[tactic(auto, using(crate::proofs::Commands::has_part))]
+pub fn read_command(word: &[u8]) -> Option<CommandText<'_>>
+    ensures { MatchOption result (is_command word.now ≡ false) (λ command. (is_command word.now ≡ true) × (command.text.now ≡ word.now)) }
 {
     if is_blank_text(word) {
         return None;
     }
-    text_of(word)
+    match text_of(word) {
+        Some(text) => Some(CommandText { text }),
+        None => None,
+    }
 }
 
 /// The text of a word, if it is UTF-8.
@@ -28,7 +46,15 @@ pub fn text_of(word: &[u8]) -> Option<&str>
 }
 
 /// The parts of a command, which blanks and tabs separate.
-pub fn split_command(alloc: Global, command: &str) -> Result<Vec<String>, AllocError>
+#[tactic(auto, using(crate::proofs::Commands::some_mapped))]
+pub fn split_command(alloc: Global, command: CommandText<'_>) -> Result<Command, AllocError>
+    ensures { IfOk result (λ words. map string_bytes words.words.items ≡ parts_of command.entry.text.now) }
+{
+    let words = split_text(alloc, command.text)?;
+    Ok(Command { words })
+}
+
+fn split_text(alloc: Global, command: &str) -> Result<Vec<String>, AllocError>
     ensures { IfOk result (λ parts. map string_bytes parts.items ≡ parts_of command.now) }
 {
     let mut parts = Vec::new(alloc);

@@ -4,25 +4,15 @@ ghost use Rattle.ldm_types.specs.declared.limits.TheConstants.{GREATEST_INSTANT}
 ghost use Rattle.ldm_conf.specs.Confs.{all_times, conf_view, no_conf};
 ghost use Rattle.ldm_conf.specs.Adding.{AddsDirective};
 
-use crate::command::split_command;
+use crate::address::Address;
+use crate::command::{Command, split_command};
 use crate::directive::Directive;
 use crate::fault::ConfKind;
-use crate::limits::LONGEST_HOST;
+use crate::request::Request;
 use arrayvec::ArrayVec;
 use ldm_class::{Class, Policy};
 use ldm_types::{ClassSpec, Feed, LONGEST_PATTERN, Micros, OutOfMemory, Spec};
 use std::alloc::Global;
-
-/// What a REQUEST line asks for.
-#[derive(Drop)]
-pub struct Request {
-    /// One specification, of all times.
-    pub class: Class,
-    /// The host, of 1 to 255 bytes.
-    pub host: ArrayVec<u8, LONGEST_HOST>,
-    /// The port, at least 1.
-    pub port: u16,
-}
 
 /// What a node does, as its ldmd.conf says. Each list is in the order of the lines.
 #[derive(Drop)]
@@ -31,8 +21,8 @@ pub struct Conf {
     pub policy: Policy,
     /// What to ask for.
     pub requests: Vec<Request>,
-    /// The programs to start: for each its words, of which the first is the program. There is at least one word.
-    pub commands: Vec<Vec<String>>,
+    /// The programs to start.
+    pub commands: Vec<Command>,
 }
 
 impl Conf {
@@ -66,15 +56,17 @@ impl Conf {
             Directive::Request {
                 feed,
                 pattern,
-                host,
-                port,
+                address,
             } => {
+                self.requests.reserve(1)?;
                 let class = Class::build(alloc, &all_times(feed, pattern))?;
+                let Address { host, port } = address;
                 self.requests.push(Request { class, host, port })?;
             }
             Directive::Exec { command } => {
-                let words = split_command(alloc, command)?;
-                self.commands.push(words)?;
+                self.commands.reserve(1)?;
+                let command = split_command(alloc, command)?;
+                self.commands.push(command)?;
             }
         }
         Ok(())

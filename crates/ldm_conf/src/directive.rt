@@ -1,6 +1,7 @@
 //! What lines say.
 
-use crate::limits::LONGEST_HOST;
+use crate::address::Address;
+use crate::command::CommandText;
 use arrayvec::ArrayVec;
 use ldm_types::{Feed, LONGEST_PATTERN};
 
@@ -24,12 +25,11 @@ pub enum Directive<'a> {
     Request {
         feed: Feed,
         pattern: ArrayVec<u8, LONGEST_PATTERN>,
-        host: ArrayVec<u8, LONGEST_HOST>,
-        port: u16,
+        address: Address,
     },
     /// A program to start.
     Exec {
-        command: &'a str,
+        command: CommandText<'a>,
     },
 }
 

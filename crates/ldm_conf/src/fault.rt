@@ -2,7 +2,8 @@
 ghost use Rattle.std.specs.Prelude.{◌≡◌};
 ghost use Rattle.ldm_conf.specs.Causes.{kind_number};
 
-use crate::conf::Request;
+use crate::command::Command;
+use crate::request::Request;
 use ldm_class::{ClassFault, PolicyFault};
 use std::alloc::{AllocError, AllocFailed};
 use thiserror::Error;
@@ -79,13 +80,13 @@ impl From<AllocFailed<Request>> for ConfKind {
     }
 }
 
-impl From<AllocFailed<Vec<String>>> for ConfKind {
+impl From<AllocFailed<Command>> for ConfKind {
     ghost use Rattle.std.specs.Prelude.{◌≡◌};
     ghost use Rattle.ldm_conf.specs.declared.fault.ConfKind.TheVariants.{OutOfMemory};
 
     ghost from_gives = { λ _ kind. kind ≡ OutOfMemory };
 
-    fn from(_error: AllocFailed<Vec<String>>) -> ConfKind {
+    fn from(_error: AllocFailed<Command>) -> ConfKind {
         ConfKind::OutOfMemory
     }
 }

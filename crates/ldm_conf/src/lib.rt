@@ -2,6 +2,7 @@
 #![tactic(auto)]
 
 mod address;
+mod addresses;
 mod command;
 mod conf;
 mod directive;
@@ -11,9 +12,14 @@ mod limits;
 mod lines;
 mod parse;
 mod reader;
+mod request;
 mod words;
 
-pub use conf::{Conf, Request};
+pub use address::Address;
+pub use addresses::{read_address, read_port};
+pub use command::Command;
+pub use conf::Conf;
 pub use fault::{ConfFault, ConfKind};
-pub use limits::{DEEPEST_INCLUDE, DEFAULT_PORT, LONGEST_CONF, LONGEST_HOST, MOST_FILES};
+pub use limits::{DEEPEST_INCLUDE, DEFAULT_PORT, LONGEST_CONF, LONGEST_HOST_NAME, MOST_FILES};
 pub use reader::read_conf;
+pub use request::Request;

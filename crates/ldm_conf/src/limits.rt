@@ -9,10 +9,10 @@ pub const DEEPEST_INCLUDE: u32 = 8;
 /// How many files are read at most, the first among them.
 pub const MOST_FILES: u32 = 1_024;
 
-/// How many bytes the host of a REQUEST line has at most.
-pub const LONGEST_HOST: usize = 255;
+/// How many bytes the host has at most that a node is to ask.
+pub const LONGEST_HOST_NAME: usize = 255;
 
-/// The port of a REQUEST line that names none.
+/// The port of a node where none is named.
 pub const DEFAULT_PORT: u16 = 388;
 
 // How many words stand behind a keyword at most.

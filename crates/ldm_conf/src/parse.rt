@@ -1,14 +1,14 @@
 //! What a line says.
 ghost use Rattle.std.specs.Prelude.{◌≡◌, Ok, MatchResult};
 ghost use Rattle.std.specs.Option.{option_copied};
-ghost use Rattle.ldm_class.specs.Lines.{allow_line};
+ghost use Rattle.ldm_class.specs.Rules.{allow_rule};
 ghost use Rattle.ldm_conf.specs.Confs as confs;
 ghost use Rattle.ldm_conf.specs.Statements.{statement_of, said, adding, feed_of, allowing, accepting, requesting, executing, including};
 ghost use Rattle.ldm_conf.specs.Kept.{lent};
 ghost use Rattle.ldm_conf.specs.LineFaults.{IsKindOf};
 ghost use Rattle.ldm_conf.specs.DirectiveViews.{statement_view};
 
-use crate::address::read_address;
+use crate::addresses::read_address;
 use crate::command::{read_command, text_of};
 use crate::directive::{Directive, Statement};
 use crate::fault::ConfKind;
@@ -70,7 +70,7 @@ fn allow<'a>(
     ok: Option<&'a [u8]>,
     not: Option<&'a [u8]>,
 ) -> Result<Statement<'a>, ConfKind>
-    ensures { let meaning = adding feedtype.now (λ feed. confs.Allow (allow_line feed host.now (option_copied ok.entry) (option_copied not.entry))) in
+    ensures { let meaning = adding feedtype.now (λ feed. confs.Allow (allow_rule feed host.now (option_copied ok.entry) (option_copied not.entry))) in
         MatchResult result (λ statement. meaning ≡ Ok (statement_view statement)) (IsKindOf meaning) }
 {
     let feed = read_feedtype(feedtype)?;
@@ -112,8 +112,7 @@ fn read_request<'a>(words: &[&'a [u8]]) -> Result<Statement<'a>, ConfKind>
     Ok(Statement::Adds(Directive::Request {
         feed,
         pattern,
-        host: address.host,
-        port: address.port,
+        address,
     }))
 }
 

@@ -3,7 +3,8 @@ use Rattle.ldm_types.specs.Feed.{feeds_meet}
 use Rattle.ldm_types.specs.declared.class.ClassSpec.{ClassSpec}
 use Rattle.ldm_class.specs.Classes.{wants}
 use Rattle.ldm_pattern.specs.Patterns.{found}
-use Rattle.ldm_class.proofs.Searches.{search_wants, some_passes, none_passes, wanted}
+use Rattle.ldm_class.specs.Searches.{search_wants}
+use Rattle.ldm_class.proofs.Searches.{some_passes, none_passes, wanted}
 use Rattle.ldm_class.proofs.class.Class.wants.Goals as goal
 
 pub returns-then-branch : goal.returns-then-branch

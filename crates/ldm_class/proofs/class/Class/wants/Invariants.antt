@@ -1,6 +1,6 @@
 use Rattle.std.proofs.Common.{◌≡◌, drop}
 use Rattle.std.specs.List.{list_any}
-use Rattle.ldm_class.proofs.Searches.{search_wants}
+use Rattle.ldm_class.specs.Searches.{search_wants}
 use Rattle.ldm_class.proofs.class.Class.wants.Given as goal
 
 abbrev pub invariant-loop-search : goal.invariant-loop-search

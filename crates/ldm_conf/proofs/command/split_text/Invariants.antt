@@ -3,7 +3,7 @@ use denote.Text.{Utf8}
 use denote.Shadow.{shadow}
 use Rattle.ldm_text.specs.Blanks.{begins_in_blank}
 use Rattle.ldm_conf.specs.Commands.{parts_of}
-use Rattle.ldm_conf.proofs.command.split_command.Given as goal
+use Rattle.ldm_conf.proofs.command.split_text.Given as goal
 
 abbrev pub invariant-loop-rest : goal.invariant-loop-rest
 invariant-loop-rest l =

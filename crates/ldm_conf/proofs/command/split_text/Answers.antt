@@ -1,7 +1,7 @@
 use Rattle.std.proofs.Common.{◌∙◌, map, string_bytes, sym}
 use Rattle.ldm_conf.proofs.Commands.{all_read}
 use Rattle.ldm_conf.specs.Commands.{parts_of}
-use Rattle.ldm_conf.proofs.command.split_command.Goals as goal
+use Rattle.ldm_conf.proofs.command.split_text.Goals as goal
 
 pub returns : goal.returns
 returns c =

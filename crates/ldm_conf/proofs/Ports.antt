@@ -1,6 +1,7 @@
 -- Where a text is cut at its last colon, and the port that it spells.
-use Rattle.std.proofs.Common.{◌≡◌, ◌∙◌, ℕ, zero, suc, ◌+◌, ◌<◌, ◌≤◌, ◌^◌, ◌==◌, Bool, true, false, ◌&&◌, nat_le, nat_lt, List, [], ◌∷◌, length, take, drop, get_or, slice_index, Some, None, Result, Ok, Err, refl, sym, ap, arith, rules}
+use Rattle.std.proofs.Common.{◌≡◌, ◌∙◌, ℕ, zero, suc, ◌+◌, ◌-◌, ◌*◌, ◌<◌, ◌≤◌, ◌^◌, ◌==◌, Bool, true, false, cond, not, ◌&&◌, nat_le, nat_lt, List, [], ◌∷◌, length, take, drop, get_or, slice_index, IfSome, Some, None, Result, Ok, Err, refl, sym, ap, arith, rules}
 use Rattle.std.proofs.lemmas.Bool.{and_parts, le-leb, leb-true, lt-ltb, ltb-true}
+use Rattle.std.proofs.lemmas.Bool.Decides.{nat_tests}
 use Rattle.std.proofs.lemmas.Str.{IsUtf8-from_ascii}
 use Rattle.std.proofs.lemmas.Str.Parse.{parse_digits, IsNumeralModel, numerals_by_fold}
 use Rattle.std.specs.Result.{OkIff, result_ok}
@@ -9,7 +10,7 @@ use Rattle.std.specs.List.{list_all}
 use Rattle.std.specs.Str.{all_ascii_digits, IsAscii, IsUtf8}
 use Rattle.std.specs.Str.Parse.{ParsesUnsigned}
 use Rattle.memchr.specs.Find.{is_byte}
-use Rattle.ldm_conf.specs.Addresses.{at_last_colon, begins_with_zero, digits_from, port_of}
+use Rattle.ldm_conf.specs.Addresses.{at_last_colon, begins_with_zero, digits_from, is_port, port_of}
 
 abbrev is_colon : ℕ → Bool
 is_colon = is_byte 58
@@ -74,6 +75,32 @@ pub no_port_digits : (text : List ℕ) → begins_with_zero text ≡ false → l
 no_port_digits text no_zero none = elim (nat_le 1 (length text)) as (λ b. nat_le 1 (length text) ≡ b → None ≡ port_of text) [
   | true ↦ λ some. rw (some, no_zero, none) refl
   | false ↦ λ nothing. rw nothing refl
+] refl
+
+digits_behind_some : (n : ℕ) (text : List ℕ) → 0 < n → 0 < digits_from n text
+digits_behind_some n [] some = some
+digits_behind_some n (byte ∷ bytes) some = digits_behind_some (10 * n + (byte - 48)) bytes (omega arith)
+
+digit_from_one : (byte : ℕ) → not (byte == 48) ≡ true → 48 ≤ byte → 48 < byte
+digit_from_one byte other low = grind (arith, nat_tests)
+
+port_is_some : (text : List ℕ) → is_port text ≡ true → 0 < digits_from 0 text
+port_is_some [] is = absurd cc
+port_is_some (byte ∷ bytes) is =
+    let text = byte ∷ bytes in
+    let front = and_parts (nat_le 1 (length text) && not (byte == 48)) (list_all is_ascii_digit text)
+    (and_parts (nat_le 1 (length text) && not (byte == 48) && list_all is_ascii_digit text) (nat_lt (digits_from 0 text) (2 ^ 16)) is).0 in
+    let other = (and_parts (nat_le 1 (length text)) (not (byte == 48)) front.0).1 in
+    let digit = (and_parts (is_ascii_digit byte) (list_all is_ascii_digit bytes) front.1).0 in
+    let low : 48 ≤ byte = leb-true 48 byte (and_parts (nat_le 48 byte) (nat_le byte 57) digit).0 in
+    let above : 48 < byte = digit_from_one byte other low in
+    digits_behind_some (10 * 0 + (byte - 48)) bytes (omega arith)
+
+-- a port is at least 1
+pub some_port : (text : List ℕ) → IfSome (port_of text) (λ port. 0 < port)
+some_port text = elim (is_port text) as (λ b. is_port text ≡ b → IfSome (cond b (Some (digits_from 0 text)) None) (λ port. 0 < port)) [
+  | true ↦ λ is. port_is_some text is
+  | false ↦ λ _. tt
 ] refl
 
 digit_is_ascii : (byte : ℕ) → is_ascii_digit byte ≡ true → byte < 128

@@ -1,7 +1,7 @@
 use Rattle.std.proofs.Common.{sym}
 use Rattle.std.proofs.lemmas.List.{take_rest}
-use Rattle.ldm_conf.proofs.Addresses.{last_at, none_at}
-use Rattle.ldm_conf.proofs.address.at_last_colon.Goals as goal
+use Rattle.ldm_conf.proofs.Ports.{last_at, none_at}
+use Rattle.ldm_conf.proofs.addresses.at_last_colon.Goals as goal
 
 pub returns-in-Some : goal.returns-in-Some
 returns-in-Some c =
