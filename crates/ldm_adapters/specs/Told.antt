@@ -1,5 +1,5 @@
 -- What the forms of the system tell: counts alone.
-use Rattle.std.specs.Prelude.{None}
+use Rattle.std.specs.Prelude.{Some, None}
 use Rattle.ldm_outside.specs.declared.net.Station.{Station}
 use Rattle.ldm_outside.specs.Clock.{ClockRecord}
 use Rattle.ldm_outside.specs.Dial.{DialRecord}
@@ -24,7 +24,7 @@ abbrev pub told_by_clock : RealClock → ClockRecord
 told_by_clock s = record { answers = None }
 
 abbrev pub told_by_gate : RealGate → GateRecord
-told_by_gate s = record { stops = s.stops; calls = None }
+told_by_gate s = record { stops = s.stops; idles = Some s.idles; calls = None }
 
 abbrev pub told_by_link : RealLink → LinkRecord
 told_by_link s = record { passed = None; left = None; ends = s.ends; faults = s.faults; closed = s.closed }

@@ -1,44 +1,48 @@
 //! Programs of the system.
-ghost use Rattle.std.specs.Prelude.{◌≡◌, ◌<◌, ◌++◌, ◌∷◌, [], true, false, length, string_bytes, IfOk, OnOk, OnErr};
-ghost use Rattle.ldm_outside.specs.Launcher.{spelled, new_child};
+ghost use Rattle.std.specs.Prelude.{◌≡◌, ◌≤◌, ◌<◌, ◌+◌, [], length, IfOk, OnOk, OnErr};
+ghost use Rattle.ldm_outside.specs.Count.{Rose};
+ghost use Rattle.ldm_outside.specs.Numbered.{at_number, with_number, without_number};
+ghost use Rattle.ldm_outside.specs.Launcher.{spelled, new_running, with_shut};
 ghost use Rattle.ldm_adapters.specs.Front.{TakesFront, TakesPiped};
 
 use crate::processes::Processes;
 use crate::streams::write_once;
 use ldm_outside::{ChildNo, Failed, Launcher, Put};
 use std::alloc::{AllocError, Global};
-use std::io;
+use std::collections::BTreeMap;
+use std::io::{self, ErrorKind};
 use std::marker::Model;
 use std::process::{Child, ChildStdin, Command, Stdio};
 use std::rt::HostRuntime;
 
-// A program that was started. Its input is closed where it is shut, or where it is waited for.
+// A program that was not waited for yet. Its input is closed where it is shut, or where it is waited for.
 #[derive(Drop)]
 struct RealChild {
     words: Vec<String>,
     piped: bool,
     shut: bool,
-    waited: bool,
     input: Option<ChildStdin>,
 }
 
 impl Model for RealChild {
-    ghost use Rattle.ldm_outside.specs.Launcher.{Child, spelled};
+    ghost use Rattle.ldm_outside.specs.Launcher.{Running, spelled};
 
-    ghost Value = { Child };
+    ghost Value = { Running };
 
-    ghost view = { λ s. record { words = spelled s.words.items; piped = s.piped; shut = s.shut; waited = s.waited } };
+    ghost view = { λ s. record { words = spelled s.words.items; piped = s.piped; shut = s.shut } };
 }
 
 impl RealChild {
+    ghost use Rattle.std.specs.Prelude.{true, false};
+    ghost use Rattle.ldm_outside.specs.Launcher.{new_running};
+
     fn new(words: Vec<String>, piped: bool, input: Option<ChildStdin>) -> RealChild
-        ensures { result ≡ new_child words.items piped }
+        ensures { result ≡ new_running words.items piped }
     {
         RealChild {
             words,
             piped,
             shut: false,
-            waited: false,
             input,
         }
     }
@@ -62,15 +66,11 @@ impl RealChild {
         self.shut = true;
     }
 
-    // Waits for the program of that number, with its input closed, so that one that reads to its end can end.
-    fn wait(&mut self, processes: &mut Processes, number: usize) -> io::Result<u32>
-        ensures waited { OnOk result (self.new ≡ record self.old { waited = true }) }
-        ensures kept { OnErr result (self.new ≡ self.old) }
+    // Closes its input, so that a program that reads to its end can end.
+    fn close_input(&mut self)
+        ensures { self.new ≡ self.old }
     {
         self.input = None;
-        let status = processes.wait(number)?;
-        self.waited = true;
-        Ok(status)
     }
 }
 
@@ -96,53 +96,116 @@ pub(crate) fn spawn(rt: HostRuntime, words: &[String], piped: bool) -> io::Resul
     command.spawn(&rt)
 }
 
-fn push_child(
-    rt: HostRuntime,
-    children: &mut Vec<RealChild>,
-    processes: &mut Processes,
-    words: &[String],
-    piped: bool,
-) -> io::Result<()>
-    requires { 0 < length words.now }
-    ensures pushed { OnOk result (children.new.items ≡ children.old.items ++ new_child words.now piped ∷ []) }
-    ensures kept { OnErr result (children.new.items ≡ children.old.items) }
+// Ends a program that nobody will wait for.
+fn end(process: &mut Child) {
+    let _ = process.kill();
+    let _ = process.wait();
+}
+
+// The programs that were not waited for, under their numbers, and the next number.
+#[derive(Drop)]
+struct Running {
+    children: BTreeMap<usize, RealChild>,
+    processes: Processes,
+    next: usize,
+}
+
+impl Running {
+    // Starts a program.
+    fn start(&mut self, rt: HostRuntime, words: &[String], piped: bool) -> io::Result<ChildNo>
+        requires { 0 < length words.now }
+        ensures number { IfOk result (λ child. child.0 ≡ self.old.next) }
+        ensures next { OnOk result (self.new.next ≡ self.old.next + 1) }
+        ensures children { OnOk result (self.new.children.entries ≡ with_number self.old.next (new_running words.now piped) self.old.children.entries) }
+        ensures next_kept { OnErr result (self.new.next ≡ self.old.next) }
+        ensures children_kept { OnErr result (self.new.children.entries ≡ self.old.children.entries) }
+    {
+        let number = self.next;
+        let Some(next) = number.checked_add(1) else {
+            return Err(io::Error::from(ErrorKind::QuotaExceeded));
+        };
+        let copies = copied(rt.alloc(), words)?;
+        self.processes.reserve()?;
+        let mut process = spawn(rt, words, piped)?;
+        let child = RealChild::new(copies, piped, process.stdin.take());
+        if let Err(error) = self.children.insert(number, child) {
+            end(&mut process);
+            return Err(AllocError::from(error).into());
+        }
+        self.processes.add(number, process);
+        self.next = next;
+        Ok(ChildNo(number))
+    }
+
+    // Waits for a program, and forgets it.
+    fn wait(&mut self, child: ChildNo) -> io::Result<u32>
+        ensures next_kept { self.new.next ≡ self.old.next }
+        ensures forgotten { OnOk result (self.new.children.entries ≡ without_number child.0 self.old.children.entries) }
+        ensures children_kept { OnErr result (self.new.children.entries ≡ self.old.children.entries) }
+    {
+        close_input(&mut self.children, child);
+        let status = self.processes.wait(child.0)?;
+        self.children.remove(&child.0);
+        Ok(status)
+    }
+}
+
+// Closes the input of a program that is to be waited for.
+fn close_input(children: &mut BTreeMap<usize, RealChild>, child: ChildNo)
+    ensures { children.new.entries ≡ children.old.entries }
 {
-    let copies = copied(rt.alloc(), words)?;
-    children.reserve(1)?;
-    processes.reserve()?;
-    let mut process = spawn(rt, words, piped)?;
-    let input = process.stdin.take();
-    processes.add(children.len(), process)?;
-    children.push_reserved(RealChild::new(copies, piped, input));
-    Ok(())
+    if let Some(it) = children.get_mut(&child.0) {
+        it.close_input();
+    }
+}
+
+// Shuts the input of a program.
+fn shut_input(children: &mut BTreeMap<usize, RealChild>, child: ChildNo)
+    ensures { children.new.entries ≡ with_shut child (at_number child.0 children.old.entries) children.old.entries }
+{
+    if let Some(it) = children.get_mut(&child.0) {
+        it.shut();
+    }
 }
 
 /// The programs of the system. It does not tell what they were given.
 ///
 /// A program is found as the system's search path says. One that is not piped has nothing to read; what a program writes
 /// goes where this program's own output goes. A program that a signal ended has the status 128 and the signal's number.
-/// It keeps the words of each program that it started. A program that ended is collected by the next call of `start` or
-/// `wait`, whichever program that is for, and its status is kept until it is waited for.
+/// A program that ended is collected by the next call of `start` or `wait`, whichever program that is for, and its status is
+/// kept until it is waited for. Nothing is kept of a program that was waited for.
 #[derive(Drop)]
 pub struct RealLauncher {
     rt: HostRuntime,
-    children: Vec<RealChild>,
-    processes: Processes,
+    running: Running,
     faults: u64,
 }
 
 impl RealLauncher {
     /// The programs of this system.
     pub fn new(rt: HostRuntime) -> RealLauncher
-        ensures children { result.children.items ≡ [] }
+        ensures running { result.running.children.entries ≡ [] }
         ensures faults { result.faults ≡ 0 }
     {
         RealLauncher {
             rt,
-            children: Vec::new(rt.alloc()),
-            processes: Processes::new(rt.alloc()),
+            running: Running {
+                children: BTreeMap::new(rt.alloc()),
+                processes: Processes::new(rt.alloc()),
+                next: 0,
+            },
             faults: 0,
         }
+    }
+
+    // Counts a fault.
+    fn fail(&mut self) -> Failed
+        ensures counted { self.new ≡ record self.old { faults = self.new.faults } }
+        ensures rose { Rose self.old.faults self.new.faults }
+        ensures kept { self.old.faults ≤ self.new.faults }
+    {
+        self.faults = self.faults.saturating_add(1);
+        Failed
     }
 
     /// How often it failed.
@@ -156,42 +219,41 @@ impl RealLauncher {
 impl Launcher for RealLauncher {
     ghost use Rattle.std.specs.Prelude.{None};
 
-    ghost tells = { λ s. record { faults = s.faults; children = s.children.items; inputs = None } };
+    ghost tells = { λ s. record {
+      faults = s.faults;
+      next = s.running.next;
+      running = s.running.children.entries;
+      children = None;
+    } };
 
     fn start(&mut self, words: &[String], piped: bool) -> Result<ChildNo, Failed> {
-        self.processes.collect();
-        let at = self.children.len();
-        let processes = &mut self.processes;
-        if push_child(self.rt, &mut self.children, processes, words, piped).is_err() {
-            self.faults = self.faults.saturating_add(1);
-            return Err(Failed);
+        self.running.processes.collect();
+        match self.running.start(self.rt, words, piped) {
+            Ok(number) => Ok(number),
+            Err(_) => Err(self.fail()),
         }
-        Ok(ChildNo(at))
     }
 
     fn write(&mut self, child: ChildNo, piece: &[u8]) -> Put {
-        let it = &self.children[child.0];
-        let put = it.write(piece);
+        let put = match self.running.children.get(&child.0) {
+            Some(it) => it.write(piece),
+            None => Put::Failed,
+        };
         if put == Put::Failed {
-            self.faults = self.faults.saturating_add(1);
+            self.fail();
         }
         put
     }
 
     fn shut(&mut self, child: ChildNo) -> Result<(), Failed> {
-        let it = &mut self.children[child.0];
-        it.shut();
+        shut_input(&mut self.running.children, child);
         Ok(())
     }
 
     fn wait(&mut self, child: ChildNo) -> Result<u32, Failed> {
-        let it = &mut self.children[child.0];
-        match it.wait(&mut self.processes, child.0) {
+        match self.running.wait(child) {
             Ok(status) => Ok(status),
-            Err(_) => {
-                self.faults = self.faults.saturating_add(1);
-                Err(Failed)
-            }
+            Err(_) => Err(self.fail()),
         }
     }
 }

@@ -5,7 +5,7 @@ ghost use Rattle.ldm_outside.specs.Dial.{IsNewDial};
 ghost use Rattle.ldm_adapters.specs.Told.{told_by_dial};
 
 use crate::lending::RealLending;
-use crate::links::RealLink;
+use crate::links::{RealLink, Timeouts};
 use ldm_outside::{Dial, Dialled};
 use std::io::{self, ErrorKind};
 use std::net::TcpStream;
@@ -18,17 +18,19 @@ use std::str;
 #[derive(Drop)]
 pub struct RealDial {
     rt: HostRuntime,
+    timeouts: Timeouts,
     faults: u64,
     links: RealLending,
 }
 
 impl RealDial {
-    /// A dial of this system.
-    pub fn new(rt: HostRuntime) -> RealDial
+    /// A dial of this system, whose links wait no longer than this.
+    pub fn new(rt: HostRuntime, timeouts: Timeouts) -> RealDial
         ensures { IsNewDial (told_by_dial result) }
     {
         RealDial {
             rt,
+            timeouts,
             faults: 0,
             links: RealLending::new(),
         }
@@ -56,7 +58,7 @@ impl Dial for RealDial {
         match connect(self.rt, host, port) {
             Ok(stream) => {
                 self.links.hand_out();
-                Dialled::Linked(RealLink::new(stream))
+                Dialled::Linked(RealLink::new(stream, self.timeouts))
             }
             Err(_) => {
                 self.fail();

@@ -4,7 +4,7 @@ ghost use Rattle.ldm_outside.specs.Door.{IsNewDoor};
 ghost use Rattle.ldm_adapters.specs.Told.{told_by_door};
 
 use crate::lending::RealLending;
-use crate::links::RealLink;
+use crate::links::{RealLink, Timeouts};
 use arrayvec::{ArrayString, ArrayVec};
 use ldm_outside::{Came, Door, LONGEST_HOST};
 use std::fmt::Write;
@@ -17,18 +17,20 @@ use std::net::{IpAddr, TcpListener, TcpStream};
 #[derive(Drop)]
 pub struct RealDoor {
     listener: TcpListener,
+    timeouts: Timeouts,
     faults: u64,
     peers: u64,
     links: RealLending,
 }
 
 impl RealDoor {
-    /// A door where what comes to the listener comes in.
-    pub fn new(listener: TcpListener) -> RealDoor
+    /// A door where what comes to the listener comes in, over links that wait no longer than this.
+    pub fn new(listener: TcpListener, timeouts: Timeouts) -> RealDoor
         ensures { IsNewDoor (told_by_door result) }
     {
         RealDoor {
             listener,
+            timeouts,
             faults: 0,
             peers: 0,
             links: RealLending::new(),
@@ -62,10 +64,10 @@ impl RealDoor {
     }
 }
 
-// The text of an address.
+// The text of an address. One of IPv4 that came to a listener for both families is told as what it is.
 fn host_of(address: IpAddr) -> Option<ArrayVec<u8, LONGEST_HOST>> {
     let mut text = ArrayString::<LONGEST_HOST>::new();
-    write!(text, "{address}").ok()?;
+    write!(text, "{}", address.to_canonical()).ok()?;
     ArrayVec::try_from(text.as_bytes()).ok()
 }
 
@@ -101,7 +103,7 @@ impl Door for RealDoor {
             Some((host, stream)) => {
                 self.peers = self.peers.saturating_add(1);
                 self.links.hand_out();
-                let link = RealLink::new(stream);
+                let link = RealLink::new(stream, self.timeouts);
                 Came::Peer { host, link }
             }
             None => {

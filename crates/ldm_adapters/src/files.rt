@@ -1,66 +1,59 @@
 //! Files of the system.
-ghost use Rattle.std.specs.Prelude.{◌≡◌, ◌++◌, ◌∷◌, [], true, false, OnOk, OnErr};
+ghost use Rattle.std.specs.Prelude.{◌≡◌, ◌≤◌, ◌+◌, [], IfOk, OnOk, OnErr};
+ghost use Rattle.ldm_outside.specs.Count.{Rose};
+ghost use Rattle.ldm_outside.specs.Numbered.{with_number};
 ghost use Rattle.ldm_adapters.specs.Front.{TakesFront};
 
 use crate::streams::write_once;
 use ldm_outside::{Failed, FileNo, FileRead, Put, Store};
 use std::alloc::{AllocError, Global};
+use std::collections::BTreeMap;
 use std::fs::{self, File, OpenOptions};
 use std::io::{self, ErrorKind, Read, Write};
 use std::marker::Model;
 use std::path::Path;
 use std::rt::HostRuntime;
 
-// A file that was opened. It is closed where it is shut.
+// A file that is open.
 #[derive(Drop)]
 struct RealFile {
     path: String,
-    file: Option<File>,
+    file: File,
 }
 
 impl Model for RealFile {
-    ghost use Rattle.std.specs.Prelude.{string_bytes, is_none};
-    ghost use Rattle.ldm_outside.specs.Store.{OpenFile};
+    ghost use Rattle.std.specs.Prelude.{List, ℕ, string_bytes};
 
-    ghost Value = { OpenFile };
+    ghost Value = { List ℕ };
 
-    ghost view = { λ s. record { path = string_bytes s.path; shut = is_none s.file } };
+    ghost view = { λ s. string_bytes s.path };
 }
 
 impl RealFile {
+    // Opens the file under the path, to be written at its end.
+    fn open(rt: HostRuntime, path: &str) -> io::Result<RealFile>
+        ensures { IfOk result (λ opened. opened ≡ path.now) }
+    {
+        Ok(RealFile {
+            path: String::from_str(rt.alloc(), path)?,
+            file: open_in_folders(rt, path)?,
+        })
+    }
+
     fn write(&self, piece: &[u8]) -> Put
         ensures { TakesFront result piece.now }
     {
-        match &self.file {
-            Some(file) => {
-                let mut file = file;
-                write_once(&mut file, piece)
-            }
-            None => Put::Failed,
-        }
+        let mut file = &self.file;
+        write_once(&mut file, piece)
     }
 
     fn empty(&self) -> io::Result<()> {
-        match &self.file {
-            Some(file) => file.set_len(0),
-            None => Ok(()),
-        }
+        self.file.set_len(0)
     }
 
     fn flush(&self) -> io::Result<()> {
-        match &self.file {
-            Some(file) => {
-                let mut file = file;
-                file.flush()
-            }
-            None => Ok(()),
-        }
-    }
-
-    fn shut(&mut self)
-        ensures { self.new ≡ record self.old { shut = true } }
-    {
-        self.file = None;
+        let mut file = &self.file;
+        file.flush()
     }
 }
 
@@ -84,17 +77,31 @@ fn open_in_folders(rt: HostRuntime, path: &str) -> io::Result<File> {
     }
 }
 
-fn push_opened(rt: HostRuntime, opened: &mut Vec<RealFile>, path: &str) -> io::Result<()>
-    ensures pushed { OnOk result (opened.new.items ≡ opened.old.items ++ record { path = path.now; shut = false } ∷ []) }
-    ensures kept { OnErr result (opened.new.items ≡ opened.old.items) }
-{
-    let name = String::from_str(rt.alloc(), path)?;
-    let file = RealFile {
-        path: name,
-        file: Some(open_in_folders(rt, path)?),
-    };
-    opened.push(file).map_err(AllocError::from)?;
-    Ok(())
+// The files that are open, under their numbers, and the next number.
+#[derive(Drop)]
+struct OpenFiles {
+    files: BTreeMap<usize, RealFile>,
+    next: usize,
+}
+
+impl OpenFiles {
+    // Opens the file under the path.
+    fn open(&mut self, rt: HostRuntime, path: &str) -> io::Result<FileNo>
+        ensures number { IfOk result (λ file. file.0 ≡ self.old.next) }
+        ensures next { OnOk result (self.new.next ≡ self.old.next + 1) }
+        ensures files { OnOk result (self.new.files.entries ≡ with_number self.old.next path.now self.old.files.entries) }
+        ensures next_kept { OnErr result (self.new.next ≡ self.old.next) }
+        ensures files_kept { OnErr result (self.new.files.entries ≡ self.old.files.entries) }
+    {
+        let number = self.next;
+        let Some(next) = number.checked_add(1) else {
+            return Err(io::Error::from(ErrorKind::QuotaExceeded));
+        };
+        let file = RealFile::open(rt, path)?;
+        self.files.insert(number, file).map_err(AllocError::from)?;
+        self.next = next;
+        Ok(FileNo(number))
+    }
 }
 
 // At most so many bytes from the front of the file under the path.
@@ -106,12 +113,12 @@ fn read_front(rt: HostRuntime, alloc: Global, path: &str, most: u64) -> io::Resu
 
 /// The files of the system. It does not tell what they have.
 ///
-/// Reading stops one byte behind the limit. A file that is opened is made where it is missing, with its folders. It keeps
-/// the path of each file that it opened.
+/// Reading stops one byte behind the limit. A file that is opened is made where it is missing, with its folders. Nothing is
+/// kept of a file that was shut.
 #[derive(Drop)]
 pub struct RealStore {
     rt: HostRuntime,
-    opened: Vec<RealFile>,
+    opened: OpenFiles,
     faults: u64,
     long: u64,
 }
@@ -119,13 +126,16 @@ pub struct RealStore {
 impl RealStore {
     /// The files of this system.
     pub fn new(rt: HostRuntime) -> RealStore
-        ensures opened { result.opened.items ≡ [] }
+        ensures opened { result.opened.files.entries ≡ [] }
         ensures faults { result.faults ≡ 0 }
         ensures long { result.long ≡ 0 }
     {
         RealStore {
             rt,
-            opened: Vec::new(rt.alloc()),
+            opened: OpenFiles {
+                files: BTreeMap::new(rt.alloc()),
+                next: 0,
+            },
             faults: 0,
             long: 0,
         }
@@ -136,6 +146,16 @@ impl RealStore {
         ensures { result ≡ self.now.faults }
     {
         self.faults
+    }
+
+    // Counts a fault.
+    fn fail(&mut self) -> Failed
+        ensures counted { self.new ≡ record self.old { faults = self.new.faults } }
+        ensures rose { Rose self.old.faults self.new.faults }
+        ensures kept { self.old.faults ≤ self.new.faults }
+    {
+        self.faults = self.faults.saturating_add(1);
+        Failed
     }
 
     /// How often a file was too long to be read.
@@ -149,7 +169,14 @@ impl RealStore {
 impl Store for RealStore {
     ghost use Rattle.std.specs.Prelude.{None};
 
-    ghost tells = { λ s. record { faults = s.faults; long = s.long; opened = s.opened.items; files = None } };
+    ghost tells = { λ s. record {
+      faults = s.faults;
+      long = s.long;
+      next = s.opened.next;
+      paths = s.opened.files.entries;
+      opened = None;
+      files = None;
+    } };
 
     fn read_file(&mut self, alloc: Global, path: &str, limit: u64) -> FileRead {
         match read_front(self.rt, alloc, path, limit.saturating_add(1)) {
@@ -160,51 +187,46 @@ impl Store for RealStore {
             }
             Err(error) if error.kind() == ErrorKind::OutOfMemory => FileRead::OutOfMemory,
             Err(_) => {
-                self.faults = self.faults.saturating_add(1);
+                self.fail();
                 FileRead::Failed
             }
         }
     }
 
     fn append_to(&mut self, path: &str) -> Result<FileNo, Failed> {
-        let at = self.opened.len();
-        if push_opened(self.rt, &mut self.opened, path).is_err() {
-            self.faults = self.faults.saturating_add(1);
-            return Err(Failed);
+        match self.opened.open(self.rt, path) {
+            Ok(number) => Ok(number),
+            Err(_) => Err(self.fail()),
         }
-        Ok(FileNo(at))
     }
 
     fn empty(&mut self, file: FileNo) -> Result<(), Failed> {
-        let opened = &self.opened[file.0];
-        if opened.empty().is_err() {
-            self.faults = self.faults.saturating_add(1);
-            return Err(Failed);
+        match self.opened.files.get(&file.0).map(RealFile::empty) {
+            Some(Ok(())) => Ok(()),
+            _ => Err(self.fail()),
         }
-        Ok(())
     }
 
     fn write(&mut self, file: FileNo, piece: &[u8]) -> Put {
-        let opened = &self.opened[file.0];
-        let put = opened.write(piece);
+        let put = match self.opened.files.get(&file.0) {
+            Some(it) => it.write(piece),
+            None => Put::Failed,
+        };
         if put == Put::Failed {
-            self.faults = self.faults.saturating_add(1);
+            self.fail();
         }
         put
     }
 
     fn flush(&mut self, file: FileNo) -> Result<(), Failed> {
-        let opened = &self.opened[file.0];
-        if opened.flush().is_err() {
-            self.faults = self.faults.saturating_add(1);
-            return Err(Failed);
+        match self.opened.files.get(&file.0).map(RealFile::flush) {
+            Some(Ok(())) => Ok(()),
+            _ => Err(self.fail()),
         }
-        Ok(())
     }
 
     fn shut(&mut self, file: FileNo) -> Result<(), Failed> {
-        let opened = &mut self.opened[file.0];
-        opened.shut();
+        self.opened.files.remove(&file.0);
         Ok(())
     }
 }

@@ -12,8 +12,8 @@ use std::time::Duration;
 pub const IDLE_MILLISECONDS: u64 = 50;
 
 /// A gate that lets every call of an actor pass. An idle call sleeps for [`IDLE_MILLISECONDS`]; after so many of these,
-/// where a number was given, it stops.
-#[derive(Clone, Copy)]
+/// where a number was given, it stops. It tells after how many more.
+#[derive(Drop)]
 pub struct RealGate {
     rt: HostRuntime,
     idles: Option<u32>,
@@ -34,8 +34,6 @@ impl RealGate {
 }
 
 impl Gate for RealGate {
-    ghost use Rattle.ldm_outside.specs.Gate.{Idles as GateIdles};
-    ghost use Rattle.ldm_adapters.specs.Idle.{Idles};
     ghost use Rattle.ldm_adapters.specs.Told.{told_by_gate};
 
     ghost tells = { told_by_gate };
@@ -49,11 +47,7 @@ impl Gate for RealGate {
 
     fn after(&mut self, _actor: Actor, _i: u64) {}
 
-    fn idle(&mut self) -> Go
-        ensures answered { GateIdles result (told_by_gate self.old) (told_by_gate self.new) }
-        ensures stops_kept { self.old.stops ≤ self.new.stops }
-        ensures counted { Idles self.old.idles result self.new.idles }
-    {
+    fn idle(&mut self) -> Go {
         if let Some(left) = self.idles {
             if left == 0 {
                 self.stops = self.stops.saturating_add(1);

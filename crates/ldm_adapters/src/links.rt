@@ -3,10 +3,37 @@
 use crate::streams::{read_once, write_once};
 use ldm_outside::{Got, Link, Put};
 use std::net::{Shutdown, TcpStream};
+use std::time::Duration;
+
+/// How long a link waits for bytes of its peer, in seconds.
+pub const SILENT_SECONDS: u64 = 120;
+
+/// How long a link waits for its peer to take bytes, in seconds.
+pub const STALLED_SECONDS: u64 = 120;
+
+/// How long a link waits for its peer: a call that waited so long has failed.
+#[derive(Clone, Copy, Debug)]
+pub struct Timeouts {
+    /// For bytes of the peer.
+    pub silent: Duration,
+    /// For the peer to take bytes.
+    pub stalled: Duration,
+}
+
+impl Timeouts {
+    /// [`SILENT_SECONDS`] and [`STALLED_SECONDS`].
+    pub fn new() -> Timeouts {
+        Timeouts {
+            silent: Duration::from_secs(SILENT_SECONDS),
+            stalled: Duration::from_secs(STALLED_SECONDS),
+        }
+    }
+}
 
 /// A link over TCP. It tells no bytes.
 ///
-/// A peer that vanishes is a fault, and no signal comes. A closed link is shut down in both directions.
+/// A peer that vanishes is a fault, and no signal comes; so is one that is waited for too long. A closed link is shut down in
+/// both directions.
 #[derive(Drop)]
 pub struct RealLink {
     stream: TcpStream,
@@ -18,13 +45,15 @@ pub struct RealLink {
 impl RealLink {
     ghost use Rattle.std.specs.Prelude.{◌≡◌, false, nat_lt};
 
-    /// A link of the stream, which sends each piece at once where the system can.
-    pub(crate) fn new(stream: TcpStream) -> RealLink
+    /// A link of the stream, which sends each piece at once and waits no longer than this, where the system can.
+    pub(crate) fn new(stream: TcpStream, timeouts: Timeouts) -> RealLink
         ensures ends { result.ends ≡ 0 }
         ensures faults { result.faults ≡ 0 }
         ensures open { result.closed ≡ false }
     {
         let _ = stream.set_nodelay(true);
+        let _ = stream.set_read_timeout(Some(timeouts.silent));
+        let _ = stream.set_write_timeout(Some(timeouts.stalled));
         RealLink {
             stream,
             ends: 0,

@@ -7,40 +7,59 @@ use crate::clock::RealClock;
 use crate::dials::RealDial;
 use crate::doors::RealDoor;
 use crate::gate::RealGate;
-use crate::links::RealLink;
+use crate::links::{RealLink, Timeouts};
 use crate::streams::RealSink;
 use ldm_outside::{Dial, Dialled, Manned, Net, Station};
-use std::alloc::AllocError;
 use std::io::{self, ErrorKind};
-use std::net::{Ipv4Addr, TcpListener};
+use std::net::{IpAddr, Ipv4Addr, Ipv6Addr, SocketAddr, TcpListener};
 use std::rt::{HostRuntime, Stderr};
 
 /// The outside of one worker, whose log is standard error.
 pub type RealStation = Station<RealDoor, RealDial, RealSink<Stderr>, RealClock, RealGate>;
 
 // A station whose door lets in what comes to the listener.
-fn station(rt: HostRuntime, listener: TcpListener, idles: Option<u32>) -> RealStation
-    ensures { IsNew (told_by_station result) }
+fn station(
+    rt: HostRuntime,
+    listener: TcpListener,
+    timeouts: Timeouts,
+    idles: Option<u32>,
+) -> RealStation
+    ensures { IsNew idles (told_by_station result) }
 {
     Station {
-        door: RealDoor::new(listener),
-        dial: RealDial::new(rt),
+        door: RealDoor::new(listener, timeouts),
+        dial: RealDial::new(rt, timeouts),
         log: RealSink::new(rt.stderr()),
         clock: RealClock::new(rt),
         gate: RealGate::new(rt, idles),
     }
 }
 
-// So many stations, whose doors share one listener on all addresses of this machine.
-fn man(rt: HostRuntime, port: u16, count: u32, idles: Option<u32>) -> io::Result<Vec<RealStation>>
+// A listener on all addresses of this machine: of IPv6 and IPv4, or of IPv4 alone where the system has no IPv6.
+fn listen(rt: HostRuntime, port: u16) -> io::Result<TcpListener> {
+    let both = SocketAddr::new(IpAddr::V6(Ipv6Addr::UNSPECIFIED), port);
+    let old = SocketAddr::new(IpAddr::V4(Ipv4Addr::UNSPECIFIED), port);
+    match TcpListener::bind(&rt, both) {
+        Ok(listener) => Ok(listener),
+        Err(_) => TcpListener::bind(&rt, old),
+    }
+}
+
+// So many stations, whose doors share one listener.
+fn man(
+    rt: HostRuntime,
+    port: u16,
+    count: u32,
+    timeouts: Timeouts,
+    idles: Option<u32>,
+) -> io::Result<Vec<RealStation>>
     ensures count { IfOk result (λ made. vec_len made ≡ count) }
-    ensures new { IfOk result (λ made. All (λ one. IsNew (told_by_station one)) made.items) }
+    ensures new { IfOk result (λ made. All (λ one. IsNew idles (told_by_station one)) made.items) }
 {
-    let listener = TcpListener::bind(&rt, (Ipv4Addr::UNSPECIFIED, port))?;
-    let mut made = Vec::new(rt.alloc());
+    let listener = listen(rt, port)?;
+    let mut made = Vec::with_capacity(rt.alloc(), count as usize)?;
     for _ in 0..count {
-        made.push(station(rt, listener.try_clone()?, idles))
-            .map_err(AllocError::from)?;
+        made.push_reserved(station(rt, listener.try_clone()?, timeouts, idles));
     }
     Ok(made)
 }
@@ -50,6 +69,7 @@ fn man(rt: HostRuntime, port: u16, count: u32, idles: Option<u32>) -> io::Result
 pub struct RealNet {
     dial: RealDial,
     rt: HostRuntime,
+    timeouts: Timeouts,
     kept: Vec<RealStation>,
 }
 
@@ -58,9 +78,17 @@ impl RealNet {
     pub fn new(rt: HostRuntime) -> RealNet
         ensures kept { result.kept.items ≡ [] }
     {
+        RealNet::with_timeouts(rt, Timeouts::new())
+    }
+
+    /// The same, with links that wait no longer than this.
+    pub fn with_timeouts(rt: HostRuntime, timeouts: Timeouts) -> RealNet
+        ensures kept { result.kept.items ≡ [] }
+    {
         RealNet {
-            dial: RealDial::new(rt),
+            dial: RealDial::new(rt, timeouts),
             rt,
+            timeouts,
             kept: Vec::new(rt.alloc()),
         }
     }
@@ -99,10 +127,10 @@ impl Net for RealNet {
     ghost kept = { λ s. s.kept.items };
 
     fn stations(&mut self, port: u16, count: u32, idles: Option<u32>) -> Manned<RealStation>
-        ensures given { StationsGive told_by_station result count (told_by_dial self.old.dial) (told_by_dial self.new.dial) }
+        ensures given { StationsGive told_by_station result count idles (told_by_dial self.old.dial) (told_by_dial self.new.dial) }
         ensures kept { self.new.kept.items ≡ self.old.kept.items }
     {
-        match man(self.rt, port, count, idles) {
+        match man(self.rt, port, count, self.timeouts, idles) {
             Ok(made) => Manned::Stations(made),
             Err(error) if error.kind() == ErrorKind::OutOfMemory => Manned::OutOfMemory,
             Err(_) => {

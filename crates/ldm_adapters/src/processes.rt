@@ -1,4 +1,5 @@
 //! The processes of a launcher: those that run, and how those ended that were not waited for yet.
+ghost use Rattle.std.specs.Prelude.{◌<◌, vec_len, vec_capacity, OnOk};
 
 use std::alloc::{AllocError, Global};
 use std::collections::BTreeMap;
@@ -43,14 +44,17 @@ impl Processes {
     }
 
     /// Makes room for one process more.
-    pub(crate) fn reserve(&mut self) -> Result<(), AllocError> {
+    pub(crate) fn reserve(&mut self) -> Result<(), AllocError>
+        ensures { OnOk result (vec_len self.new.running < vec_capacity self.new.running) }
+    {
         self.running.reserve(1)
     }
 
     /// Adds a process, for which room was made.
-    pub(crate) fn add(&mut self, number: usize, child: Child) -> Result<(), AllocError> {
-        self.running.push(Process { number, child })?;
-        Ok(())
+    pub(crate) fn add(&mut self, number: usize, child: Child)
+        requires { vec_len self.old.running < vec_capacity self.old.running }
+    {
+        self.running.push_reserved(Process { number, child });
     }
 
     /// Collects those that ended.

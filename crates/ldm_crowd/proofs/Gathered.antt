@@ -102,7 +102,7 @@ came_as actor by lines entries seen text told before first now last actor_is ent
 gate_at : {G : Type 0} (tells : G → GateRecord) (workers : List (Worker G)) (gates : List G) → gates ≡ map player_gate workers
     → (i : ℕ) (d : Worker G) → i < length workers → gate_of (map tells gates) i ≡ tells (get_or workers i d).player.gate
 gate_at tells workers gates is i d less =
-    let none : GateRecord = record { stops = 0; calls = None } in
+    let none : GateRecord = record { stops = 0; idles = None; calls = None } in
     get_or-map tells gates i d.player.gate none (omega (arith, less, ap length is, length-map workers player_gate))
     ∙ ap tells (ap (λ gs. get_or gs i d.player.gate) is ∙ get_or-map player_gate workers i d d.player.gate less)
 

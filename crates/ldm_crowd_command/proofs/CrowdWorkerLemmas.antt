@@ -1,5 +1,5 @@
 -- What workers with open gates leave: for `HasPlayed`, and why a text is not played to its end.
-use Rattle.std.proofs.Common.{◌≡◌, ℕ, List, [], ◌∷◌, map, None, Ok, refl, subst, arith, zero, suc, inl, inr}
+use Rattle.std.proofs.Common.{◌≡◌, ℕ, List, [], ◌∷◌, map, Some, None, Ok, refl, subst, arith, zero, suc, inl, inr}
 use Rattle.ldm_outside.specs.Count.{Rose}
 use Rattle.ldm_outside.specs.Gate.{GateRecord}
 use Rattle.ldm_model.specs.declared.event.Entry.{Entry}
@@ -45,7 +45,7 @@ module _ (shared : SharedView) (workers : ℕ) (text : List ℕ) (script : List 
 
 -- what an open gate tells
 abbrev pub open_tells : {G : Type 0} → G → GateRecord
-open_tells gate = record { stops = 0; calls = None }
+open_tells gate = record { stops = 0; idles = Some None; calls = None }
 
 no_stops : {G : Type 0} (gates : List G) (actor : ℕ) → (gate_of (map open_tells gates) actor).stops ≡ 0
 no_stops [] actor = refl

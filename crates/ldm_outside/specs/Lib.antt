@@ -3,6 +3,7 @@ pub mod Io
 pub mod Memory
 pub mod MemCalls
 pub mod Told
+pub mod Numbered
 pub mod Link
 pub mod Lending
 pub mod Clock
@@ -10,6 +11,7 @@ pub mod Gate
 pub mod Door
 pub mod Dial
 pub mod Station
+pub mod Session
 pub mod Net
 pub mod MemLink
 pub mod MemClock

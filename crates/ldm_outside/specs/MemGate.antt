@@ -1,5 +1,5 @@
 -- What contracts see of a gate in memory, and what one call of it does.
-use Rattle.std.specs.Prelude.{◌≡◌, ℕ, true, false, List, [], ◌∷◌, ◌++◌, Some}
+use Rattle.std.specs.Prelude.{◌≡◌, ℕ, true, false, List, [], ◌∷◌, ◌++◌, Some, None}
 use Rattle.ldm_outside.specs.declared.gate.Go.{Go}
 use Rattle.ldm_outside.specs.declared.gate.Go.TheVariants.{On, Stop}
 use Rattle.ldm_outside.specs.declared.gate.GateCall.{GateCall}
@@ -36,6 +36,6 @@ IdlesAsPlanned Stop old new =
 abbrev pub AwaitsAfter : List GateCall → Type 0
 AwaitsAfter told = (earlier : List GateCall) × (actor : ℕ) × (i : ℕ) × (told ≡ earlier ++ Before actor i ∷ [])
 
--- what a gate in memory tells
+-- what a gate in memory tells: its list says which idle calls stop
 abbrev pub told_by_gate : GateState → GateRecord
-told_by_gate s = record { stops = s.stops; calls = Some s.told }
+told_by_gate s = record { stops = s.stops; idles = None; calls = Some s.told }

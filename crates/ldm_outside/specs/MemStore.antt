@@ -6,23 +6,37 @@ use Rattle.ldm_outside.specs.declared.io.Put.TheVariants as put
 use Rattle.ldm_outside.specs.declared.store.FileNo.{FileNo}
 use Rattle.ldm_outside.specs.declared.store.FileRead.{FileRead}
 use Rattle.ldm_outside.specs.declared.store.FileRead.TheVariants as read
-use Rattle.ldm_outside.specs.Memory.{Plan, raised, next_fails, after_call}
-use Rattle.ldm_outside.specs.Store.{File, OpenFile, StoreRecord, bytes_under, with_made, with_changed, opened_at, with_shut}
+use Rattle.ldm_outside.specs.Memory.{Plan, raised, next_fails, after_call, first_plan}
+use Rattle.ldm_outside.specs.Numbered.{at_number, with_number, without_number}
+use Rattle.ldm_outside.specs.Store.{File, StoreRecord, bytes_under, with_made, with_file}
 
 -- a store that fails at chosen calls
 pub record StoreState : Type 0 where
   pub faults : ℕ
   -- how often a file was too long to be read
   pub long : ℕ
-  -- all files that it opened
-  pub opened : List OpenFile
+  -- the paths of the files that are open now, under their numbers
+  pub paths : List (ℕ × List ℕ)
+  -- the paths of all files that were ever opened: the number of a file is its place here
+  pub opened : List (List ℕ)
   -- all files that there are
   pub files : List File
   pub plan : Plan
 
 -- what it tells
 abbrev pub told_by_store : StoreState → StoreRecord
-told_by_store s = record { faults = s.faults; long = s.long; opened = s.opened; files = Some s.files }
+told_by_store s = record {
+  faults = s.faults;
+  long = s.long;
+  next = length s.opened;
+  paths = s.paths;
+  opened = Some s.opened;
+  files = Some s.files;
+}
+
+-- a store of these files, of which none was opened
+abbrev pub first_store : List File → List ℕ → StoreState
+first_store files failing = record { faults = 0; long = 0; paths = []; opened = []; files = files; plan = first_plan failing }
 
 -- the place of the first file under a path
 abbrev pub place_under : List ℕ → List File → Option ℕ
@@ -46,7 +60,7 @@ store_failed old = record old { faults = raised old.faults; plan = after_call ol
 -- the store after a call that changed the bytes of an open file
 abbrev pub store_changed : FileNo → (List ℕ → List ℕ) → StoreState → StoreState
 store_changed file change old =
-    record old { files = with_changed (opened_at file old.opened).path change old.files; plan = after_call old.plan }
+    record old { files = with_file (at_number file.0 old.paths) change old.files; plan = after_call old.plan }
 
 -- How a call begins: it is counted, and where its number is on the list of those that fail it fails.
 abbrev pub BeginsCall : Result (Unit {0}) Failed → StoreState → StoreState → Type 0
@@ -70,7 +84,12 @@ abbrev pub OpensFileAsPlanned : Result FileNo Failed → List ℕ → StoreState
 OpensFileAsPlanned (Ok file) path old new =
     (next_fails old.plan ≡ false)
     × (file.0 ≡ length old.opened)
-    × (new ≡ record old { opened = old.opened ++ record { path = path; shut = false } ∷ []; files = with_made path old.files; plan = after_call old.plan })
+    × (new ≡ record old {
+      paths = with_number (length old.opened) path old.paths;
+      opened = old.opened ++ path ∷ [];
+      files = with_made path old.files;
+      plan = after_call old.plan;
+    })
 OpensFileAsPlanned (Err failed) path old new = new ≡ store_failed old
 
 -- What one call of `empty` did.
@@ -89,5 +108,5 @@ WritesFileAsPlanned put.Failed file piece old new = new ≡ store_failed old
 -- What one call of `shut` did.
 abbrev pub ShutsFileAsPlanned : Result (Unit {0}) Failed → FileNo → StoreState → StoreState → Type 0
 ShutsFileAsPlanned (Ok done) file old new =
-    (next_fails old.plan ≡ false) × (new ≡ record old { opened = with_shut file old.opened; plan = after_call old.plan })
+    (next_fails old.plan ≡ false) × (new ≡ record old { paths = without_number file.0 old.paths; plan = after_call old.plan })
 ShutsFileAsPlanned (Err failed) file old new = (next_fails old.plan ≡ true) × (new ≡ store_failed old)

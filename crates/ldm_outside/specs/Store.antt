@@ -1,5 +1,5 @@
 -- What a store of files tells, and what each call of it does.
-use Rattle.std.specs.Prelude.{◌≡◌, ℕ, ◌<◌, ◌≤◌, Bool, true, false, List, [], ◌∷◌, ◌++◌, length, take, Option, Some, None, IfSome, option_map, Result, Ok, Err, slice_index_or, slice_set, bytes_eq, if◌then◌else◌}
+use Rattle.std.specs.Prelude.{◌≡◌, ℕ, ◌+◌, ◌<◌, ◌≤◌, List, [], ◌∷◌, ◌++◌, length, take, Option, Some, None, IsSome, IfSome, option_map, Result, Ok, Err, bytes_eq, if◌then◌else◌}
 use Rattle.ldm_outside.specs.declared.fault.Failed.{Failed}
 use Rattle.ldm_outside.specs.declared.io.Put.{Put}
 use Rattle.ldm_outside.specs.declared.io.Put.TheVariants as put
@@ -7,11 +7,7 @@ use Rattle.ldm_outside.specs.declared.store.FileNo.{FileNo}
 use Rattle.ldm_outside.specs.declared.store.FileRead.{FileRead}
 use Rattle.ldm_outside.specs.declared.store.FileRead.TheVariants as read
 use Rattle.ldm_outside.specs.Count.{Rose}
-
--- A file that was opened.
-pub record OpenFile : Type 0 where
-  pub path : List ℕ
-  pub shut : Bool
+use Rattle.ldm_outside.specs.Numbered.{at_number, with_number, without_number}
 
 -- What stands under a path.
 pub record File : Type 0 where
@@ -24,8 +20,12 @@ pub record StoreRecord : Type 0 where
   pub faults : ℕ
   -- how often a file was too long to be read
   pub long : ℕ
-  -- all files that it opened, in order: the number of a file is its place here
-  pub opened : List OpenFile
+  -- the number that the next file gets which is opened
+  pub next : ℕ
+  -- the paths of the files that are open now, under their numbers
+  pub paths : List (ℕ × List ℕ)
+  -- the paths of all files that were ever opened, in order, where it tells them
+  pub opened : Option (List (List ℕ))
   -- all files that there are, in the order in which they were made, where it tells them
   pub files : Option (List File)
 
@@ -45,26 +45,34 @@ with_changed path change [] = []
 with_changed path change (file ∷ rest) =
     if bytes_eq file.path path then record file { bytes = change file.bytes } ∷ rest else file ∷ with_changed path change rest
 
--- the file that a number stands for; a number that was not given stands for one that is shut
-abbrev pub opened_at : FileNo → List OpenFile → OpenFile
-opened_at file opened = slice_index_or opened file.0 (record { path = []; shut = true })
+-- the path of an open file
+abbrev pub path_of : FileNo → StoreRecord → Option (List ℕ)
+path_of file store = at_number file.0 store.paths
 
--- the number was given, and its file is not shut
-abbrev pub IsOpen : FileNo → List OpenFile → Type 0
-IsOpen file opened = (file.0 < length opened) × ((opened_at file opened).shut ≡ false)
+-- there is a file under the path, where the store tells its files
+abbrev pub IsThere : List ℕ → StoreRecord → Type 0
+IsThere path store = IfSome store.files (λ files. IsSome (bytes_under path files))
 
--- the opened files after one of them was shut
-abbrev pub with_shut : FileNo → List OpenFile → List OpenFile
-with_shut file opened = slice_set opened file.0 (record { path = (opened_at file opened).path; shut = true })
+-- The number was given, its file is not shut, and is among the files.
+pub record IsOpen (file : FileNo) (store : StoreRecord) : Type 0 where
+  pub path : List ℕ
+  pub given : file.0 < store.next
+  pub not_shut : path_of file store ≡ Some path
+  pub there : IsThere path store
 
 -- the store failed: nothing changed but its count
 abbrev pub StoreFails : StoreRecord → StoreRecord → Type 0
 StoreFails old new = Rose old.faults new.faults × (new ≡ record old { faults = new.faults })
 
+-- the files after the bytes of an open file were changed
+abbrev pub with_file : Option (List ℕ) → (List ℕ → List ℕ) → List File → List File
+with_file None change files = files
+with_file (Some path) change files = with_changed path change files
+
 -- the bytes of an open file were changed, and nothing else
 abbrev pub ChangesFile : FileNo → (List ℕ → List ℕ) → StoreRecord → StoreRecord → Type 0
 ChangesFile file change old new =
-    new ≡ record old { files = option_map (with_changed (opened_at file old.opened).path change) old.files }
+    new ≡ record old { files = option_map (with_file (path_of file old) change) old.files }
 
 -- What one call of `read_file` did.
 abbrev pub ReadsFile : FileRead → List ℕ → ℕ → StoreRecord → StoreRecord → Type 0
@@ -81,12 +89,19 @@ ReadsFile read.Failed path limit old new = StoreFails old new
 -- nothing changed
 ReadsFile read.OutOfMemory path limit old new = new ≡ old
 
+-- the store after the file under a path was opened, and made where there was none
+abbrev pub with_opened : List ℕ → StoreRecord → StoreRecord
+with_opened path old = record old {
+  next = old.next + 1;
+  paths = with_number old.next path old.paths;
+  opened = option_map (λ paths. paths ++ path ∷ []) old.opened;
+  files = option_map (with_made path) old.files;
+}
+
 -- What one call of `append_to` did.
 abbrev pub OpensFile : Result FileNo Failed → List ℕ → StoreRecord → StoreRecord → Type 0
--- the next number was given, and a file is there
-OpensFile (Ok file) path old new =
-    (file.0 ≡ length old.opened)
-    × (new ≡ record old { opened = old.opened ++ record { path = path; shut = false } ∷ []; files = option_map (with_made path) old.files })
+-- the next number was given
+OpensFile (Ok file) path old new = (file.0 ≡ old.next) × (new ≡ with_opened path old)
 OpensFile (Err failed) path old new = StoreFails old new
 
 -- What one call of `empty` did.
@@ -108,5 +123,5 @@ FlushesFile (Err failed) old new = StoreFails old new
 
 -- What one call of `shut` did.
 abbrev pub ShutsFile : Result (Unit {0}) Failed → FileNo → StoreRecord → StoreRecord → Type 0
-ShutsFile (Ok done) file old new = new ≡ record old { opened = with_shut file old.opened }
+ShutsFile (Ok done) file old new = new ≡ record old { paths = without_number file.0 old.paths }
 ShutsFile (Err failed) file old new = StoreFails old new

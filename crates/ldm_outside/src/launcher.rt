@@ -5,7 +5,7 @@ ghost use Rattle.ldm_outside.specs.Launcher.{LauncherRecord};
 use crate::fault::Failed;
 use crate::io::Put;
 
-/// A child that a launcher started: its place among all that this launcher started, counted from 0.
+/// A child that a launcher started: how many it had started before. No number comes twice.
 #[derive(Clone, Copy, Debug, PartialEq, Eq)]
 pub struct ChildNo(pub usize);
 
@@ -16,8 +16,9 @@ pub struct ChildNo(pub usize);
 pub trait Launcher {
     ghost use Rattle.ldm_outside.specs.Launcher.{StartsChild, IsTaking, FeedsChild, ShutsInput, IsNotWaitedFor, WaitsForChild};
 
-    /// What it tells: the children that it started, how often it failed, and the bytes that each child was given, if it
-    /// tells these. The count stands still at the end of `u64`.
+    /// What it tells: the children that were not waited for yet, with their numbers, and the number that comes next; how
+    /// often it failed; and all children that it ever started, each with the bytes that it was given, if it tells these.
+    /// The count stands still at the end of `u64`.
     ghost tells: { Self → LauncherRecord };
 
     /// Starts the program that the first word names, with the words behind it. Only a child that is piped can be written
@@ -29,20 +30,20 @@ pub trait Launcher {
 
     /// Writes some bytes from the front of the piece to the child's input: what is left of it is the caller's to write.
     fn write(&mut self, child: ChildNo, piece: &[u8]) -> Put
-        requires { IsTaking child (tells self.old).children }
+        requires { IsTaking child (tells self.old) }
         ensures fed { FeedsChild result child piece.now (tells self.old) (tells self.new) }
         ensures faults_kept { (tells self.old).faults ≤ (tells self.new).faults }
-        ensures children_kept { (tells self.new).children ≡ (tells self.old).children };
+        ensures running_kept { (tells self.new).running ≡ (tells self.old).running };
 
     /// Shuts the child's input.
     fn shut(&mut self, child: ChildNo) -> Result<(), Failed>
-        requires { IsTaking child (tells self.old).children }
+        requires { IsTaking child (tells self.old) }
         ensures shut { ShutsInput result child (tells self.old) (tells self.new) }
         ensures faults_kept { (tells self.old).faults ≤ (tells self.new).faults };
 
     /// Waits until the child ends, and answers its status.
     fn wait(&mut self, child: ChildNo) -> Result<u32, Failed>
-        requires { IsNotWaitedFor child (tells self.old).children }
+        requires { IsNotWaitedFor child (tells self.old) }
         ensures waited { WaitsForChild result child (tells self.old) (tells self.new) }
         ensures faults_kept { (tells self.old).faults ≤ (tells self.new).faults };
 }

@@ -42,25 +42,12 @@ pub use mem_clock::MemClock;
 pub use mem_dial::{DialCall, MemDial};
 pub use mem_door::{MemDoor, MemPeer};
 pub use mem_gate::MemGate;
-pub use mem_launcher::{MemInput, MemLauncher};
+pub use mem_launcher::{MemChild, MemLauncher};
 pub use mem_link::{LinkScript, MemLink};
 pub use mem_net::{MemNet, MemStation, StationScript, StationsCall};
-pub use mem_store::{MemFile, MemStore};
+pub use mem_store::{MemFile, MemPath, MemStore};
 pub use memory::{MemSink, MemSource};
 pub use net::{Manned, Net, Station};
 pub use open_gate::OpenGate;
 pub use store::{FileNo, FileRead, Store};
 pub use sure::{SureSink, SureSource};
-
-#[cfg(test)]
-mod door_tests;
-#[cfg(test)]
-mod expect;
-#[cfg(test)]
-mod gate_tests;
-#[cfg(test)]
-mod link_tests;
-#[cfg(test)]
-mod store_tests;
-#[cfg(test)]
-mod tests;

@@ -1,51 +1,84 @@
 //! A launcher in memory, which starts no program and fails at chosen calls.
 ghost use Rattle.std.specs.Prelude.{◌≡◌, ◌≤◌, ◌<◌, ◌++◌, ◌∷◌, [], map, length, string_bytes, is_ok, IfOk, OnOk, OnErr, if◌then◌else◌};
-ghost use Rattle.ldm_outside.specs.Memory.{first_plan, with_most};
-ghost use Rattle.ldm_outside.specs.Launcher.{spelled, new_child};
+ghost use Rattle.ldm_outside.specs.Memory.{with_most};
+ghost use Rattle.ldm_outside.specs.Numbered.{at_number, with_number};
+ghost use Rattle.ldm_outside.specs.Launcher.{spelled, new_child, new_running, is_piped as piped_of, with_shut};
+ghost use Rattle.ldm_outside.specs.MemLauncher.{first_launcher};
 
 use crate::calls::Calls;
 use crate::fault::Failed;
 use crate::io::Put;
 use crate::launcher::{ChildNo, Launcher};
 use std::alloc::{AllocError, Global};
+use std::collections::BTreeMap;
 use std::marker::Model;
 
-// A child that is none, but for what it was told.
+/// A child that a launcher in memory started: no program runs.
 #[derive(Debug, Drop)]
-struct MemChild {
+pub struct MemChild {
     words: Vec<String>,
     piped: bool,
+    given: Vec<u8>,
     shut: bool,
     waited: bool,
 }
 
 impl Model for MemChild {
-    ghost use Rattle.std.specs.Prelude.{map, string_bytes};
     ghost use Rattle.ldm_outside.specs.Launcher.{Child, spelled};
 
     ghost Value = { Child };
 
-    ghost view = { λ s. record { words = spelled s.words.items; piped = s.piped; shut = s.shut; waited = s.waited } };
+    ghost view = { λ s. record {
+      words = spelled s.words.items;
+      piped = s.piped;
+      given = s.given.items;
+      shut = s.shut;
+      waited = s.waited;
+    } };
 }
 
 impl MemChild {
     ghost use Rattle.std.specs.Prelude.{true, false};
+    ghost use Rattle.ldm_outside.specs.Launcher.{new_child};
 
-    fn new(words: Vec<String>, piped: bool) -> MemChild
+    fn new(alloc: Global, words: Vec<String>, piped: bool) -> MemChild
         ensures { result ≡ new_child words.items piped }
     {
         MemChild {
             words,
             piped,
+            given: Vec::new(alloc),
             shut: false,
             waited: false,
         }
     }
 
-    fn is_piped(&self) -> bool
-        ensures { result ≡ self.now.piped }
+    /// All bytes that it was given.
+    pub fn given(&self) -> &[u8]
+        ensures { result.now ≡ self.now.given }
     {
-        self.piped
+        self.given.as_slice()
+    }
+
+    /// Whether its input was shut.
+    pub fn is_shut(&self) -> bool
+        ensures { result ≡ self.now.shut }
+    {
+        self.shut
+    }
+
+    /// Whether it was waited for.
+    pub fn is_waited_for(&self) -> bool
+        ensures { result ≡ self.now.waited }
+    {
+        self.waited
+    }
+
+    fn give(&mut self, bytes: &[u8]) -> Result<(), AllocError>
+        ensures given { OnOk result (self.new ≡ record self.old { given = self.old.given ++ bytes.now }) }
+        ensures kept { OnErr result (self.new ≡ self.old) }
+    {
+        self.given.extend_from_slice(bytes)
     }
 
     fn shut(&mut self)
@@ -61,40 +94,46 @@ impl MemChild {
     }
 }
 
-/// The bytes that a child was given.
+// What is known of a child that was not waited for yet.
 #[derive(Debug, Drop)]
-pub struct MemInput {
-    bytes: Vec<u8>,
+struct MemRunning {
+    words: Vec<String>,
+    piped: bool,
+    shut: bool,
 }
 
-impl Model for MemInput {
-    ghost use Rattle.std.specs.Prelude.{List, ℕ};
+impl Model for MemRunning {
+    ghost use Rattle.ldm_outside.specs.Launcher.{Running, spelled};
 
-    ghost Value = { List ℕ };
+    ghost Value = { Running };
 
-    ghost view = { λ s. s.bytes.items };
+    ghost view = { λ s. record { words = spelled s.words.items; piped = s.piped; shut = s.shut } };
 }
 
-impl MemInput {
-    fn new(alloc: Global) -> MemInput
-        ensures { result ≡ [] }
+impl MemRunning {
+    ghost use Rattle.std.specs.Prelude.{true, false};
+    ghost use Rattle.ldm_outside.specs.Launcher.{new_running};
+
+    fn new(words: Vec<String>, piped: bool) -> MemRunning
+        ensures { result ≡ new_running words.items piped }
     {
-        MemInput {
-            bytes: Vec::new(alloc),
+        MemRunning {
+            words,
+            piped,
+            shut: false,
         }
     }
 
-    /// The bytes.
-    pub fn bytes(&self) -> &[u8]
-        ensures { result.now ≡ self.now }
+    fn is_piped(&self) -> bool
+        ensures { result ≡ self.now.piped }
     {
-        self.bytes.as_slice()
+        self.piped
     }
 
-    fn append(&mut self, bytes: &[u8]) -> Result<(), AllocError>
-        ensures { self.new ≡ (if is_ok result then self.old ++ bytes.now else self.old) }
+    fn shut(&mut self)
+        ensures { self.new ≡ record self.old { shut = true } }
     {
-        self.bytes.extend_from_slice(bytes)
+        self.shut = true;
     }
 }
 
@@ -108,33 +147,50 @@ fn copied(alloc: Global, words: &[String]) -> Result<Vec<String>, AllocError>
     Ok(copies)
 }
 
-fn push_child(children: &mut Vec<MemChild>, words: &[String], piped: bool) -> Result<(), AllocError>
-    ensures pushed { OnOk result (children.new.items ≡ children.old.items ++ new_child words.now piped ∷ []) }
-    ensures kept { OnErr result (children.new.items ≡ children.old.items) }
-{
-    let words = copied(*children.allocator(), words)?;
-    children.push(MemChild::new(words, piped))?;
-    Ok(())
+// The children that run, under their numbers, and all that were started.
+#[derive(Debug, Drop)]
+struct Started {
+    now: BTreeMap<usize, MemRunning>,
+    ever: Vec<MemChild>,
 }
 
-// Adds a child that was given no byte.
-fn launch(
-    children: &mut Vec<MemChild>,
-    inputs: &mut Vec<MemInput>,
-    words: &[String],
-    piped: bool,
-) -> Result<(), AllocError>
-    ensures pushed { OnOk result (children.new.items ≡ children.old.items ++ new_child words.now piped ∷ []) }
-    ensures with_input { OnOk result (inputs.new.items ≡ inputs.old.items ++ [] ∷ []) }
-    ensures kept { OnErr result ((children.new.items ≡ children.old.items) × (inputs.new.items ≡ inputs.old.items)) }
-{
-    push_child(children, words, piped)?;
-    let input = MemInput::new(*inputs.allocator());
-    if let Err(failed) = inputs.push(input) {
-        children.pop();
-        return Err(failed.into());
+impl Started {
+    // Adds a child that was given no byte.
+    fn add(&mut self, words: &[String], piped: bool) -> Result<ChildNo, AllocError>
+        ensures number { IfOk result (λ child. child.0 ≡ length self.old.ever.items) }
+        ensures now { OnOk result (self.new.now.entries ≡ with_number (length self.old.ever.items) (new_running words.now piped) self.old.now.entries) }
+        ensures ever { OnOk result (self.new.ever.items ≡ self.old.ever.items ++ new_child words.now piped ∷ []) }
+        ensures now_kept { OnErr result (self.new.now.entries ≡ self.old.now.entries) }
+        ensures ever_kept { OnErr result (self.new.ever.items ≡ self.old.ever.items) }
+    {
+        let alloc = *self.ever.allocator();
+        let number = self.ever.len();
+        let now = MemRunning::new(copied(alloc, words)?, piped);
+        let ever = MemChild::new(alloc, copied(alloc, words)?, piped);
+        self.ever.reserve(1)?;
+        self.now.insert(number, now)?;
+        self.ever.push_reserved(ever);
+        Ok(ChildNo(number))
     }
-    Ok(())
+}
+
+// Whether the child can be written to.
+fn is_piped(running: &BTreeMap<usize, MemRunning>, child: ChildNo) -> bool
+    ensures { result ≡ piped_of (at_number child.0 running.now.entries) }
+{
+    match running.get(&child.0) {
+        Some(it) => it.is_piped(),
+        None => false,
+    }
+}
+
+// Notes that the input of the child was shut.
+fn shut_input(running: &mut BTreeMap<usize, MemRunning>, child: ChildNo)
+    ensures { running.new.entries ≡ with_shut child (at_number child.0 running.old.entries) running.old.entries }
+{
+    if let Some(it) = running.get_mut(&child.0) {
+        it.shut();
+    }
 }
 
 /// A launcher in memory: it starts no program, keeps what each child was given, and answers the statuses that it was
@@ -144,38 +200,36 @@ fn launch(
 /// much of the piece as the limit allows.
 #[derive(Debug, Drop)]
 pub struct MemLauncher {
-    children: Vec<MemChild>,
-    inputs: Vec<MemInput>,
+    started: Started,
     statuses: Vec<u32>,
     calls: Calls,
 }
 
 impl Model for MemLauncher {
-    ghost use Rattle.std.specs.Prelude.{◌≡◌, length};
     ghost use Rattle.ldm_outside.specs.MemLauncher.{LauncherState};
 
     ghost Value = { LauncherState };
 
     ghost view = { λ s. record {
       faults = s.calls.faults;
-      children = s.children.items;
-      inputs = s.inputs.items;
+      running = s.started.now.entries;
+      children = s.started.ever.items;
       statuses = s.statuses.items;
       plan = s.calls.plan;
     } };
-
-    ghost invariant = { λ s. length s.inputs.items ≡ length s.children.items };
 }
 
 impl MemLauncher {
     /// A launcher whose child of number i ends with the i-th of these statuses, or with 0 behind the last, and whose calls
     /// of the given numbers fail. The numbers are in any order.
     pub fn new(alloc: Global, statuses: Vec<u32>, failing: Vec<u64>) -> MemLauncher
-        ensures { result ≡ record { faults = 0; children = []; inputs = []; statuses = statuses.items; plan = first_plan failing.items } }
+        ensures { result ≡ first_launcher statuses.items failing.items }
     {
         MemLauncher {
-            children: Vec::new(alloc),
-            inputs: Vec::new(alloc),
+            started: Started {
+                now: BTreeMap::new(alloc),
+                ever: Vec::new(alloc),
+            },
             statuses,
             calls: Calls::new(failing),
         }
@@ -188,11 +242,11 @@ impl MemLauncher {
         self.calls.limit_pieces(most);
     }
 
-    /// What each child was given, in the order in which they were started.
-    pub fn inputs(&self) -> &[MemInput]
-        ensures { result.now ≡ self.now.inputs }
+    /// All children that were ever started, in order.
+    pub fn children(&self) -> &[MemChild]
+        ensures { result.now ≡ self.now.children }
     {
-        self.inputs.as_slice()
+        self.started.ever.as_slice()
     }
 
     /// How often it failed.
@@ -216,26 +270,26 @@ impl Launcher for MemLauncher {
         ensures planned { StartsChildAsPlanned result words.now piped self.old self.new }
     {
         self.calls.begin()?;
-        let at = self.children.len();
-        match launch(&mut self.children, &mut self.inputs, words, piped) {
-            Ok(()) => Ok(ChildNo(at)),
+        match self.started.add(words, piped) {
+            Ok(number) => Ok(number),
             Err(_) => Err(self.calls.fail()),
         }
     }
 
     fn write(&mut self, child: ChildNo, piece: &[u8]) -> Put
-        requires { IsTaking child self.old.children }
+        requires { IsTaking child (told_by_launcher self.old) }
         ensures fed { FeedsChild result child piece.now (told_by_launcher self.old) (told_by_launcher self.new) }
         ensures faults_kept { self.old.faults ≤ self.new.faults }
-        ensures children_kept { self.new.children ≡ self.old.children }
+        ensures running_kept { self.new.running ≡ self.old.running }
         ensures planned { FeedsChildAsPlanned result child piece.now self.old self.new }
     {
         if self.calls.begin().is_err() {
             return Put::Failed;
         }
         let n = piece.len().min(self.calls.most());
-        let it = &self.children[child.0];
-        if !it.is_piped() || self.inputs[child.0].append(&piece[..n]).is_err() {
+        if !is_piped(&self.started.now, child)
+            || self.started.ever[child.0].give(&piece[..n]).is_err()
+        {
             self.calls.fail();
             return Put::Failed;
         }
@@ -243,26 +297,26 @@ impl Launcher for MemLauncher {
     }
 
     fn shut(&mut self, child: ChildNo) -> Result<(), Failed>
-        requires { IsTaking child self.old.children }
+        requires { IsTaking child (told_by_launcher self.old) }
         ensures shut { ShutsInput result child (told_by_launcher self.old) (told_by_launcher self.new) }
         ensures faults_kept { self.old.faults ≤ self.new.faults }
         ensures planned { ShutsInputAsPlanned result child self.old self.new }
     {
         self.calls.begin()?;
-        let it = &mut self.children[child.0];
-        it.shut();
+        shut_input(&mut self.started.now, child);
+        self.started.ever[child.0].shut();
         Ok(())
     }
 
     fn wait(&mut self, child: ChildNo) -> Result<u32, Failed>
-        requires { IsNotWaitedFor child self.old.children }
+        requires { IsNotWaitedFor child (told_by_launcher self.old) }
         ensures waited { WaitsForChild result child (told_by_launcher self.old) (told_by_launcher self.new) }
         ensures faults_kept { self.old.faults ≤ self.new.faults }
         ensures planned { WaitsAsPlanned result child self.old self.new }
     {
         self.calls.begin()?;
-        let it = &mut self.children[child.0];
-        it.wait();
+        self.started.now.remove(&child.0);
+        self.started.ever[child.0].wait();
         Ok(self.statuses.get(child.0).copied().unwrap_or(0))
     }
 }

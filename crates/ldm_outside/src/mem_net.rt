@@ -152,7 +152,7 @@ impl Net for MemNet {
     ghost kept = { λ s. s.kept };
 
     fn stations(&mut self, port: u16, count: u32, idles: Option<u32>) -> Manned<MemStation>
-        ensures given { StationsGive told_by_station result count (told_by_dial self.old.dial) (told_by_dial self.new.dial) }
+        ensures given { StationsGive told_by_station result count idles (told_by_dial self.old.dial) (told_by_dial self.new.dial) }
         ensures kept { self.new.kept ≡ self.old.kept }
         ensures planned { StationsAsPlanned result (record { port = port; count = count; idles = idles }) self.old self.new }
     {

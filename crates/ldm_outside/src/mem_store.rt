@@ -1,14 +1,16 @@
 //! A store in memory, which fails at chosen calls.
-ghost use Rattle.std.specs.Prelude.{◌≡◌, ◌≤◌, ◌++◌, ◌∷◌, [], false, Some, bytes_eq, length, option_map, OnOk, OnErr, is_ok, if◌then◌else◌};
-ghost use Rattle.ldm_outside.specs.Memory.{first_plan, with_most};
+ghost use Rattle.std.specs.Prelude.{◌≡◌, ◌<◌, ◌≤◌, ◌++◌, ◌∷◌, [], bytes_eq, length, vec_len, vec_capacity, IfOk, OnOk, OnErr, is_ok, if◌then◌else◌};
+ghost use Rattle.ldm_outside.specs.Memory.{with_most};
+ghost use Rattle.ldm_outside.specs.Numbered.{with_number};
 ghost use Rattle.ldm_outside.specs.Store.{with_made, with_changed};
-ghost use Rattle.ldm_outside.specs.MemStore.{place_under, ReadsFiles};
+ghost use Rattle.ldm_outside.specs.MemStore.{place_under, first_store, ReadsFiles};
 
 use crate::calls::Calls;
 use crate::fault::Failed;
 use crate::io::Put;
 use crate::store::{FileNo, FileRead, Store};
 use std::alloc::{AllocError, Global};
+use std::collections::BTreeMap;
 use std::marker::Model;
 
 /// A file in memory.
@@ -78,27 +80,6 @@ fn find(files: &[MemFile], path: &str) -> Option<usize>
     files.iter().position(|file| file.is_under(path))
 }
 
-// Makes an empty file under the path, where there is none.
-fn make(files: &mut Vec<MemFile>, path: &str) -> Result<(), AllocError>
-    ensures made { OnOk result (files.new.items ≡ with_made path.now files.old.items) }
-    ensures kept { OnErr result (files.new.items ≡ files.old.items) }
-{
-    match find(files, path) {
-        Some(_) => Ok(()),
-        None => push_file(files, path),
-    }
-}
-
-fn push_file(files: &mut Vec<MemFile>, path: &str) -> Result<(), AllocError>
-    ensures pushed { OnOk result (files.new.items ≡ files.old.items ++ record { path = path.now; bytes = [] } ∷ []) }
-    ensures kept { OnErr result (files.new.items ≡ files.old.items) }
-{
-    let alloc = *files.allocator();
-    let path = String::from_str(alloc, path)?;
-    files.push(MemFile::new(path, Vec::new(alloc)))?;
-    Ok(())
-}
-
 // Adds the bytes to the file under the path.
 fn append(files: &mut Vec<MemFile>, path: &str, bytes: &[u8]) -> Result<(), AllocError>
     ensures appended { OnOk result (files.new.items ≡ with_changed path.now (λ before. before ++ bytes.now) files.old.items) }
@@ -120,60 +101,102 @@ fn empty(files: &mut Vec<MemFile>, path: &str)
     }
 }
 
-// A file that was opened.
+// The path of a file.
 #[derive(Debug, Drop)]
-struct MemOpened {
-    path: String,
-    shut: bool,
+pub struct MemPath {
+    text: String,
 }
 
-impl Model for MemOpened {
-    ghost use Rattle.std.specs.Prelude.{string_bytes};
-    ghost use Rattle.ldm_outside.specs.Store.{OpenFile};
+impl Model for MemPath {
+    ghost use Rattle.std.specs.Prelude.{List, ℕ, string_bytes};
 
-    ghost Value = { OpenFile };
+    ghost Value = { List ℕ };
 
-    ghost view = { λ s. record { path = string_bytes s.path; shut = s.shut } };
+    ghost view = { λ s. string_bytes s.text };
 }
 
-impl MemOpened {
-    ghost use Rattle.std.specs.Prelude.{true};
-
-    fn path(&self) -> &str
-        ensures { result.now ≡ self.now.path }
+impl MemPath {
+    fn new(alloc: Global, path: &str) -> Result<MemPath, AllocError>
+        ensures { IfOk result (λ made. made ≡ path.now) }
     {
-        self.path.as_str()
+        Ok(MemPath {
+            text: String::from_str(alloc, path)?,
+        })
     }
 
-    fn shut(&mut self)
-        ensures { self.new ≡ record self.old { shut = true } }
+    /// Its text.
+    pub fn as_str(&self) -> &str
+        ensures { result.now ≡ self.now }
     {
-        self.shut = true;
+        self.text.as_str()
     }
 }
 
-fn push_opened(opened: &mut Vec<MemOpened>, path: &str) -> Result<(), AllocError>
-    ensures pushed { OnOk result (opened.new.items ≡ opened.old.items ++ record { path = path.now; shut = false } ∷ []) }
-    ensures kept { OnErr result (opened.new.items ≡ opened.old.items) }
+// The files that are open, under their numbers, and the paths of all that were opened.
+#[derive(Debug, Drop)]
+struct Opened {
+    now: BTreeMap<usize, MemPath>,
+    ever: Vec<MemPath>,
+}
+
+impl Opened {
+    // Notes that the file under the path was opened.
+    fn add(&mut self, path: &str) -> Result<FileNo, AllocError>
+        ensures number { IfOk result (λ file. file.0 ≡ length self.old.ever.items) }
+        ensures now { OnOk result (self.new.now.entries ≡ with_number (length self.old.ever.items) path.now self.old.now.entries) }
+        ensures ever { OnOk result (self.new.ever.items ≡ self.old.ever.items ++ path.now ∷ []) }
+        ensures now_kept { OnErr result (self.new.now.entries ≡ self.old.now.entries) }
+        ensures ever_kept { OnErr result (self.new.ever.items ≡ self.old.ever.items) }
+    {
+        let alloc = *self.ever.allocator();
+        let number = self.ever.len();
+        let now = MemPath::new(alloc, path)?;
+        let ever = MemPath::new(alloc, path)?;
+        self.ever.reserve(1)?;
+        self.now.insert(number, now)?;
+        self.ever.push_reserved(ever);
+        Ok(FileNo(number))
+    }
+}
+
+// Makes room for a file, and an empty one under the path.
+fn new_file(files: &mut Vec<MemFile>, path: &str) -> Result<MemFile, AllocError>
+    ensures made { IfOk result (λ file. file ≡ record { path = path.now; bytes = [] }) }
+    ensures room { OnOk result (vec_len files.new < vec_capacity files.new) }
+    ensures kept { files.new.items ≡ files.old.items }
 {
-    let alloc = *opened.allocator();
+    let alloc = *files.allocator();
     let path = String::from_str(alloc, path)?;
-    opened.push(MemOpened { path, shut: false })?;
-    Ok(())
+    files.reserve(1)?;
+    Ok(MemFile::new(path, Vec::new(alloc)))
+}
+
+// Adds an empty file under the path, for which there is room, where there is none.
+fn make(files: &mut Vec<MemFile>, path: &str, file: MemFile)
+    requires empty { file ≡ record { path = path.now; bytes = [] } }
+    requires room { vec_len files.old < vec_capacity files.old }
+    ensures { files.new.items ≡ with_made path.now files.old.items }
+{
+    match find(files, path) {
+        Some(_) => {}
+        None => files.push_reserved(file),
+    }
 }
 
 // Opens the file under the path, and makes it where there is none.
-fn open(opened: &mut Vec<MemOpened>, files: &mut Vec<MemFile>, path: &str) -> Result<(), AllocError>
-    ensures opened { OnOk result (opened.new.items ≡ opened.old.items ++ record { path = path.now; shut = false } ∷ []) }
+fn open(opened: &mut Opened, files: &mut Vec<MemFile>, path: &str) -> Result<FileNo, AllocError>
+    ensures number { IfOk result (λ file. file.0 ≡ length opened.old.ever.items) }
+    ensures now { OnOk result (opened.new.now.entries ≡ with_number (length opened.old.ever.items) path.now opened.old.now.entries) }
+    ensures ever { OnOk result (opened.new.ever.items ≡ opened.old.ever.items ++ path.now ∷ []) }
     ensures made { OnOk result (files.new.items ≡ with_made path.now files.old.items) }
-    ensures kept { OnErr result ((opened.new.items ≡ opened.old.items) × (files.new.items ≡ files.old.items)) }
+    ensures now_kept { OnErr result (opened.new.now.entries ≡ opened.old.now.entries) }
+    ensures ever_kept { OnErr result (opened.new.ever.items ≡ opened.old.ever.items) }
+    ensures files_kept { OnErr result (files.new.items ≡ files.old.items) }
 {
-    push_opened(opened, path)?;
-    if let Err(error) = make(files, path) {
-        opened.pop();
-        return Err(error);
-    }
-    Ok(())
+    let file = new_file(files, path)?;
+    let number = opened.add(path)?;
+    make(files, path, file);
+    Ok(number)
 }
 
 // All bytes under the path.
@@ -200,7 +223,7 @@ fn read(alloc: Global, files: &[MemFile], path: &str, limit: u64) -> FileRead
 #[derive(Debug, Drop)]
 pub struct MemStore {
     files: Vec<MemFile>,
-    opened: Vec<MemOpened>,
+    opened: Opened,
     calls: Calls,
     long: u64,
 }
@@ -213,7 +236,8 @@ impl Model for MemStore {
     ghost view = { λ s. record {
       faults = s.calls.faults;
       long = s.long;
-      opened = s.opened.items;
+      paths = s.opened.now.entries;
+      opened = s.opened.ever.items;
       files = s.files.items;
       plan = s.calls.plan;
     } };
@@ -222,11 +246,14 @@ impl Model for MemStore {
 impl MemStore {
     /// A store of these files, whose calls of the given numbers fail. The numbers are in any order.
     pub fn new(alloc: Global, files: Vec<MemFile>, failing: Vec<u64>) -> MemStore
-        ensures { result ≡ record { faults = 0; long = 0; opened = []; files = files.items; plan = first_plan failing.items } }
+        ensures { result ≡ first_store files.items failing.items }
     {
         MemStore {
             files,
-            opened: Vec::new(alloc),
+            opened: Opened {
+                now: BTreeMap::new(alloc),
+                ever: Vec::new(alloc),
+            },
             calls: Calls::new(failing),
             long: 0,
         }
@@ -244,6 +271,13 @@ impl MemStore {
         ensures { result.now ≡ self.now.files }
     {
         self.files.as_slice()
+    }
+
+    /// The paths of all files that were ever opened, in order.
+    pub fn opened(&self) -> &[MemPath]
+        ensures { result.now ≡ self.now.opened }
+    {
+        self.opened.ever.as_slice()
     }
 
     /// How often it failed.
@@ -271,7 +305,7 @@ impl Store for MemStore {
         ensures read { ReadsFile result path.now limit (told_by_store self.old) (told_by_store self.new) }
         ensures faults_kept { self.old.faults ≤ self.new.faults }
         ensures long_kept { self.old.long ≤ self.new.long }
-        ensures opened_kept { self.new.opened ≡ self.old.opened }
+        ensures paths_kept { self.new.paths ≡ self.old.paths }
         ensures planned { ReadsFileAsPlanned result path.now limit self.old self.new }
     {
         if self.calls.begin().is_err() {
@@ -294,39 +328,40 @@ impl Store for MemStore {
         ensures planned { OpensFileAsPlanned result path.now self.old self.new }
     {
         self.calls.begin()?;
-        let at = self.opened.len();
         match open(&mut self.opened, &mut self.files, path) {
-            Ok(()) => Ok(FileNo(at)),
+            Ok(number) => Ok(number),
             Err(_) => Err(self.calls.fail()),
         }
     }
 
     fn empty(&mut self, file: FileNo) -> Result<(), Failed>
-        requires { IsOpen file self.old.opened }
+        requires { IsOpen file (told_by_store self.old) }
         ensures emptied { EmptiesFile result file (told_by_store self.old) (told_by_store self.new) }
         ensures faults_kept { self.old.faults ≤ self.new.faults }
-        ensures opened_kept { self.new.opened ≡ self.old.opened }
+        ensures paths_kept { self.new.paths ≡ self.old.paths }
         ensures planned { EmptiesFileAsPlanned result file self.old self.new }
     {
         self.calls.begin()?;
-        let opened = &self.opened[file.0];
-        empty(&mut self.files, opened.path());
+        if let Some(path) = self.opened.now.get(&file.0) {
+            empty(&mut self.files, path.as_str());
+        }
         Ok(())
     }
 
     fn write(&mut self, file: FileNo, piece: &[u8]) -> Put
-        requires { IsOpen file self.old.opened }
+        requires { IsOpen file (told_by_store self.old) }
         ensures written { WritesFile result file piece.now (told_by_store self.old) (told_by_store self.new) }
         ensures faults_kept { self.old.faults ≤ self.new.faults }
-        ensures opened_kept { self.new.opened ≡ self.old.opened }
+        ensures paths_kept { self.new.paths ≡ self.old.paths }
         ensures planned { WritesFileAsPlanned result file piece.now self.old self.new }
     {
         if self.calls.begin().is_err() {
             return Put::Failed;
         }
         let n = piece.len().min(self.calls.most());
-        let opened = &self.opened[file.0];
-        if append(&mut self.files, opened.path(), &piece[..n]).is_err() {
+        if let Some(path) = self.opened.now.get(&file.0)
+            && append(&mut self.files, path.as_str(), &piece[..n]).is_err()
+        {
             self.calls.fail();
             return Put::Failed;
         }
@@ -334,24 +369,23 @@ impl Store for MemStore {
     }
 
     fn flush(&mut self, _file: FileNo) -> Result<(), Failed>
-        requires { IsOpen _file self.old.opened }
+        requires { IsOpen _file (told_by_store self.old) }
         ensures flushed { FlushesFile result (told_by_store self.old) (told_by_store self.new) }
         ensures faults_kept { self.old.faults ≤ self.new.faults }
-        ensures opened_kept { self.new.opened ≡ self.old.opened }
+        ensures paths_kept { self.new.paths ≡ self.old.paths }
         ensures planned { BeginsCall result self.old self.new }
     {
         self.calls.begin()
     }
 
     fn shut(&mut self, file: FileNo) -> Result<(), Failed>
-        requires { IsOpen file self.old.opened }
+        requires { IsOpen file (told_by_store self.old) }
         ensures shut { ShutsFile result file (told_by_store self.old) (told_by_store self.new) }
         ensures faults_kept { self.old.faults ≤ self.new.faults }
         ensures planned { ShutsFileAsPlanned result file self.old self.new }
     {
         self.calls.begin()?;
-        let opened = &mut self.opened[file.0];
-        opened.shut();
+        self.opened.now.remove(&file.0);
         Ok(())
     }
 }

@@ -54,7 +54,7 @@ pub trait Net: Dial {
     ghost kept: { Self → List (Station Self.StationDoor Self.StationDial Self.StationLog Self.StationClock Self.StationGate) };
 
     /// Hands out so many new stations, whose doors let in what comes to that port. The gate of a station stops after so
-    /// many idle calls, where a number is given.
+    /// many idle calls, or never where no number is given, if it tells this.
     fn stations(
         &mut self,
         port: u16,
@@ -71,7 +71,7 @@ pub trait Net: Dial {
     >
         ensures given { StationsGive
             (station_tells Self.StationDoor.tells Self.StationDial.tells Self.StationLog.tells Self.StationClock.tells Self.StationGate.tells)
-            result count (Self.tells self.old) (Self.tells self.new) }
+            result count idles (Self.tells self.old) (Self.tells self.new) }
         ensures kept { kept self.new ≡ kept self.old };
 
     /// Keeps the stations as they are, in place of those that it kept. It needs no memory.

@@ -1,5 +1,5 @@
 //! The gate that never stops.
-ghost use Rattle.std.specs.Prelude.{◌≡◌, None};
+ghost use Rattle.std.specs.Prelude.{◌≡◌, Some, None};
 ghost use Rattle.ldm_outside.specs.declared.gate.Go.{Go};
 
 use crate::gate::{Gate, Go};
@@ -10,7 +10,7 @@ use ldm_types::Actor;
 pub struct OpenGate;
 
 impl Gate for OpenGate {
-    ghost tells = { λ _. record { stops = 0; calls = None } };
+    ghost tells = { λ _. record { stops = 0; idles = Some None; calls = None } };
 
     fn before(&mut self, _actor: Actor, _i: u64) -> Go
         ensures on { result ≡ Go.On }

@@ -6,7 +6,7 @@ use crate::fault::Failed;
 use crate::io::Put;
 use std::alloc::Global;
 
-/// A file that a store opened: its place among all that this store opened, counted from 0.
+/// A file that a store opened: how many it had opened before. No number comes twice.
 #[derive(Clone, Copy, Debug, PartialEq, Eq)]
 pub struct FileNo(pub usize);
 
@@ -30,8 +30,9 @@ pub enum FileRead {
 pub trait Store {
     ghost use Rattle.ldm_outside.specs.Store.{ReadsFile, OpensFile, IsOpen, EmptiesFile, WritesFile, FlushesFile, ShutsFile};
 
-    /// What it tells: the files that it opened, how often it failed and found a file too long, and all files that there
-    /// are, if it tells these. A count stands still at the end of `u64`.
+    /// What it tells: the files that are open now, with their numbers and paths, and the number that comes next; how often
+    /// it failed and found a file too long; and if it tells these, all files that it ever opened and all that there are. A
+    /// count stands still at the end of `u64`.
     ghost tells: { Self → StoreRecord };
 
     /// Reads the file under the path, which may have so many bytes at most.
@@ -39,7 +40,7 @@ pub trait Store {
         ensures read { ReadsFile result path.now limit (tells self.old) (tells self.new) }
         ensures faults_kept { (tells self.old).faults ≤ (tells self.new).faults }
         ensures long_kept { (tells self.old).long ≤ (tells self.new).long }
-        ensures opened_kept { (tells self.new).opened ≡ (tells self.old).opened };
+        ensures paths_kept { (tells self.new).paths ≡ (tells self.old).paths };
 
     /// Opens the file under the path, to be written at its end. It makes the file and its folders where they are
     /// missing.
@@ -49,29 +50,29 @@ pub trait Store {
 
     /// Takes all bytes out of the file.
     fn empty(&mut self, file: FileNo) -> Result<(), Failed>
-        requires { IsOpen file (tells self.old).opened }
+        requires { IsOpen file (tells self.old) }
         ensures emptied { EmptiesFile result file (tells self.old) (tells self.new) }
         ensures faults_kept { (tells self.old).faults ≤ (tells self.new).faults }
-        ensures opened_kept { (tells self.new).opened ≡ (tells self.old).opened };
+        ensures paths_kept { (tells self.new).paths ≡ (tells self.old).paths };
 
     /// Writes some bytes from the front of the piece at the end of the file: what is left of it is the caller's to
     /// write.
     fn write(&mut self, file: FileNo, piece: &[u8]) -> Put
-        requires { IsOpen file (tells self.old).opened }
+        requires { IsOpen file (tells self.old) }
         ensures written { WritesFile result file piece.now (tells self.old) (tells self.new) }
         ensures faults_kept { (tells self.old).faults ≤ (tells self.new).faults }
-        ensures opened_kept { (tells self.new).opened ≡ (tells self.old).opened };
+        ensures paths_kept { (tells self.new).paths ≡ (tells self.old).paths };
 
     /// Hands all that was written to the system.
     fn flush(&mut self, file: FileNo) -> Result<(), Failed>
-        requires { IsOpen file (tells self.old).opened }
+        requires { IsOpen file (tells self.old) }
         ensures flushed { FlushesFile result (tells self.old) (tells self.new) }
         ensures faults_kept { (tells self.old).faults ≤ (tells self.new).faults }
-        ensures opened_kept { (tells self.new).opened ≡ (tells self.old).opened };
+        ensures paths_kept { (tells self.new).paths ≡ (tells self.old).paths };
 
     /// Shuts the file: its number is spent.
     fn shut(&mut self, file: FileNo) -> Result<(), Failed>
-        requires { IsOpen file (tells self.old).opened }
+        requires { IsOpen file (tells self.old) }
         ensures shut { ShutsFile result file (tells self.old) (tells self.new) }
         ensures faults_kept { (tells self.old).faults ≤ (tells self.new).faults };
 }

@@ -34,7 +34,7 @@ struct MeetingGate<'a> {
 impl Gate for MeetingGate<'_> {
     ghost use Rattle.std.specs.Prelude.{None};
 
-    ghost tells = { λ gate. record { stops = gate.stops; calls = None } };
+    ghost tells = { λ gate. record { stops = gate.stops; idles = None; calls = None } };
 
     fn before(&mut self, _actor: Actor, _i: u64) -> Go {
         self.own.store(true, Ordering::SeqCst);

@@ -6,5 +6,5 @@ use Rattle.ldm_outside.proofs.mem_net.MemNetNet.stations.Goals as goal
 
 pub returns-clause-given : goal.returns-clause-given
 returns-clause-given c =
-    let P : List StationState → Type 0 = λ xs. All (λ station. IsNew (told_by_station station)) xs in
-    (search rules, subst P (sym c.in-Some.ensures.taken) (All-IsNew-first (take c.args.count c.self.inside.ready.items)), search rules)
+    let P : List StationState → Type 0 = λ xs. All (λ station. IsNew c.args.idles (told_by_station station)) xs in
+    (search rules, subst P (sym c.in-Some.ensures.taken) (All-IsNew-first c.args.idles (take c.args.count c.self.inside.ready.items)), search rules)
