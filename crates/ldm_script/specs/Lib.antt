@@ -16,3 +16,4 @@ pub mod Spelling
 pub mod Resolve
 pub mod Writing
 pub mod Lines
+pub mod Calls

@@ -24,6 +24,11 @@ resolved last (Plain event) = Some event
 resolved last (OnCursor (At k) event) = Some (event k)
 resolved last (OnCursor Last event) = option_map event last
 
+-- the place that an actor was last answered `opened`, after a reply to it
+abbrev pub last_after : Option ℕ → Reply → Option ℕ
+last_after last (reply.Opened k) = Some k
+last_after last _ = last
+
 -- the places last opened, after an actor was answered
 abbrev pub after_reply : List (Option ℕ) → ℕ → Reply → List (Option ℕ)
 after_reply opened actor (reply.Opened k) = set opened actor (Some k)

@@ -10,6 +10,7 @@
 
 mod answer;
 mod body;
+mod call;
 mod fields;
 mod line;
 mod number;
@@ -23,6 +24,7 @@ mod write;
 
 pub use answer::{Answer, LONGEST_ANSWER, Text, text_into, write_answer, write_reply};
 pub use body::{Body, LONGEST_BODY, body_into};
+pub use call::Call;
 pub use line::{BadLine, LONGEST_LINE, LONGEST_READ, read_line};
 pub use number::read_number;
 pub use order::{Act, Order, Place};

@@ -1,0 +1,13 @@
+//! The lines of a script as calls of a queue.
+//!
+//! [`Caller`] has the calls of a queue, for whoever makes them: an actor calls a `Book`. A [`Room`] answers what a line asks
+//! for, and has all memory that this takes.
+#![tactic(auto)]
+
+mod caller;
+mod on_book;
+mod possible;
+mod room;
+
+pub use caller::{Caller, Unmade};
+pub use room::Room;

@@ -1,0 +1,129 @@
+//! The room in which lines are answered.
+ghost use Rattle.std.specs.Prelude.{◌≡◌, ◌≤◌, length, IfOk, OnOk, OnErr};
+ghost use Rattle.ldm_script.specs.AnswerView.{reply_of, FitsAnswer};
+ghost use Rattle.ldm_script.specs.Calls.{event_of, IsWholeCall};
+ghost use Rattle.ldm_script.specs.OrderView.{asked_of, IsWhole};
+ghost use Rattle.ldm_script.specs.Resolve.{last_after};
+ghost use Rattle.ldm_script.specs.declared.answer.TheConstants.{LONGEST_ANSWER};
+ghost use Rattle.ldm_script.specs.declared.body.TheConstants.{LONGEST_BODY};
+ghost use Rattle.ldm_script.specs.declared.line.TheConstants.{LONGEST_READ};
+ghost use Rattle.ldm_calls.specs.Lines.{AnswersLine};
+
+use crate::caller::{Caller, Unmade};
+use ldm_script::{Act, Answer, Call, LONGEST_BODY, LONGEST_READ, Text, body_into, write_answer};
+use ldm_types::{CursorNo, OutOfMemory};
+use std::alloc::Global;
+use std::marker::Model;
+
+// Room for the bytes of the longest read.
+const READ_ROOM: usize = LONGEST_READ as usize;
+
+/// Room for the body of an insertion, for the bytes of a read, and for an answer line. Contracts see the line.
+#[derive(Drop)]
+pub struct Room {
+    body: Vec<u8>,
+    read: [u8; READ_ROOM],
+    text: Text,
+}
+
+impl Model for Room {
+    ghost use Rattle.std.specs.Prelude.{◌≡◌, List, ℕ};
+    ghost use Rattle.std.specs.Vec.{vec_len};
+    ghost use Rattle.ldm_script.specs.declared.body.TheConstants.{LONGEST_BODY};
+
+    ghost Value = { List ℕ };
+
+    ghost view = { λ room. room.text.items };
+
+    ghost invariant = { λ room. vec_len room.body ≡ LONGEST_BODY };
+}
+
+impl Room {
+    /// Takes the memory for the longest body.
+    pub fn new(alloc: Global) -> Result<Room, OutOfMemory> {
+        Ok(Room {
+            body: vec![in alloc; 0u8; LONGEST_BODY as usize]?,
+            read: [0; READ_ROOM],
+            text: Text::new(),
+        })
+    }
+
+    /// Does what a line asks for: makes its call, writes the answer line with its newline, and notes in `last` the place that
+    /// the actor was answered `opened`. Where `.` names no place yet, no call is made, and the answer is `nocursor`.
+    pub fn answer<C: Caller>(
+        &mut self,
+        caller: &C,
+        queue: &mut C::Queue,
+        last: &mut Option<CursorNo>,
+        act: &Act,
+    ) -> Result<(), Unmade>
+        requires may { C.may_call caller.now queue.old }
+        requires whole { IsWhole act.now }
+        ensures answered { OnOk result (AnswersLine (C.made caller.now) (asked_of act.now) queue.old last.old queue.new last.new self.new) }
+        ensures unmade { OnErr result (C.unmade caller.now queue.old queue.new) }
+        ensures kept { OnErr result (last.new ≡ last.old) }
+    {
+        let Some(call) = act.call(*last) else {
+            write_answer(&Answer::NoCursor, &mut self.text);
+            return Ok(());
+        };
+        let answer = make(caller, queue, &mut self.body, &mut self.read, &call)?;
+        note_opened(last, &answer);
+        write_answer(&answer, &mut self.text);
+        Ok(())
+    }
+
+    /// The answer line that was written last.
+    pub fn text(&self) -> &[u8]
+        ensures text { result.now ≡ self.now }
+        ensures short { length result.now ≤ LONGEST_ANSWER }
+    {
+        self.text.as_slice()
+    }
+}
+
+// Makes a call, and answers what the queue does. A body that is inserted is made in `body_room`, and the bytes that are read
+// stand in `read_room`.
+fn make<'a, C: Caller>(
+    caller: &C,
+    queue: &mut C::Queue,
+    body_room: &mut [u8],
+    read_room: &'a mut [u8],
+    call: &Call,
+) -> Result<Answer<'a>, Unmade>
+    requires may { C.may_call caller.now queue.old }
+    requires whole { IsWholeCall call.now }
+    requires body_room { LONGEST_BODY ≤ length body_room.old }
+    requires read_room { LONGEST_READ ≤ length read_room.old }
+    ensures made { IfOk result (λ answer. C.made caller.now queue.old (event_of call.now) (reply_of answer) queue.new) }
+    ensures fits { IfOk result FitsAnswer }
+    ensures unmade { OnErr result (C.unmade caller.now queue.old queue.new) }
+{
+    Ok(match call {
+        Call::Insert { now, info, body } => {
+            let len = body_into(body, body_room);
+            Answer::from(caller.insert(queue, *now, info, &body_room[..len])?)
+        }
+        Call::OpenCursor { feed, start } => Answer::from(caller.open_cursor(queue, *feed, *start)?),
+        Call::Step { k } => Answer::from(caller.step(queue, *k)?),
+        Call::Read { k, offset, len } => {
+            let into = &mut read_room[..*len as usize];
+            Answer::from_read(caller.read(queue, *k, *offset, into)?, into)
+        }
+        Call::Release { k } => Answer::from(caller.release(queue, *k)?),
+        Call::Close { k } => Answer::from(caller.close(queue, *k)?),
+        Call::Look { signature } => Answer::from(caller.look(queue, signature)?),
+        Call::Expire => Answer::from(caller.expire(queue)?),
+        Call::Tally { k } => Answer::from(caller.tally(queue, *k)?),
+        Call::Stat => Answer::from(caller.stat(queue)?),
+    })
+}
+
+// Notes the place, where the answer is `opened`.
+fn note_opened(last: &mut Option<CursorNo>, answer: &Answer)
+    ensures { last.new ≡ last_after last.old (reply_of answer.now) }
+{
+    if let Answer::Opened { k } = answer {
+        *last = Some(*k);
+    }
+}
