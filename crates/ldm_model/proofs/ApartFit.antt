@@ -1,47 +1,16 @@
 -- The place that is found for an extent lies within the arena, beside every region that occupies it.
-use Rattle.std.proofs.Common.{◌≡◌, ◌∙◌, ℕ, zero, suc, ◌+◌, ◌<◌, ◌≤◌, false, List, [], ◌∷◌, Option, Some, None, sym, ap, inl, inr, arith}
-use Rattle.std.specs.Prelude.{◌==◌, nat_le, nat_lt}
+use Rattle.std.proofs.Common.{◌≡◌, ℕ, ◌+◌, ◌<◌, ◌≤◌, false, List, [], ◌∷◌, Option, Some, None, subst, inl, inr, arith}
+use Rattle.std.specs.Prelude.{nat_le, nat_lt}
 use Rattle.std.specs.List.{AllByRecursion}
 use Rattle.std.specs.Option.{option_map}
-use Rattle.std.proofs.lemmas.Bool.{both_ways, cond_both, eqb-true, cases_eq, cases_lt, leb-true, le-leb, lt-ltb, and_from, or_parts}
+use Rattle.std.proofs.lemmas.Bool.{both_ways, cond_both, cases_lt, leb-true, le-leb, lt-ltb, and_from, or_parts}
 use Rattle.std.proofs.lemmas.Option.{same_Some}
-use Rattle.ldm_types.specs.Arena.{Region, AreApart, covers, is_covered, with_free, free_runs, gaps, shorter, best_gap, fit}
-
--- no region covers a position from one up to, but not with, another
-abbrev IsFree : List Region → ℕ → ℕ → Type 0
-IsFree occupied from to = (i : ℕ) → from ≤ i → i < to → is_covered occupied i ≡ false
+use Rattle.ldm_types.specs.Arena.{Region, AreApart, covers, is_covered, gaps, shorter, best_gap, fit}
+use Rattle.ldm_model.proofs.Space.{IsFree, AreFreeGaps, runs_free}
 
 -- a gap that lies between two positions, and is free
 abbrev IsFreeGap : List Region → ℕ → ℕ → Region → Type 0
 IsFreeGap occupied from to g = (from ≤ g.start) × (g.start + g.extent ≤ to) × IsFree occupied g.start (g.start + g.extent)
-
-abbrev AreFreeGaps : List Region → ℕ → ℕ → List Region → Type 0
-AreFreeGaps occupied from to gs = AllByRecursion (IsFreeGap occupied from to) gs
-
-earlier : (occupied : List Region) (from later to : ℕ) (gs : List Region) → from ≤ later → AreFreeGaps occupied later to gs → AreFreeGaps occupied from to gs
-earlier occupied from later to [] le all = tt
-earlier occupied from later to (g ∷ gs) le all = ((omega (arith, all.0.0), all.0.1, all.0.2), earlier occupied from later to gs le all.1)
-
-free-one : (occupied : List Region) (p : ℕ) → is_covered occupied p ≡ false → IsFree occupied p (p + 1)
-free-one occupied p e i low high = let same : p ≡ i = omega arith in ap (is_covered occupied) (sym same) ∙ e
-
-with_free-free : (occupied : List Region) (p to : ℕ) (gs : List Region) → p + 1 ≤ to → is_covered occupied p ≡ false → AreFreeGaps occupied (p + 1) to gs → AreFreeGaps occupied p to (with_free p gs)
-with_free-free occupied p to [] inside e all = ((omega arith, omega arith, free-one occupied p e), tt)
-with_free-free occupied p to (g ∷ gs) inside e all = cond_both (g.start == p + 1) (record { start = p; extent = g.extent + 1 } ∷ gs) (record { start = p; extent = 1 } ∷ g ∷ gs)
-    (AreFreeGaps occupied p to)
-    (λ next. let at = eqb-true g.start (p + 1) next in ((omega arith, omega (arith, all.0.1, at), joined at), earlier occupied p (p + 1) to gs (omega arith) all.1))
-    (λ apart. ((omega arith, omega arith, free-one occupied p e), earlier occupied p (p + 1) to (g ∷ gs) (omega arith) all))
-  where
-    joined : g.start ≡ p + 1 → IsFree occupied p (p + (g.extent + 1))
-    joined at i low high = elim (cases_eq i p) [ inl here ↦ ap (is_covered occupied) here ∙ e | inr other ↦ all.0.2 i (omega arith) (omega arith) ]
-
-runs-free : (occupied : List Region) (from count to : ℕ) → from + count ≡ to → AreFreeGaps occupied from to (free_runs occupied from count)
-runs-free occupied from zero to e = tt
-runs-free occupied from (suc count) to e =
-    let rest = runs-free occupied (from + 1) count to (omega arith) in
-    cond_both (is_covered occupied from) (free_runs occupied (from + 1) count) (with_free from (free_runs occupied (from + 1) count)) (AreFreeGaps occupied from to)
-    (λ covered. earlier occupied from (from + 1) to (free_runs occupied (from + 1) count) (omega arith) rest)
-    (λ free. with_free-free occupied from to (free_runs occupied (from + 1) count) (omega arith) free rest)
 
 -- the best gap is one of them, and long enough
 abbrev IsLong : List Region → ℕ → ℕ → Option Region → Type 0
@@ -93,7 +62,7 @@ pub record IsFit (need : ℕ) (occupied : List Region) (arena place : ℕ) : Typ
 
 pub IsFit-fit : (need : ℕ) (occupied : List Region) (arena place : ℕ) → 0 < need → AreSome occupied → fit need occupied arena ≡ Some place → IsFit need occupied arena place
 IsFit-fit need occupied arena place any some found =
-    by_best (best_gap need (gaps occupied arena)) (best-long occupied need arena (gaps occupied arena) (runs-free occupied 0 arena arena (omega arith))) found
+    by_best (best_gap need (gaps occupied arena)) (best-long occupied need arena (gaps occupied arena) (let end : 0 + arena ≡ arena = omega arith in subst (λ (to : ℕ). AreFreeGaps occupied 0 to (gaps occupied arena)) end (runs_free occupied 0 arena))) found
   where
     by_best : (best : Option Region) → IsLong occupied need arena best → option_map (λ (g : Region). g.start) best ≡ Some place → IsFit need occupied arena place
     by_best None long e = absurd cc

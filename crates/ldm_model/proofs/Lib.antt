@@ -1,6 +1,7 @@
 pub mod Places
 pub mod Cases
 pub mod ReservationCases
+pub mod Space
 pub mod ApartFit
 pub mod ApartRegions
 pub mod ApartNext
@@ -30,7 +31,6 @@ pub mod Admitted
 pub mod FillingPoints
 pub mod FillingAnswered
 pub mod Numbered
-pub mod Space
 mod Fitting
 mod Changing
 mod Times
