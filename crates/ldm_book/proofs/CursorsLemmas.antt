@@ -6,12 +6,12 @@ use Rattle.std.proofs.lemmas.Iterator.Adapters.{position_from-zero}
 use Rattle.std.specs.Option.{IsSomeAnd}
 use Rattle.std.proofs.lemmas.Bool.{eq-eqb, ne_eqb}
 use Rattle.std.proofs.lemmas.List.{map-set, length-append}
-use Rattle.ldm_types.specs.Cursors.{KeptCursor, Places}
+use Rattle.ldm_types.specs.Cursors.{KeptCursor, Places, is_number}
 use Rattle.ldm_types.specs.Feed.{feeds_meet}
 use Rattle.ldm_cursor.specs.Places as kept_places
 use Rattle.ldm_model.specs.State.{State, Cursor}
 use Rattle.ldm_model.specs.Step.{least_of, greatest_of}
-use Rattle.ldm_model.specs.Evict.{holds, with_loss, is_number}
+use Rattle.ldm_model.specs.Evict.{holds, with_loss}
 use Rattle.ldm_model.specs.Cursor.{least_empty, cursor_at, cursor_of, if_owned, with_place}
 use Rattle.ldm_book.specs.View.{BookView}
 use Rattle.ldm_book.specs.Stands.{losses_of, kept_cursor, kept_place, StandsFor}

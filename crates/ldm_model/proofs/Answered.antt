@@ -17,7 +17,8 @@ use Rattle.ldm_model.specs.Release.{release, close, after_release}
 use Rattle.ldm_model.specs.Tally.{tally, tally_reply}
 use Rattle.ldm_model.specs.Next.{next}
 use Rattle.ldm_model.specs.History.{IsAnswered}
-use Rattle.ldm_model.specs.Law.{Point, Hold, held_number, is_number, place_of_event, is_step, is_release, is_own, history_of, state_at, untold, hold_of, GivesNext, TellsLosses, HasAll, ReadsHeld, IsAnsweredAt}
+use Rattle.ldm_model.specs.Law.{Point, Hold, held_number, place_of_event, is_step, is_release, is_own, history_of, state_at, untold, hold_of, GivesNext, TellsLosses, HasAll, ReadsHeld, IsAnsweredAt}
+use Rattle.ldm_types.specs.Cursors.{is_number}
 use Rattle.ldm_model.proofs.Ascending.{IsAmong, Contains-from_among, All-from_among}
 use Rattle.ldm_model.proofs.Apart.{AreApart, AreApart-from_rises, AreApart-right, length-same, least-among, least-below, greatest-among, greatest-above}
 use Rattle.ldm_model.proofs.Coming.{comes, number_of, find-comes, find-range_none, IsRowOf-found}

@@ -6,7 +6,8 @@ use Rattle.std.proofs.lemmas.Bool.{false≢true, true≢false, or_cases, or_left
 use Rattle.ldm_types.specs.Feed.{feeds_meet}
 use Rattle.ldm_model.specs.State.{State, Row, Cursor, Queued, queued, queued_from, add_queued, place_of_row, is_queued}
 use Rattle.ldm_model.specs.Outcome.{Outcome}
-use Rattle.ldm_model.specs.Evict.{is_number, holds, is_held, numbers, unheld, without_place, with_loss, evict, evict_row, evict_all}
+use Rattle.ldm_model.specs.Evict.{holds, is_held, numbers, unheld, without_place, with_loss, evict, evict_row, evict_all}
+use Rattle.ldm_types.specs.Cursors.{is_number}
 use Rattle.ldm_model.specs.Cursor.{if_owned, cursor_at, cursor_of, with_place, on_cursor, on_held}
 
 -- whether the row of that number is present among these rows

@@ -4,7 +4,8 @@ use Rattle.std.specs.Prelude.{◌&&◌, ◌||◌, nat_le, is_some, slice_get, sl
 use Rattle.std.proofs.lemmas.Bool.{both_ways, eq-eqb}
 use Rattle.ldm_types.specs.Feed.{feeds_meet}
 use Rattle.ldm_model.specs.State.{State, Row, Cursor, Reservation, end_of, is_queued}
-use Rattle.ldm_model.specs.Evict.{is_number, is_held, numbers, with_loss, evict, evict_row, evict_all}
+use Rattle.ldm_model.specs.Evict.{is_held, numbers, with_loss, evict, evict_row, evict_all}
+use Rattle.ldm_types.specs.Cursors.{is_number}
 use Rattle.ldm_model.specs.Cursor.{cursor_at, with_place}
 use Rattle.ldm_model.specs.Reservation.{with_reservation}
 use Rattle.ldm_model.specs.Open.{open_position}

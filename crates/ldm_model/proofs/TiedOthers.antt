@@ -30,7 +30,8 @@ use Rattle.ldm_model.specs.Reserve.{reserve}
 use Rattle.ldm_model.specs.Fill.{fill, discard}
 use Rattle.ldm_model.specs.Commit.{commit}
 use Rattle.ldm_model.specs.Next.{next}
-use Rattle.ldm_model.specs.Law.{Point, Hold, is_number, place_of_event}
+use Rattle.ldm_model.specs.Law.{Point, Hold, place_of_event}
+use Rattle.ldm_types.specs.Cursors.{is_number}
 use Rattle.ldm_model.proofs.Held.{cursor-owned}
 use Rattle.ldm_model.proofs.Coming.{find-range_before}
 use Rattle.ldm_model.proofs.Evictable.{AreEvictable-unheld, evictable-first}

@@ -13,7 +13,8 @@ use Rattle.ldm_model.specs.Read.{read, read_row, part_of}
 use Rattle.ldm_model.specs.Release.{release, after_release}
 use Rattle.ldm_model.specs.Tally.{tally}
 use Rattle.ldm_model.specs.Next.{next}
-use Rattle.ldm_model.specs.Law.{Point, is_number, place_of_event, is_close, state_at, with_given, given, after_gap, lost, told, with_count, count_told, after_hold, hold_of}
+use Rattle.ldm_model.specs.Law.{Point, place_of_event, is_close, state_at, with_given, given, after_gap, lost, told, with_count, count_told, after_hold, hold_of}
+use Rattle.ldm_types.specs.Cursors.{is_number}
 use Rattle.ldm_model.proofs.Coming.{comes, number_of, find-comes, find-range_before, find-range_none}
 use Rattle.ldm_model.proofs.Reading.{hold_now}
 use Rattle.ldm_model.proofs.ReadingMoves.{Reads-given, Reads-end, Reads-told, Reads-released}

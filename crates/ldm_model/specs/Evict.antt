@@ -1,12 +1,9 @@
 -- Which products are held, and what evicting one does.
-use Rattle.std.specs.Prelude.{ℕ, zero, suc, ◌+◌, Bool, false, not, ◌&&◌, ◌==◌, nat_le, List, [], ◌∷◌, ◌++◌, length, map, filter, Option, Some, None, if◌then◌else◌, slice_get}
+use Rattle.std.specs.Prelude.{ℕ, zero, suc, ◌+◌, Bool, false, not, ◌&&◌, nat_le, List, [], ◌∷◌, ◌++◌, length, map, filter, Option, Some, None, if◌then◌else◌, slice_get}
 use Rattle.std.specs.List.{list_any, range_with_len}
+use Rattle.ldm_types.specs.Cursors.{is_number}
 use Rattle.ldm_types.specs.Feed.{feeds_meet}
 use Rattle.ldm_model.specs.State.{State, Row, Cursor, Queued, end_of, queued, reserved}
-
-abbrev pub is_number : ℕ → Option ℕ → Bool
-is_number n None = false
-is_number n (Some m) = m == n
 
 abbrev pub holds : ℕ → Option Cursor → Bool
 holds n None = false

@@ -1,7 +1,7 @@
 -- Histories: what was called and answered, one entry after another.
 use Rattle.std.specs.Prelude.{◌≡◌, ◌⊎◌, ℕ, ◌<◌, ◌≤◌, ◌^◌, Bool, true, false, List, [], ◌∷◌, ◌++◌, length, filter, All}
 use Rattle.ldm_types.specs.declared.limits.TheConstants.{GREATEST_INSTANT}
-use Rattle.ldm_types.specs.Info.{Metadata, TextsFit}
+use Rattle.ldm_types.specs.Info.{AreBytes, IsSignature, IsFeed, IsMetadata}
 use Rattle.ldm_model.specs.declared.event.Start.{Start}
 use Rattle.ldm_model.specs.declared.event.Start.TheVariants.{Oldest, Next, After, AfterSignature}
 use Rattle.ldm_model.specs.declared.event.Event.{Event}
@@ -14,28 +14,6 @@ use Rattle.ldm_model.specs.State.{State, empty}
 use Rattle.ldm_model.specs.Outcome.{Outcome}
 use Rattle.ldm_model.specs.Next.{Call, next}
 use Rattle.ldm_model.specs.Filled.{bytes_filled, ends}
-
-abbrev pub AreBytes : List ℕ → Type 0
-AreBytes bytes = All (λ byte. byte < 256) bytes
-
--- 16 bytes
-abbrev pub IsSignature : List ℕ → Type 0
-IsSignature signature = (length signature ≡ 16) × AreBytes signature
-
--- a set of feedtypes
-abbrev pub IsFeed : ℕ → Type 0
-IsFeed feed = feed < 2 ^ 32
-
--- metadata within the bounds of their types
-pub record IsMetadata (info : Metadata) : Type 0 where
-  pub arrival : info.arrival ≤ GREATEST_INSTANT
-  pub signature : IsSignature info.signature
-  pub texts : TextsFit info
-  pub origin : AreBytes info.origin
-  pub ident : AreBytes info.ident
-  pub feed : IsFeed info.feed
-  pub seqno : info.seqno < 2 ^ 32
-  pub size : info.size < 2 ^ 32
 
 -- a place where a cursor can be asked to begin
 abbrev pub IsStart : Start → Type 0

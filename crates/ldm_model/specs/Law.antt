@@ -9,6 +9,7 @@ use Rattle.std.specs.List.{list_any, find, range_with_len}
 use Rattle.std.specs.List.Sorted.{IsStrictlyIncreasing}
 use Rattle.std.specs.Option.{option_map}
 use Rattle.ldm_types.specs.Info.{Metadata}
+use Rattle.ldm_types.specs.Cursors.{is_number}
 use Rattle.ldm_types.specs.Feed.{feeds_meet}
 use Rattle.ldm_model.specs.declared.event.Start.{Start}
 use Rattle.ldm_model.specs.declared.event.Event.{Event}
@@ -71,10 +72,6 @@ place_of_event (Release k) = Some k
 place_of_event (Close k) = Some k
 place_of_event (Tally k) = Some k
 place_of_event _ = None
-
-abbrev pub is_number : ℕ → Option ℕ → Bool
-is_number n None = false
-is_number n (Some m) = m == n
 
 -- whether an entry is the owner's, and about its cursor
 abbrev pub is_own : Point → Entry → Bool

@@ -5,6 +5,7 @@
 use Rattle.std.specs.Prelude.{◌≡◌, ℕ, Bool, true, false, ◌&&◌, if◌then◌else◌, List, [], ◌∷◌, ◌++◌, length, All, Option, Some, None}
 use Rattle.std.specs.Option.{option_map}
 use Rattle.ldm_types.specs.Info.{Metadata}
+use Rattle.ldm_types.specs.Cursors.{is_number}
 use Rattle.ldm_types.specs.Feed.{feeds_meet}
 use Rattle.ldm_model.specs.declared.event.Start.{Start}
 use Rattle.ldm_model.specs.declared.event.Event.TheVariants.{OpenCursor}
@@ -14,7 +15,7 @@ use Rattle.ldm_model.specs.declared.event.Entry.{Entry}
 use Rattle.ldm_model.specs.Product.{Product}
 use Rattle.ldm_model.specs.Read.{part_of}
 use Rattle.ldm_model.specs.History.{IsInserted}
-use Rattle.ldm_model.specs.Law.{Point, Hold, place_of_event, is_number, is_close, with_given, with_count, given, lost, count_told, hold_of, IsPointOf}
+use Rattle.ldm_model.specs.Law.{Point, Hold, place_of_event, is_close, with_given, with_count, given, lost, count_told, hold_of, IsPointOf}
 use Rattle.ldm_shared.specs.Own.{own}
 use Rattle.ldm_shared.specs.Passes.{PassView, HasSeen}
 

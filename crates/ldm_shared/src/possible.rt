@@ -1,6 +1,7 @@
 //! What the types of the arguments of a call say: the event is one that a call can be given.
 ghost use Rattle.std.specs.Prelude.{◌≡◌, length};
-ghost use Rattle.ldm_model.specs.History.{AreBytes, IsFeed, IsMetadata, IsPlace, IsPossible, IsSignature, IsStart};
+ghost use Rattle.ldm_types.specs.Info.{AreBytes, IsFeed, IsMetadata, IsSignature};
+ghost use Rattle.ldm_model.specs.History.{IsPlace, IsPossible, IsStart};
 ghost use Rattle.ldm_model.specs.declared.event.Event.TheVariants as event;
 
 use ldm_model::{ReserveNo, Start};

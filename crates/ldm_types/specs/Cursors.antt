@@ -1,5 +1,5 @@
 -- What is kept of the cursors of a queue.
-use Rattle.std.specs.Prelude.{ℕ, List, Option}
+use Rattle.std.specs.Prelude.{ℕ, Bool, false, ◌==◌, List, Option, Some, None}
 
 -- losses that were not told yet: how many, and the least and the greatest number
 pub record Losses : Type 0 where
@@ -26,3 +26,8 @@ pub record KeptCursor : Type 0 where
 -- each place is empty or has a cursor
 abbrev pub Places : Type 0
 Places = List (Option KeptCursor)
+
+-- whether there is a number, and it is that one
+abbrev pub is_number : ℕ → Option ℕ → Bool
+is_number n None = false
+is_number n (Some m) = m == n

@@ -1,6 +1,6 @@
 -- The metadata of a product, as contracts see an `Info`: the record of its fields.
-use Rattle.std.specs.Prelude.{◌≡◌, ℕ, ◌+◌, ◌*◌, ◌/◌, ◌≤◌, List, ◌++◌, length, Option, Some, None, nat_lt, position, if◌then◌else◌, ◌==◌}
-use Rattle.ldm_types.specs.declared.limits.TheConstants.{LONGEST_IDENT, LONGEST_ORIGIN}
+use Rattle.std.specs.Prelude.{◌≡◌, ℕ, ◌+◌, ◌*◌, ◌/◌, ◌^◌, ◌<◌, ◌≤◌, List, ◌++◌, length, All, Option, Some, None, nat_lt, position, if◌then◌else◌, ◌==◌}
+use Rattle.ldm_types.specs.declared.limits.TheConstants.{GREATEST_INSTANT, LONGEST_IDENT, LONGEST_ORIGIN}
 use Rattle.ldm_types.specs.declared.info.InfoFault.{InfoFault}
 use Rattle.ldm_types.specs.declared.info.InfoFault.TheVariants.{OriginLong, IdentLong, NulByte}
 
@@ -22,6 +22,28 @@ pub record TextsFit (info : Metadata) : Type 0 where
   pub origin_short : length info.origin ≤ LONGEST_ORIGIN
   pub ident_short : length info.ident ≤ LONGEST_IDENT
   pub no_nul : position (λ byte. byte == 0) (info.origin ++ info.ident) ≡ None
+
+abbrev pub AreBytes : List ℕ → Type 0
+AreBytes bytes = All (λ byte. byte < 256) bytes
+
+-- 16 bytes
+abbrev pub IsSignature : List ℕ → Type 0
+IsSignature signature = (length signature ≡ 16) × AreBytes signature
+
+-- a set of feedtypes
+abbrev pub IsFeed : ℕ → Type 0
+IsFeed feed = feed < 2 ^ 32
+
+-- metadata within the bounds of their types
+pub record IsMetadata (info : Metadata) : Type 0 where
+  pub arrival : info.arrival ≤ GREATEST_INSTANT
+  pub signature : IsSignature info.signature
+  pub texts : TextsFit info
+  pub origin : AreBytes info.origin
+  pub ident : AreBytes info.ident
+  pub feed : IsFeed info.feed
+  pub seqno : info.seqno < 2 ^ 32
+  pub size : info.size < 2 ^ 32
 
 -- a length rounded up to a multiple of four
 abbrev pub pad4 : ℕ → ℕ
