@@ -18,13 +18,14 @@ use Rattle.ldm_script.specs.declared.word.LineWord.{LineWord}
 use Rattle.ldm_script.specs.declared.word.LineWord.TheVariants as word
 use Rattle.ldm_script.specs.Bodies.{body_of, body_of_parts, digits_of, filled}
 use Rattle.ldm_script.specs.Fields.{◌>>=◌, Left, field, first_field, behind_field, or_bad, no_more}
-use Rattle.ldm_script.specs.Grammar.{read_insert, read_open, read_start, read_on_cursor, read_read, read_look, read_act, read_order, read_line, is_comment, at_column, instant_of, signature_of, feed_of, four_bytes, place_of}
+use Rattle.ldm_script.specs.Grammar.{read_details, read_insert, read_open, read_start, read_on_cursor, read_read, read_look, read_reserve, read_fill, read_commit, read_discard}
+use Rattle.ldm_script.specs.Grammar.{read_act, read_order, read_line, is_comment, at_column, instant_of, signature_of, feed_of, four_bytes, place_of, reserve_place_of, Details}
 use Rattle.ldm_script.specs.Number.{number_up_to, number_below, up_to, digits_from}
 use Rattle.ldm_script.specs.Texts.{text_up_to}
 use Rattle.ldm_script.specs.Word.{word_of_text, start_word_of_text}
 use Rattle.ldm_signature.specs.HexSignature.{hex_signature}
 use Rattle.ldm_types.specs.declared.limits.TheConstants.{LONGEST_ORIGIN, LONGEST_IDENT}
-use Rattle.ldm_script.specs.Order.{Order, Asked, Plain, OnCursor}
+use Rattle.ldm_script.specs.Order.{Order, Asked, Plain, OnCursor, OnReservation}
 use Rattle.ldm_script.specs.OrderView.{asked_of, order_of, IsWritable}
 use Rattle.ldm_script.proofs.Hexadecimal.{length-digits_of}
 
@@ -143,17 +144,39 @@ body_short (byte ∷ bytes) body is short =
 abbrev Askable : Event → Type 0
 Askable (event.Insert now info body) = (length body ≡ info.size) × (info.size ≤ LONGEST_BODY) × (info.arrival ≡ now)
 Askable (event.Read k offset len) = len ≤ LONGEST_READ
+Askable (event.Fill r bytes) = length bytes ≤ LONGEST_BODY
 Askable _ = Unit {0}
 
 abbrev Fits : Asked → Type 0
 Fits (Plain event) = Askable event
 Fits (OnCursor k event) = (place : ℕ) → Askable (event place)
+Fits (OnReservation r event) = (place : ℕ) → Askable (event place)
 
 abbrev answered : Asked → Result Asked ℕ
 answered asked = Ok asked
 
 same_fits : (made asked : Asked) → answered made ≡ answered asked → Fits made → Fits asked
 same_fits made asked is fits = let same : made ≡ asked = cc is in subst Fits same fits
+
+abbrev taken : Details × Left → Result (Details × Left) ℕ
+taken p = Ok p
+
+same_short : (made p : Details × Left) → taken made ≡ taken p → left_len made.1 ≤ LONGEST_LINE → left_len p.1 ≤ LONGEST_LINE
+same_short made p is short = let same : made ≡ p = cc is in subst (λ (q : Details × Left). left_len q.1 ≤ LONGEST_LINE) same short
+
+-- what is left behind the fields of a product is no longer than what was left
+details_short : (left : Left) (p : Details × Left) → left_len left ≤ LONGEST_LINE → read_details left ≡ Ok p → left_len p.1 ≤ LONGEST_LINE
+unfolding read_details
+details_short left p short is =
+    let feed = came (field feed_of left) _ p is in
+    let behind_feed = field_came feed_of left LONGEST_LINE feed.0 feed.1 short in
+    let seqno = came (field four_bytes feed.0.1) _ p feed.2 in
+    let behind_seqno = field_came four_bytes feed.0.1 LONGEST_LINE seqno.0 seqno.1 behind_feed.behind_short in
+    let origin = came (field (text_up_to LONGEST_ORIGIN) seqno.0.1) _ p seqno.2 in
+    let behind_origin = field_came (text_up_to LONGEST_ORIGIN) seqno.0.1 LONGEST_LINE origin.0 origin.1 behind_seqno.behind_short in
+    let ident = came (field (text_up_to LONGEST_IDENT) origin.0.1) _ p origin.2 in
+    let behind_ident = field_came (text_up_to LONGEST_IDENT) origin.0.1 LONGEST_LINE ident.0 ident.1 behind_origin.behind_short in
+    same_short _ p ident.2 behind_ident.behind_short
 
 insert_fits : (left : Left) (asked : Asked) → left_len left ≤ LONGEST_LINE → read_insert left ≡ Ok asked → Fits asked
 unfolding read_insert
@@ -162,16 +185,10 @@ insert_fits left asked short is =
     let behind_now = field_came instant_of left LONGEST_LINE now.0 now.1 short in
     let signature = came (field signature_of now.0.1) _ asked now.2 in
     let behind_signature = field_came signature_of now.0.1 LONGEST_LINE signature.0 signature.1 behind_now.behind_short in
-    let feed = came (field feed_of signature.0.1) _ asked signature.2 in
-    let behind_feed = field_came feed_of signature.0.1 LONGEST_LINE feed.0 feed.1 behind_signature.behind_short in
-    let seqno = came (field four_bytes feed.0.1) _ asked feed.2 in
-    let behind_seqno = field_came four_bytes feed.0.1 LONGEST_LINE seqno.0 seqno.1 behind_feed.behind_short in
-    let origin = came (field (text_up_to LONGEST_ORIGIN) seqno.0.1) _ asked seqno.2 in
-    let behind_origin = field_came (text_up_to LONGEST_ORIGIN) seqno.0.1 LONGEST_LINE origin.0 origin.1 behind_seqno.behind_short in
-    let ident = came (field (text_up_to LONGEST_IDENT) origin.0.1) _ asked origin.2 in
-    let behind_ident = field_came (text_up_to LONGEST_IDENT) origin.0.1 LONGEST_LINE ident.0 ident.1 behind_origin.behind_short in
-    let body = came (field body_of ident.0.1) _ asked ident.2 in
-    let read = field_came body_of ident.0.1 LONGEST_LINE body.0 body.1 behind_ident.behind_short in
+    let details = came (read_details signature.0.1) _ asked signature.2 in
+    let behind_details = details_short signature.0.1 details.0 behind_signature.behind_short details.1 in
+    let body = came (field body_of details.0.1) _ asked details.2 in
+    let read = field_came body_of details.0.1 LONGEST_LINE body.0 body.1 behind_details in
     let end = came (no_more body.0.1) _ asked body.2 in
     same_fits _ asked end.2 (refl, body_short read.text body.0.0 read.is read.short, refl)
 
@@ -210,6 +227,41 @@ look_fits left asked is =
     let end = came (no_more signature.0.1) _ asked signature.2 in
     same_fits _ asked end.2 tt
 
+reserve_fits : (left : Left) (asked : Asked) → read_reserve left ≡ Ok asked → Fits asked
+unfolding read_reserve
+reserve_fits left asked is =
+    let arrival = came (field instant_of left) _ asked is in
+    let signature = came (field hex_signature arrival.0.1) _ asked arrival.2 in
+    let details = came (read_details signature.0.1) _ asked signature.2 in
+    let size = came (field four_bytes details.0.1) _ asked details.2 in
+    let end = came (no_more size.0.1) _ asked size.2 in
+    same_fits _ asked end.2 tt
+
+fill_fits : (left : Left) (asked : Asked) → left_len left ≤ LONGEST_LINE → read_fill left ≡ Ok asked → Fits asked
+unfolding read_fill
+fill_fits left asked short is =
+    let r = came (field reserve_place_of left) _ asked is in
+    let behind_r = field_came reserve_place_of left LONGEST_LINE r.0 r.1 short in
+    let body = came (field body_of r.0.1) _ asked r.2 in
+    let read = field_came body_of r.0.1 LONGEST_LINE body.0 body.1 behind_r.behind_short in
+    let end = came (no_more body.0.1) _ asked body.2 in
+    same_fits _ asked end.2 (λ place. body_short read.text body.0.0 read.is read.short)
+
+commit_fits : (left : Left) (asked : Asked) → read_commit left ≡ Ok asked → Fits asked
+unfolding read_commit
+commit_fits left asked is =
+    let r = came (field reserve_place_of left) _ asked is in
+    let now = came (field instant_of r.0.1) _ asked r.2 in
+    let end = came (no_more now.0.1) _ asked now.2 in
+    same_fits _ asked end.2 (λ place. tt)
+
+discard_fits : (left : Left) (asked : Asked) → read_discard left ≡ Ok asked → Fits asked
+unfolding read_discard
+discard_fits left asked is =
+    let r = came (field reserve_place_of left) _ asked is in
+    let end = came (no_more r.0.1) _ asked r.2 in
+    same_fits _ asked end.2 (λ place. tt)
+
 act_fits : (w : LineWord) (left : Left) (asked : Asked) → left_len left ≤ LONGEST_LINE → read_act w left ≡ Ok asked → Fits asked
 act_fits word.Insert left asked short is = insert_fits left asked short is
 act_fits word.Open left asked short is = open_fits left asked is
@@ -221,6 +273,10 @@ act_fits word.Look left asked short is = look_fits left asked is
 act_fits word.Expire left asked short is = same_fits (Plain event.Expire) asked (came (no_more left) _ asked is).2 tt
 act_fits word.Tally left asked short is = on_cursor_fits (λ k. event.Tally k) left asked (λ place. tt) is
 act_fits word.Stat left asked short is = same_fits (Plain event.Stat) asked (came (no_more left) _ asked is).2 tt
+act_fits word.Reserve left asked short is = reserve_fits left asked is
+act_fits word.Fill left asked short is = fill_fits left asked short is
+act_fits word.Commit left asked short is = commit_fits left asked is
+act_fits word.Discard left asked short is = discard_fits left asked is
 
 -- ---- orders
 
@@ -246,6 +302,10 @@ writable_from (act.Look signature) fits = tt
 writable_from act.Expire fits = tt
 writable_from (act.Tally k) fits = tt
 writable_from act.Stat fits = tt
+writable_from (act.Reserve info) fits = tt
+writable_from (act.Fill r body) fits = fits 0
+writable_from (act.Commit r now) fits = tt
+writable_from (act.Discard r) fits = tt
 
 pub writable_found : (actors : ℕ) (line : List ℕ) (order : ReadOrder) → length line ≤ LONGEST_LINE → read_order actors (Some line) ≡ Ok (order_of order) → IsWritable order.act
 writable_found actors line order short is = writable_from order.act (order_fits actors line (order_of order) short is)

@@ -1,27 +1,38 @@
 -- Bodies that fields spell.
-use Rattle.std.proofs.Common.{◌≡◌, ℕ, ◌+◌, ◌/◌, ◌≤◌, Bool, true, false, cond, List, [], ◌∷◌, ◌++◌, length, take, drop, replicate, codes, Option, Some, None, refl, sym, ap, subst, ◌∙◌, arith}
-use Rattle.std.proofs.lemmas.List.{append-nil, take-replicate, replicate-append-replicate}
+use Rattle.std.proofs.Common.{◌≡◌, ℕ, ◌+◌, ◌/◌, ◌%◌, ◌≤◌, Bool, true, false, cond, List, [], ◌∷◌, ◌++◌, length, take, drop, replicate, codes, unwrap_or, Option, Some, None, refl, sym, ap, subst, ◌∙◌, arith}
+use Rattle.std.proofs.lemmas.List.{append-nil, length-replicate, take-replicate, replicate-append-replicate}
 use Rattle.std.proofs.lemmas.List.Splits.{length-slice_split}
 use Rattle.std.proofs.lemmas.Slice.Eq.{bytes_eq-Decides}
 use Rattle.std.specs.Borrow.{Bor}
-use Rattle.std.specs.List.{slice_split}
+use Rattle.std.specs.List.{list_all, slice_split}
 use Rattle.std.specs.Prelude.{◌==◌, bytes_eq, is_some}
 use Rattle.std.specs.Result.{result_ok}
-use Rattle.hex.specs.Hex.{decode_sized}
+use Rattle.hex.specs.Hex.{decode_sized, is_hex_digit}
 use Rattle.ldm_script.specs.declared.body.Body.{Body}
-use Rattle.ldm_script.specs.declared.body.Body.TheVariants.{Hex}
+use Rattle.ldm_script.specs.declared.body.Body.TheVariants.{Hex, Fill}
 use Rattle.ldm_script.specs.declared.body.TheConstants.{LONGEST_BODY}
 use Rattle.ldm_script.specs.Bodies.{digits_of, filled, body_of, body_of_parts}
 use Rattle.ldm_script.specs.Number.{number_up_to}
 use Rattle.ldm_script.specs.OrderView.{IsBody, bytes_of}
 use Rattle.ldm_script.specs.Split.{Cuts}
-use Rattle.ldm_script.proofs.Hexadecimal.{length-digits_of, digits_of-nil}
+use Rattle.ldm_script.proofs.Hexadecimal.{length-digits_of, digits_of-nil, digits_of-yes}
 use Rattle.ldm_script.proofs.Splitting.{parts-none, parts-some}
 
 pub hex_size : (body : Body) (digits : Bor (List ℕ)) → body ≡ Hex digits → IsBody body → length digits.now / 2 ≡ length (bytes_of body)
 hex_size body digits is whole =
     let P : Body → Type 0 = λ b. IsBody b → length digits.now / 2 ≡ length (bytes_of b) in
     subst P (sym is) (λ w. let twice = length-digits_of digits.now w.0 in omega arith) whole
+
+pub body_small : (body : Body) → IsBody body → length (bytes_of body) ≤ LONGEST_BODY
+body_small (Hex digits) read = let twice = length-digits_of digits.now read.0 in omega (arith, read.1)
+body_small (Fill count byte) read = let count = length-replicate count byte in omega arith
+
+-- how many bytes a text spells
+pub len-digits : (digits : List ℕ) → length digits % 2 ≡ 0 → list_all is_hex_digit digits ≡ true → length digits / 2 ≡ length (unwrap_or (digits_of digits) [])
+len-digits digits even all = let twice = length-digits_of digits (digits_of-yes digits even all) in omega arith
+
+pub len-no_digits : (digits : List ℕ) → digits_of digits ≡ None → 0 ≡ length (unwrap_or (digits_of digits) [])
+len-no_digits digits none = sym (ap (λ (o : Option (List ℕ)). length (unwrap_or o [])) none)
 
 -- a block of equal bytes more
 pub more_fill : (k part byte : ℕ) → part ≤ 256 → replicate k byte ++ take part (replicate 256 byte) ≡ replicate (k + part) byte

@@ -14,12 +14,10 @@ use Rattle.hex.specs.declared.error.FromHexError.{FromHexError}
 use Rattle.ldm_feedtype.specs.Text.{feed_digits}
 use Rattle.ldm_feedtype.specs.Reading.{feed_number}
 use Rattle.ldm_signature.specs.HexSignature.{hex_signature}
-use Rattle.ldm_script.specs.declared.order.Place.TheVariants as place
 use Rattle.ldm_script.specs.Number.{is_digit, digits_from, up_to, number_up_to, number_below}
 use Rattle.ldm_script.specs.Texts.{is_plain, spelled_byte, spelled, unspelled, with_byte, if_text, text_up_to}
 use Rattle.ldm_script.specs.Bodies.{body_of, body_text, digits_of}
-use Rattle.ldm_script.specs.Grammar.{place_of, signature_of, feed_of}
-use Rattle.ldm_script.specs.Spelling.{place_text}
+use Rattle.ldm_script.specs.Grammar.{place_or_last, signature_of, feed_of}
 use Rattle.ldm_script.proofs.Solid.{list_any-lacks, lacks-feed_digits, lacks_star-encode_lower}
 use Rattle.ldm_script.proofs.Unspelling.{escaped, unspelled-plain, if_text-is}
 use Rattle.ldm_script.proofs.Bodies.{digits_body}
@@ -84,13 +82,13 @@ other_text {A} read field word x is none =
       | inr other ↦ other
     ]
 
--- ---- places of cursors
+-- ---- places of cursors and reservations
 
-pub place_of-decimal : (k : ℕ) → k < 64 → place_of (place_text (place.At k)) ≡ Some (place.At k)
-place_of-decimal k below =
+pub place_or_last-decimal : {A : Type 0} (last : A) (at : ℕ → A) (k : ℕ) → k < 64 → place_or_last last at (decimal k) ≡ Some (at k)
+place_or_last-decimal last at k below =
     let is = number_up_to-decimal 63 k (omega arith) (omega arith) in
-    cond-false (bytes_eq (decimal k) (codes ".")) (Some place.Last) (option_map (λ k. place.At k) (number_up_to 63 (decimal k))) (other_text (number_up_to 63) (decimal k) (codes ".") k is refl)
-    ∙ ap (option_map (λ k. place.At k)) is
+    cond-false (bytes_eq (decimal k) (codes ".")) (Some last) (option_map at (number_up_to 63 (decimal k))) (other_text (number_up_to 63) (decimal k) (codes ".") k is refl)
+    ∙ ap (option_map at) is
 
 -- ---- signatures
 

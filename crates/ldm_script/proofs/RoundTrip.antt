@@ -19,6 +19,8 @@ use Rattle.ldm_model.specs.declared.event.Event.{Event}
 use Rattle.ldm_model.specs.declared.event.Event.TheVariants as event
 use Rattle.ldm_script.specs.declared.order.Place.{Place}
 use Rattle.ldm_script.specs.declared.order.Place.TheVariants as place
+use Rattle.ldm_script.specs.declared.order.ReservePlace.{ReservePlace}
+use Rattle.ldm_script.specs.declared.order.ReservePlace.TheVariants as reserve_place
 use Rattle.ldm_script.specs.declared.order.Act.{Act}
 use Rattle.ldm_script.specs.declared.order.Act.TheVariants as act
 use Rattle.ldm_script.specs.declared.order.Order.{Order as ReadOrder}
@@ -26,29 +28,37 @@ use Rattle.ldm_script.specs.declared.word.LineWord.{LineWord}
 use Rattle.ldm_script.specs.declared.word.LineWord.TheVariants as word
 use Rattle.ldm_script.specs.declared.word.StartWord.{StartWord}
 use Rattle.ldm_script.specs.declared.word.StartWord.TheVariants as start_word
-use Rattle.ldm_script.specs.Answer.{blank_field, blank_number, product_text}
+use Rattle.ldm_script.specs.Answer.{blank_field, blank_number, product_text, info_text}
 use Rattle.ldm_script.specs.Bodies.{body_of, body_text}
 use Rattle.ldm_script.specs.Fields.{◌>>=◌, Left, field}
-use Rattle.ldm_script.specs.Grammar.{read_insert, read_open, read_start, read_on_cursor, read_read, read_look, read_act, read_order, read_line, is_comment, at_column, instant_of, signature_of, feed_of, four_bytes, place_of}
-use Rattle.ldm_script.specs.Order.{Asked, Plain, OnCursor}
+use Rattle.ldm_script.specs.Grammar.{read_details, read_insert, read_open, read_start, read_on_cursor, read_read, read_look, read_reserve, read_fill, read_commit, read_discard}
+use Rattle.ldm_script.specs.Grammar.{read_act, read_order, read_line, is_comment, at_column, instant_of, signature_of, feed_of, four_bytes, place_of, reserve_place_of, Details}
+use Rattle.ldm_script.specs.Order.{Asked, Plain, OnCursor, OnReservation}
 use Rattle.ldm_script.specs.OrderView.{bytes_of, asked_of, order_of, IsWritable}
-use Rattle.ldm_script.specs.Spelling.{act_text, place_text, start_text, spelling, IsReadBack}
+use Rattle.ldm_script.specs.Spelling.{act_text, place_text, reserve_place_text, start_text, spelling, IsReadBack}
 use Rattle.ldm_script.specs.Split.{Lacks}
 use Rattle.ldm_script.specs.Number.{number_up_to, number_below}
 use Rattle.ldm_script.specs.declared.line.TheConstants.{LONGEST_LINE, LONGEST_READ}
 use Rattle.ldm_script.specs.Texts.{spelled, text_up_to}
 use Rattle.ldm_script.specs.Word.{word_text, word_of_text, start_word_of_text}
-use Rattle.ldm_script.specs.Writing.{front_text, back_text, FrontReadsBack, BackReadsBack, ProductReadsBack, StartReadsBack, IsPlace}
+use Rattle.ldm_script.specs.Writing.{front_text, back_text, FrontReadsBack, BackReadsBack, ProductReadsBack, InfoReadsBack, StartReadsBack, IsPlace, IsReservePlace}
 use Rattle.ldm_script.proofs.Solid.{lacks-number, lacks-encode_lower, lacks-feed_digits, lacks-spelled, lacks-body_text, lacks-literal}
 use Rattle.ldm_script.proofs.Taking.{field_then, field_last}
-use Rattle.ldm_script.proofs.ReadBack.{number_up_to-decimal, number_below-decimal, place_of-decimal, signature_of-digits, feed_of-digits}
+use Rattle.ldm_script.proofs.ReadBack.{number_up_to-decimal, number_below-decimal, place_or_last-decimal, signature_of-digits, feed_of-digits}
 
--- ---- `insert`
+-- ---- `insert` and `reserve`
+
+-- the fields of a product behind its signature, and what stands behind them
+abbrev details_rest : Metadata → List ℕ → List ℕ
+details_rest info behind = feed_digits info.feed ++ 32 ∷ (decimal info.seqno ++ 32 ∷ (spelled info.origin ++ 32 ∷ (spelled info.ident ++ 32 ∷ behind)))
 
 -- the line of an insertion behind its word
 abbrev insert_rest : ℕ → Metadata → List ℕ → List ℕ
-insert_rest now info body =
-    decimal now ++ 32 ∷ (encode_lower info.signature ++ 32 ∷ (feed_digits info.feed ++ 32 ∷ (decimal info.seqno ++ 32 ∷ (spelled info.origin ++ 32 ∷ (spelled info.ident ++ 32 ∷ body_text body)))))
+insert_rest now info body = decimal now ++ 32 ∷ (encode_lower info.signature ++ 32 ∷ details_rest info (body_text body))
+
+-- and that of a reservation
+abbrev reserve_rest : Metadata → List ℕ
+reserve_rest info = decimal info.arrival ++ 32 ∷ (encode_lower info.signature ++ 32 ∷ details_rest info (decimal info.size))
 
 regroup : (w a b c d e f g : List ℕ) → w ++ a ++ (b ++ c ++ d ++ e ++ f) ++ g ≡ w ++ (a ++ (b ++ (c ++ (d ++ (e ++ (f ++ g))))))
 regroup w a b c d e f g = simp append_assoc
@@ -57,6 +67,15 @@ insert_text : (now : ℕ) (info : Metadata) (body : List ℕ) → codes "insert"
 insert_text now info body =
     regroup (codes "insert") (blank_number now) (blank_field (encode_lower info.signature)) (blank_field (feed_digits info.feed)) (blank_number info.seqno)
     (blank_field (spelled info.origin)) (blank_field (spelled info.ident)) (blank_field (body_text body))
+
+regroup_info : (a b c d e f g : List ℕ) → a ++ (b ++ c ++ d ++ e ++ f) ++ g ≡ a ++ (b ++ (c ++ (d ++ (e ++ (f ++ g)))))
+regroup_info a b c d e f g = simp append_assoc
+
+reserve_text : (info : Metadata) → codes "reserve" ++ info_text info ≡ codes "reserve" ++ 32 ∷ reserve_rest info
+reserve_text info =
+    ap (λ (l : List ℕ). codes "reserve" ++ l)
+    (regroup_info (blank_number info.arrival) (blank_field (encode_lower info.signature)) (blank_field (feed_digits info.feed)) (blank_number info.seqno)
+    (blank_field (spelled info.origin)) (blank_field (spelled info.ident)) (blank_number info.size))
 
 then : {A B : Type 0} (r : Result A ℕ) (x : A) (more : A → Result B ℕ) → r ≡ Ok x → (r >>= more) ≡ more x
 then {A = A} {B = B} r x more is = ap (λ (q : Result A ℕ). q >>= more) is
@@ -73,25 +92,42 @@ with info arrival size = record {
   size = size;
 }
 
+abbrev details : Metadata → Details
+details info = record { feed = info.feed; seqno = info.seqno; origin = info.origin; ident = info.ident }
+
+reads_details : (info : Metadata) (behind : List ℕ) → ProductReadsBack info → read_details (Some (details_rest info behind)) ≡ Ok (details info, Some behind)
+unfolding read_details
+reads_details info behind product =
+    let behind_origin = spelled info.ident ++ 32 ∷ behind in
+    let behind_seqno = spelled info.origin ++ 32 ∷ behind_origin in
+    let behind_feed = decimal info.seqno ++ 32 ∷ behind_seqno in
+    then _ _ _ (field_then feed_of (feed_digits info.feed) behind_feed info.feed (lacks-feed_digits 32 info.feed (omega arith)) (feed_of-digits info.feed product.feed))
+    ∙ then _ _ _ (field_then four_bytes (decimal info.seqno) behind_seqno info.seqno (lacks-number 32 (2 ^ 32 - 1) info.seqno (decimal info.seqno) (omega arith) product.seqno) product.seqno)
+    ∙ then _ _ _ (field_then (text_up_to LONGEST_ORIGIN) (spelled info.origin) behind_origin info.origin (lacks-spelled info.origin) product.origin)
+    ∙ then _ _ _ (field_then (text_up_to LONGEST_IDENT) (spelled info.ident) behind info.ident (lacks-spelled info.ident) product.ident)
+
 reads_insert : (now : ℕ) (info : Metadata) (body : List ℕ) → instant_of (decimal now) ≡ Some now → ProductReadsBack info → body_of (body_text body) ≡ Some body
     → length body ≡ info.size → info.arrival ≡ now → read_insert (Some (insert_rest now info body)) ≡ Ok (Plain (event.Insert now info body))
 unfolding read_insert
 reads_insert now info body now_is product body_is size arrival =
-    let behind_ident = body_text body in
-    let behind_origin = spelled info.ident ++ 32 ∷ behind_ident in
-    let behind_seqno = spelled info.origin ++ 32 ∷ behind_origin in
-    let behind_feed = decimal info.seqno ++ 32 ∷ behind_seqno in
-    let behind_signature = feed_digits info.feed ++ 32 ∷ behind_feed in
+    let behind_signature = details_rest info (body_text body) in
     let behind_now = encode_lower info.signature ++ 32 ∷ behind_signature in
     then _ _ _ (field_then instant_of (decimal now) behind_now now (lacks-number 32 GREATEST_INSTANT now (decimal now) (omega arith) now_is) now_is)
     ∙ then _ _ _ (field_then signature_of (encode_lower info.signature) behind_signature (Some info.signature) (lacks-encode_lower info.signature) (signature_of-digits info.signature product.signature))
-    ∙ then _ _ _ (field_then feed_of (feed_digits info.feed) behind_feed info.feed (lacks-feed_digits 32 info.feed (omega arith)) (feed_of-digits info.feed product.feed))
-    ∙ then _ _ _ (field_then four_bytes (decimal info.seqno) behind_seqno info.seqno (lacks-number 32 (2 ^ 32 - 1) info.seqno (decimal info.seqno) (omega arith) product.seqno) product.seqno)
-    ∙ then _ _ _ (field_then (text_up_to LONGEST_ORIGIN) (spelled info.origin) behind_origin info.origin (lacks-spelled info.origin) product.origin)
-    ∙ then _ _ _ (field_then (text_up_to LONGEST_IDENT) (spelled info.ident) behind_ident info.ident (lacks-spelled info.ident) product.ident)
+    ∙ then _ _ _ (reads_details info (body_text body) product)
     ∙ then _ _ _ (field_last body_of (body_text body) body (lacks-body_text body) body_is)
     ∙ ap (λ (n : ℕ). Ok (Plain (event.Insert now (with info now n) body))) size
     ∙ ap (λ (n : ℕ). Ok (Plain (event.Insert now (with info n info.size) body))) (sym arrival)
+
+reads_reserve : (info : Metadata) → InfoReadsBack info → read_reserve (Some (reserve_rest info)) ≡ Ok (Plain (event.Reserve info))
+unfolding read_reserve
+reads_reserve info reads =
+    let behind_signature = details_rest info (decimal info.size) in
+    let behind_arrival = encode_lower info.signature ++ 32 ∷ behind_signature in
+    then _ _ _ (field_then instant_of (decimal info.arrival) behind_arrival info.arrival (lacks-number 32 GREATEST_INSTANT info.arrival (decimal info.arrival) (omega arith) reads.arrival) reads.arrival)
+    ∙ then _ _ _ (field_then hex_signature (encode_lower info.signature) behind_signature info.signature (lacks-encode_lower info.signature) reads.product.signature)
+    ∙ then _ _ _ (reads_details info (decimal info.size) reads.product)
+    ∙ then _ _ _ (field_last four_bytes (decimal info.size) info.size (lacks-number 32 (2 ^ 32 - 1) info.size (decimal info.size) (omega arith) reads.size) reads.size)
 
 -- ---- cursors
 
@@ -100,7 +136,7 @@ lacks-place (place.At k) below = lacks-number 32 63 k (decimal k) (omega arith) 
 lacks-place place.Last below = lacks-literal (codes ".") refl
 
 place_is : (k : Place) → IsPlace k → place_of (place_text k) ≡ Some k
-place_is (place.At k) below = place_of-decimal k below
+place_is (place.At k) below = place_or_last-decimal place.Last (λ n. place.At n) k below
 place_is place.Last below = refl
 
 reads_on_cursor : (k : Place) (event : ℕ → Event) → IsPlace k → read_on_cursor event (Some (place_text k)) ≡ Ok (OnCursor k event)
@@ -115,6 +151,36 @@ reads_read k offset len below offset_is few =
     then _ _ _ (field_then place_of (place_text k) (decimal offset ++ 32 ∷ decimal len) k (lacks-place k below) (place_is k below))
     ∙ then _ _ _ (field_then four_bytes (decimal offset) (decimal len) offset (lacks-number 32 (2 ^ 32 - 1) offset (decimal offset) (omega arith) offset_is) offset_is)
     ∙ then _ _ _ (field_last (number_up_to LONGEST_READ) (decimal len) len (lacks-number 32 LONGEST_READ len (decimal len) (omega arith) len_is) len_is)
+
+-- ---- reservations
+
+lacks-reserve_place : (r : ReservePlace) → IsReservePlace r → Lacks 32 (reserve_place_text r)
+lacks-reserve_place (reserve_place.At r) below = lacks-number 32 63 r (decimal r) (omega arith) (number_up_to-decimal 63 r (omega arith) (omega arith))
+lacks-reserve_place reserve_place.Last below = lacks-literal (codes ".") refl
+
+reserve_place_is : (r : ReservePlace) → IsReservePlace r → reserve_place_of (reserve_place_text r) ≡ Some r
+reserve_place_is (reserve_place.At r) below = place_or_last-decimal reserve_place.Last (λ n. reserve_place.At n) r below
+reserve_place_is reserve_place.Last below = refl
+
+reads_fill : (r : ReservePlace) (bytes : List ℕ) → IsReservePlace r → body_of (body_text bytes) ≡ Some bytes
+    → read_fill (Some (reserve_place_text r ++ 32 ∷ body_text bytes)) ≡ Ok (OnReservation r (λ place. event.Fill place bytes))
+unfolding read_fill
+reads_fill r bytes below body_is =
+    then _ _ _ (field_then reserve_place_of (reserve_place_text r) (body_text bytes) r (lacks-reserve_place r below) (reserve_place_is r below))
+    ∙ then _ _ _ (field_last body_of (body_text bytes) bytes (lacks-body_text bytes) body_is)
+
+reads_commit : (r : ReservePlace) (now : ℕ) → IsReservePlace r → instant_of (decimal now) ≡ Some now
+    → read_commit (Some (reserve_place_text r ++ 32 ∷ decimal now)) ≡ Ok (OnReservation r (λ place. event.Commit place now))
+unfolding read_commit
+reads_commit r now below now_is =
+    then _ _ _ (field_then reserve_place_of (reserve_place_text r) (decimal now) r (lacks-reserve_place r below) (reserve_place_is r below))
+    ∙ then _ _ _ (field_last instant_of (decimal now) now (lacks-number 32 GREATEST_INSTANT now (decimal now) (omega arith) now_is) now_is)
+
+reads_discard : (r : ReservePlace) → IsReservePlace r → read_discard (Some (reserve_place_text r)) ≡ Ok (OnReservation r (λ place. event.Discard place))
+unfolding read_discard
+reads_discard r below = then _ _ _ (field_last reserve_place_of (reserve_place_text r) r (lacks-reserve_place r below) (reserve_place_is r below))
+
+-- ---- `open` and `look`
 
 -- the start of a cursor: its word, and what is left behind the word and behind the start
 record ReadsStart (text : List ℕ) (from : Start) : Type 0 where
@@ -174,6 +240,10 @@ word_is word.Look = refl
 word_is word.Expire = refl
 word_is word.Tally = refl
 word_is word.Stat = refl
+word_is word.Reserve = refl
+word_is word.Fill = refl
+word_is word.Commit = refl
+word_is word.Discard = refl
 
 lacks-word : (w : LineWord) → Lacks 32 (word_text w)
 lacks-word word.Insert = lacks-literal (codes "insert") refl
@@ -186,6 +256,10 @@ lacks-word word.Look = lacks-literal (codes "look") refl
 lacks-word word.Expire = lacks-literal (codes "expire") refl
 lacks-word word.Tally = lacks-literal (codes "tally") refl
 lacks-word word.Stat = lacks-literal (codes "stat") refl
+lacks-word word.Reserve = lacks-literal (codes "reserve") refl
+lacks-word word.Fill = lacks-literal (codes "fill") refl
+lacks-word word.Commit = lacks-literal (codes "commit") refl
+lacks-word word.Discard = lacks-literal (codes "discard") refl
 
 word_then : (w : LineWord) (rest : List ℕ) (asked : Asked) → read_act w (Some rest) ≡ Ok asked → ReadsAct (word_text w ++ 32 ∷ rest) asked
 word_then w rest asked is = record { word = w; left = Some rest; word_is = field_then word_of_text (word_text w) rest w (lacks-word w) (word_is w); act_is = is }
@@ -219,6 +293,14 @@ reads_act (act.Look signature) front back writable = word_then word.Look (encode
 reads_act act.Expire front back writable = word_alone word.Expire _ refl
 reads_act (act.Tally k) front back writable = word_then word.Tally (place_text k) _ (reads_on_cursor k (λ place. event.Tally place) front)
 reads_act act.Stat front back writable = word_alone word.Stat _ refl
+reads_act (act.Reserve info) front back writable = same_text _ _ _ (reserve_text info) (word_then word.Reserve (reserve_rest info) _ (reads_reserve info front))
+reads_act (act.Fill r body) front back writable =
+    same_text _ _ _ (regroup_three (codes "fill") (blank_field (reserve_place_text r)) (blank_field (body_text (bytes_of body))))
+    (word_then word.Fill (reserve_place_text r ++ 32 ∷ body_text (bytes_of body)) _ (reads_fill r (bytes_of body) front back))
+reads_act (act.Commit r now) front back writable =
+    same_text _ _ _ (regroup_three (codes "commit") (blank_field (reserve_place_text r)) (blank_number now))
+    (word_then word.Commit (reserve_place_text r ++ 32 ∷ decimal now) _ (reads_commit r now front.0 front.1))
+reads_act (act.Discard r) front back writable = word_then word.Discard (reserve_place_text r) _ (reads_discard r front)
 
 -- ---- orders
 
@@ -260,6 +342,10 @@ act_parts (act.Look signature) = sym (append-nil (act_text (act.Look signature))
 act_parts act.Expire = sym (append-nil (act_text act.Expire))
 act_parts (act.Tally k) = sym (append-nil (act_text (act.Tally k)))
 act_parts act.Stat = sym (append-nil (act_text act.Stat))
+act_parts (act.Reserve info) = sym (append-nil (act_text (act.Reserve info)))
+act_parts (act.Fill r body) = sym (append_assoc (codes "fill" ++ blank_field (reserve_place_text r)) (codes " ") (body_text (bytes_of body)))
+act_parts (act.Commit r now) = sym (append-nil (act_text (act.Commit r now)))
+act_parts (act.Discard r) = sym (append-nil (act_text (act.Discard r)))
 
 pub written : (order : ReadOrder) (old middle new front : List ℕ) → front ≡ decimal order.actor ++ blank_field (front_text order.act) → middle ≡ old ++ front
     → new ≡ middle ++ back_text order.act → new ≡ old ++ spelling order

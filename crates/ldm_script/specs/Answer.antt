@@ -52,6 +52,14 @@ reply_text (reply.Expired n) = codes "expired" ++ blank_number n
 reply_text reply.Nothing = codes "nothing"
 reply_text (reply.Tally given lost left) = codes "tally" ++ blank_number given ++ blank_number lost ++ blank_number left
 reply_text (reply.Stat admitted queued held used largest_free) = codes "stat" ++ blank_number admitted ++ blank_number queued ++ blank_number held ++ blank_number used ++ blank_number largest_free
+reply_text (reply.Reserved r evicted) = codes "reserved" ++ blank_number r ++ blank_number evicted
+reply_text reply.AllReserved = codes "allreserved"
+reply_text reply.NoReservation = codes "noreservation"
+reply_text (reply.Filled left) = codes "filled" ++ blank_number left
+reply_text (reply.Overfill left) = codes "overfill" ++ blank_number left
+reply_text (reply.Unfilled left) = codes "unfilled" ++ blank_number left
+reply_text (reply.Committed n time) = codes "committed" ++ blank_number n ++ blank_number time
+reply_text reply.Discarded = codes "discarded"
 
 -- with its newline
 unfoldable pub answer_line : Reply → List ℕ

@@ -31,6 +31,14 @@ reply_of (answer.Expired n) = reply.Expired n
 reply_of answer.Nothing = reply.Nothing
 reply_of (answer.Tally given lost left) = reply.Tally given lost left
 reply_of (answer.Stat admitted queued held used largest_free) = reply.Stat admitted queued held used largest_free
+reply_of (answer.Reserved r evicted) = reply.Reserved r evicted
+reply_of answer.AllReserved = reply.AllReserved
+reply_of answer.NoReservation = reply.NoReservation
+reply_of (answer.Filled left) = reply.Filled left
+reply_of (answer.Overfill left) = reply.Overfill left
+reply_of (answer.Unfilled left) = reply.Unfilled left
+reply_of (answer.Committed n time) = reply.Committed n time
+reply_of answer.Discarded = reply.Discarded
 
 -- no more bytes were read than a line can ask for
 abbrev pub FitsAnswer : Answer → Type 0

@@ -2,6 +2,7 @@
 use Rattle.std.specs.Prelude.{ℕ, ◌+◌, ◌-◌, ◌^◌, ◌==◌, Bool, true, nat_lt, List, [], ◌∷◌, length, codes, bytes_eq, unwrap_or, Option, Some, None, option_map, Result, Ok, Err, if◌then◌else◌}
 use Rattle.std.specs.List.{list_any}
 use Rattle.md5.specs.Md5.{md5}
+use Rattle.ldm_types.specs.Info.{Metadata}
 use Rattle.ldm_types.specs.declared.limits.TheConstants.{GREATEST_INSTANT, LONGEST_ORIGIN, LONGEST_IDENT}
 use Rattle.ldm_signature.specs.HexSignature.{hex_signature}
 use Rattle.ldm_feedtype.specs.Reading.{feed_number}
@@ -12,6 +13,8 @@ use Rattle.ldm_model.specs.declared.event.Event.TheVariants as event
 use Rattle.ldm_script.specs.declared.line.TheConstants.{LONGEST_LINE, LONGEST_READ}
 use Rattle.ldm_script.specs.declared.order.Place.{Place}
 use Rattle.ldm_script.specs.declared.order.Place.TheVariants as place
+use Rattle.ldm_script.specs.declared.order.ReservePlace.{ReservePlace}
+use Rattle.ldm_script.specs.declared.order.ReservePlace.TheVariants as reserve_place
 use Rattle.ldm_script.specs.declared.word.LineWord.{LineWord}
 use Rattle.ldm_script.specs.declared.word.LineWord.TheVariants as word
 use Rattle.ldm_script.specs.declared.word.StartWord.{StartWord}
@@ -21,7 +24,7 @@ use Rattle.ldm_script.specs.Word.{word_of_text, start_word_of_text}
 use Rattle.ldm_script.specs.Texts.{text_up_to}
 use Rattle.ldm_script.specs.Bodies.{body_of}
 use Rattle.ldm_script.specs.Fields.{◌>>=◌, Left, field, no_more}
-use Rattle.ldm_script.specs.Order.{Order, Asked, Plain, OnCursor}
+use Rattle.ldm_script.specs.Order.{Order, Asked, Plain, OnCursor, OnReservation}
 
 -- a number of four bytes
 abbrev pub four_bytes : List ℕ → Option ℕ
@@ -34,34 +37,58 @@ instant_of field = number_up_to GREATEST_INSTANT field
 abbrev pub feed_of : List ℕ → Option ℕ
 feed_of field = if list_any (λ byte. byte == 9) field then None else feed_number field
 
+-- a place below 64; `.` is the last one
+abbrev pub place_or_last : {A : Type 0} → A → (ℕ → A) → List ℕ → Option A
+place_or_last last at field = if bytes_eq field (codes ".") then Some last else option_map at (number_up_to 63 field)
+
 -- `.` is the cursor that the actor opened last
 abbrev pub place_of : List ℕ → Option Place
-place_of field = if bytes_eq field (codes ".") then Some place.Last else option_map (λ k. place.At k) (number_up_to 63 field)
+place_of field = place_or_last place.Last (λ k. place.At k) field
+
+-- `.` is the reservation that the actor made last
+abbrev pub reserve_place_of : List ℕ → Option ReservePlace
+reserve_place_of field = place_or_last reserve_place.Last (λ r. reserve_place.At r) field
 
 -- a signature by its digits, or none for `md5`, which is that of the body
 abbrev pub signature_of : List ℕ → Option (Option (List ℕ))
 signature_of field = if bytes_eq field (codes "md5") then Some None else option_map (λ signature. Some signature) (hex_signature field)
+
+-- what stands behind the signature of a product
+pub record Details : Type 0 where
+  pub feed : ℕ
+  pub seqno : ℕ
+  pub origin : List ℕ
+  pub ident : List ℕ
+
+-- `FEED SEQNO ORIGIN IDENT`
+unfoldable pub read_details : Left → Result (Details × Left) ℕ
+read_details left = do
+  feed ← field feed_of left
+  seqno ← field four_bytes feed.1
+  origin ← field (text_up_to LONGEST_ORIGIN) seqno.1
+  ident ← field (text_up_to LONGEST_IDENT) origin.1
+  Ok (record { feed = feed.0; seqno = seqno.0; origin = origin.0; ident = ident.0 }, ident.1)
+
+abbrev pub metadata : ℕ → List ℕ → Details → ℕ → Metadata
+metadata arrival signature details size = record {
+  arrival = arrival;
+  signature = signature;
+  origin = details.origin;
+  feed = details.feed;
+  seqno = details.seqno;
+  ident = details.ident;
+  size = size;
+}
 
 -- `NOW SIG FEED SEQNO ORIGIN IDENT BODY`: the arrival is NOW, and the size is the body's
 unfoldable pub read_insert : Left → Result Asked ℕ
 read_insert left = do
   now ← field instant_of left
   signature ← field signature_of now.1
-  feed ← field feed_of signature.1
-  seqno ← field four_bytes feed.1
-  origin ← field (text_up_to LONGEST_ORIGIN) seqno.1
-  ident ← field (text_up_to LONGEST_IDENT) origin.1
-  body ← field body_of ident.1
+  details ← read_details signature.1
+  body ← field body_of details.1
   end ← no_more body.1
-  Ok (Plain (event.Insert now.0 (record {
-    arrival = now.0;
-    signature = unwrap_or signature.0 (md5 body.0);
-    origin = origin.0;
-    feed = feed.0;
-    seqno = seqno.0;
-    ident = ident.0;
-    size = length body.0;
-  }) body.0))
+  Ok (Plain (event.Insert now.0 (metadata now.0 (unwrap_or signature.0 (md5 body.0)) details.0 (length body.0)) body.0))
 
 -- `oldest`, `next`, `after MICROS`, `sig SIG`
 abbrev pub read_start : StartWord → Left → Result (Start × Left) ℕ
@@ -106,6 +133,39 @@ read_look left = do
   end ← no_more signature.1
   Ok (Plain (event.Look (record { 0 = signature.0 })))
 
+-- `ARRIVAL SIG FEED SEQNO ORIGIN IDENT SIZE`
+unfoldable pub read_reserve : Left → Result Asked ℕ
+read_reserve left = do
+  arrival ← field instant_of left
+  signature ← field hex_signature arrival.1
+  details ← read_details signature.1
+  size ← field four_bytes details.1
+  end ← no_more size.1
+  Ok (Plain (event.Reserve (metadata arrival.0 signature.0 details.0 size.0)))
+
+-- `R BODY`
+unfoldable pub read_fill : Left → Result Asked ℕ
+read_fill left = do
+  r ← field reserve_place_of left
+  body ← field body_of r.1
+  end ← no_more body.1
+  Ok (OnReservation r.0 (λ place. event.Fill place body.0))
+
+-- `R NOW`
+unfoldable pub read_commit : Left → Result Asked ℕ
+read_commit left = do
+  r ← field reserve_place_of left
+  now ← field instant_of r.1
+  end ← no_more now.1
+  Ok (OnReservation r.0 (λ place. event.Commit place now.0))
+
+-- `R`
+unfoldable pub read_discard : Left → Result Asked ℕ
+read_discard left = do
+  r ← field reserve_place_of left
+  end ← no_more r.1
+  Ok (OnReservation r.0 (λ place. event.Discard place))
+
 -- nothing
 abbrev pub read_alone : Event → Left → Result Asked ℕ
 read_alone alone left = do
@@ -124,6 +184,10 @@ read_act word.Look left = read_look left
 read_act word.Expire left = read_alone event.Expire left
 read_act word.Tally left = read_on_cursor (λ k. event.Tally k) left
 read_act word.Stat left = read_alone event.Stat left
+read_act word.Reserve left = read_reserve left
+read_act word.Fill left = read_fill left
+read_act word.Commit left = read_commit left
+read_act word.Discard left = read_discard left
 
 -- `ACTOR WORD ..`, the actor a number below that of actors
 unfoldable pub read_order : ℕ → Left → Result Order ℕ

@@ -5,11 +5,13 @@ use Rattle.ldm_script.specs.declared.body.Body.{Body}
 use Rattle.ldm_script.specs.declared.body.Body.TheVariants.{Hex, Fill}
 use Rattle.ldm_script.specs.declared.body.TheConstants.{LONGEST_BODY}
 use Rattle.ldm_script.specs.declared.line.TheConstants.{LONGEST_LINE, LONGEST_READ}
+use Rattle.ldm_script.specs.declared.line.Details.{Details as ReadDetails}
 use Rattle.ldm_script.specs.declared.order.Act.{Act}
 use Rattle.ldm_script.specs.declared.order.Act.TheVariants as act
 use Rattle.ldm_script.specs.declared.order.Order.{Order as ReadOrder}
 use Rattle.ldm_script.specs.Bodies.{digits_of}
-use Rattle.ldm_script.specs.Order.{Order, Asked, Plain, OnCursor}
+use Rattle.ldm_script.specs.Grammar.{Details}
+use Rattle.ldm_script.specs.Order.{Order, Asked, Plain, OnCursor, OnReservation}
 
 -- the bytes of a body
 abbrev pub bytes_of : Body → List ℕ
@@ -20,6 +22,10 @@ bytes_of (Fill count byte) = replicate count byte
 abbrev pub IsBody : Body → Type 0
 IsBody (Hex digits) = IsSome (digits_of digits.now) × (length digits.now ≤ LONGEST_LINE)
 IsBody (Fill count byte) = count ≤ LONGEST_BODY
+
+-- what was read behind a signature
+abbrev pub details_of : ReadDetails → Details
+details_of details = record { feed = details.feed.0; seqno = details.seqno; origin = details.origin.items; ident = details.ident.items }
 
 abbrev pub asked_of : Act → Asked
 asked_of (act.Insert now info body) = Plain (event.Insert now info (bytes_of body))
@@ -32,19 +38,26 @@ asked_of (act.Look signature) = Plain (event.Look signature)
 asked_of act.Expire = Plain event.Expire
 asked_of (act.Tally k) = OnCursor k (λ place. event.Tally place)
 asked_of act.Stat = Plain event.Stat
+asked_of (act.Reserve info) = Plain (event.Reserve info)
+asked_of (act.Fill r body) = OnReservation r (λ place. event.Fill place (bytes_of body))
+asked_of (act.Commit r now) = OnReservation r (λ place. event.Commit place now)
+asked_of (act.Discard r) = OnReservation r (λ place. event.Discard place)
 
 abbrev pub order_of : ReadOrder → Order
 order_of order = record { actor = order.actor; asked = asked_of order.act }
 
--- What an order carries can be done as it says: a body that is inserted was read, and has the size that the metadata
--- tell; and no more bytes are to be read than a line can ask for.
+-- What an order carries can be done as it says: a body was read, and one that is inserted has the size that the metadata
+-- tell; and no more bytes are inserted, filled in or to be read than a line can ask for.
 abbrev pub IsWhole : Act → Type 0
 IsWhole (act.Insert now info body) = IsBody body × (length (bytes_of body) ≡ info.size) × (info.size ≤ LONGEST_BODY)
 IsWhole (act.Read k offset len) = len ≤ LONGEST_READ
+IsWhole (act.Fill r body) = IsBody body × (length (bytes_of body) ≤ LONGEST_BODY)
 IsWhole _ = Unit {0}
 
--- What a line can ask for: an insertion tells its body's size, which has its limit, and arrives at its own moment; a read has its limit.
+-- What a line can ask for: an insertion tells its body's size, which has its limit, and arrives at its own moment; what is
+-- filled in has that limit too, and a read its own.
 abbrev pub IsWritable : Act → Type 0
 IsWritable (act.Insert now info body) = (length (bytes_of body) ≡ info.size) × (info.size ≤ LONGEST_BODY) × (info.arrival ≡ now)
 IsWritable (act.Read k offset len) = len ≤ LONGEST_READ
+IsWritable (act.Fill r body) = length (bytes_of body) ≤ LONGEST_BODY
 IsWritable _ = Unit {0}

@@ -6,10 +6,12 @@ use Rattle.ldm_model.specs.declared.event.Start.{Start}
 use Rattle.ldm_model.specs.declared.event.Start.TheVariants as start
 use Rattle.ldm_script.specs.declared.order.Place.{Place}
 use Rattle.ldm_script.specs.declared.order.Place.TheVariants as place
+use Rattle.ldm_script.specs.declared.order.ReservePlace.{ReservePlace}
+use Rattle.ldm_script.specs.declared.order.ReservePlace.TheVariants as reserve_place
 use Rattle.ldm_script.specs.declared.order.Act.{Act}
 use Rattle.ldm_script.specs.declared.order.Act.TheVariants as act
 use Rattle.ldm_script.specs.declared.order.Order.{Order as ReadOrder}
-use Rattle.ldm_script.specs.Answer.{blank_field, blank_number, product_text}
+use Rattle.ldm_script.specs.Answer.{blank_field, blank_number, product_text, info_text}
 use Rattle.ldm_script.specs.Bodies.{body_text}
 use Rattle.ldm_script.specs.OrderView.{bytes_of, order_of}
 use Rattle.ldm_script.specs.Grammar.{read_line}
@@ -18,6 +20,10 @@ use Rattle.ldm_script.specs.declared.line.TheConstants.{LONGEST_LINE}
 abbrev pub place_text : Place → List ℕ
 place_text (place.At k) = decimal k
 place_text place.Last = codes "."
+
+abbrev pub reserve_place_text : ReservePlace → List ℕ
+reserve_place_text (reserve_place.At r) = decimal r
+reserve_place_text reserve_place.Last = codes "."
 
 abbrev pub start_text : Start → List ℕ
 start_text start.Oldest = codes "oldest"
@@ -37,8 +43,12 @@ act_text (act.Look signature) = codes "look" ++ blank_field (encode_lower signat
 act_text act.Expire = codes "expire"
 act_text (act.Tally k) = codes "tally" ++ blank_field (place_text k)
 act_text act.Stat = codes "stat"
+act_text (act.Reserve info) = codes "reserve" ++ info_text info
+act_text (act.Fill r body) = codes "fill" ++ blank_field (reserve_place_text r) ++ blank_field (body_text (bytes_of body))
+act_text (act.Commit r now) = codes "commit" ++ blank_field (reserve_place_text r) ++ blank_number now
+act_text (act.Discard r) = codes "discard" ++ blank_field (reserve_place_text r)
 
--- the line of an order: lower-case digits, the body as digits, and the cursor as in the order
+-- the line of an order: lower-case digits, the body as digits, and the cursor or the reservation as in the order
 unfoldable pub spelling : ReadOrder → List ℕ
 spelling order = decimal order.actor ++ blank_field (act_text order.act)
 

@@ -17,9 +17,15 @@ word_text word.Look = codes "look"
 word_text word.Expire = codes "expire"
 word_text word.Tally = codes "tally"
 word_text word.Stat = codes "stat"
+word_text word.Reserve = codes "reserve"
+word_text word.Fill = codes "fill"
+word_text word.Commit = codes "commit"
+word_text word.Discard = codes "discard"
 
 abbrev pub line_words : List LineWord
-line_words = word.Insert ∷ word.Open ∷ word.Step ∷ word.Read ∷ word.Release ∷ word.Close ∷ word.Look ∷ word.Expire ∷ word.Tally ∷ word.Stat ∷ []
+line_words =
+    word.Insert ∷ word.Open ∷ word.Step ∷ word.Read ∷ word.Release ∷ word.Close ∷ word.Look ∷ word.Expire ∷ word.Tally ∷ word.Stat
+    ∷ word.Reserve ∷ word.Fill ∷ word.Commit ∷ word.Discard ∷ []
 
 abbrev pub is_word : List ℕ → LineWord → Bool
 is_word text w = bytes_eq (word_text w) text

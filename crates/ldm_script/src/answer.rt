@@ -2,15 +2,16 @@
 ghost use Rattle.std.specs.Prelude.{◌≡◌, ◌+◌, ◌*◌, ◌<◌, ◌≤◌, ◌++◌, length, []};
 ghost use Rattle.arrayvec.specs.ArrayVec.{array_vec_len};
 ghost use Rattle.ldm_model.specs.declared.event.Reply.TheVariants as reply;
-ghost use Rattle.ldm_script.specs.Answer.{answer_line, blank_number, info_text, reply_text};
+ghost use Rattle.ldm_script.specs.Answer.{answer_line, blank_number, reply_text};
 ghost use Rattle.ldm_script.specs.AnswerView.{reply_of, FitsAnswer};
 ghost use Rattle.ldm_script.specs.Texts.{spelled};
 ghost use Rattle.ldm_script.specs.declared.line.TheConstants.{LONGEST_READ};
 
 use crate::line::LONGEST_READ;
-use crate::put_fields::{put_blank, put_blank_number, put_product_fields};
+use crate::put_fields::{put_blank, put_blank_number, put_info};
 use crate::texts::{put, spell};
 use arrayvec::ArrayVec;
+use ldm_model::ReserveNo;
 use ldm_types::{CursorNo, Info, Micros};
 
 /// The most bytes of an answer, without its newline.
@@ -116,6 +117,34 @@ pub enum Answer<'a> {
         used: u64,
         largest_free: u64,
     },
+    /// `reserved R EVICTED`
+    Reserved {
+        r: ReserveNo,
+        evicted: u64,
+    },
+    /// `allreserved`
+    AllReserved,
+    /// `noreservation`
+    NoReservation,
+    /// `filled LEFT`, in bytes
+    Filled {
+        left: u32,
+    },
+    /// `overfill LEFT`, in bytes
+    Overfill {
+        left: u32,
+    },
+    /// `unfilled LEFT`, in bytes
+    Unfilled {
+        left: u32,
+    },
+    /// `committed N TIME`
+    Committed {
+        n: u64,
+        time: Micros,
+    },
+    /// `discarded`
+    Discarded,
 }
 
 /// Writes an answer over what the buffer had: one line, without its newline, for which there is room left.
@@ -167,6 +196,14 @@ pub fn write_reply(answer: &Answer, out: &mut Text)
             put_blank_number(out, *used);
             put_blank_number(out, *largest_free);
         }
+        Answer::Reserved { r, evicted } => put_two(out, b"reserved", u64::from(r.get()), *evicted),
+        Answer::AllReserved => put(out, b"allreserved"),
+        Answer::NoReservation => put(out, b"noreservation"),
+        Answer::Filled { left } => put_one(out, b"filled", u64::from(*left)),
+        Answer::Overfill { left } => put_one(out, b"overfill", u64::from(*left)),
+        Answer::Unfilled { left } => put_one(out, b"unfilled", u64::from(*left)),
+        Answer::Committed { n, time } => put_two(out, b"committed", *n, time.get()),
+        Answer::Discarded => put(out, b"discarded"),
     }
 }
 
@@ -217,16 +254,6 @@ fn put_product(out: &mut Text, n: u64, time: Micros, info: &Info)
 {
     put_two(out, b"product", n, time.get());
     put_info(out, info);
-}
-
-fn put_info(out: &mut Text, info: &Info)
-    requires { array_vec_len out.old ≤ 100 }
-    ensures text { out.new.items ≡ out.old.items ++ info_text info.now }
-    ensures room { array_vec_len out.new < LONGEST_ANSWER }
-{
-    put_blank_number(out, info.arrival().get());
-    put_product_fields(out, info);
-    put_blank_number(out, u64::from(info.size()));
 }
 
 // The bytes that were read, as digits, or `-` for none.

@@ -1,5 +1,5 @@
 //! Bodies in lines.
-ghost use Rattle.std.specs.Prelude.{◌≡◌, ◌≤◌, ◌/◌, ◌++◌, IfSome, IsSome, length, drop, take, replicate};
+ghost use Rattle.std.specs.Prelude.{◌≡◌, ◌≤◌, ◌/◌, ◌++◌, [], IfSome, IsSome, length, drop, take, replicate, unwrap_or};
 ghost use Rattle.std.specs.Option.{option_map};
 ghost use Rattle.md5.specs.Md5.{md5};
 ghost use Rattle.hex.specs.Hex.{decode_sized, is_hex_digit};
@@ -41,6 +41,17 @@ impl Body<'_> {
         }
     }
 
+    /// How many bytes the body has: none, where its digits spell none.
+    pub(crate) fn len(&self) -> u32
+        requires { length (bytes_of self.now) ≤ LONGEST_BODY }
+        ensures { result ≡ length (bytes_of self.now) }
+    {
+        match *self {
+            Body::Hex(digits) => digits_len(digits) as u32,
+            Body::Fill { count, .. } => count,
+        }
+    }
+
     /// The MD5 digest of the body's bytes (RFC 1321).
     pub(crate) fn sign(&self) -> Signature
         requires { IsBody self.now }
@@ -50,6 +61,20 @@ impl Body<'_> {
             Body::Hex(digits) => sign_digits(digits),
             Body::Fill { count, byte } => sign_fill(count, byte),
         }
+    }
+}
+
+// How many bytes digits spell.
+fn digits_len(digits: &[u8]) -> usize
+    ensures { result ≡ length (unwrap_or (digits_of digits.now) []) }
+{
+    if digits.len() % 2 == 1 {
+        return 0;
+    }
+    if are_digits(digits) {
+        digits.len() / 2
+    } else {
+        0
     }
 }
 

@@ -9,25 +9,26 @@ ghost use Rattle.ldm_script.specs.Word.{word_of_text, start_word_of_text};
 ghost use Rattle.ldm_script.specs.Texts.{text_up_to};
 ghost use Rattle.ldm_script.specs.Bodies.{body_of};
 ghost use Rattle.ldm_script.specs.OrderView.{bytes_of, IsBody};
-ghost use Rattle.ldm_script.specs.Grammar.{four_bytes as four_bytes_of, instant_of, signature_of, feed_of, place_of};
+ghost use Rattle.ldm_script.specs.Grammar.{four_bytes as four_bytes_of, instant_of, signature_of, feed_of, place_of, reserve_place_of};
 ghost use Rattle.ldm_script.specs.Fields.{field, no_more};
 ghost use Rattle.ldm_script.specs.FieldReads.{TakesField, Gives};
 ghost use Rattle.ldm_script.specs.declared.line.TheConstants.{LONGEST_LINE};
 
 use crate::body::{Body, read_body};
 use crate::number::{read_number, read_number_below};
-use crate::order::Place;
+use crate::order::{Place, ReservePlace};
 use crate::split::split_first;
 use crate::texts::read_text;
 use crate::word::{LineWord, StartWord};
 use arrayvec::ArrayVec;
 use ldm_feedtype::read_feed;
+use ldm_model::ReserveNo;
 use ldm_signature::read_hex;
 use ldm_types::{CursorNo, Feed, LONGEST_IDENT, Micros, Signature};
 use std::marker::Model;
 
-// The last cursor place.
-const LAST_CURSOR: u64 = 63;
+// The last place of a cursor, and of a reservation.
+const LAST_PLACE: u64 = 63;
 
 /// A field: its text, and how many bytes there are from its first one to the end of the line.
 #[derive(Clone, Copy)]
@@ -170,11 +171,26 @@ impl<'a> Fields<'a> {
         if field.text == b".".as_slice() {
             return Ok(Place::Last);
         }
-        let number = read_number(field.text, LAST_CURSOR).ok_or(field.left)?;
+        let number = read_number(field.text, LAST_PLACE).ok_or(field.left)?;
         let Some(k) = CursorNo::new(number as u32) else {
             unreachable!();
         };
         Ok(Place::At(k))
+    }
+
+    /// The place of a reservation, or `.` for the one last made.
+    pub fn reserve_place(&mut self) -> Result<ReservePlace, usize>
+        ensures { Gives (λ r. r) result (field reserve_place_of self.old) self.new }
+    {
+        let field = self.next()?;
+        if field.text == b".".as_slice() {
+            return Ok(ReservePlace::Last);
+        }
+        let number = read_number(field.text, LAST_PLACE).ok_or(field.left)?;
+        let Some(r) = ReserveNo::new(number as u32) else {
+            unreachable!();
+        };
+        Ok(ReservePlace::At(r))
     }
 
     /// A word of script lines.

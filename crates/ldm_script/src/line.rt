@@ -1,18 +1,22 @@
 //! Reading lines.
-ghost use Rattle.std.specs.Prelude.{◌≡◌, ◌<◌, ◌≤◌, ℕ, Ok, Err, IfOk, IfSome, MatchResult, unwrap_or};
+ghost use Rattle.std.specs.Prelude.{◌≡◌, ◌<◌, ◌≤◌, ℕ, Ok, Err, None, IfOk, IfSome, MatchResult, unwrap_or};
 ghost use Rattle.std.specs.Option.{option_map};
 ghost use Rattle.ldm_model.specs.declared.event.Event.{Event};
 ghost use Rattle.ldm_script.specs.Order.{OnCursor};
 ghost use Rattle.ldm_script.specs.FieldReads.{Gives};
 ghost use Rattle.ldm_script.specs.Grammar.{read_line as reading, read_order as order_at, read_act as act_at, read_insert as insert_at, read_open as open_at};
 ghost use Rattle.ldm_script.specs.Grammar.{read_start as start_at, read_read as read_at, read_look as look_at, read_on_cursor as on_cursor_at};
-ghost use Rattle.ldm_script.specs.OrderView.{order_of, asked_of, bytes_of, IsBody, IsWhole, IsWritable};
+ghost use Rattle.ldm_script.specs.Grammar.{read_reserve as reserve_at, read_fill as fill_at, read_commit as commit_at, read_discard as discard_at};
+ghost use Rattle.ldm_script.specs.Grammar.{read_details as details_at, metadata};
+ghost use Rattle.ldm_types.specs.Info.{texts_fault};
+ghost use Rattle.ldm_script.specs.OrderView.{order_of, asked_of, bytes_of, details_of, IsBody, IsWhole, IsWritable};
 ghost use Rattle.md5.specs.Md5.{md5};
 
 use crate::body::Body;
 use crate::fields::Fields;
 use crate::order::{Act, Order, Place};
 use crate::word::{LineWord, StartWord};
+use arrayvec::ArrayVec;
 use ldm_model::Start;
 use ldm_types::{Actor, Feed, Info, LONGEST_IDENT, LONGEST_ORIGIN, Micros, Signature};
 
@@ -104,6 +108,10 @@ fn read_act(word: LineWord, fields: Fields<'_>) -> Result<Act<'_>, usize>
             fields.end()?;
             Ok(Act::Stat)
         }
+        LineWord::Reserve => read_reserve(fields),
+        LineWord::Fill => read_fill(fields),
+        LineWord::Commit => read_commit(fields),
+        LineWord::Discard => read_discard(fields),
     }
 }
 
@@ -114,26 +122,55 @@ fn read_insert(mut fields: Fields<'_>) -> Result<Act<'_>, usize>
 {
     let now = fields.instant()?;
     let signature = fields.signature_or_md5()?;
+    let details = read_details(&mut fields)?;
+    let body = fields.body()?;
+    fields.end()?;
+    let info = info_of(now, signature_of(signature, &body), &details, body.size());
+    Ok(Act::Insert { now, info, body })
+}
+
+// What stands in a line behind the signature of a product.
+#[derive(Drop)]
+struct Details {
+    feed: Feed,
+    seqno: u32,
+    origin: ArrayVec<u8, LONGEST_IDENT>,
+    ident: ArrayVec<u8, LONGEST_IDENT>,
+}
+
+#[tactic(auto, unfolding(crate::specs::Grammar::read_details))]
+fn read_details(fields: &mut Fields) -> Result<Details, usize>
+    ensures field { Gives details_of result (details_at fields.old) fields.new }
+    ensures texts { IfOk result (λ details. texts_fault details.origin.items details.ident.items ≡ None) }
+{
     let feed = fields.feed()?;
     let seqno = fields.four_bytes()?;
     let origin = fields.text(LONGEST_ORIGIN)?;
     let ident = fields.text(LONGEST_IDENT)?;
-    let body = fields.body()?;
-    fields.end()?;
-    let signature = signature_of(signature, &body);
-    let size = body.size();
-    let Ok(info) = Info::new(
-        now,
-        signature,
-        origin.as_slice(),
+    Ok(Details {
         feed,
         seqno,
-        ident.as_slice(),
+        origin,
+        ident,
+    })
+}
+
+fn info_of(arrival: Micros, signature: Signature, details: &Details, size: u32) -> Info
+    requires { texts_fault details.now.origin.items details.now.ident.items ≡ None }
+    ensures { result ≡ metadata arrival signature.0 (details_of details.now) size }
+{
+    let Ok(info) = Info::new(
+        arrival,
+        signature,
+        details.origin.as_slice(),
+        details.feed,
+        details.seqno,
+        details.ident.as_slice(),
         size,
     ) else {
         unreachable!();
     };
-    Ok(Act::Insert { now, info, body })
+    info
 }
 
 // The signature that was read, or that of the body.
@@ -201,4 +238,50 @@ fn read_look(mut fields: Fields<'_>) -> Result<Act<'_>, usize>
     let signature = fields.signature()?;
     fields.end()?;
     Ok(Act::Look { signature })
+}
+
+#[tactic(auto, unfolding(crate::specs::Grammar::read_reserve))]
+fn read_reserve(mut fields: Fields<'_>) -> Result<Act<'_>, usize>
+    ensures read { MatchResult result (λ act. reserve_at fields.entry ≡ Ok (asked_of act)) (λ bad. reserve_at fields.entry ≡ Err bad) }
+    ensures whole { IfOk result IsWhole }
+{
+    let arrival = fields.instant()?;
+    let signature = fields.signature()?;
+    let details = read_details(&mut fields)?;
+    let size = fields.four_bytes()?;
+    fields.end()?;
+    let info = info_of(arrival, signature, &details, size);
+    Ok(Act::Reserve { info })
+}
+
+#[tactic(auto, unfolding(crate::specs::Grammar::read_fill), using(crate::proofs::Bodies::body_small))]
+fn read_fill(mut fields: Fields<'_>) -> Result<Act<'_>, usize>
+    ensures read { MatchResult result (λ act. fill_at fields.entry ≡ Ok (asked_of act)) (λ bad. fill_at fields.entry ≡ Err bad) }
+    ensures whole { IfOk result IsWhole }
+{
+    let r = fields.reserve_place()?;
+    let body = fields.body()?;
+    fields.end()?;
+    Ok(Act::Fill { r, body })
+}
+
+#[tactic(auto, unfolding(crate::specs::Grammar::read_commit))]
+fn read_commit(mut fields: Fields<'_>) -> Result<Act<'_>, usize>
+    ensures read { MatchResult result (λ act. commit_at fields.entry ≡ Ok (asked_of act)) (λ bad. commit_at fields.entry ≡ Err bad) }
+    ensures whole { IfOk result IsWhole }
+{
+    let r = fields.reserve_place()?;
+    let now = fields.instant()?;
+    fields.end()?;
+    Ok(Act::Commit { r, now })
+}
+
+#[tactic(auto, unfolding(crate::specs::Grammar::read_discard))]
+fn read_discard(mut fields: Fields<'_>) -> Result<Act<'_>, usize>
+    ensures read { MatchResult result (λ act. discard_at fields.entry ≡ Ok (asked_of act)) (λ bad. discard_at fields.entry ≡ Err bad) }
+    ensures whole { IfOk result IsWhole }
+{
+    let r = fields.reserve_place()?;
+    fields.end()?;
+    Ok(Act::Discard { r })
 }

@@ -1,12 +1,12 @@
 //! What script lines ask for.
-ghost use Rattle.std.specs.Prelude.{◌≡◌, ℕ};
+ghost use Rattle.std.specs.Prelude.{◌≡◌, ℕ, Option};
 ghost use Rattle.std.specs.Option.{option_map};
 ghost use Rattle.ldm_model.specs.declared.event.Event.{Event};
-ghost use Rattle.ldm_script.specs.Order.{OnCursor};
+ghost use Rattle.ldm_script.specs.Order.{OnCursor, OnReservation};
 ghost use Rattle.ldm_script.specs.Resolve.{resolved};
 
 use crate::body::Body;
-use ldm_model::Start;
+use ldm_model::{ReserveNo, Start};
 use ldm_types::{Actor, CursorNo, Feed, Info, Micros, Signature};
 
 /// A cursor, as a line names it.
@@ -22,11 +22,33 @@ impl Place {
     /// The cursor that is named, where `last` is the place that the actor opened last. `None` exactly where that is named,
     /// and there is none yet.
     pub fn cursor(self, last: Option<CursorNo>) -> Option<CursorNo>
-        ensures { (on_cursor : ℕ → Event) → resolved last (OnCursor self on_cursor) ≡ option_map on_cursor result }
+        ensures { (reserved : Option ℕ) (on_cursor : ℕ → Event) → resolved last reserved (OnCursor self on_cursor) ≡ option_map on_cursor result }
     {
         match self {
             Place::At(k) => Some(k),
             Place::Last => last,
+        }
+    }
+}
+
+/// A reservation, as a line names it.
+#[derive(Clone, Copy, Debug, PartialEq, Eq)]
+pub enum ReservePlace {
+    /// The reservation of that place.
+    At(ReserveNo),
+    /// The place that the actor was last answered `reserved`.
+    Last,
+}
+
+impl ReservePlace {
+    /// The reservation that is named, where `last` is the place that the actor reserved last. `None` exactly where that is
+    /// named, and there is none yet.
+    pub fn reservation(self, last: Option<ReserveNo>) -> Option<ReserveNo>
+        ensures { (opened : Option ℕ) (on_reservation : ℕ → Event) → resolved opened last (OnReservation self on_reservation) ≡ option_map on_reservation result }
+    {
+        match self {
+            ReservePlace::At(r) => Some(r),
+            ReservePlace::Last => last,
         }
     }
 }
@@ -82,4 +104,22 @@ pub enum Act<'a> {
     },
     /// `stat`
     Stat,
+    /// `reserve ARRIVAL SIG FEED SEQNO ORIGIN IDENT SIZE`
+    Reserve {
+        info: Info,
+    },
+    /// `fill R BODY`
+    Fill {
+        r: ReservePlace,
+        body: Body<'a>,
+    },
+    /// `commit R NOW`
+    Commit {
+        r: ReservePlace,
+        now: Micros,
+    },
+    /// `discard R`
+    Discard {
+        r: ReservePlace,
+    },
 }

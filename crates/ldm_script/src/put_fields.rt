@@ -1,18 +1,18 @@
 //! Fields that are written, a blank in front of each.
-ghost use Rattle.std.specs.Prelude.{◌≡◌, ◌+◌, ◌*◌, ◌≤◌, ◌++◌, length, decimal, Some};
+ghost use Rattle.std.specs.Prelude.{◌≡◌, ◌+◌, ◌*◌, ◌<◌, ◌≤◌, ◌++◌, length, decimal, Some};
 ghost use Rattle.arrayvec.specs.ArrayVec.{array_vec_len};
 ghost use Rattle.hex.specs.Hex.{IsBytes, encode_lower};
 ghost use Rattle.ldm_feedtype.specs.Text.{feed_digits};
 ghost use Rattle.ldm_feedtype.specs.Reading.{feed_number};
 ghost use Rattle.ldm_signature.specs.HexSignature.{hex_signature};
-ghost use Rattle.ldm_script.specs.Answer.{blank_field, blank_number, product_text};
+ghost use Rattle.ldm_script.specs.Answer.{blank_field, blank_number, info_text, product_text};
 ghost use Rattle.ldm_script.specs.Grammar.{four_bytes, instant_of};
-ghost use Rattle.ldm_script.specs.Spelling.{place_text};
+ghost use Rattle.ldm_script.specs.Spelling.{place_text, reserve_place_text};
 ghost use Rattle.ldm_script.specs.Texts.{spelled};
-ghost use Rattle.ldm_script.specs.Writing.{IsPlace, ProductReadsBack};
+ghost use Rattle.ldm_script.specs.Writing.{InfoReadsBack, IsPlace, IsReservePlace, ProductReadsBack};
 
 use crate::answer::{LONGEST_ANSWER, Text};
-use crate::order::Place;
+use crate::order::{Place, ReservePlace};
 use crate::texts::{put, put_number, spell};
 use ldm_feedtype::feed_text;
 use ldm_signature::write_hex;
@@ -102,6 +102,19 @@ pub(crate) fn put_place(out: &mut Text, k: Place)
     }
 }
 
+/// Appends the place of a reservation.
+pub(crate) fn put_reserve_place(out: &mut Text, r: ReservePlace)
+    requires { array_vec_len out.old + 21 ≤ LONGEST_ANSWER }
+    ensures text { out.new.items ≡ out.old.items ++ blank_field (reserve_place_text r) }
+    ensures len { array_vec_len out.new ≤ array_vec_len out.old + 21 }
+    ensures bound { IsReservePlace r }
+{
+    match r {
+        ReservePlace::At(r) => put_blank_number(out, u64::from(r.get())),
+        ReservePlace::Last => put_blank(out, b"."),
+    }
+}
+
 /// Appends `SIG FEED SEQNO ORIGIN IDENT` of a product.
 pub(crate) fn put_product_fields(out: &mut Text, info: &Info)
     requires { array_vec_len out.old ≤ 200 }
@@ -114,4 +127,16 @@ pub(crate) fn put_product_fields(out: &mut Text, info: &Info)
     put_four_bytes(out, info.seqno());
     put_blank_text(out, info.origin());
     put_blank_text(out, info.ident());
+}
+
+/// Appends `ARRIVAL SIG FEED SEQNO ORIGIN IDENT SIZE` of a product.
+pub(crate) fn put_info(out: &mut Text, info: &Info)
+    requires { array_vec_len out.old ≤ 150 }
+    ensures text { out.new.items ≡ out.old.items ++ info_text info.now }
+    ensures room { array_vec_len out.new < LONGEST_ANSWER }
+    ensures read_back { InfoReadsBack info.now }
+{
+    put_instant(out, info.arrival());
+    put_product_fields(out, info);
+    put_four_bytes(out, info.size());
 }

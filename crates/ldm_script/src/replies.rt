@@ -5,8 +5,8 @@ ghost use Rattle.ldm_script.specs.AnswerView.{reply_of};
 
 use crate::answer::Answer;
 use ldm_model::{
-    CloseReply, ExpireReply, InsertReply, LookReply, OpenReply, ReadReply, ReleaseReply, Stat,
-    StepReply, TallyReply,
+    CloseReply, CommitReply, DiscardReply, ExpireReply, FillReply, InsertReply, LookReply,
+    OpenReply, ReadReply, ReleaseReply, ReserveReply, Stat, StepReply, TallyReply,
 };
 
 impl<'a> From<InsertReply> for Answer<'a> {
@@ -151,6 +151,73 @@ impl<'a> From<Stat> for Answer<'a> {
             held: stat.held,
             used: stat.used,
             largest_free: stat.largest_free,
+        }
+    }
+}
+
+impl<'a> From<ReserveReply> for Answer<'a> {
+    ghost use Rattle.std.specs.Prelude.{◌≡◌};
+    ghost use Rattle.ldm_model.specs.Answers.{reserve_answer};
+    ghost use Rattle.ldm_script.specs.AnswerView.{reply_of};
+
+    ghost from_gives = { λ reply made. reply_of made ≡ reserve_answer reply };
+
+    fn from(reply: ReserveReply) -> Answer<'a> {
+        match reply {
+            ReserveReply::TooBig { need, arena } => Answer::TooBig { need, arena },
+            ReserveReply::Duplicate { n } => Answer::Duplicate { n },
+            ReserveReply::AllReserved => Answer::AllReserved,
+            ReserveReply::Locked { held } => Answer::Locked { held },
+            ReserveReply::Reserved { r, evicted } => Answer::Reserved { r, evicted },
+        }
+    }
+}
+
+impl<'a> From<FillReply> for Answer<'a> {
+    ghost use Rattle.std.specs.Prelude.{◌≡◌};
+    ghost use Rattle.ldm_model.specs.Answers.{fill_answer};
+    ghost use Rattle.ldm_script.specs.AnswerView.{reply_of};
+
+    ghost from_gives = { λ reply made. reply_of made ≡ fill_answer reply };
+
+    fn from(reply: FillReply) -> Answer<'a> {
+        match reply {
+            FillReply::NoReservation => Answer::NoReservation,
+            FillReply::Overfill { left } => Answer::Overfill { left },
+            FillReply::Filled { left } => Answer::Filled { left },
+        }
+    }
+}
+
+impl<'a> From<CommitReply> for Answer<'a> {
+    ghost use Rattle.std.specs.Prelude.{◌≡◌};
+    ghost use Rattle.ldm_model.specs.Answers.{commit_answer};
+    ghost use Rattle.ldm_script.specs.AnswerView.{reply_of};
+
+    ghost from_gives = { λ reply made. reply_of made ≡ commit_answer reply };
+
+    fn from(reply: CommitReply) -> Answer<'a> {
+        match reply {
+            CommitReply::NoReservation => Answer::NoReservation,
+            CommitReply::Unfilled { left } => Answer::Unfilled { left },
+            CommitReply::Duplicate { n } => Answer::Duplicate { n },
+            CommitReply::TimeEnd => Answer::TimeEnd,
+            CommitReply::Committed { n, time } => Answer::Committed { n, time },
+        }
+    }
+}
+
+impl<'a> From<DiscardReply> for Answer<'a> {
+    ghost use Rattle.std.specs.Prelude.{◌≡◌};
+    ghost use Rattle.ldm_model.specs.Answers.{discard_answer};
+    ghost use Rattle.ldm_script.specs.AnswerView.{reply_of};
+
+    ghost from_gives = { λ reply made. reply_of made ≡ discard_answer reply };
+
+    fn from(reply: DiscardReply) -> Answer<'a> {
+        match reply {
+            DiscardReply::NoReservation => Answer::NoReservation,
+            DiscardReply::Discarded => Answer::Discarded,
         }
     }
 }

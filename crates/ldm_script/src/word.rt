@@ -15,10 +15,14 @@ pub enum LineWord {
     Expire,
     Tally,
     Stat,
+    Reserve,
+    Fill,
+    Commit,
+    Discard,
 }
 
 impl LineWord {
-    const ALL: [LineWord; 10] = [
+    const ALL: [LineWord; 14] = [
         LineWord::Insert,
         LineWord::Open,
         LineWord::Step,
@@ -29,6 +33,10 @@ impl LineWord {
         LineWord::Expire,
         LineWord::Tally,
         LineWord::Stat,
+        LineWord::Reserve,
+        LineWord::Fill,
+        LineWord::Commit,
+        LineWord::Discard,
     ];
 
     /// How the word is spelled.
@@ -47,6 +55,10 @@ impl LineWord {
             LineWord::Expire => b"expire",
             LineWord::Tally => b"tally",
             LineWord::Stat => b"stat",
+            LineWord::Reserve => b"reserve",
+            LineWord::Fill => b"fill",
+            LineWord::Commit => b"commit",
+            LineWord::Discard => b"discard",
         }
     }
 

@@ -1,35 +1,38 @@
 //! Writing lines.
 ghost use Rattle.std.specs.Prelude.{◌≡◌, ◌<◌, ◌≤◌, ◌+◌, ◌*◌, ◌++◌, ℕ, List, [], length, replicate, unwrap_or, Some};
-ghost use Rattle.std.specs.Prelude.{IsSome, Ok, OnOk, OnErr, decimal, vec_len, vec_capacity};
+ghost use Rattle.std.specs.Prelude.{IsSome, Ok, OnOk, OnErr, codes, decimal, vec_len, vec_capacity};
 ghost use Rattle.arrayvec.specs.ArrayVec.{array_vec_len};
 ghost use Rattle.hex.specs.Hex.{encode_lower};
-ghost use Rattle.ldm_script.specs.Answer.{blank_field};
+ghost use Rattle.ldm_feedtype.specs.Reading.{feed_number};
+ghost use Rattle.ldm_feedtype.specs.Text.{feed_digits};
+ghost use Rattle.ldm_signature.specs.HexSignature.{hex_signature};
+ghost use Rattle.ldm_script.specs.Answer.{blank_field, blank_number, info_text, product_text};
 ghost use Rattle.ldm_script.specs.Bodies.{body_of, body_text, digits_of};
-ghost use Rattle.ldm_script.specs.Grammar.{read_line};
+ghost use Rattle.ldm_script.specs.Grammar.{four_bytes, instant_of, read_line};
 ghost use Rattle.ldm_script.specs.OrderView.{bytes_of, order_of, IsWritable};
-ghost use Rattle.ldm_script.specs.Spelling.{spelling, start_text, place_text, IsReadBack};
+ghost use Rattle.ldm_script.specs.Spelling.{spelling, start_text, place_text, reserve_place_text, IsReadBack};
 ghost use Rattle.ldm_script.specs.Word.{word_text};
-ghost use Rattle.ldm_script.specs.Writing.{front_text, back_text, FrontReadsBack, BackReadsBack, StartReadsBack, IsPlace};
+ghost use Rattle.ldm_script.specs.Writing.{carried, front_text, back_text, FrontReadsBack, BackReadsBack, InfoReadsBack, ProductReadsBack, StartReadsBack, IsPlace, IsReservePlace};
 ghost use Rattle.ldm_script.specs.declared.body.TheConstants.{LONGEST_BODY};
 ghost use Rattle.ldm_script.specs.declared.order.Order.{Order as ReadOrder};
 
 use crate::answer::{LONGEST_ANSWER, Text};
-use crate::body::{Body, LONGEST_BODY};
-use crate::order::{Act, Order, Place};
+use crate::body::Body;
+use crate::order::{Act, Order, Place, ReservePlace};
 use crate::put_fields::{
-    put_blank, put_blank_number, put_feed, put_four_bytes, put_instant, put_place,
-    put_product_fields, put_signature,
+    put_blank, put_blank_number, put_feed, put_four_bytes, put_info, put_instant, put_place,
+    put_product_fields, put_reserve_place, put_signature,
 };
 use crate::texts::{put, put_number};
 use crate::word::{LineWord, StartWord};
 use ldm_model::Start;
-use ldm_types::OutOfMemory;
+use ldm_types::{Feed, Info, Micros, OutOfMemory, Signature};
 
 /// Appends the canonical spelling of an order: one line, without its newline.
 ///
 /// Hexadecimal digits are in lower case, SIG is 32 of them, FEED is as [`ldm_feedtype::feed_text`] writes it, BODY is
-/// `-` or digits, and K is as in the order. Where the line has at most [`crate::LONGEST_LINE`] bytes, it is read as the
-/// same order. For want of memory nothing is appended.
+/// `-` or digits, and K and R are as in the order. Where the line has at most [`crate::LONGEST_LINE`] bytes, it is read as
+/// the same order. For want of memory nothing is appended.
 pub fn write_line(order: &Order, out: &mut Vec<u8>) -> Result<(), OutOfMemory>
     requires { IsWritable order.now.act }
     ensures written { OnOk result (out.new.items ≡ out.old.items ++ spelling order.now) }
@@ -38,9 +41,10 @@ pub fn write_line(order: &Order, out: &mut Vec<u8>) -> Result<(), OutOfMemory>
 {
     let mut front = Text::new();
     put_front(order, &mut front);
-    out.reserve(front.len() + back_len(&order.act))?;
+    let size = carried_size(&order.act);
+    out.reserve(front.len() + 2 * size as usize + 1)?;
     append(out, front.as_slice());
-    append_back(&order.act, out);
+    append_back(&order.act, size, out);
     Ok(())
 }
 
@@ -49,7 +53,7 @@ pub fn what_is_read_can_be_written()
     ensures { (actors : ℕ) (line : List ℕ) (order : ReadOrder) → read_line actors line ≡ Ok (Some (order_of order)) → IsWritable order.act }
 {}
 
-// The line up to the body of an insertion; the whole line of another order.
+// The line up to the body that it carries; the whole line of another order.
 fn put_front(order: &Order, out: &mut Text)
     requires { out.old.items ≡ [] }
     ensures text { out.new.items ≡ decimal order.now.actor ++ blank_field (front_text order.now.act) }
@@ -67,33 +71,94 @@ fn put_act(act: &Act, out: &mut Text)
     ensures read_back { FrontReadsBack act.now }
 {
     match act {
-        Act::Insert { now, info, .. } => {
-            put(out, LineWord::Insert.text());
-            put_instant(out, *now);
-            put_product_fields(out, info);
-            out.push(b' ');
-        }
-        Act::OpenCursor { feed, start } => {
-            put(out, LineWord::Open.text());
-            put_feed(out, *feed);
-            put_start(start, out);
-        }
+        Act::Insert { now, info, .. } => put_insert(*now, info, out),
+        Act::OpenCursor { feed, start } => put_open(*feed, start, out),
         Act::Step { k } => put_on_cursor(LineWord::Step, *k, out),
-        Act::Read { k, offset, len } => {
-            put_on_cursor(LineWord::Read, *k, out);
-            put_four_bytes(out, *offset);
-            put_blank_number(out, u64::from(*len));
-        }
+        Act::Read { k, offset, len } => put_read(*k, *offset, *len, out),
         Act::Release { k } => put_on_cursor(LineWord::Release, *k, out),
         Act::Close { k } => put_on_cursor(LineWord::Close, *k, out),
-        Act::Look { signature } => {
-            put(out, LineWord::Look.text());
-            put_signature(out, signature);
-        }
+        Act::Look { signature } => put_look(signature, out),
         Act::Expire => put(out, LineWord::Expire.text()),
         Act::Tally { k } => put_on_cursor(LineWord::Tally, *k, out),
         Act::Stat => put(out, LineWord::Stat.text()),
+        Act::Reserve { info } => put_reserve(info, out),
+        Act::Fill { r, .. } => put_fill(*r, out),
+        Act::Commit { r, now } => put_commit(*r, *now, out),
+        Act::Discard { r } => put_on_reservation(LineWord::Discard, *r, out),
     }
+}
+
+// Each of these appends a word and the fields behind it.
+
+fn put_insert(now: Micros, info: &Info, out: &mut Text)
+    requires { array_vec_len out.old ≤ 100 }
+    ensures text { out.new.items ≡ out.old.items ++ (codes "insert" ++ blank_number now ++ product_text info.now ++ codes " ") }
+    ensures now { instant_of (decimal now) ≡ Some now }
+    ensures product { ProductReadsBack info.now }
+{
+    put(out, LineWord::Insert.text());
+    put_instant(out, now);
+    put_product_fields(out, info);
+    out.push(b' ');
+}
+
+fn put_open(feed: Feed, start: &Start, out: &mut Text)
+    requires { array_vec_len out.old ≤ 100 }
+    ensures text { out.new.items ≡ out.old.items ++ (codes "open" ++ blank_field (feed_digits feed.0) ++ blank_field (start_text start.now)) }
+    ensures feed { feed_number (feed_digits feed.0) ≡ Some feed.0 }
+    ensures start { StartReadsBack start.now }
+{
+    put(out, LineWord::Open.text());
+    put_feed(out, feed);
+    put_start(start, out);
+}
+
+fn put_read(k: Place, offset: u32, len: u32, out: &mut Text)
+    requires { array_vec_len out.old ≤ 100 }
+    ensures text { out.new.items ≡ out.old.items ++ (codes "read" ++ blank_field (place_text k) ++ blank_number offset ++ blank_number len) }
+    ensures place { IsPlace k }
+    ensures offset { four_bytes (decimal offset) ≡ Some offset }
+{
+    put_on_cursor(LineWord::Read, k, out);
+    put_four_bytes(out, offset);
+    put_blank_number(out, u64::from(len));
+}
+
+fn put_look(signature: &Signature, out: &mut Text)
+    requires { array_vec_len out.old ≤ 100 }
+    ensures text { out.new.items ≡ out.old.items ++ (codes "look" ++ blank_field (encode_lower signature.now.0)) }
+    ensures signature { hex_signature (encode_lower signature.now.0) ≡ Some signature.now.0 }
+{
+    put(out, LineWord::Look.text());
+    put_signature(out, signature);
+}
+
+fn put_reserve(info: &Info, out: &mut Text)
+    requires { array_vec_len out.old ≤ 100 }
+    ensures text { out.new.items ≡ out.old.items ++ (codes "reserve" ++ info_text info.now) }
+    ensures info { InfoReadsBack info.now }
+{
+    put(out, LineWord::Reserve.text());
+    put_info(out, info);
+}
+
+fn put_fill(r: ReservePlace, out: &mut Text)
+    requires { array_vec_len out.old ≤ 100 }
+    ensures text { out.new.items ≡ out.old.items ++ (codes "fill" ++ blank_field (reserve_place_text r) ++ codes " ") }
+    ensures place { IsReservePlace r }
+{
+    put_on_reservation(LineWord::Fill, r, out);
+    out.push(b' ');
+}
+
+fn put_commit(r: ReservePlace, now: Micros, out: &mut Text)
+    requires { array_vec_len out.old ≤ 100 }
+    ensures text { out.new.items ≡ out.old.items ++ (codes "commit" ++ blank_field (reserve_place_text r) ++ blank_number now) }
+    ensures place { IsReservePlace r }
+    ensures now { instant_of (decimal now) ≡ Some now }
+{
+    put_on_reservation(LineWord::Commit, r, out);
+    put_instant(out, now);
 }
 
 fn put_start(start: &Start, out: &mut Text)
@@ -125,28 +190,42 @@ fn put_on_cursor(word: LineWord, k: Place, out: &mut Text)
     put_place(out, k);
 }
 
-// At least as many bytes as the spelling of the body of an insertion has.
-fn back_len(act: &Act) -> usize
+fn put_on_reservation(word: LineWord, r: ReservePlace, out: &mut Text)
+    requires { array_vec_len out.old ≤ 100 }
+    ensures text { out.new.items ≡ out.old.items ++ (word_text word ++ blank_field (reserve_place_text r)) }
+    ensures len { array_vec_len out.new ≤ array_vec_len out.old + 31 }
+    ensures bound { IsReservePlace r }
+{
+    put(out, word.text());
+    put_reserve_place(out, r);
+}
+
+// The size of the body that an act carries, 0 where it carries none.
+fn carried_size(act: &Act) -> u32
     requires { IsWritable act.now }
-    ensures enough { length (back_text act.now) ≤ result }
-    ensures small { result ≤ 2 * LONGEST_BODY + 1 }
+    ensures size { result ≡ length (carried act.now) }
+    ensures small { result ≤ LONGEST_BODY }
+    ensures room { length (back_text act.now) ≤ 2 * result + 1 }
 {
     match act {
-        Act::Insert { info, .. } => 2 * info.size() as usize + 1,
+        Act::Insert { info, .. } => info.size(),
+        Act::Fill { body, .. } => body.len(),
         _ => 0,
     }
 }
 
 // Each of these appends to a vector that has the room.
 
-fn append_back(act: &Act, out: &mut Vec<u8>)
-    requires act { IsWritable act.now }
+fn append_back(act: &Act, size: u32, out: &mut Vec<u8>)
+    requires size { length (carried act.now) ≡ size }
     requires room { vec_len out.old + length (back_text act.now) ≤ vec_capacity out.old }
     ensures text { out.new.items ≡ out.old.items ++ back_text act.now }
     ensures read_back { BackReadsBack act.now }
 {
-    if let Act::Insert { info, body, .. } = act {
-        append_body(body, info.size(), out);
+    match act {
+        Act::Insert { body, .. } => append_body(body, size, out),
+        Act::Fill { body, .. } => append_body(body, size, out),
+        _ => {}
     }
 }
 
