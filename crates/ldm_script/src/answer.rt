@@ -165,25 +165,25 @@ pub fn write_reply(answer: &Answer, out: &mut Text)
         ),
         Answer::TooBig { need, arena } => put_two(out, b"toobig", *need, *arena),
         Answer::Duplicate { n } => put_one(out, b"duplicate", *n),
-        Answer::TimeEnd => put(out, b"timeend"),
+        Answer::TimeEnd => put_word(out, b"timeend"),
         Answer::Locked { held } => put_one(out, b"locked", *held),
         Answer::Opened { k } => put_one(out, b"opened", u64::from(k.get())),
-        Answer::AllBusy => put(out, b"allbusy"),
-        Answer::NotQueued => put(out, b"notqueued"),
+        Answer::AllBusy => put_word(out, b"allbusy"),
+        Answer::NotQueued => put_word(out, b"notqueued"),
         Answer::Product { n, time, info } => put_product(out, *n, *time, info),
         Answer::Gap { count, first, last } => put_three(out, b"gap", *count, *first, *last),
         Answer::End { at } => put_one(out, b"end", *at),
-        Answer::NoCursor => put(out, b"nocursor"),
+        Answer::NoCursor => put_word(out, b"nocursor"),
         Answer::Holding { n } => put_one(out, b"holding", *n),
         Answer::Bytes { bytes } => put_read(out, bytes),
-        Answer::NotHeld => put(out, b"notheld"),
+        Answer::NotHeld => put_word(out, b"notheld"),
         Answer::BadOffset { size } => put_one(out, b"badoffset", u64::from(*size)),
         Answer::Released { n } => put_one(out, b"released", *n),
-        Answer::Closed => put(out, b"closed"),
+        Answer::Closed => put_word(out, b"closed"),
         Answer::Queued { n, time } => put_two(out, b"queued", *n, time.get()),
-        Answer::Absent => put(out, b"absent"),
+        Answer::Absent => put_word(out, b"absent"),
         Answer::Expired { n } => put_one(out, b"expired", *n),
-        Answer::Nothing => put(out, b"nothing"),
+        Answer::Nothing => put_word(out, b"nothing"),
         Answer::Tally { given, lost, left } => put_three(out, b"tally", *given, *lost, *left),
         Answer::Stat {
             admitted,
@@ -191,19 +191,15 @@ pub fn write_reply(answer: &Answer, out: &mut Text)
             held,
             used,
             largest_free,
-        } => {
-            put_three(out, b"stat", *admitted, *queued, *held);
-            put_blank_number(out, *used);
-            put_blank_number(out, *largest_free);
-        }
+        } => put_stat(out, *admitted, *queued, *held, *used, *largest_free),
         Answer::Reserved { r, evicted } => put_two(out, b"reserved", u64::from(r.get()), *evicted),
-        Answer::AllReserved => put(out, b"allreserved"),
-        Answer::NoReservation => put(out, b"noreservation"),
+        Answer::AllReserved => put_word(out, b"allreserved"),
+        Answer::NoReservation => put_word(out, b"noreservation"),
         Answer::Filled { left } => put_one(out, b"filled", u64::from(*left)),
         Answer::Overfill { left } => put_one(out, b"overfill", u64::from(*left)),
         Answer::Unfilled { left } => put_one(out, b"unfilled", u64::from(*left)),
         Answer::Committed { n, time } => put_two(out, b"committed", *n, time.get()),
-        Answer::Discarded => put(out, b"discarded"),
+        Answer::Discarded => put_word(out, b"discarded"),
     }
 }
 
@@ -217,33 +213,65 @@ pub fn write_answer(answer: &Answer, out: &mut Text)
     out.push(b'\n');
 }
 
-// Each of these appends to what is written already: a word with its numbers, a blank in front of each.
+// The most bytes of the first word of an answer.
+const LONGEST_WORD: usize = 13;
+
+// Each of these writes a word and what follows it into an empty buffer, a blank in front of each field.
+
+fn put_word(out: &mut Text, word: &[u8])
+    requires empty { out.old.items ≡ [] }
+    requires short { length word.now ≤ LONGEST_WORD }
+    ensures text { out.new.items ≡ word.now }
+    ensures room { array_vec_len out.new < LONGEST_ANSWER }
+{
+    put(out, word);
+}
 
 fn put_one(out: &mut Text, word: &[u8], a: u64)
-    requires { array_vec_len out.old + length word.now + 100 ≤ LONGEST_ANSWER }
-    ensures text { out.new.items ≡ out.old.items ++ (word.now ++ blank_number a) }
-    ensures len { array_vec_len out.new ≤ array_vec_len out.old + length word.now + 21 }
+    requires empty { out.old.items ≡ [] }
+    requires short { length word.now ≤ LONGEST_WORD }
+    ensures text { out.new.items ≡ word.now ++ blank_number a }
+    ensures room { array_vec_len out.new < LONGEST_ANSWER }
 {
     put(out, word);
     put_blank_number(out, a);
 }
 
 fn put_two(out: &mut Text, word: &[u8], a: u64, b: u64)
-    requires { array_vec_len out.old + length word.now + 100 ≤ LONGEST_ANSWER }
-    ensures text { out.new.items ≡ out.old.items ++ (word.now ++ blank_number a ++ blank_number b) }
-    ensures len { array_vec_len out.new ≤ array_vec_len out.old + length word.now + 42 }
+    requires empty { out.old.items ≡ [] }
+    requires short { length word.now ≤ LONGEST_WORD }
+    ensures text { out.new.items ≡ word.now ++ blank_number a ++ blank_number b }
+    ensures room { array_vec_len out.new < LONGEST_ANSWER }
 {
-    put_one(out, word, a);
+    put(out, word);
+    put_blank_number(out, a);
     put_blank_number(out, b);
 }
 
 fn put_three(out: &mut Text, word: &[u8], a: u64, b: u64, c: u64)
-    requires { array_vec_len out.old + length word.now + 100 ≤ LONGEST_ANSWER }
-    ensures text { out.new.items ≡ out.old.items ++ (word.now ++ blank_number a ++ blank_number b ++ blank_number c) }
-    ensures len { array_vec_len out.new ≤ array_vec_len out.old + length word.now + 63 }
+    requires empty { out.old.items ≡ [] }
+    requires short { length word.now ≤ LONGEST_WORD }
+    ensures text { out.new.items ≡ word.now ++ blank_number a ++ blank_number b ++ blank_number c }
+    ensures room { array_vec_len out.new < LONGEST_ANSWER }
 {
-    put_two(out, word, a, b);
+    put(out, word);
+    put_blank_number(out, a);
+    put_blank_number(out, b);
     put_blank_number(out, c);
+}
+
+#[tactic(auto, unfolding(crate::specs::Answer::reply_text))]
+fn put_stat(out: &mut Text, admitted: u64, queued: u64, held: u64, used: u64, largest_free: u64)
+    requires { out.old.items ≡ [] }
+    ensures text { out.new.items ≡ reply_text (reply.Stat admitted queued held used largest_free) }
+    ensures room { array_vec_len out.new < LONGEST_ANSWER }
+{
+    put(out, b"stat");
+    put_blank_number(out, admitted);
+    put_blank_number(out, queued);
+    put_blank_number(out, held);
+    put_blank_number(out, used);
+    put_blank_number(out, largest_free);
 }
 
 #[tactic(auto, unfolding(crate::specs::Answer::reply_text))]
@@ -252,7 +280,9 @@ fn put_product(out: &mut Text, n: u64, time: Micros, info: &Info)
     ensures text { out.new.items ≡ reply_text (reply.Product n time info.now) }
     ensures room { array_vec_len out.new < LONGEST_ANSWER }
 {
-    put_two(out, b"product", n, time.get());
+    put(out, b"product");
+    put_blank_number(out, n);
+    put_blank_number(out, time.get());
     put_info(out, info);
 }
 
