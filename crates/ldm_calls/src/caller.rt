@@ -1,14 +1,16 @@
 //! Who makes the calls of a queue.
 ghost use Rattle.std.specs.Prelude.{◌≡◌, ◌≤◌, length, IfOk, OnErr};
 ghost use Rattle.ldm_model.specs.Answers.{insert_answer, look_answer, expire_answer, stat_answer, open_answer, step_answer};
+ghost use Rattle.ldm_model.specs.Answers.{reserve_answer, fill_answer, commit_answer, discard_answer};
 ghost use Rattle.ldm_model.specs.Answers.{read_answer, release_answer, close_answer, tally_answer, asked_bytes, bytes_read};
 ghost use Rattle.ldm_model.specs.declared.event.Event.{Event as Asked};
 ghost use Rattle.ldm_model.specs.declared.event.Event.TheVariants as event;
 ghost use Rattle.ldm_model.specs.declared.event.Reply.{Reply as Answered};
 
 use ldm_model::{
-    CloseReply, ExpireReply, InsertReply, LookReply, OpenReply, ReadReply, ReleaseReply, Start,
-    Stat, StepReply, TallyReply,
+    CloseReply, CommitReply, DiscardReply, ExpireReply, FillReply, InsertReply, LookReply,
+    OpenReply, ReadReply, ReleaseReply, ReserveNo, ReserveReply, Start, Stat, StepReply,
+    TallyReply,
 };
 use ldm_types::{CursorNo, Feed, Info, Micros, Signature};
 
@@ -107,5 +109,34 @@ pub trait Caller {
     fn stat(&self, queue: &mut Self::Queue) -> Result<Stat, Unmade>
         requires may { may_call self.now queue.old }
         ensures done { IfOk result (λ reply. made self.now queue.old event.Stat (stat_answer reply) queue.new) }
+        ensures undone { OnErr result (unmade self.now queue.old queue.new) };
+
+    /// Reserves a region for a product with these metadata.
+    fn reserve(&self, queue: &mut Self::Queue, info: &Info) -> Result<ReserveReply, Unmade>
+        requires may { may_call self.now queue.old }
+        ensures done { IfOk result (λ reply. made self.now queue.old (event.Reserve info.now) (reserve_answer reply) queue.new) }
+        ensures undone { OnErr result (unmade self.now queue.old queue.new) };
+
+    /// Fills bytes into a reserved region.
+    fn fill(&self, queue: &mut Self::Queue, r: ReserveNo, bytes: &[u8]) -> Result<FillReply, Unmade>
+        requires may { may_call self.now queue.old }
+        ensures done { IfOk result (λ reply. made self.now queue.old (event.Fill r bytes.now) (fill_answer reply) queue.new) }
+        ensures undone { OnErr result (unmade self.now queue.old queue.new) };
+
+    /// Admits the product of a reservation at the moment `now`.
+    fn commit(
+        &self,
+        queue: &mut Self::Queue,
+        r: ReserveNo,
+        now: Micros,
+    ) -> Result<CommitReply, Unmade>
+        requires may { may_call self.now queue.old }
+        ensures done { IfOk result (λ reply. made self.now queue.old (event.Commit r now) (commit_answer reply) queue.new) }
+        ensures undone { OnErr result (unmade self.now queue.old queue.new) };
+
+    /// Gives a reservation up.
+    fn discard(&self, queue: &mut Self::Queue, r: ReserveNo) -> Result<DiscardReply, Unmade>
+        requires may { may_call self.now queue.old }
+        ensures done { IfOk result (λ reply. made self.now queue.old (event.Discard r) (discard_answer reply) queue.new) }
         ensures undone { OnErr result (unmade self.now queue.old queue.new) };
 }

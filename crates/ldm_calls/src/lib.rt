@@ -6,7 +6,6 @@
 
 mod caller;
 mod on_book;
-mod possible;
 mod room;
 
 pub use caller::{Caller, Unmade};

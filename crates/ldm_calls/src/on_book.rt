@@ -1,14 +1,13 @@
 //! An actor, which calls a book. The book answers every call.
 
 use crate::caller::{Caller, Unmade};
-use crate::possible::{
-    actor_is_possible, bytes_are_possible, feed_is_possible, info_is_possible, place_is_possible,
-    signature_is_possible, start_is_possible,
-};
 use ldm_book::Book;
 use ldm_model::{
-    CloseReply, ExpireReply, InsertReply, LookReply, OpenReply, ReadReply, ReleaseReply, Start,
-    Stat, StepReply, TallyReply,
+    CloseReply, CommitReply, DiscardReply, ExpireReply, FillReply, InsertReply, LookReply,
+    OpenReply, ReadReply, ReleaseReply, ReserveNo, ReserveReply, Start, Stat, StepReply,
+    TallyReply, actor_is_possible, bytes_are_possible, commit_is_possible, feed_is_possible,
+    fill_is_possible, info_is_possible, place_is_possible, reservation_is_possible,
+    signature_is_possible, start_is_possible,
 };
 use ldm_types::{Actor, CursorNo, Feed, Info, Micros, Signature};
 
@@ -94,5 +93,34 @@ impl Caller for Actor {
     fn stat(&self, queue: &mut Book) -> Result<Stat, Unmade> {
         actor_is_possible(*self);
         Ok(queue.stat(*self))
+    }
+
+    fn reserve(&self, queue: &mut Book, info: &Info) -> Result<ReserveReply, Unmade> {
+        actor_is_possible(*self);
+        info_is_possible(info);
+        Ok(queue.reserve(*self, info))
+    }
+
+    fn fill(&self, queue: &mut Book, r: ReserveNo, bytes: &[u8]) -> Result<FillReply, Unmade> {
+        actor_is_possible(*self);
+        fill_is_possible(r, bytes);
+        Ok(queue.fill(*self, r, bytes))
+    }
+
+    fn commit(
+        &self,
+        queue: &mut Book,
+        r: ReserveNo,
+        now: Micros,
+    ) -> Result<CommitReply, Unmade> {
+        actor_is_possible(*self);
+        commit_is_possible(r, now);
+        Ok(queue.commit(*self, r, now))
+    }
+
+    fn discard(&self, queue: &mut Book, r: ReserveNo) -> Result<DiscardReply, Unmade> {
+        actor_is_possible(*self);
+        reservation_is_possible(r);
+        Ok(queue.discard(*self, r))
     }
 }

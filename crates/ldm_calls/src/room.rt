@@ -10,15 +10,17 @@ ghost use Rattle.ldm_script.specs.declared.line.TheConstants.{LONGEST_READ};
 ghost use Rattle.ldm_calls.specs.Lines.{AnswersLine};
 
 use crate::caller::{Caller, Unmade};
-use ldm_script::{Act, Answer, Call, LONGEST_BODY, LONGEST_READ, Text, body_into, write_answer};
-use ldm_types::{CursorNo, OutOfMemory};
+use ldm_script::{
+    Act, Answer, Call, LONGEST_BODY, LONGEST_READ, LastPlaces, Text, body_into, write_answer,
+};
+use ldm_types::OutOfMemory;
 use std::alloc::Global;
 use std::marker::Model;
 
 // Room for the bytes of the longest read.
 const READ_ROOM: usize = LONGEST_READ as usize;
 
-/// Room for the body of an insertion, for the bytes of a read, and for an answer line. Contracts see the line.
+/// Room for the body of an insertion or a filling, for the bytes of a read, and for an answer line. Contracts see the line.
 #[derive(Drop)]
 pub struct Room {
     body: Vec<u8>,
@@ -49,12 +51,13 @@ impl Room {
     }
 
     /// Does what a line asks for: makes its call, writes the answer line with its newline, and notes in `last` the place that
-    /// the actor was answered `opened`. Where `.` names no place yet, no call is made, and the answer is `nocursor`.
+    /// the actor was answered `opened` or `reserved`. Where `.` names no place yet, no call is made, and the answer is `nocursor`
+    /// or `noreservation`.
     pub fn answer<C: Caller>(
         &mut self,
         caller: &C,
         queue: &mut C::Queue,
-        last: &mut Option<CursorNo>,
+        last: &mut LastPlaces,
         act: &Act,
     ) -> Result<(), Unmade>
         requires may { C.may_call caller.now queue.old }
@@ -64,11 +67,11 @@ impl Room {
         ensures kept { OnErr result (last.new ≡ last.old) }
     {
         let Some(call) = act.call(*last) else {
-            write_answer(&Answer::NoCursor, &mut self.text);
+            write_answer(&act.unresolved(), &mut self.text);
             return Ok(());
         };
         let answer = make(caller, queue, &mut self.body, &mut self.read, &call)?;
-        note_opened(last, &answer);
+        note_place(last, &answer);
         write_answer(&answer, &mut self.text);
         Ok(())
     }
@@ -116,14 +119,23 @@ fn make<'a, C: Caller>(
         Call::Expire => Answer::from(caller.expire(queue)?),
         Call::Tally { k } => Answer::from(caller.tally(queue, *k)?),
         Call::Stat => Answer::from(caller.stat(queue)?),
+        Call::Reserve { info } => Answer::from(caller.reserve(queue, info)?),
+        Call::Fill { r, body } => {
+            let len = body_into(body, body_room);
+            Answer::from(caller.fill(queue, *r, &body_room[..len])?)
+        }
+        Call::Commit { r, now } => Answer::from(caller.commit(queue, *r, *now)?),
+        Call::Discard { r } => Answer::from(caller.discard(queue, *r)?),
     })
 }
 
-// Notes the place, where the answer is `opened`.
-fn note_opened(last: &mut Option<CursorNo>, answer: &Answer)
+// Notes the place, where the answer is `opened` or `reserved`.
+fn note_place(last: &mut LastPlaces, answer: &Answer)
     ensures { last.new ≡ last_after last.old (reply_of answer.now) }
 {
-    if let Answer::Opened { k } = answer {
-        *last = Some(*k);
+    match answer {
+        Answer::Opened { k } => last.opened = Some(*k),
+        Answer::Reserved { r, .. } => last.reserved = Some(*r),
+        _ => {}
     }
 }

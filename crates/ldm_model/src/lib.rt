@@ -12,6 +12,7 @@ mod event;
 mod examples;
 mod laws;
 mod numbers;
+mod possible;
 mod replies;
 mod reserving;
 
@@ -24,6 +25,11 @@ pub use laws::{
     signatures_differ, times_rise,
 };
 pub use numbers::ReserveNo;
+pub use possible::{
+    actor_is_possible, bytes_are_possible, commit_is_possible, feed_is_possible, fill_is_possible,
+    info_is_possible, insert_is_possible, place_is_possible, reservation_is_possible,
+    signature_is_possible, start_is_possible,
+};
 pub use replies::{
     CloseReply, CommitReply, DiscardReply, ExpireReply, FillReply, InsertReply, LookReply,
     OpenReply, ReadReply, ReleaseReply, ReserveReply, Stat, StepReply, TallyReply,

@@ -19,9 +19,14 @@ event_of (call.Look signature) = event.Look signature.now
 event_of call.Expire = event.Expire
 event_of (call.Tally k) = event.Tally k
 event_of call.Stat = event.Stat
+event_of (call.Reserve info) = event.Reserve info.now
+event_of (call.Fill r body) = event.Fill r (bytes_of body.now)
+event_of (call.Commit r now) = event.Commit r now
+event_of (call.Discard r) = event.Discard r
 
 -- The call of an act that can be done as it says.
 abbrev pub IsWholeCall : Call → Type 0
 IsWholeCall (call.Insert now info body) = IsBody body.now × (length (bytes_of body.now) ≡ info.now.size) × (info.now.size ≤ LONGEST_BODY)
 IsWholeCall (call.Read k offset len) = len ≤ LONGEST_READ
+IsWholeCall (call.Fill r body) = IsBody body.now × (length (bytes_of body.now) ≤ LONGEST_BODY)
 IsWholeCall _ = Unit {0}

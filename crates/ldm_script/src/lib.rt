@@ -27,6 +27,6 @@ pub use body::{Body, LONGEST_BODY, body_into};
 pub use call::Call;
 pub use line::{BadLine, LONGEST_LINE, LONGEST_READ, read_line};
 pub use number::read_number;
-pub use order::{Act, Order, Place, ReservePlace};
+pub use order::{Act, LastPlaces, Order, Place, ReservePlace};
 pub use texts::{put, put_number};
 pub use write::write_line;

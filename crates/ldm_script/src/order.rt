@@ -4,6 +4,7 @@ ghost use Rattle.std.specs.Option.{option_map};
 ghost use Rattle.ldm_model.specs.declared.event.Event.{Event};
 ghost use Rattle.ldm_script.specs.Order.{OnCursor, OnReservation};
 ghost use Rattle.ldm_script.specs.Resolve.{resolved};
+ghost use Rattle.ldm_script.specs.declared.order.LastPlaces.{LastPlaces};
 
 use crate::body::Body;
 use ldm_model::{ReserveNo, Start};
@@ -22,7 +23,7 @@ impl Place {
     /// The cursor that is named, where `last` is the place that the actor opened last. `None` exactly where that is named,
     /// and there is none yet.
     pub fn cursor(self, last: Option<CursorNo>) -> Option<CursorNo>
-        ensures { (reserved : Option ℕ) (on_cursor : ℕ → Event) → resolved last reserved (OnCursor self on_cursor) ≡ option_map on_cursor result }
+        ensures { (places : LastPlaces) (on_cursor : ℕ → Event) → places.opened ≡ last → resolved places (OnCursor self on_cursor) ≡ option_map on_cursor result }
     {
         match self {
             Place::At(k) => Some(k),
@@ -44,13 +45,29 @@ impl ReservePlace {
     /// The reservation that is named, where `last` is the place that the actor reserved last. `None` exactly where that is
     /// named, and there is none yet.
     pub fn reservation(self, last: Option<ReserveNo>) -> Option<ReserveNo>
-        ensures { (opened : Option ℕ) (on_reservation : ℕ → Event) → resolved opened last (OnReservation self on_reservation) ≡ option_map on_reservation result }
+        ensures { (places : LastPlaces) (on_reservation : ℕ → Event) → places.reserved ≡ last → resolved places (OnReservation self on_reservation) ≡ option_map on_reservation result }
     {
         match self {
             ReservePlace::At(r) => Some(r),
             ReservePlace::Last => last,
         }
     }
+}
+
+/// What `.` stands for, for one actor: the place that it was last answered `opened`, and the one that it was last answered
+/// `reserved`. `None` before that.
+#[derive(Clone, Copy, Debug, PartialEq, Eq)]
+pub struct LastPlaces {
+    pub opened: Option<CursorNo>,
+    pub reserved: Option<ReserveNo>,
+}
+
+impl LastPlaces {
+    /// No place yet.
+    pub const NONE: LastPlaces = LastPlaces {
+        opened: None,
+        reserved: None,
+    };
 }
 
 /// What a line asks the queue for, and who asks. It borrows the line.

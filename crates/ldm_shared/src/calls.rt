@@ -8,16 +8,13 @@ ghost use Rattle.ldm_shared.specs.Passes.{IsPassOf, IsSamePass, Grows, FindsWorn
 ghost use Rattle.ldm_shared.specs.Turns.{IfDone, IfWorn};
 
 use crate::pass::Pass;
-use crate::possible::{
-    commit_is_possible, feed_is_possible, fill_is_possible, info_is_possible, insert_is_possible,
-    place_is_possible, reservation_is_possible, signature_is_possible, start_is_possible,
-};
 use crate::shared::Shared;
 use crate::turn::Turn;
 use ldm_model::{
     CloseReply, CommitReply, DiscardReply, ExpireReply, FillReply, InsertReply, LookReply,
-    OpenReply, ReadReply, ReleaseReply, ReserveNo, ReserveReply, Start, Stat, StepReply,
-    TallyReply,
+    OpenReply, ReadReply, ReleaseReply, ReserveNo, ReserveReply, Start, Stat, StepReply, TallyReply,
+    commit_is_possible, feed_is_possible, fill_is_possible, info_is_possible, insert_is_possible,
+    place_is_possible, reservation_is_possible, signature_is_possible, start_is_possible,
 };
 use ldm_types::{CursorNo, Feed, Info, Micros, Signature};
 use std::marker::Brand;

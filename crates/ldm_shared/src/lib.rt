@@ -12,7 +12,6 @@ mod laws;
 mod making;
 mod meeting;
 mod pass;
-mod possible;
 mod rule;
 mod shared;
 mod sizes;
