@@ -86,7 +86,7 @@ IsCommitted-longer history more n product time h =
       body = h.body;
     }
 
-IsAdmitted-longer : (history more : List Entry) (n : ℕ) (product : Product) (time : ℕ) → IsAdmitted history n product time → IsAdmitted (history ++ more) n product time
+pub IsAdmitted-longer : (history more : List Entry) (n : ℕ) (product : Product) (time : ℕ) → IsAdmitted history n product time → IsAdmitted (history ++ more) n product time
 IsAdmitted-longer history more n product time h = elim h [
   | inl x ↦ inl (IsInserted-longer history more n product time x)
   | inr x ↦ inr (IsCommitted-longer history more n product time x)

@@ -12,14 +12,15 @@ use Rattle.ldm_model.specs.declared.event.Reply.TheVariants as reply
 use Rattle.ldm_model.specs.declared.event.Entry.{Entry}
 use Rattle.ldm_model.specs.Product.{Product}
 use Rattle.ldm_model.specs.State.{Row, end_of}
-use Rattle.ldm_model.specs.History.{after, IsLegal, IsInserted}
+use Rattle.ldm_model.specs.History.{after, IsLegal, IsAdmitted}
 use Rattle.ldm_model.specs.Law.{Point, opening, history_of, is_step, state_at, row_of, feed_of_row, is_own, is_close, is_due, due, with_given, given, lost, told, after_gap, count_told, with_count}
 use Rattle.ldm_model.specs.Law.{IsPointOf, IsServed, IsAnsweredAt, ObeysLaw}
+use Rattle.ldm_model.proofs.Admitted.{IsAdmitted-longer}
 use Rattle.ldm_model.proofs.Points.{next_point, told-next, count-next}
 use Rattle.ldm_shared.specs.Own.{own}
 use Rattle.ldm_shared.specs.Passes.{PassView, HasSeen}
 use Rattle.ldm_shared.specs.OwnReaders.{OwnPoint, is_about, IsOwnPointOf, numbers_given, losses_told, number_held, with_held, IsSeenAt, IsCalledAt, Agrees, HasLost}
-use Rattle.ldm_shared.specs.OwnReaders.{IsInsertedFor, IsInsertedWith, ReadsOfHeld, AtEveryOwnPoint, over_own}
+use Rattle.ldm_shared.specs.OwnReaders.{IsAdmittedFor, IsAdmittedWith, ReadsOfHeld, AtEveryOwnPoint, over_own}
 use Rattle.ldm_shared.proofs.OwnFolds.{over_own-same, over_own-held, number_of}
 use Rattle.ldm_shared.proofs.OwnPoints.{point_seen, point_called}
 
@@ -33,17 +34,10 @@ agrees pass q p at =
       held = over_own-held p None [] p.since ∙ (λ i. over_own (at.place i) with_held None (same i));
     }
 
--- what is inserted by a front of a history is inserted by the history
-pub inserted_more : (front rest history : List Entry) (n : ℕ) (product : Product) (time : ℕ) → front ++ rest ≡ history → IsInserted front n product time
-    → IsInserted history n product time
-inserted_more front rest history n product time e i = record {
-  front = i.front;
-  actor = i.actor;
-  now = i.now;
-  evicted = i.evicted;
-  behind = i.behind ++ rest;
-  is_entry = sym e ∙ (ap (λ (es : List Entry). es ++ rest) i.is_entry ∙ append_assoc i.front _ rest);
-}
+-- what is admitted by a front of a history is admitted by the history
+pub admitted_more : (front rest history : List Entry) (n : ℕ) (product : Product) (time : ℕ) → front ++ rest ≡ history → IsAdmitted front n product time
+    → IsAdmitted history n product time
+admitted_more front rest history n product time e admitted = subst (λ (es : List Entry). IsAdmitted es n product time) e (IsAdmitted-longer front rest n product time admitted)
 
 row_there : (rows : List Row) (n : ℕ) → n < length rows → (row : Row) × (slice_get rows n ≡ Some row)
 row_there [] n less = absurd (omega arith)
@@ -66,9 +60,9 @@ due_row p n there =
     let meets : feeds_meet p.feed (feed_of_row (row_of p n)) ≡ true = (and_parts (feeds_meet p.feed (feed_of_row (row_of p n))) _ due_n).0 in
     (row.0, row.1, subst (λ (r : Option Row). feeds_meet p.feed (feed_of_row r) ≡ true) row.1 meets)
 
-abbrev pub ProductsInserted : Type 0
-ProductsInserted = (arena slots : ℕ) (history : List Entry) → IsLegal arena slots history → (n : ℕ) (row : Row) → slice_get (after arena slots history).rows n ≡ Some row
-    → IsInserted history n row.product row.time
+abbrev pub ProductsAdmitted : Type 0
+ProductsAdmitted = (arena slots : ℕ) (history : List Entry) → IsLegal arena slots history → (n : ℕ) (row : Row) → slice_get (after arena slots history).rows n ≡ Some row
+    → IsAdmitted history n row.product row.time
 
 abbrev pub FrontsAreLegal : Type 0
 FrontsAreLegal = (arena slots : ℕ) (front behind : List Entry) → IsLegal arena slots (front ++ behind) → IsLegal arena slots front
@@ -84,7 +78,7 @@ in_order law pass has q own_at =
     let seen = point_seen pass q own_at in
     subst IsStrictlyIncreasing (agrees pass q seen.0 seen.1).given (served law pass has q own_at seen.0 seen.1).in_order
 
-pub of_its_feeds : LawOfAll → ProductsInserted → FrontsAreLegal → AtEveryOwnPoint (λ (pass : PassView) (q : OwnPoint). All (IsInsertedFor pass.seen q.feed) (numbers_given q))
+pub of_its_feeds : LawOfAll → ProductsAdmitted → FrontsAreLegal → AtEveryOwnPoint (λ (pass : PassView) (q : OwnPoint). All (IsAdmittedFor pass.seen q.feed) (numbers_given q))
 of_its_feeds law products fronts pass has q own_at =
     let seen = point_seen pass q own_at in
     let p = seen.0 in
@@ -92,15 +86,15 @@ of_its_feeds law products fronts pass has q own_at =
     let is = at.is_point in
     let whole : IsLegal p.arena p.slots (history_of p ++ is.rest) = coe 0 1 (i. IsLegal (sym is.same_arena i) (sym is.same_slots i) (sym is.front i)) has.legal in
     let legal : IsLegal p.arena p.slots (history_of p) = fronts p.arena p.slots (history_of p) is.rest whole in
-    let each : (n : ℕ) → Contains (due p) n → IsInsertedFor pass.seen q.feed n = λ n there.
+    let each : (n : ℕ) → Contains (due p) n → IsAdmittedFor pass.seen q.feed n = λ n there.
     let row = due_row p n there in record {
       product = row.0.product;
       time = row.0.time;
-      inserted = inserted_more (history_of p) is.rest pass.seen n row.0.product row.0.time is.front (products p.arena p.slots (history_of p) legal n row.0 row.1);
+      admitted = admitted_more (history_of p) is.rest pass.seen n row.0.product row.0.time is.front (products p.arena p.slots (history_of p) legal n row.0 row.1);
       meets = subst (λ (f : ℕ). feeds_meet f row.0.product.info.feed ≡ true) at.feed row.2;
     } in
-    subst (All (IsInsertedFor pass.seen q.feed)) (agrees pass q p at).given
-    (All-weaker (Contains (due p)) (IsInsertedFor pass.seen q.feed) each (given p) (served law pass has q own_at p at).only_due)
+    subst (All (IsAdmittedFor pass.seen q.feed)) (agrees pass q p at).given
+    (All-weaker (Contains (due p)) (IsAdmittedFor pass.seen q.feed) each (given p) (served law pass has q own_at p at).only_due)
 
 -- a call of the owner on its cursor
 module _ (pass : PassView) (has : HasSeen pass) (q : OwnPoint) (own_at : IsOwnPointOf pass q)
@@ -126,26 +120,26 @@ module _ (pass : PassView) (has : HasSeen pass) (q : OwnPoint) (own_at : IsOwnPo
   pub answered : LawOfAll → (p : Point) × IsCalledAt pass q entry p × IsAnsweredAt p entry
   answered law = (p, called, answered_there law)
 
-  pub gives_inserted : LawOfAll → (n time : ℕ) (info : Metadata) → entry.reply ≡ reply.Product n time info → IsInsertedWith pass.seen n time info
-  gives_inserted law n time info is_reply =
+  pub gives_admitted : LawOfAll → (n time : ℕ) (info : Metadata) → entry.reply ≡ reply.Product n time info → IsAdmittedWith pass.seen n time info
+  gives_admitted law n time info is_reply =
       let found = (answered_there law).next_given n time info is_reply in
       record {
         product = found.row.product;
-        inserted = inserted_more (history_of p) called.at.is_point.rest pass.seen n found.row.product time called.at.is_point.front
-            (subst (λ (at : ℕ). IsInserted (history_of p) n found.row.product at) (sym found.time_of_row) found.inserted);
+        admitted = admitted_more (history_of p) called.at.is_point.rest pass.seen n found.row.product time called.at.is_point.front
+            (subst (λ (at : ℕ). IsAdmitted (history_of p) n found.row.product at) (sym found.time_of_row) found.admitted);
         info_is = found.info_of_row;
       }
 
-  pub reads_inserted : LawOfAll → (offset len : ℕ) (bytes : List ℕ) → entry.event ≡ Read q.k offset len → entry.reply ≡ reply.Bytes bytes
+  pub reads_admitted : LawOfAll → (offset len : ℕ) (bytes : List ℕ) → entry.event ≡ Read q.k offset len → entry.reply ≡ reply.Bytes bytes
       → ReadsOfHeld pass.seen (number_held q) offset len bytes
-  reads_inserted law offset len bytes is_event is_reply =
+  reads_admitted law offset len bytes is_event is_reply =
       let found = (answered_there law).held_bytes offset len bytes (is_event ∙ ap (λ (k : ℕ). Read k offset len) (sym called.at.place)) is_reply in
       record {
         number = found.hold.number;
         is_held = sym agree.held ∙ ap number_of found.holds;
         product = found.row.product;
         time = found.row.time;
-        inserted = inserted_more (history_of p) called.at.is_point.rest pass.seen found.hold.number found.row.product found.row.time called.at.is_point.front found.inserted;
+        admitted = admitted_more (history_of p) called.at.is_point.rest pass.seen found.hold.number found.row.product found.row.time called.at.is_point.front found.admitted;
         part = found.part;
       }
 

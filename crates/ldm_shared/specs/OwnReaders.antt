@@ -5,7 +5,6 @@
 use Rattle.std.specs.Prelude.{◌≡◌, ℕ, Bool, true, false, ◌&&◌, if◌then◌else◌, List, [], ◌∷◌, ◌++◌, length, All, Option, Some, None}
 use Rattle.std.specs.Option.{option_map}
 use Rattle.ldm_types.specs.Info.{Metadata}
-use Rattle.ldm_types.specs.Cursors.{is_number}
 use Rattle.ldm_types.specs.Feed.{feeds_meet}
 use Rattle.ldm_model.specs.declared.event.Start.{Start}
 use Rattle.ldm_model.specs.declared.event.Event.TheVariants.{OpenCursor}
@@ -14,8 +13,9 @@ use Rattle.ldm_model.specs.declared.event.Reply.TheVariants as reply
 use Rattle.ldm_model.specs.declared.event.Entry.{Entry}
 use Rattle.ldm_model.specs.Product.{Product}
 use Rattle.ldm_model.specs.Read.{part_of}
-use Rattle.ldm_model.specs.History.{IsInserted}
+use Rattle.ldm_model.specs.History.{IsAdmitted}
 use Rattle.ldm_model.specs.Law.{Point, Hold, place_of_event, is_close, with_given, with_count, given, lost, count_told, hold_of, IsPointOf}
+use Rattle.ldm_types.specs.Cursors.{is_number}
 use Rattle.ldm_shared.specs.Own.{own}
 use Rattle.ldm_shared.specs.Passes.{PassView, HasSeen}
 
@@ -92,26 +92,26 @@ pub record HasLost (pass : PassView) (q : OwnPoint) (entry : Entry) (count : ℕ
   pub called : IsCalledAt pass q entry point
   pub counted : count ≡ length (lost point)
 
--- A product was inserted under that number, and it is of some of these feedtypes.
-pub record IsInsertedFor (history : List Entry) (feed n : ℕ) : Type 0 where
+-- A product was admitted under that number, and it is of some of these feedtypes.
+pub record IsAdmittedFor (history : List Entry) (feed n : ℕ) : Type 0 where
   pub product : Product
   pub time : ℕ
-  pub inserted : IsInserted history n product time
+  pub admitted : IsAdmitted history n product time
   pub meets : feeds_meet feed product.info.feed ≡ true
 
--- A product was inserted under that number, at that time, with these metadata.
-pub record IsInsertedWith (history : List Entry) (n time : ℕ) (info : Metadata) : Type 0 where
+-- A product was admitted under that number, at that time, with these metadata.
+pub record IsAdmittedWith (history : List Entry) (n time : ℕ) (info : Metadata) : Type 0 where
   pub product : Product
-  pub inserted : IsInserted history n product time
+  pub admitted : IsAdmitted history n product time
   pub info_is : info ≡ product.info
 
--- The bytes are the part that was asked for of the body that was inserted under the number that is held.
+-- The bytes are the part that was asked for of the body that was admitted under the number that is held.
 pub record ReadsOfHeld (history : List Entry) (held : Option ℕ) (offset len : ℕ) (bytes : List ℕ) : Type 0 where
   pub number : ℕ
   pub is_held : held ≡ Some number
   pub product : Product
   pub time : ℕ
-  pub inserted : IsInserted history number product time
+  pub admitted : IsAdmitted history number product time
   pub part : bytes ≡ part_of product offset len
 
 -- what holds of every pass, at every point of every life of its cursors

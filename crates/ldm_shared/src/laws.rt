@@ -12,11 +12,11 @@ ghost use Rattle.ldm_model.specs.History.{IsLegal};
 ghost use Rattle.ldm_model.specs.Law.{Point, is_step, IsServed, IsAnsweredAt};
 ghost use Rattle.ldm_shared.specs.Own.{own, Adds};
 ghost use Rattle.ldm_shared.specs.Passes.{SharedView, PassView, new_pass, HasSeen, Makes, entry_of, Grows, FindsWorn, HasMet, HasAllOf, IsLast};
-ghost use Rattle.ldm_shared.specs.OwnReaders.{OwnPoint, IsSeenAt, IsCalledAt, Agrees, HasLost, IsInsertedFor, IsInsertedWith, ReadsOfHeld, AtEveryOwnPoint, AtEveryOwnCall};
+ghost use Rattle.ldm_shared.specs.OwnReaders.{OwnPoint, IsSeenAt, IsCalledAt, Agrees, HasLost, IsAdmittedFor, IsAdmittedWith, ReadsOfHeld, AtEveryOwnPoint, AtEveryOwnCall};
 ghost use Rattle.ldm_shared.specs.OwnReaders.{numbers_given, losses_told, number_held};
 
 use ldm_book::fifo;
-use ldm_model::{histories_append, products_were_inserted};
+use ldm_model::{histories_append, products_were_admitted};
 
 /// What a run of calls on a pass comes to: just these entries of its own, in order, whatever other passes did meanwhile.
 ///
@@ -51,16 +51,16 @@ pub fn one_pass()
 /// The law of readers over a pass's own entries: what a caller can conclude of a cursor from its own calls and their answers
 /// alone, whatever other actors did in between.
 ///
-/// It holds of every pass and every cursor that it opened, at every point until it closes it. What was inserted, it may have been
-/// by any actor: by an entry of the history that the pass has seen.
+/// It holds of every pass and every cursor that it opened, at every point until it closes it. What was admitted, any actor may have
+/// inserted or committed: by entries of the history that the pass has seen.
 pub fn own_readers()
-    // The numbers that it was given rise strictly, and under each a product of its feedtypes was inserted.
+    // The numbers that it was given rise strictly, and under each a product of its feedtypes was admitted.
     ensures in_order { AtEveryOwnPoint (λ (pass : PassView) (q : OwnPoint). IsStrictlyIncreasing (numbers_given q)) }
-    ensures of_its_feeds { AtEveryOwnPoint (λ (pass : PassView) (q : OwnPoint). All (IsInsertedFor pass.seen q.feed) (numbers_given q)) }
-    // What it is given was inserted with that time and these metadata, and what it reads is of the body of what it holds.
-    ensures gives_inserted { AtEveryOwnCall (λ (pass : PassView) (q : OwnPoint) (entry : Entry). (n time : ℕ) (info : Metadata) →
-        entry.reply ≡ reply.Product n time info → IsInsertedWith pass.seen n time info) }
-    ensures reads_inserted { AtEveryOwnCall (λ (pass : PassView) (q : OwnPoint) (entry : Entry). (offset len : ℕ) (bytes : List ℕ) →
+    ensures of_its_feeds { AtEveryOwnPoint (λ (pass : PassView) (q : OwnPoint). All (IsAdmittedFor pass.seen q.feed) (numbers_given q)) }
+    // What it is given was admitted with that time and these metadata, and what it reads is of the body of what it holds.
+    ensures gives_admitted { AtEveryOwnCall (λ (pass : PassView) (q : OwnPoint) (entry : Entry). (n time : ℕ) (info : Metadata) →
+        entry.reply ≡ reply.Product n time info → IsAdmittedWith pass.seen n time info) }
+    ensures reads_admitted { AtEveryOwnCall (λ (pass : PassView) (q : OwnPoint) (entry : Entry). (offset len : ℕ) (bytes : List ℕ) →
         entry.event ≡ Read q.k offset len → entry.reply ≡ reply.Bytes bytes → ReadsOfHeld pass.seen (number_held q) offset len bytes) }
     // With each gap it was told just what it had lost by then, and at a product or the end it has been told all.
     ensures gap_tells_all { AtEveryOwnCall (λ (pass : PassView) (q : OwnPoint) (entry : Entry). (count first last : ℕ) →
@@ -81,5 +81,5 @@ pub fn own_readers()
 {
     fifo();
     histories_append();
-    products_were_inserted();
+    products_were_admitted();
 }

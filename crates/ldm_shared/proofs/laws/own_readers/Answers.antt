@@ -1,5 +1,5 @@
 use Rattle.ldm_shared.proofs.OwnPoints.{point_seen}
-use Rattle.ldm_shared.proofs.OwnLaw.{FrontsAreLegal, agrees, served, in_order, of_its_feeds, answered, gives_inserted, reads_inserted, holding, product_after_all, end_after_all, gap_tells_all}
+use Rattle.ldm_shared.proofs.OwnLaw.{FrontsAreLegal, agrees, served, in_order, of_its_feeds, answered, gives_admitted, reads_admitted, holding, product_after_all, end_after_all, gap_tells_all}
 use Rattle.ldm_shared.proofs.laws.own_readers.Goals as goal
 
 pub returns-clause-in_order : goal.returns-clause-in_order
@@ -8,13 +8,13 @@ returns-clause-in_order c = in_order c.fifo.ensures.obeys_law
 pub returns-clause-of_its_feeds : goal.returns-clause-of_its_feeds
 returns-clause-of_its_feeds c =
     let fronts : FrontsAreLegal = λ arena slots front behind legal. ((c.histories_append.ensures.legal arena slots front behind).0 legal).0 in
-    of_its_feeds c.fifo.ensures.obeys_law c.products_were_inserted.ensures fronts
+    of_its_feeds c.fifo.ensures.obeys_law c.products_were_admitted.ensures fronts
 
-pub returns-clause-gives_inserted : goal.returns-clause-gives_inserted
-returns-clause-gives_inserted c = λ pass has q at entry later next about. gives_inserted pass has q at entry later next about c.fifo.ensures.obeys_law
+pub returns-clause-gives_admitted : goal.returns-clause-gives_admitted
+returns-clause-gives_admitted c = λ pass has q at entry later next about. gives_admitted pass has q at entry later next about c.fifo.ensures.obeys_law
 
-pub returns-clause-reads_inserted : goal.returns-clause-reads_inserted
-returns-clause-reads_inserted c = λ pass has q at entry later next about. reads_inserted pass has q at entry later next about c.fifo.ensures.obeys_law
+pub returns-clause-reads_admitted : goal.returns-clause-reads_admitted
+returns-clause-reads_admitted c = λ pass has q at entry later next about. reads_admitted pass has q at entry later next about c.fifo.ensures.obeys_law
 
 pub returns-clause-gap_tells_all : goal.returns-clause-gap_tells_all
 returns-clause-gap_tells_all c = λ pass has q at entry later next about. gap_tells_all pass has q at entry later next about c.fifo.ensures.obeys_law
