@@ -107,12 +107,7 @@ impl Caller for Actor {
         Ok(queue.fill(*self, r, bytes))
     }
 
-    fn commit(
-        &self,
-        queue: &mut Book,
-        r: ReserveNo,
-        now: Micros,
-    ) -> Result<CommitReply, Unmade> {
+    fn commit(&self, queue: &mut Book, r: ReserveNo, now: Micros) -> Result<CommitReply, Unmade> {
         actor_is_possible(*self);
         commit_is_possible(r, now);
         Ok(queue.commit(*self, r, now))

@@ -6,8 +6,8 @@ ghost use Rattle.ldm_script.specs.AnswerView.{reply_of, FitsAnswer};
 ghost use Rattle.ldm_script.specs.Resolve.{resolved, unresolved};
 ghost use Rattle.ldm_script.specs.Calls.{event_of, IsWholeCall};
 
-use crate::body::Body;
 use crate::answer::Answer;
+use crate::body::Body;
 use crate::order::{Act, LastPlaces};
 use ldm_model::{ReserveNo, Start};
 use ldm_types::{CursorNo, Feed, Info, Micros, Signature};
@@ -80,17 +80,25 @@ impl Act<'_> {
                 feed: *feed,
                 start: *start,
             },
-            Act::Step { k } => Call::Step { k: k.cursor(last.opened)? },
+            Act::Step { k } => Call::Step {
+                k: k.cursor(last.opened)?,
+            },
             Act::Read { k, offset, len } => Call::Read {
                 k: k.cursor(last.opened)?,
                 offset: *offset,
                 len: *len,
             },
-            Act::Release { k } => Call::Release { k: k.cursor(last.opened)? },
-            Act::Close { k } => Call::Close { k: k.cursor(last.opened)? },
+            Act::Release { k } => Call::Release {
+                k: k.cursor(last.opened)?,
+            },
+            Act::Close { k } => Call::Close {
+                k: k.cursor(last.opened)?,
+            },
             Act::Look { signature } => Call::Look { signature },
             Act::Expire => Call::Expire,
-            Act::Tally { k } => Call::Tally { k: k.cursor(last.opened)? },
+            Act::Tally { k } => Call::Tally {
+                k: k.cursor(last.opened)?,
+            },
             Act::Stat => Call::Stat,
             Act::Reserve { info } => Call::Reserve { info },
             Act::Fill { r, body } => Call::Fill {
