@@ -1,5 +1,5 @@
 -- How far a worker came, after one line more and at its end.
-use Rattle.std.proofs.Common.{◌≡◌, ℕ, suc, ◌+◌, ◌^◌, ◌<◌, ◌≤◌, List, [], ◌∷◌, ◌++◌, length, take, get_or, append-nil, Option, Some, None, Result, Ok, Err, refl, sym, ap, subst, ◌∙◌, arith}
+use Rattle.std.proofs.Common.{◌≡◌, ℕ, suc, ◌+◌, ◌^◌, ◌<◌, ◌≤◌, List, [], ◌∷◌, ◌++◌, length, take, get_or, append-nil, Result, Ok, Err, refl, sym, ap, subst, ◌∙◌, arith}
 use Rattle.std.proofs.lemmas.List.{take_more, take_all}
 use Rattle.ldm_outside.specs.declared.gate.GateCall.{GateCall}
 use Rattle.ldm_outside.specs.declared.gate.GateCall.TheVariants.{Before}
@@ -11,14 +11,15 @@ use Rattle.ldm_model.specs.declared.event.Event.TheVariants as event
 use Rattle.ldm_model.specs.declared.event.Reply.{Reply}
 use Rattle.ldm_model.specs.declared.event.Entry.{Entry}
 use Rattle.ldm_script.specs.Order.{Asked, Plain}
-use Rattle.ldm_script.specs.Resolve.{resolved}
+use Rattle.ldm_script.specs.declared.order.LastPlaces.{LastPlaces}
+use Rattle.ldm_script.specs.Resolve.{no_places, resolved, unresolved, last_after}
 use Rattle.ldm_shared.specs.Own.{own}
 use Rattle.ldm_shared.specs.Passes.{PassView, IsSamePass}
 use Rattle.ldm_crowd.specs.declared.outcome.CrowdEnd.{CrowdEnd}
 use Rattle.ldm_crowd.specs.declared.outcome.CrowdEnd.TheVariants as crowd_end
 use Rattle.ldm_crowd.specs.declared.player.Player.{Player}
 use Rattle.ldm_crowd.specs.Calls.{GrowsBy}
-use Rattle.ldm_crowd.specs.Lines.{AreEntriesOf, last_after, last_of}
+use Rattle.ldm_crowd.specs.Lines.{AreEntriesOf, last_of}
 use Rattle.ldm_crowd.specs.Interleaving.{IsFront, actor_text, crowd_line}
 use Rattle.ldm_crowd.specs.Parts.{Part, Played, PlayedAll, passing, passings, passings_and_one}
 use Rattle.ldm_crowd.specs.Players.{HasPlayed, PlayerEnds, PlaysLine, LineFails, part_seen}
@@ -29,44 +30,44 @@ own-same : (old new : PassView) → IsSamePass old new → own new.actor new.see
 own-same old new same = ap (λ (p : PassView). own p.actor new.seen) same
 
 -- nothing was played yet
-pub played_none : (lines : List Asked) (pass : PassView) (last : Option ℕ) (answers : List ℕ) → pass.seen ≡ [] → last ≡ None → answers ≡ [] → HasPlayed lines 0 pass last answers
+pub played_none : (lines : List Asked) (pass : PassView) (last : LastPlaces) (answers : List ℕ) → pass.seen ≡ [] → last ≡ no_places → answers ≡ [] → HasPlayed lines 0 pass last answers
 played_none lines pass last answers unseen unopened unanswered =
     let none : own pass.actor pass.seen ≡ [] = ap (own pass.actor) unseen in
     record { within = omega arith; made = none; last_is = unopened; answered = unanswered }
 
 module _ (lines : List Asked) (count : ℕ) (less : count < length lines) (asked : Asked) (is : asked ≡ get_or lines count (Plain event.Stat))
-    (old new : PassView) (last : Option ℕ) (text : List ℕ) (played : HasPlayed lines count old last text) (same : IsSamePass old new) where
+    (old new : PassView) (last : LastPlaces) (text : List ℕ) (played : HasPlayed lines count old last text) (same : IsSamePass old new) where
   more : take (count + 1) lines ≡ take count lines ++ asked ∷ []
   more = take_more lines count (Plain event.Stat) less ∙ ap (λ (a : Asked). take count lines ++ a ∷ []) (sym is)
 
   -- the call of the line was made
-  module _ (reply : Reply) (grows : GrowsBy (resolved last asked) reply old new) where
-    whole : own new.actor new.seen ≡ own old.actor old.seen ++ made_at asked old.actor reply (last_of None (take count lines) (own old.actor old.seen))
+  module _ (reply : Reply) (grows : GrowsBy (unresolved asked) (resolved last asked) reply old new) where
+    whole : own new.actor new.seen ≡ own old.actor old.seen ++ made_at asked old.actor reply (last_of no_places (take count lines) (own old.actor old.seen))
     whole =
-        own-same old new same ∙ own-grows (resolved last asked) reply old new grows
-        ∙ ap (λ (l : Option ℕ). own old.actor old.seen ++ made_for old.actor (resolved l asked) reply) played.last_is
+        own-same old new same ∙ own-grows (unresolved asked) (resolved last asked) reply old new grows
+        ∙ ap (λ (l : LastPlaces). own old.actor old.seen ++ made_for old.actor (resolved l asked) reply) played.last_is
 
-    reply-is : said (resolved (last_of None (take count lines) (own old.actor old.seen)) asked) reply ≡ reply
-    reply-is = ap (λ (l : Option ℕ). said (resolved l asked) reply) (sym played.last_is) ∙ said-is (resolved last asked) reply old new grows
+    reply-is : said (unresolved asked) (resolved (last_of no_places (take count lines) (own old.actor old.seen)) asked) reply ≡ reply
+    reply-is = ap (λ (l : LastPlaces). said (unresolved asked) (resolved l asked) reply) (sym played.last_is) ∙ said-is (unresolved asked) (resolved last asked) reply old new grows
 
     -- the entries are those of one line more
-    pub made_more : AreEntriesOf None (take (count + 1) lines) (own new.actor new.seen)
+    pub made_more : AreEntriesOf no_places (take (count + 1) lines) (own new.actor new.seen)
     made_more =
-        subst (λ (ls : List Asked). AreEntriesOf None ls (own new.actor new.seen)) (sym more)
-        (subst (λ (es : List Entry). AreEntriesOf None (take count lines ++ asked ∷ []) es) (sym whole)
-        (entries-more asked old.actor reply None (take count lines) (own old.actor old.seen) played.made))
+        subst (λ (ls : List Asked). AreEntriesOf no_places ls (own new.actor new.seen)) (sym more)
+        (subst (λ (es : List Entry). AreEntriesOf no_places (take count lines ++ asked ∷ []) es) (sym whole)
+        (entries-more asked old.actor reply no_places (take count lines) (own old.actor old.seen) played.made))
 
     -- one line more was played
-    pub played_more : (new_last : Option ℕ) (new_text : List ℕ) → new_last ≡ last_after last reply → new_text ≡ text ++ crowd_line old.actor reply → HasPlayed lines (count + 1) new new_last new_text
+    pub played_more : (new_last : LastPlaces) (new_text : List ℕ) → new_last ≡ last_after last reply → new_text ≡ text ++ crowd_line old.actor reply → HasPlayed lines (count + 1) new new_last new_text
     played_more new_last new_text noted written = record {
       within = omega arith;
       made = made_more;
       last_is =
-          noted ∙ ap (λ (l : Option ℕ). last_after l reply) played.last_is
-          ∙ ap (last_after (last_of None (take count lines) (own old.actor old.seen))) (sym reply-is)
-          ∙ sym (last-more asked old.actor reply None (take count lines) (own old.actor old.seen) played.made)
-          ∙ ap (λ (es : List Entry). last_of None (take count lines ++ asked ∷ []) es) (sym whole)
-          ∙ ap (λ (ls : List Asked). last_of None ls (own new.actor new.seen)) (sym more);
+          noted ∙ ap (λ (l : LastPlaces). last_after l reply) played.last_is
+          ∙ ap (last_after (last_of no_places (take count lines) (own old.actor old.seen))) (sym reply-is)
+          ∙ sym (last-more asked old.actor reply no_places (take count lines) (own old.actor old.seen) played.made)
+          ∙ ap (λ (es : List Entry). last_of no_places (take count lines ++ asked ∷ []) es) (sym whole)
+          ∙ ap (λ (ls : List Asked). last_of no_places ls (own new.actor new.seen)) (sym more);
       answered =
           written ∙ ap (λ (t : List ℕ). t ++ crowd_line old.actor reply) played.answered
           ∙ ap (λ (r : Reply). actor_text old.actor (take count lines) (own old.actor old.seen) ++ crowd_line old.actor r) (sym reply-is)
@@ -91,11 +92,11 @@ asked_on actor by count first mid new is before now =
     (HasCalls-then first mid new (passings actor count) (passing actor count) before (subst (λ (a : ℕ). HasCalls (passing a count) mid new) is now))
 
 -- the lines that were played, of a pass with the same entries
-module _ (lines : List Asked) (count : ℕ) (old new : PassView) (last : Option ℕ) (text new_text : List ℕ) (first now : GateRecord)
+module _ (lines : List Asked) (count : ℕ) (old new : PassView) (last : LastPlaces) (text new_text : List ℕ) (first now : GateRecord)
     (played : HasPlayed lines count old last text) (actor_is : new.actor ≡ old.actor) (own_is : own new.actor new.seen ≡ own old.actor old.seen) (same_text : new_text ≡ text) where
   pub stays : (calls : ℕ → List GateCall) → HasCalls (calls count) first now → Played calls new.actor lines (part_seen new new_text first now)
   stays calls asked = record {
-    front = record { count = count; within = played.within; made = subst (AreEntriesOf None (take count lines)) (sym own_is) played.made };
+    front = record { count = count; within = played.within; made = subst (AreEntriesOf no_places (take count lines)) (sym own_is) played.made };
     answered =
         same_text ∙ played.answered ∙ ap (λ (es : List Entry). actor_text old.actor (take count lines) es) (sym own_is)
         ∙ ap (λ (a : ℕ). actor_text a (take count lines) (own new.actor new.seen)) (sym actor_is);
@@ -140,13 +141,13 @@ fails_on tells lines count first old_pass old new_pass new kept played asked sam
     (subst (λ (cs : List GateCall). HasCalls cs first (tells new.gate)) (append-nil (passings new_pass.actor count)) calls)
 
 -- all lines were played
-pub played_all : (lines : List Asked) (count : ℕ) → length lines ≤ count → (pass : PassView) (last : Option ℕ) (text : List ℕ) (old new : GateRecord) → HasPlayed lines count pass last text
+pub played_all : (lines : List Asked) (count : ℕ) → length lines ≤ count → (pass : PassView) (last : LastPlaces) (text : List ℕ) (old new : GateRecord) → HasPlayed lines count pass last text
     → HasCalls (passings pass.actor count) old new → PlayerEnds crowd_end.Done lines pass text old new
 played_all lines count all pass last text old new played asked =
     let whole : take count lines ≡ lines = take_all count lines all in
     let is : count ≡ length lines = let within = played.within in omega arith in
     record {
-      made = subst (λ (ls : List Asked). AreEntriesOf None ls (own pass.actor pass.seen)) whole played.made;
+      made = subst (λ (ls : List Asked). AreEntriesOf no_places ls (own pass.actor pass.seen)) whole played.made;
       answered = played.answered ∙ ap (λ (ls : List Asked). actor_text pass.actor ls (own pass.actor pass.seen)) whole;
       asked = subst (λ (n : ℕ). HasCalls (passings pass.actor n) old new) is asked;
     }

@@ -9,6 +9,7 @@ use Rattle.ldm_outside.specs.Gate.{GateRecord, HasCalls}
 use Rattle.ldm_outside.proofs.GateLemmas.{HasCalls-none}
 use Rattle.ldm_model.specs.declared.event.Entry.{Entry}
 use Rattle.ldm_script.specs.Order.{Asked}
+use Rattle.ldm_script.specs.Resolve.{no_places}
 use Rattle.ldm_model.specs.History.{IsLegal}
 use Rattle.ldm_shared.specs.Own.{own, AreBelow}
 use Rattle.ldm_shared.specs.Passes.{SharedView, PassView, IsLast, HasAllOf, new_pass}
@@ -79,7 +80,7 @@ end_came : (end : CrowdEnd) (lines : List Asked) (pass : PassView) (text : List 
 end_came crowd_end.Done lines pass text old new ends =
     let whole : take (length lines) lines ≡ lines = take_all (length lines) lines (omega arith) in
     inl (record {
-      front = record { count = length lines; within = omega arith; made = subst (λ (ls : List Asked). AreEntriesOf None ls (own pass.actor pass.seen)) (sym whole) ends.made };
+      front = record { count = length lines; within = omega arith; made = subst (λ (ls : List Asked). AreEntriesOf no_places ls (own pass.actor pass.seen)) (sym whole) ends.made };
       answered = ends.answered ∙ ap (λ (ls : List Asked). actor_text pass.actor ls (own pass.actor pass.seen)) (sym whole);
       asked = ends.asked;
     })
@@ -160,7 +161,7 @@ module _ {G : Type 0} (tells : G → GateRecord) (shared : SharedView) (script :
   has_come = record { below = below; each = came_at }
 
   done_at : first_end (map end_of news) ≡ crowd_end.Done → (i : ℕ) → i < length script
-      → AreEntriesOf None (lines_of_actor script i) (own i last.seen)
+      → AreEntriesOf no_places (lines_of_actor script i) (own i last.seen)
       × ((e : List ℕ) → get_or (map (λ text. text.items) answers) i e ≡ actor_text i (lines_of_actor script i) (own i last.seen))
       × HasCalls (passings i (length (lines_of_actor script i))) (gate_of (map tells old_gates) i) (gate_of (map tells new_gates) i)
   done_at done i less =
@@ -174,7 +175,7 @@ module _ {G : Type 0} (tells : G → GateRecord) (shared : SharedView) (script :
       let is : new.player.end ≡ crowd_end.Done =
       sym (get_or-map end_of news i d crowd_end.Done there) ∙ all_from (map end_of news) done i crowd_end.Done (omega (arith, length-map news end_of)) in
       let ends = subst (λ (e : CrowdEnd). PlayerEnds e lines did.pass new.player.answers.items (tells old.player.gate) (tells new.player.gate)) is did.works.ended in (
-        subst (AreEntriesOf None lines) (sym (own_is i d inside)) ends.made,
+        subst (AreEntriesOf no_places lines) (sym (own_is i d inside)) ends.made,
         λ e.
             text_at news answers answers_are i d e there ∙ ends.answered
             ∙ ap (λ (a : ℕ). actor_text a lines (own did.pass.actor did.pass.seen)) (actor_is i d inside)

@@ -19,7 +19,7 @@ pub record Outcome : Type 0 where
 
 -- what the gate of an actor tells
 abbrev pub gate_of : List GateRecord → ℕ → GateRecord
-gate_of gates actor = slice_index_or gates actor (record { stops = 0; calls = None })
+gate_of gates actor = slice_index_or gates actor (record { stops = 0; idles = None; calls = None })
 
 -- what is seen of an actor
 abbrev pub part_of : Outcome → ℕ → Part

@@ -1,10 +1,11 @@
 -- How far an actor comes with its lines, and what its gate is asked and told.
-use Rattle.std.specs.Prelude.{◌≡◌, ◌⊎◌, ℕ, zero, suc, List, [], ◌∷◌, ◌++◌, length, take, None}
+use Rattle.std.specs.Prelude.{◌≡◌, ◌⊎◌, ℕ, zero, suc, List, [], ◌∷◌, ◌++◌, length, take}
 use Rattle.ldm_outside.specs.declared.gate.GateCall.{GateCall}
 use Rattle.ldm_outside.specs.declared.gate.GateCall.TheVariants.{Before, After}
 use Rattle.ldm_outside.specs.Gate.{GateRecord, HasCalls}
 use Rattle.ldm_model.specs.declared.event.Entry.{Entry}
 use Rattle.ldm_script.specs.Order.{Asked}
+use Rattle.ldm_script.specs.Resolve.{no_places}
 use Rattle.ldm_crowd.specs.Lines.{AreEntriesOf}
 use Rattle.ldm_crowd.specs.Interleaving.{IsFront, actor_text}
 
@@ -44,6 +45,6 @@ Came actor lines part = Played (passings actor) actor lines part ⊎ Played (pas
 
 -- an actor played all its lines
 pub record PlayedAll (actor : ℕ) (lines : List Asked) (part : Part) : Type 0 where
-  pub made : AreEntriesOf None lines part.entries
+  pub made : AreEntriesOf no_places lines part.entries
   pub answered : part.text ≡ actor_text actor lines part.entries
   pub asked : HasCalls (passings actor (length lines)) part.gate_before part.gate

@@ -1,11 +1,12 @@
 -- How far a player came with the lines of its actor.
-use Rattle.std.specs.Prelude.{◌≡◌, ℕ, ◌^◌, ◌<◌, ◌≤◌, List, [], ◌∷◌, ◌++◌, length, take, Option, None, Result, Ok, Err}
+use Rattle.std.specs.Prelude.{◌≡◌, ℕ, ◌^◌, ◌<◌, ◌≤◌, List, [], ◌∷◌, ◌++◌, length, take, Result, Ok, Err}
 use Rattle.ldm_outside.specs.Count.{Rose}
 use Rattle.ldm_outside.specs.declared.gate.GateCall.TheVariants.{Before}
 use Rattle.ldm_outside.specs.Gate.{GateRecord, HasCalls}
 use Rattle.ldm_model.specs.declared.event.Reply.{Reply}
 use Rattle.ldm_script.specs.Order.{Asked}
-use Rattle.ldm_script.specs.Resolve.{resolved}
+use Rattle.ldm_script.specs.declared.order.LastPlaces.{LastPlaces}
+use Rattle.ldm_script.specs.Resolve.{no_places, resolved, unresolved, last_after}
 use Rattle.ldm_shared.specs.Own.{own}
 use Rattle.ldm_shared.specs.Passes.{PassView, FindsWorn}
 use Rattle.ldm_crowd.specs.declared.outcome.CrowdEnd.{CrowdEnd}
@@ -13,15 +14,16 @@ use Rattle.ldm_crowd.specs.declared.outcome.CrowdEnd.TheVariants as crowd_end
 use Rattle.ldm_crowd.specs.declared.player.Player.{Player}
 use Rattle.ldm_crowd.specs.declared.player.Worker.{Worker}
 use Rattle.ldm_crowd.specs.Calls.{GrowsBy}
-use Rattle.ldm_crowd.specs.Lines.{AreEntriesOf, last_after, last_of}
+use Rattle.ldm_crowd.specs.Lines.{AreEntriesOf, last_of}
 use Rattle.ldm_crowd.specs.Interleaving.{actor_text, crowd_line, lines_of_actor}
 use Rattle.ldm_crowd.specs.Parts.{Part, Played, PlayedAll, passing, passings, passings_and_one}
 
--- the first lines were played: the pass has their entries, the answers are those to them, and the place that was opened last is known
-pub record HasPlayed (lines : List Asked) (count : ℕ) (pass : PassView) (last : Option ℕ) (answers : List ℕ) : Type 0 where
+-- the first lines were played: the pass has their entries, the answers are those to them, and the places that were opened and reserved last are
+-- known
+pub record HasPlayed (lines : List Asked) (count : ℕ) (pass : PassView) (last : LastPlaces) (answers : List ℕ) : Type 0 where
   pub within : count ≤ length lines
-  pub made : AreEntriesOf None (take count lines) (own pass.actor pass.seen)
-  pub last_is : last ≡ last_of None (take count lines) (own pass.actor pass.seen)
+  pub made : AreEntriesOf no_places (take count lines) (own pass.actor pass.seen)
+  pub last_is : last ≡ last_of no_places (take count lines) (own pass.actor pass.seen)
   pub answered : answers ≡ actor_text pass.actor (take count lines) (own pass.actor pass.seen)
 
 -- what is seen of the actor of a pass
@@ -46,11 +48,11 @@ abbrev pub end_of_result : Result (Unit {0}) CrowdEnd → CrowdEnd
 end_of_result (Ok _) = crowd_end.Done
 end_of_result (Err end) = end
 
--- A line was played: its call was made, where it has one; the place is noted that this opened, the answer is written, and the gate was
+-- A line was played: its call was made, where it has one; the place is noted that this opened or reserved, the answer is written, and the gate was
 -- asked before and told after.
 pub record PlaysLine {G : Type 0} (tells : G → GateRecord) (i : ℕ) (asked : Asked) (old_pass : PassView) (old : Player G) (new_pass : PassView) (new : Player G) : Type 0 where
   pub reply : Reply
-  pub grows : GrowsBy (resolved old.last asked) reply old_pass new_pass
+  pub grows : GrowsBy (unresolved asked) (resolved old.last asked) reply old_pass new_pass
   pub last_is : new.last ≡ last_after old.last reply
   pub answered : new.answers.items ≡ old.answers.items ++ crowd_line old_pass.actor reply
   pub passed : HasCalls (passing old_pass.actor i) (tells old.gate) (tells new.gate)
@@ -71,7 +73,7 @@ LineFails tells crowd_end.OutOfMemory i old_pass old new_pass new = (new_pass �
 pub record Begins {G : Type 0} (script : List (List Asked)) (pass : PassView) (player : Player G) : Type 0 where
   pub unseen : pass.seen ≡ []
   pub actor : pass.actor < length script
-  pub unopened : player.last ≡ None
+  pub unopened : player.last ≡ no_places
   pub unanswered : player.answers.items ≡ []
 
 -- a player played, up to its end
@@ -81,4 +83,4 @@ pub record Plays {G : Type 0} (tells : G → GateRecord) (script : List (List As
 
 -- a player that was answered nothing yet
 abbrev pub IsNew : {G : Type 0} → Worker G → Type 0
-IsNew worker = (worker.player.last ≡ None) × (worker.player.answers.items ≡ [])
+IsNew worker = (worker.player.last ≡ no_places) × (worker.player.answers.items ≡ [])

@@ -6,12 +6,11 @@
 #![tactic(auto)]
 
 mod actor_lines;
-mod calls;
 mod orders;
 mod outcome;
 mod player;
-mod room;
 mod run;
+mod turns;
 
 pub use orders::{MOST_SCRIPT, Orders, OrdersFault};
 pub use outcome::{Crowd, CrowdEnd};

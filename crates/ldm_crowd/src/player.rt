@@ -1,25 +1,27 @@
 //! A player, which plays the lines of one actor.
-ghost use Rattle.std.specs.Prelude.{◌≡◌, ◌+◌, ◌<◌, ◌≤◌, ◌∷◌, ◌++◌, [], length, None, IfOk, IfErr, OnOk, OnErr};
+ghost use Rattle.std.specs.Prelude.{◌≡◌, ◌+◌, ◌<◌, ◌≤◌, ◌∷◌, ◌++◌, [], length, IfOk, IfErr, OnOk, OnErr};
 ghost use Rattle.std.specs.Vec.{vec_len, vec_capacity};
-ghost use Rattle.ldm_script.specs.AnswerView.{reply_of, FitsAnswer};
+ghost use Rattle.ldm_model.specs.declared.event.Reply.{Reply};
+ghost use Rattle.ldm_script.specs.Answer.{answer_line};
 ghost use Rattle.ldm_script.specs.OrderView.{asked_of, IsWhole};
+ghost use Rattle.ldm_script.specs.Resolve.{no_places};
 ghost use Rattle.ldm_shared.specs.Passes.{IsPassOf, IsSamePass};
 ghost use Rattle.ldm_crowd.specs.Interleaving.{crowd_line};
 ghost use Rattle.ldm_crowd.specs.OrdersView.{asked_lines, script_in};
-ghost use Rattle.ldm_crowd.specs.Lines.{last_after};
 ghost use Rattle.ldm_crowd.specs.Players.{Begins, LineFails, PlaysLine, Plays, PlayerEnds, end_of_result};
+ghost use Rattle.ldm_script.specs.declared.answer.TheConstants.{LONGEST_ANSWER};
 ghost use Rattle.ldm_crowd.specs.declared.player.TheConstants.{ANSWER_ROOM};
 
 use crate::actor_lines::ActorLines;
-use crate::calls::call;
 use crate::orders::Orders;
 use crate::outcome::CrowdEnd;
-use crate::room::Room;
+use crate::turns::Turns;
 use itoa::Buffer;
+use ldm_calls::Room;
 use ldm_outside::{Gate, Go};
-use ldm_script::{Act, Answer, LONGEST_ANSWER, Text, write_answer};
-use ldm_shared::{Pass, Shared, Turn};
-use ldm_types::{Actor, CursorNo, OutOfMemory};
+use ldm_script::{Act, LONGEST_ANSWER, LastPlaces};
+use ldm_shared::{Pass, Shared};
+use ldm_types::Actor;
 use ldm_workers::Work;
 use std::alloc::Global;
 use std::sync::Wait;
@@ -27,10 +29,10 @@ use std::sync::Wait;
 // Room for the number of an actor, a blank, and the longest answer line.
 pub(crate) const ANSWER_ROOM: usize = LONGEST_ANSWER + 41;
 
-/// A player: its gate, the place that its actor opened last, and what was answered to its lines so far.
+/// A player: its gate, what `.` stands for, and what was answered to its lines so far.
 pub(crate) struct Player<G> {
     pub(crate) gate: G,
-    pub(crate) last: Option<CursorNo>,
+    pub(crate) last: LastPlaces,
     pub(crate) answers: Vec<u8>,
     /// How it ended.
     pub(crate) end: CrowdEnd,
@@ -96,7 +98,7 @@ impl<G: Gate> Player<G> {
     ) -> Result<(), CrowdEnd>
         requires of { IsPassOf shared.now pass.old }
         requires unseen { pass.old.seen ≡ [] }
-        requires unopened { self.old.last ≡ None }
+        requires unopened { self.old.last ≡ no_places }
         requires unanswered { self.old.answers.items ≡ [] }
         ensures same { IsSamePass pass.old pass.new }
         ensures ended { PlayerEnds (end_of_result result) (asked_lines lines.now) pass.new self.new.answers.items (G.tells self.old.gate) (G.tells self.new.gate) }
@@ -136,47 +138,26 @@ impl<G: Gate> Player<G> {
             Go::On => {}
             Go::Stop => return Err(CrowdEnd::Stopped),
         }
-        let turn = call(
-            rt,
-            shared,
-            pass,
-            &mut room.body,
-            &mut room.read,
-            self.last,
-            act,
-        );
-        let answer = match turn {
-            Turn::Done(answer) => answer,
-            Turn::Worn { .. } => return Err(CrowdEnd::Worn),
+        let turns = Turns { rt, shared };
+        let Ok(()) = room.answer(&turns, pass, &mut self.last, act) else {
+            return Err(CrowdEnd::Worn);
         };
-        self.last = opened_last(self.last, &answer);
-        append_answer(&mut self.answers, actor, &answer, &mut room.text);
+        append_answer(&mut self.answers, actor, room.text());
         self.gate.after(actor, i);
         Ok(())
     }
 }
 
-// The place that is opened last, after an answer.
-fn opened_last(last: Option<CursorNo>, answer: &Answer) -> Option<CursorNo>
-    ensures { result ≡ last_after last (reply_of answer.now) }
-{
-    match answer {
-        Answer::Opened { k } => Some(*k),
-        _ => last,
-    }
-}
-
 // Appends the actor, a blank, and an answer line with its newline. There is room for them.
-fn append_answer(answers: &mut Vec<u8>, actor: Actor, answer: &Answer, text: &mut Text)
-    requires fits { FitsAnswer answer.now }
+fn append_answer(answers: &mut Vec<u8>, actor: Actor, line: &[u8])
+    requires short { length line.now ≤ LONGEST_ANSWER }
     requires room { vec_len answers.old + ANSWER_ROOM ≤ vec_capacity answers.old }
-    ensures { answers.new.items ≡ answers.old.items ++ crowd_line actor (reply_of answer.now) }
+    ensures { (reply : Reply) → line.now ≡ answer_line reply → answers.new.items ≡ answers.old.items ++ crowd_line actor reply }
 {
-    write_answer(answer, text);
     let mut digits = Buffer::new();
     append(answers, digits.format(actor.get()).as_bytes());
     answers.push_reserved(b' ');
-    append(answers, text.as_slice());
+    append(answers, line);
 }
 
 // Appends bytes, for which there is room.

@@ -14,9 +14,10 @@ ghost use Rattle.ldm_crowd.specs.Ends.{first_end};
 use crate::orders::Orders;
 use crate::outcome::{Crowd, CrowdEnd};
 use crate::player::{Player, Playing, Worker};
-use crate::room::Room;
 use ldm_book::fifo;
+use ldm_calls::Room;
 use ldm_outside::Gate;
+use ldm_script::LastPlaces;
 use ldm_shared::{Pass, Shared};
 use ldm_types::OutOfMemory;
 use ldm_workers::{Left, run_workers};
@@ -136,7 +137,7 @@ fn equip<G>(alloc: Global, gates: &mut Vec<G>, rooms: &mut Vec<Room>, workers: &
         };
         let player = Player {
             gate,
-            last: None,
+            last: LastPlaces::NONE,
             answers: Vec::new(alloc),
             end: CrowdEnd::Done,
         };
