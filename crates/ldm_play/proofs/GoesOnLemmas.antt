@@ -1,6 +1,6 @@
 -- A script that is played piece by piece: for `GoesOn`.
-use Rattle.std.proofs.Common.{◌≡◌, ℕ, ◌+◌, ◌<◌, ◌≤◌, Bool, true, false, cond, eqb, List, [], ◌∷◌, ◌++◌, length, None, refl, sym, ap, subst, ◌∙◌, append_assoc, arith, length-append}
-use Rattle.std.proofs.lemmas.Bool.{le-ltb, lt-ltb, true≢false}
+use Rattle.std.proofs.Common.{◌≡◌, ℕ, ◌+◌, ◌<◌, ◌≤◌, Bool, true, false, cond, eqb, List, [], ◌∷◌, ◌++◌, length, None, Ok, refl, sym, ap, subst, ◌∙◌, append_assoc, arith, length-append}
+use Rattle.std.proofs.lemmas.Bool.{eqb-true, le-ltb, lt-ltb, true≢false}
 use Rattle.std.proofs.lemmas.List.{append-nil}
 use Rattle.ldm_outside.specs.Io.{SinkRecord, Takes, WritesFront}
 use Rattle.ldm_outside.proofs.CallerLemmas.{Rose-later, Takes-nothing, Takes-same, Takes-then, WritesFront-behind}
@@ -14,11 +14,12 @@ use Rattle.ldm_play.specs.Play.{Played, play_line, play}
 use Rattle.ldm_play.specs.PlayerView.{PlayerView, StandsForPlay}
 use Rattle.ldm_play.specs.PendingView.{PendingView, fresh_line}
 use Rattle.ldm_play.specs.Ending.{AnswersKnownLines, StopsAt}
-use Rattle.ldm_play.specs.Step.{GoesOn, LineStops}
+use Rattle.ldm_play.specs.Legal.{StaysLegal}
+use Rattle.ldm_play.specs.Step.{GoesOn, LineStops, EndGives}
 use Rattle.ldm_script.proofs.SplitLemmas.{Lacks}
 use Rattle.ldm_play.proofs.PlayLineLemmas.{read_line-long, stops_at}
 use Rattle.ldm_script.proofs.CutLemmas.{cut-line, cut-within}
-use Rattle.ldm_play.proofs.PlayLemmas.{play-line_more, play-stop, play-line_on, stopped_text}
+use Rattle.ldm_play.proofs.PlayLemmas.{play-line_more, play-stop, play-line_on, stopped_text, stopped_playing}
 
 -- the lines that are known where what is unfinished is not too long yet
 pub known_lines-short : (script : List ℕ) → length (cut script).unfinished ≤ LONGEST_LINE → known_lines false script ≡ whole_lines script
@@ -30,6 +31,7 @@ pub GoesOn-nothing : (p : Playing) (player : PlayerView) (pending : PendingView)
 GoesOn-nothing p player pending sink fresh stands = record {
   running = refl;
   stands = stands;
+  legal = λ arena slots legal. legal;
   number = let same = ap (λ (l : PendingView). l.number) fresh in omega arith;
   unfinished = sym (ap (λ (l : PendingView). l.bytes) fresh);
   short = let none = ap (λ (l : PendingView). length l.bytes) fresh in omega arith;
@@ -38,13 +40,14 @@ GoesOn-nothing p player pending sink fresh stands = record {
 }
 
 -- a script that goes on, by its lines
-goes_on_by : (p : Playing) (script : List ℕ) (player : PlayerView) (pending : PendingView) (old new : SinkRecord) (c : Cut) → cut script ≡ c → (play 1 p c.lines).stop ≡ None → StandsForPlay player (play 1 p c.lines).playing
+goes_on_by : (p : Playing) (script : List ℕ) (player : PlayerView) (pending : PendingView) (old new : SinkRecord) (c : Cut) → cut script ≡ c → (play 1 p c.lines).stop ≡ None → StandsForPlay player (play 1 p c.lines).playing → StaysLegal p (play 1 p c.lines).playing
     → pending.number ≡ 1 + length c.lines → c.unfinished ≡ pending.bytes → length pending.bytes ≤ LONGEST_LINE → Takes old (play 1 p c.lines).text new → old.faults ≤ new.faults → GoesOn p script player pending old new
-goes_on_by p script player pending old new c is running stands number rest short written faults_kept =
+goes_on_by p script player pending old new c is running stands legal number rest short written faults_kept =
     let lines : c.lines ≡ whole_lines script = ap (λ (x : Cut). x.lines) (sym is) in
     record {
       running = subst (λ (ls : List (List ℕ)). (play 1 p ls).stop ≡ None) lines running;
       stands = subst (λ (ls : List (List ℕ)). StandsForPlay player (play 1 p ls).playing) lines stands;
+      legal = subst (λ (ls : List (List ℕ)). StaysLegal p (play 1 p ls).playing) lines legal;
       number = subst (λ (ls : List (List ℕ)). pending.number ≡ 1 + length ls) lines number;
       unfinished = ap (λ (x : Cut). x.unfinished) is ∙ rest;
       short = short;
@@ -60,19 +63,25 @@ module _ (p : Playing) (script : List ℕ) (player : PlayerView) (pending : Pend
       record {
         running = subst (λ (ls : List (List ℕ)). (play 1 p ls).stop ≡ None) (sym known) on.running;
         written = subst (λ (ls : List (List ℕ)). Takes before (play 1 p ls).text now) (sym known) on.written;
+        legal = subst (λ (ls : List (List ℕ)). StaysLegal p (play 1 p ls).playing) (sym known) on.legal;
       }
 
   -- the play that the next line is played on
   abbrev here : Playing
   here = (play 1 p (whole_lines script)).playing
 
+  -- the calls so far, and those behind them
+  legal_then : (later : Playing) → StaysLegal here later → StaysLegal p later
+  legal_then later then = λ arena slots legal. then arena slots (on.legal arena slots legal)
+
   -- the end of a line came, and the line was played
   pub line_ends : (end : List ℕ) (played : PlayerView) (after : SinkRecord) → Lacks 10 end → now.faults ≤ after.faults
       → (play_line pending.number here (pending.bytes ++ end)).stop ≡ None
       → StandsForPlay played (play_line pending.number here (pending.bytes ++ end)).playing
       → Takes now (play_line pending.number here (pending.bytes ++ end)).text after
+      → StaysLegal here (play_line pending.number here (pending.bytes ++ end)).playing
       → GoesOn p (script ++ (end ++ 10 ∷ [])) played (fresh_line (pending.number + 1)) before after
-  line_ends end played after lacks later running stands written =
+  line_ends end played after lacks later running stands written legal =
       let line = pending.bytes ++ end in
       let lines = whole_lines script in
       let c-is : cut (script ++ (end ++ 10 ∷ [])) ≡ record { lines = lines ++ line ∷ []; unfinished = [] } =
@@ -81,6 +90,7 @@ module _ (p : Playing) (script : List ℕ) (player : PlayerView) (pending : Pend
       goes_on_by p (script ++ (end ++ 10 ∷ [])) played (fresh_line (pending.number + 1)) before after (record { lines = lines ++ line ∷ []; unfinished = [] }) c-is
       (ap (λ (x : Played). x.stop) more ∙ running)
       (subst (λ (x : Played). StandsForPlay played x.playing) (sym more) stands)
+      (subst (λ (x : Played). StaysLegal p x.playing) (sym more) (legal_then (play_line pending.number here line).playing legal))
       (let so_far = on.number in omega (arith, length-append lines (line ∷ [])))
       refl (omega arith)
       (subst (λ (x : Played). Takes before x.text after) (sym more) (Takes-then before now after (play 1 p lines).text (play_line pending.number here line).text on.written written))
@@ -90,7 +100,7 @@ module _ (p : Playing) (script : List ℕ) (player : PlayerView) (pending : Pend
   pub within_line : (more : List ℕ) → Lacks 10 more → length (pending.bytes ++ more) ≤ LONGEST_LINE → GoesOn p (script ++ more) player (record pending { bytes = pending.bytes ++ more }) before now
   within_line more lacks short =
       goes_on_by p (script ++ more) player (record pending { bytes = pending.bytes ++ more }) before now (record { lines = whole_lines script; unfinished = (cut script).unfinished ++ more }) (cut-within script more lacks)
-      on.running on.stands on.number (ap (λ (u : List ℕ). u ++ more) on.unfinished) short on.written on.faults_kept
+      on.running on.stands on.legal on.number (ap (λ (u : List ℕ). u ++ more) on.unfinished) short on.written on.faults_kept
 
   -- the lines that are known where a line ends in what came
   pub known-line : (end behind : List ℕ) → Lacks 10 end → (rest : List (List ℕ)) × (known_lines false (script ++ (end ++ 10 ∷ behind)) ≡ whole_lines script ++ (pending.bytes ++ end) ∷ rest)
@@ -104,7 +114,7 @@ module _ (p : Playing) (script : List ℕ) (player : PlayerView) (pending : Pend
       )
 
   -- the play stops at a line behind the whole ones
-  stops_behind : (why : Stop) (line : List ℕ) (rest : List (List ℕ)) (after : SinkRecord) → LineStops why (play_line pending.number here line) now after → StopsAt why p (whole_lines script ++ line ∷ rest) before after
+  stops_behind : (why : Stop) (line : List ℕ) (rest : List (List ℕ)) (after : SinkRecord) → LineStops why here (play_line pending.number here line) now after → StopsAt why p (whole_lines script ++ line ∷ rest) before after
   stops_behind (stop.BadLine bad column) line rest after stops =
       let lines = whole_lines script in
       let whole = play-stop lines p line pending.number on.number on.running rest (record { line = bad; column = column }) stops.0 in
@@ -112,6 +122,7 @@ module _ (p : Playing) (script : List ℕ) (player : PlayerView) (pending : Pend
       ap (λ (x : Played). x.text) whole ∙ ap (λ (t : List ℕ). (play 1 p lines).text ++ t) (stopped_text pending.number here line (record { line = bad; column = column }) stops.0) ∙ append-nil (play 1 p lines).text in (
         ap (λ (x : Played). x.stop) whole ∙ stops.0,
         subst (λ (t : List ℕ). Takes before t after) (sym text) (Takes-same before now after (play 1 p lines).text on.written stops.1),
+        subst (StaysLegal p) (sym (ap (λ (x : Played). x.playing) whole ∙ stopped_playing pending.number here line (record { line = bad; column = column }) stops.0)) on.legal,
       )
   stops_behind stop.SinkFault line rest after stops =
       let last = play_line pending.number here line in
@@ -119,11 +130,19 @@ module _ (p : Playing) (script : List ℕ) (player : PlayerView) (pending : Pend
         Rose-later before.faults now.faults after.faults on.faults_kept stops.1,
         subst (λ (t : List ℕ). WritesFront before t after) (sym text)
             (WritesFront-behind before now after (play 1 p (whole_lines script)).text last.text (play (pending.number + 1) last.playing rest).text on.written stops.2),
+        record {
+          first = whole_lines script ++ line ∷ [];
+          rest = rest;
+          are = append_assoc (whole_lines script) (line ∷ []) rest;
+          written = subst (λ (t : List ℕ). WritesFront before t after) (sym (play-line_on (whole_lines script) p line pending.number on.number on.running [] stops.0))
+              (WritesFront-behind before now after (play 1 p (whole_lines script)).text last.text [] on.written stops.2);
+          legal = subst (λ (x : Played). StaysLegal p x.playing) (sym (play-line_more (whole_lines script) p line pending.number on.number on.running stops.0)) (legal_then last.playing stops.3);
+        },
       )
 
   -- a line at which the play stops
   pub line_stops : (why : Stop) (end behind : List ℕ) (after : SinkRecord) → Lacks 10 end
-      → LineStops why (play_line pending.number here (pending.bytes ++ end)) now after
+      → LineStops why here (play_line pending.number here (pending.bytes ++ end)) now after
       → StopsAt why p (known_lines false (script ++ (end ++ 10 ∷ behind))) before after
   line_stops why end behind after lacks stops =
       let known = known-line end behind lacks in
@@ -140,6 +159,20 @@ module _ (p : Playing) (script : List ℕ) (player : PlayerView) (pending : Pend
       subst (λ (ls : List (List ℕ)). StopsAt (stop.BadLine pending.number (LONGEST_LINE + 1)) p ls before now) (sym known)
       (stops_behind (stop.BadLine pending.number (LONGEST_LINE + 1)) line [] now (stops_at pending.number here line (LONGEST_LINE + 1) (read_line-long line long), refl))
 
+  -- the script ended behind a line
+  pub nothing_left : eqb (length pending.bytes) 0 ≡ true → EndGives (Ok tt) p script before now
+  nothing_left none =
+      let known : known_lines true script ≡ whole_lines script =
+      ap (λ (u : List ℕ). whole_lines script ++ last_line u) (on.unfinished ∙ no_bytes pending.bytes none) ∙ append-nil (whole_lines script) in (
+        subst (λ (ls : List (List ℕ)). (play 1 p ls).stop ≡ None) (sym known) on.running,
+        subst (λ (ls : List (List ℕ)). Takes before (play 1 p ls).text now) (sym known) on.written,
+        subst (λ (ls : List (List ℕ)). StaysLegal p (play 1 p ls).playing) (sym known) on.legal,
+      )
+    where
+      no_bytes : (text : List ℕ) → eqb (length text) 0 ≡ true → text ≡ []
+      no_bytes [] h = refl
+      no_bytes (byte ∷ bytes) h = absurd (let none : length (byte ∷ bytes) ≡ 0 = eqb-true _ _ h in omega arith)
+
   -- the script ended within a line, which counts
   last-known : eqb (length pending.bytes) 0 ≡ false → known_lines true script ≡ whole_lines script ++ pending.bytes ∷ []
   last-known some = ap (λ (u : List ℕ). whole_lines script ++ last_line u) on.unfinished ∙ ap (λ (ls : List (List ℕ)). whole_lines script ++ ls) (one_line pending.bytes some)
@@ -151,17 +184,19 @@ module _ (p : Playing) (script : List ℕ) (player : PlayerView) (pending : Pend
   pub last_ends : (after : SinkRecord) → eqb (length pending.bytes) 0 ≡ false
       → (play_line pending.number here pending.bytes).stop ≡ None
       → Takes now (play_line pending.number here pending.bytes).text after
-      → ((play 1 p (known_lines true script)).stop ≡ None) × Takes before (play 1 p (known_lines true script)).text after
-  last_ends after some running written =
+      → StaysLegal here (play_line pending.number here pending.bytes).playing
+      → EndGives (Ok tt) p script before after
+  last_ends after some running written legal =
       let lines = whole_lines script in
       let more = play-line_more lines p pending.bytes pending.number on.number on.running running in
-      subst (λ (ls : List (List ℕ)). ((play 1 p ls).stop ≡ None) × Takes before (play 1 p ls).text after) (sym (last-known some)) (
+      subst (λ (ls : List (List ℕ)). ((play 1 p ls).stop ≡ None) × Takes before (play 1 p ls).text after × StaysLegal p (play 1 p ls).playing) (sym (last-known some)) (
         ap (λ (x : Played). x.stop) more ∙ running,
         subst (λ (x : Played). Takes before x.text after) (sym more) (Takes-then before now after (play 1 p lines).text (play_line pending.number here pending.bytes).text on.written written),
+        subst (λ (x : Played). StaysLegal p x.playing) (sym more) (legal_then (play_line pending.number here pending.bytes).playing legal),
       )
 
   pub last_stops : (why : Stop) (after : SinkRecord) → eqb (length pending.bytes) 0 ≡ false
-      → LineStops why (play_line pending.number here pending.bytes) now after
+      → LineStops why here (play_line pending.number here pending.bytes) now after
       → StopsAt why p (known_lines true script) before after
   last_stops why after some stops =
       subst (λ (ls : List (List ℕ)). StopsAt why p ls before after) (sym (last-known some)) (stops_behind why pending.bytes [] after stops)

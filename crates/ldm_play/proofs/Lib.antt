@@ -3,3 +3,4 @@ pub mod PlayLemmas
 pub mod GoesOnLemmas
 pub mod PlaysScriptLemmas
 pub mod CompletesLemmas
+pub mod LawLemmas

@@ -78,3 +78,13 @@ stopped_text number p line bad h = by_reading (read_line 64 line) h
     by_reading (Ok None) h = absurd cc
     by_reading (Ok (Some order)) h = absurd cc
     by_reading (Err column) h = refl
+
+-- and makes no call
+pub stopped_playing : (number : ℕ) (p : Playing) (line : List ℕ) (bad : BadLine) → (play_line number p line).stop ≡ Some bad → (play_line number p line).playing ≡ p
+unfolding play_line
+stopped_playing number p line bad h = by_reading (read_line 64 line) h
+  where
+    by_reading : (r : Result (Option Order) ℕ) → (play_reading number p r).stop ≡ Some bad → (play_reading number p r).playing ≡ p
+    by_reading (Ok None) h = absurd cc
+    by_reading (Ok (Some order)) h = absurd cc
+    by_reading (Err column) h = refl

@@ -1,5 +1,5 @@
 -- How the play of a script ends, and what stands then.
-use Rattle.std.specs.Prelude.{◌≡◌, ℕ, ◌<◌, ◌≤◌, Bool, true, false, List, length, Some, None, Result, Ok, Err}
+use Rattle.std.specs.Prelude.{◌≡◌, ℕ, ◌<◌, ◌≤◌, Bool, true, false, List, ◌++◌, length, Some, None, Result, Ok, Err}
 use Rattle.ldm_outside.specs.Count.{Rose}
 use Rattle.ldm_outside.specs.Io.{SinkRecord, Gives, Takes, WritesFront}
 use Rattle.ldm_status.specs.World.{WorldRecord, IsUntouched, AtEnd}
@@ -11,6 +11,7 @@ use Rattle.ldm_play.specs.declared.play_command.ScriptEnd.{ScriptEnd}
 use Rattle.ldm_play.specs.declared.play_command.ScriptEnd.TheVariants as script_end
 use Rattle.ldm_play.specs.declared.player.Stop.{Stop}
 use Rattle.ldm_play.specs.declared.player.Stop.TheVariants as stop
+use Rattle.ldm_play.specs.Legal.{StaysLegal}
 use Rattle.ldm_play.specs.Lines.{known_lines}
 use Rattle.ldm_play.specs.Play.{play}
 
@@ -24,19 +25,30 @@ pub record Size : Type 0 where
 pub record AnswersKnownLines (p : Playing) (script : List ℕ) (old new : SinkRecord) : Type 0 where
   pub running : (play 1 p (known_lines false script)).stop ≡ None
   pub written : Takes old (play 1 p (known_lines false script)).text new
+  pub legal : StaysLegal p (play 1 p (known_lines false script)).playing
+
+-- A front of the answers to these lines is written, no longer than the answers to the first of them, whose calls were made.
+pub record WritesFirst (p : Playing) (lines : List (List ℕ)) (old new : SinkRecord) : Type 0 where
+  pub first : List (List ℕ)
+  pub rest : List (List ℕ)
+  pub are : first ++ rest ≡ lines
+  pub written : WritesFront old (play 1 p first).text new
+  pub legal : StaysLegal p (play 1 p first).playing
 
 -- Why a play stopped at one of these lines, and what was written then.
 abbrev pub StopsAt : Stop → Playing → List (List ℕ) → SinkRecord → SinkRecord → Type 0
 -- a line is outside the grammar: all lines before it are answered
-StopsAt (stop.BadLine line column) p lines old new = ((play 1 p lines).stop ≡ Some (record { line = line; column = column })) × Takes old (play 1 p lines).text new
+StopsAt (stop.BadLine line column) p lines old new =
+    ((play 1 p lines).stop ≡ Some (record { line = line; column = column })) × Takes old (play 1 p lines).text new × StaysLegal p (play 1 p lines).playing
 -- the sink failed: a front of the answers is written
-StopsAt stop.SinkFault p lines old new = Rose old.faults new.faults × WritesFront old (play 1 p lines).text new
+StopsAt stop.SinkFault p lines old new = Rose old.faults new.faults × WritesFront old (play 1 p lines).text new × WritesFirst p lines old new
 
 -- What playing a script leaves, by the bytes that were taken.
 abbrev pub ScriptEnds : ScriptEnd → Playing → List ℕ → WorldRecord → WorldRecord → Type 0
 -- the script was read to its end, and all its lines are answered
 ScriptEnds script_end.Done p script old new =
     (length script < SCRIPT_LIMIT) × AtEnd old.source new.source × ((play 1 p (known_lines true script)).stop ≡ None) × Takes old.sink (play 1 p (known_lines true script)).text new.sink
+    × StaysLegal p (play 1 p (known_lines true script)).playing
 -- as many bytes were taken as are too many
 ScriptEnds script_end.StreamLimit p script old new = (length script ≡ SCRIPT_LIMIT) × AnswersKnownLines p script old.sink new.sink
 -- the source failed

@@ -1,9 +1,10 @@
 pub mod Lines
 pub mod Play
 pub mod PlayerView
+pub mod Legal
 pub mod PendingView
-pub mod Calls
 pub mod Ending
+pub mod Law
 pub mod Step
 pub mod Statuses
 pub mod Run

@@ -13,7 +13,7 @@ pub record BadLine : Type 0 where
 pub record Played : Type 0 where
   -- all that is written
   pub text : List ℕ
-  -- the queue, and the place that each actor opened last
+  -- the queue, and the places that each actor was last answered
   pub playing : Playing
   -- the line at which the play stops
   pub stop : Option BadLine

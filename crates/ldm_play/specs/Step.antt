@@ -11,23 +11,25 @@ use Rattle.ldm_play.specs.Lines.{known_lines}
 use Rattle.ldm_play.specs.Play.{Played, play}
 use Rattle.ldm_play.specs.PlayerView.{PlayerView, StandsForPlay}
 use Rattle.ldm_play.specs.PendingView.{PendingView}
+use Rattle.ldm_play.specs.Legal.{StaysLegal}
 use Rattle.ldm_play.specs.Ending.{StopsAt}
 
 -- why a line stopped the play, and what was written then
-abbrev pub LineStops : Stop → Played → SinkRecord → SinkRecord → Type 0
-LineStops (stop.BadLine line column) played old new = (played.stop ≡ Some (record { line = line; column = column })) × (new.written ≡ old.written)
-LineStops stop.SinkFault played old new = (played.stop ≡ None) × Rose old.faults new.faults × WritesFront old played.text new
+abbrev pub LineStops : Stop → Playing → Played → SinkRecord → SinkRecord → Type 0
+LineStops (stop.BadLine line column) p played old new = (played.stop ≡ Some (record { line = line; column = column })) × (new.written ≡ old.written)
+LineStops stop.SinkFault p played old new = (played.stop ≡ None) × Rose old.faults new.faults × WritesFront old played.text new × StaysLegal p played.playing
 
 -- a line was played
-abbrev pub LineGives : Result (Unit {0}) Stop → Played → PlayerView → SinkRecord → SinkRecord → Type 0
-LineGives (Ok done) played player old new = (played.stop ≡ None) × StandsForPlay player played.playing × Takes old played.text new
-LineGives (Err why) played player old new = LineStops why played old new
+abbrev pub LineGives : Result (Unit {0}) Stop → Playing → Played → PlayerView → SinkRecord → SinkRecord → Type 0
+LineGives (Ok done) p played player old new = (played.stop ≡ None) × StandsForPlay player played.playing × Takes old played.text new × StaysLegal p played.playing
+LineGives (Err why) p played player old new = LineStops why p played old new
 
 -- The play of a script goes on: its whole lines are answered, and the player and the unfinished line, which is not too
 -- long yet, are those that follow.
 pub record GoesOn (p : Playing) (script : List ℕ) (player : PlayerView) (pending : PendingView) (old new : SinkRecord) : Type 0 where
   pub running : (play 1 p (whole_lines script)).stop ≡ None
   pub stands : StandsForPlay player (play 1 p (whole_lines script)).playing
+  pub legal : StaysLegal p (play 1 p (whole_lines script)).playing
   pub number : pending.number ≡ 1 + length (whole_lines script)
   pub unfinished : (cut script).unfinished ≡ pending.bytes
   pub short : length pending.bytes ≤ LONGEST_LINE
@@ -41,5 +43,6 @@ PieceGives (Err why) p script player pending old new = StopsAt why p (known_line
 
 -- the end of a script came, and its last line was played
 abbrev pub EndGives : Result (Unit {0}) Stop → Playing → List ℕ → SinkRecord → SinkRecord → Type 0
-EndGives (Ok done) p script old new = ((play 1 p (known_lines true script)).stop ≡ None) × Takes old (play 1 p (known_lines true script)).text new
+EndGives (Ok done) p script old new =
+    ((play 1 p (known_lines true script)).stop ≡ None) × Takes old (play 1 p (known_lines true script)).text new × StaysLegal p (play 1 p (known_lines true script)).playing
 EndGives (Err why) p script old new = StopsAt why p (known_lines true script) old new

@@ -4,7 +4,6 @@
 //! how that ends.
 #![tactic(auto)]
 
-mod calls;
 mod pending;
 mod play_command;
 mod player;

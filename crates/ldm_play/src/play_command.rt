@@ -8,13 +8,14 @@ ghost use Rattle.ldm_play.specs.PlayerView.{StandsForPlay};
 ghost use Rattle.ldm_play.specs.PendingView.{fresh_line};
 ghost use Rattle.ldm_play.specs.Ending.{PlaysScript, PlayEnds};
 ghost use Rattle.ldm_play.specs.Step.{GoesOn, LineGives, PieceGives, EndGives};
+ghost use Rattle.ldm_play.specs.Law.{ObeysPlayLaw};
 ghost use Rattle.ldm_play.specs.Run.{Plays};
 ghost use Rattle.ldm_play.specs.Complete.{Completes};
 
 use crate::pending::Pending;
 use crate::player::{Player, Stop};
 use crate::statuses::status_of;
-use ldm_book::{Book, CreateFault};
+use ldm_book::{Book, CreateFault, fifo, filled};
 use ldm_outside::{Got, Sink, Source};
 use ldm_script::LONGEST_LINE;
 use ldm_status::{PIECE, World};
@@ -55,7 +56,7 @@ fn play_ended<K: Sink>(
     sink: &mut K,
 ) -> Result<(), Stop>
     ensures played { (p : Playing) → StandsForPlay player.old p
-        → LineGives result (play_line pending.old.number p (pending.old.bytes ++ end.now)) player.new (K.tells sink.old) (K.tells sink.new) }
+        → LineGives result p (play_line pending.old.number p (pending.old.bytes ++ end.now)) player.new (K.tells sink.old) (K.tells sink.new) }
     ensures number { pending.new.number ≡ pending.old.number }
     ensures faults_kept { (K.tells sink.old).faults ≤ (K.tells sink.new).faults }
 {
@@ -77,7 +78,7 @@ fn end_line<K: Sink>(
 ) -> Result<(), Stop>
     requires { pending.old.number + 1 < 2 ^ 64 }
     ensures played { (p : Playing) → StandsForPlay player.old p
-        → LineGives result (play_line pending.old.number p (pending.old.bytes ++ end.now)) player.new (K.tells sink.old) (K.tells sink.new) }
+        → LineGives result p (play_line pending.old.number p (pending.old.bytes ++ end.now)) player.new (K.tells sink.old) (K.tells sink.new) }
     ensures next { OnOk result (pending.new ≡ fresh_line (pending.old.number + 1)) }
     ensures faults_kept { (K.tells sink.old).faults ≤ (K.tells sink.new).faults }
 {
@@ -189,7 +190,9 @@ fn play_new<S: Source, K: Sink>(
 /// the number that the program ends with, and writes its line to the log.
 ///
 /// All memory is taken before the first read. The clause `ends` gives each status its cause, and what was read and
-/// written then: see `Plays`. The clause `completes` says when a play comes to its end: see `Unhindered`.
+/// written then: see `Plays`. The clause `law` says that the answers are those of a legal history, in which each reader is
+/// given what is due to it, and each reservation keeps what is filled in: see `WritesLawful`. The clause `completes` says
+/// when a play comes to its end: see `Unhindered`.
 pub fn play<S: Source, K: Sink, E: Sink>(
     alloc: Global,
     arena: u64,
@@ -197,9 +200,12 @@ pub fn play<S: Source, K: Sink, E: Sink>(
     world: &mut World<S, K, E>,
 ) -> u8
     ensures ends { Plays (record { arena = arena; slots = slots }) result (world_tells S.tells K.tells E.tells world.old) (world_tells S.tells K.tells E.tells world.new) }
+    ensures law { ObeysPlayLaw (record { arena = arena; slots = slots }) (world_tells S.tells K.tells E.tells world.old) (world_tells S.tells K.tells E.tells world.new) }
     ensures completes { Completes (record { arena = arena; slots = slots }) result (world_tells S.tells K.tells E.tells world.old) (world_tells S.tells K.tells E.tells world.new) }
     ensures faults_kept { KeepsFaults (world_tells S.tells K.tells E.tells world.old) (world_tells S.tells K.tells E.tells world.new) }
 {
+    fifo();
+    filled();
     let ending = play_new(alloc, arena, slots, &mut world.source, &mut world.sink);
     status_of(ending).report(&mut world.log)
 }

@@ -3,6 +3,7 @@ use Rattle.ldm_status.specs.World.{WorldRecord}
 use Rattle.ldm_status.specs.declared.status.Status.{Status}
 use Rattle.ldm_status.specs.Status.{Reports}
 use Rattle.ldm_play.proofs.CompletesLemmas.{completes}
+use Rattle.ldm_play.proofs.LawLemmas.{obeys}
 use Rattle.ldm_play.proofs.play_command.play.Goals as goal
 
 pub returns-clause-completes : goal.returns-clause-completes
@@ -12,3 +13,10 @@ returns-clause-completes g c = λ free.
     let new : WorldRecord = record { source = g.S.Source.tells c.play_new-ending.new.source; sink = g.K.Sink.tells c.play_new-ending.new.sink; log = g.E.Sink.tells c.report.new.log } in
     completes (record { arena = c.args.arena; slots = c.args.slots }) old new free c.play_new-ending.result c.report.result (c.play_new-ending.ensures.ends old.log new.log)
     (subst (λ (e : Status). Reports e c.report.result old.log new.log) c.status_of.ensures c.report.ensures.reports)
+
+pub returns-clause-law : goal.returns-clause-law
+returns-clause-law g c =
+    let world = c.args.world.now in
+    let old : WorldRecord = record { source = g.S.Source.tells world.source; sink = g.K.Sink.tells world.sink; log = g.E.Sink.tells world.log } in
+    let new : WorldRecord = record { source = g.S.Source.tells c.play_new-ending.new.source; sink = g.K.Sink.tells c.play_new-ending.new.sink; log = g.E.Sink.tells c.report.new.log } in
+    obeys c.fifo.ensures.obeys_law c.filled.ensures (record { arena = c.args.arena; slots = c.args.slots }) old new c.play_new-ending.result (c.play_new-ending.ensures.ends old.log new.log)

@@ -53,7 +53,7 @@ loop-at-preserved g c =
         λ p script before h.
             let on = front.2 p script before h in
             let played = c.in_ok-end_line.ensures.played _ on.stands in
-            let ends = line_ends p (script ++ front.0) c.loop-at.player c.loop-at.pending before (g.K.Sink.tells c.loop-at.sink) on (take at rest) c.end_line.new.player (g.K.Sink.tells c.end_line.new.sink) cut.front c.end_line.ensures.faults_kept played.0 played.1 played.2 in
+            let ends = line_ends p (script ++ front.0) c.loop-at.player c.loop-at.pending before (g.K.Sink.tells c.loop-at.sink) on (take at rest) c.end_line.new.player (g.K.Sink.tells c.end_line.new.sink) cut.front c.end_line.ensures.faults_kept played.0 played.1 played.2 played.3 in
             subst (λ (v : PendingView). GoesOn p (script ++ (front.0 ++ end)) c.end_line.new.player v before (g.K.Sink.tells c.end_line.new.sink)) (sym c.in_ok-end_line.ensures.next)
             (subst (λ (x : List ℕ). GoesOn p x c.end_line.new.player (fresh_line (c.loop-at.pending.number + 1)) before (g.K.Sink.tells c.end_line.new.sink)) (append_assoc script front.0 end) ends),
       );

@@ -1,8 +1,8 @@
 use Rattle.std.proofs.Common.{◌∙◌, [], ◌++◌, ap, take, refl, arith, length-append, length-take}
 use Rattle.ldm_status.specs.World.{WorldRecord}
-use Rattle.ldm_outside.proofs.CallerLemmas.{Gives-nothing, Gives-then}
+use Rattle.ldm_outside.proofs.CallerLemmas.{Gives-nothing, Gives-same, Gives-then, Rose-later}
 use Rattle.ldm_play.specs.PendingView.{PendingView}
-use Rattle.ldm_play.proofs.GoesOnLemmas.{GoesOn-nothing}
+use Rattle.ldm_play.proofs.GoesOnLemmas.{GoesOn-nothing, answers_known_lines}
 use Rattle.ldm_play.proofs.PlaysScriptLemmas.{stopped_within}
 use Rattle.ldm_play.proofs.play_command.play_script.Goals as goal
 
@@ -48,5 +48,36 @@ loop-taken-preserved g c =
         omega (arith, length-append so_far.0 piece, length-take n c.read.new.into, so_far.1, given.1),
         Gives-then (g.S.Source.tells c.args.source.now) (g.S.Source.tells c.loop-taken.source) (g.S.Source.tells c.read.new.self) so_far.0 piece so_far.2 given.2,
         λ p stands. c.in_default.ensures.played p so_far.0 (g.K.Sink.tells c.args.sink.now) (so_far.3 p stands),
+      );
+    }
+
+pub returns-in-Failed-clause-plays : goal.returns-in-Failed-clause-plays
+returns-in-Failed-clause-plays g c = λ p log_before log_after stands.
+    let so_far = c.loop-taken.invariant.script in
+    let given = c.in-Failed.ensures.given in
+    let first = g.S.Source.tells c.args.source.now in
+    let before = g.S.Source.tells c.loop-taken.source in
+    let after = g.S.Source.tells c.read.new.self in
+    record {
+      script = so_far.0;
+      taken = Gives-same first before after so_far.0 so_far.2 given.1;
+      limit = omega (arith, so_far.1, c.loop-taken.invariant.limit);
+      ends = (
+        omega (arith, so_far.1, c.loop-taken-test.true),
+        Rose-later first.faults before.faults after.faults c.loop-taken.invariant.source_faults given.0,
+        answers_known_lines p so_far.0 c.loop-taken.player c.loop-taken.pending (g.K.Sink.tells c.args.sink.now) (g.K.Sink.tells c.loop-taken.sink) (so_far.3 p stands),
+      );
+    }
+
+pub returns-clause-plays : goal.returns-clause-plays
+returns-clause-plays g c = λ p log_before log_after stands.
+    let so_far = c.loop-taken.invariant.script in
+    record {
+      script = so_far.0;
+      taken = so_far.2;
+      limit = omega (arith, so_far.1, c.loop-taken.invariant.limit);
+      ends = (
+        omega (arith, so_far.1, c.loop-taken.invariant.limit, c.loop-taken-test.false),
+        answers_known_lines p so_far.0 c.loop-taken.player c.loop-taken.pending (g.K.Sink.tells c.args.sink.now) (g.K.Sink.tells c.loop-taken.sink) (so_far.3 p stands),
       );
     }
