@@ -1,14 +1,15 @@
 //! Lines of a script, answered by the plain queue as `ldm play` answers them. Every line is taken to be well formed, a
 //! signature to be digits, and feedtypes to be a number.
 
-use crate::queue::{Answer, Queue, Start};
+use crate::queue::{Answer, Metadata, Queue, Start};
 use std::collections::HashMap;
 
 /// A queue, and what a script on it needs besides.
 pub struct Script {
     queue: Queue,
-    // The place of the cursor that each actor opened last.
+    // The places of the cursor that each actor opened last, and of its last reservation.
     opened: HashMap<u32, usize>,
+    reserved: HashMap<u32, usize>,
     body: Vec<u8>,
 }
 
@@ -42,37 +43,59 @@ fn text_len(text: &str) -> u64 {
     bytes.next_multiple_of(4) as u64
 }
 
+// What the six fields from ARRIVAL to IDENT say of a product with a body of that size.
+fn metadata(fields: &[&str], size: usize) -> Metadata {
+    let feed = feed(fields[2]);
+    Metadata {
+        signature: signature(fields[1]),
+        feed,
+        info: format!("{} {} 0x{feed:08x} {} {} {} {size}", fields[0], fields[1], fields[3], fields[4], fields[5]),
+        texts: text_len(fields[4]) + text_len(fields[5]),
+        size,
+    }
+}
+
+// The place that a field names, where `.` is the last of that actor. Nothing is at the place behind the last.
+fn place(last: &HashMap<u32, usize>, actor: u32, text: &str) -> usize {
+    match text {
+        "." => last.get(&actor).copied().unwrap_or(usize::MAX),
+        _ => number(text),
+    }
+}
+
 impl Script {
     pub fn new(arena: u64, slots: usize) -> Script {
         Script {
             queue: Queue::new(arena, slots),
             opened: HashMap::new(),
+            reserved: HashMap::new(),
             body: Vec::new(),
-        }
-    }
-
-    // The place that a field names. No cursor stands at the place behind the last.
-    fn place(&self, actor: u32, text: &str) -> usize {
-        match text {
-            "." => self.opened.get(&actor).copied().unwrap_or(usize::MAX),
-            _ => number(text),
         }
     }
 
     fn insert(&mut self, fields: &[&str]) -> Answer {
         body_into(fields[6], &mut self.body);
-        let feed = feed(fields[2]);
-        let info = format!(
-            "{} {} 0x{feed:08x} {} {} {} {}",
-            fields[0],
-            fields[1],
-            fields[3],
-            fields[4],
-            fields[5],
-            self.body.len()
-        );
-        let texts = text_len(fields[4]) + text_len(fields[5]);
-        self.queue.insert(number(fields[0]), signature(fields[1]), feed, info, texts, &self.body)
+        self.queue.insert(number(fields[0]), metadata(fields, self.body.len()), &self.body)
+    }
+
+    fn reserve(&mut self, actor: u32, fields: &[&str]) -> Answer {
+        let answer = self.queue.reserve(actor, metadata(fields, number(fields[6])));
+        if let Answer::Reserved { r, .. } = answer {
+            self.reserved.insert(actor, r);
+        }
+        answer
+    }
+
+    fn on_reservation(&mut self, actor: u32, fields: &[&str]) -> Answer {
+        let r = place(&self.reserved, actor, fields[1]);
+        match fields[0] {
+            "fill" => {
+                body_into(fields[2], &mut self.body);
+                self.queue.fill(actor, r, &self.body)
+            }
+            "commit" => self.queue.commit(actor, r, number(fields[2])),
+            _ => self.queue.discard(actor, r),
+        }
     }
 
     fn open(&mut self, actor: u32, fields: &[&str]) -> Answer {
@@ -99,8 +122,10 @@ impl Script {
             "look" => self.queue.look(&signature(fields[2])),
             "expire" => self.queue.expire(),
             "stat" => self.queue.stat(),
+            "reserve" => self.reserve(actor, &fields[2..]),
+            "fill" | "commit" | "discard" => self.on_reservation(actor, &fields[1..]),
             word => {
-                let k = self.place(actor, fields[2]);
+                let k = place(&self.opened, actor, fields[2]);
                 match word {
                     "step" => self.queue.step(actor, k),
                     "read" => self.queue.read(actor, k, number(fields[3]), number(fields[4])),

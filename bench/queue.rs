@@ -5,8 +5,8 @@ use std::fmt;
 
 pub const GREATEST_INSTANT: u64 = 4_294_967_295_999_999;
 
-// How many cursors can be open.
-const CURSORS: usize = 64;
+// How many cursors can be open, and how many reservations.
+const PLACES: usize = 64;
 
 pub enum Answer {
     Admitted { n: u64, time: u64, evicted: usize },
@@ -33,6 +33,14 @@ pub enum Answer {
     NoCursor,
     Tally { given: u64, lost: u64, left: usize },
     Stat { admitted: u64, queued: usize, held: usize, used: u64, largest: u64 },
+    Reserved { r: usize, evicted: usize },
+    AllReserved,
+    NoReservation,
+    Filled { left: usize },
+    Overfill { left: usize },
+    Unfilled { left: usize },
+    Committed { n: u64, time: u64 },
+    Discarded,
 }
 
 /// The answer as `ldm play` writes it.
@@ -69,6 +77,14 @@ impl fmt::Display for Answer {
             Answer::Stat { admitted, queued, held, used, largest } => {
                 write!(f, "stat {admitted} {queued} {held} {used} {largest}")
             }
+            Answer::Reserved { r, evicted } => write!(f, "reserved {r} {evicted}"),
+            Answer::AllReserved => write!(f, "allreserved"),
+            Answer::NoReservation => write!(f, "noreservation"),
+            Answer::Filled { left } => write!(f, "filled {left}"),
+            Answer::Overfill { left } => write!(f, "overfill {left}"),
+            Answer::Unfilled { left } => write!(f, "unfilled {left}"),
+            Answer::Committed { n, time } => write!(f, "committed {n} {time}"),
+            Answer::Discarded => write!(f, "discarded"),
         }
     }
 }
@@ -80,6 +96,28 @@ pub enum Start {
     Next,
     After(u64),
     Signature([u8; 16]),
+}
+
+/// What lines say of a product, its body apart.
+pub struct Metadata {
+    pub signature: [u8; 16],
+    pub feed: u32,
+    /// The fields of an answer behind the insertion time.
+    pub info: String,
+    /// The bytes that the two texts take, and the body.
+    pub texts: u64,
+    pub size: usize,
+}
+
+impl Metadata {
+    // The bytes in front of the body, and those that the product takes of the arena.
+    fn front(&self) -> u64 {
+        44 + self.texts
+    }
+
+    fn extent(&self) -> u64 {
+        (self.front() + self.size as u64).next_multiple_of(8)
+    }
 }
 
 struct Product {
@@ -106,6 +144,13 @@ struct Cursor {
     untold: Option<(u64, u64, u64)>,
 }
 
+struct Reservation {
+    actor: u32,
+    metadata: Metadata,
+    place: u64,
+    filled: usize,
+}
+
 pub struct Queue {
     arena: Vec<u8>,
     slots: usize,
@@ -120,6 +165,21 @@ pub struct Queue {
     used: u64,
     // The places for cursors, up to the last that was ever taken.
     cursors: Vec<Option<Cursor>>,
+    // Those for reservations likewise.
+    reservations: Vec<Option<Reservation>>,
+}
+
+// The first empty place, where one of all is.
+fn empty_place<T>(places: &[Option<T>]) -> Option<usize> {
+    let place = places.iter().position(Option::is_none).unwrap_or(places.len());
+    (place < PLACES).then_some(place)
+}
+
+fn put<T>(places: &mut Vec<Option<T>>, place: usize, value: T) {
+    if place == places.len() {
+        places.push(None);
+    }
+    places[place] = Some(value);
 }
 
 impl Queue {
@@ -136,6 +196,7 @@ impl Queue {
             last: None,
             used: 0,
             cursors: Vec::new(),
+            reservations: Vec::new(),
         };
         queue.add_gap(0, arena);
         queue
@@ -168,9 +229,11 @@ impl Queue {
         self.add_gap(start, length);
     }
 
-    // The numbers of the products that are held.
-    fn held(&self) -> BTreeSet<u64> {
-        self.cursors.iter().flatten().filter_map(|cursor| cursor.held).collect()
+    // The regions that are held, as place and extent: those of the products that readers hold, and the reserved ones.
+    fn held(&self) -> Vec<(u64, u64)> {
+        let numbers: BTreeSet<u64> = self.cursors.iter().flatten().filter_map(|cursor| cursor.held).collect();
+        let products = numbers.iter().map(|n| (self.by_number[n].place, self.by_number[n].extent));
+        products.chain(self.reservations.iter().flatten().map(|own| (own.place, own.metadata.extent()))).collect()
     }
 
     fn holds(&self, n: u64) -> bool {
@@ -195,8 +258,8 @@ impl Queue {
     }
 
     // Whether there is a slot and a gap of so many bytes once all is evicted that nobody holds.
-    fn can_make_room(&self, need: u64, held: &BTreeSet<u64>) -> bool {
-        let mut regions: Vec<_> = held.iter().map(|n| (self.by_number[n].place, self.by_number[n].extent)).collect();
+    fn can_make_room(&self, need: u64, mut regions: Vec<(u64, u64)>) -> bool {
+        let slot = regions.len() < self.slots;
         regions.sort();
         regions.push((self.arena.len() as u64, 0));
         let mut end = 0;
@@ -205,32 +268,21 @@ impl Queue {
             longest = longest.max(place - end);
             end = place + extent;
         }
-        held.len() < self.slots && need <= longest
+        slot && need <= longest
     }
 
-    /// Inserts a product whose two texts take so many bytes of its metadata.
-    pub fn insert(&mut self, now: u64, signature: [u8; 16], feed: u32, info: String, texts: u64, body: &[u8]) -> Answer {
-        let metadata = 44 + texts;
-        let need = (metadata + body.len() as u64).next_multiple_of(8);
-        let arena = self.arena.len() as u64;
-        if need > arena {
-            return Answer::TooBig { need, arena };
-        }
-        if let Some(&n) = self.by_signature.get(&signature) {
-            return Answer::Duplicate { n };
-        }
-        let time = match self.last {
-            Some(GREATEST_INSTANT) => return Answer::TimeEnd,
-            Some(last) => now.max(last + 1),
-            None => now,
-        };
+    // Takes a region of so many bytes at the best fit: its place, and how many products are evicted for it. Where there can be
+    // none, the answer.
+    fn take_region(&mut self, need: u64) -> Result<(u64, usize), Answer> {
         let held = self.held();
-        if !held.is_empty() && !self.can_make_room(need, &held) {
-            return Answer::Locked { held: held.len() };
+        let count = held.len();
+        if count > 0 && !self.can_make_room(need, held) {
+            return Err(Answer::Locked { held: count });
         }
+        let reserved = self.reservations.iter().flatten().count();
         let mut evicted = 0;
         let place = loop {
-            if self.by_number.len() < self.slots {
+            if self.by_number.len() + reserved < self.slots {
                 if let Some(&(_, start)) = self.by_length.range((need, 0)..).next() {
                     break start;
                 }
@@ -240,28 +292,136 @@ impl Queue {
         };
         let length = self.take_gap(place);
         self.add_gap(place + need, length - need);
-        let front = (place + metadata) as usize;
-        self.arena[front..front + body.len()].copy_from_slice(body);
+        self.used += need;
+        Ok((place, evicted))
+    }
+
+    // The answer where a product is larger than the arena, or queued already.
+    fn refused(&self, metadata: &Metadata) -> Option<Answer> {
+        let (need, arena) = (metadata.extent(), self.arena.len() as u64);
+        if need > arena {
+            return Some(Answer::TooBig { need, arena });
+        }
+        self.by_signature.get(&metadata.signature).map(|&n| Answer::Duplicate { n })
+    }
+
+    // The insertion time of a product that is admitted now, if one is left.
+    fn time(&self, now: u64) -> Option<u64> {
+        match self.last {
+            Some(GREATEST_INSTANT) => None,
+            Some(last) => Some(now.max(last + 1)),
+            None => Some(now),
+        }
+    }
+
+    // Queues a product whose bytes lie at a place. Its number.
+    fn admit(&mut self, time: u64, metadata: Metadata, place: u64) -> u64 {
         let n = self.admitted;
         self.admitted += 1;
         self.last = Some(time);
-        self.used += need;
-        self.by_signature.insert(signature, n);
+        self.by_signature.insert(metadata.signature, n);
         self.by_time.insert(time, n);
         self.by_number.insert(
             n,
             Product {
-                signature,
+                signature: metadata.signature,
                 time,
                 place,
-                extent: need,
-                feed,
-                body: front,
-                size: body.len(),
-                info,
+                extent: metadata.extent(),
+                feed: metadata.feed,
+                body: (place + metadata.front()) as usize,
+                size: metadata.size,
+                info: metadata.info,
             },
         );
+        n
+    }
+
+    pub fn insert(&mut self, now: u64, metadata: Metadata, body: &[u8]) -> Answer {
+        if let Some(answer) = self.refused(&metadata) {
+            return answer;
+        }
+        let Some(time) = self.time(now) else {
+            return Answer::TimeEnd;
+        };
+        let (place, evicted) = match self.take_region(metadata.extent()) {
+            Ok(taken) => taken,
+            Err(locked) => return locked,
+        };
+        let front = (place + metadata.front()) as usize;
+        self.arena[front..front + body.len()].copy_from_slice(body);
+        let n = self.admit(time, metadata, place);
         Answer::Admitted { n, time, evicted }
+    }
+
+    pub fn reserve(&mut self, actor: u32, metadata: Metadata) -> Answer {
+        if let Some(answer) = self.refused(&metadata) {
+            return answer;
+        }
+        let Some(r) = empty_place(&self.reservations) else {
+            return Answer::AllReserved;
+        };
+        let (place, evicted) = match self.take_region(metadata.extent()) {
+            Ok(taken) => taken,
+            Err(locked) => return locked,
+        };
+        let filled = 0;
+        put(&mut self.reservations, r, Reservation { actor, metadata, place, filled });
+        Answer::Reserved { r, evicted }
+    }
+
+    pub fn fill(&mut self, actor: u32, r: usize, bytes: &[u8]) -> Answer {
+        let Some(own) = self.reservations.get_mut(r).and_then(Option::as_mut).filter(|own| own.actor == actor) else {
+            return Answer::NoReservation;
+        };
+        let left = own.metadata.size - own.filled;
+        if bytes.len() > left {
+            return Answer::Overfill { left };
+        }
+        let start = (own.place + own.metadata.front()) as usize + own.filled;
+        self.arena[start..start + bytes.len()].copy_from_slice(bytes);
+        own.filled += bytes.len();
+        Answer::Filled { left: left - bytes.len() }
+    }
+
+    fn reservation(&self, actor: u32, r: usize) -> Option<&Reservation> {
+        self.reservations.get(r)?.as_ref().filter(|own| own.actor == actor)
+    }
+
+    fn give_up(&mut self, place: u64, extent: u64) {
+        self.give_back(place, extent);
+        self.used -= extent;
+    }
+
+    pub fn commit(&mut self, actor: u32, r: usize, now: u64) -> Answer {
+        let Some(own) = self.reservation(actor, r) else {
+            return Answer::NoReservation;
+        };
+        let left = own.metadata.size - own.filled;
+        if left > 0 {
+            return Answer::Unfilled { left };
+        }
+        let own = self.reservations[r].take().unwrap();
+        let (place, extent) = (own.place, own.metadata.extent());
+        if let Some(&n) = self.by_signature.get(&own.metadata.signature) {
+            self.give_up(place, extent);
+            return Answer::Duplicate { n };
+        }
+        let Some(time) = self.time(now) else {
+            self.give_up(place, extent);
+            return Answer::TimeEnd;
+        };
+        let n = self.admit(time, own.metadata, place);
+        Answer::Committed { n, time }
+    }
+
+    pub fn discard(&mut self, actor: u32, r: usize) -> Answer {
+        if self.reservation(actor, r).is_none() {
+            return Answer::NoReservation;
+        }
+        let own = self.reservations[r].take().unwrap();
+        self.give_up(own.place, own.metadata.extent());
+        Answer::Discarded
     }
 
     pub fn look(&self, signature: &[u8; 16]) -> Answer {
@@ -302,17 +462,13 @@ impl Queue {
     }
 
     pub fn open(&mut self, actor: u32, feed: u32, start: Start) -> Answer {
-        let k = self.cursors.iter().position(Option::is_none).unwrap_or(self.cursors.len());
-        if k == CURSORS {
+        let Some(k) = empty_place(&self.cursors) else {
             return Answer::AllBusy;
-        }
+        };
         let Some(position) = self.position(start) else {
             return Answer::NotQueued;
         };
-        if k == self.cursors.len() {
-            self.cursors.push(None);
-        }
-        self.cursors[k] = Some(Cursor {
+        let cursor = Cursor {
             actor,
             feed,
             position,
@@ -320,7 +476,8 @@ impl Queue {
             given: 0,
             lost: 0,
             untold: None,
-        });
+        };
+        put(&mut self.cursors, k, cursor);
         Answer::Opened { k }
     }
 

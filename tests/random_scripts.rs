@@ -10,15 +10,16 @@ mod queue;
 
 use plain_script::Script;
 use queue::GREATEST_INSTANT;
-use std::collections::BTreeMap;
+use std::collections::{BTreeMap, VecDeque};
 use std::fmt::Write as _;
 use std::io::Write;
 use std::process::{exit, Command, Stdio};
 
 // Each first word of an answer has to come, or the scripts would miss a rule.
-const ANSWERS: [&str; 24] = [
-    "absent", "admitted", "allbusy", "badoffset", "bytes", "closed", "duplicate", "end", "expired", "gap", "holding", "locked",
-    "nocursor", "notheld", "nothing", "notqueued", "opened", "product", "queued", "released", "stat", "tally", "timeend", "toobig",
+const ANSWERS: [&str; 32] = [
+    "absent", "admitted", "allbusy", "allreserved", "badoffset", "bytes", "closed", "committed", "discarded", "duplicate", "end",
+    "expired", "filled", "gap", "holding", "locked", "nocursor", "noreservation", "notheld", "nothing", "notqueued", "opened",
+    "overfill", "product", "queued", "released", "reserved", "stat", "tally", "timeend", "toobig", "unfilled",
 ];
 
 /// Random numbers: SplitMix64.
@@ -58,14 +59,20 @@ struct Shape {
     inserts: u64,
     opens: u64,
     on_cursors: u64,
+    // Of this many lines one reserves.
+    reserves: u64,
+    // The lines that fill a reserved region and end the reservation, which other lines come between.
+    planned: VecDeque<String>,
     moment: u64,
 }
 
 impl Shape {
     fn of(number: u64) -> Shape {
         let mut draws = Draws(number << 32);
+        // in some scripts all places of reservations are taken
+        let crowded = draws.one_in(40);
         let cells = if draws.one_in(4) { 8 } else { 200 };
-        let arena = 64 + 8 * draws.below(cells);
+        let arena = if crowded { 8192 } else { 64 + 8 * draws.below(cells) };
         // in some scripts the times run out
         let moment = match draws.below(8) {
             0 => GREATEST_INSTANT - draws.below(4000),
@@ -76,16 +83,18 @@ impl Shape {
         let opens = if draws.one_in(6) { 12 } else { 1 + draws.below(3) };
         Shape {
             arena,
-            slots: 1 + draws.below(many),
+            slots: if crowded { 80 } else { 1 + draws.below(many) },
             lines: 40 + draws.below(300),
             actors: 1 + draws.below(5),
             signatures: 2 + draws.below(40),
             feeds: 1 + draws.below(4),
             places: 1 + draws.below(12),
-            largest: 8 + draws.below(arena),
+            largest: if crowded { 24 } else { 8 + draws.below(arena) },
             inserts,
             opens,
             on_cursors: 32 - 4 - inserts.min(16) - opens.min(8),
+            reserves: if crowded { 2 } else { 4 + draws.below(24) },
+            planned: VecDeque::new(),
             moment,
             draws,
         }
@@ -113,14 +122,58 @@ impl Shape {
         }
     }
 
-    fn insert(&mut self) -> String {
+    fn now(&mut self) -> u64 {
         self.moment = (self.moment + self.draws.below(40)).min(GREATEST_INSTANT);
-        let now = self.moment.saturating_sub(self.draws.below(100));
+        self.moment.saturating_sub(self.draws.below(100))
+    }
+
+    // The fields from ARRIVAL to IDENT.
+    fn metadata(&mut self) -> String {
+        let now = self.now();
         let (signature, feed) = (self.signature(), self.feed(false));
         let number = self.draws.below(1 << 32);
         let origin = self.draws.of(&["h", "h", "host-7", "-", "%2D", "idd.unidata.ucar.edu", "a%20b"]);
         let ident = self.draws.of(&["p", "p", "-", "SAUS70 KWBC 271200", "%FF%25%0A", "/pSAO/x"]).replace(' ', "%20");
-        format!("insert {now} {signature} {feed} {number} {origin} {ident} {}", self.body())
+        format!("{now} {signature} {feed} {number} {origin} {ident}")
+    }
+
+    fn insert(&mut self) -> String {
+        format!("insert {} {}", self.metadata(), self.body())
+    }
+
+    // Reserves, and plans what fills the region and ends the reservation, if it is not left open.
+    fn reserve(&mut self, actor: u64) -> String {
+        let mut left = match self.draws.below(8) {
+            0 => 0,
+            1 => self.draws.below(self.largest),
+            2 if self.draws.one_in(8) => u32::MAX.into(),
+            _ => 1 + self.draws.below(24),
+        };
+        let line = format!("reserve {} {left}", self.metadata());
+        if self.reserves > 2 && !self.draws.one_in(4) && left < 4096 {
+            while left > 0 {
+                let part = 1 + self.draws.below(left);
+                self.planned.push_back(format!("{actor} fill . {part}*{:02X}", self.draws.below(256)));
+                left -= part;
+            }
+            let now = self.now();
+            let end = if self.draws.one_in(8) { "discard .".to_string() } else { format!("commit . {now}") };
+            self.planned.push_back(format!("{actor} {end}"));
+        }
+        line
+    }
+
+    fn on_reservation(&mut self) -> String {
+        let r = match self.draws.below(4) {
+            0 => ".".to_string(),
+            1 if self.draws.one_in(12) => self.draws.below(64).to_string(),
+            _ => self.draws.below(self.places).to_string(),
+        };
+        match self.draws.below(8) {
+            0..=3 => format!("fill {r} {}", self.body()),
+            4..=6 => format!("commit {r} {}", self.now()),
+            _ => format!("discard {r}"),
+        }
     }
 
     fn open(&mut self) -> String {
@@ -159,7 +212,16 @@ impl Shape {
     }
 
     fn line(&mut self) -> String {
+        if !self.planned.is_empty() && self.draws.one_in(2) {
+            return self.planned.pop_front().unwrap();
+        }
         let actor = self.draws.below(self.actors);
+        if self.draws.one_in(self.reserves) {
+            return format!("{actor} {}", self.reserve(actor));
+        }
+        if self.reserves < 20 && self.draws.one_in(10) {
+            return format!("{actor} {}", self.on_reservation());
+        }
         let (opens, cursors) = (self.inserts + self.opens, self.inserts + self.opens + self.on_cursors);
         let line = match self.draws.below(32) {
             n if n < self.inserts => self.insert(),
