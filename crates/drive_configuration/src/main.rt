@@ -1,6 +1,7 @@
 //! Cases of configuration files: lines and words, patterns, feed expressions, classes, rules of access, and ldmd.conf.
 #![tactic(auto)]
 
+mod bad;
 mod classes;
 mod conf;
 mod mutated;
@@ -8,7 +9,7 @@ mod patterns;
 mod policies;
 mod texts;
 
-use anyhow::{Result, bail};
+use bad::{Answer, Bad};
 use ldm_class::{Class, Policy};
 use ldm_drive::{Case, drive};
 use ldm_outside::MemFile;
@@ -21,39 +22,35 @@ struct Kept {
     policy: Policy,
     files: Vec<MemFile>,
     failing: Vec<u64>,
+    // The last ldmd.conf.
+    text: Vec<u8>,
 }
 
-fn main(rt: HostRuntime) -> Result<()> {
+fn main(rt: HostRuntime) -> anyhow::Result<()> {
     let alloc = rt.alloc();
     let mut kept = Kept {
         class: None,
         policy: Policy::create(alloc)?,
         files: Vec::new(alloc),
         failing: Vec::new(alloc),
+        text: Vec::new(alloc),
     };
-    drive(&rt, |case| answer(alloc, &mut kept, case))
+    drive(&rt, |case| Ok(answer(alloc, &mut kept, case)?))
 }
 
-fn answer(alloc: Global, kept: &mut Kept, case: &mut Case) -> Result<String> {
+fn answer(alloc: Global, kept: &mut Kept, case: &mut Case) -> Answer {
     let name = case.word()?;
     match name {
-        "lines" => texts::lines(alloc, case),
-        "words" => texts::words(alloc, case),
-        "blank" => texts::blank(alloc, case),
-        "begins" => texts::begins(alloc, case),
-        "find" => patterns::find(alloc, case),
-        "part" => patterns::part(alloc, case),
-        "group" => patterns::group(alloc, case),
-        "feed" | "feed_of" => patterns::feed(alloc, name, case),
+        "lines" | "words" | "blank" | "begins" => texts::answer(alloc, name, case),
+        "find" | "part" | "group" | "feed" | "feed_of" => patterns::answer(alloc, name, case),
         "class" | "wants" => classes::answer(alloc, name, &mut kept.class, case),
         "policy" | "policy_all" | "allow" | "accept" => {
             policies::change(alloc, name, &mut kept.policy, case)
         }
-        "verdict" => policies::verdict(alloc, &kept.policy, case),
-        "reduce" => policies::reduce(alloc, &kept.policy, case),
+        "verdict" | "verdicts" | "reduce" => policies::ask(alloc, name, &kept.policy, case),
         "file" | "file_of" | "failing" | "forget" => conf::prepare(alloc, name, kept, case),
         "conf" | "conf_of" => conf::read(alloc, name, kept, case),
         "mutated" => mutated::read(alloc, kept, case),
-        _ => bail!("no such word"),
+        _ => Err(Bad::Word),
     }
 }

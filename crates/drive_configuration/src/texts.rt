@@ -1,34 +1,53 @@
 //! Lines and words of texts.
 
-use anyhow::{Context, Result, bail};
+use crate::bad::{Answer, Bad};
 use ldm_drive::{Case, shown};
 use ldm_text::{Comments, begins_with, first_line, first_word, is_blank_text, to_word};
 use std::alloc::Global;
 
-/// The lines of a text.
-pub fn lines(alloc: Global, case: &mut Case) -> Result<String> {
-    let text = case.text(alloc)?;
+/// Answers a case of a text.
+pub fn answer(alloc: Global, name: &str, case: &mut Case) -> Answer {
+    match name {
+        "lines" => lines(alloc, &case.text(alloc)?),
+        "words" => {
+            let comments = comments_of(case.word()?)?;
+            words(alloc, comments, &case.text(alloc)?)
+        }
+        "blank" => Ok(format!(in alloc; "{}", is_blank_text(&case.text(alloc)?))?),
+        _ => begins(alloc, case),
+    }
+}
+
+// The lines of a text.
+fn lines(alloc: Global, text: &[u8]) -> Answer {
     let mut told = String::from_str(alloc, "lines")?;
-    let mut rest = Some(text.as_slice());
+    let mut rest = Some(text);
     for _ in 0..=text.len() {
         let Some(left) = rest else { break };
         let (line, behind) = first_line(left);
-        write!(told, " {}", shown(alloc, line)?)?;
+        put(alloc, &mut told, line)?;
         rest = behind;
     }
     Ok(told)
 }
 
-/// The words of a text, up to the first with a wrong quote.
-pub fn words(alloc: Global, case: &mut Case) -> Result<String> {
-    let comments = match case.word()? {
-        "hash" => Comments::Hash,
-        "never" => Comments::Never,
-        _ => bail!("comments begin with hash or never"),
-    };
-    let text = case.text(alloc)?;
+fn put(alloc: Global, told: &mut String, part: &[u8]) -> Result<(), Bad> {
+    write!(told, " {}", shown(alloc, part)?)?;
+    Ok(())
+}
+
+fn comments_of(word: &str) -> Result<Comments, Bad> {
+    match word {
+        "hash" => Ok(Comments::Hash),
+        "never" => Ok(Comments::Never),
+        _ => Err(Bad::Word),
+    }
+}
+
+// The words of a text, up to the first with a wrong quote.
+fn words(alloc: Global, comments: Comments, text: &[u8]) -> Answer {
     let mut told = String::from_str(alloc, "words")?;
-    let mut left = text.as_slice();
+    let mut left = text;
     for _ in 0..=text.len() {
         let rest = to_word(comments, left);
         if rest.is_empty() {
@@ -38,21 +57,14 @@ pub fn words(alloc: Global, case: &mut Case) -> Result<String> {
             told.push_str(" and a wrong quote")?;
             break;
         };
-        write!(told, " {}", shown(alloc, word)?)?;
+        put(alloc, &mut told, word)?;
         left = behind;
     }
     Ok(told)
 }
 
-/// Whether a text is blank.
-pub fn blank(alloc: Global, case: &mut Case) -> Result<String> {
-    let text = case.text(alloc)?;
-    Ok(format!(in alloc; "{}", is_blank_text(&text))?)
-}
-
-/// Whether a text begins with a byte.
-pub fn begins(alloc: Global, case: &mut Case) -> Result<String> {
-    let byte = *case.word()?.as_bytes().first().context("no byte")?;
-    let text = case.text(alloc)?;
-    Ok(format!(in alloc; "{}", begins_with(byte, &text))?)
+// Whether a text begins with a byte.
+fn begins(alloc: Global, case: &mut Case) -> Answer {
+    let byte = *case.word()?.as_bytes().first().ok_or(Bad::Word)?;
+    Ok(format!(in alloc; "{}", begins_with(byte, &case.text(alloc)?))?)
 }
