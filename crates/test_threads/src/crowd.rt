@@ -20,6 +20,42 @@ const ROW: &[u8] = b"0 insert 100 01010101010101010101010101010101 2 1 h p 4*41
 1 look 02020202020202020202020202020202
 ";
 
+// A script of eight actors. Three have regions reserved, each a third of the queue, fill them in parts and commit. The others
+// read, and hold what they are given.
+const RESERVERS_AND_READERS: &[u8] = b"0 reserve 1 01010101010101010101010101010101 2 1 h p 4
+1 reserve 1 02020202020202020202020202020202 2 1 h p 4
+2 reserve 1 03030303030303030303030303030303 2 1 h p 4
+3 open 2 oldest
+4 open 2 oldest
+5 open 2 oldest
+6 open 2 oldest
+7 open 2 oldest
+0 fill . 2*41
+1 fill . 3*42
+2 fill . 1*43
+3 step .
+4 step .
+5 step .
+6 step .
+7 step .
+0 fill . 2*44
+1 fill . 1*45
+2 fill . 3*46
+0 commit . 100
+1 commit . 100
+2 commit . 100
+3 read . 0 4
+4 read . 0 4
+5 read . 0 4
+6 read . 0 4
+7 read . 0 4
+3 close .
+4 close .
+5 close .
+6 close .
+7 close .
+";
+
 // How often a gate looks for the flag of the other worker.
 const TURNS: u32 = 1_000_000_000;
 
@@ -107,6 +143,31 @@ fn two_workers_play_at_once(rt: HostRuntime) -> Result<(), Fail> {
                 held: 0,
                 used: 56,
                 largest_free: 112
+            }
+    );
+    Ok(())
+}
+
+#[test]
+fn reservations_are_committed_beside_readers(rt: HostRuntime) -> Result<(), Fail> {
+    let alloc = rt.alloc();
+    let gates = vec![in alloc; OpenGate; 8]?;
+    let Crowd {
+        mut book,
+        pass,
+        gates: _,
+        answers: _,
+        end,
+    } = played(&rt, alloc, RESERVERS_AND_READERS, 8, gates)?;
+    assert!(rt; end == CrowdEnd::Done);
+    assert!(rt;
+        book.stat(pass.actor())
+            == Stat {
+                admitted: 3,
+                queued: 3,
+                held: 0,
+                used: 168,
+                largest_free: 0
             }
     );
     Ok(())

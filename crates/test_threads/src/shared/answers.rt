@@ -3,7 +3,7 @@ ghost use Rattle.std.specs.Prelude.{◌≡◌};
 ghost use Rattle.ldm_shared.specs.Passes.{IsPassOf, IsSamePass};
 
 use super::product;
-use ldm_model::{Start, StepReply};
+use ldm_model::{ReserveNo, Start, StepReply};
 use ldm_shared::{Pass, Shared, Turn};
 use ldm_types::{CursorNo, Feed, Micros, Signature};
 use std::alloc::Global;
@@ -11,7 +11,8 @@ use std::process::Abort;
 use std::sync::Wait;
 use std::test::*;
 
-// Each call, with the one product of this test, its body `ABCD`, and the cursor at the first place.
+// Each call, with the one product of this test, its body `ABCD`, and the cursor and the reservation at the first place. A fill
+// gives half of the body.
 #[derive(Clone, Copy)]
 enum Call {
     Insert,
@@ -24,12 +25,16 @@ enum Call {
     Expire,
     Tally,
     Stat,
+    Reserve,
+    Fill,
+    Commit,
+    Discard,
 }
 
 const BYTE: u8 = 7;
 
 // Each call and its answer, one after another on a queue of 168 bytes.
-const CALLS: [(Call, &str); 21] = [
+const CALLS: [(Call, &str); 36] = [
     (Call::Step, "Done(NoCursor)"),
     (Call::Read, "Done(NoCursor) [9, 9, 9]"),
     (Call::Open, "Done(Opened { k: CursorNo { number: 0 } })"),
@@ -63,6 +68,36 @@ const CALLS: [(Call, &str); 21] = [
         Call::Stat,
         "Done(Stat { admitted: 1, queued: 0, held: 0, used: 0, largest_free: 168 })",
     ),
+    (Call::Fill, "Done(NoReservation)"),
+    (
+        Call::Reserve,
+        "Done(Reserved { r: ReserveNo { number: 0 }, evicted: 0 })",
+    ),
+    (Call::Fill, "Done(Filled { left: 2 })"),
+    (Call::Commit, "Done(Unfilled { left: 2 })"),
+    (
+        Call::Stat,
+        "Done(Stat { admitted: 1, queued: 0, held: 1, used: 56, largest_free: 112 })",
+    ),
+    (Call::Fill, "Done(Filled { left: 0 })"),
+    (Call::Fill, "Done(Overfill { left: 0 })"),
+    (
+        Call::Commit,
+        "Done(Committed { n: 1, time: Micros { value: 101 } })",
+    ),
+    (Call::Commit, "Done(NoReservation)"),
+    (Call::Reserve, "Done(Duplicate { n: 1 })"),
+    (Call::Discard, "Done(NoReservation)"),
+    (Call::Expire, "Done(Expired { n: 1 })"),
+    (
+        Call::Reserve,
+        "Done(Reserved { r: ReserveNo { number: 0 }, evicted: 0 })",
+    ),
+    (Call::Discard, "Done(Discarded)"),
+    (
+        Call::Stat,
+        "Done(Stat { admitted: 2, queued: 0, held: 0, used: 0, largest_free: 168 })",
+    ),
 ];
 
 fn answer<H: Wait>(
@@ -77,6 +112,7 @@ fn answer<H: Wait>(
 {
     let now = Micros::new(100).ok_or("an instant")?;
     let k = CursorNo::new(0).ok_or("a place")?;
+    let r = ReserveNo::new(0).ok_or("a place")?;
     let signature = Signature([BYTE; 16]);
     Ok(match call {
         Call::Insert => {
@@ -99,6 +135,13 @@ fn answer<H: Wait>(
         Call::Expire => format!(in alloc; "{:?}", shared.expire(rt, pass))?,
         Call::Tally => format!(in alloc; "{:?}", shared.tally(rt, pass, k))?,
         Call::Stat => format!(in alloc; "{:?}", shared.stat(rt, pass))?,
+        Call::Reserve => {
+            let info = product(now, signature)?;
+            format!(in alloc; "{:?}", shared.reserve(rt, pass, &info))?
+        }
+        Call::Fill => format!(in alloc; "{:?}", shared.fill(rt, pass, r, b"AB"))?,
+        Call::Commit => format!(in alloc; "{:?}", shared.commit(rt, pass, r, now))?,
+        Call::Discard => format!(in alloc; "{:?}", shared.discard(rt, pass, r))?,
     })
 }
 

@@ -3,8 +3,9 @@ ghost use Rattle.std.specs.Prelude.{◌≡◌, ◌<◌, ◌≤◌};
 ghost use Rattle.ldm_shared.specs.Passes.{IsPassOf, IsSamePass};
 
 use ldm_model::{
-    CloseReply, ExpireReply, InsertReply, LookReply, OpenReply, ReadReply, ReleaseReply, Start,
-    Stat, StepReply, TallyReply,
+    CloseReply, CommitReply, DiscardReply, ExpireReply, FillReply, InsertReply, LookReply,
+    OpenReply, ReadReply, ReleaseReply, ReserveNo, ReserveReply, Start, Stat, StepReply,
+    TallyReply,
 };
 use ldm_shared::{Pass, Shared, Turn};
 use ldm_types::{CursorNo, Feed, Info, Micros, Signature};
@@ -14,6 +15,9 @@ use std::sync::Wait;
 
 // There are so many products. Each byte of the signature and of the body of one is its number.
 const PRODUCTS: u8 = 96;
+
+// So many threads may have a reservation, one each.
+const RESERVERS: u64 = 8;
 
 /// A product that was admitted.
 #[derive(Clone, Copy)]
@@ -117,7 +121,7 @@ impl Worker {
         self.below(u64::from(PRODUCTS)) as u8
     }
 
-    /// Makes one of the ten calls.
+    /// Makes one of the calls, or those that belong to one reservation.
     pub fn call<R: Wait + Abort>(
         &mut self,
         rt: &R,
@@ -127,7 +131,7 @@ impl Worker {
         requires { IsPassOf shared.now pass.old }
         ensures { IsSamePass pass.old pass.new }
     {
-        match self.below(20) {
+        match self.below(23) {
             0..=5 => self.insert(rt, shared, pass)?,
             6..=10 => match self.reader {
                 Some(reader) => {
@@ -165,9 +169,17 @@ impl Worker {
                 let turn = shared.stat(rt, pass);
                 self.counted(rt, shared.arena(), done(rt, turn));
             }
+            19..=21 => self.reserve(rt, shared, pass)?,
             _ => self.close(rt, shared, pass),
         }
         Ok(())
+    }
+
+    // The moment of the next insertion, a few microseconds after the last.
+    fn now<R: Abort>(&mut self, rt: &R) -> Micros {
+        let wait = self.below(20);
+        self.moment = self.moment.saturating_add(wait).min(Micros::MAX);
+        Micros::new(self.moment).expect(rt, "an instant")
     }
 
     fn insert<R: Wait + Abort>(
@@ -180,9 +192,7 @@ impl Worker {
         ensures { IsSamePass pass.old pass.new }
     {
         let byte = self.byte();
-        let wait = self.below(20);
-        self.moment = self.moment.saturating_add(wait).min(Micros::MAX);
-        let now = Micros::new(self.moment).expect(rt, "an instant");
+        let now = self.now(rt);
         let size = size_of(byte, self.largest);
         let info = info_of(rt, now, byte, size);
         let body = vec![in self.alloc; byte; size as usize]?;
@@ -209,6 +219,66 @@ impl Worker {
             other => panic!(rt; "{other:?}"),
         }
         Ok(())
+    }
+
+    // A product for which a region is reserved. Its body is filled in, and the product is committed, or given up.
+    fn reserve<R: Wait + Abort>(
+        &mut self,
+        rt: &R,
+        shared: &Shared,
+        pass: &mut Pass,
+    ) -> Result<(), AllocError>
+        requires { IsPassOf shared.now pass.old }
+        ensures { IsSamePass pass.old pass.new }
+    {
+        let byte = self.byte();
+        let now = self.now(rt);
+        let size = size_of(byte, self.largest);
+        let info = info_of(rt, now, byte, size);
+        let turn = shared.reserve(rt, pass, &info);
+        match done(rt, turn) {
+            ReserveReply::Reserved { r, evicted } => {
+                self.told.gone = self.told.gone.saturating_add(evicted);
+                let body = vec![in self.alloc; byte; size as usize]?;
+                fill(rt, shared, pass, r, &body);
+                self.end_reservation(rt, shared, pass, r, byte, now)
+            }
+            ReserveReply::Duplicate { n } => self.name(n, byte, None),
+            other => {
+                assert!(rt; matches!(other, ReserveReply::Locked { held } if held > 0));
+                Ok(())
+            }
+        }
+    }
+
+    // Commits a reservation, or gives it up once in four times.
+    fn end_reservation<R: Wait + Abort>(
+        &mut self,
+        rt: &R,
+        shared: &Shared,
+        pass: &mut Pass,
+        r: ReserveNo,
+        byte: u8,
+        now: Micros,
+    ) -> Result<(), AllocError>
+        requires { IsPassOf shared.now pass.old }
+        ensures { IsSamePass pass.old pass.new }
+    {
+        if self.below(4) == 0 {
+            let turn = shared.discard(rt, pass, r);
+            assert_eq!(rt; turn, Turn::Done(DiscardReply::Discarded));
+            return Ok(());
+        }
+        let turn = shared.commit(rt, pass, r, now);
+        match done(rt, turn) {
+            CommitReply::Committed { n, time } => {
+                assert!(rt; n >= self.admitted && time >= now);
+                self.admitted = n.saturating_add(1);
+                Ok(self.told.admitted.push(Admitted { n, byte, time })?)
+            }
+            CommitReply::Duplicate { n } => self.name(n, byte, None),
+            other => panic!(rt; "{other:?}"),
+        }
     }
 
     // What a cursor is opened for, where it begins, and the least number that it can be given.
@@ -334,7 +404,8 @@ impl Worker {
     }
 
     fn counted<R: Abort>(&mut self, rt: &R, arena: u64, stat: Stat) {
-        assert!(rt; stat.admitted >= self.admitted && stat.held <= stat.queued);
+        assert!(rt; stat.admitted >= self.admitted);
+        assert!(rt; stat.held <= stat.queued.saturating_add(RESERVERS));
         assert!(rt; stat.used.saturating_add(stat.largest_free) <= arena);
         self.admitted = stat.admitted;
     }
@@ -342,6 +413,20 @@ impl Worker {
     fn name(&mut self, n: u64, byte: u8, time: Option<Micros>) -> Result<(), AllocError> {
         Ok(self.told.named.push(Named { n, byte, time })?)
     }
+}
+
+// Fills a body into a reserved region, in two pieces.
+fn fill<R: Wait + Abort>(rt: &R, shared: &Shared, pass: &mut Pass, r: ReserveNo, body: &[u8])
+    requires { IsPassOf shared.now pass.old }
+    ensures { IsSamePass pass.old pass.new }
+{
+    let (front, rest) = body.split_at(body.len() / 2);
+    let turn = shared.fill(rt, pass, r, front);
+    assert!(rt;
+        matches!(done(rt, turn), FillReply::Filled { left } if left as usize == rest.len())
+    );
+    let turn = shared.fill(rt, pass, r, rest);
+    assert_eq!(rt; turn, Turn::Done(FillReply::Filled { left: 0 }));
 }
 
 fn size_of(byte: u8, largest: u32) -> u32 {
