@@ -1,8 +1,10 @@
 //! Classes of products, as a site asks for them.
+ghost use Rattle.std.specs.Prelude.{◌≡◌};
 
 use crate::feed::Feed;
 use crate::limits::{LONGEST_PATTERN, MOST_SPECS};
 use crate::micros::Micros;
+use crate::texts::copied;
 use arrayvec::ArrayVec;
 
 /// Which products are wanted: those whose feedtype meets `feed` and in whose ident `pattern` is found.
@@ -16,6 +18,18 @@ pub struct Spec {
     pub pattern: ArrayVec<u8, LONGEST_PATTERN>,
 }
 
+impl Spec {
+    /// The same specification once more. It takes no memory.
+    pub fn copy(&self) -> Spec
+        ensures { result ≡ self.now }
+    {
+        Spec {
+            feed: self.feed,
+            pattern: copied(&self.pattern),
+        }
+    }
+}
+
 /// The products inserted from `from` to `to`, both included, that one of at most 32 specifications wants.
 #[derive(Clone, Debug, PartialEq, Eq, Drop)]
 pub struct ClassSpec {
@@ -25,4 +39,27 @@ pub struct ClassSpec {
     pub to: Micros,
     /// The specifications: a product needs to be wanted by one of them.
     pub specs: ArrayVec<Spec, MOST_SPECS>,
+}
+
+impl ClassSpec {
+    /// The same class once more. It takes no memory.
+    pub fn copy(&self) -> ClassSpec
+        ensures { result ≡ self.now }
+    {
+        ClassSpec {
+            from: self.from,
+            to: self.to,
+            specs: copied_specs(&self.specs),
+        }
+    }
+}
+
+fn copied_specs(specs: &ArrayVec<Spec, MOST_SPECS>) -> ArrayVec<Spec, MOST_SPECS>
+    ensures { result.items ≡ specs.now.items }
+{
+    let mut copy = ArrayVec::new();
+    for spec in specs.as_slice() {
+        copy.push(spec.copy());
+    }
+    copy
 }

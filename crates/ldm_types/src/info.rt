@@ -6,6 +6,7 @@ use crate::feed::Feed;
 use crate::limits::{LONGEST_IDENT, LONGEST_ORIGIN};
 use crate::micros::Micros;
 use crate::signature::Signature;
+use crate::texts::copied;
 use arrayvec::ArrayVec;
 use std::alloc::AllocError;
 use std::marker::Model;
@@ -168,16 +169,6 @@ impl Clone for Info {
     fn clone(&self) -> Result<Info, AllocError> {
         Ok(self.copy())
     }
-}
-
-fn copied<const N: usize>(text: &ArrayVec<u8, N>) -> ArrayVec<u8, N>
-    ensures { result.items ≡ text.now.items }
-{
-    let mut copy = ArrayVec::new();
-    if copy.try_extend_from_slice(text.as_slice()).is_err() {
-        unreachable!();
-    }
-    copy
 }
 
 // The place of the first zero byte of two texts, one behind the other.

@@ -12,6 +12,7 @@ mod memory;
 mod micros;
 mod numbers;
 mod signature;
+mod texts;
 
 pub use class::{ClassSpec, Spec};
 pub use feed::Feed;
