@@ -8,7 +8,6 @@ ghost use Rattle.ldm_pattern.specs.Patterns.{pattern_meaning};
 ghost use Rattle.ldm_class.specs.Searches.{search_of};
 
 use crate::class_matcher::ClassMatcher;
-use crate::copy::copy_of;
 use crate::search::{Search, resumption};
 use ldm_pattern::{Pattern, Refusal};
 use ldm_types::{ClassSpec, Info, MOST_SPECS, OutOfMemory, Signature, Spec};
@@ -83,7 +82,7 @@ impl Class {
     {
         let searches = searches_of(alloc, spec.specs.as_slice())?;
         Ok(Class {
-            spec: copy_of(spec),
+            spec: spec.copy(),
             searches,
         })
     }

@@ -8,7 +8,6 @@
 mod answers;
 mod class;
 mod class_matcher;
-mod copy;
 mod host_policy;
 mod policy;
 mod reduce;

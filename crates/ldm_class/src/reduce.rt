@@ -6,7 +6,6 @@ ghost use Rattle.ldm_types.specs.declared.class.Spec.{Spec};
 ghost use Rattle.ldm_class.specs.Access.{feeds_for, first_rule, is_about, is_within, left_of, narrowed, or_none, reduce, reduced};
 
 use crate::answers::Reduced;
-use crate::copy::copied_pattern;
 use crate::rule::Rule;
 use crate::search::resumption;
 use arrayvec::ArrayVec;
@@ -106,17 +105,14 @@ fn narrowed_specs(specs: &ArrayVec<Spec, MOST_SPECS>, feeds: Feed) -> ArrayVec<S
 fn narrowed(spec: &Spec, feeds: Feed) -> Option<Spec>
     ensures { result ≡ narrowed feeds.0 spec.now }
 {
-    let feed = if resumption(spec).is_some() {
-        spec.feed
-    } else if spec.feed.meets(feeds) {
-        Feed(spec.feed.0 & feeds.0)
-    } else {
-        return None;
-    };
-    Some(Spec {
-        feed,
-        pattern: copied_pattern(&spec.pattern),
-    })
+    let mut part = spec.copy();
+    if resumption(spec).is_none() {
+        if !spec.feed.meets(feeds) {
+            return None;
+        }
+        part.feed = Feed(spec.feed.0 & feeds.0);
+    }
+    Some(part)
 }
 
 /// What [`Policy::reduce`](crate::Policy::reduce) calls the same is what it leaves whole.
