@@ -7,7 +7,7 @@ use Rattle.std.specs.Global.{Vec}
 use Rattle.std.specs.Vec.{vec_len, vec_capacity}
 use Rattle.std.proofs.lemmas.List.{length-append, length-replicate, replicate-append-replicate, take_at, drop_at}
 use Rattle.ldm_types.specs.Info.{pad4}
-use Rattle.ldm_xdr.specs.Spelling.{spelling}
+use Rattle.ldm_xdr.specs.Spelling.{spelling, number, padded, opaque}
 use Rattle.ldm_xdr.specs.Writing.{put_at}
 use Rattle.ldm_rpc.specs.declared.stage.TheConstants.{LAST_FRAGMENT}
 use Rattle.ldm_rpc.specs.Spelling.{Fits as RecordFits}
@@ -20,8 +20,8 @@ use Rattle.ldm_relay.specs.Appends.{HasRoom, Appends}
 use Rattle.ldm_relay.specs.Bodies.{body_len, with_body, front_of}
 use Rattle.ldm_relay.specs.MessageView.{sent_of}
 use Rattle.ldm_relay.specs.Sent.{Sent}
-use Rattle.ldm_relay.specs.Spelling.{number, padded, opaque, call_header, written, in_one, record_of}
-use Rattle.ldm_relay.proofs.Lengths.{length_unsigned, length_padded}
+use Rattle.ldm_relay.specs.Spelling.{call_header, written, in_one, record_of}
+use Rattle.ldm_xdr.proofs.Lengths.{length_unsigned, length_padded}
 use Rattle.ldm_relay.proofs.Records.{one_record}
 
 pub front_and_body : (call : CallWithBody) (body : List ℕ) → length body ≡ body_len call → written (with_body call body) ≡ front_of call ++ padded body

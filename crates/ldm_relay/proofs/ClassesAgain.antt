@@ -8,8 +8,9 @@ use Rattle.ldm_relay.specs.declared.message.ClassAnswer.{ClassAnswer}
 use Rattle.ldm_relay.specs.declared.message.ClassAnswer.TheVariants as class_answer
 use Rattle.ldm_relay.specs.Classes.{instant_in, spec_in, specs_in, class_in, reclass_in, class_answer_in}
 use Rattle.ldm_relay.specs.Fits.{SpecFits, ClassFits, ClassAnswerFits}
-use Rattle.ldm_relay.specs.Spelling.{unsigned, opaque, instant_bytes, spec_bytes, class_bytes, class_answer_bytes}
-use Rattle.ldm_relay.proofs.FieldsAgain.{unsigned_again, up_to_again, opaque_again}
+use Rattle.ldm_xdr.specs.Spelling.{unsigned, opaque}
+use Rattle.ldm_relay.specs.Spelling.{instant_bytes, spec_bytes, class_bytes, class_answer_bytes}
+use Rattle.ldm_xdr.proofs.FieldsAgain.{unsigned_again, up_to_again, opaque_again}
 
 pub instant_again : (micros : ℕ) (rest : List ℕ) → micros ≤ GREATEST_INSTANT → instant_in (instant_bytes micros ++ rest) ≡ Ok (micros, rest)
 unfolding instant_in instant_bytes

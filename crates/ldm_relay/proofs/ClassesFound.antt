@@ -8,10 +8,11 @@ use Rattle.ldm_types.specs.declared.class.ClassSpec.{ClassSpec}
 use Rattle.ldm_types.specs.declared.class.Spec.{Spec}
 use Rattle.ldm_relay.specs.declared.message.ClassAnswer.{ClassAnswer}
 use Rattle.ldm_relay.specs.declared.message.ClassAnswer.TheVariants as class_answer
-use Rattle.ldm_relay.specs.Fields.{number_in, up_to_in, opaque_in}
+use Rattle.ldm_xdr.specs.Fields.{number_in, up_to_in, opaque_in}
 use Rattle.ldm_relay.specs.Classes.{instant_in, spec_in, specs_in, class_in, reclass_in, coded_class_answer, class_answer_in}
-use Rattle.ldm_relay.specs.Spelling.{unsigned, opaque, instant_bytes, spec_bytes, class_bytes, class_answer_bytes}
-use Rattle.ldm_relay.proofs.FieldsFound.{IsBytes, bind_ok, failed, ok_is, Takes, both_taken, taken_as, unsigned_found, up_to_found, opaque_found}
+use Rattle.ldm_xdr.specs.Spelling.{unsigned, opaque}
+use Rattle.ldm_relay.specs.Spelling.{instant_bytes, spec_bytes, class_bytes, class_answer_bytes}
+use Rattle.ldm_xdr.proofs.FieldsFound.{IsBytes, bind_ok, failed, ok_is, Takes, both_taken, taken_as, unsigned_found, up_to_found, opaque_found}
 
 instant_found : (bytes : List ℕ) (x : ℕ × List ℕ) → IsBytes bytes → instant_in bytes ≡ Ok x → Takes bytes (instant_bytes x.0) x.1
 unfolding instant_in instant_bytes

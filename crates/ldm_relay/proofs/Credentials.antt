@@ -11,14 +11,15 @@ use Rattle.ldm_relay.specs.declared.procedure.Procedure.{Procedure}
 use Rattle.ldm_relay.specs.declared.procedure.TheConstants.{PROGRAM, VERSION}
 use Rattle.ldm_relay.specs.Procedure.{number_of, answered}
 use Rattle.ldm_relay.specs.Sent.{Sent}
-use Rattle.ldm_relay.specs.Fields.{passed_in}
+use Rattle.ldm_xdr.specs.Fields.{passed_in}
 use Rattle.ldm_relay.specs.Headers.{authentication_in, call_header_in, reply_header_in}
 use Rattle.ldm_relay.specs.Calls.{call_in}
 use Rattle.ldm_relay.specs.Replies.{accepted_in}
 use Rattle.ldm_relay.specs.Reading.{whole, called, call_of, reply_of}
 use Rattle.ldm_relay.specs.Fits.{Is32, AuthenticationFits}
-use Rattle.ldm_relay.specs.Spelling.{unsigned, Authentication, authentication, call_header, call_header_with, reply_header, reply_header_with}
-use Rattle.ldm_relay.proofs.FieldsAgain.{unsigned_again, up_to_again, exactly_again}
+use Rattle.ldm_xdr.specs.Spelling.{unsigned}
+use Rattle.ldm_relay.specs.Spelling.{Authentication, authentication, call_header, call_header_with, reply_header, reply_header_with}
+use Rattle.ldm_xdr.proofs.FieldsAgain.{unsigned_again, up_to_again, exactly_again}
 use Rattle.ldm_relay.proofs.MessagesAgain.{header_of, number_small, call_header_again, reply_header_again}
 use Rattle.ldm_relay.proofs.MessagesFound.{or_at_ok}
 

@@ -1,34 +1,16 @@
 -- The lengths of spellings.
 use Rattle.std.proofs.Common.{◌≡◌, ℕ, ◌+◌, ◌-◌, ◌*◌, ◌<◌, List, [], ◌∷◌, ◌++◌, length, get_or, take, refl, sym, ap, ◌∙◌, arith}
-use Rattle.std.specs.Prelude.{replicate}
-use Rattle.std.specs.Int.{w32, w64}
 use Rattle.std.specs.List.{flat_map}
 use Rattle.std.proofs.lemmas.List.{append-nil, length-append, length-replicate, take_more, take_all}
 use Rattle.std.proofs.lemmas.List.Concat.{flat_map-append}
 use Rattle.ldm_types.specs.Info.{Metadata, pad4, metadata_len}
-use Rattle.ldm_xdr.specs.Spelling.{spelling}
+use Rattle.ldm_xdr.specs.Spelling.{spelling, unsigned, opaque}
+use Rattle.ldm_xdr.proofs.Lengths.{length_unsigned, length_hyper, length_padded, length_opaque}
 use Rattle.ldm_xdr.proofs.Whole.{length-spelling}
 use Rattle.ldm_types.specs.declared.class.ClassSpec.{ClassSpec}
 use Rattle.ldm_types.specs.declared.class.Spec.{Spec}
 use Rattle.ldm_relay.specs.declared.procedure.Procedure.{Procedure}
-use Rattle.ldm_relay.specs.Spelling.{number, unsigned, padded, opaque, instant_bytes, spec_bytes, class_bytes, no_authentication, call_header, accepted_header, reply_header}
-
-pub length_unsigned : (n : ℕ) → length (number w32 n) ≡ 4
-unfolding number
-length_unsigned n = refl
-
-pub length_hyper : (n : ℕ) → length (number w64 n) ≡ 8
-unfolding number
-length_hyper n = refl
-
-pub length_padded : (bytes : List ℕ) → length (padded bytes) ≡ pad4 (length bytes)
-length_padded bytes =
-    length-append bytes (replicate (pad4 (length bytes) - length bytes) 0)
-    ∙ omega (arith, length-replicate {A = ℕ} (pad4 (length bytes) - length bytes) 0)
-
-pub length_opaque : (bytes : List ℕ) → length (opaque bytes) ≡ 4 + pad4 (length bytes)
-unfolding opaque
-length_opaque bytes = length-append (unsigned (length bytes)) (padded bytes) ∙ omega (arith, length_unsigned (length bytes), length_padded bytes)
+use Rattle.ldm_relay.specs.Spelling.{instant_bytes, spec_bytes, class_bytes, no_authentication, call_header, accepted_header, reply_header}
 
 pub length_instant : (micros : ℕ) → length (instant_bytes micros) ≡ 8
 unfolding instant_bytes

@@ -1,12 +1,11 @@
 pub mod Specs
 pub mod Appending
 pub mod Lengths
-pub mod FieldsAgain
+pub mod Authentication
 pub mod ClassesAgain
 pub mod Refusals
 pub mod MessagesAgain
 pub mod NoResults
-pub mod FieldsFound
 pub mod ClassesFound
 pub mod MessagesFound
 pub mod Credentials

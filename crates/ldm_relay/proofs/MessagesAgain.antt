@@ -2,7 +2,7 @@
 use Rattle.std.proofs.Common.{◌≡◌, ℕ, ◌^◌, ◌<◌, ◌≤◌, List, [], ◌++◌, length, Option, Some, None, Ok, refl, sym, ap, ◌∙◌, append_assoc, lit<, lit≤}
 use Rattle.std.proofs.lemmas.List.{append-nil}
 use Rattle.ldm_types.specs.Info.{Metadata}
-use Rattle.ldm_xdr.specs.Spelling.{Fits as InfoFits, spelling}
+use Rattle.ldm_xdr.specs.Spelling.{Fits as InfoFits, spelling, unsigned, hyper, padded, opaque}
 use Rattle.ldm_relay.specs.declared.header.CallHeader.{CallHeader}
 use Rattle.ldm_types.specs.declared.class.ClassSpec.{ClassSpec}
 use Rattle.ldm_relay.specs.declared.message.ClassAnswer.{ClassAnswer}
@@ -26,8 +26,10 @@ use Rattle.ldm_relay.specs.Replies.{result_in, accepted_in, feedme_reply_in, hiy
 use Rattle.ldm_relay.specs.Replies.{admitted_in, too_big_in, duplicate_in, locked_in, put_answer_in, put_reply_in, notifyme_reply_in}
 use Rattle.ldm_relay.specs.Reading.{whole, call_of, reply_of, kind_of, read_as}
 use Rattle.ldm_relay.specs.Fits.{Is32, ClassFits, ClassAnswerFits, StatFits, PutAnswerFits, Fits}
-use Rattle.ldm_relay.specs.Spelling.{unsigned, hyper, padded, opaque, class_bytes, class_answer_bytes, soon_answer_bytes, figures_bytes, stat_bytes, put_answer_bytes, no_authentication, call_header, accepted_header, reply_header, written}
-use Rattle.ldm_relay.proofs.FieldsAgain.{unsigned_again, hyper_again, up_to_again, exactly_again, padded_again, opaque_again, authentication_again, signature_again, info_again}
+use Rattle.ldm_relay.specs.Spelling.{class_bytes, class_answer_bytes, soon_answer_bytes, figures_bytes, stat_bytes, put_answer_bytes, no_authentication, call_header, accepted_header, reply_header, written}
+use Rattle.ldm_xdr.proofs.FieldsAgain.{unsigned_again, hyper_again, up_to_again, exactly_again, padded_again, opaque_again, signature_again}
+use Rattle.ldm_xdr.proofs.Whole.{info_again}
+use Rattle.ldm_relay.proofs.Authentication.{authentication_again}
 use Rattle.ldm_relay.proofs.ClassesAgain.{class_again, class_answer_again}
 use Rattle.ldm_relay.proofs.Refusals.{accepted_header_is, refusal_read}
 

@@ -3,7 +3,7 @@ use Rattle.std.proofs.Common.{◌≡◌, ℕ, ◌^◌, ◌<◌, true, eqb, List,
 use Rattle.std.specs.Int.{w32, w64}
 use Rattle.std.proofs.lemmas.List.{append-nil}
 use Rattle.ldm_types.specs.Info.{Metadata}
-use Rattle.ldm_xdr.specs.Spelling.{spelling}
+use Rattle.ldm_xdr.specs.Spelling.{spelling, unsigned, hyper, padded, opaque}
 use Rattle.ldm_relay.specs.declared.fault.RelayFault.{RelayFault}
 use Rattle.ldm_relay.specs.declared.fault.RelayFault.TheVariants.{BadMessage}
 use Rattle.ldm_relay.specs.declared.message.Refusal.{Refusal}
@@ -20,19 +20,21 @@ use Rattle.ldm_relay.specs.declared.procedure.Procedure.{Procedure}
 use Rattle.ldm_relay.specs.declared.procedure.Procedure.TheVariants as procedure
 use Rattle.ldm_relay.specs.Sent.{Sent}
 use Rattle.ldm_relay.specs.Sent as sent
-use Rattle.ldm_relay.specs.Fields.{number_in, up_to_in, fixed_in, opaque_in, no_more}
+use Rattle.ldm_xdr.specs.Fields.{number_in, up_to_in, fixed_in, opaque_in, no_more}
 use Rattle.ldm_relay.specs.Classes.{class_in, class_answer_in}
-use Rattle.ldm_relay.specs.Calls.{info_in, call_in, feedme_in, hiya_in, product_in, hereis_in, put_in, comingsoon_in, blkdata_in, notifyme_in, notification_in}
+use Rattle.ldm_xdr.specs.Reading.{info_in}
+use Rattle.ldm_relay.specs.Calls.{call_in, feedme_in, hiya_in, product_in, hereis_in, put_in, comingsoon_in, blkdata_in, notifyme_in, notification_in}
 use Rattle.ldm_relay.specs.Replies.{result_in, accepted_in, feedme_reply_in, hiya_reply_in, comingsoon_reply_in, figures_in, told_in, stat_in, qstat_reply_in}
 use Rattle.ldm_relay.specs.Replies.{admitted_in, too_big_in, duplicate_in, locked_in, coded_put_answer, put_answer_in, put_reply_in, notifyme_reply_in}
 use Rattle.ldm_relay.specs.Refusals.{versions_in, coded_refusal, refusal_in, refused_in}
 use Rattle.ldm_relay.specs.Reading.{whole, or_at, call_of, reply_of, refusal_of}
 use Rattle.ldm_relay.specs.Procedure.{answered}
-use Rattle.ldm_relay.specs.Spelling.{unsigned, hyper, padded, opaque, class_bytes, class_answer_bytes, soon_answer_bytes, figures_bytes, stat_bytes, put_answer_bytes, refusal_bytes, call_header, accepted_header, reply_header, written}
-use Rattle.ldm_relay.proofs.FieldsAgain.{exactly_again}
+use Rattle.ldm_relay.specs.Spelling.{class_bytes, class_answer_bytes, soon_answer_bytes, figures_bytes, stat_bytes, put_answer_bytes, refusal_bytes, call_header, accepted_header, reply_header, written}
+use Rattle.ldm_xdr.proofs.FieldsAgain.{exactly_again}
 use Rattle.ldm_relay.proofs.Refusals.{accepted_header_is}
 use Rattle.ldm_relay.proofs.MessagesAgain.{numbered_again, call_header_again, reply_header_again}
-use Rattle.ldm_relay.proofs.FieldsFound.{IsBytes, bind_ok, ok_is, Takes, both_taken, taken_as, unsigned_found, hyper_found, padded_found, opaque_found, signature_found, info_found}
+use Rattle.ldm_xdr.proofs.FieldsFound.{IsBytes, bind_ok, ok_is, Takes, both_taken, taken_as, unsigned_found, hyper_found, padded_found, opaque_found, signature_found}
+use Rattle.ldm_xdr.proofs.Whole.{info_found}
 use Rattle.ldm_relay.proofs.ClassesFound.{class_found, class_answer_found, chosen, err_is_no_ok, code_taken, code_with}
 
 -- what was read stands there as its spelling says, under that header
@@ -66,7 +68,7 @@ unfolding product_in
 product_found bytes x fits e =
     let a = bind_ok (info_in bytes) _ x e in
     let b = bind_ok (fixed_in a.0.0.size a.0.1) _ x a.2 in
-    let info = info_found bytes a.0 fits a.1 in
+    let info = (info_found bytes a.0 fits a.1).takes in
     let body = padded_found (length a.0.1) a.0.0.size a.0.1 b.0 info.rest_fits b.1 in
     let made : (Metadata × List ℕ) × List ℕ = ((a.0.0, b.0.0), b.0.1) in
     subst (λ (y : (Metadata × List ℕ) × List ℕ). Takes bytes (spelling y.0.0 ++ padded y.0.1) y.1) (ok_is made x b.2)
@@ -93,7 +95,7 @@ unfolding comingsoon_in written
 comingsoon_found xid bytes x fits e =
     let a = bind_ok (info_in bytes) _ x e in
     let b = bind_ok (number_in w32 a.0.1) _ x a.2 in
-    let info = info_found bytes a.0 fits a.1 in
+    let info = (info_found bytes a.0 fits a.1).takes in
     let size = unsigned_found a.0.1 b.0 info.rest_fits b.1 in
     let made : Sent × List ℕ = (sent.Comingsoon xid a.0.0 b.0.0, b.0.1) in
     subst (IsSaid (call_header xid procedure.Comingsoon) bytes) (ok_is made x b.2)
@@ -128,7 +130,7 @@ unfolding notification_in written
 notification_found xid bytes x fits e =
     let a = bind_ok (info_in bytes) _ x e in
     let made : Sent × List ℕ = (sent.Notification xid a.0.0, a.0.1) in
-    subst (IsSaid (call_header xid procedure.Notification) bytes) (ok_is made x a.2) (record { body = spelling a.0.0; takes = info_found bytes a.0 fits a.1; spelled = refl })
+    subst (IsSaid (call_header xid procedure.Notification) bytes) (ok_is made x a.2) (record { body = spelling a.0.0; takes = (info_found bytes a.0 fits a.1).takes; spelled = refl })
 
 -- a call without a body
 empty_found : (xid : ℕ) (p : Procedure) (bytes : List ℕ) (m : Sent) (x : Sent × List ℕ) → IsBytes bytes → written m ≡ call_header xid p → (m, bytes) ≡ x

@@ -9,12 +9,13 @@ use Rattle.ldm_relay.specs.declared.procedure.Answered.{Answered}
 use Rattle.ldm_relay.specs.Procedure.{number_of, procedure_of}
 use Rattle.ldm_relay.specs.Sent.{Sent}
 use Rattle.ldm_relay.specs.Sent as sent
-use Rattle.ldm_relay.specs.Fields.{exactly_in}
+use Rattle.ldm_xdr.specs.Fields.{exactly_in}
 use Rattle.ldm_relay.specs.Replies.{accepted_in}
 use Rattle.ldm_relay.specs.Reading.{whole, reply_of}
 use Rattle.ldm_relay.specs.Fits.{Is32, RefusalFits}
-use Rattle.ldm_relay.specs.Spelling.{unsigned, accepted_header, written}
-use Rattle.ldm_relay.proofs.FieldsAgain.{unsigned_again}
+use Rattle.ldm_xdr.specs.Spelling.{unsigned}
+use Rattle.ldm_relay.specs.Spelling.{accepted_header, written}
+use Rattle.ldm_xdr.proofs.FieldsAgain.{unsigned_again}
 use Rattle.ldm_relay.proofs.Lengths.{length_accepted_header}
 use Rattle.ldm_relay.proofs.Refusals.{begins, header_refused}
 use Rattle.ldm_relay.proofs.MessagesAgain.{answered_again}

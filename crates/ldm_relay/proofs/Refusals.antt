@@ -4,13 +4,15 @@ use Rattle.std.proofs.lemmas.List.{append-nil}
 use Rattle.ldm_relay.specs.declared.message.Refusal.{Refusal}
 use Rattle.ldm_relay.specs.declared.message.Refusal.TheVariants as refusal
 use Rattle.ldm_relay.specs.Sent as sent
-use Rattle.ldm_relay.specs.Fields.{◌>>=◌, up_to_in}
+use Rattle.ldm_xdr.specs.Fields.{◌>>=◌, up_to_in}
 use Rattle.ldm_relay.specs.Headers.{reply_header_in}
 use Rattle.ldm_relay.specs.Refusals.{versions_in, refusal_in, refused_in}
 use Rattle.ldm_relay.specs.Reading.{whole, refusal_of}
 use Rattle.ldm_relay.specs.Fits.{Is32, RefusalFits}
-use Rattle.ldm_relay.specs.Spelling.{unsigned, no_authentication, accepted_header, refusal_bytes}
-use Rattle.ldm_relay.proofs.FieldsAgain.{unsigned_again, up_to_again, exactly_again, authentication_again}
+use Rattle.ldm_xdr.specs.Spelling.{unsigned}
+use Rattle.ldm_relay.specs.Spelling.{no_authentication, accepted_header, refusal_bytes}
+use Rattle.ldm_xdr.proofs.FieldsAgain.{unsigned_again, up_to_again, exactly_again}
+use Rattle.ldm_relay.proofs.Authentication.{authentication_again}
 
 -- the header reads wherever a status stands behind it
 pub accepted_header_is : (xid : ℕ) (bytes : List ℕ) → Is32 xid → reply_header_in (accepted_header xid ++ bytes) ≡ (up_to_in 5 bytes >>= λ status. Ok (xid, bytes))

@@ -1,12 +1,11 @@
 -- How many bytes of a record are behind what was read, so that a call that is read from a record is not too long for one.
-use Rattle.std.proofs.Common.{◌≡◌, ℕ, ◌+◌, ◌≤◌, ltb, eqb, List, length, take, drop, Result, Ok, Err, refl, ap, subst, ◌∙◌, arith, inl, inr}
+use Rattle.std.proofs.Common.{◌≡◌, ℕ, ◌+◌, ◌≤◌, ltb, eqb, List, length, take, drop, Ok, ap, subst, ◌∙◌, arith, inl, inr}
 use Rattle.std.specs.Int.{w32, from_be_bytes}
 use Rattle.std.proofs.lemmas.Bool.{ltb-false}
 use Rattle.std.proofs.lemmas.List.{length-append, length-drop}
 use Rattle.ldm_types.specs.Info.{Metadata, pad4, metadata_len}
-use Rattle.ldm_xdr.specs.Reading.{metadata_at_front}
-use Rattle.ldm_xdr.specs.declared.fault.XdrFault.{XdrFault}
-use Rattle.ldm_xdr.proofs.Whole.{metadata_found}
+use Rattle.ldm_xdr.specs.Reading.{info_in}
+use Rattle.ldm_xdr.proofs.Whole.{info_found, length-spelling}
 use Rattle.ldm_relay.specs.declared.header.CallHeader.{CallHeader}
 use Rattle.ldm_relay.specs.declared.header.TheConstants.{CALL, RPC_VERSION, NO_AUTHENTICATION, LONGEST_AUTHENTICATION}
 use Rattle.ldm_relay.specs.declared.message.TheConstants.{LARGEST_BLOCK, LARGEST_CONTENT}
@@ -14,15 +13,15 @@ use Rattle.ldm_relay.specs.declared.procedure.Procedure.{Procedure}
 use Rattle.ldm_relay.specs.declared.procedure.Procedure.TheVariants as procedure
 use Rattle.ldm_relay.specs.Sent.{Sent}
 use Rattle.ldm_relay.specs.Sent as sent
-use Rattle.ldm_relay.specs.Fields.{number_in, up_to_in, exactly_in, fixed_in, opaque_in, passed_in, no_more}
+use Rattle.ldm_xdr.specs.Fields.{number_in, up_to_in, exactly_in, fixed_in, opaque_in, passed_in, no_more}
 use Rattle.ldm_relay.specs.Headers.{authentication_in, call_header_in}
 use Rattle.ldm_relay.specs.Classes.{class_in}
-use Rattle.ldm_relay.specs.Calls.{with_rest, info_in, call_in, feedme_in, hiya_in, product_in, hereis_in, put_in, comingsoon_in, blkdata_in, notifyme_in, notification_in}
+use Rattle.ldm_relay.specs.Calls.{call_in, feedme_in, hiya_in, product_in, hereis_in, put_in, comingsoon_in, blkdata_in, notifyme_in, notification_in}
 use Rattle.ldm_relay.specs.Reading.{whole}
-use Rattle.ldm_relay.specs.Spelling.{padded}
+use Rattle.ldm_xdr.specs.Spelling.{padded, spelling}
 use Rattle.ldm_relay.specs.Writable.{IsShort}
-use Rattle.ldm_relay.proofs.Lengths.{length_padded}
-use Rattle.ldm_relay.proofs.FieldsFound.{IsBytes, IsBytes-drop, bind_ok, guard_ok, ok_is, padded_found}
+use Rattle.ldm_xdr.proofs.Lengths.{length_padded}
+use Rattle.ldm_xdr.proofs.FieldsFound.{IsBytes, IsBytes-drop, bind_ok, guard_ok, ok_is, padded_found}
 use Rattle.ldm_relay.proofs.ClassesFound.{chosen, err_is_no_ok}
 
 -- what is left behind a part of so many bytes, or more
@@ -99,18 +98,11 @@ header_behind bytes x e =
 
 -- ---- the bodies
 
-info_behind_as : (bytes : List ℕ) (r : Result (Metadata × ℕ) XdrFault) (x : Metadata × List ℕ) → IsBytes bytes → metadata_at_front bytes ≡ r → with_rest bytes r ≡ Ok x
-    → IsBehind (metadata_len x.0) bytes x.1
-info_behind_as bytes (Ok found) x fits is e =
-    let f = metadata_found bytes found fits is in
-    let made : Metadata × List ℕ = (found.0, drop found.1 bytes) in
-    subst (λ (y : Metadata × List ℕ). IsBehind (metadata_len y.0) bytes y.1) (ok_is made x e)
-    (record { room = omega (arith, f.len_is, f.within, length-drop found.1 bytes); fits = IsBytes-drop found.1 bytes })
-info_behind_as bytes (Err fault) x fits is e = absurd cc
-
 info_behind : (bytes : List ℕ) (x : Metadata × List ℕ) → IsBytes bytes → info_in bytes ≡ Ok x → IsBehind (metadata_len x.0) bytes x.1
-unfolding info_in
-info_behind bytes x fits e = info_behind_as bytes (metadata_at_front bytes) x fits refl e
+info_behind bytes x fits e =
+    let taken = info_found bytes x fits e in
+    let whole : length bytes ≡ length (spelling x.0) + length x.1 = ap length taken.takes.parts ∙ length-append (spelling x.0) x.1 in
+    record { room = omega (arith, whole, length-spelling x.0 taken.fits.signature); fits = λ _. taken.takes.rest_fits }
 
 -- the metadata and the body with its padding
 abbrev ProductRoom : List ℕ → Metadata → List ℕ → Type 0

@@ -2,7 +2,7 @@
 use Rattle.std.proofs.Common.{◌≡◌, ℕ, suc, ◌-◌, ◌+◌, ◌≤◌, ◌<◌, List, [], ◌∷◌, ◌++◌, Result, Ok, Err, refl, sym, ap, ◌∙◌, append_assoc, arith}
 use Rattle.std.proofs.lemmas.List.{append-nil}
 use Rattle.ldm_types.specs.declared.class.Spec.{Spec}
-use Rattle.ldm_relay.specs.Fields.{◌>>=◌}
+use Rattle.ldm_xdr.specs.Fields.{◌>>=◌}
 use Rattle.ldm_relay.specs.Classes.{spec_in, specs_in}
 
 abbrev pub Reading : Type 0

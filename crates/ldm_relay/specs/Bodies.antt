@@ -1,10 +1,10 @@
 -- Calls that carry bytes: what stands before these, and the message with them.
 use Rattle.std.specs.Prelude.{ℕ, List, ◌++◌}
-use Rattle.ldm_xdr.specs.Spelling.{spelling}
+use Rattle.ldm_xdr.specs.Spelling.{spelling, unsigned}
 use Rattle.ldm_relay.specs.declared.body.CallWithBody.{CallWithBody}
 use Rattle.ldm_relay.specs.declared.body.CallWithBody.TheVariants as with
 use Rattle.ldm_relay.specs.declared.procedure.Procedure.TheVariants as procedure
-use Rattle.ldm_relay.specs.Spelling.{unsigned, call_header}
+use Rattle.ldm_relay.specs.Spelling.{call_header}
 use Rattle.ldm_relay.specs.Sent.{Sent}
 use Rattle.ldm_relay.specs.Sent as sent
 use Rattle.ldm_relay.specs.Writable.{IsBlockLen, IsShortProduct}

@@ -1,32 +1,14 @@
 -- The bodies of calls, by their procedures.
-use Rattle.std.specs.Prelude.{ℕ, ◌-◌, List, length, drop, Result, Ok, Err}
+use Rattle.std.specs.Prelude.{ℕ, List, Result, Ok}
 use Rattle.ldm_types.specs.Info.{Metadata}
-use Rattle.ldm_xdr.specs.Reading.{metadata_at_front}
-use Rattle.ldm_xdr.specs.declared.fault.XdrFault.{XdrFault}
-use Rattle.ldm_xdr.specs.declared.fault.XdrFault.TheVariants as xdr
+use Rattle.ldm_xdr.specs.Reading.{info_in}
 use Rattle.ldm_relay.specs.declared.message.TheConstants.{LARGEST_BLOCK}
 use Rattle.ldm_relay.specs.declared.procedure.Procedure.{Procedure}
 use Rattle.ldm_relay.specs.declared.procedure.Procedure.TheVariants as procedure
 use Rattle.ldm_relay.specs.Sent.{Sent}
 use Rattle.ldm_relay.specs.Sent as sent
-use Rattle.ldm_relay.specs.Fields.{◌>>=◌, unsigned_in, fixed_in, opaque_in}
+use Rattle.ldm_xdr.specs.Fields.{◌>>=◌, unsigned_in, fixed_in, opaque_in}
 use Rattle.ldm_relay.specs.Classes.{class_in}
-
--- the place, within metadata, that a fault names
-abbrev pub place_of : XdrFault → ℕ
-place_of (xdr.Short at) = at
-place_of (xdr.TooLong at) = at
-place_of (xdr.Padding at) = at
-place_of (xdr.Micros at) = at
-place_of (xdr.Nul at) = at
-
--- metadata that are read in front of what is left, and what is behind them
-abbrev pub with_rest : List ℕ → Result (Metadata × ℕ) XdrFault → Result (Metadata × List ℕ) ℕ
-with_rest left (Ok found) = Ok (found.0, drop found.1 left)
-with_rest left (Err fault) = Err (length left - place_of fault)
-
-unfoldable pub info_in : List ℕ → Result (Metadata × List ℕ) ℕ
-info_in left = with_rest left (metadata_at_front left)
 
 unfoldable pub feedme_in : ℕ → List ℕ → Result (Sent × List ℕ) ℕ
 feedme_in xid left = do

@@ -5,7 +5,7 @@ use Rattle.ldm_types.specs.declared.class.ClassSpec.{ClassSpec}
 use Rattle.ldm_types.specs.declared.class.Spec.{Spec}
 use Rattle.ldm_relay.specs.declared.message.ClassAnswer.{ClassAnswer}
 use Rattle.ldm_relay.specs.declared.message.ClassAnswer.TheVariants as class_answer
-use Rattle.ldm_relay.specs.Fields.{◌>>=◌, unsigned_in, up_to_in, opaque_in}
+use Rattle.ldm_xdr.specs.Fields.{◌>>=◌, unsigned_in, up_to_in, opaque_in}
 
 -- seconds, and microseconds below 1,000,000
 unfoldable pub instant_in : List ℕ → Result (ℕ × List ℕ) ℕ

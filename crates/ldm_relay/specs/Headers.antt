@@ -2,7 +2,7 @@
 use Rattle.std.specs.Prelude.{ℕ, List, Result, Ok}
 use Rattle.ldm_relay.specs.declared.header.CallHeader.{CallHeader}
 use Rattle.ldm_relay.specs.declared.header.TheConstants.{CALL, REPLY, RPC_VERSION, ACCEPTED, NO_AUTHENTICATION, LONGEST_AUTHENTICATION, LAST_STATUS}
-use Rattle.ldm_relay.specs.Fields.{◌>>=◌, unsigned_in, up_to_in, exactly_in, passed_in}
+use Rattle.ldm_xdr.specs.Fields.{◌>>=◌, unsigned_in, up_to_in, exactly_in, passed_in}
 
 -- a credential or verifier (section 8.2): that there is none, and a body that says nothing
 unfoldable pub authentication_in : List ℕ → Result (List ℕ) ℕ

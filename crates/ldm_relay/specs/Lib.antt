@@ -1,7 +1,4 @@
 pub mod Procedure
-pub mod Fields
-pub mod FieldReads
-pub mod FieldsView
 pub mod Sent
 pub mod MessageView
 pub mod Headers

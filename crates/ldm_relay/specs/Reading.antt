@@ -9,7 +9,7 @@ use Rattle.ldm_relay.specs.declared.procedure.TheConstants.{PROGRAM, VERSION}
 use Rattle.ldm_relay.specs.Sent.{Sent}
 use Rattle.ldm_relay.specs.Sent as sent
 use Rattle.ldm_relay.specs.Procedure.{number_of, numbered, answered}
-use Rattle.ldm_relay.specs.Fields.{◌>>=◌, no_more}
+use Rattle.ldm_xdr.specs.Fields.{◌>>=◌, no_more}
 use Rattle.ldm_relay.specs.Headers.{call_header_in, reply_header_in}
 use Rattle.ldm_relay.specs.Calls.{call_in}
 use Rattle.ldm_relay.specs.Replies.{accepted_in}

@@ -4,7 +4,7 @@ use Rattle.ldm_relay.specs.declared.message.Refusal.{Refusal}
 use Rattle.ldm_relay.specs.declared.message.Refusal.TheVariants as refusal
 use Rattle.ldm_relay.specs.Sent.{Sent}
 use Rattle.ldm_relay.specs.Sent as sent
-use Rattle.ldm_relay.specs.Fields.{◌>>=◌, unsigned_in}
+use Rattle.ldm_xdr.specs.Fields.{◌>>=◌, unsigned_in}
 
 -- the least and the greatest version
 unfoldable pub versions_in : List ℕ → Result (Refusal × List ℕ) ℕ

@@ -10,7 +10,7 @@ use Rattle.ldm_relay.specs.declared.message.Stat.{Stat}
 use Rattle.ldm_relay.specs.declared.header.TheConstants.{SUCCESS}
 use Rattle.ldm_relay.specs.Sent.{Sent}
 use Rattle.ldm_relay.specs.Sent as sent
-use Rattle.ldm_relay.specs.Fields.{◌>>=◌, unsigned_in, number_in, exactly_in}
+use Rattle.ldm_xdr.specs.Fields.{◌>>=◌, unsigned_in, number_in, exactly_in}
 use Rattle.ldm_relay.specs.Classes.{class_answer_in}
 
 unfoldable pub feedme_reply_in : ℕ → List ℕ → Result (Sent × List ℕ) ℕ

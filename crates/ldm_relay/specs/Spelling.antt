@@ -1,11 +1,9 @@
 -- The one spelling of each message: what a writer writes (RFC 4506, RFC 5531), in this project's profile.
-use Rattle.std.specs.Prelude.{ℕ, ◌-◌, ◌/◌, ◌%◌, List, [], ◌++◌, length, replicate, Option, Some, None}
-use Rattle.std.specs.Int.{Width, w32, w64, to_be_bytes}
+use Rattle.std.specs.Prelude.{ℕ, ◌/◌, ◌%◌, List, [], ◌++◌, length, Option, Some, None}
 use Rattle.std.specs.List.{flat_map}
-use Rattle.ldm_types.specs.Info.{pad4}
 use Rattle.ldm_types.specs.declared.class.ClassSpec.{ClassSpec}
 use Rattle.ldm_types.specs.declared.class.Spec.{Spec}
-use Rattle.ldm_xdr.specs.Spelling.{spelling}
+use Rattle.ldm_xdr.specs.Spelling.{unsigned, hyper, padded, opaque, spelling}
 use Rattle.ldm_rpc.specs.Spelling.{Record, spelling as record_spelling}
 use Rattle.ldm_relay.specs.declared.header.TheConstants.{CALL, REPLY, RPC_VERSION, ACCEPTED, SUCCESS, NO_AUTHENTICATION}
 use Rattle.ldm_relay.specs.declared.message.ClassAnswer.{ClassAnswer}
@@ -23,24 +21,6 @@ use Rattle.ldm_relay.specs.declared.procedure.TheConstants.{PROGRAM, VERSION}
 use Rattle.ldm_relay.specs.Procedure.{number_of}
 use Rattle.ldm_relay.specs.Sent.{Sent}
 use Rattle.ldm_relay.specs.Sent as sent
-
--- a number of a width, the highest byte first (RFC 4506, sections 4.2 and 4.5)
-unfoldable pub number : Width → ℕ → List ℕ
-number width n = to_be_bytes width n
-
-abbrev pub unsigned : ℕ → List ℕ
-unsigned n = number w32 n
-
-abbrev pub hyper : ℕ → List ℕ
-hyper n = number w64 n
-
--- a fixed opaque (section 4.9): its bytes, and zero bytes up to a multiple of four
-abbrev pub padded : List ℕ → List ℕ
-padded bytes = bytes ++ replicate (pad4 (length bytes) - length bytes) 0
-
--- an opaque (section 4.10): its length, its bytes and their padding
-unfoldable pub opaque : List ℕ → List ℕ
-opaque bytes = unsigned (length bytes) ++ padded bytes
 
 -- ---- classes
 

@@ -2,8 +2,8 @@
 ghost use Rattle.std.specs.Prelude.{◌≡◌, ◌≤◌, length, IfOk};
 ghost use Rattle.ldm_relay.specs.MessageView.{sent_of};
 ghost use Rattle.ldm_relay.specs.Calls.{call_in, feedme_in, hiya_in, product_in, hereis_in, put_in, comingsoon_in, blkdata_in, notifyme_in, notification_in};
-ghost use Rattle.ldm_relay.specs.Fields.{fixed_in};
-ghost use Rattle.ldm_relay.specs.FieldReads.{Gives};
+ghost use Rattle.ldm_xdr.specs.Fields.{fixed_in};
+ghost use Rattle.ldm_xdr.specs.FieldReads.{Gives};
 ghost use Rattle.ldm_relay.specs.Writable.{IsSized, IsWritable};
 ghost use Rattle.ldm_relay.specs.Fits.{Fits};
 ghost use Rattle.ldm_xdr.specs.Spelling.{Fits as InfoFits};
@@ -12,7 +12,6 @@ ghost use Rattle.ldm_relay.specs.Reading.{Answers, whole, call_of};
 
 use crate::class::read_class;
 use crate::fault::RelayFault;
-use crate::fields::Fields;
 use crate::header::read_call_header;
 use crate::message::{
     Blkdata, Comingsoon, Feedme, Hereis, Hiya, Isalive, LARGEST_BLOCK, Message, Notification,
@@ -20,6 +19,7 @@ use crate::message::{
 };
 use crate::procedure::{PROGRAM, Procedure, VERSION};
 use ldm_types::{Info, Signature};
+use ldm_xdr::Fields;
 
 /// The call that is the whole content of a record. It borrows the bytes that it carries. It takes no memory.
 ///

@@ -4,12 +4,12 @@ ghost use Rattle.std.specs.List.{AllByRecursion};
 ghost use Rattle.ldm_relay.specs.Fits.{SpecFits, ClassFits, ClassAnswerFits};
 ghost use Rattle.ldm_types.specs.declared.limits.TheConstants.{MOST_SPECS};
 ghost use Rattle.ldm_relay.specs.Classes.{instant_in, spec_in, specs_in, class_in, reclass_in, class_answer_in};
-ghost use Rattle.ldm_relay.specs.FieldReads.{Gives};
+ghost use Rattle.ldm_xdr.specs.FieldReads.{Gives};
 
-use crate::fields::Fields;
 use crate::message::ClassAnswer;
 use arrayvec::ArrayVec;
 use ldm_types::{ClassSpec, Feed, LONGEST_PATTERN, MOST_SPECS, Micros, Spec};
+use ldm_xdr::Fields;
 
 #[tactic(auto, unfolding(crate::specs::Classes::instant_in))]
 fn read_instant(fields: &mut Fields) -> Result<Micros, usize>

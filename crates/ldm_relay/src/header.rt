@@ -1,9 +1,9 @@
 //! What stands before the body of a call and before the result of a reply (RFC 5531, section 9).
 ghost use Rattle.std.specs.Prelude.{◌≡◌, MatchResult, Ok, Err};
 ghost use Rattle.ldm_relay.specs.Headers.{authentication_in, call_header_in, reply_header_in};
-ghost use Rattle.ldm_relay.specs.FieldReads.{Gives};
+ghost use Rattle.ldm_xdr.specs.FieldReads.{Gives};
 
-use crate::fields::Fields;
+use ldm_xdr::Fields;
 
 // The two types of messages.
 pub(crate) const CALL: u32 = 0;

@@ -2,15 +2,15 @@
 ghost use Rattle.std.specs.Prelude.{◌≡◌, ◌≤◌, ◌<◌, ◌+◌, ◌^◌, ℕ, List, length};
 ghost use Rattle.std.specs.List.{flat_map};
 ghost use Rattle.ldm_types.specs.Info.{pad4, metadata_len};
-ghost use Rattle.ldm_xdr.specs.Spelling.{spelling};
+ghost use Rattle.ldm_xdr.specs.Spelling.{spelling, hyper, Fits as InfoFits};
 ghost use Rattle.ldm_relay.specs.MessageView.{sent_of};
-ghost use Rattle.ldm_relay.specs.Spelling.{hyper, class_bytes, class_answer_bytes, stat_bytes, put_answer_bytes, refusal_bytes, written};
+ghost use Rattle.ldm_relay.specs.Spelling.{class_bytes, class_answer_bytes, stat_bytes, put_answer_bytes, refusal_bytes, written};
 ghost use Rattle.ldm_relay.specs.Bodies.{body_len, with_body, front_of, CanCarry};
 ghost use Rattle.ldm_relay.specs.Writable.{IsWritable};
 ghost use Rattle.ldm_relay.specs.Fits.{Is32, SpecFits, ClassFits, ClassAnswerFits, StatFits, PutAnswerFits, RefusalFits, Fits};
-ghost use Rattle.ldm_xdr.specs.Spelling.{Fits as InfoFits};
 ghost use Rattle.ldm_relay.specs.declared.message.TheConstants.{LARGEST_BLOCK, LARGEST_CONTENT};
-ghost use Rattle.ldm_relay.specs.declared.length.TheConstants.{LONGEST_CLASS, LONGEST_METADATA};
+ghost use Rattle.ldm_relay.specs.declared.length.TheConstants.{LONGEST_CLASS};
+ghost use Rattle.ldm_xdr.specs.declared.length.TheConstants.{LONGEST_METADATA};
 
 use crate::body::CallWithBody;
 use crate::message::{ClassAnswer, Message, PutAnswer, Refusal, Stat};
@@ -19,9 +19,6 @@ use ldm_xdr::info_len;
 
 // The most bytes of a class: 32 specifications with patterns of 255 bytes.
 const LONGEST_CLASS: usize = 8_468;
-
-/// The most bytes of metadata: both texts as long as they may be.
-pub(crate) const LONGEST_METADATA: usize = 364;
 
 /// The length of the content of the record of a message.
 #[tactic(auto, using(crate::proofs::Lengths::lengths), unfolding(crate::specs::Spelling::written))]

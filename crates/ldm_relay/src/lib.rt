@@ -9,7 +9,6 @@ mod body;
 mod call;
 mod class;
 mod fault;
-mod fields;
 mod header;
 mod laws;
 mod length;

@@ -20,7 +20,7 @@ use ldm_types::OutOfMemory;
 /// The body of a [`Hereis`](crate::Hereis) or [`Put`](crate::Put) must have `info.size()` bytes and leave the content
 /// within [`LARGEST_CONTENT`](crate::LARGEST_CONTENT), and a block must have at most
 /// [`LARGEST_BLOCK`](crate::LARGEST_BLOCK). After an `Err`, `out` is as before.
-#[tactic(auto, using(crate::proofs::Appending::appending, crate::proofs::Lengths::lengths, crate::proofs::Records::one_record), unfolding(crate::specs::Spelling::number))]
+#[tactic(auto, using(crate::proofs::Appending::appending, crate::proofs::Lengths::lengths, crate::proofs::Records::one_record), unfolding(ldm_xdr::specs::Spelling::number))]
 pub fn write_message(message: &Message, out: &mut Vec<u8>) -> Result<(), OutOfMemory>
     requires { IsWritable (sent_of message.now) }
     ensures ok { OnOk result (out.new.items ≡ out.old.items ++ record_of (written (sent_of message.now))) }

@@ -3,13 +3,13 @@ ghost use Rattle.std.specs.Prelude.{IfOk};
 ghost use Rattle.ldm_relay.specs.Fits.{RefusalFits, Fits};
 ghost use Rattle.ldm_relay.specs.MessageView.{refused_of};
 ghost use Rattle.ldm_relay.specs.Refusals.{versions_in, refusal_in, refused_in};
-ghost use Rattle.ldm_relay.specs.FieldReads.{Gives};
+ghost use Rattle.ldm_xdr.specs.FieldReads.{Gives};
 ghost use Rattle.ldm_relay.specs.Reading.{Answers, whole, refusal_of};
 
 use crate::fault::RelayFault;
-use crate::fields::Fields;
 use crate::header::read_reply_header;
 use crate::message::{Refusal, Refused};
+use ldm_xdr::Fields;
 
 /// The reply that is the whole content of a record, and says why a call was not carried out. It takes no memory.
 ///

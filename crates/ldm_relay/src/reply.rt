@@ -3,20 +3,20 @@ ghost use Rattle.std.specs.Prelude.{IfOk, Some};
 ghost use Rattle.ldm_relay.specs.MessageView.{sent_of};
 ghost use Rattle.ldm_relay.specs.Replies.{accepted_in, result_in, feedme_reply_in, hiya_reply_in, comingsoon_reply_in, notifyme_reply_in};
 ghost use Rattle.ldm_relay.specs.Replies.{figures_in, stat_in, qstat_reply_in, admitted_in, too_big_in, put_answer_in, put_reply_in};
-ghost use Rattle.ldm_relay.specs.FieldReads.{Gives};
+ghost use Rattle.ldm_xdr.specs.FieldReads.{Gives};
 ghost use Rattle.ldm_relay.specs.Writable.{IsWritable};
 ghost use Rattle.ldm_relay.specs.Fits.{StatFits, PutAnswerFits, Fits};
 ghost use Rattle.ldm_relay.specs.Reading.{Answers, whole, reply_of};
 
 use crate::class::read_class_answer;
 use crate::fault::RelayFault;
-use crate::fields::Fields;
 use crate::header::{SUCCESS, read_reply_header};
 use crate::message::{
     ComingsoonReply, FeedmeReply, HiyaReply, Message, NotifymeReply, PutAnswer, PutReply,
     QstatReply, SoonAnswer, Stat,
 };
 use crate::procedure::Answered;
+use ldm_xdr::Fields;
 
 /// The reply that is the whole content of a record, to a call of that procedure. It takes no memory.
 ///

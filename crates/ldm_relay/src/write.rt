@@ -3,10 +3,10 @@ ghost use Rattle.std.specs.Prelude.{◌≡◌, ◌<◌, ◌≤◌, ◌+◌, ◌-
 ghost use Rattle.std.specs.Int.{w32, w64};
 ghost use Rattle.std.specs.List.{flat_map};
 ghost use Rattle.ldm_types.specs.Info.{pad4};
-ghost use Rattle.ldm_xdr.specs.Spelling.{spelling};
+ghost use Rattle.ldm_xdr.specs.Spelling.{spelling, number, unsigned, hyper, padded, opaque};
 ghost use Rattle.ldm_relay.specs.Sent as sent;
 ghost use Rattle.ldm_relay.specs.MessageView.{sent_of};
-ghost use Rattle.ldm_relay.specs.Spelling.{number, unsigned, hyper, padded, opaque, instant_bytes, spec_bytes, class_bytes, class_answer_bytes, soon_answer_bytes, figures_bytes, stat_bytes};
+ghost use Rattle.ldm_relay.specs.Spelling.{instant_bytes, spec_bytes, class_bytes, class_answer_bytes, soon_answer_bytes, figures_bytes, stat_bytes};
 ghost use Rattle.ldm_relay.specs.Spelling.{put_answer_bytes, refusal_bytes, no_authentication, call_header, accepted_header, reply_header, written, record_of};
 ghost use Rattle.ldm_relay.specs.Bodies.{body_len, with_body, front_of};
 ghost use Rattle.ldm_relay.specs.Writable.{IsWritable};
@@ -15,12 +15,11 @@ ghost use Rattle.ldm_relay.specs.declared.message.TheConstants.{LARGEST_BLOCK};
 
 use crate::body::CallWithBody;
 use crate::header::{ACCEPTED, CALL, NO_AUTHENTICATION, REPLY, RPC_VERSION, SUCCESS};
-use crate::length::LONGEST_METADATA;
 use crate::message::{ClassAnswer, Message, PutAnswer, Refusal, SoonAnswer, Stat};
 use crate::procedure::{PROGRAM, Procedure, VERSION};
 use byteorder::{BigEndian, ByteOrder};
 use ldm_types::{ClassSpec, Info, Micros, Signature, Spec};
-use ldm_xdr::{info_len, write_info};
+use ldm_xdr::{LONGEST_METADATA, info_len, write_info};
 
 // Each of these appends what there is room for.
 
@@ -430,7 +429,7 @@ fn put_info(out: &mut Vec<u8>, info: &Info)
     put(out, &bytes[..len]);
 }
 
-#[tactic(auto, using(crate::proofs::Appending::appending), unfolding(crate::specs::Spelling::opaque))]
+#[tactic(auto, using(crate::proofs::Appending::appending), unfolding(ldm_xdr::specs::Spelling::opaque))]
 fn put_opaque(out: &mut Vec<u8>, bytes: &[u8])
     requires short { length bytes.now < 2 ^ 32 }
     requires room { HasRoom out.old (opaque bytes.now) }
@@ -460,7 +459,7 @@ pub(crate) fn put_zeros(out: &mut Vec<u8>, count: usize)
     }
 }
 
-#[tactic(auto, unfolding(crate::specs::Spelling::number))]
+#[tactic(auto, unfolding(ldm_xdr::specs::Spelling::number))]
 pub(crate) fn put_unsigned(out: &mut Vec<u8>, n: u32)
     requires { HasRoom out.old (number w32 n) }
     ensures { Appends out.old out.new (number w32 n) }
@@ -470,7 +469,7 @@ pub(crate) fn put_unsigned(out: &mut Vec<u8>, n: u32)
     put(out, &bytes);
 }
 
-#[tactic(auto, unfolding(crate::specs::Spelling::number))]
+#[tactic(auto, unfolding(ldm_xdr::specs::Spelling::number))]
 fn put_hyper(out: &mut Vec<u8>, n: u64)
     requires { HasRoom out.old (number w64 n) }
     ensures { Appends out.old out.new (number w64 n) }

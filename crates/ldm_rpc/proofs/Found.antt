@@ -14,7 +14,8 @@ use Rattle.ldm_rpc.specs.declared.stage.Stage.TheVariants.{Header, Fragment, Who
 use Rattle.ldm_rpc.specs.declared.stage.TheConstants.{LAST_FRAGMENT}
 use Rattle.ldm_rpc.specs.Reading.{Reading, after_byte, after_header, is_whole, is_whole_at, place, stage_before}
 use Rattle.ldm_rpc.specs.Spelling.{Record, IsShort, fragment, fragments, header, joined}
-use Rattle.ldm_rpc.specs.Fronts.{AreBytes, IsFront, IsInFragment, IsInHeader, IsRefused, IsTooLong, number_of}
+use Rattle.ldm_types.specs.Info.{AreBytes}
+use Rattle.ldm_rpc.specs.Fronts.{IsFront, IsInFragment, IsInHeader, IsRefused, IsTooLong, number_of}
 use Rattle.ldm_rpc.proofs.Steps.{at_stage}
 
 fragments-push : (before : List (List ℕ)) (bytes : List ℕ) → fragments (before ++ bytes ∷ []) ≡ fragments before ++ fragment false bytes

@@ -3,7 +3,7 @@ use Rattle.std.proofs.Common.{◌≡◌, ℕ, zero, suc, ◌+◌, ◌<◌, true,
 use Rattle.std.proofs.lemmas.Bool.{cases_Bool}
 use Rattle.ldm_rpc.specs.declared.stage.Stage.{Stage}
 use Rattle.ldm_rpc.specs.declared.stage.Stage.TheVariants.{Header, Fragment, Whole, Faulty}
-use Rattle.ldm_rpc.specs.Reading.{Reading, after, after_byte, bytes_taken, is_open, is_open_at, is_whole, is_whole_at, next_of}
+use Rattle.ldm_rpc.specs.Reading.{Reading, after, after_byte, bytes_taken, is_open, is_open_at, is_whole, is_whole_at}
 use Rattle.ldm_rpc.specs.Streams.{Position, Placed, forgets, given, in_hand, records_in}
 use Rattle.ldm_rpc.proofs.Steps.{taken_open}
 use Rattle.ldm_rpc.proofs.Pushed.{after_end, taken_at_end}

@@ -9,8 +9,9 @@ use Rattle.ldm_rpc.specs.declared.stage.Stage.TheVariants.{Header, Fragment, Who
 use Rattle.ldm_rpc.specs.declared.stage.TheConstants.{LAST_FRAGMENT}
 use Rattle.ldm_rpc.specs.Reading.{Reading, after_byte, after_byte_in, after_header, begun, is_whole, is_whole_at}
 use Rattle.ldm_rpc.specs.Spelling.{Record, Fits, IsShort, content, spelling}
-use Rattle.ldm_rpc.specs.Streams.{Position, Placed, at_start, before_record, forgets, in_hand, placed, records_in}
-use Rattle.ldm_rpc.specs.Fronts.{AreBytes, IsFront, IsFrontAt, IsRecord, Splits}
+use Rattle.ldm_rpc.specs.Streams.{Position, Placed, at_start, before_record, in_hand, placed, records_in}
+use Rattle.ldm_types.specs.Info.{AreBytes}
+use Rattle.ldm_rpc.specs.Fronts.{IsFront, IsFrontAt, IsRecord, Splits}
 use Rattle.ldm_rpc.proofs.Joined.{forgets_none, given_none, position}
 use Rattle.ldm_rpc.proofs.Found.{front_byte}
 

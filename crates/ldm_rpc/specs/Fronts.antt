@@ -2,6 +2,7 @@
 -- long.
 use Rattle.std.specs.Prelude.{◌≡◌, ℕ, ◌+◌, ◌*◌, ◌<◌, ◌≤◌, List, ◌++◌, length, fold, Bool, All}
 use Rattle.std.specs.List.{flat_map}
+use Rattle.ldm_types.specs.Info.{AreBytes}
 use Rattle.ldm_rpc.specs.declared.fault.RpcFault.{RpcFault}
 use Rattle.ldm_rpc.specs.declared.fault.RpcFault.TheVariants.{TooLong, OutOfMemory}
 use Rattle.ldm_rpc.specs.declared.stage.Stage.{Stage}
@@ -10,9 +11,6 @@ use Rattle.ldm_rpc.specs.declared.stage.TheConstants.{LAST_FRAGMENT}
 use Rattle.ldm_rpc.specs.Reading.{Reading, place}
 use Rattle.ldm_rpc.specs.Spelling.{Record, Fits, IsShort, content, fragments, header, joined, spelling}
 use Rattle.ldm_rpc.specs.Streams.{Position, Placed, placed}
-
-abbrev pub AreBytes : List ℕ → Type 0
-AreBytes bytes = All (λ byte. byte < 256) bytes
 
 -- bytes as a number, the highest first
 abbrev pub number_of : List ℕ → ℕ

@@ -6,7 +6,8 @@ ghost use Rattle.ldm_rpc.specs.declared.stage.Stage.TheVariants.{Faulty};
 ghost use Rattle.ldm_rpc.specs.declared.stage.TheConstants.{LAST_FRAGMENT};
 ghost use Rattle.ldm_rpc.specs.Reading.{Reading, after, begun, bytes_taken, is_open, is_pending, is_whole, place, whole_of};
 ghost use Rattle.ldm_rpc.specs.Spelling.{Record, Fits, IsShort, content, fragments, header, joined, spelling};
-ghost use Rattle.ldm_rpc.specs.Fronts.{AreBytes, Splits};
+ghost use Rattle.ldm_types.specs.Info.{AreBytes};
+ghost use Rattle.ldm_rpc.specs.Fronts.{Splits};
 ghost use Rattle.ldm_rpc.specs.Streams.{Position, at_start, before_record, forgets, given, in_hand, placed, records_in};
 
 /// How a stream is cut into pieces makes no difference: what two pieces make is what both make as one.

@@ -1,4 +1,7 @@
 pub mod Places
-pub mod Fields
+pub mod Lengths
+pub mod FieldsFound
+pub mod FieldsAgain
+pub mod MetadataFields
 pub mod Whole
 pub mod Written

@@ -1,8 +1,10 @@
 -- Writing one field behind another.
-use Rattle.std.proofs.Common.{◌≡◌, ℕ, ◌+◌, ◌≤◌, List, [], ◌++◌, length, take, drop, refl, sym, ap, subst, ◌∙◌, append_assoc, arith}
+use Rattle.std.proofs.Common.{◌≡◌, ℕ, ◌+◌, ◌-◌, ◌≤◌, List, [], ◌++◌, length, take, drop, refl, sym, ap, subst, ◌∙◌, append_assoc, arith}
 use Rattle.std.proofs.lemmas.List.{append-nil, take_at, drop_at, drop_all, drop-drop, drop-append-le, length-append, length-take, length-take-le, length-drop, take-append-drop}
 use borrow.Rule.Slice.PartMut.{put_mid, mid_of}
-use Rattle.ldm_xdr.specs.Spelling.{unsigned, padding, string}
+use Rattle.ldm_xdr.specs.Spelling.{unsigned, opaque}
+use Rattle.ldm_types.specs.Info.{pad4}
+use Rattle.std.specs.Prelude.{replicate}
 use Rattle.ldm_xdr.specs.Writing.{put_at}
 
 -- a front was written over some bytes, and what was behind it stands
@@ -71,10 +73,13 @@ then_put old front now field new at written at_is room new_is =
     record { is = new_is ∙ ap (λ (x : List ℕ). x ++ field ++ drop (at + length field) now) before ∙ ap (λ (x : List ℕ). front ++ field ++ x) last; room = omega (arith, length-append front field) }
 
 -- the parts of a string, behind a front
-pub whole_string : (old front text now : List ℕ) → IsWritten old (front ++ unsigned (length text) ++ text ++ padding (length text)) now → IsWritten old (front ++ string text) now
+pub whole_string : (old front text now : List ℕ) → IsWritten old (front ++ unsigned (length text) ++ text ++ replicate (pad4 (length text) - length text) 0) now
+    → IsWritten old (front ++ opaque text) now
+unfolding opaque
 whole_string old front text now written =
-    let same : front ++ unsigned (length text) ++ text ++ padding (length text) ≡ front ++ string text =
-    ap (λ (x : List ℕ). x ++ padding (length text)) (append_assoc front (unsigned (length text)) text) ∙ append_assoc front (unsigned (length text) ++ text) (padding (length text)) in
+    let zeros : List ℕ = replicate (pad4 (length text) - length text) 0 in
+    let same : front ++ unsigned (length text) ++ text ++ zeros ≡ front ++ opaque text =
+    append_assoc (front ++ unsigned (length text)) text zeros ∙ append_assoc front (unsigned (length text)) (text ++ zeros) in
     subst (λ (x : List ℕ). IsWritten old x now) same written
 
 -- a front that ends at a place, and one field more behind it

@@ -1,3 +1,6 @@
+pub mod Fields
+pub mod FieldsView
+pub mod FieldReads
 pub mod Spelling
 pub mod Reading
 pub mod Writing

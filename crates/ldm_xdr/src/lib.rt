@@ -9,13 +9,15 @@
 #![tactic(auto)]
 
 mod fault;
+mod fields;
 mod laws;
 mod length;
 mod reading;
 mod writing;
 
 pub use fault::XdrFault;
+pub use fields::Fields;
 pub use laws::{no_spelling_begins_another, spelling_has_metadata_len};
-pub use length::info_len;
+pub use length::{LONGEST_METADATA, info_len};
 pub use reading::read_info;
 pub use writing::write_info;

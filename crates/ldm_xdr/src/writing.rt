@@ -1,7 +1,7 @@
 //! Metadata to bytes.
 ghost use Rattle.std.specs.Prelude.{◌≡◌, ◌+◌, ◌≤◌, ◌<◌, ◌^◌, ◌++◌, length, drop};
 ghost use Rattle.ldm_types.specs.Info.{pad4, metadata_len};
-ghost use Rattle.ldm_xdr.specs.Spelling.{Fits, spelling, unsigned, string};
+ghost use Rattle.ldm_xdr.specs.Spelling.{Fits, spelling, unsigned, opaque};
 ghost use Rattle.ldm_xdr.specs.Writing.{put_at};
 
 use crate::length::padded;
@@ -53,7 +53,7 @@ fn put_text(into: &mut [u8], at: usize, text: &[u8]) -> usize
     requires short { length text.now < 2 ^ 32 }
     requires room { at + 4 + pad4 (length text.now) ≤ length into.old }
     ensures end { result ≡ at + 4 + pad4 (length text.now) }
-    ensures written { into.new ≡ put_at at (string text.now) into.old }
+    ensures written { into.new ≡ put_at at (opaque text.now) into.old }
 {
     let text_at = put_unsigned(into, at, text.len() as u32);
     let padding_at = put_bytes(into, text_at, text);

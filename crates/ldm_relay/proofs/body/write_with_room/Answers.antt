@@ -2,7 +2,7 @@ use Rattle.std.proofs.Common.{◌+◌, arith}
 use Rattle.std.specs.Int.{w32}
 use Rattle.std.specs.Vec.{vec_len}
 use Rattle.ldm_rpc.specs.declared.stage.TheConstants.{LAST_FRAGMENT}
-use Rattle.ldm_relay.specs.Spelling.{number}
+use Rattle.ldm_xdr.specs.Spelling.{number}
 use Rattle.ldm_relay.proofs.Appending.{room_first, room_behind, both_append}
 use Rattle.ldm_relay.proofs.Bodies.{is_filled, is_zeroed, no_room, one_record_with, room_to_begin, start_of_body, zeroed}
 use Rattle.ldm_relay.proofs.body.write_with_room.Goals as goal

@@ -1,4 +1,4 @@
-use Rattle.ldm_relay.proofs.FieldsFound.{bytes_fit}
+use Rattle.ldm_xdr.proofs.FieldsFound.{bytes_fit}
 use Rattle.ldm_relay.proofs.MessagesFound.{call_spelled, reply_spelled, refusal_spelled}
 use Rattle.ldm_relay.proofs.laws.what_is_read_is_written.Goals as goal
 

@@ -1,7 +1,7 @@
 use Rattle.std.proofs.Common.{List, ℕ, sym, subst}
 use Rattle.ldm_relay.specs.Appends.{HasRoom, Appends}
 use Rattle.ldm_relay.specs.Bodies.{front_of}
-use Rattle.ldm_relay.specs.Spelling.{padded}
+use Rattle.ldm_xdr.specs.Spelling.{padded}
 use Rattle.ldm_relay.proofs.Appending.{room_first, room_behind, both_append}
 use Rattle.ldm_relay.proofs.Bodies.{front_and_body}
 use Rattle.ldm_relay.proofs.write.put_with_body.Goals as goal

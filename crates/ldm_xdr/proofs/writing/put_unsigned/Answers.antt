@@ -1,10 +1,11 @@
 use Rattle.std.proofs.Common.{◌-◌, length, take, arith}
 use Rattle.std.proofs.lemmas.List.{length-take-le}
-use Rattle.ldm_xdr.specs.Spelling.{unsigned}
+use Rattle.ldm_xdr.specs.Spelling.{number, unsigned}
 use Rattle.ldm_xdr.proofs.Written.{unwritten, put_more, put_at-from_written}
 use Rattle.ldm_xdr.proofs.writing.put_unsigned.Goals as goal
 
 pub returns-clause-written : goal.returns-clause-written
+unfolding number
 returns-clause-written c =
     let old = c.args.into.now in
     let at = c.args.at in

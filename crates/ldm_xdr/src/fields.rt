@@ -1,21 +1,24 @@
-//! The fields of a record, one after another.
-ghost use Rattle.std.specs.Prelude.{◌≡◌, ◌≤◌, ◌<◌, ◌^◌, ℕ, List, MatchResult, IfOk, Ok, Err, length, nat_lt, position};
+//! The fields of a record, one behind another.
+ghost use Rattle.std.specs.Prelude.{◌≡◌, ◌≤◌, ◌<◌, ◌^◌, ℕ, List, MatchResult, IfOk, Ok, Err, length, take, nat_lt, position};
 ghost use Rattle.std.specs.Int.{w32, w64};
 ghost use Rattle.ldm_types.specs.Info.{pad4};
-ghost use Rattle.ldm_relay.specs.Fields.{number_in, up_to_in, exactly_in, padded_in, fixed_in, opaque_in, passed_in, no_more};
-ghost use Rattle.ldm_relay.specs.FieldReads.{Gives};
-ghost use Rattle.ldm_relay.specs.Calls.{place_of, info_in};
+ghost use Rattle.ldm_xdr.specs.Fields.{number_in, up_to_in, exactly_in, padded_in, fixed_in, opaque_in, passed_in, no_more};
+ghost use Rattle.ldm_xdr.specs.FieldReads.{Gives};
+ghost use Rattle.ldm_xdr.specs.Reading.{place_of, info_in};
 ghost use Rattle.ldm_xdr.specs.Spelling.{Fits as InfoFits};
 
+use crate::fault::XdrFault;
+use crate::length::padded;
+use crate::reading::read_metadata;
+use byteorder::{BigEndian, ByteOrder};
 use ldm_types::Info;
-use ldm_xdr::{XdrFault, read_info};
 use std::marker::Model;
 
 /// What is left of a record, as fields one behind another.
 ///
 /// Where a field cannot be read, the error is how many bytes there are from it to the end of the record.
 #[derive(Drop)]
-pub(crate) struct Fields<'a> {
+pub struct Fields<'a> {
     rest: &'a [u8],
 }
 
@@ -24,7 +27,7 @@ impl<'a> Model for Fields<'a> {
 
     ghost Value = { List ℕ };
 
-    ghost use Rattle.ldm_relay.specs.FieldsView.{left_of};
+    ghost use Rattle.ldm_xdr.specs.FieldsView.{left_of};
 
     ghost view = { left_of };
 }
@@ -51,6 +54,13 @@ impl<'a> Fields<'a> {
         self.rest.len()
     }
 
+    /// The bytes that are left.
+    pub(crate) fn rest(&self) -> &'a [u8]
+        ensures { result.now ≡ self.now }
+    {
+        self.rest
+    }
+
     /// An unsigned number of four bytes.
     #[tactic(auto, unfolding(crate::specs::Fields::number_in))]
     pub fn unsigned(&mut self) -> Result<u32, usize>
@@ -62,7 +72,7 @@ impl<'a> Fields<'a> {
         }
         let (front, behind) = rest.split_at(4);
         self.rest = behind;
-        Ok(u32::from_be_bytes([front[0], front[1], front[2], front[3]]))
+        Ok(BigEndian::read_u32(front))
     }
 
     /// An unsigned number of eight bytes.
@@ -76,9 +86,7 @@ impl<'a> Fields<'a> {
         }
         let (front, behind) = rest.split_at(8);
         self.rest = behind;
-        Ok(u64::from_be_bytes([
-            front[0], front[1], front[2], front[3], front[4], front[5], front[6], front[7],
-        ]))
+        Ok(BigEndian::read_u64(front))
     }
 
     /// A number of four bytes, at most `most`.
@@ -110,13 +118,14 @@ impl<'a> Fields<'a> {
 
     /// So many bytes, and zero bytes up to a multiple of four. `field` is what was left at the field that they end.
     #[tactic(auto, unfolding(crate::specs::Fields::padded_in))]
-    fn padded(&mut self, field: usize, count: u32) -> Result<&'a [u8], usize>
+    pub(crate) fn padded(&mut self, field: usize, count: u32) -> Result<&'a [u8], usize>
         ensures field { Gives (λ bytes. bytes.now) result (padded_in field count self.old) self.new }
+        ensures front { IfOk result (λ bytes. bytes.now ≡ take count self.old) }
         ensures len { IfOk result (λ bytes. length bytes.now ≡ count) }
     {
         let rest = self.rest;
         let count = count as usize;
-        let whole = count.div_ceil(4) * 4;
+        let whole = padded(count);
         if rest.len() < whole {
             return Err(field);
         }
@@ -156,7 +165,7 @@ impl<'a> Fields<'a> {
     {
         let left = self.left();
         let count = self.up_to(most)? as usize;
-        let whole = count.div_ceil(4) * 4;
+        let whole = padded(count);
         let rest = self.rest;
         if rest.len() < whole {
             return Err(left);
@@ -166,18 +175,15 @@ impl<'a> Fields<'a> {
     }
 
     /// The metadata of a product.
-    #[tactic(auto, unfolding(crate::specs::Calls::info_in))]
+    #[tactic(auto, unfolding(crate::specs::Reading::info_in))]
     pub fn info(&mut self) -> Result<Info, usize>
         ensures field { Gives (λ info. info) result (info_in self.old) self.new }
         ensures fits { IfOk result (λ info. InfoFits info) }
     {
-        let rest = self.rest;
-        match read_info(rest) {
-            Ok((info, len)) => {
-                self.rest = &rest[len..];
-                Ok(info)
-            }
-            Err(fault) => Err(rest.len().saturating_sub(place_in(fault))),
+        let left = self.left();
+        match read_metadata(left, self) {
+            Ok(info) => Ok(info),
+            Err(fault) => Err(left.saturating_sub(place_in(fault))),
         }
     }
 

@@ -3,18 +3,13 @@ use Rattle.std.proofs.Common.{◌≡◌, ℕ, ◌+◌, ◌-◌, ◌^◌, ◌<◌
 use Rattle.std.specs.Prelude.{All, position, replicate}
 use Rattle.std.specs.Int.{Width, w32, w64, byte_len, from_be_bytes, to_be_bytes}
 use Rattle.std.proofs.lemmas.Bool.{cases_lt, ltb-false}
-use Rattle.std.proofs.lemmas.List.{append-nil, take-append-drop, drop-drop, length-take, length-drop, get_or-drop, get_or-take, get_or_past}
-use Rattle.std.proofs.lemmas.List.Elements.{All-get_or}
+use Rattle.std.proofs.lemmas.List.{append-nil, take_at, take-append-drop, drop-drop, length-take, length-drop, get_or-drop, get_or-take, get_or_past}
+use Rattle.std.proofs.lemmas.List.Elements.{All-get_or, All-from_get_or}
 use Rattle.std.proofs.lemmas.Nat.{be_bytes_4, be_bytes_8}
-use Rattle.ldm_types.specs.Info.{Metadata, pad4}
-use Rattle.ldm_xdr.specs.Spelling.{spelling}
-use Rattle.ldm_xdr.specs.Reading.{metadata_at_front}
-use Rattle.ldm_xdr.specs.declared.fault.XdrFault.{XdrFault}
-use Rattle.ldm_xdr.proofs.Whole.{metadata_found}
+use Rattle.ldm_types.specs.Info.{pad4}
+use Rattle.ldm_xdr.specs.Fields.{◌>>=◌, number_in, up_to_in, unless_found, padded_in, fixed_in, opaque_in}
+use Rattle.ldm_xdr.specs.Spelling.{number, unsigned, hyper, padded, opaque}
 use Rattle.ldm_xdr.proofs.Places.{zeros}
-use Rattle.ldm_relay.specs.Fields.{◌>>=◌, number_in, up_to_in, unless_found, padded_in, fixed_in, opaque_in}
-use Rattle.ldm_relay.specs.Calls.{with_rest, info_in}
-use Rattle.ldm_relay.specs.Spelling.{number, unsigned, hyper, padded, opaque}
 
 abbrev pub IsBytes : List ℕ → Type 0
 IsBytes bytes = (i : ℕ) → get_or bytes i 0 < 256
@@ -29,20 +24,28 @@ bytes_fit bytes all i =
 pub IsBytes-drop : (n : ℕ) (bytes : List ℕ) → IsBytes bytes → IsBytes (drop n bytes)
 IsBytes-drop n bytes h i = rw get_or-drop (h (n + i))
 
-IsBytes-take : (n : ℕ) (bytes : List ℕ) → IsBytes bytes → IsBytes (take n bytes)
+pub IsBytes-take : (n : ℕ) (bytes : List ℕ) → IsBytes bytes → IsBytes (take n bytes)
 IsBytes-take n bytes h i =
     elim (cases_lt i n) [
       | inl lt ↦ rw (get_or-take n bytes i 0 lt) (h i)
       | inr le ↦ rw (get_or_past (take n bytes) i 0 (omega (arith, length-take n bytes))) (omega arith)
     ]
 
+-- bytes in front of others
+pub front_fits : (bytes front rest : List ℕ) → IsBytes bytes → bytes ≡ front ++ rest → IsBytes front
+front_fits bytes front rest fits parts =
+    subst (λ (x : List ℕ). IsBytes x) (ap (take (length front)) parts ∙ take_at front rest (length front) refl) (IsBytes-take (length front) bytes fits)
+
+pub below_256 : (bytes : List ℕ) → IsBytes bytes → All (λ byte. byte < 256) bytes
+below_256 bytes fits = All-from_get_or (λ byte. byte < 256) bytes 0 (λ i _. fits i)
+
 -- the value of a step that did not fail
-pub bind_ok : {A B : Type 0} (r : Result A ℕ) (f : A → Result B ℕ) (y : B) → (r >>= f) ≡ Ok y → (x : A) × (r ≡ Ok x) × (f x ≡ Ok y)
+pub bind_ok : {A B E : Type 0} (r : Result A E) (f : A → Result B E) (y : B) → (r >>= f) ≡ Ok y → (x : A) × (r ≡ Ok x) × (f x ≡ Ok y)
 bind_ok (Ok x) f y e = (x, refl, e)
 bind_ok (Err d) f y e = absurd cc
 
 -- a test that did not fail
-pub guard_ok : {A : Type 0} (b : Bool) (bad : ℕ) (x y : A) → cond b (Err bad) (Ok x) ≡ Ok y → (b ≡ false) × (x ≡ y)
+pub guard_ok : {A E : Type 0} (b : Bool) (bad : E) (x y : A) → cond b (Err bad) (Ok x) ≡ Ok y → (b ≡ false) × (x ≡ y)
 guard_ok true bad x y e = absurd cc
 guard_ok false bad x y e = (refl, cc)
 
@@ -104,7 +107,7 @@ none_found : (found : Option ℕ) (padding : ℕ) (bytes left : List ℕ) (x : L
 none_found None padding bytes left x e = (refl, cc)
 none_found (Some i) padding bytes left x e = absurd cc
 
-guard_then : {A : Type 0} (b : Bool) (bad : ℕ) (r : Result A ℕ) (y : A) → cond b (Err bad) r ≡ Ok y → (b ≡ false) × (r ≡ Ok y)
+pub guard_then : {A E : Type 0} (b : Bool) (bad : E) (r : Result A E) (y : A) → cond b (Err bad) r ≡ Ok y → (b ≡ false) × (r ≡ Ok y)
 guard_then true bad r y e = absurd cc
 guard_then false bad r y e = (refl, e)
 
@@ -144,15 +147,3 @@ signature_found bytes x fits e =
     let p = padded_found (length bytes) 16 bytes x fits e in
     let bare : padded x.0 ≡ x.0 = ap (λ n. x.0 ++ replicate (pad4 n - n) 0) p.1 ∙ append-nil x.0 in
     (taken_as bytes (padded x.0) x.0 x.1 bare p.0, p.1)
-
-info_from : (bytes : List ℕ) (r : Result (Metadata × ℕ) XdrFault) (x : Metadata × List ℕ) → IsBytes bytes → metadata_at_front bytes ≡ r → with_rest bytes r ≡ Ok x
-    → Takes bytes (spelling x.0) x.1
-info_from bytes (Ok found) x fits is e =
-    let f = metadata_found bytes found fits is in
-    let made : Metadata × List ℕ = (found.0, drop found.1 bytes) in
-    subst (λ (y : Metadata × List ℕ). Takes bytes (spelling y.0) y.1) (ok_is made x e) (record { parts = f.begins; rest_fits = IsBytes-drop found.1 bytes fits })
-info_from bytes (Err fault) x fits is e = absurd cc
-
-pub info_found : (bytes : List ℕ) (x : Metadata × List ℕ) → IsBytes bytes → info_in bytes ≡ Ok x → Takes bytes (spelling x.0) x.1
-unfolding info_in
-info_found bytes x fits e = info_from bytes (metadata_at_front bytes) x fits refl e

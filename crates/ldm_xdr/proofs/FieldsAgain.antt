@@ -1,19 +1,15 @@
 -- Fields that were written are read again, whatever follows them.
-use Rattle.std.proofs.Common.{◌≡◌, ℕ, ◌-◌, ◌^◌, ◌<◌, ◌≤◌, false, ltb, List, ◌++◌, length, take, drop, None, Ok, refl, sym, ap, ◌∙◌, append_assoc, arith, eq-eqb, lit<, lit≤}
+use Rattle.std.proofs.Common.{◌≡◌, ℕ, ◌-◌, ◌^◌, ◌<◌, ◌≤◌, false, ltb, List, ◌++◌, length, take, drop, None, Ok, refl, sym, ap, ◌∙◌, append_assoc, arith, eq-eqb}
 use Rattle.std.specs.Prelude.{position, replicate}
 use Rattle.std.specs.Int.{Width, w32, w64, byte_len, from_be_bytes, to_be_bytes}
 use Rattle.std.proofs.lemmas.Bool.{le-ltb}
 use Rattle.std.proofs.lemmas.List.{append-nil, take_at, drop_at, length-append, length-replicate}
 use Rattle.std.proofs.lemmas.Nat.{from_be_bytes-to_be_bytes_4, from_be_bytes-to_be_bytes_8}
-use Rattle.ldm_types.specs.Info.{Metadata, pad4, metadata_len}
-use Rattle.ldm_xdr.specs.Spelling.{Fits as InfoFits, spelling}
-use Rattle.ldm_xdr.proofs.Whole.{metadata_again, length-spelling}
+use Rattle.ldm_types.specs.Info.{pad4}
+use Rattle.ldm_xdr.specs.Fields.{number_in, up_to_in, exactly_in, padded_in, fixed_in, opaque_in}
+use Rattle.ldm_xdr.specs.Spelling.{number, unsigned, padded, opaque}
+use Rattle.ldm_xdr.proofs.Lengths.{length_padded}
 use Rattle.ldm_xdr.proofs.Places.{none_in_zeros}
-use Rattle.ldm_relay.specs.Fields.{number_in, up_to_in, exactly_in, padded_in, fixed_in, opaque_in, passed_in}
-use Rattle.ldm_relay.specs.Calls.{info_in}
-use Rattle.ldm_relay.specs.Headers.{authentication_in}
-use Rattle.ldm_relay.specs.Spelling.{number, unsigned, padded, opaque, no_authentication}
-use Rattle.ldm_relay.proofs.Lengths.{length_padded}
 
 number_again : (w : Width) (n : ℕ) (rest : List ℕ) → length (to_be_bytes w n) ≡ byte_len w → from_be_bytes w (to_be_bytes w n) ≡ n
     → number_in w (number w n ++ rest) ≡ Ok (n, rest)
@@ -59,19 +55,8 @@ opaque_again most bytes rest le small =
     ap (opaque_in most) regrouped
     ∙ rw (up_to_again most (length bytes) (padded bytes ++ rest) (omega arith) le) (padded_again _ (length bytes) bytes rest refl)
 
-pub authentication_again : (rest : List ℕ) → authentication_in (no_authentication ++ rest) ≡ Ok rest
-unfolding authentication_in passed_in no_authentication
-authentication_again rest =
-    ap authentication_in (append_assoc (unsigned 0) (unsigned 0) rest)
-    ∙ rw (exactly_again 0 (unsigned 0 ++ rest) (lit< tt), up_to_again 400 0 rest (lit< tt) (lit≤ tt), le-ltb (length rest) 0 (omega arith)) refl
-
 -- a fixed opaque of 16 bytes has no padding
 pub signature_again : (signature rest : List ℕ) → length signature ≡ 16 → fixed_in 16 (signature ++ rest) ≡ Ok (signature, rest)
 signature_again signature rest len =
     let bare : padded signature ≡ signature = ap (λ n. signature ++ replicate (pad4 n - n) 0) len ∙ append-nil signature in
     ap (λ (x : List ℕ). padded_in (length (signature ++ rest)) 16 (x ++ rest)) (sym bare) ∙ padded_again (length (signature ++ rest)) 16 signature rest len
-
-pub info_again : (info : Metadata) (rest : List ℕ) → InfoFits info → info_in (spelling info ++ rest) ≡ Ok (info, rest)
-unfolding info_in
-info_again info rest fits =
-    rw (metadata_again (spelling info ++ rest) info rest fits refl, drop_at (spelling info) rest (metadata_len info) (length-spelling info fits.signature)) refl
