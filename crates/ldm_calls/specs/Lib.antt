@@ -1,2 +1,3 @@
 pub mod OnBook
 pub mod Lines
+pub mod Lawful

@@ -6,6 +6,7 @@ ghost use Rattle.ldm_status.specs.Status.{Reports};
 ghost use Rattle.ldm_commands.specs.Command.{command_of};
 ghost use Rattle.ldm_commands.specs.Complete.{RunCompletes};
 ghost use Rattle.ldm_commands.specs.Run.{RunEnds};
+ghost use Rattle.ldm_commands.specs.Law.{RunObeysLaw};
 ghost use Rattle.ldm_commands.specs.Unbuilt.{unbuilt_text};
 
 use crate::command::{Command, read_command};
@@ -21,8 +22,9 @@ use std::thread::Threads;
 /// Does what the words ask for, the program's name apart, and answers the number that the program ends with. A crowd alone
 /// starts threads and waits.
 ///
-/// The clause `ends` gives each status its cause, and what was read and written then: see `RunEnds`. The clause
-/// `completes` says when all is read and answered: see `RunCompletes`.
+/// The clause `ends` gives each status its cause, and what was read and written then: see `RunEnds`. The clause `law` says
+/// that what is written are answers of a history that obeys the law of the queue: see `RunObeysLaw`, and `IsLawful` of
+/// `ldm_calls` for the law. The clause `completes` says when all is read and answered: see `RunCompletes`.
 pub fn run_ldm<H: Threads + Wait + Sync, S: Source, K: Sink, E: Sink>(
     rt: &H,
     alloc: Global,
@@ -30,6 +32,7 @@ pub fn run_ldm<H: Threads + Wait + Sync, S: Source, K: Sink, E: Sink>(
     world: &mut World<S, K, E>,
 ) -> u8
     ensures ends { RunEnds (command_of (map string_bytes words.now)) result (world_tells S.tells K.tells E.tells world.old) (world_tells S.tells K.tells E.tells world.new) }
+    ensures law { RunObeysLaw (command_of (map string_bytes words.now)) (world_tells S.tells K.tells E.tells world.old) (world_tells S.tells K.tells E.tells world.new) }
     ensures completes { RunCompletes (command_of (map string_bytes words.now)) result (world_tells S.tells K.tells E.tells world.old) (world_tells S.tells K.tells E.tells world.new) }
     ensures faults_kept { KeepsFaults (world_tells S.tells K.tells E.tells world.old) (world_tells S.tells K.tells E.tells world.new) }
 {

@@ -38,8 +38,7 @@ plays_whole size good_arena good_slots good_workers text old new taken history b
     script = played.script;
     read = played.read;
     history = history;
-    legal = played.legal;
-    law = played.law;
+    lawful = played.lawful;
     interleaving = played.interleaving;
     answers_are = ap (λ (texts : List (List ℕ)). all_answers size history texts) played.answered;
   };

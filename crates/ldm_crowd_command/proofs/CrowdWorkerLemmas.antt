@@ -4,8 +4,8 @@ use Rattle.ldm_outside.specs.Count.{Rose}
 use Rattle.ldm_outside.specs.Gate.{GateRecord}
 use Rattle.ldm_model.specs.declared.event.Entry.{Entry}
 use Rattle.ldm_model.specs.History.{IsLegal, after}
-use Rattle.ldm_model.specs.Law.{ObeysLaw}
 use Rattle.ldm_script.specs.Order.{Asked}
+use Rattle.ldm_calls.specs.Lawful.{IsLawful}
 use Rattle.ldm_book.specs.View.{BookView}
 use Rattle.ldm_book.specs.Stands.{StandsFor}
 use Rattle.ldm_shared.specs.Passes.{SharedView, PassView, IsLast}
@@ -32,11 +32,12 @@ module _ (shared : SharedView) (workers : ℕ) (text : List ℕ) (script : List 
   abbrev outcome : Outcome
   outcome = record { history = last.seen; answers = answers; gates_before = old; gates = new }
 
-  pub all_played : (book : BookView) → StandsFor book (after shared.arena shared.slots last.seen) → ObeysLaw shared.arena shared.slots last.seen → end ≡ crowd_end.Done → CrowdEnds end script outcome
+  pub all_played : (book : BookView) → StandsFor book (after shared.arena shared.slots last.seen)
+      → ((arena slots : ℕ) (history : List Entry) → IsLegal arena slots history → IsLawful arena slots history) → end ≡ crowd_end.Done → CrowdEnds end script outcome
       → HasPlayed (record { arena = shared.arena; slots = shared.slots; workers = workers }) text last.seen book answers
-  all_played book stands law done ends =
+  all_played book stands lawful done ends =
       let ended = subst (λ (e : CrowdEnd). CrowdEnds e script outcome) done ends in
-      record { script = script; read = read; legal = last_legal shared last is; law = law; interleaving = ended.0; stands = stands; answered = ended.1 }
+      record { script = script; read = read; lawful = lawful shared.arena shared.slots last.seen (last_legal shared last is); interleaving = ended.0; stands = stands; answered = ended.1 }
 
   pub worn_out : end ≡ crowd_end.Worn → CrowdEnds end script outcome → IsWornOut (record { arena = shared.arena; slots = shared.slots; workers = workers }) text
   worn_out worn ends =

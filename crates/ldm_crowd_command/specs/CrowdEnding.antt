@@ -5,8 +5,8 @@ use Rattle.ldm_outside.specs.Io.{SourceRecord, Takes, WritesFront}
 use Rattle.ldm_status.specs.World.{WorldRecord, IsUntouched}
 use Rattle.ldm_model.specs.declared.event.Entry.{Entry}
 use Rattle.ldm_model.specs.History.{IsLegal}
-use Rattle.ldm_model.specs.Law.{ObeysLaw}
 use Rattle.ldm_script.specs.Order.{Asked}
+use Rattle.ldm_calls.specs.Lawful.{IsLawful}
 use Rattle.ldm_book.specs.Limits.{IsGoodArena, IsGoodSlots}
 use Rattle.ldm_shared.specs.Limits.{IsGoodPasses, IsFaultOf}
 use Rattle.ldm_shared.specs.declared.steps.TheConstants.{MOST_TURNS}
@@ -34,14 +34,13 @@ pub record IsGoodSize (size : CrowdSize) : Type 0 where
   pub slots : IsGoodSlots size.slots
   pub workers : IsGoodPasses size.workers
 
--- What a crowd answers to a text: there is one legal history of all calls, in which each worker made the calls of its
--- actor's lines, in order, and no others; the readers in it get what the law gives them; and the answers are those of that history.
+-- What a crowd answers to a text: there is one history of all calls, in which each worker made the calls of its actor's lines,
+-- in order, and no others; it obeys the law of the queue; and the answers are those of that history.
 pub record IsAnsweredBy (size : CrowdSize) (text answers : List ℕ) : Type 0 where
   pub script : List (List Asked)
   pub read : script_of size.workers text ≡ Ok script
   pub history : List Entry
-  pub legal : IsLegal size.arena size.slots history
-  pub law : ObeysLaw size.arena size.slots history
+  pub lawful : IsLawful size.arena size.slots history
   pub interleaving : IsInterleaving script history
   pub answers_are : answers ≡ crowd_text size.arena size.slots script history
 

@@ -13,11 +13,13 @@ ghost use Rattle.ldm_crowd.specs.declared.orders.TheConstants.{MOST_SCRIPT};
 ghost use Rattle.ldm_crowd_command.specs.CrowdEnding.{CrowdEnds, IsUnplayed};
 ghost use Rattle.ldm_crowd_command.specs.CrowdStep.{HasPlayed};
 ghost use Rattle.ldm_crowd_command.specs.Run.{CrowdRuns};
+ghost use Rattle.ldm_crowd_command.specs.Law.{ObeysCrowdLaw};
 ghost use Rattle.ldm_crowd_command.specs.Complete.{CrowdCompletes};
 
 use crate::statuses::status_of;
 use crate::whole_script::{Untaken, take_script};
 use ldm_book::Book;
+use ldm_calls::histories_are_lawful;
 use ldm_crowd::{CrowdEnd, Orders, OrdersFault};
 use ldm_outside::{OpenGate, Sink, SinkFailed, Source, write_all};
 use ldm_script::{Answer, Text, write_answer};
@@ -139,6 +141,7 @@ fn play_text<H: Threads + Wait + Sync>(
     ensures unplayed { IfErr result (λ why. IsUnplayed why (record { arena = shared.arena; slots = shared.slots; workers = workers }) text.now) }
 {
     let orders = Orders::read(alloc, text, workers)?;
+    histories_are_lawful();
     let gates = vec![in alloc; OpenGate; workers as usize]?;
     let crowd = ldm_crowd::crowd(rt, alloc, &orders, shared, passes, gates);
     match crowd.end {
@@ -218,6 +221,7 @@ fn run_crowd<H: Threads + Wait + Sync, S: Source, K: Sink>(
 ///
 /// The script is taken whole before any line of it is looked at. Where no thread can be made, the workers run one after
 /// another. The clause `ends` gives each status its cause, and what was read and written then: see `CrowdRuns`. The clause
+/// `law` says that the answers are those of a history that obeys the law of the queue: see `CrowdWritesLawful`. The clause
 /// `completes` says when all is written: see `CrowdUnhindered`.
 pub fn crowd<H: Threads + Wait + Sync, S: Source, K: Sink, E: Sink>(
     rt: &H,
@@ -228,6 +232,7 @@ pub fn crowd<H: Threads + Wait + Sync, S: Source, K: Sink, E: Sink>(
     world: &mut World<S, K, E>,
 ) -> u8
     ensures ends { CrowdRuns (record { arena = arena; slots = slots; workers = workers }) result (world_tells S.tells K.tells E.tells world.old) (world_tells S.tells K.tells E.tells world.new) }
+    ensures law { ObeysCrowdLaw (record { arena = arena; slots = slots; workers = workers }) (world_tells S.tells K.tells E.tells world.old) (world_tells S.tells K.tells E.tells world.new) }
     ensures completes { CrowdCompletes (record { arena = arena; slots = slots; workers = workers }) result
         (world_tells S.tells K.tells E.tells world.old) (world_tells S.tells K.tells E.tells world.new) }
     ensures faults_kept { KeepsFaults (world_tells S.tells K.tells E.tells world.old) (world_tells S.tells K.tells E.tells world.new) }

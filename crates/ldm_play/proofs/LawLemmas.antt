@@ -1,4 +1,4 @@
--- What a play writes obeys the laws of readers and of reservations.
+-- What a play writes obeys the law of the queue.
 use Rattle.std.proofs.Common.{◌≡◌, ℕ, Bool, true, false, cond, List, [], ◌∷◌, ◌++◌, length, Ok, Err, Result, inl, inr, refl, sym, ap, ◌∙◌, append_assoc, arith}
 use Rattle.std.specs.Prelude.{nat_lt}
 use Rattle.std.proofs.lemmas.Bool.{ltb-true}
@@ -7,13 +7,12 @@ use Rattle.ldm_outside.specs.Count.{Rose}
 use Rattle.ldm_outside.specs.Io.{SinkRecord, Gives, Takes, WritesFront}
 use Rattle.ldm_model.specs.declared.event.Entry.{Entry}
 use Rattle.ldm_model.specs.History.{IsLegal}
-use Rattle.ldm_model.specs.Law.{ObeysLaw}
-use Rattle.ldm_model.specs.Filling.{ObeysFilling}
 use Rattle.ldm_status.specs.World.{WorldRecord}
 use Rattle.ldm_book.specs.declared.fault.CreateFault.{CreateFault}
 use Rattle.ldm_script.specs.Lines.{cut, whole_lines, lines_of, last_line}
 use Rattle.ldm_script.specs.Resolve.{new_play}
 use Rattle.ldm_script.specs.declared.line.TheConstants.{LONGEST_LINE}
+use Rattle.ldm_calls.specs.Lawful.{IsLawful}
 use Rattle.ldm_play.specs.declared.play_command.ScriptEnd.{ScriptEnd}
 use Rattle.ldm_play.specs.declared.play_command.ScriptEnd.TheVariants as script_end
 use Rattle.ldm_play.specs.declared.player.Stop.{Stop}
@@ -43,22 +42,18 @@ known_within false script =
     let last = too_long_within unfinished long refl in
     (last.0, append_assoc (whole_lines script) (cond long (unfinished ∷ []) []) last.0 ∙ ap (λ (ls : List (List ℕ)). whole_lines script ++ ls) last.1)
 
-module _ (fifo : (arena slots : ℕ) (history : List Entry) → IsLegal arena slots history → ObeysLaw arena slots history)
-    (filled : (arena slots : ℕ) (history : List Entry) → IsLegal arena slots history → ObeysFilling arena slots history) (size : Size) (old new : WorldRecord) where
+module _ (lawful : (arena slots : ℕ) (history : List Entry) → IsLegal arena slots history → IsLawful arena slots history) (size : Size) (old new : WorldRecord) where
   module _ (script : List ℕ) (taken : Gives old.source script new.source) where
     writes : (lines rest : List (List ℕ)) → lines ++ rest ≡ lines_of script → StaysLegal (new_play size.arena size.slots) (played_on size lines).playing
         → WritesFront old.sink (played_on size lines).text new.sink → (¬ (Rose old.sink.faults new.sink.faults) → Takes old.sink (played_on size lines).text new.sink) → WritesLawful size old new
     writes lines rest first stays front whole =
-        let legal = (stays size.arena size.slots (record { legal = tt; state = refl })).legal in
         record {
           script = script;
           taken = taken;
           lines = lines;
           rest = rest;
           first = first;
-          legal = legal;
-          law = fifo size.arena size.slots (played_on size lines).playing.history legal;
-          filling = filled size.arena size.slots (played_on size lines).playing.history legal;
+          lawful = lawful size.arena size.slots (played_on size lines).playing.history (stays size.arena size.slots (record { legal = tt; state = refl })).legal;
           front = front;
           whole = whole;
         }

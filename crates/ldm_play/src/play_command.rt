@@ -15,7 +15,8 @@ ghost use Rattle.ldm_play.specs.Complete.{Completes};
 use crate::pending::Pending;
 use crate::player::{Player, Stop};
 use crate::statuses::status_of;
-use ldm_book::{Book, CreateFault, fifo, filled};
+use ldm_book::{Book, CreateFault};
+use ldm_calls::histories_are_lawful;
 use ldm_outside::{Got, Sink, Source};
 use ldm_script::LONGEST_LINE;
 use ldm_status::{PIECE, World};
@@ -190,9 +191,8 @@ fn play_new<S: Source, K: Sink>(
 /// the number that the program ends with, and writes its line to the log.
 ///
 /// All memory is taken before the first read. The clause `ends` gives each status its cause, and what was read and
-/// written then: see `Plays`. The clause `law` says that the answers are those of a legal history, in which each reader is
-/// given what is due to it, and each reservation keeps what is filled in: see `WritesLawful`. The clause `completes` says
-/// when a play comes to its end: see `Unhindered`.
+/// written then: see `Plays`. The clause `law` says that the answers are those of a history that obeys the law of the queue:
+/// see `WritesLawful`. The clause `completes` says when a play comes to its end: see `Unhindered`.
 pub fn play<S: Source, K: Sink, E: Sink>(
     alloc: Global,
     arena: u64,
@@ -204,8 +204,7 @@ pub fn play<S: Source, K: Sink, E: Sink>(
     ensures completes { Completes (record { arena = arena; slots = slots }) result (world_tells S.tells K.tells E.tells world.old) (world_tells S.tells K.tells E.tells world.new) }
     ensures faults_kept { KeepsFaults (world_tells S.tells K.tells E.tells world.old) (world_tells S.tells K.tells E.tells world.new) }
 {
-    fifo();
-    filled();
+    histories_are_lawful();
     let ending = play_new(alloc, arena, slots, &mut world.source, &mut world.sink);
     status_of(ending).report(&mut world.log)
 }

@@ -9,7 +9,7 @@ returns-in-Done-clause-played g c =
     let crowd = c.crowd-crowd.result in
     let old = map (open_tells {G = OpenGate}) c.in_ok-gates.gates.items in
     let new = map (open_tells {G = OpenGate}) crowd.gates.items in
-    all_played c.args.shared c.args.workers c.args.text.now (script_in c.in_ok-orders.orders) c.in_ok-orders.ensures.read crowd.pass c.crowd-crowd.ensures.last (map (λ (v : Vec ℕ Global). v.items) crowd.answers.items) crowd.end old new crowd.book c.crowd-crowd.ensures.stands c.crowd-crowd.ensures.law c.in-Done.is c.crowd-crowd.ensures.ended
+    all_played c.args.shared c.args.workers c.args.text.now (script_in c.in_ok-orders.orders) c.in_ok-orders.ensures.read crowd.pass c.crowd-crowd.ensures.last (map (λ (v : Vec ℕ Global). v.items) crowd.answers.items) crowd.end old new crowd.book c.crowd-crowd.ensures.stands c.histories_are_lawful.ensures c.in-Done.is c.crowd-crowd.ensures.ended
 
 pub returns-in-Worn-clause-unplayed : goal.returns-in-Worn-clause-unplayed
 returns-in-Worn-clause-unplayed g c =

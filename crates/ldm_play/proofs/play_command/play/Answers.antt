@@ -19,4 +19,4 @@ returns-clause-law g c =
     let world = c.args.world.now in
     let old : WorldRecord = record { source = g.S.Source.tells world.source; sink = g.K.Sink.tells world.sink; log = g.E.Sink.tells world.log } in
     let new : WorldRecord = record { source = g.S.Source.tells c.play_new-ending.new.source; sink = g.K.Sink.tells c.play_new-ending.new.sink; log = g.E.Sink.tells c.report.new.log } in
-    obeys c.fifo.ensures.obeys_law c.filled.ensures (record { arena = c.args.arena; slots = c.args.slots }) old new c.play_new-ending.result (c.play_new-ending.ensures.ends old.log new.log)
+    obeys c.histories_are_lawful.ensures (record { arena = c.args.arena; slots = c.args.slots }) old new c.play_new-ending.result (c.play_new-ending.ensures.ends old.log new.log)

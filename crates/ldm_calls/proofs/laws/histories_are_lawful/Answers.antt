@@ -1,0 +1,10 @@
+use Rattle.ldm_calls.proofs.Insertions.{insertions}
+use Rattle.ldm_calls.proofs.laws.histories_are_lawful.Goals as goal
+
+pub returns : goal.returns
+returns c = λ arena slots history legal. record {
+  legal = legal;
+  readers = c.fifo.ensures.obeys_law arena slots history legal;
+  reservations = c.filled.ensures arena slots history legal;
+  insertions = insertions c.histories_append.ensures.legal c.histories_append.ensures.state c.evictions_make_room.ensures.locked arena slots history legal;
+}
