@@ -2,12 +2,13 @@
 
 use anyhow::{Context, Result, ensure};
 use ldm_drive::{Case, shown};
-use ldm_pqact_conf::{Entries, Entry, LONGEST_PQACT, PqactFault, read_pqact};
+use ldm_pqact_conf::{Entries, Entry, PqactFault, read_pqact};
+use ldm_text::LONGEST_CONFIGURATION;
 use std::alloc::Global;
 
 /// The entries that a text means, or its fault.
 pub fn entries_of(alloc: Global, text: &[u8]) -> Result<Result<Entries, PqactFault>> {
-    ensure!(text.len() <= LONGEST_PQACT, "the text is too long");
+    ensure!(text.len() <= LONGEST_CONFIGURATION, "the text is too long");
     Ok(read_pqact(alloc, text))
 }
 

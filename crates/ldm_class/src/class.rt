@@ -40,13 +40,13 @@ impl From<AllocError> for ClassFault {
     }
 }
 
-impl From<AllocFailed<Search>> for ClassFault {
+impl<T: Drop> From<AllocFailed<T>> for ClassFault {
     ghost use Rattle.std.specs.Prelude.{◌≡◌};
     ghost use Rattle.ldm_class.specs.declared.class.ClassFault.TheVariants.{OutOfMemory};
 
     ghost from_gives = { λ _ fault. fault ≡ OutOfMemory };
 
-    fn from(_error: AllocFailed<Search>) -> ClassFault {
+    fn from(_error: AllocFailed<T>) -> ClassFault {
         ClassFault::OutOfMemory
     }
 }

@@ -12,7 +12,7 @@ use crate::rule::Rule;
 use crate::verdict::verdict_of;
 use ldm_pattern::{Pattern, Refusal};
 use ldm_types::{ClassSpec, Feed, Info, OutOfMemory};
-use std::alloc::{AllocFailed, Global};
+use std::alloc::{AllocError, AllocFailed, Global};
 use std::marker::Model;
 use thiserror::Error;
 
@@ -30,13 +30,24 @@ pub enum PolicyFault {
     OutOfMemory,
 }
 
-impl From<AllocFailed<Rule>> for PolicyFault {
+impl From<AllocError> for PolicyFault {
     ghost use Rattle.std.specs.Prelude.{◌≡◌};
     ghost use Rattle.ldm_class.specs.declared.policy.PolicyFault.TheVariants.{OutOfMemory};
 
     ghost from_gives = { λ _ fault. fault ≡ OutOfMemory };
 
-    fn from(_error: AllocFailed<Rule>) -> PolicyFault {
+    fn from(_error: AllocError) -> PolicyFault {
+        PolicyFault::OutOfMemory
+    }
+}
+
+impl<T: Drop> From<AllocFailed<T>> for PolicyFault {
+    ghost use Rattle.std.specs.Prelude.{◌≡◌};
+    ghost use Rattle.ldm_class.specs.declared.policy.PolicyFault.TheVariants.{OutOfMemory};
+
+    ghost from_gives = { λ _ fault. fault ≡ OutOfMemory };
+
+    fn from(_error: AllocFailed<T>) -> PolicyFault {
         PolicyFault::OutOfMemory
     }
 }
@@ -99,14 +110,9 @@ impl Policy {
             (λ _. (self.new ≡ with_allow self.old (allow_rule feed.0 host.now (option_copied ok.entry) (option_copied not.entry))) × (bad_from 0 patterns ≡ None))
             (λ fault. (self.new ≡ self.old) × IsFaultFrom 0 patterns fault) }
     {
-        let host = build(alloc, host, 0)?;
-        let (ok, not) = build_both(alloc, ok, not)?;
-        self.allow.push(Rule {
-            feed,
-            host: Some(host),
-            ok,
-            not,
-        })?;
+        self.allow.reserve(1)?;
+        let rule = build_allow(alloc, feed, host, ok, not)?;
+        self.allow.push(rule)?;
         Ok(())
     }
 
@@ -125,6 +131,7 @@ impl Policy {
             (λ _. (self.new ≡ with_accept self.old (accept_rule feed.0 pattern.now host.now)) × (bad_from 0 patterns ≡ None))
             (λ fault. (self.new ≡ self.old) × IsFaultFrom 0 patterns fault) }
     {
+        self.accept.reserve(1)?;
         let ok = build(alloc, pattern, 0)?;
         let host = build(alloc, host, 1)?;
         self.accept.push(Rule {
@@ -201,6 +208,28 @@ fn build(alloc: Global, pattern: &[u8], place: u32) -> Result<Pattern, PolicyFau
         Err(Refusal::Meaningless) => Err(PolicyFault::BadPattern { place }),
         Err(Refusal::OutOfMemory) => Err(PolicyFault::OutOfMemory),
     }
+}
+
+// The rule of an ALLOW line.
+fn build_allow(
+    alloc: Global,
+    feed: Feed,
+    host: &[u8],
+    ok: Option<&[u8]>,
+    not: Option<&[u8]>,
+) -> Result<Rule, PolicyFault>
+    ensures { let patterns = allow_patterns host.now (option_copied ok.entry) (option_copied not.entry) in MatchResult result
+        (λ rule. (rule ≡ allow_rule feed.0 host.now (option_copied ok.entry) (option_copied not.entry)) × (bad_from 0 patterns ≡ None))
+        (IsFaultFrom 0 patterns) }
+{
+    let host = build(alloc, host, 0)?;
+    let (ok, not) = build_both(alloc, ok, not)?;
+    Ok(Rule {
+        feed,
+        host: Some(host),
+        ok,
+        not,
+    })
 }
 
 // The patterns behind the first of a rule.

@@ -11,4 +11,4 @@ abbrev pub AddsDirective : Result (Unit {0}) ConfKind → code.Directive → Con
 AddsDirective result directive old new =
     MatchResult result
     (λ _. (has_bad_pattern (directive_view directive) ≡ false) × (new ≡ with_directive old (directive_view directive)))
-    (IsKindOf (with_patterns (Adds (directive_view directive))))
+    (λ kind. (new ≡ old) × IsKindOf (with_patterns (Adds (directive_view directive))) kind)

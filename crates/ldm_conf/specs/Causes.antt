@@ -8,7 +8,7 @@ use Rattle.ldm_conf.specs.declared.conf.Conf.{Conf}
 use Rattle.ldm_conf.specs.declared.fault.ConfFault.{ConfFault}
 use Rattle.ldm_conf.specs.declared.fault.ConfKind.{ConfKind}
 use Rattle.ldm_conf.specs.declared.fault.ConfKind.TheVariants.{Keyword, Fields, Feed, Pattern, Depth, Store, Long, OutOfMemory}
-use Rattle.ldm_conf.specs.declared.limits.TheConstants.{LONGEST_CONF}
+use Rattle.ldm_text.specs.declared.limits.TheConstants.{LONGEST_CONFIGURATION}
 use Rattle.ldm_conf.specs.Confs.{conf_view}
 use Rattle.ldm_conf.specs.Reading.{End, Read, Faulty, Wants, Line, reading}
 
@@ -24,7 +24,7 @@ kind_number OutOfMemory = 8
 
 -- a file that a store may give: it is not too long, and stands in the store, where the store tells its files
 abbrev pub IsIn : StoreRecord → File → Type 0
-IsIn store file = (length file.bytes ≤ LONGEST_CONF) × IfSome store.files (λ files. bytes_under file.path files ≡ Some file.bytes)
+IsIn store file = (length file.bytes ≤ LONGEST_CONFIGURATION) × IfSome store.files (λ files. bytes_under file.path files ≡ Some file.bytes)
 
 -- reading a text comes to that end, with files of a store
 pub record ReadsTo (store : StoreRecord) (text : List ℕ) (end : End) : Type 0 where
@@ -43,7 +43,7 @@ pub record IsOfFile (ends : End → Type 0) (answer : FileRead) (fault : ConfFau
   pub path : List ℕ
   pub wanted : ends (Wants line path)
   pub place : StandsAt fault line
-  pub answered : ReadsFile answer path LONGEST_CONF old new
+  pub answered : ReadsFile answer path LONGEST_CONFIGURATION old new
 
 -- a fault at the first faulty line, which changes nothing in the store
 abbrev pub IsOfLine : (End → Type 0) → ConfFault → StoreRecord → StoreRecord → Type 0

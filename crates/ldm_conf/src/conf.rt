@@ -37,7 +37,7 @@ impl Conf {
         })
     }
 
-    // Adds a line. After a fault of its patterns nothing is said of the configuration.
+    // Adds a line. After a fault the configuration is as before.
     pub(crate) fn add(&mut self, alloc: Global, directive: Directive<'_>) -> Result<(), ConfKind>
         ensures { AddsDirective result directive.entry (conf_view self.old) (conf_view self.new) }
     {

@@ -2,8 +2,6 @@
 ghost use Rattle.std.specs.Prelude.{◌≡◌};
 ghost use Rattle.ldm_conf.specs.Causes.{kind_number};
 
-use crate::command::Command;
-use crate::request::Request;
 use ldm_class::{ClassFault, PolicyFault};
 use std::alloc::{AllocError, AllocFailed};
 use thiserror::Error;
@@ -32,7 +30,7 @@ pub enum ConfKind {
     /// The file to include could not be read.
     #[error("the file cannot be read")]
     Store,
-    /// The file has more than [`LONGEST_CONF`](crate::LONGEST_CONF) bytes.
+    /// The file has more than [`LONGEST_CONFIGURATION`](ldm_text::LONGEST_CONFIGURATION) bytes.
     #[error("the file is too long")]
     Long,
     /// There is too little memory, or a pattern would take more than `regex` allows one.
@@ -69,24 +67,13 @@ impl From<AllocError> for ConfKind {
     }
 }
 
-impl From<AllocFailed<Request>> for ConfKind {
+impl<T: Drop> From<AllocFailed<T>> for ConfKind {
     ghost use Rattle.std.specs.Prelude.{◌≡◌};
     ghost use Rattle.ldm_conf.specs.declared.fault.ConfKind.TheVariants.{OutOfMemory};
 
     ghost from_gives = { λ _ kind. kind ≡ OutOfMemory };
 
-    fn from(_error: AllocFailed<Request>) -> ConfKind {
-        ConfKind::OutOfMemory
-    }
-}
-
-impl From<AllocFailed<Command>> for ConfKind {
-    ghost use Rattle.std.specs.Prelude.{◌≡◌};
-    ghost use Rattle.ldm_conf.specs.declared.fault.ConfKind.TheVariants.{OutOfMemory};
-
-    ghost from_gives = { λ _ kind. kind ≡ OutOfMemory };
-
-    fn from(_error: AllocFailed<Command>) -> ConfKind {
+    fn from(_error: AllocFailed<T>) -> ConfKind {
         ConfKind::OutOfMemory
     }
 }

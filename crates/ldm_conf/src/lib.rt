@@ -20,6 +20,6 @@ pub use addresses::{read_address, read_port};
 pub use command::Command;
 pub use conf::Conf;
 pub use fault::{ConfFault, ConfKind};
-pub use limits::{DEEPEST_INCLUDE, DEFAULT_PORT, LONGEST_CONF, LONGEST_HOST_NAME, MOST_FILES};
+pub use limits::{DEEPEST_INCLUDE, DEFAULT_PORT, LONGEST_HOST_NAME, MOST_FILES};
 pub use reader::read_conf;
 pub use request::Request;

@@ -1,8 +1,5 @@
 //! Limits.
 
-/// How many bytes a file has at most.
-pub const LONGEST_CONF: usize = 1_048_576;
-
 /// How many INCLUDE lines lead to a file at most.
 pub const DEEPEST_INCLUDE: u32 = 8;
 

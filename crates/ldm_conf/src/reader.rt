@@ -14,10 +14,11 @@ ghost use Rattle.ldm_conf.specs.Statements.{meaning_of};
 use crate::conf::Conf;
 use crate::directive::Statement;
 use crate::fault::{ConfFault, ConfKind};
-use crate::limits::{DEEPEST_INCLUDE, LONGEST_CONF, MOST_FILES};
+use crate::limits::{DEEPEST_INCLUDE, MOST_FILES};
 use crate::lines::{Line, Lines};
 use crate::parse::read_statement;
 use ldm_outside::{FileRead, Store};
+use ldm_text::LONGEST_CONFIGURATION;
 use std::alloc::Global;
 
 /// The configuration that an ldmd.conf of these bytes means, with the files of the store that it includes; or its first
@@ -27,10 +28,10 @@ use std::alloc::Global;
 /// stand at the INCLUDE line, and `Long` of this file stands at file 0, line 0. `OutOfMemory` may come at any line, and
 /// nothing is said of its place.
 pub fn read_conf<F: Store>(alloc: Global, bytes: &[u8], store: &mut F) -> Result<Conf, ConfFault>
-    ensures too_long { LONGEST_CONF < length bytes.now → (result ≡ Err first_too_long) × (F.tells store.new ≡ F.tells store.old) }
-    ensures reads { length bytes.now ≤ LONGEST_CONF → ReadsConf result bytes.now (F.tells store.old) (F.tells store.new) }
+    ensures too_long { LONGEST_CONFIGURATION < length bytes.now → (result ≡ Err first_too_long) × (F.tells store.new ≡ F.tells store.old) }
+    ensures reads { length bytes.now ≤ LONGEST_CONFIGURATION → ReadsConf result bytes.now (F.tells store.old) (F.tells store.new) }
 {
-    if bytes.len() > LONGEST_CONF {
+    if bytes.len() > LONGEST_CONFIGURATION {
         return Err(nowhere(ConfKind::Long));
     }
     let Ok(conf) = Conf::create(alloc) else {
@@ -146,7 +147,7 @@ impl Reader {
         if line.depth >= DEEPEST_INCLUDE || self.files >= MOST_FILES {
             return Err(line.fault(ConfKind::Depth));
         }
-        match store.read_file(alloc, path, LONGEST_CONF as u64) {
+        match store.read_file(alloc, path, LONGEST_CONFIGURATION as u64) {
             FileRead::Bytes(bytes) => Ok(bytes),
             FileRead::TooLong => Err(line.fault(ConfKind::Long)),
             FileRead::Failed => Err(line.fault(ConfKind::Store)),

@@ -2,8 +2,6 @@
 ghost use Rattle.std.specs.Prelude.{◌≡◌};
 ghost use Rattle.ldm_pqact_conf.specs.Causes.{kind_number};
 
-use crate::entry::Entry;
-use crate::words::Word;
 use std::alloc::{AllocError, AllocFailed};
 use thiserror::Error;
 
@@ -59,24 +57,13 @@ impl From<AllocError> for PqactKind {
     }
 }
 
-impl From<AllocFailed<Word>> for PqactKind {
+impl<T: Drop> From<AllocFailed<T>> for PqactKind {
     ghost use Rattle.std.specs.Prelude.{◌≡◌};
     ghost use Rattle.ldm_pqact_conf.specs.declared.fault.PqactKind.TheVariants.{OutOfMemory};
 
     ghost from_gives = { λ _ kind. kind ≡ OutOfMemory };
 
-    fn from(_error: AllocFailed<Word>) -> PqactKind {
-        PqactKind::OutOfMemory
-    }
-}
-
-impl From<AllocFailed<Entry>> for PqactKind {
-    ghost use Rattle.std.specs.Prelude.{◌≡◌};
-    ghost use Rattle.ldm_pqact_conf.specs.declared.fault.PqactKind.TheVariants.{OutOfMemory};
-
-    ghost from_gives = { λ _ kind. kind ≡ OutOfMemory };
-
-    fn from(_error: AllocFailed<Entry>) -> PqactKind {
+    fn from(_error: AllocFailed<T>) -> PqactKind {
         PqactKind::OutOfMemory
     }
 }

@@ -17,5 +17,5 @@ pub use entries::Entries;
 pub use entry::Entry;
 pub use fault::{PqactFault, PqactKind};
 pub use options::Options;
-pub use reader::{LONGEST_PQACT, read_pqact};
+pub use reader::read_pqact;
 pub use words::Word;

@@ -9,19 +9,16 @@ use crate::entry::Entry;
 use crate::fault::{PqactFault, PqactKind};
 use crate::lines::is_skipped;
 use crate::parse::read_entry;
-use ldm_text::{begins_with, first_line};
+use ldm_text::{LONGEST_CONFIGURATION, begins_with, first_line};
 use std::alloc::Global;
 use std::marker::Model;
-
-/// How many bytes a pqact.conf has at most.
-pub const LONGEST_PQACT: usize = 1_048_576;
 
 /// The entries of a pqact.conf, or its first fault: that of the first entry that is wrong, or `Fields` at the first
 /// line that begins with a tab, is not blank, and has no entry before it.
 ///
 /// `OutOfMemory` may come at any entry. Each other fault is that of the text.
 pub fn read_pqact(alloc: Global, bytes: &[u8]) -> Result<Entries, PqactFault>
-    requires { length bytes.now ≤ LONGEST_PQACT }
+    requires { length bytes.now ≤ LONGEST_CONFIGURATION }
     ensures { MatchResult result (λ entries. pqact_entries bytes.now ≡ Ok entries) (IsFaultOf (pqact_entries bytes.now)) }
 {
     let mut reader = Reader::new(alloc);

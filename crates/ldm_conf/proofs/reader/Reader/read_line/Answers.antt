@@ -14,7 +14,7 @@ pub returns-in_err-add-in-Adds-clause-read : goal.returns-in_err-add-in-Adds-cla
 returns-in_err-add-in-Adds-clause-read c =
     let why = err_from_is_err_and c.from_residual-in_err-add-in-Adds.result c.from_residual-in_err-add-in-Adds.ensures.1 in
     rw (why.1, why.2)
-    (of_patterns c.args.line.now (Adds (directive_view c.in-Adds.directive)) (rw c.in-Adds.is at c.in_ok-read_statement.ensures) c.in_err-add-in-Adds.field-0.0 c.in_err-add-in-Adds.ensures)
+    (of_patterns c.args.line.now (Adds (directive_view c.in-Adds.directive)) (rw c.in-Adds.is at c.in_ok-read_statement.ensures) c.in_err-add-in-Adds.field-0.0 c.in_err-add-in-Adds.ensures.1)
 
 pub returns-in-Blank-clause-read : goal.returns-in-Blank-clause-read
 returns-in-Blank-clause-read c = inl (means c.args.line.now Blank (rw c.in-Blank.is at c.in_ok-read_statement.ensures) Blank refl, refl)
