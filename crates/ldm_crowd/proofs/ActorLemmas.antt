@@ -1,12 +1,11 @@
 -- The lines of one actor.
-use Rattle.std.proofs.Common.{◌≡◌, ℕ, ◌<◌, List, length, map, get_or, Ok, Some, refl, sym, ap, subst, ◌∙◌, arith}
+use Rattle.std.proofs.Common.{◌≡◌, ℕ, ◌<◌, List, length, map, get_or, sym, ap, subst, ◌∙◌, arith}
 use Rattle.std.specs.List.{All}
 use Rattle.std.proofs.lemmas.List.{length-map, get_or-map}
 use denote.Ref.{Bor}
 use Rattle.ldm_model.specs.declared.event.Event.TheVariants as event
-use Rattle.ldm_script.specs.Order.{Order, Asked, Plain}
-use Rattle.ldm_script.specs.Grammar.{read_line}
-use Rattle.ldm_crowd.specs.OrdersView.{ActorLinesView, IsOrder, asked_in, asked_lines, asked_of_reading}
+use Rattle.ldm_script.specs.Order.{Plain}
+use Rattle.ldm_crowd.specs.OrdersView.{ActorLinesView, IsOrder, asked_in, asked_lines}
 
 module _ (actors : ℕ) (items : List (Bor (List ℕ))) (view : ActorLinesView) (view_is : record { actors = actors; lines = map (λ (l : Bor (List ℕ)). l.now) items } ≡ view)
     (i : ℕ) (less : i < length view.lines) (line : Bor (List ℕ)) (read : line ≡ get_or items i line) where

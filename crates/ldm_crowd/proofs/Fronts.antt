@@ -1,12 +1,11 @@
 -- How far a worker came, after one line more and at its end.
-use Rattle.std.proofs.Common.{◌≡◌, ℕ, suc, ◌+◌, ◌^◌, ◌<◌, ◌≤◌, List, [], ◌∷◌, ◌++◌, length, take, get_or, append-nil, Result, Ok, Err, refl, sym, ap, subst, ◌∙◌, arith}
+use Rattle.std.proofs.Common.{◌≡◌, ℕ, suc, ◌+◌, ◌<◌, ◌≤◌, List, [], ◌∷◌, ◌++◌, length, take, get_or, append-nil, sym, ap, subst, ◌∙◌, arith}
 use Rattle.std.proofs.lemmas.List.{take_more, take_all}
 use Rattle.ldm_outside.specs.declared.gate.GateCall.{GateCall}
 use Rattle.ldm_outside.specs.declared.gate.GateCall.TheVariants.{Before}
 use Rattle.ldm_outside.specs.Gate.{GateRecord, HasCalls}
 use Rattle.ldm_outside.proofs.CallerLemmas.{Rose-later}
-use Rattle.ldm_outside.proofs.GateLemmas.{HasCalls-none, HasCalls-then}
-use Rattle.ldm_model.specs.declared.event.Event.{Event}
+use Rattle.ldm_outside.proofs.GateLemmas.{HasCalls-then}
 use Rattle.ldm_model.specs.declared.event.Event.TheVariants as event
 use Rattle.ldm_model.specs.declared.event.Reply.{Reply}
 use Rattle.ldm_model.specs.declared.event.Entry.{Entry}
@@ -20,8 +19,8 @@ use Rattle.ldm_crowd.specs.declared.outcome.CrowdEnd.TheVariants as crowd_end
 use Rattle.ldm_crowd.specs.declared.player.Player.{Player}
 use Rattle.ldm_crowd.specs.Calls.{GrowsBy}
 use Rattle.ldm_crowd.specs.Lines.{AreEntriesOf, last_of}
-use Rattle.ldm_crowd.specs.Interleaving.{IsFront, actor_text, crowd_line}
-use Rattle.ldm_crowd.specs.Parts.{Part, Played, PlayedAll, passing, passings, passings_and_one}
+use Rattle.ldm_crowd.specs.Interleaving.{actor_text, crowd_line}
+use Rattle.ldm_crowd.specs.Parts.{Played, passing, passings, passings_and_one}
 use Rattle.ldm_crowd.specs.Players.{HasPlayed, PlayerEnds, PlaysLine, LineFails, part_seen}
 use Rattle.ldm_crowd.proofs.OneMore.{made_at, made_for, said, entries-more, last-more, text-more, said-is, own-grows, own-worn}
 

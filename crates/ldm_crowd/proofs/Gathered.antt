@@ -1,5 +1,5 @@
 -- What all players together did.
-use Rattle.std.proofs.Common.{◌≡◌, ℕ, zero, suc, ◌+◌, ◌^◌, ◌<◌, ◌≤◌, Vec, Global, List, [], ◌∷◌, length, map, take, get_or, None, Result, Ok, Err, refl, sym, ap, subst, ◌∙◌, inl, inr, arith, length-append, append-nil}
+use Rattle.std.proofs.Common.{◌≡◌, ℕ, zero, suc, ◌+◌, ◌<◌, ◌≤◌, Vec, Global, List, [], ◌∷◌, length, map, take, get_or, None, Result, Ok, Err, refl, sym, ap, subst, ◌∙◌, inl, inr, arith, length-append, append-nil}
 use Rattle.std.specs.Prelude.{OnOk, OnErr}
 use Rattle.std.specs.List.{All, range_with_len}
 use Rattle.std.proofs.lemmas.List.{length-map, get_or-map, take_all}
@@ -20,9 +20,9 @@ use Rattle.ldm_crowd.specs.declared.player.Worker.{Worker}
 use Rattle.ldm_crowd.specs.Crowd.{CrowdEnds, HasCome, Outcome, StopsKept, gate_of}
 use Rattle.ldm_crowd.specs.Lines.{AreEntriesOf}
 use Rattle.ldm_crowd.specs.Interleaving.{actor_text, lines_of_actor, texts_from}
-use Rattle.ldm_crowd.specs.Parts.{Part, Came, passings}
+use Rattle.ldm_crowd.specs.Parts.{Came, passings}
 use Rattle.ldm_crowd.specs.Players.{Begins, IsNew, Plays, PlayerEnds, part_seen}
-use Rattle.ldm_crowd.specs.Ends.{first_end, or_end}
+use Rattle.ldm_crowd.specs.Ends.{first_end}
 
 -- the element of a place
 element : {X : Type 0} (xs : List X) (i : ℕ) → i < length xs → (x : X) × ((d : X) → get_or xs i d ≡ x)

@@ -9,7 +9,7 @@ use Rattle.ldm_script.specs.Order.{Asked, Plain, OnCursor, OnReservation}
 use Rattle.ldm_script.specs.declared.order.LastPlaces.{LastPlaces}
 use Rattle.ldm_script.specs.Resolve.{no_places, resolved, unresolved, last_after}
 use Rattle.ldm_shared.specs.Own.{own}
-use Rattle.ldm_shared.specs.Passes.{PassView, IsSamePass, Grows, FindsWorn}
+use Rattle.ldm_shared.specs.Passes.{PassView, IsSamePass, FindsWorn}
 use Rattle.ldm_crowd.specs.Calls.{GrowsBy}
 use Rattle.ldm_crowd.specs.Lines.{Told, told, told_of, IsMade, AreEntriesOf, replies_of, last_of}
 use Rattle.ldm_crowd.specs.Interleaving.{crowd_line, actor_text}

@@ -1,5 +1,5 @@
 -- What a gate was asked and told while one line was played.
-use Rattle.std.proofs.Common.{◌≡◌, ℕ, ◌≤◌, List, [], ◌∷◌, refl, ap, subst, sym}
+use Rattle.std.proofs.Common.{◌≡◌, ℕ, List, [], ◌∷◌, ap}
 use Rattle.ldm_outside.specs.declared.gate.GateCall.{GateCall}
 use Rattle.ldm_outside.specs.declared.gate.GateCall.TheVariants.{Before, After}
 use Rattle.ldm_outside.specs.Gate.{GateRecord, HasCalls, IsLastCall, with_calls}

@@ -1,10 +1,11 @@
 -- How a crowd ends.
-use Rattle.std.specs.Prelude.{◌≡◌, ℕ, ◌^◌, ◌<◌, ◌≤◌, List, [], length, slice_index_or, None}
+use Rattle.std.specs.Prelude.{◌≡◌, ℕ, ◌<◌, ◌≤◌, List, [], length, slice_index_or, None}
 use Rattle.ldm_outside.specs.Count.{Rose}
 use Rattle.ldm_outside.specs.Gate.{GateRecord, HasCalls}
 use Rattle.ldm_model.specs.declared.event.Entry.{Entry}
 use Rattle.ldm_script.specs.Order.{Asked}
 use Rattle.ldm_shared.specs.Own.{own, AreBelow}
+use Rattle.ldm_shared.specs.declared.steps.TheConstants.{MOST_TURNS}
 use Rattle.ldm_crowd.specs.declared.outcome.CrowdEnd.{CrowdEnd}
 use Rattle.ldm_crowd.specs.declared.outcome.CrowdEnd.TheVariants as crowd_end
 use Rattle.ldm_crowd.specs.Interleaving.{IsInterleaving, lines_of_actor, texts_from}
@@ -49,7 +50,7 @@ CrowdEnds crowd_end.Done script outcome =
 CrowdEnds crowd_end.Stopped script outcome =
     HasCome script outcome × ((actor : ℕ) × (actor < length script) × Rose (gate_of outcome.gates_before actor).stops (gate_of outcome.gates actor).stops)
 -- the queue has had all its calls
-CrowdEnds crowd_end.Worn script outcome = HasCome script outcome × (length outcome.history ≡ 2 ^ 62)
+CrowdEnds crowd_end.Worn script outcome = HasCome script outcome × (length outcome.history ≡ MOST_TURNS)
 -- there is no memory
 CrowdEnds crowd_end.OutOfMemory script outcome = HasCome script outcome
 

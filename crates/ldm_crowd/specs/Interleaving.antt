@@ -1,10 +1,10 @@
 -- Histories in which each actor makes the calls of its lines, and what is written for one.
-use Rattle.std.specs.Prelude.{◌≡◌, ℕ, ◌+◌, ◌<◌, ◌≤◌, List, [], ◌∷◌, ◌++◌, length, map, take, slice_index_or, decimal}
+use Rattle.std.specs.Prelude.{ℕ, ◌+◌, ◌<◌, ◌≤◌, List, [], ◌∷◌, ◌++◌, length, map, take, slice_index_or, decimal}
 use Rattle.std.specs.List.{concat}
 use Rattle.ldm_model.specs.declared.event.Event.TheVariants as event
 use Rattle.ldm_model.specs.declared.event.Reply.{Reply}
 use Rattle.ldm_model.specs.declared.event.Entry.{Entry}
-use Rattle.ldm_model.specs.History.{IsLegal, after}
+use Rattle.ldm_model.specs.History.{after}
 use Rattle.ldm_model.specs.Next.{next}
 use Rattle.ldm_script.specs.Answer.{answer_line}
 use Rattle.ldm_script.specs.Order.{Asked}

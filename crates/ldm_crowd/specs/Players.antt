@@ -1,5 +1,5 @@
 -- How far a player came with the lines of its actor.
-use Rattle.std.specs.Prelude.{◌≡◌, ℕ, ◌^◌, ◌<◌, ◌≤◌, List, [], ◌∷◌, ◌++◌, length, take, Result, Ok, Err}
+use Rattle.std.specs.Prelude.{◌≡◌, ℕ, ◌<◌, ◌≤◌, List, [], ◌∷◌, ◌++◌, length, take, Result, Ok, Err}
 use Rattle.ldm_outside.specs.Count.{Rose}
 use Rattle.ldm_outside.specs.declared.gate.GateCall.TheVariants.{Before}
 use Rattle.ldm_outside.specs.Gate.{GateRecord, HasCalls}
@@ -9,6 +9,7 @@ use Rattle.ldm_script.specs.declared.order.LastPlaces.{LastPlaces}
 use Rattle.ldm_script.specs.Resolve.{no_places, resolved, unresolved, last_after}
 use Rattle.ldm_shared.specs.Own.{own}
 use Rattle.ldm_shared.specs.Passes.{PassView, FindsWorn}
+use Rattle.ldm_shared.specs.declared.steps.TheConstants.{MOST_TURNS}
 use Rattle.ldm_crowd.specs.declared.outcome.CrowdEnd.{CrowdEnd}
 use Rattle.ldm_crowd.specs.declared.outcome.CrowdEnd.TheVariants as crowd_end
 use Rattle.ldm_crowd.specs.declared.player.Player.{Player}
@@ -39,7 +40,7 @@ PlayerEnds crowd_end.Stopped lines pass answers old new =
     Rose old.stops new.stops × Played (passings pass.actor) pass.actor lines (part_seen pass answers old new)
 -- the queue has had all its calls
 PlayerEnds crowd_end.Worn lines pass answers old new =
-    (length pass.seen ≡ 2 ^ 62) × Played (passings_and_one pass.actor) pass.actor lines (part_seen pass answers old new)
+    (length pass.seen ≡ MOST_TURNS) × Played (passings_and_one pass.actor) pass.actor lines (part_seen pass answers old new)
 -- there is no memory
 PlayerEnds crowd_end.OutOfMemory lines pass answers old new = Played (passings pass.actor) pass.actor lines (part_seen pass answers old new)
 

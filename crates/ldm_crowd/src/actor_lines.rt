@@ -1,5 +1,6 @@
 //! The lines of one actor.
 ghost use Rattle.std.specs.Prelude.{◌≡◌, ◌<◌, ◌≤◌, ◌∷◌, ◌++◌, [], length, slice_index_or, OnOk};
+ghost use Rattle.ldm_types.specs.declared.numbers.TheConstants.Actor.{COUNT};
 ghost use Rattle.ldm_model.specs.declared.event.Event.TheVariants as event;
 ghost use Rattle.ldm_script.specs.Order.{Plain};
 ghost use Rattle.ldm_script.specs.OrderView.{asked_of, IsWhole};
@@ -21,6 +22,7 @@ pub(crate) struct ActorLines<'a> {
 impl<'a> Model for ActorLines<'a> {
     ghost use Rattle.std.specs.Prelude.{◌≤◌, map};
     ghost use Rattle.std.specs.List.{All};
+    ghost use Rattle.ldm_types.specs.declared.numbers.TheConstants.Actor.{COUNT};
     ghost use Rattle.ldm_crowd.specs.OrdersView.{IsOrder, ActorLinesView};
 
     ghost Value = { ActorLinesView };
@@ -30,13 +32,13 @@ impl<'a> Model for ActorLines<'a> {
       lines = map (λ line. line.now) s.lines.items;
     } };
 
-    ghost invariant = { λ s. (s.actors ≤ 64) × All (λ line. IsOrder s.actors line.now) s.lines.items };
+    ghost invariant = { λ s. (s.actors ≤ COUNT) × All (λ line. IsOrder s.actors line.now) s.lines.items };
 }
 
 impl<'a> ActorLines<'a> {
     /// No lines yet, in a script of so many actors.
     pub(crate) fn new(alloc: Global, actors: u32) -> ActorLines<'a>
-        requires { actors ≤ 64 }
+        requires { actors ≤ COUNT }
         ensures { result ≡ record { actors = actors; lines = [] } }
     {
         ActorLines {

@@ -1,5 +1,6 @@
 //! The orders of a script, dealt out to the actors.
 ghost use Rattle.std.specs.Prelude.{◌≡◌, ◌<◌, ◌≤◌, ◌++◌, [], List, length, map, slice_index_or, Ok, IfOk, IfErr, OnOk, IsOk};
+ghost use Rattle.ldm_types.specs.declared.numbers.TheConstants.Actor.{COUNT};
 ghost use Rattle.ldm_script.specs.Grammar.{read_line as reading};
 ghost use Rattle.ldm_script.specs.Order.{Order as Ordered};
 ghost use Rattle.ldm_script.specs.Lines.{lines_of};
@@ -48,7 +49,7 @@ impl<'a> Orders<'a> {
     /// Reads a script of so many actors. A line that is empty or begins with `#` asks for nothing.
     pub fn read(alloc: Global, text: &'a [u8], actors: u32) -> Result<Orders<'a>, OrdersFault>
         requires text { length text.now ≤ MOST_SCRIPT }
-        requires actors { actors ≤ 64 }
+        requires actors { actors ≤ COUNT }
         ensures read { IfOk result (λ orders. script_of actors text.now ≡ Ok (script_in orders)) }
         ensures count { IfOk result (λ orders. length (script_in orders) ≡ actors) }
         ensures faults { IfErr result (IsFaultOf actors text.now) }
@@ -69,7 +70,7 @@ impl<'a> Orders<'a> {
 
 // For each actor no lines yet.
 fn no_lines<'a>(alloc: Global, actors: u32) -> Result<Vec<ActorLines<'a>>, OrdersFault>
-    requires { actors ≤ 64 }
+    requires { actors ≤ COUNT }
     ensures dealt { IfOk result (λ parts. AreDealt actors [] parts.items) }
     ensures fault { IfErr result (λ fault. fault ≡ OrdersFault.OutOfMemory) }
 {
@@ -89,7 +90,7 @@ fn deal_all<'a>(
     text: &'a [u8],
 ) -> Result<(), OrdersFault>
     requires text { length text.now ≤ MOST_SCRIPT }
-    requires actors { actors ≤ 64 }
+    requires actors { actors ≤ COUNT }
     requires none { AreDealt actors [] parts.old }
     ensures dealt { OnOk result ((done : List Ordered) × AreDealt actors done parts.new × (orders_from actors 1 (lines_of text.now) ≡ Ok done)) }
     ensures faults { IfErr result (IsFaultOf actors text.now) }
@@ -114,7 +115,7 @@ fn deal<'a>(
     number: u32,
     line: &'a [u8],
 ) -> Result<(), OrdersFault>
-    requires actors { actors ≤ 64 }
+    requires actors { actors ≤ COUNT }
     requires parts { (done : List Ordered) × AreDealt actors done parts.old }
     ensures dealt { OnOk result ((done : List Ordered) → AreDealt actors done parts.old → AreDealt actors (done ++ orders_in actors line.now) parts.new) }
     ensures read { OnOk result (IsOk (reading actors line.now)) }

@@ -1,5 +1,5 @@
 -- What workers begin with, and what they leave.
-use Rattle.std.specs.Prelude.{◌≡◌, ℕ, ◌<◌, List, length, slice_index_or}
+use Rattle.std.specs.Prelude.{ℕ, ◌<◌, List, length, slice_index_or}
 use Rattle.ldm_shared.specs.Passes.{SharedView, PassView, IsSamePass, HasAllOf, new_pass}
 
 -- each worker may begin with its new pass and with what it has of its own

@@ -1,5 +1,4 @@
 -- One worker.
-use Rattle.std.specs.Prelude.{◌≡◌}
 use Rattle.ldm_shared.specs.Passes.{SharedView, PassView, IsPassOf, IsSamePass}
 use Rattle.ldm_workers.specs.declared.worker.Worker.{Worker}
 

@@ -1,10 +1,10 @@
-use Rattle.std.proofs.Common.{◌≡◌, ◌∙◌, ◌<◌, ℕ, List, [], ◌∷◌, ◌++◌, get_or, set, Option, Some, Ok, sym, ap, subst, arith}
+use Rattle.std.proofs.Common.{◌≡◌, ◌∙◌, ◌<◌, ℕ, [], ◌∷◌, ◌++◌, get_or, set, Option, Some, Ok, sym, ap, subst, arith}
 use Rattle.std.specs.Prelude.{IfSome}
 use Rattle.std.specs.Option.{option_map}
 use Rattle.ldm_script.specs.declared.order.Order.{Order as ReadOrder}
 use Rattle.ldm_script.specs.Grammar.{read_line}
 use Rattle.ldm_script.specs.OrderView.{order_of}
-use Rattle.ldm_crowd.specs.OrdersView.{ActorLinesView, AreDealt, orders_in}
+use Rattle.ldm_crowd.specs.OrdersView.{AreDealt, orders_in}
 use Rattle.ldm_crowd.proofs.Dealing.{dealt-more, length-dealt}
 use Rattle.ldm_crowd.proofs.orders.deal.Goals as goal
 

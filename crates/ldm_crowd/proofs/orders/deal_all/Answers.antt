@@ -1,4 +1,4 @@
-use Rattle.std.proofs.Common.{◌≡◌, ◌∙◌, ◌+◌, ◌-◌, ◌<◌, ◌≤◌, ◌==◌, ℕ, false, List, [], ◌∷◌, ◌++◌, length, take, drop, None, Result, Ok, Err, IfErr, OnOk, refl, sym, ap, subst, inl, inr, arith, eq-eqb}
+use Rattle.std.proofs.Common.{◌≡◌, ◌∙◌, ◌+◌, ◌-◌, ◌==◌, ℕ, false, List, [], ◌∷◌, ◌++◌, length, take, drop, None, Result, Ok, Err, IfErr, OnOk, sym, ap, subst, inl, inr, arith, eq-eqb}
 use Rattle.memchr.specs.Find.{IsFirstByte, is_byte}
 use Rattle.std.proofs.lemmas.Bool.{cases_lt, false≢true}
 use Rattle.std.proofs.lemmas.Result.{err_from_is_err_and}
@@ -7,7 +7,7 @@ use Rattle.ldm_script.specs.Lines.{lines_of}
 use Rattle.ldm_script.proofs.SplitLemmas.{cut_at, lacks-none}
 use Rattle.ldm_crowd.specs.OrdersView.{orders_in, IsFaultOf, IsFaultOfLine}
 use Rattle.ldm_crowd.specs.declared.orders.OrdersFault.{OrdersFault}
-use Rattle.ldm_crowd.proofs.Dealing.{IsReadTo, lines_of-line, lines_of-plain, last_line-some, last_line-none, in_front-nil, read_on, read_whole, fault_on}
+use Rattle.ldm_crowd.proofs.Dealing.{IsReadTo, lines_of-line, lines_of-plain, last_line-some, in_front-nil, read_on, read_whole, fault_on}
 use Rattle.ldm_crowd.proofs.orders.deal_all.Goals as goal
 
 pub loop-at-init : goal.loop-at-init

@@ -1,4 +1,4 @@
-use Rattle.std.proofs.Common.{◌≡◌, ◌∙◌, ◌++◌, ◌∷◌, [], sym, ap, subst, arith}
+use Rattle.std.proofs.Common.{◌∙◌, ◌++◌, ◌∷◌, [], sym, ap, subst, arith}
 use Rattle.ldm_crowd.specs.OrdersView.{ActorLinesView}
 use Rattle.ldm_crowd.proofs.Dealing.{AreUnread, unread-more}
 use Rattle.ldm_crowd.proofs.orders.no_lines.Goals as goal

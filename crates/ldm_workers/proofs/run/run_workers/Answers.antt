@@ -1,8 +1,8 @@
 use Rattle.std.proofs.Common.{◌≡◌, ◌∙◌, ℕ, ◌<◌, List, length, map, reverse, get_or, sym, ap, subst, arith}
-use Rattle.std.specs.List.{All, range_with_len}
-use Rattle.std.proofs.lemmas.List.{length-map, length-reverse, with_items_is}
+use Rattle.std.specs.List.{All}
+use Rattle.std.proofs.lemmas.List.{length-reverse, with_items_is}
 use Rattle.std.proofs.lemmas.List.FromFn.{length-map-range_with_len}
-use Rattle.ldm_shared.specs.Passes.{PassView, AreAllOf, HasAllOf, new_pass}
+use Rattle.ldm_shared.specs.Passes.{AreAllOf, HasAllOf, new_pass}
 use Rattle.ldm_shared.proofs.CallerLemmas.{new_are_all}
 use Rattle.ldm_workers.specs.declared.worker.Worker.{Worker}
 use Rattle.ldm_workers.specs.Work.{AllWorked}
