@@ -38,7 +38,8 @@ module _ (p : Inside) (kept : IsSlotted p) where
       ∙ (λ i. front i ++ behind i)
 
   -- entries of different numbers have different slots
-  others_apart : (entry : Queued) → IsAt (slots_of p) entry → (es : List Queued) → AllByRecursion (IsAt (slots_of p)) es → AllByRecursion (Precedes entry) es → AllByRecursion (λ (o : Queued). entry.slot ≢ o.slot) es
+  others_apart : (entry : Queued) → IsAt (slots_of p) entry → (es : List Queued) → AllByRecursion (IsAt (slots_of p)) es → AllByRecursion (Precedes entry) es
+      → AllByRecursion (λ (o : Queued). entry.slot ≢ o.slot) es
   others_apart entry at [] all before = tt
   others_apart entry at (other ∷ es) all before =
       let there = all.0 in

@@ -73,28 +73,36 @@ open-all P [] all = tt
 open-all P (None ∷ rs) all = (tt, open-all P rs all)
 open-all P (Some o ∷ rs) all = (all.0, open-all P rs all.1)
 
-others-open : (arena : ℕ) (rs : Reservations) (r : ℕ) (v : KeptReservation) → reservation_at rs r ≡ Some v → LieApart arena (map reserved_region (open_kept rs)) → Others (λ (o : KeptReservation). AreApart (reserved_region o) (reserved_region v)) r rs
+others-open : (arena : ℕ) (rs : Reservations) (r : ℕ) (v : KeptReservation) → reservation_at rs r ≡ Some v → LieApart arena (map reserved_region (open_kept rs))
+    → Others (λ (o : KeptReservation). AreApart (reserved_region o) (reserved_region v)) r rs
 others-open arena [] r v at apart = tt
 others-open arena (None ∷ rs) zero v at apart = absurd cc
 others-open arena (Some o ∷ rs) zero v at apart =
     let same : o ≡ v = cc in
     subst (λ (x : KeptReservation). Each (λ (o : KeptReservation). AreApart (reserved_region o) (reserved_region x)) rs) same
-    (each-more (λ (x : KeptReservation). AreApart (reserved_region o) (reserved_region x)) (λ (x : KeptReservation). AreApart (reserved_region x) (reserved_region o)) (λ x a. swap (reserved_region o) (reserved_region x) a) rs
+    (each-more (λ (x : KeptReservation). AreApart (reserved_region o) (reserved_region x)) (λ (x : KeptReservation). AreApart (reserved_region x) (reserved_region o))
+    (λ x a. swap (reserved_region o) (reserved_region x) a) rs
     (open-all (λ region. AreApart (reserved_region o) region) rs apart.1))
 others-open arena (None ∷ rs) (suc r) v at apart = (tt, others-open arena rs r v at apart)
 others-open arena (Some o ∷ rs) (suc r) v at apart = (open-at (λ region. AreApart (reserved_region o) region) rs r v at apart.1, others-open arena rs r v at apart.2)
 
 -- apart from a reservation lie the products
-pub rows_from_reserved : (arena : ℕ) (rows : List Kept) (rs : Reservations) (r : ℕ) (v : KeptReservation) → reservation_at rs r ≡ Some v → LieApart arena (occupied_by rows rs) → AllByRecursion (λ (k : Kept). AreApart (kept_region k) (reserved_region v)) rows
+pub rows_from_reserved : (arena : ℕ) (rows : List Kept) (rs : Reservations) (r : ℕ) (v : KeptReservation) → reservation_at rs r ≡ Some v → LieApart arena (occupied_by rows rs)
+    → AllByRecursion (λ (k : Kept). AreApart (kept_region k) (reserved_region v)) rows
 rows_from_reserved arena [] rs r v at apart = tt
-rows_from_reserved arena (k ∷ ks) rs r v at apart =
-    (open-at (λ region. AreApart (kept_region k) region) rs r v at (all_front (λ region. AreApart (kept_region k) region) (map kept_region ks) (map reserved_region (open_kept rs)) apart.1), rows_from_reserved arena ks rs r v at apart.2)
+rows_from_reserved arena (k ∷ ks) rs r v at apart = (
+  open-at (λ region. AreApart (kept_region k) region) rs r v at
+      (all_front (λ region. AreApart (kept_region k) region) (map kept_region ks) (map reserved_region (open_kept rs)) apart.1),
+  rows_from_reserved arena ks rs r v at apart.2,
+)
 
 -- and the other reservations
-pub others_from_reserved : (arena : ℕ) (rows : List Kept) (rs : Reservations) (r : ℕ) (v : KeptReservation) → reservation_at rs r ≡ Some v → LieApart arena (occupied_by rows rs) → Others (λ (o : KeptReservation). AreApart (reserved_region o) (reserved_region v)) r rs
+pub others_from_reserved : (arena : ℕ) (rows : List Kept) (rs : Reservations) (r : ℕ) (v : KeptReservation) → reservation_at rs r ≡ Some v → LieApart arena (occupied_by rows rs)
+    → Others (λ (o : KeptReservation). AreApart (reserved_region o) (reserved_region v)) r rs
 others_from_reserved arena rows rs r v at apart = others-open arena rs r v at (behind arena (map kept_region rows) (map reserved_region (open_kept rs)) apart)
 
-within-open : (arena : ℕ) (rs : Reservations) (r : ℕ) (v : KeptReservation) → reservation_at rs r ≡ Some v → LieApart arena (map reserved_region (open_kept rs)) → v.product.place + kept_extent v.product ≤ arena
+within-open : (arena : ℕ) (rs : Reservations) (r : ℕ) (v : KeptReservation) → reservation_at rs r ≡ Some v → LieApart arena (map reserved_region (open_kept rs))
+    → v.product.place + kept_extent v.product ≤ arena
 within-open arena [] r v at apart = absurd cc
 within-open arena (None ∷ rs) zero v at apart = absurd cc
 within-open arena (Some o ∷ rs) zero v at apart = let same : o ≡ v = cc in subst (λ (x : KeptReservation). x.product.place + kept_extent x.product ≤ arena) same apart.0
@@ -102,22 +110,27 @@ within-open arena (None ∷ rs) (suc r) v at apart = within-open arena rs r v at
 within-open arena (Some o ∷ rs) (suc r) v at apart = within-open arena rs r v at apart.2
 
 -- it lies in the arena
-pub reserved_within : (arena : ℕ) (rows : List Kept) (rs : Reservations) (r : ℕ) (v : KeptReservation) → reservation_at rs r ≡ Some v → LieApart arena (occupied_by rows rs) → v.product.place + kept_extent v.product ≤ arena
+pub reserved_within : (arena : ℕ) (rows : List Kept) (rs : Reservations) (r : ℕ) (v : KeptReservation) → reservation_at rs r ≡ Some v → LieApart arena (occupied_by rows rs)
+    → v.product.place + kept_extent v.product ≤ arena
 reserved_within arena rows rs r v at apart = within-open arena rs r v at (behind arena (map kept_region rows) (map reserved_region (open_kept rs)) apart)
 
 -- apart from the last of the products lie the others
-pub rows_from_last : (arena : ℕ) (rows : List Kept) (new : Kept) (rs : Reservations) → LieApart arena (occupied_by (rows ++ new ∷ []) rs) → AllByRecursion (λ (k : Kept). AreApart (kept_region k) (kept_region new)) rows
+pub rows_from_last : (arena : ℕ) (rows : List Kept) (new : Kept) (rs : Reservations) → LieApart arena (occupied_by (rows ++ new ∷ []) rs)
+    → AllByRecursion (λ (k : Kept). AreApart (kept_region k) (kept_region new)) rows
 rows_from_last arena [] new rs apart = tt
 rows_from_last arena (k ∷ ks) new rs apart = (last ks apart.1, rows_from_last arena ks new rs apart.2)
   where
-    last : (others : List Kept) → AllByRecursion (λ region. AreApart (kept_region k) region) (map kept_region (others ++ new ∷ []) ++ map reserved_region (open_kept rs)) → AreApart (kept_region k) (kept_region new)
+    last : (others : List Kept) → AllByRecursion (λ region. AreApart (kept_region k) region) (map kept_region (others ++ new ∷ []) ++ map reserved_region (open_kept rs))
+        → AreApart (kept_region k) (kept_region new)
     last [] all = all.0
     last (other ∷ others) all = last others all.1
 
 -- and the reservations
-pub reserved_from_last : (arena : ℕ) (rows : List Kept) (new : Kept) (rs : Reservations) → LieApart arena (occupied_by (rows ++ new ∷ []) rs) → Each (λ (o : KeptReservation). AreApart (reserved_region o) (kept_region new)) rs
+pub reserved_from_last : (arena : ℕ) (rows : List Kept) (new : Kept) (rs : Reservations) → LieApart arena (occupied_by (rows ++ new ∷ []) rs)
+    → Each (λ (o : KeptReservation). AreApart (reserved_region o) (kept_region new)) rs
 reserved_from_last arena [] new rs apart =
-    each-more (λ (x : KeptReservation). AreApart (kept_region new) (reserved_region x)) (λ (x : KeptReservation). AreApart (reserved_region x) (kept_region new)) (λ x a. swap (kept_region new) (reserved_region x) a) rs
+    each-more (λ (x : KeptReservation). AreApart (kept_region new) (reserved_region x)) (λ (x : KeptReservation). AreApart (reserved_region x) (kept_region new))
+    (λ x a. swap (kept_region new) (reserved_region x) a) rs
     (open-all (λ region. AreApart (kept_region new) region) rs apart.1)
 reserved_from_last arena (k ∷ ks) new rs apart = reserved_from_last arena ks new rs apart.2
 

@@ -58,7 +58,8 @@ told-nothing cs k x at none =
     ∙ ap (λ (o : Option KeptCursor). set cs k o) (sym at) ∙ set-get_or cs k None
 
 -- the place that a change makes
-changed : (cs : Places) (k : ℕ) (c : Cursor) (d : Cursor) (change : KeptCursor → KeptCursor) → cursor_at cs k ≡ Some (kept_cursor c) → change (kept_cursor c) ≡ kept_cursor d → option_map change (cursor_at cs k) ≡ kept_place (Some d)
+changed : (cs : Places) (k : ℕ) (c : Cursor) (d : Cursor) (change : KeptCursor → KeptCursor) → cursor_at cs k ≡ Some (kept_cursor c) → change (kept_cursor c) ≡ kept_cursor d
+    → option_map change (cursor_at cs k) ≡ kept_place (Some d)
 changed cs k c d change is same = ap (option_map change) is ∙ ap (λ (x : KeptCursor). Some x) same
 
 module _ (book : BookView) (s : State) (stands : StandsFor book s) (actor k : ℕ) where
@@ -85,13 +86,18 @@ module _ (book : BookView) (s : State) (stands : StandsFor book s) (actor k : �
       known reply.NotHeld book s (cursor_of s actor k) let_go is.cursor is.own
       (nothing_held book s is.cursor.held (λ n. record { reply = reply.Released n; state = with_place s k (Some (after_release is.cursor)) }) free stands)
 
-  pub release-some : (is : IsCursor book s actor k) (n : ℕ) → is.cursor.held ≡ Some n → Follows (reply.Released n) (with_cursors book (with_change book.cursors k kept_places.after_release)) (release s actor k)
+  pub release-some : (is : IsCursor book s actor k) (n : ℕ) → is.cursor.held ≡ Some n
+      → Follows (reply.Released n) (with_cursors book (with_change book.cursors k kept_places.after_release)) (release s actor k)
   unfolding release
   release-some is n some =
       let new = with_cursors book (with_change book.cursors k kept_places.after_release) in
       known (reply.Released n) new s (cursor_of s actor k) let_go is.cursor is.own
       (held (reply.Released n) new s is.cursor.held (λ m. record { reply = reply.Released m; state = with_place s k (Some (after_release is.cursor)) }) n some
-      (record { reply = refl; state = StandsFor-place book s k (Some (after_release is.cursor)) (option_map kept_places.after_release (cursor_at book.cursors k)) stands (changed book.cursors k is.cursor (after_release is.cursor) kept_places.after_release is.kept refl) }))
+      (record {
+        reply = refl;
+        state = StandsFor-place book s k (Some (after_release is.cursor)) (option_map kept_places.after_release (cursor_at book.cursors k)) stands
+            (changed book.cursors k is.cursor (after_release is.cursor) kept_places.after_release is.kept refl);
+      }))
 
   abbrev tell : Cursor → Outcome
   tell cursor = unchanged s (tally_reply s cursor)
@@ -127,7 +133,8 @@ module _ (book : BookView) (s : State) (stands : StandsFor book s) (actor k : �
       known (reply.Holding n) book s (cursor_of s actor k) go_on is.cursor is.own
       (subst (λ (p : Option ℕ). Follows (reply.Holding n) book (step_held s k is.cursor p)) (sym some) (record { reply = refl; state = stands }))
 
-  step-free : (r : Reply) (new : BookView) (is : IsCursor book s actor k) (untold : List ℕ) → is.cursor.held ≡ None → is.cursor.untold ≡ untold → Follows r new (step_free s k is.cursor untold) → Follows r new (step s actor k)
+  step-free : (r : Reply) (new : BookView) (is : IsCursor book s actor k) (untold : List ℕ) → is.cursor.held ≡ None → is.cursor.untold ≡ untold → Follows r new (step_free s k is.cursor untold)
+      → Follows r new (step s actor k)
   unfolding step
   step-free r new is untold free same follows =
       known r new s (cursor_of s actor k) go_on is.cursor is.own
@@ -144,13 +151,16 @@ module _ (book : BookView) (s : State) (stands : StandsFor book s) (actor k : �
       λ i. record { actor = is.cursor.actor; feed = is.cursor.feed; position = is.cursor.position; held = is.cursor.held; untold = None; given = length is.cursor.given; lost = lost i } in
       record {
         reply = ap (λ (p : ℕ × ℕ × ℕ). reply.Gap p.0 p.1 p.2) (sym are);
-        state = StandsFor-place book s k (Some (after_tell is.cursor)) (option_map kept_places.after_tell (cursor_at book.cursors k)) stands (changed book.cursors k is.cursor (after_tell is.cursor) kept_places.after_tell is.kept after);
+        state =
+            StandsFor-place book s k (Some (after_tell is.cursor)) (option_map kept_places.after_tell (cursor_at book.cursors k)) stands
+            (changed book.cursors k is.cursor (after_tell is.cursor) kept_places.after_tell is.kept after);
       }
 
   pub step-gap : (is : IsCursor book s actor k) (numbers : ℕ × ℕ × ℕ) → is.cursor.held ≡ None → option_map numbers_of (losses_of is.cursor.untold) ≡ Some numbers
       → Follows (reply.Gap numbers.0 numbers.1 numbers.2) (with_cursors book (with_change book.cursors k kept_places.after_tell)) (step s actor k)
   step-gap is numbers free e =
-      step-free (reply.Gap numbers.0 numbers.1 numbers.2) (with_cursors book (with_change book.cursors k kept_places.after_tell)) is is.cursor.untold free refl (told is is.cursor.untold numbers refl e)
+      step-free (reply.Gap numbers.0 numbers.1 numbers.2) (with_cursors book (with_change book.cursors k kept_places.after_tell)) is is.cursor.untold free refl
+      (told is is.cursor.untold numbers refl e)
 
   -- without losses, telling them changes nothing
   none_untold : (ns : List ℕ) → option_map numbers_of (losses_of ns) ≡ None → ns ≡ []
@@ -162,7 +172,8 @@ module _ (book : BookView) (s : State) (stands : StandsFor book s) (actor k : �
 
   -- the next product is given
   given : (is : IsCursor book s actor k) (o : Option Queued) (row : Kept) (info : Metadata) → option_map kept o ≡ Some row → IfSome o (IsStored book.bytes)
-      → ((q : Queued) → IsStored book.bytes q → kept q ≡ row → info ≡ q.product.info) → Follows (reply.Product row.number row.time info) (with_cursors book (with_change book.cursors k (kept_places.after_hold row.number))) (step_to s k is.cursor o)
+      → ((q : Queued) → IsStored book.bytes q → kept q ≡ row → info ≡ q.product.info) → Follows (reply.Product row.number row.time info)
+      (with_cursors book (with_change book.cursors k (kept_places.after_hold row.number))) (step_to s k is.cursor o)
   given is None row info e stored reads = absurd cc
   given is (Some q) row info e stored reads =
       let same : kept q ≡ row = cc in
@@ -171,14 +182,19 @@ module _ (book : BookView) (s : State) (stands : StandsFor book s) (actor k : �
       let after : kept_places.after_hold q.number (kept_cursor c) ≡ kept_cursor (after_give q.number c) =
       λ i. record { actor = c.actor; feed = c.feed; position = q.number + 1; held = Some q.number; untold = losses_of c.untold; given = sym count i; lost = length c.told + length c.untold } in
       subst (λ (r : Kept). Follows (reply.Product r.number r.time info) (with_cursors book (with_change book.cursors k (kept_places.after_hold r.number))) (step_to s k c (Some q))) same
-      (subst (λ (m : Metadata). Follows (reply.Product q.number q.time m) (with_cursors book (with_change book.cursors k (kept_places.after_hold q.number))) (step_to s k c (Some q))) (sym (reads q stored same))
+      (subst (λ (m : Metadata). Follows (reply.Product q.number q.time m) (with_cursors book (with_change book.cursors k (kept_places.after_hold q.number))) (step_to s k c (Some q)))
+      (sym (reads q stored same))
       (record {
         reply = refl;
-        state = StandsFor-place book s k (Some (after_give q.number c)) (option_map (kept_places.after_hold q.number) (cursor_at book.cursors k)) stands (changed book.cursors k c (after_give q.number c) (kept_places.after_hold q.number) is.kept after);
+        state =
+            StandsFor-place book s k (Some (after_give q.number c)) (option_map (kept_places.after_hold q.number) (cursor_at book.cursors k)) stands
+            (changed book.cursors k c (after_give q.number c) (kept_places.after_hold q.number) is.kept after);
       }))
 
-  pub step-product : (is : IsCursor book s actor k) (row : Kept) (info : Metadata) → is.cursor.held ≡ None → option_map numbers_of (losses_of is.cursor.untold) ≡ None → Some row ≡ find (products.awaits is.cursor.position is.cursor.feed) book.rows
-      → ((q : Queued) → IsStored book.bytes q → kept q ≡ row → info ≡ q.product.info) → Follows (reply.Product row.number row.time info) (with_cursors book (with_change book.cursors k (kept_places.after_hold row.number))) (step s actor k)
+  pub step-product : (is : IsCursor book s actor k) (row : Kept) (info : Metadata) → is.cursor.held ≡ None → option_map numbers_of (losses_of is.cursor.untold) ≡ None
+      → Some row ≡ find (products.awaits is.cursor.position is.cursor.feed) book.rows
+      → ((q : Queued) → IsStored book.bytes q → kept q ≡ row → info ≡ q.product.info) → Follows (reply.Product row.number row.time info)
+      (with_cursors book (with_change book.cursors k (kept_places.after_hold row.number))) (step s actor k)
   step-product is row info free none found reads =
       step-free (reply.Product row.number row.time info) (with_cursors book (with_change book.cursors k (kept_places.after_hold row.number))) is [] free (none_untold is.cursor.untold none)
       (given is (find (awaits is.cursor) (queued s)) row info (sym (find-stands is.cursor) ∙ sym found) (every_found (IsStored book.bytes) (awaits is.cursor) (queued s) stands.stored) reads)
@@ -190,10 +206,12 @@ module _ (book : BookView) (s : State) (stands : StandsFor book s) (actor k : �
       record {
         reply = ap reply.End stands.admitted;
         state = StandsFor-place book s k (Some (record is.cursor { position = end_of s })) (option_map (kept_places.after_move book.admitted) (cursor_at book.cursors k)) stands
-            (changed book.cursors k is.cursor (record is.cursor { position = end_of s }) (kept_places.after_move book.admitted) is.kept (ap (λ (n : ℕ). record (kept_cursor is.cursor) { position = n }) stands.admitted));
+            (changed book.cursors k is.cursor (record is.cursor { position = end_of s }) (kept_places.after_move book.admitted) is.kept
+            (ap (λ (n : ℕ). record (kept_cursor is.cursor) { position = n }) stands.admitted));
       }
 
-  pub step-end : (is : IsCursor book s actor k) → is.cursor.held ≡ None → option_map numbers_of (losses_of is.cursor.untold) ≡ None → None ≡ find (products.awaits is.cursor.position is.cursor.feed) book.rows
+  pub step-end : (is : IsCursor book s actor k) → is.cursor.held ≡ None → option_map numbers_of (losses_of is.cursor.untold) ≡ None
+      → None ≡ find (products.awaits is.cursor.position is.cursor.feed) book.rows
       → Follows (reply.End book.admitted) (with_cursors book (with_change book.cursors k (kept_places.after_move book.admitted))) (step s actor k)
   step-end is free none found =
       step-free (reply.End book.admitted) (with_cursors book (with_change book.cursors k (kept_places.after_move book.admitted))) is [] free (none_untold is.cursor.untold none)

@@ -4,8 +4,8 @@ use Rattle.std.specs.Prelude.{◌==◌, filter}
 use Rattle.std.specs.List.{All, AllByRecursion, list_any, range_with_len}
 use Rattle.std.specs.Option.{IfSome}
 use Rattle.std.proofs.lemmas.Bool.{true≢false, false≢true, or_cases, eq-eqb, eqb-true, ne_eqb, cases_eq, or_right}
-use Rattle.ldm_types.specs.Cursors.{KeptCursor, Places}
-use Rattle.ldm_cursor.specs.Places.{count_held, held_of, holds, is_held, is_last_hold, is_number}
+use Rattle.ldm_types.specs.Cursors.{KeptCursor, Places, is_number}
+use Rattle.ldm_cursor.specs.Places.{count_held, held_of, holds, is_held, is_last_hold}
 use Rattle.ldm_model.specs.State.{State}
 use Rattle.ldm_model.specs.Evict as model
 use Rattle.ldm_book.specs.View.{BookView, Kept, open_kept}
@@ -49,7 +49,9 @@ count-more b m a (suc len) above below none = elim (cases_eq m a) [
 
     by_test : (x : Bool) → ((m == a) || b a) ≡ x → length (filter (λ n. (m == n) || b n) (range_with_len (a + 1) len)) ≡ 1 + length (filter b (range_with_len (a + 1) len))
         → length (filter (λ n. (m == n) || b n) (range_with_len a (suc len))) ≡ 1 + length (cond x (a ∷ filter b (range_with_len (a + 1) len)) (filter b (range_with_len (a + 1) len)))
-    by_test true e rest = ap (λ (x : Bool). length (cond x (a ∷ filter (λ n. (m == n) || b n) (range_with_len (a + 1) len)) (filter (λ n. (m == n) || b n) (range_with_len (a + 1) len)))) e ∙ (let more : suc (length (filter (λ n. (m == n) || b n) (range_with_len (a + 1) len))) ≡ 1 + suc (length (filter b (range_with_len (a + 1) len))) = omega (arith, rest) in more)
+    by_test true e rest =
+        ap (λ (x : Bool). length (cond x (a ∷ filter (λ n. (m == n) || b n) (range_with_len (a + 1) len)) (filter (λ n. (m == n) || b n) (range_with_len (a + 1) len)))) e
+        ∙ (let more : suc (length (filter (λ n. (m == n) || b n) (range_with_len (a + 1) len))) ≡ 1 + suc (length (filter b (range_with_len (a + 1) len))) = omega (arith, rest) in more)
     by_test false e rest = ap (λ (x : Bool). length (cond x (a ∷ filter (λ n. (m == n) || b n) (range_with_len (a + 1) len)) (filter (λ n. (m == n) || b n) (range_with_len (a + 1) len)))) e ∙ rest
 
 -- each held number is below the end
@@ -102,7 +104,8 @@ count-range a (place ∷ behind) below =
             ∙ sym (count-more (λ n. is_held n behind) m 0 a (omega arith) (let under = below m (ap (λ (x : Bool). x || is_held m behind) (eq-eqb m m refl)) in omega arith) e)
 
 -- as many regions are held as the kept cursors and the open reservations say
-pub count-stands : (book : BookView) (s : State) → StandsFor book s → All (λ (k : Kept). k.number < book.admitted) book.rows → AreReading book.admitted book.rows book.cursors → count_held book.cursors + length (open_kept book.reservations) ≡ model.count_held s
+pub count-stands : (book : BookView) (s : State) → StandsFor book s → All (λ (k : Kept). k.number < book.admitted) book.rows → AreReading book.admitted book.rows book.cursors
+    → count_held book.cursors + length (open_kept book.reservations) ≡ model.count_held s
 count-stands book s stands below all = λ i. held i + count-reserved book s stands i
   where
     held : count_held book.cursors ≡ length (model.held s)
@@ -132,7 +135,8 @@ rows-range cs zero a (k ∷ ks) rising above below there = absurd (omega (arith,
 rows-range cs (suc len) a [] rising above below there =
     by_test (is_held a cs) refl (rows-range cs len (a + 1) [] tt tt tt (λ n h e. there n (omega arith) e))
   where
-    by_test : (b : Bool) → is_held a cs ≡ b → 0 ≡ length (filter (λ n. is_held n cs) (range_with_len (a + 1) len)) → 0 ≡ length (cond (is_held a cs) (a ∷ filter (λ n. is_held n cs) (range_with_len (a + 1) len)) (filter (λ n. is_held n cs) (range_with_len (a + 1) len)))
+    by_test : (b : Bool) → is_held a cs ≡ b → 0 ≡ length (filter (λ n. is_held n cs) (range_with_len (a + 1) len))
+        → 0 ≡ length (cond (is_held a cs) (a ∷ filter (λ n. is_held n cs) (range_with_len (a + 1) len)) (filter (λ n. is_held n cs) (range_with_len (a + 1) len)))
     by_test true e rest = absurd (false≢true (there a (omega arith) e))
     by_test false e rest = rest ∙ ap (λ (b : Bool). length (cond b (a ∷ filter (λ n. is_held n cs) (range_with_len (a + 1) len)) (filter (λ n. is_held n cs) (range_with_len (a + 1) len)))) (sym e)
 rows-range cs (suc len) a (k ∷ ks) rising above below there =
@@ -156,7 +160,8 @@ rows-range cs (suc len) a (k ∷ ks) rising above below there =
     shift (r ∷ rs) all = (omega (arith, all.0), shift rs all.1)
 
     one : (b : Bool) → length (filter (is_kept_held cs) ks) ≡ length (filter (λ n. is_held n cs) (range_with_len (a + 1) len))
-        → length (cond b (k ∷ filter (is_kept_held cs) ks) (filter (is_kept_held cs) ks)) ≡ length (cond b (a ∷ filter (λ n. is_held n cs) (range_with_len (a + 1) len)) (filter (λ n. is_held n cs) (range_with_len (a + 1) len)))
+        → length (cond b (k ∷ filter (is_kept_held cs) ks) (filter (is_kept_held cs) ks)) ≡ length
+        (cond b (a ∷ filter (λ n. is_held n cs) (range_with_len (a + 1) len)) (filter (λ n. is_held n cs) (range_with_len (a + 1) len)))
     one true rest = ap suc rest
     one false rest = rest
 

@@ -107,7 +107,9 @@ slotted-none p n arena rows free roomy regions tiled signatures numbers used res
       owned = λ k. ap (λ (layout : Layout). fin.get layout.owned k) regions ∙ fin.get-empty nat_cmp k ∙ ap (option_map kept_region) (sym (not_taken k));
       tiles = tiled;
       free = subst (λ (rows : Slots). AreFree rows p.free.items) (sym taken) (subst (AreFree (replicate n None)) (sym free) (free-down_from n n (omega arith)));
-      count = (let long = ap (λ (ks : List ℕ). length ks) free in let entries = ap (λ (entries : List Queued). length entries) no_entries in let opened = ap (λ (vs : List KeptReservation). length vs) none_open in omega (arith, long, entries, opened, length-down_from n, as_many));
+      count =
+          (let long = ap (λ (ks : List ℕ). length ks) free in let entries = ap (λ (entries : List Queued). length entries) no_entries in let opened = ap
+          (λ (vs : List KeptReservation). length vs) none_open in omega (arith, long, entries, opened, length-down_from n, as_many));
       roomy = omega (arith, as_many);
       used = used ∙ (λ i. extents (map kept_region (kept_entries (slots_of p) (sym no_entries i)) ++ map reserved_region (sym none_open i)));
       few = omega (arith, as_many);

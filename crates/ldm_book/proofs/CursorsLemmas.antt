@@ -6,7 +6,7 @@ use Rattle.std.proofs.lemmas.Iterator.Adapters.{position_from-zero}
 use Rattle.std.specs.Option.{IsSomeAnd}
 use Rattle.std.proofs.lemmas.Bool.{eq-eqb, ne_eqb}
 use Rattle.std.proofs.lemmas.List.{map-set, length-append}
-use Rattle.ldm_types.specs.Cursors.{KeptCursor, Places, is_number}
+use Rattle.ldm_types.specs.Cursors.{KeptCursor, Places}
 use Rattle.ldm_types.specs.Feed.{feeds_meet}
 use Rattle.ldm_cursor.specs.Places as kept_places
 use Rattle.ldm_model.specs.State.{State, Cursor}
@@ -55,13 +55,9 @@ pub cursors-loss : (n feed : ℕ) (cs : List (Option Cursor)) → map kept_place
 cursors-loss n feed [] = refl
 cursors-loss n feed (place ∷ cs) = λ i. with_loss-kept n feed place i ∷ cursors-loss n feed cs i
 
-number-kept : (n : ℕ) (held : Option ℕ) → kept_places.is_number n held ≡ is_number n held
-number-kept n None = refl
-number-kept n (Some m) = refl
-
 holds-kept : (n : ℕ) (place : Option Cursor) → kept_places.holds n (kept_place place) ≡ holds n place
 holds-kept n None = refl
-holds-kept n (Some c) = number-kept n c.held
+holds-kept n (Some c) = refl
 
 -- who holds a product
 pub is_held-kept : (n : ℕ) (cs : List (Option Cursor)) → kept_places.is_held n (map kept_place cs) ≡ list_any (holds n) cs
@@ -109,7 +105,8 @@ is_cursor book s actor k stands own =
     let found = owned-place actor (cursor_at s k) (subst (λ (o : Option KeptCursor). IsSomeAnd o (λ (c : KeptCursor). c.actor ≡ actor)) (place-stands book s k stands) own) in
     record { cursor = found.0; at = found.1; own = found.2; kept = place-stands book s k stands ∙ ap kept_place found.1 }
 
-pub no_cursor : (book : BookView) (s : State) (actor k : ℕ) → StandsFor book s → (IsSomeAnd (kept_places.cursor_at book.cursors k) (λ (c : KeptCursor). c.actor ≡ actor) → ⊥) → cursor_of s actor k ≡ None
+pub no_cursor : (book : BookView) (s : State) (actor k : ℕ) → StandsFor book s → (IsSomeAnd (kept_places.cursor_at book.cursors k) (λ (c : KeptCursor). c.actor ≡ actor) → ⊥)
+    → cursor_of s actor k ≡ None
 no_cursor book s actor k stands other =
     foreign-place actor (cursor_at s k) (λ own. other (subst (λ (o : Option KeptCursor). IsSomeAnd o (λ (c : KeptCursor). c.actor ≡ actor)) (sym (place-stands book s k stands)) own))
 
@@ -118,7 +115,8 @@ abbrev pub with_cursors : BookView → Places → BookView
 with_cursors book cursors = record book { cursors = cursors }
 
 -- a place changed
-pub StandsFor-place : (book : BookView) (s : State) (k : ℕ) (place : Option Cursor) (kept : Option KeptCursor) → StandsFor book s → kept ≡ kept_place place → StandsFor (with_cursors book (set book.cursors k kept)) (with_place s k place)
+pub StandsFor-place : (book : BookView) (s : State) (k : ℕ) (place : Option Cursor) (kept : Option KeptCursor) → StandsFor book s → kept ≡ kept_place place
+    → StandsFor (with_cursors book (set book.cursors k kept)) (with_place s k place)
 StandsFor-place book s k place kept stands is =
     record {
       arena = stands.arena;

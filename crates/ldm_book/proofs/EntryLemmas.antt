@@ -81,7 +81,8 @@ pub among : (n : ℕ) (entries : List Queued) → IsRising entries → Any (λ e
 among n entries up any = among_at n entries any.0 any.1 up any.2 (ap (λ (e : Queued). e.n) any.3 ∙ any.4)
 
 -- the number of the product at an index is the number of an entry
-any_at : (slots : Slots) (n : ℕ) (entries : List Queued) (k : ℕ) (d : Kept) → k < length (kept_entries slots entries) → (get_or (kept_entries slots entries) k d).number ≡ n → Any (λ e. e.n ≡ n) entries
+any_at : (slots : Slots) (n : ℕ) (entries : List Queued) (k : ℕ) (d : Kept) → k < length (kept_entries slots entries) → (get_or (kept_entries slots entries) k d).number ≡ n
+    → Any (λ e. e.n ≡ n) entries
 any_at slots n [] k d h is = absurd (omega arith)
 any_at slots n (e ∷ es) zero d h is = (zero, e, omega arith, refl, is)
 any_at slots n (e ∷ es) (suc k) d h is =
@@ -100,7 +101,8 @@ rows-others slots n (e ∷ es) =
     let rest = rows-others slots n es in
     elim (cases_eq e.n n) [
       | inl is ↦ cond-false _ (kept_entry slots e ∷ rows) rows (not_from_true _ (eq-eqb e.n n is)) ∙ rest ∙ ap (kept_entries slots) (sym (others-same n e es is))
-      | inr apart ↦ cond-true _ (kept_entry slots e ∷ rows) rows (not_from_false _ (ne_eqb e.n n apart)) ∙ ap (λ rest. kept_entry slots e ∷ rest) rest ∙ ap (kept_entries slots) (sym (others-other n e es apart))
+      | inr apart ↦
+          cond-true _ (kept_entry slots e ∷ rows) rows (not_from_false _ (ne_eqb e.n n apart)) ∙ ap (λ rest. kept_entry slots e ∷ rest) rest ∙ ap (kept_entries slots) (sym (others-other n e es apart))
     ]
 
 -- what holds of all holds of one among them
@@ -114,7 +116,8 @@ slot_middle k [] e ys has = has
 slot_middle k (x ∷ xs) e ys has = ⊎_elim (λ is. inr (inl is)) (λ rest. ⊎_elim (λ is. inl is) (λ there. inr (inr there)) (slot_middle k xs e ys rest)) has
 
 -- the extents of all are the extent of one and those of the rest
-pub extents_middle : (slots : Slots) (xs : List Queued) (e : Queued) (ys : List Queued) → extents (map kept_region (kept_entries slots (xs ++ e ∷ ys))) ≡ kept_extent (kept_or_none (row_at slots e.slot)) + extents (map kept_region (kept_entries slots (xs ++ ys)))
+pub extents_middle : (slots : Slots) (xs : List Queued) (e : Queued) (ys : List Queued)
+    → extents (map kept_region (kept_entries slots (xs ++ e ∷ ys))) ≡ kept_extent (kept_or_none (row_at slots e.slot)) + extents (map kept_region (kept_entries slots (xs ++ ys)))
 extents_middle slots [] e ys = refl
 extents_middle slots (x ∷ xs) e ys =
     let front = kept_extent (kept_or_none (row_at slots x.slot)) in

@@ -34,7 +34,8 @@ StandsFor-evict book s n stands there =
     let found : slice_get s.rows n ≡ Some row = ap (λ (i : ℕ). slice_get s.rows i) (sym index) ∙ present.at in
     let left : queued_from 0 (without_place s.rows n) ≡ filter (other_number n) (queued s) =
     queued-without n 0 s.rows ∙ (let same : 0 + n ≡ n = omega arith in ap (λ (i : ℕ). filter (other_number i) (queued s)) same) in
-    let feed : feed_of (find (at_number n) book.rows) ≡ row.product.info.feed = ap (λ (ks : List Kept). feed_of (find (at_number n) ks)) stands.rows ∙ ap feed_of (find-map kept (at_number n) (queued s) ∙ ap (option_map kept) present.found) in
+    let feed : feed_of (find (at_number n) book.rows) ≡ row.product.info.feed =
+    ap (λ (ks : List Kept). feed_of (find (at_number n) ks)) stands.rows ∙ ap feed_of (find-map kept (at_number n) (queued s) ∙ ap (option_map kept) present.found) in
     subst (λ (o : Option Row). StandsFor (without_product n book) (evict_row s n o)) (sym found)
     (record {
       arena = stands.arena;

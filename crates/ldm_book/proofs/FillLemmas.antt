@@ -1,5 +1,6 @@
 -- What reserving a region and filling bytes into it make of a book, and of the state that it stands for.
-use Rattle.std.proofs.Common.{◌≡◌, ℕ, zero, suc, ◌+◌, ◌-◌, ◌<◌, ◌≤◌, Bool, true, false, cond, ltb, List, [], ◌∷◌, ◌++◌, length, map, set, take, Option, Some, None, refl, sym, ap, subst, ◌∙◌, inl, inr, append-nil, append_assoc, get_or-set_same, get_or-set_other, arith}
+use Rattle.std.proofs.Common.{◌≡◌, ℕ, zero, suc, ◌+◌, ◌-◌, ◌<◌, ◌≤◌, Bool, true, false, cond, ltb, List, [], ◌∷◌, ◌++◌, length, map, set, take}
+use Rattle.std.proofs.Common.{Option, Some, None, refl, sym, ap, subst, ◌∙◌, inl, inr, append-nil, append_assoc, get_or-set_same, get_or-set_other, arith}
 use Rattle.std.specs.Prelude.{is_none, is_some, slice_index_or}
 use Rattle.std.specs.List.{AllByRecursion, Contains, between, position, position_from}
 use Rattle.std.specs.Option.{option_map}
@@ -50,7 +51,8 @@ least-stands book s stands =
     ∙ position_from-zero is_none (map (option_map kept_reservation) s.reservations) ∙ least-from 0 s.reservations ∙ sym (position_from-zero is_none s.reservations)
 
 -- a region that is reserved in a book
-module _ (book : BookView) (actor r : ℕ) (info : Metadata) (place : ℕ) (spelled : Fits info) (inside : place + extent_of info ≤ length book.bytes) (bound : r < length book.reservations) (apart : LieApart book.arena (occupied (reserved_at book actor r info place))) where
+module _ (book : BookView) (actor r : ℕ) (info : Metadata) (place : ℕ) (spelled : Fits info) (inside : place + extent_of info ≤ length book.bytes) (bound : r < length book.reservations)
+    (apart : LieApart book.arena (occupied (reserved_at book actor r info place))) where
   abbrev made : KeptReservation
   made = new_reservation actor info place
 
@@ -76,14 +78,16 @@ module _ (book : BookView) (actor r : ℕ) (info : Metadata) (place : ℕ) (spel
   reserve-rows = rows_from_reserved book.arena book.rows places r made there apart
 
   pub reserve-others : Others (λ (o : KeptReservation). AreApart (reserved_region o) (reserved_region made)) r book.reservations
-  reserve-others = others-set (λ (o : KeptReservation). AreApart (reserved_region o) (reserved_region made)) book.reservations r (Some made) (others_from_reserved book.arena book.rows places r made there apart)
+  reserve-others =
+      others-set (λ (o : KeptReservation). AreApart (reserved_region o) (reserved_region made)) book.reservations r (Some made) (others_from_reserved book.arena book.rows places r made there apart)
 
   -- the metadata stand there
   pub spelled-there : between place (place + metadata_len info + 0) (written book.bytes (spelling info) place) ≡ spelling info
   spelled-there = between-put_mid place (length (spelling info)) book.bytes (spelling info) (place + metadata_len info + 0) (omega arith) (omega (arith, long))
 
   -- the state with it
-  pub StandsFor-reserved : (s : State) → StandsFor book s → AreReserved book.bytes book.reservations → StandsFor (reserved_at book actor r info place) (model.with_reservation s r (Some (model.new_reservation actor info place)))
+  pub StandsFor-reserved : (s : State) → StandsFor book s → AreReserved book.bytes book.reservations
+      → StandsFor (reserved_at book actor r info place) (model.with_reservation s r (Some (model.new_reservation actor info place)))
   StandsFor-reserved s stands reserved =
       let new = model.new_reservation actor info place in
       let region = reserved_region made in
@@ -94,7 +98,9 @@ module _ (book : BookView) (actor r : ℕ) (info : Metadata) (place : ℕ) (spel
         admitted = stands.admitted;
         last = stands.last;
         rows = stands.rows;
-        stored = stored_still book.bytes (spelling info) place region from to within (queued s) (subst (λ (ks : List Kept). AllByRecursion (λ (k : Kept). AreApart (kept_region k) region) ks) stands.rows reserve-rows) stands.stored;
+        stored =
+            stored_still book.bytes (spelling info) place region from to within (queued s)
+            (subst (λ (ks : List Kept). AllByRecursion (λ (k : Kept). AreApart (kept_region k) region) ks) stands.rows reserve-rows) stands.stored;
         cursors = stands.cursors;
         reservations = ap (λ (rs : Reservations). set rs r (Some made)) stands.reservations ∙ sym (map-set (option_map kept_reservation) s.reservations r (Some new));
         filled =
@@ -126,7 +132,8 @@ module _ (book : BookView) (actor r : ℕ) (info : Metadata) (place : ℕ) (spel
   ]
 
 -- what is always true of a new reservation
-pub reserved-new : (items : List ℕ) (actor : ℕ) (info : Metadata) (place : ℕ) → Fits info → place + extent_of info ≤ length items → IsReserved (written items (spelling info) place) (new_reservation actor info place)
+pub reserved-new : (items : List ℕ) (actor : ℕ) (info : Metadata) (place : ℕ) → Fits info → place + extent_of info ≤ length items
+    → IsReserved (written items (spelling info) place) (new_reservation actor info place)
 reserved-new items actor info place spelled inside =
     let long = length-spelling info spelled.signature in
     record {
@@ -142,7 +149,8 @@ reserved-new items actor info place spelled inside =
     }
 
 -- bytes that are filled into a reservation
-module _ (book : BookView) (r : ℕ) (v : KeptReservation) (bytes : List ℕ) (at : reservation_at book.reservations r ≡ Some v) (left : v.filled + length bytes ≤ v.product.size) (sized : length book.bytes ≡ book.arena) (apart : LieApart book.arena (occupied book)) where
+module _ (book : BookView) (r : ℕ) (v : KeptReservation) (bytes : List ℕ) (at : reservation_at book.reservations r ≡ Some v) (left : v.filled + length bytes ≤ v.product.size)
+    (sized : length book.bytes ≡ book.arena) (apart : LieApart book.arena (occupied book)) where
   -- where they are written
   abbrev start : ℕ
   start = v.product.place + v.product.head + v.filled
@@ -175,7 +183,8 @@ module _ (book : BookView) (r : ℕ) (v : KeptReservation) (bytes : List ℕ) (a
   fill-keeps reserved k before after was now = elim (cases_eq k r) [
     | inl same ↦
         let inside : r < length book.reservations = open_bound book.reservations r at in
-        let new : Some after ≡ Some (with_more (length bytes) v) = sym now ∙ ap (reservation_at (set book.reservations r (Some (with_more (length bytes) v)))) same ∙ get_or-set_same book.reservations r (Some (with_more (length bytes) v)) None inside in
+        let new : Some after ≡ Some (with_more (length bytes) v) =
+        sym now ∙ ap (reservation_at (set book.reservations r (Some (with_more (length bytes) v)))) same ∙ get_or-set_same book.reservations r (Some (with_more (length bytes) v)) None inside in
         let after_is : after ≡ with_more (length bytes) v = cc in
         let old : Some before ≡ Some v = sym was ∙ ap (reservation_at book.reservations) same ∙ at in
         let before_is : before ≡ v = cc in
@@ -227,7 +236,8 @@ module _ (book : BookView) (r : ℕ) (v : KeptReservation) (bytes : List ℕ) (a
       }
 
   -- the state with them
-  pub StandsFor-filled : (s : State) (x : Reservation) → kept_reservation x ≡ v → slice_index_or s.reservations r None ≡ Some x → StandsFor book s → AreReserved book.bytes book.reservations → StandsFor filled_book (model.with_reservation s r (Some (model.with_bytes bytes x)))
+  pub StandsFor-filled : (s : State) (x : Reservation) → kept_reservation x ≡ v → slice_index_or s.reservations r None ≡ Some x → StandsFor book s → AreReserved book.bytes book.reservations
+      → StandsFor filled_book (model.with_reservation s r (Some (model.with_bytes bytes x)))
   StandsFor-filled s x is there stands reserved =
       let new = model.with_bytes bytes x in
       let region = reserved_region v in
@@ -251,7 +261,9 @@ module _ (book : BookView) (r : ℕ) (v : KeptReservation) (bytes : List ℕ) (a
         admitted = stands.admitted;
         last = stands.last;
         rows = stands.rows;
-        stored = stored_still book.bytes bytes start region fill-from fill-to fill-within (queued s) (subst (λ (ks : List Kept). AllByRecursion (λ (k : Kept). AreApart (kept_region k) region) ks) stands.rows fill-rows) stands.stored;
+        stored =
+            stored_still book.bytes bytes start region fill-from fill-to fill-within (queued s)
+            (subst (λ (ks : List Kept). AllByRecursion (λ (k : Kept). AreApart (kept_region k) region) ks) stands.rows fill-rows) stands.stored;
         cursors = stands.cursors;
         reservations = (λ i. set (stands.reservations i) r (Some (more i))) ∙ sym (map-set (option_map kept_reservation) s.reservations r (Some new));
         filled =
@@ -266,7 +278,8 @@ module _ (book : BookView) (s : State) (stands : StandsFor book s) (actor r : �
   unfolding fill
   fill-none none = no_reservation book s (model.reservation_of s actor r) (fill_open s r bytes) (no_own book s stands actor r none) stands
 
-  pub fill-over : (v : KeptReservation) → Some v ≡ if_reserved_by actor (reservation_at book.reservations r) → v.product.size - v.filled < length bytes → Follows (reply.Overfill (v.product.size - v.filled)) book (fill s actor r bytes)
+  pub fill-over : (v : KeptReservation) → Some v ≡ if_reserved_by actor (reservation_at book.reservations r) → v.product.size - v.filled < length bytes
+      → Follows (reply.Overfill (v.product.size - v.filled)) book (fill s actor r bytes)
   unfolding fill
   fill-over v own over =
       let is = is_own book s actor r v stands own in
@@ -275,12 +288,15 @@ module _ (book : BookView) (s : State) (stands : StandsFor book s) (actor r : �
       let test : ltb (model.left_of x) (length bytes) ≡ true = lt-ltb (model.left_of x) (length bytes) (omega (arith, left)) in
       known (reply.Overfill (v.product.size - v.filled)) book s (model.reservation_of s actor r) (fill_open s r bytes) x is.own
       (subst (λ (o : Outcome). Follows (reply.Overfill (v.product.size - v.filled)) book o)
-      (sym (ap (λ (b : Bool). cond b (unchanged s (reply.Overfill (model.left_of x))) (record { reply = reply.Filled (model.left_of (model.with_bytes bytes x)); state = model.with_reservation s r (Some (model.with_bytes bytes x)) })) test))
+      (sym (ap (λ (b : Bool). cond b (unchanged s (reply.Overfill (model.left_of x)))
+      (record { reply = reply.Filled (model.left_of (model.with_bytes bytes x)); state = model.with_reservation s r (Some (model.with_bytes bytes x)) })) test))
       (record { reply = ap reply.Overfill (sym left); state = stands }))
 
-  pub fill-some : (v : KeptReservation) (own : Some v ≡ if_reserved_by actor (reservation_at book.reservations r)) (rest : ℕ) → v.filled + length bytes ≤ v.product.size → rest + length bytes + v.filled ≡ v.product.size
+  pub fill-some : (v : KeptReservation) (own : Some v ≡ if_reserved_by actor (reservation_at book.reservations r)) (rest : ℕ) → v.filled + length bytes ≤ v.product.size
+      → rest + length bytes + v.filled ≡ v.product.size
       → LieApart book.arena (occupied book) → AreReserved book.bytes book.reservations
-      → Follows (reply.Filled rest) (record (reserving book r (Some (with_more (length bytes) v))) { bytes = written book.bytes bytes (v.product.place + v.product.head + v.filled) }) (fill s actor r bytes)
+      → Follows (reply.Filled rest) (record (reserving book r (Some (with_more (length bytes) v))) { bytes = written book.bytes bytes (v.product.place + v.product.head + v.filled) })
+      (fill s actor r bytes)
   unfolding fill
   fill-some v own rest room rest-is apart reserved =
       let is = is_own book s actor r v stands own in
@@ -293,7 +309,8 @@ module _ (book : BookView) (s : State) (stands : StandsFor book s) (actor r : �
       let same : rest ≡ model.left_of (model.with_bytes bytes x) = omega (arith, size, count, length-append x.filled bytes) in
       known (reply.Filled rest) new s (model.reservation_of s actor r) (fill_open s r bytes) x is.own
       (subst (λ (o : Outcome). Follows (reply.Filled rest) new o)
-      (sym (ap (λ (b : Bool). cond b (unchanged s (reply.Overfill (model.left_of x))) (record { reply = reply.Filled (model.left_of (model.with_bytes bytes x)); state = model.with_reservation s r (Some (model.with_bytes bytes x)) })) test))
+      (sym (ap (λ (b : Bool). cond b (unchanged s (reply.Overfill (model.left_of x)))
+      (record { reply = reply.Filled (model.left_of (model.with_bytes bytes x)); state = model.with_reservation s r (Some (model.with_bytes bytes x)) })) test))
       (record {
         reply = ap reply.Filled same;
         state = StandsFor-filled book r v bytes (at_own actor (reservation_at book.reservations r) v own) room stands.sized apart s x is.kept is.at stands reserved;
@@ -306,7 +323,8 @@ module _ (book : BookView) (s : State) (stands : StandsFor book s) (actor : ℕ)
   reserve-too_big big =
       let test : ltb s.arena (extent_of info) ≡ true = lt-ltb s.arena (extent_of info) (omega (arith, stands.arena)) in
       subst (λ (o : Outcome). Follows (reply.TooBig (extent_of info) book.arena) book o)
-      (sym (ap (λ (b : Bool). cond b (unchanged s (reply.TooBig (extent_of info) s.arena)) (reserve_fitting s actor info (queued_with info.signature (queued s)))) test ∙ ap (λ (a : ℕ). unchanged s (reply.TooBig (extent_of info) a)) (sym stands.arena)))
+      (sym (ap (λ (b : Bool). cond b (unchanged s (reply.TooBig (extent_of info) s.arena)) (reserve_fitting s actor info (queued_with info.signature (queued s)))) test
+      ∙ ap (λ (a : ℕ). unchanged s (reply.TooBig (extent_of info) a)) (sym stands.arena)))
       (Follows-unchanged book s (reply.TooBig (extent_of info) book.arena) stands)
 
   reserve-fits : extent_of info ≤ book.arena → reserve s actor info ≡ reserve_fitting s actor info (queued_with info.signature (queued s))
@@ -321,17 +339,21 @@ module _ (book : BookView) (s : State) (stands : StandsFor book s) (actor : ℕ)
   pub reserve-duplicate : extent_of info ≤ book.arena → (n t : ℕ) → look_kept (kept_with info.signature book.rows) ≡ reply.Queued n t → Follows (reply.Duplicate n) book (reserve s actor info)
   reserve-duplicate fits n t found =
       let q = some_from_queued (queued_with info.signature (queued s)) n t (look-from_kept info.signature (queued s) ∙ sym look-stands ∙ found) in
-      subst (λ (o : Outcome). Follows (reply.Duplicate n) book o) (sym (reserve-fits fits ∙ ap (reserve_fitting s actor info) q.1 ∙ ap (λ (k : ℕ). unchanged s (reply.Duplicate k)) q.2)) (Follows-unchanged book s (reply.Duplicate n) stands)
+      subst (λ (o : Outcome). Follows (reply.Duplicate n) book o) (sym (reserve-fits fits ∙ ap (reserve_fitting s actor info) q.1 ∙ ap (λ (k : ℕ). unchanged s (reply.Duplicate k)) q.2))
+      (Follows-unchanged book s (reply.Duplicate n) stands)
 
-  reserve-absent : extent_of info ≤ book.arena → look_kept (kept_with info.signature book.rows) ≡ reply.Absent → (o : Option ℕ) → o ≡ position is_none book.reservations → reserve s actor info ≡ reserve_at s actor info o
+  reserve-absent : extent_of info ≤ book.arena → look_kept (kept_with info.signature book.rows) ≡ reply.Absent → (o : Option ℕ) → o ≡ position is_none book.reservations
+      → reserve s actor info ≡ reserve_at s actor info o
   reserve-absent fits absent o least =
       reserve-fits fits ∙ ap (reserve_fitting s actor info) (none_from_absent (queued_with info.signature (queued s)) (look-from_kept info.signature (queued s) ∙ sym look-stands ∙ absent))
       ∙ ap (reserve_at s actor info) (sym (least ∙ least-stands book s stands))
 
-  pub reserve-all : extent_of info ≤ book.arena → look_kept (kept_with info.signature book.rows) ≡ reply.Absent → None ≡ position is_none book.reservations → Follows reply.AllReserved book (reserve s actor info)
+  pub reserve-all : extent_of info ≤ book.arena → look_kept (kept_with info.signature book.rows) ≡ reply.Absent → None ≡ position is_none book.reservations
+      → Follows reply.AllReserved book (reserve s actor info)
   reserve-all fits absent least = subst (λ (o : Outcome). Follows reply.AllReserved book o) (sym (reserve-absent fits absent None least)) (Follows-unchanged book s reply.AllReserved stands)
 
-  pub reserve-locked : AreRising book.rows → 0 < extent_of info → extent_of info ≤ book.arena → look_kept (kept_with info.signature book.rows) ≡ reply.Absent → (r : ℕ) → Some r ≡ position is_none book.reservations
+  pub reserve-locked : AreRising book.rows → 0 < extent_of info → extent_of info ≤ book.arena → look_kept (kept_with info.signature book.rows) ≡ reply.Absent → (r : ℕ)
+      → Some r ≡ position is_none book.reservations
       → is_some (room_for (held_products book) (extent_of info)) ≡ false → (held : ℕ) → held ≡ count_held s → Follows (reply.Locked held) book (reserve s actor info)
   reserve-locked rising some fits absent r least none held count =
       let evicted = evictions-none book s (extent_of info) rising stands (λ i. no_room book (extent_of info) i some rising none) in
@@ -339,7 +361,8 @@ module _ (book : BookView) (s : State) (stands : StandsFor book s) (actor : ℕ)
       (sym (reserve-absent fits absent (Some r) least ∙ ap (reserve_by_evictions s actor info r) evicted ∙ ap (λ (n : ℕ). unchanged s (reply.Locked n)) (sym count)))
       (Follows-unchanged book s (reply.Locked held) stands)
 
-  pub reserve-after : AreRising book.rows → extent_of info ≤ book.arena → look_kept (kept_with info.signature book.rows) ≡ reply.Absent → (r : ℕ) → Some r ≡ position is_none book.reservations → r < length book.reservations → (j place : ℕ) → j ≤ length (unheld_numbers book)
+  pub reserve-after : AreRising book.rows → extent_of info ≤ book.arena → look_kept (kept_with info.signature book.rows) ≡ reply.Absent → (r : ℕ) → Some r ≡ position is_none book.reservations
+      → r < length book.reservations → (j place : ℕ) → j ≤ length (unheld_numbers book)
       → ((i : ℕ) → i < j → room_for (products (without_oldest i book)) (extent_of info) ≡ None) → room_for (products (without_oldest j book)) (extent_of info) ≡ Some place
       → Fits info → place + extent_of info ≤ length book.bytes → AreReserved book.bytes book.reservations → LieApart book.arena (occupied (reserved_at (without_oldest j book) actor r info place))
       → Follows (reply.Reserved r j) (reserved_at (without_oldest j book) actor r info place) (reserve s actor info)
@@ -351,11 +374,14 @@ module _ (book : BookView) (s : State) (stands : StandsFor book s) (actor : ℕ)
       let fit = room_place after then (extent_of info) place there room in
       let long = ap (λ (bs : List ℕ). length bs) alike.bytes in
       let many = ap (λ (rs : Reservations). length rs) alike.reservations in
-      let stood = StandsFor-reserved after actor r info place spelled (omega (arith, long, inside)) (omega (arith, many, bound)) (subst (λ (a : ℕ). LieApart a (occupied (reserved_at after actor r info place))) (sym alike.arena) apart) then there
+      let stood =
+      StandsFor-reserved after actor r info place spelled (omega (arith, long, inside)) (omega (arith, many, bound))
+      (subst (λ (a : ℕ). LieApart a (occupied (reserved_at after actor r info place))) (sym alike.arena) apart) then there
       (subst (λ (bs : List ℕ). AreReserved bs after.reservations) (sym alike.bytes) (subst (λ (rs : Reservations). AreReserved book.bytes rs) (sym alike.reservations) reserved)) in
       subst (λ (o : Outcome). Follows (reply.Reserved r j) (reserved_at after actor r info place) o)
       (sym (reserve-absent fits absent (Some r) least ∙ ap (reserve_by_evictions s actor info r) (evictions-are book s (extent_of info) j rising stands within none place room)))
-      (subst (λ (o : Option ℕ). Follows (reply.Reserved r j) (reserved_at after actor r info place) (record { reply = reply.Reserved r j; state = model.with_reservation then r (option_map (model.new_reservation actor info) o) })) (sym fit)
+      (subst (λ (o : Option ℕ). Follows (reply.Reserved r j) (reserved_at after actor r info place)
+      (record { reply = reply.Reserved r j; state = model.with_reservation then r (option_map (model.new_reservation actor info) o) })) (sym fit)
       (record { reply = refl; state = stood }))
 
 -- the least empty place is empty

@@ -19,10 +19,12 @@ use Rattle.ldm_book.proofs.RowAtLemmas.{filled_within}
 use Rattle.ldm_book.proofs.SlotOfLemmas.{signature_at, stands_at}
 
 -- the first kept row of at least a number has the number of the first such entry
-pub first_kept : (slots : Slots) (n : ℕ) (entries : List Queued) → option_map (λ (p : ℕ × ℕ). p.0) (option_map number_and_slot (find (at_entry n) entries)) ≡ option_map kept_number (find (at_number n) (kept_entries slots entries))
+pub first_kept : (slots : Slots) (n : ℕ) (entries : List Queued)
+    → option_map (λ (p : ℕ × ℕ). p.0) (option_map number_and_slot (find (at_entry n) entries)) ≡ option_map kept_number (find (at_number n) (kept_entries slots entries))
 first_kept slots n [] = refl
 first_kept slots n (entry ∷ entries) =
-    elim (leb n entry.n) as (λ b. option_map (λ (p : ℕ × ℕ). p.0) (option_map number_and_slot (cond b (Some entry) (find (at_entry n) entries))) ≡ option_map kept_number (cond b (Some (kept_entry slots entry)) (find (at_number n) (kept_entries slots entries)))) [ true ↦ refl | false ↦ first_kept slots n entries ]
+    elim (leb n entry.n) as (λ b. option_map (λ (p : ℕ × ℕ). p.0) (option_map number_and_slot (cond b (Some entry) (find (at_entry n) entries))) ≡ option_map kept_number
+    (cond b (Some (kept_entry slots entry)) (find (at_number n) (kept_entries slots entries)))) [ true ↦ refl | false ↦ first_kept slots n entries ]
 
 -- what comes behind an entry has a greater number
 below_kept : (slots : Slots) (entry : Queued) (entries : List Queued) → AllByRecursion (Precedes entry) entries → AllByRecursion (λ (k : Kept). entry.n < k.number) (kept_entries slots entries)
@@ -35,7 +37,8 @@ rising_kept slots [] rising = tt
 rising_kept slots (entry ∷ entries) rising = (below_kept slots entry entries rising.0, rising_kept slots entries rising.1)
 
 -- what the slot has that is found for a signature: a product of that signature
-pub found_row : (table : Table) (slots : Slots) (signature : List ℕ) (k : ℕ) → table ≡ map signature_of slots → Some k ≡ slot_of table signature → (row : Kept) × (row_at slots k ≡ Some row) × (row.signature ≡ signature)
+pub found_row : (table : Table) (slots : Slots) (signature : List ℕ) (k : ℕ) → table ≡ map signature_of slots → Some k ≡ slot_of table signature
+    → (row : Kept) × (row_at slots k ≡ Some row) × (row.signature ≡ signature)
 found_row table slots signature k is found =
     let there = position-Some (has signature) (map signature_of slots) k None (sym (found ∙ ap (λ (t : Table). slot_of t signature) is)) in
     held (row_at slots k) refl (sym (ap (has signature) (signature_at slots k)) ∙ there.1)
@@ -54,7 +57,8 @@ absent_row slots signature k row none at =
     sym (ap (has signature) (signature_at slots k ∙ ap signature_of at)) ∙ fails_before_first (has signature) table k None (omega arith)
 
 -- no kept row has a signature that no slot has
-pub absent_kept : (slots : Slots) (signature : List ℕ) (entries : List Queued) → None ≡ slot_of (map signature_of slots) signature → AllByRecursion (IsAt slots) entries → kept_with signature (kept_entries slots entries) ≡ None
+pub absent_kept : (slots : Slots) (signature : List ℕ) (entries : List Queued) → None ≡ slot_of (map signature_of slots) signature → AllByRecursion (IsAt slots) entries
+    → kept_with signature (kept_entries slots entries) ≡ None
 absent_kept slots signature [] none all = refl
 absent_kept slots signature (entry ∷ entries) none all =
     let here = ap (λ (o : Option Kept). bytes_eq (kept_or_none o).signature signature) all.0.1 ∙ absent_row slots signature entry.slot all.0.0 (sym none) all.0.1 in
@@ -67,7 +71,8 @@ same_row slots j k one other once at there same =
     cc (ap (row_at slots) slot)
 
 -- the first kept row of the signature of a product has its number and its time
-pub found_kept : (slots : Slots) (signature : List ℕ) (k : ℕ) (row : Kept) (entries : List Queued) → IsOneToOne (map signature_of slots) → row_at slots k ≡ Some row → row.signature ≡ signature → AllByRecursion (IsAt slots) entries → HasSlot k entries → look_kept (kept_with signature (kept_entries slots entries)) ≡ reply.Queued row.number row.time
+pub found_kept : (slots : Slots) (signature : List ℕ) (k : ℕ) (row : Kept) (entries : List Queued) → IsOneToOne (map signature_of slots) → row_at slots k ≡ Some row → row.signature ≡ signature
+    → AllByRecursion (IsAt slots) entries → HasSlot k entries → look_kept (kept_with signature (kept_entries slots entries)) ≡ reply.Queued row.number row.time
 found_kept slots signature k row [] once at same all there = absurd there
 found_kept slots signature k row (entry ∷ entries) once at same all there =
     let other = all.0.0 in

@@ -14,12 +14,15 @@ use Rattle.ldm_book.proofs.KeptEntryLemmas.{kept_entry-whole}
 pub find_kept : (slots : Slots) (n : ℕ) (entries : List Queued) → find (at_number n) (kept_entries slots entries) ≡ option_map (kept_entry slots) (find (at_entry n) entries)
 find_kept slots n [] = refl
 find_kept slots n (entry ∷ entries) =
-    elim (leb n entry.n) as (λ b. cond b (Some (kept_entry slots entry)) (find (at_number n) (kept_entries slots entries)) ≡ option_map (kept_entry slots) (cond b (Some entry) (find (at_entry n) entries))) [ true ↦ refl | false ↦ find_kept slots n entries ]
+    elim (leb n entry.n) as (λ b. cond b (Some (kept_entry slots entry)) (find (at_number n) (kept_entries slots entries)) ≡ option_map (kept_entry slots)
+    (cond b (Some entry) (find (at_entry n) entries))) [ true ↦ refl | false ↦ find_kept slots n entries ]
 
-pub later_kept : (slots : Slots) (time : ℕ) (entries : List Queued) → option_map (λ (p : ℕ × ℕ). p.0) (option_map number_and_slot (find (behind_time time) entries)) ≡ option_map kept_number (find (is_later time) (kept_entries slots entries))
+pub later_kept : (slots : Slots) (time : ℕ) (entries : List Queued)
+    → option_map (λ (p : ℕ × ℕ). p.0) (option_map number_and_slot (find (behind_time time) entries)) ≡ option_map kept_number (find (is_later time) (kept_entries slots entries))
 later_kept slots time [] = refl
 later_kept slots time (entry ∷ entries) =
-    elim (ltb time entry.time) as (λ b. option_map (λ (p : ℕ × ℕ). p.0) (option_map number_and_slot (cond b (Some entry) (find (behind_time time) entries))) ≡ option_map kept_number (cond b (Some (kept_entry slots entry)) (find (is_later time) (kept_entries slots entries)))) [ true ↦ refl | false ↦ later_kept slots time entries ]
+    elim (ltb time entry.time) as (λ b. option_map (λ (p : ℕ × ℕ). p.0) (option_map number_and_slot (cond b (Some entry) (find (behind_time time) entries))) ≡ option_map kept_number
+    (cond b (Some (kept_entry slots entry)) (find (is_later time) (kept_entries slots entries)))) [ true ↦ refl | false ↦ later_kept slots time entries ]
 
 pub no_entry : (o : Option Queued) → option_map number_and_slot o ≡ None → o ≡ None
 no_entry None e = refl

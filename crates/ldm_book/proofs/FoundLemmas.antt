@@ -10,7 +10,8 @@ use Rattle.ldm_book.specs.Products.{LieApart, at_number, kept_extent, kept_regio
 use Rattle.ldm_book.specs.Spans.{held_span, held_spans, reserved_span, span_at, span_of}
 use Rattle.ldm_book.proofs.ApartLemmas.{behind}
 
-pub lie_found : (arena : ℕ) (test : Kept → Bool) (rows : List Kept) (reservations : Reservations) (k : Kept) → LieApart arena (occupied_by rows reservations) → find test rows ≡ Some k → k.place + kept_extent k ≤ arena
+pub lie_found : (arena : ℕ) (test : Kept → Bool) (rows : List Kept) (reservations : Reservations) (k : Kept) → LieApart arena (occupied_by rows reservations) → find test rows ≡ Some k
+    → k.place + kept_extent k ≤ arena
 lie_found arena test [] reservations k apart e = absurd cc
 lie_found arena test (r ∷ rs) reservations k apart e = by_test (test r) (lie_found arena test rs reservations k apart.2) e
   where
@@ -26,7 +27,8 @@ span_within arena rows reservations (Some n) apart = by_found (find (at_number n
     by_found None e = subst (λ (o : Option Kept). (span_of o).back ≤ arena) (sym e) (omega arith)
     by_found (Some k) e = subst (λ (o : Option Kept). (span_of o).back ≤ arena) (sym e) (lie_found arena (at_number n) rows reservations k apart e)
 
-held_within : (arena : ℕ) (rows : List Kept) (reservations : Reservations) (cs : Places) → LieApart arena (occupied_by rows reservations) → All (λ (span : Span). span.back ≤ arena) (map (held_span rows) cs)
+held_within : (arena : ℕ) (rows : List Kept) (reservations : Reservations) (cs : Places) → LieApart arena (occupied_by rows reservations)
+    → All (λ (span : Span). span.back ≤ arena) (map (held_span rows) cs)
 held_within arena rows reservations [] apart k d inside = absurd (omega arith)
 held_within arena rows reservations (c ∷ cs) apart zero d inside = span_within arena rows reservations (held_of c) apart
 held_within arena rows reservations (c ∷ cs) apart (suc k) d inside = held_within arena rows reservations cs apart k d (omega arith)
@@ -38,7 +40,8 @@ reserved_within arena (Some v ∷ rs) apart zero d inside = apart.0
 reserved_within arena (None ∷ rs) apart (suc k) d inside = reserved_within arena rs apart k d (omega arith)
 reserved_within arena (Some v ∷ rs) apart (suc k) d inside = reserved_within arena rs apart.2 k d (omega arith)
 
-pub spans_within : (arena : ℕ) (rows : List Kept) (reservations : Reservations) (cs : Places) → LieApart arena (occupied_by rows reservations) → All (λ (span : Span). span.back ≤ arena) (held_spans rows cs reservations)
+pub spans_within : (arena : ℕ) (rows : List Kept) (reservations : Reservations) (cs : Places) → LieApart arena (occupied_by rows reservations)
+    → All (λ (span : Span). span.back ≤ arena) (held_spans rows cs reservations)
 spans_within arena rows reservations cs apart =
     All-append (λ (span : Span). span.back ≤ arena) (map (held_span rows) cs) (map reserved_span reservations) (held_within arena rows reservations cs apart)
     (reserved_within arena reservations (behind arena (map kept_region rows) (map reserved_region (open_kept reservations)) apart))

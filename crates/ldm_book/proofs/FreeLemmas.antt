@@ -39,7 +39,8 @@ module _ (cs : Places) where
       by_test false e = absurd (let above = ahead e in omega arith)
 
   -- the first product of at least a number is held: what nobody holds is behind it
-  pub ahead_more : (at : ℕ) (rows : List Kept) (found : Kept) → AreRising rows → find (at_number at) rows ≡ Some found → is_kept_held cs found ≡ true → AreAhead at cs rows → AreAhead (found.number + 1) cs rows
+  pub ahead_more : (at : ℕ) (rows : List Kept) (found : Kept) → AreRising rows → find (at_number at) rows ≡ Some found → is_kept_held cs found ≡ true → AreAhead at cs rows
+      → AreAhead (found.number + 1) cs rows
   ahead_more at [] found rising e held ahead = tt
   ahead_more at (k ∷ ks) found rising e held ahead =
       elim (cases_lt k.number at) [
@@ -58,7 +59,8 @@ module _ (cs : Places) where
   free_later k ks held = ap (λ (b : Bool). cond (not b) (k ∷ free_rows ks) (free_rows ks)) held
 
   -- nobody holds it: it is the oldest such
-  pub first_found : (at : ℕ) (rows : List Kept) (found : Kept) → find (at_number at) rows ≡ Some found → is_kept_held cs found ≡ false → AreAhead at cs rows → first_of (free_numbers cs rows) ≡ Some found.number
+  pub first_found : (at : ℕ) (rows : List Kept) (found : Kept) → find (at_number at) rows ≡ Some found → is_kept_held cs found ≡ false → AreAhead at cs rows
+      → first_of (free_numbers cs rows) ≡ Some found.number
   first_found at [] found e free ahead = absurd cc
   first_found at (k ∷ ks) found e free ahead =
       elim (cases_lt k.number at) [
@@ -104,7 +106,8 @@ module _ (cs : Places) where
   first-there [] n e = absurd cc
   first-there (k ∷ ks) n e = by_test (first-there ks n) (is_kept_held cs k) refl
     where
-      by_test : (first_of (free_numbers cs ks) ≡ Some n → (list_any (has_number n) ks ≡ true) × (is_held n cs ≡ false)) → (b : Bool) → is_kept_held cs k ≡ b → (list_any (has_number n) (k ∷ ks) ≡ true) × (is_held n cs ≡ false)
+      by_test : (first_of (free_numbers cs ks) ≡ Some n → (list_any (has_number n) ks ≡ true) × (is_held n cs ≡ false)) → (b : Bool) → is_kept_held cs k ≡ b
+          → (list_any (has_number n) (k ∷ ks) ≡ true) × (is_held n cs ≡ false)
       by_test more false free =
           let same : Some k.number ≡ Some n = sym (ap (λ (rs : List Kept). first_of (map kept_number rs)) (free_first k ks free)) ∙ e in
           let number : k.number ≡ n = cc in
@@ -150,7 +153,8 @@ pub free_left : (cs : Places) (rows : List Kept) (n : ℕ) → AreRising rows �
 free_left cs [] n rising e = refl
 free_left cs (k ∷ ks) n rising e = by_test (free_left cs ks n rising.1) (is_kept_held cs k) refl
   where
-    by_test : (first_of (free_numbers cs ks) ≡ Some n → free_numbers cs (filter (is_other n) ks) ≡ drop 1 (free_numbers cs ks)) → (b : Bool) → is_kept_held cs k ≡ b → free_numbers cs (filter (is_other n) (k ∷ ks)) ≡ drop 1 (free_numbers cs (k ∷ ks))
+    by_test : (first_of (free_numbers cs ks) ≡ Some n → free_numbers cs (filter (is_other n) ks) ≡ drop 1 (free_numbers cs ks)) → (b : Bool) → is_kept_held cs k ≡ b
+        → free_numbers cs (filter (is_other n) (k ∷ ks)) ≡ drop 1 (free_numbers cs (k ∷ ks))
     by_test more false free =
         let same : Some k.number ≡ Some n = sym (ap (λ (rs : List Kept). first_of (map kept_number rs)) (free_first cs k ks free)) ∙ e in
         let number : k.number ≡ n = cc in
@@ -200,7 +204,8 @@ rising_left test (k ∷ ks) rising = by_test (test k) (rising_left test ks risin
 pub unheld-evicted : (book : BookView) (n : ℕ) → AreRising book.rows → first_of (unheld_numbers book) ≡ Some n → unheld_numbers (without_product n book) ≡ drop 1 (unheld_numbers book)
 unheld-evicted book n rising e =
     let feed = feed_of (find (at_number n) book.rows) in
-    ap (map kept_number) (free-alike (map (with_loss n feed) book.cursors) book.cursors (filter (is_other n) book.rows) (λ m. is_held-loss n feed m book.cursors)) ∙ free_left book.cursors book.rows n rising e
+    ap (map kept_number) (free-alike (map (with_loss n feed) book.cursors) book.cursors (filter (is_other n) book.rows) (λ m. is_held-loss n feed m book.cursors))
+    ∙ free_left book.cursors book.rows n rising e
 
 -- and with one product more that has a greater number
 pub rising_push : (rows : List Kept) (new : Kept) → AreRising rows → All (λ (k : Kept). k.number < new.number) rows → AreRising (rows ++ new ∷ [])

@@ -7,18 +7,19 @@ use Rattle.std.proofs.lemmas.Bool.{true≢false, false≢true, or_left, or_right
 use Rattle.std.proofs.lemmas.List.Folds.{list_any-append}
 use Rattle.ldm_types.specs.Arena.{Region, covers, fit, is_covered}
 use Rattle.ldm_book.specs.declared.spans.Span.{Span}
-use Rattle.ldm_types.specs.Cursors.{KeptCursor, Places}
-use Rattle.ldm_cursor.specs.Places.{held_of, holds, is_held, is_number}
+use Rattle.ldm_types.specs.Cursors.{KeptCursor, Places, is_number}
+use Rattle.ldm_cursor.specs.Places.{held_of, holds, is_held}
 use Rattle.ldm_book.specs.View.{Kept, KeptReservation, Reservations, open_kept}
 use Rattle.ldm_book.specs.Products.{AreRising, at_number, has_number, kept_extent, kept_region, occupied_by, reserved_region}
 use Rattle.ldm_book.specs.Readers.{AreReading, IsPlaceReading, is_kept_held}
 use Rattle.ldm_book.specs.Spans.{has_gap, held_span, held_spans, reserved_span, span_at, span_of}
 use Rattle.ldm_book.proofs.EveryLemmas.{found_of}
-use Rattle.ldm_book.proofs.SpaceLemmas.{fit-space, space-fit}
-use Rattle.ldm_book.proofs.SpanLemmas.{IsBeside, gap-found, room-found}
+use Rattle.ldm_model.proofs.Space.{fit-space, space-fit}
+use Rattle.ldm_book.proofs.SpanLemmas.{IsBeside, gap-found, room-found, same_bool}
 
 -- each product is found by its number
-find_later : (k : Kept) (ks rs : List Kept) → AllByRecursion (λ (r : Kept). k.number < r.number) rs → AllByRecursion (λ (r : Kept). find (at_number r.number) ks ≡ Some r) rs → AllByRecursion (λ (r : Kept). find (at_number r.number) (k ∷ ks) ≡ Some r) rs
+find_later : (k : Kept) (ks rs : List Kept) → AllByRecursion (λ (r : Kept). k.number < r.number) rs → AllByRecursion (λ (r : Kept). find (at_number r.number) ks ≡ Some r) rs
+    → AllByRecursion (λ (r : Kept). find (at_number r.number) (k ∷ ks) ≡ Some r) rs
 find_later k ks [] above all = tt
 find_later k ks (r ∷ rs) above all = (ap (λ (b : Bool). cond b (Some k) (find (at_number r.number) ks)) (lt-leb r.number k.number above.0) ∙ all.0, find_later k ks rs above.1 all.1)
 
@@ -66,11 +67,13 @@ beside-from p need k some extent none = elim (cases_lt k.place (p + need)) [
 ]
 
 -- a held product that is found covers nothing that the held ones do not
-not_covered : (cs : Places) (test : Kept → Bool) (i : ℕ) (rows : List Kept) (k : Kept) → find test rows ≡ Some k → is_kept_held cs k ≡ true → is_covered (map kept_region (filter (is_kept_held cs) rows)) i ≡ false → covers i (kept_region k) ≡ false
+not_covered : (cs : Places) (test : Kept → Bool) (i : ℕ) (rows : List Kept) (k : Kept) → find test rows ≡ Some k → is_kept_held cs k ≡ true
+    → is_covered (map kept_region (filter (is_kept_held cs) rows)) i ≡ false → covers i (kept_region k) ≡ false
 not_covered cs test i [] k e held none = absurd cc
 not_covered cs test i (r ∷ rs) k e held none = by_test (test r) (is_kept_held cs r) refl (not_covered cs test i rs k) e none
   where
-    by_test : (t b : Bool) → is_kept_held cs r ≡ b → (find test rs ≡ Some k → is_kept_held cs k ≡ true → is_covered (map kept_region (filter (is_kept_held cs) rs)) i ≡ false → covers i (kept_region k) ≡ false)
+    by_test : (t b : Bool) → is_kept_held cs r ≡ b
+        → (find test rs ≡ Some k → is_kept_held cs k ≡ true → is_covered (map kept_region (filter (is_kept_held cs) rs)) i ≡ false → covers i (kept_region k) ≡ false)
         → cond t (Some r) (find test rs) ≡ Some k → is_covered (map kept_region (cond b (r ∷ filter (is_kept_held cs) rs) (filter (is_kept_held cs) rs))) i ≡ false → covers i (kept_region k) ≡ false
     by_test true true is more e none =
         let same : r ≡ k = cc in
@@ -81,9 +84,11 @@ not_covered cs test i (r ∷ rs) k e held none = by_test (test r) (is_kept_held 
     by_test false true is more e none = more e held (or_parts (covers i (kept_region r)) (is_covered (map kept_region (filter (is_kept_held cs) rs)) i) none).1
     by_test false false is more e none = more e held none
 
-module _ (cs : Places) (a arena need : ℕ) (rows : List Kept) (reservations : Reservations) (rising : AreRising rows) (all : AreReading a rows cs) (headed : AllByRecursion (λ (k : Kept). 0 < k.head) rows) (reserved_headed : AllByRecursion (λ (v : KeptReservation). 0 < v.product.head) (open_kept reservations)) (some : 0 < need) where
+module _ (cs : Places) (a arena need : ℕ) (rows : List Kept) (reservations : Reservations) (rising : AreRising rows) (all : AreReading a rows cs)
+    (headed : AllByRecursion (λ (k : Kept). 0 < k.head) rows) (reserved_headed : AllByRecursion (λ (v : KeptReservation). 0 < v.product.head) (open_kept reservations)) (some : 0 < need) where
   -- where the held products leave so much free, no span is met
-  spans_beside : (p : ℕ) → ((i : ℕ) → p ≤ i → i < p + need → is_covered (map kept_region (filter (is_kept_held cs) rows)) i ≡ false) → (few : Places) → ((n : ℕ) → is_held n few ≡ true → is_held n cs ≡ true) → AreReading a rows few → AllByRecursion (IsBeside p need) (map (held_span rows) few)
+  spans_beside : (p : ℕ) → ((i : ℕ) → p ≤ i → i < p + need → is_covered (map kept_region (filter (is_kept_held cs) rows)) i ≡ false) → (few : Places)
+      → ((n : ℕ) → is_held n few ≡ true → is_held n cs ≡ true) → AreReading a rows few → AllByRecursion (IsBeside p need) (map (held_span rows) few)
   spans_beside p free [] among reading = tt
   spans_beside p free (place ∷ few) among reading =
       (at_place place (λ n e. among n (or_left (holds n place) (is_held n few) e)) reading.0, spans_beside p free few (λ n e. among n (or_right (holds n place) (is_held n few) e)) reading.1)
@@ -95,7 +100,8 @@ module _ (cs : Places) (a arena need : ℕ) (rows : List Kept) (reservations : R
           let k = found.0 in
           let held : is_kept_held cs k ≡ true = ap (λ (n : ℕ). is_held n cs) found.2 ∙ is m (eq-eqb m m refl) in
           subst (λ (o : Option Kept). IsBeside p need (span_of o)) (sym found.1)
-          (beside-from p need k some (omega (arith, found_of (λ (x : Kept). 0 < x.head) (at_number m) rows k headed found.1)) (λ i low high. not_covered cs (at_number m) i rows k found.1 held (free i low high)))
+          (beside-from p need k some (omega (arith, found_of (λ (x : Kept). 0 < x.head) (at_number m) rows k headed found.1))
+          (λ i low high. not_covered cs (at_number m) i rows k found.1 held (free i low high)))
 
       at_place : (place : Option KeptCursor) → ((n : ℕ) → holds n place ≡ true → is_held n cs ≡ true) → IsPlaceReading a rows place → IsBeside p need (held_span rows place)
       at_place None is reading = inr (omega arith)
@@ -106,30 +112,29 @@ module _ (cs : Places) (a arena need : ℕ) (rows : List Kept) (reservations : R
   span_of_held p n [] h beside = absurd (false≢true h)
   span_of_held p n (place ∷ few) h beside = by_held (held_of place) (λ x. x) h beside.0 (λ e. span_of_held p n few e beside.1)
     where
-      by_held : (o : Option ℕ) → (ℕ → ℕ) → (is_number n o || is_held n few) ≡ true → IsBeside p need (span_at rows o) → (is_held n few ≡ true → IsBeside p need (span_at rows (Some n))) → IsBeside p need (span_at rows (Some n))
+      by_held : (o : Option ℕ) → (ℕ → ℕ) → (is_number n o || is_held n few) ≡ true → IsBeside p need (span_at rows o) → (is_held n few ≡ true → IsBeside p need (span_at rows (Some n)))
+          → IsBeside p need (span_at rows (Some n))
       by_held None f h here more = more h
       by_held (Some m) f h here more = elim (cases_eq m n) [
         | inl same ↦ subst (λ (x : ℕ). IsBeside p need (span_at rows (Some x))) same here
         | inr other ↦ more (ap (λ (b : Bool). b || is_held n few) (sym (ne_eqb m n other)) ∙ h)
       ]
 
-  rows_free : (p i : ℕ) → p ≤ i → i < p + need → AllByRecursion (IsBeside p need) (map (held_span rows) cs) → (rs : List Kept) → AllByRecursion (λ (r : Kept). find (at_number r.number) rows ≡ Some r) rs → is_covered (map kept_region (filter (is_kept_held cs) rs)) i ≡ false
+  rows_free : (p i : ℕ) → p ≤ i → i < p + need → AllByRecursion (IsBeside p need) (map (held_span rows) cs) → (rs : List Kept)
+      → AllByRecursion (λ (r : Kept). find (at_number r.number) rows ≡ Some r) rs → is_covered (map kept_region (filter (is_kept_held cs) rs)) i ≡ false
   rows_free p i low high beside [] found = refl
   rows_free p i low high beside (r ∷ rs) found = by_test (is_kept_held cs r) refl (rows_free p i low high beside rs found.1)
     where
-      by_test : (b : Bool) → is_kept_held cs r ≡ b → is_covered (map kept_region (filter (is_kept_held cs) rs)) i ≡ false → is_covered (map kept_region (cond b (r ∷ filter (is_kept_held cs) rs) (filter (is_kept_held cs) rs))) i ≡ false
+      by_test : (b : Bool) → is_kept_held cs r ≡ b → is_covered (map kept_region (filter (is_kept_held cs) rs)) i ≡ false
+          → is_covered (map kept_region (cond b (r ∷ filter (is_kept_held cs) rs) (filter (is_kept_held cs) rs))) i ≡ false
       by_test true held rest =
           let span = subst (λ (o : Option Kept). IsBeside p need (span_of o)) found.0 (span_of_held p r.number cs held beside) in
           ap (λ (b : Bool). b || is_covered (map kept_region (filter (is_kept_held cs) rs)) i) (covers-not p need i r span low high) ∙ rest
       by_test false free rest = rest
 
-  same_bool : (x y : Bool) → (x ≡ true → y ≡ true) → (y ≡ true → x ≡ true) → x ≡ y
-  same_bool true y f g = sym (f refl)
-  same_bool false true f g = g refl
-  same_bool false false f g = refl
-
   -- so it is with the spans of reservations
-  reserved_beside : (p : ℕ) (rs : Reservations) → AllByRecursion (λ (v : KeptReservation). 0 < v.product.head) (open_kept rs) → ((i : ℕ) → p ≤ i → i < p + need → is_covered (map reserved_region (open_kept rs)) i ≡ false) → AllByRecursion (IsBeside p need) (map reserved_span rs)
+  reserved_beside : (p : ℕ) (rs : Reservations) → AllByRecursion (λ (v : KeptReservation). 0 < v.product.head) (open_kept rs)
+      → ((i : ℕ) → p ≤ i → i < p + need → is_covered (map reserved_region (open_kept rs)) i ≡ false) → AllByRecursion (IsBeside p need) (map reserved_span rs)
   reserved_beside p [] heads free = tt
   reserved_beside p (None ∷ rs) heads free = (inr (omega arith), reserved_beside p rs heads free)
   reserved_beside p (Some v ∷ rs) heads free = (
@@ -178,7 +183,9 @@ module _ (cs : Places) (a arena need : ℕ) (rows : List Kept) (reservations : R
       }))
       (λ fits.
       let space = fit-space need arena regions fits in
-      let free = λ (i : ℕ) (low : space.start ≤ i) (high : i < space.start + need). or_parts (is_covered held i) (is_covered reserved i) (sym (list_any-append (covers i) held reserved) ∙ space.free i low high) in
+      let free =
+      λ (i : ℕ) (low : space.start ≤ i) (high : i < space.start + need). or_parts (is_covered held i) (is_covered reserved i)
+      (sym (list_any-append (covers i) held reserved) ∙ space.free i low high) in
       gap-found space.start need arena spans space.within
       (all_of (map (held_span rows) cs) (map reserved_span reservations) space.start
       (spans_beside space.start (λ i low high. (free i low high).0) cs (λ n e. e) all)

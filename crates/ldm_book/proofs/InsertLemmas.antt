@@ -42,7 +42,8 @@ abbrev pub new_row : State → ℕ → Product → Option ℕ → Row
 new_row s now p at = record { product = p; time = time_after (last_time s) now; place = at }
 
 -- the new row, as it is queued
-pub queued-new : (s : State) (now : ℕ) (p : Product) (m place : ℕ) (at : Option ℕ) → at ≡ Some place → queued_from m (new_row s now p at ∷ []) ≡ record { number = m; product = p; time = time_after (last_time s) now; place = place } ∷ []
+pub queued-new : (s : State) (now : ℕ) (p : Product) (m place : ℕ) (at : Option ℕ) → at ≡ Some place
+    → queued_from m (new_row s now p at ∷ []) ≡ record { number = m; product = p; time = time_after (last_time s) now; place = place } ∷ []
 queued-new s now p m place at is = ap (λ (o : Option ℕ). add_queued m (new_row s now p at) o []) is
 
 -- what a book keeps of one product more, admitted at a place
@@ -73,7 +74,8 @@ grown_rows book s stands now p at place is =
 
 -- admitting a product that fits
 StandsFor-grown : (book : BookView) (s : State) → StandsFor book s → (now : ℕ) (p : Product) (place evicted : ℕ) → fit_in s (extent_of p.info) ≡ Some place
-    → Fits p.info → length p.body ≡ p.info.size → place + extent_of p.info ≤ length book.bytes → AreReserved book.bytes book.reservations → LieApart book.arena (occupied (grown book (time_after book.last now) p.info p.body place))
+    → Fits p.info → length p.body ≡ p.info.size → place + extent_of p.info ≤ length book.bytes → AreReserved book.bytes book.reservations → LieApart book.arena
+    (occupied (grown book (time_after book.last now) p.info p.body place))
     → Follows (reply.Admitted book.admitted (time_after book.last now) evicted) (grown book (time_after book.last now) p.info p.body place) (admitted s now p evicted)
 StandsFor-grown book s stands now p place evicted fits spelled size inside reserved apart =
     let k = new_kept book (time_after book.last now) p.info place in
@@ -83,7 +85,10 @@ StandsFor-grown book s stands now p place evicted fits spelled size inside reser
     let to : place + length (bytes_of p) ≤ place + kept_extent k = omega (arith, long) in
     let from : place ≤ place = omega arith in
     let bytes = written book.bytes (bytes_of p) place in
-    let stored = stored_still book.bytes (bytes_of p) place (kept_region k) from to within (queued s) (subst (λ (ks : List Kept). AllByRecursion (λ (other : Kept). AreApart (kept_region other) (kept_region k)) ks) stands.rows (rows_from_last book.arena book.rows k book.reservations apart)) stands.stored in
+    let stored =
+    stored_still book.bytes (bytes_of p) place (kept_region k) from to within (queued s)
+    (subst (λ (ks : List Kept). AllByRecursion (λ (other : Kept). AreApart (kept_region other) (kept_region k)) ks) stands.rows
+    (rows_from_last book.arena book.rows k book.reservations apart)) stands.stored in
     let new_stored = stored_new book.bytes q spelled size (omega (arith, inside)) in
     let filled = filled_still book.bytes (bytes_of p) place (kept_region k) from to within s.reservations
     (subst (Each (λ (o : KeptReservation). AreApart (reserved_region o) (kept_region k))) stands.reservations (reserved_from_last book.arena book.rows k book.reservations apart))
@@ -112,7 +117,8 @@ module _ (book : BookView) (s : State) (stands : StandsFor book s) (now : ℕ) (
   too_big big =
       let test : ltb s.arena (extent_of p.info) ≡ true = lt-ltb s.arena (extent_of p.info) (omega (arith, stands.arena)) in
       let same : insert s now p ≡ unchanged s (reply.TooBig (extent_of p.info) book.arena) =
-      ap (λ (b : Bool). cond b (unchanged s (reply.TooBig (extent_of p.info) s.arena)) (insert_fitting s now p (queued_with p.info.signature (queued s)))) test ∙ ap (λ (a : ℕ). unchanged s (reply.TooBig (extent_of p.info) a)) (sym stands.arena) in
+      ap (λ (b : Bool). cond b (unchanged s (reply.TooBig (extent_of p.info) s.arena)) (insert_fitting s now p (queued_with p.info.signature (queued s)))) test
+      ∙ ap (λ (a : ℕ). unchanged s (reply.TooBig (extent_of p.info) a)) (sym stands.arena) in
       subst (λ (o : Outcome). Follows (reply.TooBig (extent_of p.info) book.arena) book o) (sym same) (Follows-unchanged book s (reply.TooBig (extent_of p.info) book.arena) stands)
 
   insert-fits : extent_of p.info ≤ book.arena → insert s now p ≡ insert_fitting s now p (queued_with p.info.signature (queued s))
@@ -139,10 +145,12 @@ module _ (book : BookView) (s : State) (stands : StandsFor book s) (now : ℕ) (
   pub time_end : extent_of p.info ≤ book.arena → look_kept (kept_with p.info.signature book.rows) ≡ reply.Absent → is_last book.last ≡ true → Follows reply.TimeEnd book (insert s now p)
   time_end fits absent last =
       let test : is_last (last_time s) ≡ true = ap is_last (sym stands.last) ∙ last in
-      let same : insert s now p ≡ unchanged s reply.TimeEnd = insert-absent fits absent ∙ ap (λ (b : Bool). cond b (unchanged s reply.TimeEnd) (insert_by_evictions s now p (evictions s (extent_of p.info)))) test in
+      let same : insert s now p ≡ unchanged s reply.TimeEnd =
+      insert-absent fits absent ∙ ap (λ (b : Bool). cond b (unchanged s reply.TimeEnd) (insert_by_evictions s now p (evictions s (extent_of p.info)))) test in
       subst (λ (o : Outcome). Follows reply.TimeEnd book o) (sym same) (Follows-unchanged book s reply.TimeEnd stands)
 
-  insert-in_time : extent_of p.info ≤ book.arena → look_kept (kept_with p.info.signature book.rows) ≡ reply.Absent → is_last book.last ≡ false → insert s now p ≡ insert_by_evictions s now p (evictions s (extent_of p.info))
+  insert-in_time : extent_of p.info ≤ book.arena → look_kept (kept_with p.info.signature book.rows) ≡ reply.Absent → is_last book.last ≡ false
+      → insert s now p ≡ insert_by_evictions s now p (evictions s (extent_of p.info))
   insert-in_time fits absent last =
       let test : is_last (last_time s) ≡ false = ap is_last (sym stands.last) ∙ last in
       insert-absent fits absent ∙ ap (λ (b : Bool). cond b (unchanged s reply.TimeEnd) (insert_by_evictions s now p (evictions s (extent_of p.info)))) test
@@ -157,12 +165,15 @@ module _ (book : BookView) (s : State) (stands : StandsFor book s) (now : ℕ) (
       subst (λ (o : Outcome). Follows (reply.Locked held) book o) (sym same) (Follows-unchanged book s (reply.Locked held) stands)
 
   -- admitted, after the evictions that make room, with the body written to the arena
-  pub admitted_after : AreRising book.rows → extent_of p.info ≤ book.arena → look_kept (kept_with p.info.signature book.rows) ≡ reply.Absent → is_last book.last ≡ false → (j place : ℕ) → j ≤ length (unheld_numbers book)
+  pub admitted_after : AreRising book.rows → extent_of p.info ≤ book.arena → look_kept (kept_with p.info.signature book.rows) ≡ reply.Absent → is_last book.last ≡ false → (j place : ℕ)
+      → j ≤ length (unheld_numbers book)
       → ((i : ℕ) → i < j → room_for (products (without_oldest i book)) (extent_of p.info) ≡ None) → room_for (products (without_oldest j book)) (extent_of p.info) ≡ Some place
-      → Fits p.info → length p.body ≡ p.info.size → place + extent_of p.info ≤ length book.bytes → AreReserved book.bytes book.reservations → LieApart book.arena (occupied (grown (without_oldest j book) (time_after book.last now) p.info p.body place))
+      → Fits p.info → length p.body ≡ p.info.size → place + extent_of p.info ≤ length book.bytes → AreReserved book.bytes book.reservations → LieApart book.arena
+      (occupied (grown (without_oldest j book) (time_after book.last now) p.info p.body place))
       → Follows (reply.Admitted book.admitted (time_after book.last now) j) (grown (without_oldest j book) (time_after book.last now) p.info p.body place) (insert s now p)
   admitted_after rising fits absent last j place within none some spelled size inside reserved apart =
-      let same : insert s now p ≡ admitted (after_evicting s j) now p j = insert-in_time fits absent last ∙ ap (insert_by_evictions s now p) (evictions-are book s (extent_of p.info) j rising stands within none place some) in
+      let same : insert s now p ≡ admitted (after_evicting s j) now p j =
+      insert-in_time fits absent last ∙ ap (insert_by_evictions s now p) (evictions-are book s (extent_of p.info) j rising stands within none place some) in
       let after = without_oldest j book in
       let there = StandsFor-evicting j book s rising stands in
       let alike = alike_all (take j (unheld_numbers book)) book in
@@ -178,7 +189,8 @@ module _ (book : BookView) (s : State) (stands : StandsFor book s) (now : ℕ) (
       (subst (λ (t : ℕ). LieApart book.arena (occupied (grown after t p.info p.body place))) (sym time) apart)))))
 
 -- what was queued before one product more stays
-pub stays-grown : (old after new : BookView) (time place : ℕ) (p : Product) (k : Kept) → after.bytes ≡ old.bytes → new ≡ grown after time p.info p.body place → Fits p.info → length p.body ≡ p.info.size
+pub stays-grown : (old after new : BookView) (time place : ℕ) (p : Product) (k : Kept) → after.bytes ≡ old.bytes → new ≡ grown after time p.info p.body place → Fits p.info
+    → length p.body ≡ p.info.size
     → place + extent_of p.info ≤ length after.bytes → LieApart new.arena (occupied new) → Contains after.rows k → Contains old.rows k → Stays old new k
 stays-grown old after new time place p k bytes is spelled size inside apart there before =
     let long = length-bytes_of p spelled size in
@@ -188,7 +200,8 @@ stays-grown old after new time place p k bytes is spelled size inside apart ther
       queued = before;
       bytes =
           ap (λ (b : BookView). stored_bytes b.bytes k) is
-          ∙ product_stays after.bytes (bytes_of p) place (kept_region added) (omega arith) (omega (arith, long)) (omega (arith, long, inside)) after.rows k (rows_from_last after.arena after.rows added after.reservations lie) there
+          ∙ product_stays after.bytes (bytes_of p) place (kept_region added) (omega arith) (omega (arith, long)) (omega (arith, long, inside)) after.rows k
+          (rows_from_last after.arena after.rows added after.reservations lie) there
           ∙ ap (λ (bs : List ℕ). stored_bytes bs k) bytes;
     }
 
@@ -209,7 +222,8 @@ keeps-same old new same bytes r before after was now =
     }
 
 -- and so it does beside one product more
-pub keeps-grown : (old after new : BookView) (time place : ℕ) (p : Product) → after.bytes ≡ old.bytes → after.reservations ≡ old.reservations → new ≡ grown after time p.info p.body place → Fits p.info → length p.body ≡ p.info.size
+pub keeps-grown : (old after new : BookView) (time place : ℕ) (p : Product) → after.bytes ≡ old.bytes → after.reservations ≡ old.reservations → new ≡ grown after time p.info p.body place → Fits p.info
+    → length p.body ≡ p.info.size
     → place + extent_of p.info ≤ length after.bytes → AreReserved old.bytes old.reservations → LieApart new.arena (occupied new) → KeepsReserved old new
 keeps-grown old after new time place p bytes reservations is spelled size inside reserved apart r before now_has was now =
     let long = length-bytes_of p spelled size in
@@ -217,7 +231,8 @@ keeps-grown old after new time place p bytes reservations is spelled size inside
     let lie = subst (λ (b : BookView). LieApart b.arena (occupied b)) is apart in
     let one = same_one old.reservations new.reservations r before now_has (ap (λ (b : BookView). b.reservations) is ∙ reservations) was now in
     let there : reservation_at after.reservations r ≡ Some before = ap (λ (rs : Reservations). reservation_at rs r) reservations ∙ was in
-    let beside = each-at (λ (o : KeptReservation). AreApart (reserved_region o) (kept_region added)) after.reservations r before there (reserved_from_last after.arena after.rows added after.reservations lie) in
+    let beside =
+    each-at (λ (o : KeptReservation). AreApart (reserved_region o) (kept_region added)) after.reservations r before there (reserved_from_last after.arena after.rows added after.reservations lie) in
     let part = each-at (λ (o : KeptReservation). o.filled ≤ o.product.size) old.reservations r before was (parts_of old.bytes old.reservations reserved) in
     let filled : before.filled ≤ now_has.filled = omega (arith, ap (λ (v : KeptReservation). v.filled) one) in
     record {

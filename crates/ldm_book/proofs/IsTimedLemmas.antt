@@ -27,10 +27,12 @@ timed_filter test (Some last) admitted rows timed = (timed.0, All-filter test (I
 -- all were inserted before a time that comes after the last one
 pub timed_later : (last : Option ℕ) (admitted time : ℕ) (rows : List Kept) → IsTimed last admitted rows → IsTimely last time → All (λ (k : Kept). (k.number < admitted) × (k.time < time)) rows
 timed_later None admitted time rows timed timely = All-same (λ (k : Kept). (k.number < admitted) × (k.time < time)) rows [] timed.1 (All-nil (λ (k : Kept). (k.number < admitted) × (k.time < time)))
-timed_later (Some last) admitted time rows timed timely = All-weaker (IsBefore admitted last) (λ (k : Kept). (k.number < admitted) × (k.time < time)) (λ k before. (before.0, omega (arith, before.1))) rows timed.1
+timed_later (Some last) admitted time rows timed timely =
+    All-weaker (IsBefore admitted last) (λ (k : Kept). (k.number < admitted) × (k.time < time)) (λ k before. (before.0, omega (arith, before.1))) rows timed.1
 
 -- one product more
-pub timed_push : (last : Option ℕ) (admitted time : ℕ) (rows : List Kept) (new : Kept) → IsTimed last admitted rows → IsTimely last time → new.number ≡ admitted → new.time ≡ time → IsTimed (Some time) (admitted + 1) (rows ++ new ∷ [])
+pub timed_push : (last : Option ℕ) (admitted time : ℕ) (rows : List Kept) (new : Kept) → IsTimed last admitted rows → IsTimely last time → new.number ≡ admitted → new.time ≡ time
+    → IsTimed (Some time) (admitted + 1) (rows ++ new ∷ [])
 timed_push last admitted time rows new timed timely number is =
     let P = IsBefore (admitted + 1) time in
     (few last timed timely, All-push P rows new (before last timed timely) (omega (arith, number), omega (arith, is)))

@@ -31,7 +31,8 @@ row_of_region None region e = absurd cc
 row_of_region (Some row) region e = (row, refl, cc)
 
 -- what holds of the numbers and the times of all that is kept holds of the entries
-pub later_entries : (slots : Slots) (n time : ℕ) (entries : List Queued) → All (λ (k : Kept). (k.number < n) × (k.time < time)) (kept_entries slots entries) → All (λ (e : Queued). (e.n < n) × (e.time < time)) entries
+pub later_entries : (slots : Slots) (n time : ℕ) (entries : List Queued) → All (λ (k : Kept). (k.number < n) × (k.time < time)) (kept_entries slots entries)
+    → All (λ (e : Queued). (e.n < n) × (e.time < time)) entries
 later_entries slots n time entries later k d inside =
     subst (λ (x : Kept). (x.number < n) × (x.time < time)) (get_or-map (kept_entry slots) entries k d (kept_entry slots d) inside)
     (later k (kept_entry slots d) (omega (arith, length-map entries (kept_entry slots))))
@@ -42,7 +43,8 @@ not_first true k rest e = absurd cc
 not_first false k rest e = (refl, e)
 
 -- where no kept row has a signature, the row of no entry has it
-other_signature : (slots : Slots) (signature : List ℕ) (entries : List Queued) (k : ℕ) (row : Kept) → kept_with signature (kept_entries slots entries) ≡ None → HasSlot k entries → row_at slots k ≡ Some row → bytes_eq row.signature signature ≡ false
+other_signature : (slots : Slots) (signature : List ℕ) (entries : List Queued) (k : ℕ) (row : Kept) → kept_with signature (kept_entries slots entries) ≡ None → HasSlot k entries
+    → row_at slots k ≡ Some row → bytes_eq row.signature signature ≡ false
 other_signature slots signature [] k row none listed at = absurd listed
 other_signature slots signature (entry ∷ entries) k row none listed at =
     let parts = not_first (kept_signature signature (kept_entry slots entry)) (kept_entry slots entry) _ none in
@@ -52,7 +54,8 @@ other_signature slots signature (entry ∷ entries) k row none listed at =
     listed
 
 -- where no kept row has a signature, no slot has it
-pub absent_from_slots : (slots : Slots) (entries : List Queued) (signature : List ℕ) → ((k : ℕ) (row : Kept) → row_at slots k ≡ Some row → HasSlot k entries) → kept_with signature (kept_entries slots entries) ≡ None → slot_of (map signature_of slots) signature ≡ None
+pub absent_from_slots : (slots : Slots) (entries : List Queued) (signature : List ℕ) → ((k : ℕ) (row : Kept) → row_at slots k ≡ Some row → HasSlot k entries)
+    → kept_with signature (kept_entries slots entries) ≡ None → slot_of (map signature_of slots) signature ≡ None
 absent_from_slots slots entries signature listed none = no_slot (map signature_of slots) signature (λ k. ap (has signature) (signature_at slots k) ∙ by_row k (row_at slots k) refl)
   where
     by_row : (k : ℕ) (held : Option Kept) → row_at slots k ≡ held → has signature (signature_of held) ≡ false

@@ -9,7 +9,7 @@ use Rattle.std.specs.Option.{option_map}
 use Rattle.std.specs.Ordering.{nat_cmp, eq_by_cmp, is_eq, is_lt}
 use Rattle.std.specs.declared.cmp.Ordering.{Ordering}
 use Rattle.std.specs.declared.cmp.Ordering.TheVariants.{Less, Equal, Greater}
-use Rattle.std.proofs.lemmas.Bool.{le-ltb, lt-ltb, or_cases, or_left, or_right}
+use Rattle.std.proofs.lemmas.Bool.{lt-ltb, or_cases, or_left, or_right}
 use Rattle.std.proofs.lemmas.List.{length-map}
 use Rattle.std.proofs.lemmas.Bool.Decides.{same_from_decides}
 use Rattle.ldm_types.specs.Arena.{Region, covers, is_covered, with_free, free_runs, gaps, best_gap, fit}
@@ -23,7 +23,8 @@ use Rattle.ldm_book.proofs.KeptEntryLemmas.{kept_entry-row, row_of_region}
 use Rattle.ldm_book.proofs.AllEntriesLemmas.{all_entries, all_taken, all-at, all-listed, all-regions}
 
 -- only what is covered matters
-pub free_runs-same : (one other : List Region) → ((position : ℕ) → is_covered one position ≡ is_covered other position) → (position count : ℕ) → free_runs one position count ≡ free_runs other position count
+pub free_runs-same : (one other : List Region) → ((position : ℕ) → is_covered one position ≡ is_covered other position) → (position count : ℕ)
+    → free_runs one position count ≡ free_runs other position count
 free_runs-same one other same position zero = refl
 free_runs-same one other same position (suc count) =
     ap (λ b. cond b (free_runs one (position + 1) count) (with_free position (free_runs one (position + 1) count))) (same position)
@@ -73,7 +74,8 @@ found_from_any test (e ∷ es) sorted any =
     (or_cases (test e.1) (list_any test (map (λ (e : ℕ × Region). e.1) es)) any)
 
 -- what a key has is one of the values
-any_from_found : (test : Region → Bool) (k : ℕ) (region : Region) (es : List (ℕ × Region)) → find nat_cmp k es ≡ Some region → test region ≡ true → list_any test (map (λ (e : ℕ × Region). e.1) es) ≡ true
+any_from_found : (test : Region → Bool) (k : ℕ) (region : Region) (es : List (ℕ × Region)) → find nat_cmp k es ≡ Some region → test region ≡ true
+    → list_any test (map (λ (e : ℕ × Region). e.1) es) ≡ true
 any_from_found test k region [] found passes = absurd cc
 any_from_found test k region (e ∷ es) found passes =
     elim (eq_by_cmp nat_cmp k e.0) as (λ b. cond b (Some e.1) (find nat_cmp k es) ≡ Some region → list_any test (map (λ (e : ℕ × Region). e.1) (e ∷ es)) ≡ true) [
@@ -86,7 +88,8 @@ abbrev HeldWith : (Region → Bool) → Slots → Type 0
 HeldWith test slots = (k : ℕ) × (row : Kept) × (row_at slots k ≡ Some row) × (test (kept_region row) ≡ true)
 
 -- a kept row has a slot
-held_from_any : (test : Region → Bool) (slots : Slots) (entries : List Queued) → AllByRecursion (IsAt slots) entries → list_any test (map kept_region (kept_entries slots entries)) ≡ true → HeldWith test slots
+held_from_any : (test : Region → Bool) (slots : Slots) (entries : List Queued) → AllByRecursion (IsAt slots) entries → list_any test (map kept_region (kept_entries slots entries)) ≡ true
+    → HeldWith test slots
 held_from_any test slots [] at any = absurd cc
 held_from_any test slots (entry ∷ entries) at any =
     let row = at.0.0 in
@@ -96,7 +99,8 @@ held_from_any test slots (entry ∷ entries) at any =
     (or_cases (test (kept_region (kept_entry slots entry))) _ any)
 
 -- a slot with a row has a kept row
-any_from_held : (test : Region → Bool) (slots : Slots) (entries : List Queued) (k : ℕ) (row : Kept) → HasSlot k entries → row_at slots k ≡ Some row → test (kept_region row) ≡ true → list_any test (map kept_region (kept_entries slots entries)) ≡ true
+any_from_held : (test : Region → Bool) (slots : Slots) (entries : List Queued) (k : ℕ) (row : Kept) → HasSlot k entries → row_at slots k ≡ Some row → test (kept_region row) ≡ true
+    → list_any test (map kept_region (kept_entries slots entries)) ≡ true
 any_from_held test slots [] k row has at passes = absurd has
 any_from_held test slots (entry ∷ entries) k row has at passes =
     ⊎_elim
@@ -104,7 +108,8 @@ any_from_held test slots (entry ∷ entries) k row has at passes =
     (λ there. or_right (test (kept_region (kept_entry slots entry))) _ (any_from_held test slots entries k row there at passes))
     has
 
-module _ (slots : Slots) (entries : List Queued) (owned : Owned) (at : AllByRecursion (IsAt slots) entries) (listed : (k : ℕ) (row : Kept) → row_at slots k ≡ Some row → HasSlot k entries) (is_owned : (k : ℕ) → fin.get owned k ≡ option_map kept_region (row_at slots k)) where
+module _ (slots : Slots) (entries : List Queued) (owned : Owned) (at : AllByRecursion (IsAt slots) entries) (listed : (k : ℕ) (row : Kept) → row_at slots k ≡ Some row → HasSlot k entries)
+    (is_owned : (k : ℕ) → fin.get owned k ≡ option_map kept_region (row_at slots k)) where
   -- a region that is owned is that of a row
   held_from_owned : (test : Region → Bool) → list_any test (occupied owned) ≡ true → HeldWith test slots
   held_from_owned test any =
@@ -140,10 +145,3 @@ module _ (p : Inside) (kept : IsSlotted p) where
       let count = length-map p.by_number.entries (kept_entry (slots_of p)) in
       ap (λ (gaps : List Region). option_map (λ (gap : Region). gap.start) (best_gap need gaps)) gaps_between
       ∙ ap (λ b. cond b place None) (sym (lt-ltb (taken_in (products_of p)) p.regions.slots (omega (arith, count, kept.count, some))))
-
-  -- where none is, a product goes nowhere
-  pub no_place_for : (need : ℕ) → length p.free.items ≡ 0 → room_for (products_of p) need ≡ None
-  no_place_for need none =
-      let place = fit need (occupied_in (products_of p)) p.regions.arena in
-      let count = length-map p.by_number.entries (kept_entry (slots_of p)) in
-      ap (λ b. cond b place None) (le-ltb (taken_in (products_of p)) p.regions.slots (omega (arith, count, kept.count, none)))

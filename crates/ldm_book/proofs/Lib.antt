@@ -23,7 +23,6 @@ pub mod CursorsLemmas
 pub mod EvictLemmas
 pub mod FreeLemmas
 pub mod FirstRowLemmas
-pub mod SpaceLemmas
 pub mod MeetingLemmas
 pub mod CallLemmas
 pub mod ReadingLemmas

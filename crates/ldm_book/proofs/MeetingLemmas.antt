@@ -78,7 +78,8 @@ module _ (feed : ℕ) where
   ]
 
   -- it does not
-  pub meets_later : (at : ℕ) (rows : List Kept) (found : Kept) → AreRising rows → find (at_number at) rows ≡ Some found → feeds_meet feed found.feed ≡ false → find (awaits at feed) rows ≡ find (awaits (found.number + 1) feed) rows
+  pub meets_later : (at : ℕ) (rows : List Kept) (found : Kept) → AreRising rows → find (at_number at) rows ≡ Some found → feeds_meet feed found.feed ≡ false
+      → find (awaits at feed) rows ≡ find (awaits (found.number + 1) feed) rows
   meets_later at [] found rising e apart = absurd cc
   meets_later at (k ∷ ks) found rising e apart = elim (cases_lt k.number at) [
     | inl before ↦
@@ -101,7 +102,8 @@ module _ (feed : ℕ) where
     | inr here ↦ absurd (let now : find (at_number at) (k ∷ ks) ≡ Some k = ap (λ (b : Bool). cond b (Some k) (find (at_number at) ks)) (le-leb at k.number here) in cc)
   ]
 
-  count_test : (at : ℕ) (k : Kept) (rows : List Kept) (b : Bool) → awaits at feed k ≡ b → count_by (awaits at feed) (k ∷ rows) ≡ cond b (1 + count_by (awaits at feed) rows) (count_by (awaits at feed) rows)
+  count_test : (at : ℕ) (k : Kept) (rows : List Kept) (b : Bool) → awaits at feed k ≡ b
+      → count_by (awaits at feed) (k ∷ rows) ≡ cond b (1 + count_by (awaits at feed) rows) (count_by (awaits at feed) rows)
   count_test at k rows true e = count_cons (awaits at feed) k rows ∙ ap (λ (b : Bool). cond b 1 0 + count_by (awaits at feed) rows) e
   count_test at k rows false e = count_cons (awaits at feed) k rows ∙ ap (λ (b : Bool). cond b 1 0 + count_by (awaits at feed) rows) e ∙ nothing (count_by (awaits at feed) rows)
     where
@@ -116,7 +118,8 @@ module _ (feed : ℕ) where
   ]
 
   -- one product is counted, or passed over
-  pub count_later : (at : ℕ) (rows : List Kept) (found : Kept) → AreRising rows → find (at_number at) rows ≡ Some found → count_by (awaits at feed) rows ≡ cond (feeds_meet feed found.feed) 1 0 + count_by (awaits (found.number + 1) feed) rows
+  pub count_later : (at : ℕ) (rows : List Kept) (found : Kept) → AreRising rows → find (at_number at) rows ≡ Some found
+      → count_by (awaits at feed) rows ≡ cond (feeds_meet feed found.feed) 1 0 + count_by (awaits (found.number + 1) feed) rows
   count_later at [] found rising e = absurd cc
   count_later at (k ∷ ks) found rising e = elim (cases_lt k.number at) [
     | inl before ↦

@@ -31,10 +31,13 @@ behind-kept (Some q) = refl
 
 -- where a cursor begins
 pub start-stands : (book : BookView) (s : State) (start : Start) → StandsFor book s → making.start_at book start ≡ open_position s start
-start-stands book s Oldest stands = ap (λ (n : ℕ). Some n) (ap (λ (ks : List Kept). making.number_or_end book (find (λ (k : Kept). true) ks)) stands.rows ∙ ap (making.number_or_end book) (find-map kept (λ (k : Kept). true) (queued s)) ∙ end-stands book s (find (λ (q : Queued). true) (queued s)) stands)
+start-stands book s Oldest stands =
+    ap (λ (n : ℕ). Some n) (ap (λ (ks : List Kept). making.number_or_end book (find (λ (k : Kept). true) ks)) stands.rows
+    ∙ ap (making.number_or_end book) (find-map kept (λ (k : Kept). true) (queued s)) ∙ end-stands book s (find (λ (q : Queued). true) (queued s)) stands)
 start-stands book s Next stands = ap (λ (n : ℕ). Some n) stands.admitted
 start-stands book s (After time) stands =
-    ap (λ (n : ℕ). Some n) (ap (λ (ks : List Kept). making.number_or_end book (find (kept_products.is_later time) ks)) stands.rows ∙ ap (making.number_or_end book) (find-map kept (kept_products.is_later time) (queued s)) ∙ end-stands book s (find (is_later time) (queued s)) stands)
+    ap (λ (n : ℕ). Some n) (ap (λ (ks : List Kept). making.number_or_end book (find (kept_products.is_later time) ks)) stands.rows
+    ∙ ap (making.number_or_end book) (find-map kept (kept_products.is_later time) (queued s)) ∙ end-stands book s (find (is_later time) (queued s)) stands)
 start-stands book s (AfterSignature signature) stands =
     ap (λ (ks : List Kept). option_map making.number_behind (kept_with signature.0 ks)) stands.rows
     ∙ ap (option_map making.number_behind) (sym (queued_with-kept signature.0 (queued s)))
@@ -47,7 +50,8 @@ module _ (book : BookView) (s : State) (stands : StandsFor book s) (actor feed :
       let none : least_empty s.cursors ≡ None = sym (ap (λ (cs : Places). kept_places.least_empty cs) stands.cursors ∙ least-kept s.cursors) ∙ full in
       subst (λ (o : Option ℕ). Follows reply.AllBusy book (open_at s actor feed start o)) (sym none) (record { reply = refl; state = stands })
 
-  at_place : (r : Reply) (new : BookView) (k : ℕ) → kept_places.least_empty book.cursors ≡ Some k → Follows r new (open_from s actor feed k (open_position s start)) → Follows r new (open_cursor s actor feed start)
+  at_place : (r : Reply) (new : BookView) (k : ℕ) → kept_places.least_empty book.cursors ≡ Some k → Follows r new (open_from s actor feed k (open_position s start))
+      → Follows r new (open_cursor s actor feed start)
   unfolding open_cursor
   at_place r new k least follows =
       let some : least_empty s.cursors ≡ Some k = sym (ap (λ (cs : Places). kept_places.least_empty cs) stands.cursors ∙ least-kept s.cursors) ∙ least in
@@ -55,7 +59,8 @@ module _ (book : BookView) (s : State) (stands : StandsFor book s) (actor feed :
 
   pub not_queued : (k : ℕ) → kept_places.least_empty book.cursors ≡ Some k → making.start_at book start ≡ None → Follows reply.NotQueued book (open_cursor s actor feed start)
   not_queued k least none =
-      at_place reply.NotQueued book k least (subst (λ (o : Option ℕ). Follows reply.NotQueued book (open_from s actor feed k o)) (sym (sym (start-stands book s start stands) ∙ none)) (record { reply = refl; state = stands }))
+      at_place reply.NotQueued book k least (subst (λ (o : Option ℕ). Follows reply.NotQueued book (open_from s actor feed k o)) (sym (sym (start-stands book s start stands) ∙ none))
+      (record { reply = refl; state = stands }))
 
   pub opened : (k at : ℕ) → kept_places.least_empty book.cursors ≡ Some k → making.start_at book start ≡ Some at
       → Follows (reply.Opened k) (with_cursors book (kept_places.with_cursor book.cursors k (kept_places.new_cursor actor feed at))) (open_cursor s actor feed start)

@@ -38,7 +38,8 @@ module _ (v : KeptReservation) where
   length-reserve (None ∷ rs) (suc r) none inside = length-reserve rs r none (omega arith)
   length-reserve (Some o ∷ rs) (suc r) none inside = ap suc (length-reserve rs r none (omega arith))
 
-  pub extents-reserve : (rs : Reservations) (r : ℕ) → reservation_at rs r ≡ None → r < length rs → extents (map reserved_region (open_kept (set rs r (Some v)))) ≡ extents (map reserved_region (open_kept rs)) + kept_extent v.product
+  pub extents-reserve : (rs : Reservations) (r : ℕ) → reservation_at rs r ≡ None → r < length rs
+      → extents (map reserved_region (open_kept (set rs r (Some v)))) ≡ extents (map reserved_region (open_kept rs)) + kept_extent v.product
   extents-reserve [] r none inside = absurd (omega arith)
   extents-reserve (None ∷ rs) zero none inside = omega arith
   extents-reserve (Some o ∷ rs) zero none inside = absurd cc
@@ -53,7 +54,8 @@ module _ (v : KeptReservation) where
   length-ended (None ∷ rs) (suc r) at = length-ended rs r at
   length-ended (Some o ∷ rs) (suc r) at = ap suc (length-ended rs r at)
 
-  pub extents-ended : (rs : Reservations) (r : ℕ) → reservation_at rs r ≡ Some v → extents (map reserved_region (open_kept rs)) ≡ extents (map reserved_region (open_kept (set rs r None))) + kept_extent v.product
+  pub extents-ended : (rs : Reservations) (r : ℕ) → reservation_at rs r ≡ Some v
+      → extents (map reserved_region (open_kept rs)) ≡ extents (map reserved_region (open_kept (set rs r None))) + kept_extent v.product
   extents-ended [] r at = absurd cc
   extents-ended (None ∷ rs) zero at = absurd cc
   extents-ended (Some o ∷ rs) zero at =
@@ -64,7 +66,8 @@ module _ (v : KeptReservation) where
   extents-ended (Some o ∷ rs) (suc r) at = omega (arith, extents-ended rs r at)
 
   -- what was filled in changes no region
-  pub regions-filled : (rs : Reservations) (r filled : ℕ) → reservation_at rs r ≡ Some v → map reserved_region (open_kept (set rs r (Some (record v { filled = filled })))) ≡ map reserved_region (open_kept rs)
+  pub regions-filled : (rs : Reservations) (r filled : ℕ) → reservation_at rs r ≡ Some v
+      → map reserved_region (open_kept (set rs r (Some (record v { filled = filled })))) ≡ map reserved_region (open_kept rs)
   regions-filled [] r filled at = absurd cc
   regions-filled (None ∷ rs) zero filled at = absurd cc
   regions-filled (Some o ∷ rs) zero filled at =
@@ -108,7 +111,8 @@ none-map (Some place) = refl
 
 -- whether a place is empty, as it is read
 pub none_read : (items : List (Option Place)) (r : ℕ) (place : Option Place) → r < length items → place ≡ get_or items r place → is_none (place_at (kept_places items) r) ≡ is_none place
-none_read items r place inside read = ap is_none (get_or-map (option_map kept_place) items r place None inside) ∙ ap (λ (o : Option Place). is_none (option_map kept_place o)) (sym read) ∙ none-map place
+none_read items r place inside read =
+    ap is_none (get_or-map (option_map kept_place) items r place None inside) ∙ ap (λ (o : Option Place). is_none (option_map kept_place o)) (sym read) ∙ none-map place
 
 -- the least empty place is the one that contracts see
 pub least-empty : (places : KeptPlaces) → least_empty places ≡ position is_none (reservations_of places)

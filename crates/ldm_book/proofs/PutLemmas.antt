@@ -1,5 +1,6 @@
 -- One more product: the slots with its row, and the entries with its own.
-use Rattle.std.proofs.Common.{◌≡◌, ◌≢◌, ℕ, suc, ◌+◌, ◌*◌, ◌<◌, ◌≤◌, inl, inr, ⊎_elim, cond, List, [], ◌∷◌, ◌++◌, length, map, set, Option, Some, None, refl, sym, ap, subst, ◌∙◌, arith, get_or-set_other, get_or-set_same}
+use Rattle.std.proofs.Common.{◌≡◌, ◌≢◌, ℕ, suc, ◌+◌, ◌*◌, ◌<◌, ◌≤◌, inl, inr, ⊎_elim, cond, List, [], ◌∷◌, ◌++◌, length, map}
+use Rattle.std.proofs.Common.{set, Option, Some, None, refl, sym, ap, subst, ◌∙◌, arith, get_or-set_other, get_or-set_same}
 use Rattle.std.specs.Cmp.{nat_cmp_total, eq_by_cmp_equiv}
 use Rattle.std.specs.FinMap as fin
 use Rattle.std.specs.List.{AllByRecursion}
@@ -104,7 +105,8 @@ module _ (p : Inside) (kept : IsSlotted p) where
       let rest = extents-within entries at.1 in
       let within = kept.tiles.within entry.slot (kept_region at.0.0) (kept.owned entry.slot ∙ ap (option_map kept_region) at.0.1) in
       let extent = ap (λ (held : Option Kept). kept_extent (kept_or_none held)) at.0.1 in
-      bounded (kept_extent (kept_or_none (row_at (all_taken p) entry.slot))) (kept_extent at.0.0) at.0.0.place (extents (map kept_region (kept_entries (all_taken p) entries))) (length entries) p.regions.arena extent within kept.small rest
+      bounded (kept_extent (kept_or_none (row_at (all_taken p) entry.slot))) (kept_extent at.0.0) at.0.0.place (extents (map kept_region (kept_entries (all_taken p) entries)))
+      (length entries) p.regions.arena extent within kept.small rest
     where
       bounded : (one extent place rest count arena : ℕ) → one ≡ extent → place + extent ≤ arena → arena ≤ LARGEST_ARENA → rest ≤ count * LARGEST_ARENA → one + rest ≤ suc count * LARGEST_ARENA
       bounded one extent place rest count arena same within small below = omega arith
@@ -118,7 +120,8 @@ module _ (p : Inside) (kept : IsSlotted p) where
   -- the sum of the extents is at most the greatest arena for each slot that is taken
   pub used-within : p.used ≤ (length p.by_number.entries + length (open_kept (reservations_of p.reserved))) * LARGEST_ARENA
   used-within =
-      let count : length (all_entries p) ≡ length p.by_number.entries + length (open_kept (reservations_of p.reserved)) = omega (arith, length-append p.by_number.entries (place_entries p.reserved), length-places p.reserved) in
+      let count : length (all_entries p) ≡ length p.by_number.entries + length (open_kept (reservations_of p.reserved)) =
+      omega (arith, length-append p.by_number.entries (place_entries p.reserved), length-places p.reserved) in
       let all = extents-within (all_entries p) (all-at p kept) in
       let used : p.used ≡ extents (map kept_region (kept_entries (all_taken p) (all_entries p))) = kept.used ∙ ap extents (sym (all-regions p kept)) in
       subst (λ (n : ℕ). p.used ≤ n * LARGEST_ARENA) count (omega (arith, used, all))

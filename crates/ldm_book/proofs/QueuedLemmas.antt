@@ -24,7 +24,8 @@ add_queued-append n row (Some at) behind more = refl
 pub queued_from-append : (n : ℕ) (xs ys : List Row) → queued_from n (xs ++ ys) ≡ queued_from n xs ++ queued_from (n + length xs) ys
 queued_from-append n [] ys = rw add-zero refl
 queued_from-append n (x ∷ xs) ys =
-    let rest : queued_from (n + 1) (xs ++ ys) ≡ queued_from (n + 1) xs ++ queued_from (n + suc (length xs)) ys = queued_from-append (n + 1) xs ys ∙ ap (λ (k : ℕ). queued_from (n + 1) xs ++ queued_from k ys) (omega arith) in
+    let rest : queued_from (n + 1) (xs ++ ys) ≡ queued_from (n + 1) xs ++ queued_from (n + suc (length xs)) ys =
+    queued_from-append (n + 1) xs ys ∙ ap (λ (k : ℕ). queued_from (n + 1) xs ++ queued_from k ys) (omega arith) in
     ap (add_queued n x x.place) rest ∙ add_queued-append n x x.place (queued_from (n + 1) xs) (queued_from (n + suc (length xs)) ys)
 
 -- a look-up among what is kept
@@ -78,7 +79,8 @@ filter_above : (n m : ℕ) (rows : List Row) → n < m → filter (other_number 
 filter_above n m [] h = refl
 filter_above n m (row ∷ rows) h = by_place (filter_above n (m + 1) rows (omega arith)) row.place
   where
-    by_place : filter (other_number n) (queued_from (m + 1) rows) ≡ queued_from (m + 1) rows → (place : Option ℕ) → filter (other_number n) (add_queued m row place (queued_from (m + 1) rows)) ≡ add_queued m row place (queued_from (m + 1) rows)
+    by_place : filter (other_number n) (queued_from (m + 1) rows) ≡ queued_from (m + 1) rows → (place : Option ℕ)
+        → filter (other_number n) (add_queued m row place (queued_from (m + 1) rows)) ≡ add_queued m row place (queued_from (m + 1) rows)
     by_place rest None = rest
     by_place rest (Some at) =
         let q : Queued = record { number = m; product = row.product; time = row.time; place = at } in
@@ -100,12 +102,14 @@ queued-without (suc i) m (row ∷ rows) =
     let number : m + 1 + i ≡ m + suc i = omega arith in
     by_place (queued-without i (m + 1) rows ∙ ap (λ (n : ℕ). filter (other_number n) (queued_from (m + 1) rows)) number) row.place
   where
-    by_place : queued_from (m + 1) (without_place rows i) ≡ filter (other_number (m + suc i)) (queued_from (m + 1) rows) → (place : Option ℕ) → add_queued m row place (queued_from (m + 1) (without_place rows i)) ≡ filter (other_number (m + suc i)) (add_queued m row place (queued_from (m + 1) rows))
+    by_place : queued_from (m + 1) (without_place rows i) ≡ filter (other_number (m + suc i)) (queued_from (m + 1) rows) → (place : Option ℕ)
+        → add_queued m row place (queued_from (m + 1) (without_place rows i)) ≡ filter (other_number (m + suc i)) (add_queued m row place (queued_from (m + 1) rows))
     by_place rest None = rest
     by_place rest (Some at) =
         let q : Queued = record { number = m; product = row.product; time = row.time; place = at } in
         ap (λ (qs : List Queued). q ∷ qs) rest
-        ∙ sym (ap (λ (b : Bool). cond (not b) (q ∷ filter (other_number (m + suc i)) (queued_from (m + 1) rows)) (filter (other_number (m + suc i)) (queued_from (m + 1) rows))) (ne_eqb m (m + suc i) (λ e. omega (arith, e))))
+        ∙ sym (ap (λ (b : Bool). cond (not b) (q ∷ filter (other_number (m + suc i)) (queued_from (m + 1) rows)) (filter (other_number (m + suc i)) (queued_from (m + 1) rows)))
+        (ne_eqb m (m + suc i) (λ e. omega (arith, e))))
 
 -- the present row of a number: the first of at least that number
 pub record IsPresent (n m : ℕ) (rows : List Row) : Type 0 where

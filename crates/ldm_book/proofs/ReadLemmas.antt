@@ -25,9 +25,11 @@ module _ (book : BookView) (s : State) (stands : StandsFor book s) (actor k offs
   pub read-none : cursor_of s actor k ≡ None → Follows reply.NoCursor book (read s actor k offset len)
   unfolding read
   read-none none =
-      subst (λ (o : Option Cursor). Follows reply.NoCursor book (on_cursor s o (λ cursor. on_held s cursor.held (λ n. read_row s (slice_get s.rows n) offset len)))) (sym none) (record { reply = refl; state = stands })
+      subst (λ (o : Option Cursor). Follows reply.NoCursor book (on_cursor s o (λ cursor. on_held s cursor.held (λ n. read_row s (slice_get s.rows n) offset len)))) (sym none)
+      (record { reply = refl; state = stands })
 
-  by_held : (r : Reply) (is : IsCursor book s actor k) (o : Option ℕ) → is.cursor.held ≡ o → Follows r book (on_held s o (λ n. read_row s (slice_get s.rows n) offset len)) → Follows r book (read s actor k offset len)
+  by_held : (r : Reply) (is : IsCursor book s actor k) (o : Option ℕ) → is.cursor.held ≡ o → Follows r book (on_held s o (λ n. read_row s (slice_get s.rows n) offset len))
+      → Follows r book (read s actor k offset len)
   unfolding read
   by_held r is o same follows =
       subst (λ (p : Option Cursor). Follows r book (on_cursor s p (λ cursor. on_held s cursor.held (λ n. read_row s (slice_get s.rows n) offset len)))) (sym is.own)
@@ -49,32 +51,38 @@ module _ (book : BookView) (s : State) (stands : StandsFor book s) (actor k offs
       e ∙ ap (λ (ks : List Kept). find (at_number n) ks) stands.rows ∙ find-map kept (at_number n) (queued s) ∙ ap (option_map kept) (row_at n there).found in
       cc
 
-  by_row : (r : Reply) (is : IsCursor book s actor k) (n : ℕ) (there : list_any (has_number n) book.rows ≡ true) → is.cursor.held ≡ Some n → Follows r book (read_row s (Some (row_at n there).row) offset len) → Follows r book (read s actor k offset len)
+  by_row : (r : Reply) (is : IsCursor book s actor k) (n : ℕ) (there : list_any (has_number n) book.rows ≡ true) → is.cursor.held ≡ Some n
+      → Follows r book (read_row s (Some (row_at n there).row) offset len) → Follows r book (read s actor k offset len)
   by_row r is n there held follows =
       let at = row_at n there in
       let index : at.index ≡ n = omega (arith, at.number) in
       by_held r is (Some n) held (subst (λ (o : Option Row). Follows r book (read_row s o offset len)) (sym (ap (λ (i : ℕ). slice_get s.rows i) (sym index) ∙ at.at)) follows)
 
-  pub read-bad : (is : IsCursor book s actor k) (n : ℕ) (there : list_any (has_number n) book.rows ≡ true) (found : Kept) → is.cursor.held ≡ Some n → Some found ≡ find (at_number n) book.rows → found.size < offset → Follows (reply.BadOffset found.size) book (read s actor k offset len)
+  pub read-bad : (is : IsCursor book s actor k) (n : ℕ) (there : list_any (has_number n) book.rows ≡ true) (found : Kept) → is.cursor.held ≡ Some n → Some found ≡ find (at_number n) book.rows
+      → found.size < offset → Follows (reply.BadOffset found.size) book (read s actor k offset len)
   read-bad is n there found held e bad =
       let at = row_at n there in
       let size : found.size ≡ at.row.product.info.size = ap (λ (x : Kept). x.size) (same_found n there found e) in
       by_row (reply.BadOffset found.size) is n there held
       (subst (λ (o : Outcome). Follows (reply.BadOffset found.size) book o)
-      (sym (ap (λ (b : Bool). cond b (unchanged s (reply.BadOffset at.row.product.info.size)) (unchanged s (reply.Bytes (part_of at.row.product offset len)))) (lt-ltb at.row.product.info.size offset (omega arith))))
+      (sym (ap (λ (b : Bool). cond b (unchanged s (reply.BadOffset at.row.product.info.size)) (unchanged s (reply.Bytes (part_of at.row.product offset len))))
+      (lt-ltb at.row.product.info.size offset (omega arith))))
       (record { reply = ap reply.BadOffset size; state = stands }))
 
-  pub read-bytes : (is : IsCursor book s actor k) (n : ℕ) (there : list_any (has_number n) book.rows ≡ true) (found : Kept) → is.cursor.held ≡ Some n → Some found ≡ find (at_number n) book.rows → offset ≤ found.size
+  pub read-bytes : (is : IsCursor book s actor k) (n : ℕ) (there : list_any (has_number n) book.rows ≡ true) (found : Kept) → is.cursor.held ≡ Some n → Some found ≡ find (at_number n) book.rows
+      → offset ≤ found.size
       → (part : List ℕ) → part ≡ take (min len (found.size - offset)) (drop offset (body_of book.bytes found)) → Follows (reply.Bytes part) book (read s actor k offset len)
   read-bytes is n there found held e good part part-is =
       let at = row_at n there in
       let same = same_found n there found e in
       let size : found.size ≡ at.row.product.info.size = ap (λ (x : Kept). x.size) same in
-      let body : body_of book.bytes found ≡ at.row.product.body = ap (body_of book.bytes) same ∙ body_stands book.bytes (the_row n at) (found_of (IsStored book.bytes) (λ (q : Queued). at_number n (kept q)) (queued s) (the_row n at) stands.stored at.found) in
+      let body : body_of book.bytes found ≡ at.row.product.body =
+      ap (body_of book.bytes) same ∙ body_stands book.bytes (the_row n at) (found_of (IsStored book.bytes) (λ (q : Queued). at_number n (kept q)) (queued s) (the_row n at) stands.stored at.found) in
       let bytes : part ≡ part_of at.row.product offset len = part-is ∙ (λ i. take (min len (size i - offset)) (drop offset (body i))) in
       by_row (reply.Bytes part) is n there held
       (subst (λ (o : Outcome). Follows (reply.Bytes part) book o)
-      (sym (ap (λ (b : Bool). cond b (unchanged s (reply.BadOffset at.row.product.info.size)) (unchanged s (reply.Bytes (part_of at.row.product offset len)))) (le-ltb at.row.product.info.size offset (omega arith))))
+      (sym (ap (λ (b : Bool). cond b (unchanged s (reply.BadOffset at.row.product.info.size)) (unchanged s (reply.Bytes (part_of at.row.product offset len))))
+      (le-ltb at.row.product.info.size offset (omega arith))))
       (record { reply = ap reply.Bytes bytes; state = stands }))
 
 -- a part of a part

@@ -1,5 +1,6 @@
 -- What is always true of the cursors, after each change of them or of the products.
-use Rattle.std.proofs.Common.{◌≡◌, ℕ, zero, suc, ◌+◌, ◌^◌, ◌<◌, ◌≤◌, ◌||◌, Bool, true, false, cond, not, List, [], ◌∷◌, ◌++◌, length, map, set, Option, Some, None, refl, sym, ap, subst, ◌∙◌, inl, inr, arith}
+use Rattle.std.proofs.Common.{◌≡◌, ℕ, zero, suc, ◌+◌, ◌^◌, ◌<◌, ◌≤◌, ◌||◌, Bool, true, false, cond, not, List, [], ◌∷◌, ◌++◌, length}
+use Rattle.std.proofs.Common.{map, set, Option, Some, None, refl, sym, ap, subst, ◌∙◌, inl, inr, arith}
 use Rattle.std.specs.Prelude.{◌==◌, ◌&&◌, nat_le, filter}
 use Rattle.std.specs.List.{All, AllByRecursion, Any, find, list_any}
 use Rattle.std.specs.Option.{IfSome, option_map}
@@ -36,7 +37,9 @@ all_of P (c ∷ cs) all (suc k) d inside = all_of P cs all.1 k d (omega arith)
 
 -- counts stay small
 pub reading-counts : (a : ℕ) (rows : List Kept) (cs : Places) → a < 2 ^ 63 → AreReading a rows cs → CountsBelow (2 ^ 63) cs
-reading-counts a rows cs small all = all_of (λ (place : Option KeptCursor). IfSome place (HasCountsBelow (2 ^ 63))) cs (each (IsPlaceReading a rows) (λ (place : Option KeptCursor). IfSome place (HasCountsBelow (2 ^ 63))) cs below all)
+reading-counts a rows cs small all =
+    all_of (λ (place : Option KeptCursor). IfSome place (HasCountsBelow (2 ^ 63))) cs
+    (each (IsPlaceReading a rows) (λ (place : Option KeptCursor). IfSome place (HasCountsBelow (2 ^ 63))) cs below all)
   where
     fewer : (o : Option Losses) (lost : ℕ) → lost ≤ a → IfSome o (λ (l : Losses). l.count ≤ lost) → IfSome o (λ (l : Losses). l.count < 2 ^ 63)
     fewer None lost h few = tt
@@ -55,7 +58,8 @@ any_push : (m : ℕ) (rows : List Kept) (new : Kept) → list_any (has_number m)
 any_push m [] new h = absurd (false≢true h)
 any_push m (k ∷ ks) new h = by_test (k.number == m) (any_push m ks new) h
   where
-    by_test : (b : Bool) → (list_any (has_number m) ks ≡ true → list_any (has_number m) (ks ++ new ∷ []) ≡ true) → (b || list_any (has_number m) ks) ≡ true → (b || list_any (has_number m) (ks ++ new ∷ [])) ≡ true
+    by_test : (b : Bool) → (list_any (has_number m) ks ≡ true → list_any (has_number m) (ks ++ new ∷ []) ≡ true) → (b || list_any (has_number m) ks) ≡ true
+        → (b || list_any (has_number m) (ks ++ new ∷ [])) ≡ true
     by_test true rest h = refl
     by_test false rest h = rest h
 
@@ -89,7 +93,8 @@ fewer_left n (k ∷ ks) h = by_test (k.number == n) (fewer_left n ks) (at_most k
         keep true rest = omega arith
         keep false rest = omega arith
 
-    by_test : (b : Bool) → (list_any (has_number n) ks ≡ true → suc (length (filter (is_other n) ks)) ≤ length ks) → length (filter (is_other n) ks) ≤ length ks → (b || list_any (has_number n) ks) ≡ true
+    by_test : (b : Bool) → (list_any (has_number n) ks ≡ true → suc (length (filter (is_other n) ks)) ≤ length ks) → length (filter (is_other n) ks) ≤ length ks
+        → (b || list_any (has_number n) ks) ≡ true
         → suc (length (cond (not b) (k ∷ filter (is_other n) ks) (filter (is_other n) ks))) ≤ length (k ∷ ks)
     by_test true rest most h = omega arith
     by_test false rest most h = let less = rest h in omega arith
@@ -107,12 +112,14 @@ any_left n m (k ∷ ks) apart h = elim (cases_eq k.number n) [
       ∙ by_test (k.number == m) (any_left n m ks apart) h
 ]
   where
-    by_test : (b : Bool) → (list_any (has_number m) ks ≡ true → list_any (has_number m) (filter (is_other n) ks) ≡ true) → (b || list_any (has_number m) ks) ≡ true → (b || list_any (has_number m) (filter (is_other n) ks)) ≡ true
+    by_test : (b : Bool) → (list_any (has_number m) ks ≡ true → list_any (has_number m) (filter (is_other n) ks) ≡ true) → (b || list_any (has_number m) ks) ≡ true
+        → (b || list_any (has_number m) (filter (is_other n) ks)) ≡ true
     by_test true rest h = refl
     by_test false rest h = rest h
 
 module _ (a n feed : ℕ) (rows : List Kept) (there : list_any (has_number n) rows ≡ true) where
-  held_still : (o : Option ℕ) (c : KeptCursor) → c.held ≡ o → holds n (Some c) ≡ false → IfSome o (λ m. list_any (has_number m) rows ≡ true) → IfSome o (λ m. list_any (has_number m) (filter (is_other n) rows) ≡ true)
+  held_still : (o : Option ℕ) (c : KeptCursor) → c.held ≡ o → holds n (Some c) ≡ false → IfSome o (λ m. list_any (has_number m) rows ≡ true)
+      → IfSome o (λ m. list_any (has_number m) (filter (is_other n) rows) ≡ true)
   held_still None c is free h = tt
   held_still (Some m) c is free h =
       any_left n m rows (λ same. true≢false (sym (eq-eqb m n (sym same)) ∙ number is free)) h
@@ -173,7 +180,8 @@ found_any n (k ∷ ks) there none = elim (cases_lt k.number n) [
 ]
 
 -- a cursor holds a product
-pub reading-hold : (a : ℕ) (rows : List Kept) (cs : Places) (k n : ℕ) (x : KeptCursor) → AreReading a rows cs → cursor_at cs k ≡ Some x → x.position ≤ n → n < a → list_any (has_number n) rows ≡ true → AreReading a rows (with_change cs k (after_hold n))
+pub reading-hold : (a : ℕ) (rows : List Kept) (cs : Places) (k n : ℕ) (x : KeptCursor) → AreReading a rows cs → cursor_at cs k ≡ Some x → x.position ≤ n → n < a → list_any (has_number n) rows ≡ true
+    → AreReading a rows (with_change cs k (after_hold n))
 reading-hold a rows cs k n x all at reached below there =
     let reading = reading-at a rows cs k x all at in
     reading-set a rows cs k (option_map (after_hold n) (cursor_at cs k)) all

@@ -32,18 +32,21 @@ pub seen_place : (places : KeptPlaces) (r : ℕ) (q : KeptPlace) → Some q ≡ 
 seen_place places r q at = reservation-at places r ∙ ap (option_map reservation_of) (sym at)
 
 -- what a place has is what contracts see there
-pub same_place : (p : KeptPlaces) (view : ProductsView) (r : ℕ) (q : KeptPlace) (v : KeptReservation) → reservations_of p ≡ view.reservations → Some q ≡ place_at p r → reservation_at view.reservations r ≡ Some v → reservation_of q ≡ v
+pub same_place : (p : KeptPlaces) (view : ProductsView) (r : ℕ) (q : KeptPlace) (v : KeptReservation) → reservations_of p ≡ view.reservations → Some q ≡ place_at p r
+    → reservation_at view.reservations r ≡ Some v → reservation_of q ≡ v
 same_place p view r q v is at there =
     let both : Some (reservation_of q) ≡ Some v = sym (seen_place p r q at) ∙ ap (λ (rs : Reservations). reservation_at rs r) is ∙ there in
     cc
 
 -- the extents with one region more, and with one less
-pub used-reserve : (rows : List Kept) (rs : Reservations) (r : ℕ) (v : KeptReservation) → reservation_at rs r ≡ None → r < length rs → extents (occupied_by rows (set rs r (Some v))) ≡ extents (occupied_by rows rs) + kept_extent v.product
+pub used-reserve : (rows : List Kept) (rs : Reservations) (r : ℕ) (v : KeptReservation) → reservation_at rs r ≡ None → r < length rs
+    → extents (occupied_by rows (set rs r (Some v))) ≡ extents (occupied_by rows rs) + kept_extent v.product
 used-reserve rows rs r v none inside =
     let front = map kept_region rows in
     omega (arith, extents-append front (map reserved_region (open_kept rs)), extents-append front (map reserved_region (open_kept (set rs r (Some v)))), extents-reserve v rs r none inside)
 
-pub used-ended : (rows : List Kept) (rs : Reservations) (r : ℕ) (v : KeptReservation) → reservation_at rs r ≡ Some v → extents (occupied_by rows rs) ≡ extents (occupied_by rows (set rs r None)) + kept_extent v.product
+pub used-ended : (rows : List Kept) (rs : Reservations) (r : ℕ) (v : KeptReservation) → reservation_at rs r ≡ Some v
+    → extents (occupied_by rows rs) ≡ extents (occupied_by rows (set rs r None)) + kept_extent v.product
 used-ended rows rs r v at =
     let front = map kept_region rows in
     omega (arith, extents-append front (map reserved_region (open_kept rs)), extents-append front (map reserved_region (open_kept (set rs r None))), extents-ended v rs r at)
@@ -68,7 +71,8 @@ module _ (slots : Slots) (places : KeptPlaces) (r : ℕ) (q : KeptPlace) (own : 
   own-committed = own-set slots (set places r None) q.slot (Some row) (avoid_others slots q places r own at) (own-ended slots q places r own at)
 
   -- it owns the same region
-  pub owned-committed : (owned : Owned) → q.slot < length taken → kept_region row ≡ kept_region q.product → ((k : ℕ) → fin.get owned k ≡ option_map kept_region (row_at taken k)) → (k : ℕ) → fin.get owned k ≡ option_map kept_region (row_at (set taken q.slot (Some row)) k)
+  pub owned-committed : (owned : Owned) → q.slot < length taken → kept_region row ≡ kept_region q.product → ((k : ℕ) → fin.get owned k ≡ option_map kept_region (row_at taken k)) → (k : ℕ)
+      → fin.get owned k ≡ option_map kept_region (row_at (set taken q.slot (Some row)) k)
   owned-committed owned inside same is k = is k ∙ elim (cases_eq k q.slot) [
     | inl here ↦
         ap (λ (j : ℕ). option_map kept_region (row_at taken j)) here ∙ ap (option_map kept_region) (place_taken slots q places r own at)

@@ -1,5 +1,6 @@
 -- What the queue does at the calls on reservations, by what the book keeps.
-use Rattle.std.proofs.Common.{◌≡◌, ℕ, zero, suc, ◌+◌, ◌-◌, ◌<◌, ◌≤◌, Bool, true, false, cond, ltb, List, [], ◌∷◌, ◌++◌, length, map, set, Option, Some, None, refl, sym, ap, subst, ◌∙◌, inl, inr, get_or-set_other, arith}
+use Rattle.std.proofs.Common.{◌≡◌, ℕ, zero, suc, ◌+◌, ◌-◌, ◌<◌, ◌≤◌, Bool, true, false, cond, ltb, List, [], ◌∷◌, ◌++◌, length, map}
+use Rattle.std.proofs.Common.{set, Option, Some, None, refl, sym, ap, subst, ◌∙◌, inl, inr, get_or-set_other, arith}
 use Rattle.std.specs.Prelude.{◌==◌, slice_index_or}
 use Rattle.std.specs.List.{between}
 use Rattle.std.specs.Option.{option_map}
@@ -45,7 +46,8 @@ owner-kept actor (Some v) = by_test (v.actor == actor)
     by_test false = refl
 
 -- the actor's reservation at a place
-pub own-stands : (book : BookView) (s : State) (actor r : ℕ) → StandsFor book s → if_reserved_by actor (reservation_at book.reservations r) ≡ option_map kept_reservation (model.reservation_of s actor r)
+pub own-stands : (book : BookView) (s : State) (actor r : ℕ) → StandsFor book s
+    → if_reserved_by actor (reservation_at book.reservations r) ≡ option_map kept_reservation (model.reservation_of s actor r)
 own-stands book s actor r stands =
     ap (λ (rs : Reservations). if_reserved_by actor (reservation_at rs r)) stands.reservations ∙ ap (if_reserved_by actor) (at-kept s.reservations r)
     ∙ owner-kept actor (slice_index_or s.reservations r None)
@@ -87,10 +89,12 @@ at_own actor (Some x) v e = by_test (x.actor == actor) e
     by_test true e = sym e
     by_test false e = absurd cc
 
-pub no_reservation : (book : BookView) (s : State) (o : Option Reservation) (act : Reservation → Outcome) → o ≡ None → StandsFor book s → Follows reply.NoReservation book (model.on_reservation s o act)
+pub no_reservation : (book : BookView) (s : State) (o : Option Reservation) (act : Reservation → Outcome) → o ≡ None → StandsFor book s
+    → Follows reply.NoReservation book (model.on_reservation s o act)
 no_reservation book s o act none stands = subst (λ (p : Option Reservation). Follows reply.NoReservation book (model.on_reservation s p act)) (sym none) (record { reply = refl; state = stands })
 
-pub known : (r : Reply) (book : BookView) (s : State) (o : Option Reservation) (act : Reservation → Outcome) (v : Reservation) → o ≡ Some v → Follows r book (act v) → Follows r book (model.on_reservation s o act)
+pub known : (r : Reply) (book : BookView) (s : State) (o : Option Reservation) (act : Reservation → Outcome) (v : Reservation) → o ≡ Some v → Follows r book (act v)
+    → Follows r book (model.on_reservation s o act)
 known r book s o act v some follows = subst (λ (p : Option Reservation). Follows r book (model.on_reservation s p act)) (sym some) follows
 
 -- what is left of its body
@@ -125,7 +129,8 @@ module _ (book : BookView) (s : State) (stands : StandsFor book s) (actor r : �
   unfolding discard
   discard-some v own =
       let is = is_own book s actor r v stands own in
-      known reply.Discarded (reserving book r None) s (model.reservation_of s actor r) (λ reservation. record { reply = reply.Discarded; state = model.with_reservation s r None }) is.reservation is.own
+      known reply.Discarded (reserving book r None) s (model.reservation_of s actor r)
+      (λ reservation. record { reply = reply.Discarded; state = model.with_reservation s r None }) is.reservation is.own
       (record { reply = refl; state = StandsFor-ended book s r stands })
 
   -- committing one
@@ -134,11 +139,13 @@ module _ (book : BookView) (s : State) (stands : StandsFor book s) (actor r : �
     unfolding commit
     commit-none none = no_reservation book s (model.reservation_of s actor r) (commit_open s r now) (no_own none) stands
 
-    open_own : (answer : Reply) (new : BookView) (is : (v : KeptReservation) × (IsOwn s actor r v)) → Follows answer new (commit_open s r now is.1.reservation) → Follows answer new (commit s actor r now)
+    open_own : (answer : Reply) (new : BookView) (is : (v : KeptReservation) × (IsOwn s actor r v)) → Follows answer new (commit_open s r now is.1.reservation)
+        → Follows answer new (commit s actor r now)
     unfolding commit
     open_own answer new is follows = known answer new s (model.reservation_of s actor r) (commit_open s r now) is.1.reservation is.1.own follows
 
-    pub commit-unfilled : (v : KeptReservation) → Some v ≡ if_reserved_by actor (reservation_at book.reservations r) → 0 < v.product.size - v.filled → Follows (reply.Unfilled (v.product.size - v.filled)) book (commit s actor r now)
+    pub commit-unfilled : (v : KeptReservation) → Some v ≡ if_reserved_by actor (reservation_at book.reservations r) → 0 < v.product.size - v.filled
+        → Follows (reply.Unfilled (v.product.size - v.filled)) book (commit s actor r now)
     commit-unfilled v own some =
         let is = is_own book s actor r v stands own in
         let left = left-of s actor r v is in
@@ -160,7 +167,8 @@ module _ (book : BookView) (s : State) (stands : StandsFor book s) (actor r : �
       signature : x.info.signature ≡ v.product.signature
       signature = ap (λ (k : KeptReservation). k.product.signature) is.kept
 
-      whole_open : (answer : Reply) (new : BookView) (o : Option Queued) → queued_with x.info.signature (queued s) ≡ o → Follows answer new (commit_whole (model.with_reservation s r None) now x o) → Follows answer new (commit s actor r now)
+      whole_open : (answer : Reply) (new : BookView) (o : Option Queued) → queued_with x.info.signature (queued s) ≡ o → Follows answer new (commit_whole (model.with_reservation s r None) now x o)
+          → Follows answer new (commit s actor r now)
       whole_open answer new o found follows =
           let left = left-of s actor r v is in
           let test : ltb 0 (model.left_of x) ≡ false = le-ltb 0 (model.left_of x) (omega (arith, left, whole)) in
@@ -179,7 +187,8 @@ module _ (book : BookView) (s : State) (stands : StandsFor book s) (actor r : �
           whole_open (reply.Duplicate n) (reserving book r None) (Some q.0) q.1
           (record { reply = ap reply.Duplicate (sym q.2); state = StandsFor-ended book s r stands })
 
-      new_open : (answer : Reply) (new : BookView) → look_kept (kept_with v.product.signature book.rows) ≡ reply.Absent → Follows answer new (commit_new (model.with_reservation s r None) now x) → Follows answer new (commit s actor r now)
+      new_open : (answer : Reply) (new : BookView) → look_kept (kept_with v.product.signature book.rows) ≡ reply.Absent → Follows answer new (commit_new (model.with_reservation s r None) now x)
+          → Follows answer new (commit s actor r now)
       new_open answer new absent follows =
           whole_open answer new None (none_from_absent (queued_with x.info.signature (queued s)) (look-from_kept x.info.signature (queued s) ∙ sym look-stands ∙ absent)) follows
 

@@ -1,5 +1,6 @@
 -- Room for a product: evictions never take it away, and the last of them leave the held products.
-use Rattle.std.proofs.Common.{◌≡◌, ℕ, zero, suc, ◌+◌, ◌<◌, ◌≤◌, ◌||◌, Bool, true, false, cond, not, List, [], ◌∷◌, ◌++◌, length, map, take, drop, Option, Some, None, refl, sym, ap, subst, ◌∙◌, inl, inr, arith}
+use Rattle.std.proofs.Common.{◌≡◌, ℕ, zero, suc, ◌+◌, ◌<◌, ◌≤◌, ◌||◌, Bool, true, false, cond, not, List, [], ◌∷◌, ◌++◌, length, map}
+use Rattle.std.proofs.Common.{take, drop, Option, Some, None, refl, sym, ap, subst, ◌∙◌, inl, inr, arith}
 use Rattle.std.specs.Prelude.{filter, is_some}
 use Rattle.std.proofs.lemmas.Bool.{true≢false, false≢true, lt-ltb, le-ltb, cases_lt, eq-eqb, ne_eqb, cases_eq, or_parts}
 use Rattle.std.proofs.lemmas.List.Folds.{list_any-append}
@@ -10,7 +11,7 @@ use Rattle.ldm_book.specs.View.{BookView, Kept, Reservations, open_kept}
 use Rattle.ldm_book.specs.Lookup.{kept_signature, kept_with}
 use Rattle.ldm_book.specs.Products.{AreRising, ProductsView, is_other, kept_number, kept_region, occupied_by, occupied_in, reserved_region, room_for, taken_in}
 use Rattle.ldm_book.specs.Readers.{AreAhead, first_of, free_numbers, held_products, is_kept_free, is_kept_held, products, unheld_numbers, without_all, without_oldest, without_product}
-use Rattle.ldm_book.proofs.SpaceLemmas.{fit-space, space-fit}
+use Rattle.ldm_model.proofs.Space.{fit-space, space-fit}
 use Rattle.ldm_book.proofs.FreeLemmas.{first-there, rising_left, unheld-evicted, held_left, held-alike, is_held-loss, ahead-alike}
 
 -- fewer products cover no more
@@ -20,7 +21,8 @@ covered_filter test i (k ∷ ks) e =
     let parts = or_parts (covers i (kept_region k)) (is_covered (map kept_region ks) i) e in
     by_test (test k) parts.0 (covered_filter test i ks parts.1)
   where
-    by_test : (b : Bool) → covers i (kept_region k) ≡ false → is_covered (map kept_region (filter test ks)) i ≡ false → is_covered (map kept_region (cond b (k ∷ filter test ks) (filter test ks))) i ≡ false
+    by_test : (b : Bool) → covers i (kept_region k) ≡ false → is_covered (map kept_region (filter test ks)) i ≡ false
+        → is_covered (map kept_region (cond b (k ∷ filter test ks) (filter test ks))) i ≡ false
     by_test true here rest = ap (λ (x : Bool). x || is_covered (map kept_region (filter test ks)) i) here ∙ rest
     by_test false here rest = rest
 
@@ -78,11 +80,13 @@ false_from_not true h = absurd (h refl)
 false_from_not false h = refl
 
 -- where there is no room beside the held products, no evictions make room
-pub no_room : (book : BookView) (need i : ℕ) → 0 < need → AreRising book.rows → is_some (room_for (held_products book) need) ≡ false → is_some (room_for (products (without_oldest i book)) need) ≡ false
+pub no_room : (book : BookView) (need i : ℕ) → 0 < need → AreRising book.rows → is_some (room_for (held_products book) need) ≡ false
+    → is_some (room_for (products (without_oldest i book)) need) ≡ false
 no_room book need i some rising none =
     false_from_not (is_some (room_for (products (without_oldest i book)) need)) (λ room.
     let after = without_oldest i book in
-    true≢false (sym (room_filter (products after) need (is_kept_held after.cursors) some room) ∙ ap (λ (p : ProductsView). is_some (room_for p need)) (held-all i (unheld_numbers book) book refl rising) ∙ none))
+    true≢false (sym (room_filter (products after) need (is_kept_held after.cursors) some room)
+    ∙ ap (λ (p : ProductsView). is_some (room_for p need)) (held-all i (unheld_numbers book) book refl rising) ∙ none))
 
 -- where nobody holds nothing, all are held
 all_held : (cs : Places) (rows : List Kept) → free_numbers cs rows ≡ [] → filter (is_kept_held cs) rows ≡ rows
@@ -147,7 +151,8 @@ pub record IsNext (old now after : BookView) (n j : ℕ) : Type 0 where
   pub ahead : AreAhead (n + 1) after.cursors after.rows
   pub held : held_products after ≡ held_products old
 
-pub next_evicted : (old now after : BookView) (need from n j : ℕ) → Evicted old now need from j → AreRising now.rows → AreAhead n now.cursors now.rows → Some n ≡ first_of (unheld_numbers now) → after ≡ without_product n now → IsNext old now after n j
+pub next_evicted : (old now after : BookView) (need from n j : ℕ) → Evicted old now need from j → AreRising now.rows → AreAhead n now.cursors now.rows → Some n ≡ first_of (unheld_numbers now)
+    → after ≡ without_product n now → IsNext old now after n j
 next_evicted old now after need from n j so_far rising ahead first is =
     let next = take_next j n (unheld_numbers old) (ap first_of (sym so_far.left) ∙ sym first) in
     let there = first-there now.cursors now.rows n (sym first) in
@@ -163,7 +168,8 @@ next_evicted old now after need from n j so_far rising ahead first is =
     }
 
 -- there is no room after that either
-pub evicted_more : (old now after : BookView) (need from n j : ℕ) → Evicted old now need from j → from ≤ n → IsNext old now after n j → room_for (products after) need ≡ None → Evicted old after need (n + 1) (j + 1)
+pub evicted_more : (old now after : BookView) (need from n j : ℕ) → Evicted old now need from j → from ≤ n → IsNext old now after n j → room_for (products after) need ≡ None
+    → Evicted old after need (n + 1) (j + 1)
 evicted_more old now after need from n j so_far above next none = record {
   now_is = next.now_is;
   left = next.left;
@@ -173,7 +179,8 @@ evicted_more old now after need from n j so_far above next none = record {
   held = next.held;
   needed = λ i h. elim (cases_lt i (j + 1)) [
     | inl below ↦ so_far.needed i below
-    | inr up ↦ (let same : j + 1 ≡ i = omega arith in ap (λ (k : ℕ). room_for (products (without_oldest k old)) need) (sym same) ∙ ap (λ (b : BookView). room_for (products b) need) (sym next.now_is) ∙ none)
+    | inr up ↦
+        (let same : j + 1 ≡ i = omega arith in ap (λ (k : ℕ). room_for (products (without_oldest k old)) need) (sym same) ∙ ap (λ (b : BookView). room_for (products b) need) (sym next.now_is) ∙ none)
   ];
 }
 

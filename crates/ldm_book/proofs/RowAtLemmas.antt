@@ -39,11 +39,17 @@ pub free-emptied : (slots : Slots) (slot : ℕ) (row : Kept) → row_at slots sl
 free-emptied slots slot row here [] are =
     (omega (arith, length-set slots slot None, filled_within slots slot row here), emptied slots slot, tt, tt)
 free-emptied slots slot row here (k ∷ ks) are =
-    let apart : k ≢ slot = λ is. none-some row (sym are.1 ∙ ap (row_at slots) is ∙ here) in
-    (omega (arith, length-set slots slot None, are.0), emptied-other slots slot k apart ∙ are.1, all_more (λ other. other ≢ k) ks slot are.2 (λ is. apart (sym is)), free-emptied slots slot row here ks are.3)
+    let apart : k ≢ slot = λ is. none-some row (sym are.1 ∙ ap (row_at slots) is ∙ here) in (
+      omega (arith, length-set slots slot None, are.0),
+      emptied-other slots slot k apart
+          ∙ are.1,
+      all_more (λ other. other ≢ k) ks slot are.2 (λ is. apart (sym is)),
+      free-emptied slots slot row here ks are.3,
+    )
 
 -- the region of an emptied slot is owned no more
-pub owned-emptied : (slots : Slots) (slot : ℕ) (owned : Owned) → ((k : ℕ) → fin.get owned k ≡ option_map kept_region (row_at slots k)) → (k : ℕ) → fin.get (fin.remove owned slot) k ≡ option_map kept_region (row_at (set slots slot None) k)
+pub owned-emptied : (slots : Slots) (slot : ℕ) (owned : Owned) → ((k : ℕ) → fin.get owned k ≡ option_map kept_region (row_at slots k)) → (k : ℕ)
+    → fin.get (fin.remove owned slot) k ≡ option_map kept_region (row_at (set slots slot None) k)
 owned-emptied slots slot owned own k =
     fin.get-remove nat_cmp_total owned slot k
     ∙ elim (cases_eq k slot) [
@@ -55,7 +61,8 @@ owned-emptied slots slot owned own k =
     ]
 
 -- a slot owns the region of the product that it is given
-pub owned-set : (slots : Slots) (slot : ℕ) (row : Kept) (owned : Owned) → slot < length slots → ((k : ℕ) → fin.get owned k ≡ option_map kept_region (row_at slots k)) → (k : ℕ) → fin.get (fin.insert owned slot (kept_region row)) k ≡ option_map kept_region (row_at (set slots slot (Some row)) k)
+pub owned-set : (slots : Slots) (slot : ℕ) (row : Kept) (owned : Owned) → slot < length slots → ((k : ℕ) → fin.get owned k ≡ option_map kept_region (row_at slots k)) → (k : ℕ)
+    → fin.get (fin.insert owned slot (kept_region row)) k ≡ option_map kept_region (row_at (set slots slot (Some row)) k)
 owned-set slots slot row owned inside own k =
     fin.get-insert nat_cmp_total owned slot (kept_region row) k
     ∙ elim (cases_eq k slot) [

@@ -13,7 +13,8 @@ abbrev front : Row → Option (List ℕ) → Option Kept
 front row signature = option_map (λ (s : List ℕ). kept_row row) signature
 
 -- a slot is given a row and a signature
-pub slots-put : (rows : List Row) (table : Table) (k : ℕ) (row : Row) (signature : List ℕ) → slots_from (set rows k row) (set table k (Some signature)) ≡ set (slots_from rows table) k (Some (kept_row row))
+pub slots-put : (rows : List Row) (table : Table) (k : ℕ) (row : Row) (signature : List ℕ)
+    → slots_from (set rows k row) (set table k (Some signature)) ≡ set (slots_from rows table) k (Some (kept_row row))
 slots-put [] table k row signature = refl
 slots-put (r ∷ rows) [] zero row signature = refl
 slots-put (r ∷ rows) [] (suc k) row signature = refl

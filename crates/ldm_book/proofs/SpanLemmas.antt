@@ -51,7 +51,8 @@ record IsBehindLast (at need : ℕ) (spans : List Span) : Type 0 where
   fits : AllByRecursion (λ (span : Span). (at + need ≤ span.start) ⊎ (span.back ≤ place)) spans
   found : (all : List Span) (arena : ℕ) → fits_at place need arena all ≡ true → (list_any (fits_behind need arena all) spans || fits_at 0 need arena all) ≡ true
 
-weaker : (at need place more : ℕ) (spans : List Span) → place ≤ more → AllByRecursion (λ (span : Span). (at + need ≤ span.start) ⊎ (span.back ≤ place)) spans → AllByRecursion (λ (span : Span). (at + need ≤ span.start) ⊎ (span.back ≤ more)) spans
+weaker : (at need place more : ℕ) (spans : List Span) → place ≤ more → AllByRecursion (λ (span : Span). (at + need ≤ span.start) ⊎ (span.back ≤ place)) spans
+    → AllByRecursion (λ (span : Span). (at + need ≤ span.start) ⊎ (span.back ≤ more)) spans
 weaker at need place more [] h all = tt
 weaker at need place more (span ∷ spans) h all = (elim all.0 [ inl e ↦ inl e | inr e ↦ inr (omega arith) ], weaker at need place more spans h all.1)
 
@@ -116,3 +117,9 @@ room-found need arena spans e = elim (or_cases (list_any (fits_behind need arena
       | inl here ↦ (let is = at-fits span.back need arena spans here in record { start = span.back; within = is.0; beside = is.1 })
       | inr later ↦ some few later
     ]
+
+-- tests that hold together
+pub same_bool : (x y : Bool) → (x ≡ true → y ≡ true) → (y ≡ true → x ≡ true) → x ≡ y
+same_bool true y f g = sym (f refl)
+same_bool false true f g = g refl
+same_bool false false f g = refl

@@ -78,12 +78,14 @@ module _ (bytes new : List ℕ) (place : ℕ) (region : Region) (from : region.s
   after = written bytes new place
 
   -- a part of a product that lies apart from it stays
-  pub part_stays : (other : Kept) (j : ℕ) → other.place ≤ j → j ≤ other.place + other.head + other.size → AreApart (kept_region other) region → between other.place j after ≡ between other.place j bytes
+  pub part_stays : (other : Kept) (j : ℕ) → other.place ≤ j → j ≤ other.place + other.head + other.size → AreApart (kept_region other) region
+      → between other.place j after ≡ between other.place j bytes
   part_stays other j begin end (inl before) = between_apart bytes new place other.place j within begin (inl (omega (arith, before, from)))
   part_stays other j begin end (inr behind) = between_apart bytes new place other.place j within begin (inr (omega (arith, behind, to)))
 
   -- and so does all of one of those before it
-  pub product_stays : (rows : List Kept) (other : Kept) → AllByRecursion (λ (row : Kept). AreApart (kept_region row) region) rows → Contains rows other → stored_bytes after other ≡ stored_bytes bytes other
+  pub product_stays : (rows : List Kept) (other : Kept) → AllByRecursion (λ (row : Kept). AreApart (kept_region row) region) rows → Contains rows other
+      → stored_bytes after other ≡ stored_bytes bytes other
   product_stays rows other apart there =
       part_stays other (other.place + other.head + other.size) (omega arith) (omega arith) (every_one (λ (row : Kept). AreApart (kept_region row) region) rows other apart there)
 
@@ -129,7 +131,8 @@ module _ (bytes new : List ℕ) (place : ℕ) (region : Region) (from : region.s
   reserved_still (Some v ∷ rs) apart are = (reserved_one v apart.0 are.0, reserved_still rs apart.1 are.1)
 
   -- or of each but one, which is another then
-  pub reserved_others : (new : KeptReservation) → IsReserved after new → (rs : Reservations) (r : ℕ) → Others (λ (o : KeptReservation). AreApart (reserved_region o) region) r rs → AreReserved bytes rs → AreReserved after (set rs r (Some new))
+  pub reserved_others : (new : KeptReservation) → IsReserved after new → (rs : Reservations) (r : ℕ) → Others (λ (o : KeptReservation). AreApart (reserved_region o) region) r rs → AreReserved bytes rs
+      → AreReserved after (set rs r (Some new))
   reserved_others new is [] r apart are = tt
   reserved_others new is (None ∷ rs) zero apart are = (is, reserved_still rs apart are)
   reserved_others new is (Some v ∷ rs) zero apart are = (is, reserved_still rs apart are.1)
@@ -140,12 +143,15 @@ module _ (bytes new : List ℕ) (place : ℕ) (region : Region) (from : region.s
   filled_one : (v : Reservation) → length v.filled ≤ v.info.size → AreApart (reserved_region (kept_reservation v)) region → IsFilled bytes v → IsFilled after v
   filled_one v part apart is = record { fits = is.fits; stands = filled_stays (kept_reservation v) part apart ∙ is.stands }
 
-  pub filled_still : (rs : List (Option Reservation)) → Each (λ (o : KeptReservation). AreApart (reserved_region o) region) (map (option_map kept_reservation) rs) → Each (λ (o : KeptReservation). o.filled ≤ o.product.size) (map (option_map kept_reservation) rs) → AreFilled bytes (open_ones rs) → AreFilled after (open_ones rs)
+  pub filled_still : (rs : List (Option Reservation)) → Each (λ (o : KeptReservation). AreApart (reserved_region o) region) (map (option_map kept_reservation) rs)
+      → Each (λ (o : KeptReservation). o.filled ≤ o.product.size) (map (option_map kept_reservation) rs) → AreFilled bytes (open_ones rs) → AreFilled after (open_ones rs)
   filled_still [] apart parts are = tt
   filled_still (None ∷ rs) apart parts are = filled_still rs apart.1 parts.1 are
   filled_still (Some v ∷ rs) apart parts are = (filled_one v parts.0 apart.0 are.0, filled_still rs apart.1 parts.1 are.1)
 
-  pub filled_others : (new : Reservation) → IsFilled after new → (rs : List (Option Reservation)) (r : ℕ) → Others (λ (o : KeptReservation). AreApart (reserved_region o) region) r (map (option_map kept_reservation) rs) → Each (λ (o : KeptReservation). o.filled ≤ o.product.size) (map (option_map kept_reservation) rs) → AreFilled bytes (open_ones rs) → AreFilled after (open_ones (set rs r (Some new)))
+  pub filled_others : (new : Reservation) → IsFilled after new → (rs : List (Option Reservation)) (r : ℕ)
+      → Others (λ (o : KeptReservation). AreApart (reserved_region o) region) r (map (option_map kept_reservation) rs)
+      → Each (λ (o : KeptReservation). o.filled ≤ o.product.size) (map (option_map kept_reservation) rs) → AreFilled bytes (open_ones rs) → AreFilled after (open_ones (set rs r (Some new)))
   filled_others new is [] r apart parts are = tt
   filled_others new is (None ∷ rs) zero apart parts are = (is, filled_still rs apart parts.1 are)
   filled_others new is (Some v ∷ rs) zero apart parts are = (is, filled_still rs apart parts.1 are.1)
@@ -195,7 +201,8 @@ filled_one_at bytes (None ∷ rs) (suc r) v at are = filled_one_at bytes rs r v 
 filled_one_at bytes (Some o ∷ rs) (suc r) v at are = filled_one_at bytes rs r v at are.1
 
 -- a product that was written is stored
-pub stored_new : (bytes : List ℕ) (q : Queued) → Fits q.product.info → length q.product.body ≡ q.product.info.size → q.place + metadata_len q.product.info + q.product.info.size ≤ length bytes → IsStored (written bytes (bytes_of q.product) q.place) q
+pub stored_new : (bytes : List ℕ) (q : Queued) → Fits q.product.info → length q.product.body ≡ q.product.info.size → q.place + metadata_len q.product.info + q.product.info.size ≤ length bytes
+    → IsStored (written bytes (bytes_of q.product) q.place) q
 stored_new bytes q fits size within =
     let long = length-bytes_of q.product fits size in
     record {
@@ -204,7 +211,8 @@ stored_new bytes q fits size within =
     }
 
 -- its metadata stand at the place of what is kept of it
-pub metadata_new : (bytes : List ℕ) (number time place : ℕ) (p : Product) → Fits p.info → length p.body ≡ p.info.size → place + metadata_len p.info + p.info.size ≤ length bytes → HasMetadata (written bytes (bytes_of p) place) (kept_of number time place p.info)
+pub metadata_new : (bytes : List ℕ) (number time place : ℕ) (p : Product) → Fits p.info → length p.body ≡ p.info.size → place + metadata_len p.info + p.info.size ≤ length bytes
+    → HasMetadata (written bytes (bytes_of p) place) (kept_of number time place p.info)
 metadata_new bytes number time place p fits size within =
     let q : Queued = record { number = number; product = p; time = time; place = place } in
     record { info = p.info; at = metadata_stand (written bytes (bytes_of p) place) q (stored_new bytes q fits size within); same = refl }

@@ -44,13 +44,15 @@ pub any_number : (p : Inside) {view : ProductsView} (n : ℕ) → products_of p 
 any_number p n is any = any_entry (slots_of p) n p.by_number.entries (subst (λ (v : ProductsView). Any (λ k. k.number ≡ n) v.rows) (sym is) any)
 
 -- the index finds a number that a product has
-pub number_found : {p : Inside} {view : ProductsView} (n : ℕ) → IsSlotted p → products_of p ≡ view → Any (λ k. k.number ≡ n) view.rows → None ≡ option_map number_and_slot (find (at_number n) p.by_number.entries) → ⊥
+pub number_found : {p : Inside} {view : ProductsView} (n : ℕ) → IsSlotted p → products_of p ≡ view → Any (λ k. k.number ≡ n) view.rows
+    → None ≡ option_map number_and_slot (find (at_number n) p.by_number.entries) → ⊥
 number_found {p} n slotted is any none =
     let there = among n p.by_number.entries slotted.rising (any_number p n is any) in
     none-some (number_and_slot there.entry) (none ∙ ap (option_map number_and_slot) there.first)
 
 -- the slot that it finds is the one of the product
-pub numbered : {p : Inside} {view : ProductsView} {slot found : ℕ} (n : ℕ) → IsSlotted p → products_of p ≡ view → Any (λ k. k.number ≡ n) view.rows → Some (found, slot) ≡ option_map number_and_slot (find (at_number n) p.by_number.entries) → IsNumbered (slots_of p) p.by_number.entries n slot
+pub numbered : {p : Inside} {view : ProductsView} {slot found : ℕ} (n : ℕ) → IsSlotted p → products_of p ≡ view → Any (λ k. k.number ≡ n) view.rows
+    → Some (found, slot) ≡ option_map number_and_slot (find (at_number n) p.by_number.entries) → IsNumbered (slots_of p) p.by_number.entries n slot
 numbered {p} {view} {slot} {found} n slotted is any first =
     let there = among n p.by_number.entries slotted.rising (any_number p n is any) in
     let has = sym (some_pair_parts found there.entry.n slot there.entry.slot (first ∙ ap (option_map number_and_slot) there.first)).1 in
@@ -92,7 +94,8 @@ module _ {slots : Slots} {es : List Queued} {n slot : ℕ} (at : IsNumbered slot
   count_left = omega (arith, ap length at.among.parts, ap length at.among.left, length-append at.among.before (at.among.entry ∷ at.among.behind), length-append at.among.before at.among.behind)
 
   -- the extents that are left
-  pub extents_left : AllByRecursion (IsAt slots) es → extents (map kept_region (kept_entries slots es)) ≡ kept_extent at.row + extents (map kept_region (kept_entries (set slots slot None) (others n es)))
+  pub extents_left : AllByRecursion (IsAt slots) es
+      → extents (map kept_region (kept_entries slots es)) ≡ kept_extent at.row + extents (map kept_region (kept_entries (set slots slot None) (others n es)))
   extents_left all =
       ap (λ es. extents (map kept_region (kept_entries slots es))) at.among.parts
       ∙ extents_middle slots at.among.before at.among.entry at.among.behind
@@ -134,9 +137,19 @@ module _ {p q : Inside} {n slot : ℕ} (slotted : IsSlotted p) (at : IsNumbered 
   extents_then =
       let before = kept_entries (slots_of p) p.by_number.entries in
       let after = kept_entries (slots_of q) q.by_number.entries in
-      let now = ap (λ s. extents (map kept_region (kept_entries s q.by_number.entries))) left.slots ∙ ap (λ es. extents (map kept_region (kept_entries (set (slots_of p) slot None) es))) left.entries in
+      let now =
+      ap (λ s. extents (map kept_region (kept_entries s q.by_number.entries))) left.slots ∙ ap (λ es. extents (map kept_region (kept_entries (set (slots_of p) slot None) es))) left.entries in
       let reserved = ap (λ (places : KeptPlaces). extents (map reserved_region (open_kept (reservations_of places)))) left.reserved in
-      omega (arith, slotted.used, now, reserved, extents_left at slotted.entries, extents-append (map kept_region before) (map reserved_region (open_kept (reservations_of p.reserved))), extents-append (map kept_region after) (map reserved_region (open_kept (reservations_of q.reserved))))
+      omega (
+        arith,
+        slotted.used,
+        now,
+        reserved,
+        extents_left at slotted.entries,
+        extents-append (map kept_region before) (map reserved_region (open_kept (reservations_of p.reserved))),
+        extents-append
+            (map kept_region after) (map reserved_region (open_kept (reservations_of q.reserved))),
+      )
 
   -- the others are kept in slots as before
   pub slotted_left : IsSlotted q
@@ -161,7 +174,8 @@ module _ {p q : Inside} {n slot : ℕ} (slotted : IsSlotted p) (at : IsNumbered 
         one_to_one = left.one_to_one;
         own =
             subst (λ (s : Slots). HaveOwn s q.reserved) (sym left.slots)
-            (subst (λ (places : KeptPlaces). HaveOwn (set slots slot None) places) (sym left.reserved) (own-set slots p.reserved slot None (avoid_kept slots p.reserved slot at.row slotted.own at.here) slotted.own));
+            (subst (λ (places : KeptPlaces). HaveOwn (set slots slot None) places) (sym left.reserved)
+            (own-set slots p.reserved slot None (avoid_kept slots p.reserved slot at.row slotted.own at.here) slotted.own));
         owned = λ k.
             ap (λ (r : Layout). fin.get r.owned k) left.regions ∙ owned-emptied (all_taken p) slot p.regions.owned slotted.owned k
             ∙ ap (λ s. option_map kept_region (row_at s k)) (sym taken_left);

@@ -1,5 +1,6 @@
 -- The slots that are taken: those of the products, and those of the open reservations.
-use Rattle.std.proofs.Common.{◌≡◌, ◌≢◌, ◌⊎◌, ℕ, zero, suc, ◌<◌, List, [], ◌∷◌, ◌++◌, length, map, set, Option, Some, None, refl, sym, ap, subst, ◌∙◌, inl, inr, length-set, get_or-set_same, get_or-set_other, arith}
+use Rattle.std.proofs.Common.{◌≡◌, ◌≢◌, ◌⊎◌, ℕ, zero, suc, ◌<◌, List, [], ◌∷◌, ◌++◌, length, map, set, Option, Some}
+use Rattle.std.proofs.Common.{None, refl, sym, ap, subst, ◌∙◌, inl, inr, length-set, get_or-set_same, get_or-set_other, arith}
 use Rattle.std.specs.List.{AllByRecursion}
 use Rattle.std.proofs.lemmas.Bool.{cases_eq}
 use Rattle.std.proofs.lemmas.List.{set_comm, set-set, set-get_or}
@@ -20,7 +21,8 @@ pub other_than : (slots : Slots) (j k : ℕ) (row : Kept) → row_at slots j ≡
 other_than slots j k row none some same = none-some row (sym none ∙ ap (row_at slots) (sym same) ∙ some)
 
 -- a slot has what it is given, and another what it had
-pub given : (slots : Slots) (places : KeptPlaces) (place : KeptPlace) → place.slot < length slots → row_at (set (taken_from slots places) place.slot (Some place.product)) place.slot ≡ Some place.product
+pub given : (slots : Slots) (places : KeptPlaces) (place : KeptPlace) → place.slot < length slots
+    → row_at (set (taken_from slots places) place.slot (Some place.product)) place.slot ≡ Some place.product
 given slots places place inside = get_or-set_same (taken_from slots places) place.slot (Some place.product) None (omega (arith, length-taken slots places))
 
 -- the slot of a product is taken by it
@@ -82,7 +84,8 @@ own-set slots (Some place ∷ places) k held avoid own = (
 
 -- an empty place gets a reservation
 module _ (slots : Slots) (new : KeptPlace) where
-  pub taken-reserve : (places : KeptPlaces) (r : ℕ) → place_at places r ≡ None → r < length places → Avoid new.slot places → taken_from slots (set places r (Some new)) ≡ set (taken_from slots places) new.slot (Some new.product)
+  pub taken-reserve : (places : KeptPlaces) (r : ℕ) → place_at places r ≡ None → r < length places → Avoid new.slot places
+      → taken_from slots (set places r (Some new)) ≡ set (taken_from slots places) new.slot (Some new.product)
   taken-reserve [] r none inside avoid = absurd (omega arith)
   taken-reserve (None ∷ places) zero none inside avoid = refl
   taken-reserve (Some place ∷ places) zero none inside avoid = absurd cc
@@ -91,7 +94,8 @@ module _ (slots : Slots) (new : KeptPlace) where
       ap (λ (s : Slots). set s place.slot (Some place.product)) (taken-reserve places r none (omega arith) avoid.1)
       ∙ set_comm (taken_from slots places) new.slot place.slot (Some new.product) (Some place.product) (λ e. avoid.0 (sym e))
 
-  pub own-reserve : (places : KeptPlaces) (r : ℕ) → place_at places r ≡ None → r < length places → HaveOwn slots places → new.slot < length slots → row_at (taken_from slots places) new.slot ≡ None → new.product.number ≡ 0 → new.product.time ≡ 0 → HaveOwn slots (set places r (Some new))
+  pub own-reserve : (places : KeptPlaces) (r : ℕ) → place_at places r ≡ None → r < length places → HaveOwn slots places → new.slot < length slots → row_at (taken_from slots places) new.slot ≡ None
+      → new.product.number ≡ 0 → new.product.time ≡ 0 → HaveOwn slots (set places r (Some new))
   own-reserve [] r none inside own within free number time = absurd (omega arith)
   own-reserve (None ∷ places) zero none inside own within free number time = (within, free, number, time, own)
   own-reserve (Some place ∷ places) zero none inside own within free number time = absurd cc
@@ -100,7 +104,8 @@ module _ (slots : Slots) (new : KeptPlace) where
       let avoid = avoid_free slots (Some place ∷ places) new.slot own free in
       let before = sym (get_or-set_other (taken_from slots places) place.slot new.slot (Some place.product) None (λ e. avoid.0 (sym e))) ∙ free in (
         own.0,
-        ap (λ (s : Slots). row_at s place.slot) (taken-reserve places r none (omega arith) avoid.1) ∙ get_or-set_other (taken_from slots places) new.slot place.slot (Some new.product) None avoid.0 ∙ own.1,
+        ap (λ (s : Slots). row_at s place.slot) (taken-reserve places r none (omega arith) avoid.1) ∙ get_or-set_other (taken_from slots places) new.slot place.slot (Some new.product) None avoid.0
+            ∙ own.1,
         own.2,
         own.3,
         own-reserve places r none (omega arith) own.4 within before number time,
@@ -216,13 +221,16 @@ at-places slots (Some place ∷ places) own =
     ((place.product, given slots places place own.0, own.2, own.3), at-more (taken_from slots places) place.slot place.product own.1 (place_entries places) (at-places slots places own.4))
 
 -- and its region is reserved
-pub regions-places : (slots : Slots) (places : KeptPlaces) → HaveOwn slots places → map kept_region (kept_entries (taken_from slots places) (place_entries places)) ≡ map reserved_region (open_kept (reservations_of places))
+pub regions-places : (slots : Slots) (places : KeptPlaces) → HaveOwn slots places
+    → map kept_region (kept_entries (taken_from slots places) (place_entries places)) ≡ map reserved_region (open_kept (reservations_of places))
 regions-places slots [] own = refl
 regions-places slots (None ∷ places) own = regions-places slots places own
 regions-places slots (Some place ∷ places) own =
     let entry : Queued = record { n = 0; time = 0; slot = place.slot } in
     let here = given slots places place own.0 in
-    let rest = ap (λ (ks : List Kept). map kept_region ks) (entries-more (taken_from slots places) place.slot place.product own.1 (place_entries places) (at-places slots places own.4)) ∙ regions-places slots places own.4 in
+    let rest =
+    ap (λ (ks : List Kept). map kept_region ks) (entries-more (taken_from slots places) place.slot place.product own.1 (place_entries places) (at-places slots places own.4))
+    ∙ regions-places slots places own.4 in
     λ i. kept_region (with_entry entry (here i)) ∷ rest i
 
 -- the entries of products have their slots with their products
@@ -232,7 +240,8 @@ at-kept slots places own (e ∷ es) all =
     let is = all.0 in
     ((is.0, taken-kept slots places e.slot is.0 own is.1, is.2, is.3), at-kept slots places own es all.1)
 
-pub entries-kept : (slots : Slots) (places : KeptPlaces) → HaveOwn slots places → (es : List Queued) → AllByRecursion (IsAt slots) es → kept_entries (taken_from slots places) es ≡ kept_entries slots es
+pub entries-kept : (slots : Slots) (places : KeptPlaces) → HaveOwn slots places → (es : List Queued) → AllByRecursion (IsAt slots) es
+    → kept_entries (taken_from slots places) es ≡ kept_entries slots es
 entries-kept slots places own [] all = refl
 entries-kept slots places own (e ∷ es) all =
     let is = all.0 in
@@ -245,7 +254,8 @@ listed-taken slots [] k row at = inl at
 listed-taken slots (None ∷ places) k row at = listed-taken slots places k row at
 listed-taken slots (Some place ∷ places) k row at = elim (cases_eq k place.slot) [
   | inl same ↦ inr (inl (sym same))
-  | inr apart ↦ elim (listed-taken slots places k row (sym (get_or-set_other (taken_from slots places) place.slot k (Some place.product) None apart) ∙ at)) [ inl kept ↦ inl kept | inr there ↦ inr (inr there) ]
+  | inr apart ↦
+      elim (listed-taken slots places k row (sym (get_or-set_other (taken_from slots places) place.slot k (Some place.product) None apart) ∙ at)) [ inl kept ↦ inl kept | inr there ↦ inr (inr there) ]
 ]
 
 -- a slot is that of an entry among the first, or among the others
@@ -286,5 +296,6 @@ slots-all slots places own (e ∷ es) all have =
     let others = avoid-entries e.slot places (avoid_kept slots places e.slot is.0 own is.1) in
     (all_of (λ (o : Queued). e.slot ≢ o.slot) es (place_entries places) have.0 others, slots-all slots places own es all.1 have.1)
 
-pub at-all : (slots : Slots) (places : KeptPlaces) → HaveOwn slots places → (es : List Queued) → AllByRecursion (IsAt slots) es → AllByRecursion (IsAt (taken_from slots places)) (es ++ place_entries places)
+pub at-all : (slots : Slots) (places : KeptPlaces) → HaveOwn slots places → (es : List Queued) → AllByRecursion (IsAt slots) es
+    → AllByRecursion (IsAt (taken_from slots places)) (es ++ place_entries places)
 at-all slots places own es all = all_of (IsAt (taken_from slots places)) es (place_entries places) (at-kept slots places own es all) (at-places slots places own)

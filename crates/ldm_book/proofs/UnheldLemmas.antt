@@ -31,7 +31,9 @@ free-stands book s (q ∷ qs) stands = by_test (is_held s q.number) (free-stands
         → map kept_number (cond (not (kept_places.is_held q.number book.cursors)) (kept q ∷ filter (is_kept_free book.cursors) (map kept qs)) (filter (is_kept_free book.cursors) (map kept qs)))
         ≡ cond (not b) (q.number ∷ filter (λ n. not (is_held s n)) (map (λ (q : Queued). q.number) qs)) (filter (λ n. not (is_held s n)) (map (λ (q : Queued). q.number) qs))
     by_test true rest e = ap (λ (x : Bool). map kept_number (cond (not x) (kept q ∷ filter (is_kept_free book.cursors) (map kept qs)) (filter (is_kept_free book.cursors) (map kept qs)))) e ∙ rest
-    by_test false rest e = ap (λ (x : Bool). map kept_number (cond (not x) (kept q ∷ filter (is_kept_free book.cursors) (map kept qs)) (filter (is_kept_free book.cursors) (map kept qs)))) e ∙ ap (λ (ns : List ℕ). q.number ∷ ns) rest
+    by_test false rest e =
+        ap (λ (x : Bool). map kept_number (cond (not x) (kept q ∷ filter (is_kept_free book.cursors) (map kept qs)) (filter (is_kept_free book.cursors) (map kept qs)))) e
+        ∙ ap (λ (ns : List ℕ). q.number ∷ ns) rest
 
 -- the numbers that nobody holds
 pub unheld-stands : (book : BookView) (s : State) → StandsFor book s → unheld_numbers book ≡ unheld s
@@ -129,5 +131,6 @@ evictions-are book s need j rising stands within none place some =
     ∙ (let same : 0 + j ≡ j = omega arith in ap (λ (k : ℕ). Some k) same)
 
 -- no evictions make room
-pub evictions-none : (book : BookView) (s : State) (need : ℕ) → AreRising book.rows → StandsFor book s → ((i : ℕ) → is_some (room_for (products (without_oldest i book)) need) ≡ false) → evictions s need ≡ None
+pub evictions-none : (book : BookView) (s : State) (need : ℕ) → AreRising book.rows → StandsFor book s → ((i : ℕ) → is_some (room_for (products (without_oldest i book)) need) ≡ false)
+    → evictions s need ≡ None
 evictions-none book s need rising stands none = find_none (λ i. has_room (after_evicting s i) need) (length (unheld s) + 1) 0 (λ i h. room-after book s need i rising stands ∙ none i)

@@ -1,8 +1,8 @@
 -- The cursors of a queue by their places, and what each call makes of them.
-use Rattle.std.specs.Prelude.{ℕ, ◌+◌, ◌<◌, min, max, nat_le, Bool, false, not, ◌==◌, ◌&&◌, [], ◌∷◌, set, slice_index_or, Option, Some, None, is_none, if◌then◌else◌}
+use Rattle.std.specs.Prelude.{ℕ, ◌+◌, ◌<◌, min, max, nat_le, Bool, false, not, ◌&&◌, [], ◌∷◌, set, slice_index_or, Option, Some, None, is_none, if◌then◌else◌}
 use Rattle.std.specs.List.{All, list_any, position}
 use Rattle.std.specs.Option.{option_map, IfSome}
-use Rattle.ldm_types.specs.Cursors.{Losses, KeptCursor, Places}
+use Rattle.ldm_types.specs.Cursors.{Losses, KeptCursor, Places, is_number}
 use Rattle.ldm_types.specs.Feed.{feeds_meet}
 
 -- the cursor of a place, if it is open
@@ -16,10 +16,6 @@ held_of (Some cursor) = cursor.held
 
 abbrev pub held_at : Places → ℕ → Option ℕ
 held_at places k = held_of (cursor_at places k)
-
-abbrev pub is_number : ℕ → Option ℕ → Bool
-is_number n None = false
-is_number n (Some m) = m == n
 
 -- whether the cursor of a place holds the product of that number
 abbrev pub holds : ℕ → Option KeptCursor → Bool

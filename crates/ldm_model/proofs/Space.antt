@@ -1,11 +1,11 @@
 -- An extent fits exactly where so many positions in a row are free.
-use Rattle.std.proofs.Common.{◌≡◌, ℕ, zero, suc, ◌+◌, ◌<◌, ◌≤◌, ◌||◌, Bool, true, false, cond, leb, List, [], ◌∷◌, Option, Some, None, refl, sym, ap, subst, ◌∙◌, inl, inr, arith}
+use Rattle.std.proofs.Common.{◌≡◌, ℕ, zero, suc, ◌+◌, ◌<◌, ◌≤◌, ◌||◌, ◌⊎◌, Bool, true, false, cond, leb, max, List, [], ◌∷◌, Option, Some, None, refl, sym, ap, subst, ◌∙◌, inl, inr, arith}
 use Rattle.std.specs.Prelude.{◌==◌, nat_le, is_some}
 use Rattle.std.specs.List.{AllByRecursion, list_any}
 use Rattle.std.specs.Option.{option_map}
-use Rattle.std.proofs.lemmas.Bool.{false≢true, eq-eqb, eqb-true, cases_eq, or_right}
+use Rattle.std.proofs.lemmas.Bool.{false≢true, eq-eqb, eqb-true, cases_eq, le-leb, lt-leb, or_right}
 use Rattle.std.proofs.lemmas.Bool.Decides.{leb_tells}
-use Rattle.ldm_types.specs.Arena.{Region, is_covered, with_free, free_runs, gaps, shorter, best_gap, fit}
+use Rattle.ldm_types.specs.Arena.{Region, is_covered, with_free, free_runs, gaps, shorter, best_gap, fit, longest}
 
 -- no region covers a position from one up to, but not with, another
 abbrev pub IsFree : List Region → ℕ → ℕ → Type 0
@@ -19,10 +19,10 @@ pub record HasSpace (occupied : List Region) (from to need : ℕ) : Type 0 where
   pub free : IsFree occupied start (start + need)
 
 -- a gap of at least that extent
-abbrev is_long : ℕ → Region → Bool
+abbrev pub is_long : ℕ → Region → Bool
 is_long need gap = nat_le need gap.extent
 
-abbrev has_long : ℕ → List Region → Bool
+abbrev pub has_long : ℕ → List Region → Bool
 has_long need gs = list_any (is_long need) gs
 
 shorter-some : (gap : Region) (o : Option Region) → is_some (shorter gap o) ≡ true
@@ -45,8 +45,23 @@ start-some : (o : Option Region) → is_some (option_map (λ (g : Region). g.sta
 start-some None = refl
 start-some (Some g) = refl
 
-fit-some : (need arena : ℕ) (occupied : List Region) → is_some (fit need occupied arena) ≡ has_long need (gaps occupied arena)
+pub fit-some : (need arena : ℕ) (occupied : List Region) → is_some (fit need occupied arena) ≡ has_long need (gaps occupied arena)
 fit-some need arena occupied = start-some (best_gap need (gaps occupied arena)) ∙ best-some need (gaps occupied arena)
+
+-- a gap is long enough exactly where the longest is
+longest-long : (need : ℕ) (gs : List Region) → 0 < need → has_long need gs ≡ leb need (longest gs)
+longest-long need [] some = sym (lt-leb need 0 some)
+longest-long need (gap ∷ gs) some = elim (leb_tells need gap.extent) [
+  | inl le ↦ ap (λ (b : Bool). b || has_long need gs) le.0 ∙ sym (le-leb need (max gap.extent (longest gs)) (omega (arith, le.1)))
+  | inr gt ↦ ap (λ (b : Bool). b || has_long need gs) gt.0 ∙ longest-long need gs some ∙ by_rest (leb_tells need (longest gs)) gt.1
+]
+  where
+    by_rest : ((leb need (longest gs) ≡ true) × (need ≤ longest gs)) ⊎ ((leb need (longest gs) ≡ false) × (longest gs < need)) → gap.extent < need → leb need (longest gs) ≡ leb need (max gap.extent (longest gs))
+    by_rest (inl le) gt = le.0 ∙ sym (le-leb need (max gap.extent (longest gs)) (omega (arith, le.1)))
+    by_rest (inr more) gt = more.0 ∙ sym (lt-leb need (max gap.extent (longest gs)) (omega (arith, more.1)))
+
+pub fit-longest : (need arena : ℕ) (occupied : List Region) → 0 < need → is_some (fit need occupied arena) ≡ leb need (longest (gaps occupied arena))
+fit-longest need arena occupied some = fit-some need arena occupied ∙ longest-long need (gaps occupied arena) some
 
 -- the first of these gaps begins there and is long enough
 abbrev BeginsLong : ℕ → ℕ → List Region → Type 0

@@ -12,4 +12,5 @@ returns-clause-written c =
     let head = c.write_info-head.result in
     let len : head ≡ length (spelling info) = c.write_info-head.ensures.len ∙ sym (length-spelling info c.write_info-head.ensures.fits.signature) in
     ap (λ (part : List ℕ). put_mid head (length now - head) now part) c.copy_from_slice.ensures.after
-    ∙ front_then_body (spelling info) c.args.body.now c.args.room.now now head (c.write_info-head.ensures.written ∙ ap (λ (n : ℕ). spelling info ++ drop n c.args.room.now) (sym c.write_info-head.ensures.len)) (sym len)
+    ∙ front_then_body (spelling info) c.args.body.now c.args.room.now now head
+    (c.write_info-head.ensures.written ∙ ap (λ (n : ℕ). spelling info ++ drop n c.args.room.now) (sym c.write_info-head.ensures.len)) (sym len)

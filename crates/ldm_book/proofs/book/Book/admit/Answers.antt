@@ -16,8 +16,12 @@ use Rattle.ldm_book.proofs.book.Book.admit.Goals as goal
 
 pub commit-requires-clause-some : goal.commit-requires-clause-some
 commit-requires-clause-some c =
-    let v = c.requires.some.0 in
-    (v, ap (λ (b : BookView). reservation_at b.reservations c.args.r) c.self.view_is ∙ c.requires.some.1, ap (λ (b : BookView). kept_with v.product.signature b.rows) c.self.view_is ∙ c.requires.some.2)
+    let v = c.requires.some.0 in (
+      v,
+      ap (λ (b : BookView). reservation_at b.reservations c.args.r) c.self.view_is ∙ c.requires.some.1,
+      ap (λ (b : BookView). kept_with v.product.signature b.rows) c.self.view_is
+          ∙ c.requires.some.2,
+    )
 
 pub commit-requires-clause-later : goal.commit-requires-clause-later
 commit-requires-clause-later c =

@@ -44,7 +44,9 @@ returns-in_default-time_after-clause-answers c = λ s stands.
 
 -- what admitting the reservation makes of the book
 admitted : (c : goal.After-admit) → c.admit.new.self ≡ with_committed c.args.self.now c.args.r c.in-Some-time_after.time (reservation_of (kept_place c.in-Some.place))
-admitted c = c.admit.ensures.committed (reservation_of (kept_place c.in-Some.place)) (at_own c.args.actor (reservation_at c.args.self.now.reservations c.args.r) (reservation_of (kept_place c.in-Some.place)) c.in-Some.ensures.own)
+admitted c =
+    c.admit.ensures.committed (reservation_of (kept_place c.in-Some.place))
+    (at_own c.args.actor (reservation_at c.args.self.now.reservations c.args.r) (reservation_of (kept_place c.in-Some.place)) c.in-Some.ensures.own)
 
 pub admit-requires-clause-some : goal.admit-requires-clause-some
 admit-requires-clause-some c =
@@ -63,7 +65,8 @@ returns-clause-answers c = λ s stands.
     let number = ap (λ (b : BookView). b.admitted) c.self.view_is in
     subst (λ (b : BookView). Follows (reply.Committed c.self.inside.admitted c.in-Some-time_after.time) b (commit_of s c.args.actor c.args.r c.args.now)) (sym (admitted c))
     (subst (λ (t : ℕ). Follows (reply.Committed c.self.inside.admitted t) (with_committed book c.args.r t v) (commit_of s c.args.actor c.args.r c.args.now)) (sym time)
-    (subst (λ (n : ℕ). Follows (reply.Committed n (time_of book.last c.args.now)) (with_committed book c.args.r (time_of book.last c.args.now) v) (commit_of s c.args.actor c.args.r c.args.now)) (sym number)
+    (subst (λ (n : ℕ). Follows (reply.Committed n (time_of book.last c.args.now)) (with_committed book c.args.r (time_of book.last c.args.now) v) (commit_of s c.args.actor c.args.r c.args.now))
+    (sym number)
     (commit-committed book s stands c.args.actor c.args.r c.args.now v c.in-Some.ensures.own none (sym absent) last c.in-Some.ensures.part)))
 
 pub returns-clause-places : goal.returns-clause-places

@@ -38,7 +38,8 @@ invariant_of-self c =
           subst (λ (ks : List Kept). AreReading inside.admitted ks c.lose.new.self) (sym rows)
           (subst (λ (cs : Places). AreReading inside.admitted (filter (is_other c.args.n) inside.products.rows) cs) (sym c.lose.ensures.lost)
           (reading-loss inside.admitted c.args.n c.in-Some.row.now.feed.0 inside.products.rows there inside.cursors free c.self.invariant.readers));
-      stored = subst (λ (ks : List Kept). HaveMetadata inside.arena.items ks) (sym rows) (every_filter (HasMetadata inside.arena.items) (is_other c.args.n) inside.products.rows c.self.invariant.stored);
+      stored =
+          subst (λ (ks : List Kept). HaveMetadata inside.arena.items ks) (sym rows) (every_filter (HasMetadata inside.arena.items) (is_other c.args.n) inside.products.rows c.self.invariant.stored);
       reserved = subst (λ (rs : Reservations). AreReserved inside.arena.items rs) (sym (ap (λ (p : ProductsView). p.reservations) c.take_out.ensures.left)) c.self.invariant.reserved;
     }
 

@@ -7,7 +7,7 @@ use Rattle.ldm_model.specs.Fill.{fill as fill_of}
 use Rattle.ldm_book.specs.View.{BookView, Kept, KeptReservation, stored_bytes}
 use Rattle.ldm_book.specs.Making.{reserving, written}
 use Rattle.ldm_book.specs.Products.{AreRising, LieApart, ProductsView, kept_region, occupied_in, reservation_at, reserved_region, with_more}
-use Rattle.ldm_book.specs.Readers.{AreReading}
+use Rattle.ldm_book.specs.Readers.{AreReading, occupied}
 use Rattle.ldm_book.specs.Reserved.{kept_place, reservation_of}
 use Rattle.ldm_book.specs.Sound.{IsTimed, view_of}
 use Rattle.ldm_book.specs.Stored.{AreReserved, HaveMetadata}
@@ -54,7 +54,8 @@ left c = omega (arith, c.in-Some.ensures.part, c.if-bytes-left.false)
 sized : (c : goal.After-fill) → length c.self.inside.arena.items ≡ c.self.inside.arena.len
 sized c = sym c.self.inside.arena.ok.0
 
-apart : (c : goal.After-fill) → LieApart (view_of c.self.inside).arena (occupied_in (record { arena = c.self.inside.arena.len; slots = c.self.inside.products.slots; rows = c.self.inside.products.rows; reservations = c.self.inside.products.reservations }))
+apart : (c : goal.After-fill)
+    → LieApart (view_of c.self.inside).arena (occupied (view_of c.self.inside))
 apart c = sound_apart c.self.inside c.self.invariant (view_of c.self.inside) refl
 
 long : (c : goal.After-fill) → start c + count c ≤ length c.self.inside.arena.items
@@ -94,7 +95,9 @@ invariant_of-self c =
     let last = fill-to book c.args.r v bytes (at_inside c) (left c) (sized c) (apart c) in
     let stored = metadata_still items bytes (start c) (reserved_region v) first last (long c) p.rows (fill-rows book c.args.r v bytes (at_inside c) (left c) (sized c) (apart c)) kept.stored in
     let is = fill-reserved book c.args.r v bytes (at_inside c) (left c) (sized c) (apart c) (reserved_one_at items p.reservations c.args.r v (at_inside c) kept.reserved) in
-    let reserved = reserved_others items bytes (start c) (reserved_region v) first last (long c) new is p.reservations c.args.r (fill-others book c.args.r v bytes (at_inside c) (left c) (sized c) (apart c)) kept.reserved in
+    let reserved =
+    reserved_others items bytes (start c) (reserved_region v) first last (long c) new is p.reservations c.args.r
+    (fill-others book c.args.r v bytes (at_inside c) (left c) (sized c) (apart c)) kept.reserved in
     let regions = ap (λ (rs : List Region). map kept_region p.rows ++ rs) (regions-filled v p.reservations c.args.r (v.filled + count c) (at_inside c)) in
     record {
       arena = kept.arena ∙ sym (ap (λ (q : ProductsView). q.arena) after);
@@ -108,7 +111,9 @@ invariant_of-self c =
       few = omega (arith, ap (λ (ks : List Kept). length ks) rows, kept.few);
       readers = subst (λ (ks : List Kept). AreReading inside.admitted ks inside.cursors) (sym rows) kept.readers;
       stored = subst (λ (bs : List ℕ). HaveMetadata bs c.fill.new.self.rows) (sym (are_written c)) (subst (λ (ks : List Kept). HaveMetadata (written items bytes (start c)) ks) (sym rows) stored);
-      reserved = subst (λ (bs : List ℕ). AreReserved bs c.fill.new.self.reservations) (sym (are_written c)) (subst (λ (q : ProductsView). AreReserved (written items bytes (start c)) q.reservations) (sym after) reserved);
+      reserved =
+          subst (λ (bs : List ℕ). AreReserved bs c.fill.new.self.reservations) (sym (are_written c))
+          (subst (λ (q : ProductsView). AreReserved (written items bytes (start c)) q.reservations) (sym after) reserved);
     }
 
 -- what the book is then
@@ -147,7 +152,8 @@ returns-clause-answers c = λ s stands.
     let v = before c in
     let rest = v.product.size - v.filled - count c in
     subst (λ (b : BookView). Follows (reply.Filled rest) b (fill_of s c.args.actor c.args.r c.args.bytes.now)) (sym (is_filled c))
-    (fill-some c.args.self.now s stands c.args.actor c.args.r c.args.bytes.now v c.in-Some.ensures.own rest (left c) (omega (arith, left c)) c.in-Some.ensures.apart (sound_reserved c.self.inside c.self.invariant c.args.self.now c.self.view_is))
+    (fill-some c.args.self.now s stands c.args.actor c.args.r c.args.bytes.now v c.in-Some.ensures.own rest (left c) (omega (arith, left c)) c.in-Some.ensures.apart
+    (sound_reserved c.self.inside c.self.invariant c.args.self.now c.self.view_is))
 
 pub returns-clause-products : goal.returns-clause-products
 returns-clause-products c = is_filled c ∙ ap (λ (b : BookView). record c.args.self.now { bytes = b.bytes; reservations = b.reservations }) (sym (is_filled c))
@@ -165,7 +171,8 @@ returns-clause-places c = λ k in_new below.
 pub returns-clause-reserved : goal.returns-clause-reserved
 returns-clause-reserved c =
     subst (λ (b : BookView). KeepsReserved c.args.self.now b) (sym (is_filled c))
-    (fill-keeps c.args.self.now c.args.r (before c) c.args.bytes.now (at c) (left c) c.in-Some.ensures.small c.in-Some.ensures.apart (sound_reserved c.self.inside c.self.invariant c.args.self.now c.self.view_is))
+    (fill-keeps c.args.self.now c.args.r (before c) c.args.bytes.now (at c) (left c) c.in-Some.ensures.small c.in-Some.ensures.apart
+    (sound_reserved c.self.inside c.self.invariant c.args.self.now c.self.view_is))
 
 pub returns-clause-apart : goal.returns-clause-apart
 returns-clause-apart c = sound_apart _ (invariant_of-self c) (now c) refl

@@ -43,7 +43,8 @@ returns-in_default-time_after-clause-answers c = λ s stands.
     let rows = ap (λ (b : BookView). b.rows) c.self.view_is in
     let last = ap (λ (b : BookView). b.last) c.self.view_is in
     let absent = rw c.signature.ensures at c.in_default.ensures ∙ ap (λ (ks : List Kept). look_kept (kept_with c.args.info.now.signature ks)) rows in
-    time_end c.args.self.now s stands c.args.now p (omega (arith, c.extent-need.ensures, c.len-arena.ensures, arena, c.if-need-arena.false)) (sym absent) (ap is_last (sym last) ∙ c.in_default-time_after.ensures.time)
+    time_end c.args.self.now s stands c.args.now p (omega (arith, c.extent-need.ensures, c.len-arena.ensures, arena, c.if-need-arena.false)) (sym absent)
+    (ap is_last (sym last) ∙ c.in_default-time_after.ensures.time)
 
 pub returns-in_default-make_room-clause-answers : goal.returns-in_default-make_room-clause-answers
 returns-in_default-make_room-clause-answers c = λ s stands.
@@ -60,7 +61,8 @@ returns-in_default-make_room-clause-answers c = λ s stands.
     let count = c.count_held.ensures ∙ ap (λ (b : BookView). count_held b.cursors + length (open_kept b.reservations)) (same ∙ sym c.self.view_is) ∙ counted in
     let none = ap (λ (n : ℕ). is_some (room_for (held_products book) n)) (sym c.extent-need.ensures) ∙ c.in_default-make_room.ensures.locked refl in
     subst (λ (b : BookView). Follows (reply.Locked c.count_held.result) b (insert_of s c.args.now p)) (sym same)
-    (locked book s stands c.args.now p (subst (λ (b : BookView). AreRising b.rows) c.self.view_is c.self.invariant.rising) (omega arith) (omega (arith, c.extent-need.ensures, c.len-arena.ensures, arena, c.if-need-arena.false)) (sym absent) last none c.count_held.result count)
+    (locked book s stands c.args.now p (subst (λ (b : BookView). AreRising b.rows) c.self.view_is c.self.invariant.rising) (omega arith)
+    (omega (arith, c.extent-need.ensures, c.len-arena.ensures, arena, c.if-need-arena.false)) (sym absent) last none c.count_held.result count)
 
 pub put-requires-clause-absent : goal.put-requires-clause-absent
 put-requires-clause-absent c =
@@ -76,7 +78,8 @@ put-requires-clause-timely c =
     let book = c.args.self.now in
     let made = c.in-Some-make_room.ensures.made in
     let alike = alike_all (take c.in-Some-make_room.evicted (unheld_numbers book)) book in
-    subst (λ (o : Option ℕ). IsTimely o c.in-Some.time) (sym (ap (λ (b : BookView). b.last) made.new_is ∙ alike.last)) (subst (λ (b : BookView). IsTimely b.last c.in-Some.time) c.self.view_is c.in-Some.ensures.timely)
+    subst (λ (o : Option ℕ). IsTimely o c.in-Some.time) (sym (ap (λ (b : BookView). b.last) made.new_is ∙ alike.last))
+    (subst (λ (b : BookView). IsTimely b.last c.in-Some.time) c.self.view_is c.in-Some.ensures.timely)
 
 pub put-requires-clause-room : goal.put-requires-clause-room
 put-requires-clause-room c = subst (λ (n : ℕ). is_some (room_for (products c.make_room.new.self) n) ≡ true) c.extent-need.ensures c.in-Some-make_room.ensures.made.room
@@ -94,22 +97,28 @@ returns-clause-answers c = λ s stands.
     let absent = rw c.signature.ensures at c.in_default.ensures ∙ ap (λ (ks : List Kept). look_kept (kept_with c.args.info.now.signature ks)) rows in
     let last : is_last book.last ≡ false = ap (λ (b : BookView). is_last b.last) (sym c.self.view_is) ∙ c.in-Some.ensures.time.0 in
     let time : c.in-Some.time ≡ time_of book.last c.args.now = c.in-Some.ensures.time.1 ∙ ap (λ (b : BookView). time_of b.last c.args.now) c.self.view_is in
-    let needed : (i : ℕ) → i < j → room_for (products (without_oldest i book)) need ≡ None = λ i h. ap (λ (n : ℕ). room_for (products (without_oldest i book)) n) (sym c.extent-need.ensures) ∙ made.needed i h in
+    let needed : (i : ℕ) → i < j → room_for (products (without_oldest i book)) need ≡ None =
+    λ i h. ap (λ (n : ℕ). room_for (products (without_oldest i book)) n) (sym c.extent-need.ensures) ∙ made.needed i h in
     let room : room_for (products (without_oldest j book)) need ≡ Some puts.place = ap (λ (b : BookView). room_for (products b) need) (sym made.new_is) ∙ puts.room in
     let new_is : c.put.new.self ≡ grown (without_oldest j book) (time_of book.last c.args.now) p.info p.body puts.place =
     puts.new_is ∙ ap (λ (b : BookView). grown b c.in-Some.time p.info p.body puts.place) made.new_is ∙ ap (λ (t : ℕ). grown (without_oldest j book) t p.info p.body puts.place) time in
     let alike = alike_all (take j (unheld_numbers book)) book in
     let apart : LieApart book.arena (occupied (grown (without_oldest j book) (time_of book.last c.args.now) p.info p.body puts.place)) =
-    subst (λ (a : ℕ). LieApart a (occupied (grown (without_oldest j book) (time_of book.last c.args.now) p.info p.body puts.place))) alike.arena (subst (λ (b : BookView). LieApart b.arena (occupied b)) new_is c.put.ensures.apart) in
+    subst (λ (a : ℕ). LieApart a (occupied (grown (without_oldest j book) (time_of book.last c.args.now) p.info p.body puts.place))) alike.arena
+    (subst (λ (b : BookView). LieApart b.arena (occupied b)) new_is c.put.ensures.apart) in
     let bytes = ap (λ (b : BookView). length b.bytes) made.new_is in
     let same_bytes = ap (λ (bs : List ℕ). length bs) alike.bytes in
     let inside : puts.place + need ≤ length book.bytes = omega (arith, puts.within, puts.sized, bytes, same_bytes) in
-    let follows = admitted_after book s stands c.args.now p (subst (λ (b : BookView). AreRising b.rows) c.self.view_is c.self.invariant.rising) (omega (arith, c.extent-need.ensures, c.len-arena.ensures, arena, c.if-need-arena.false)) (sym absent) last j puts.place made.free needed room c.put.ensures.fits c.requires inside
+    let follows =
+    admitted_after book s stands c.args.now p (subst (λ (b : BookView). AreRising b.rows) c.self.view_is c.self.invariant.rising)
+    (omega (arith, c.extent-need.ensures, c.len-arena.ensures, arena, c.if-need-arena.false)) (sym absent) last j puts.place made.free needed room c.put.ensures.fits c.requires inside
     (sound_reserved c.self.inside c.self.invariant book c.self.view_is) apart in
     let admitted = ap (λ (b : BookView). b.admitted) c.self.view_is in
     subst (λ (b : BookView). Follows (reply.Admitted c.self.inside.admitted c.in-Some.time j) b (insert_of s c.args.now p)) (sym new_is)
-    (subst (λ (t : ℕ). Follows (reply.Admitted c.self.inside.admitted t j) (grown (without_oldest j book) (time_of book.last c.args.now) p.info p.body puts.place) (insert_of s c.args.now p)) (sym time)
-    (subst (λ (n : ℕ). Follows (reply.Admitted n (time_of book.last c.args.now) j) (grown (without_oldest j book) (time_of book.last c.args.now) p.info p.body puts.place) (insert_of s c.args.now p)) (sym admitted) follows))
+    (subst (λ (t : ℕ). Follows (reply.Admitted c.self.inside.admitted t j) (grown (without_oldest j book) (time_of book.last c.args.now) p.info p.body puts.place) (insert_of s c.args.now p))
+    (sym time)
+    (subst (λ (n : ℕ). Follows (reply.Admitted n (time_of book.last c.args.now) j) (grown (without_oldest j book) (time_of book.last c.args.now) p.info p.body puts.place) (insert_of s c.args.now p))
+    (sym admitted) follows))
 
 pub returns-clause-places : goal.returns-clause-places
 returns-clause-places c = λ k in_new below.

@@ -43,7 +43,9 @@ overflow_add-from c = omega (arith, c.in-Some.ensures.small)
 
 pub returns-then-has_room-2-clause-made : goal.returns-then-has_room-2-clause-made
 returns-then-has_room-2-clause-made c =
-    let next = next_evicted c.args.self.now c.loop-n.self c.evict.new.self c.args.need c.loop-n.from c.in-Some.n c.loop-n.evicted c.loop-n.invariant c.in-Some.ensures.rising c.in-Some.ensures.ahead c.in-Some.ensures.first c.evict.ensures.evicted in
+    let next =
+    next_evicted c.args.self.now c.loop-n.self c.evict.new.self c.args.need c.loop-n.from c.in-Some.n c.loop-n.evicted c.loop-n.invariant
+    c.in-Some.ensures.rising c.in-Some.ensures.ahead c.in-Some.ensures.first c.evict.ensures.evicted in
     record {
       free = next.few;
       needed = c.loop-n.invariant.needed;
@@ -53,16 +55,21 @@ returns-then-has_room-2-clause-made c =
 
 pub loop-n-smaller : goal.loop-n-smaller
 loop-n-smaller c =
-    let next = next_evicted c.args.self.now c.loop-n.self c.evict.new.self c.args.need c.loop-n.from c.in-Some.n c.loop-n.evicted c.loop-n.invariant c.in-Some.ensures.rising c.in-Some.ensures.ahead c.in-Some.ensures.first c.evict.ensures.evicted in
+    let next =
+    next_evicted c.args.self.now c.loop-n.self c.evict.new.self c.args.need c.loop-n.from c.in-Some.n c.loop-n.evicted c.loop-n.invariant
+    c.in-Some.ensures.rising c.in-Some.ensures.ahead c.in-Some.ensures.first c.evict.ensures.evicted in
     let now = ap (λ (ns : List ℕ). length ns) c.loop-n.invariant.left in
     let after = ap (λ (ns : List ℕ). length ns) next.left in
     omega (arith, now, after, next.few, length-drop c.loop-n.evicted (unheld_numbers c.args.self.now), length-drop (c.loop-n.evicted + 1) (unheld_numbers c.args.self.now))
 
 pub loop-n-preserved : goal.loop-n-preserved
 loop-n-preserved c =
-    let next = next_evicted c.args.self.now c.loop-n.self c.evict.new.self c.args.need c.loop-n.from c.in-Some.n c.loop-n.evicted c.loop-n.invariant c.in-Some.ensures.rising c.in-Some.ensures.ahead c.in-Some.ensures.first c.evict.ensures.evicted in
+    let next =
+    next_evicted c.args.self.now c.loop-n.self c.evict.new.self c.args.need c.loop-n.from c.in-Some.n c.loop-n.evicted c.loop-n.invariant
+    c.in-Some.ensures.rising c.in-Some.ensures.ahead c.in-Some.ensures.first c.evict.ensures.evicted in
     let none = sym (c.has_room-in-Some.ensures ∙ ap is_some (room_seen c.self-in-Some.inside c.self-in-Some.invariant c.evict.new.self c.args.need c.self-in-Some.view_is)) ∙ c.if-has_room-2.false in
-    evicted_more c.args.self.now c.loop-n.self c.evict.new.self c.args.need c.loop-n.from c.in-Some.n c.loop-n.evicted c.loop-n.invariant c.in-Some.ensures.above next (room_none (room_for (products c.evict.new.self) c.args.need) none)
+    evicted_more c.args.self.now c.loop-n.self c.evict.new.self c.args.need c.loop-n.from c.in-Some.n c.loop-n.evicted c.loop-n.invariant c.in-Some.ensures.above next
+    (room_none (room_for (products c.evict.new.self) c.args.need) none)
 
 pub unreachable-requires : goal.unreachable-requires
 unreachable-requires c =

@@ -34,7 +34,8 @@ returns-clause-answers c = λ s stands.
     elim c.match-seat.branch [
       | in-Some-seat w ↦
           subst (λ (r : OpenReply). Follows (open_answer r) (with_cursors (view_of inside) c.seat.new.self) (open_cursor s c.args.actor c.args.feed.0 c.args.start)) (sym w.result-is)
-          (subst (λ (cs : Places). Follows (reply.Opened w.in-Some-seat.k) (with_cursors (view_of inside) cs) (open_cursor s c.args.actor c.args.feed.0 c.args.start)) (sym w.in-Some-seat.ensures.seated)
+          (subst (λ (cs : Places). Follows (reply.Opened w.in-Some-seat.k) (with_cursors (view_of inside) cs) (open_cursor s c.args.actor c.args.feed.0 c.args.start))
+          (sym w.in-Some-seat.ensures.seated)
           (opened (view_of inside) s here c.args.actor c.args.feed.0 c.args.start w.in-Some-seat.k c.in-Some.position (sym w.in-Some-seat.ensures.place) at))
       | in-None w ↦
           subst (λ (r : OpenReply). Follows (open_answer r) (with_cursors (view_of inside) c.seat.new.self) (open_cursor s c.args.actor c.args.feed.0 c.args.start)) (sym w.result-is)

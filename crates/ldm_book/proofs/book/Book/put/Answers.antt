@@ -50,7 +50,9 @@ invariant_of-self c =
     let inside = c.self.inside in
     let new = kept_of inside.admitted c.args.time c.in-Some.place c.args.info.now in
     let rows = ap (λ (p : ProductsView). p.rows) c.in-Some.ensures.rows in
-    let timed = timed_push inside.last inside.admitted c.args.time inside.products.rows new c.self.invariant.timed (subst (λ (b : BookView). IsTimely b.last c.args.time) (sym c.self.view_is) c.requires.timely) refl refl in
+    let timed =
+    timed_push inside.last inside.admitted c.args.time inside.products.rows new c.self.invariant.timed
+    (subst (λ (b : BookView). IsTimely b.last c.args.time) (sym c.self.view_is) c.requires.timely) refl refl in
     let items = inside.arena.items in
     let long = length-bytes_of (given c) c.write_product.ensures.fits c.requires.size in
     let within = within_arena c in
@@ -66,16 +68,23 @@ invariant_of-self c =
     record {
       arena = search rules;
       timed = subst (λ (ks : List Kept). IsTimed (Some c.args.time) (inside.admitted + 1) ks) (sym rows) timed;
-      rising = subst (λ (ks : List Kept). AreRising ks) (sym rows) (rising_push inside.products.rows new c.self.invariant.rising (timed_below inside.last inside.admitted inside.products.rows c.self.invariant.timed));
+      rising =
+          subst (λ (ks : List Kept). AreRising ks) (sym rows)
+          (rising_push inside.products.rows new c.self.invariant.rising (timed_below inside.last inside.admitted inside.products.rows c.self.invariant.timed));
       apart = search rules;
       arena_small = search rules;
       slots_small = search rules;
       some_slot = search rules;
       admitted_small = omega (arith, timed.0, c.requires.instant);
       few = omega (arith, ap (λ (ks : List Kept). length ks) rows, length-append inside.products.rows (new ∷ []), c.self.invariant.few);
-      readers = subst (λ (ks : List Kept). AreReading (inside.admitted + 1) ks inside.cursors) (sym rows) (reading-push inside.admitted inside.products.rows new inside.cursors c.self.invariant.readers);
-      stored = subst (λ (bs : List ℕ). HaveMetadata bs c.put.new.self.rows) (sym (are_written c)) (subst (λ (ks : List Kept). HaveMetadata (written items (bytes_of (given c)) c.in-Some.place) ks) (sym rows) stored);
-      reserved = subst (λ (bs : List ℕ). AreReserved bs c.put.new.self.reservations) (sym (are_written c)) (subst (λ (rs : Reservations). AreReserved (written items (bytes_of (given c)) c.in-Some.place) rs) (sym (ap (λ (p : ProductsView). p.reservations) c.in-Some.ensures.rows)) reserved);
+      readers =
+          subst (λ (ks : List Kept). AreReading (inside.admitted + 1) ks inside.cursors) (sym rows) (reading-push inside.admitted inside.products.rows new inside.cursors c.self.invariant.readers);
+      stored =
+          subst (λ (bs : List ℕ). HaveMetadata bs c.put.new.self.rows) (sym (are_written c))
+          (subst (λ (ks : List Kept). HaveMetadata (written items (bytes_of (given c)) c.in-Some.place) ks) (sym rows) stored);
+      reserved =
+          subst (λ (bs : List ℕ). AreReserved bs c.put.new.self.reservations) (sym (are_written c))
+          (subst (λ (rs : Reservations). AreReserved (written items (bytes_of (given c)) c.in-Some.place) rs) (sym (ap (λ (p : ProductsView). p.reservations) c.in-Some.ensures.rows)) reserved);
     }
 
 -- what the book is then

@@ -36,7 +36,8 @@ are_written c =
     let n = c.in-Some.place + c.info_len.result - c.in-Some.place in
     let long = length-spelling c.args.info.now c.write_product.ensures.fits.signature in
     (λ i. (let part = put_mid c.in-Some.place n (c.deref_mut.ensures.value i) c.write_product.new.room in take c.self.inside.arena.len (part ++ drop (length part) items)))
-    ∙ items_written items c.write_product.new.room (spelling c.args.info.now) c.self.inside.arena.len c.in-Some.place n c.self.inside.arena.ok.0 (c.write_product.ensures.written ∙ append-nil (spelling c.args.info.now))
+    ∙ items_written items c.write_product.new.room (spelling c.args.info.now) c.self.inside.arena.len c.in-Some.place n c.self.inside.arena.ok.0
+    (c.write_product.ensures.written ∙ append-nil (spelling c.args.info.now))
     (omega (arith, long, c.info_len.ensures.value))
     (omega (arith, long, c.info_len.ensures.value, c.in-Some.ensures.within, c.self.invariant.arena, c.self.inside.arena.ok.0))
 
@@ -66,8 +67,11 @@ invariant_of-self c =
     let first = from book c.args.actor c.args.r info place fits (inside_arena c) c.in-Some.ensures.bound (lie c) in
     let last = to book c.args.actor c.args.r info place fits (inside_arena c) c.in-Some.ensures.bound (lie c) in
     let long = within book c.args.actor c.args.r info place fits (inside_arena c) c.in-Some.ensures.bound (lie c) in
-    let stored = metadata_still items (spelling info) place region first last long p.rows (reserve-rows book c.args.actor c.args.r info place fits (inside_arena c) c.in-Some.ensures.bound (lie c)) kept.stored in
-    let reserved = reserved_others items (spelling info) place region first last long made (reserved-new items c.args.actor info place fits (inside_arena c)) p.reservations c.args.r (reserve-others book c.args.actor c.args.r info place fits (inside_arena c) c.in-Some.ensures.bound (lie c)) kept.reserved in
+    let stored =
+    metadata_still items (spelling info) place region first last long p.rows (reserve-rows book c.args.actor c.args.r info place fits (inside_arena c) c.in-Some.ensures.bound (lie c)) kept.stored in
+    let reserved =
+    reserved_others items (spelling info) place region first last long made (reserved-new items c.args.actor info place fits (inside_arena c)) p.reservations c.args.r
+    (reserve-others book c.args.actor c.args.r info place fits (inside_arena c) c.in-Some.ensures.bound (lie c)) kept.reserved in
     record {
       arena = kept.arena ∙ sym (ap (λ (q : ProductsView). q.arena) after);
       timed = subst (λ (ks : List Kept). IsTimed inside.last inside.admitted ks) (sym rows) kept.timed;
@@ -79,8 +83,11 @@ invariant_of-self c =
       admitted_small = kept.admitted_small;
       few = omega (arith, ap (λ (ks : List Kept). length ks) rows, kept.few);
       readers = subst (λ (ks : List Kept). AreReading inside.admitted ks inside.cursors) (sym rows) kept.readers;
-      stored = subst (λ (bs : List ℕ). HaveMetadata bs c.reserve.new.self.rows) (sym (are_written c)) (subst (λ (ks : List Kept). HaveMetadata (written items (spelling info) place) ks) (sym rows) stored);
-      reserved = subst (λ (bs : List ℕ). AreReserved bs c.reserve.new.self.reservations) (sym (are_written c)) (subst (λ (q : ProductsView). AreReserved (written items (spelling info) place) q.reservations) (sym after) reserved);
+      stored =
+          subst (λ (bs : List ℕ). HaveMetadata bs c.reserve.new.self.rows) (sym (are_written c)) (subst (λ (ks : List Kept). HaveMetadata (written items (spelling info) place) ks) (sym rows) stored);
+      reserved =
+          subst (λ (bs : List ℕ). AreReserved bs c.reserve.new.self.reservations) (sym (are_written c))
+          (subst (λ (q : ProductsView). AreReserved (written items (spelling info) place) q.reservations) (sym after) reserved);
     }
 
 pub returns-clause-put : goal.returns-clause-put

@@ -39,30 +39,35 @@ unreachable-requires c =
     let inside = c.self.inside in
     let x = some_cursor (λ (y : KeptCursor). y.actor ≡ c.args.actor) (cursor_at inside.cursors c.args.k) (c.owned.ensures.owned.0 c.if-not-owned.false) in
     let some = at_cursor (λ (y : KeptCursor). Some c.in-Some.n ≡ y.held) (cursor_at inside.cursors c.args.k) x.0 x.1 c.in-Some.ensures.value in
-    found_any c.in-Some.n inside.products.rows (held_at_there inside.admitted inside.products.rows inside.cursors c.args.k c.in-Some.n x.0 c.self.invariant.readers x.1 (sym some)) (sym c.in_default-first_row.ensures.first)
+    found_any c.in-Some.n inside.products.rows (held_at_there inside.admitted inside.products.rows inside.cursors c.args.k c.in-Some.n x.0 c.self.invariant.readers x.1 (sym some))
+    (sym c.in_default-first_row.ensures.first)
 
 pub overflow_add-front : goal.overflow_add-front
 overflow_add-front c =
     let row = row_kept c.in-Some-first_row.row in
-    let lie = lie_found c.self.inside.products.arena (at_number c.in-Some.n) c.self.inside.products.rows c.self.inside.products.reservations row c.self.invariant.apart (sym c.in-Some-first_row.ensures.first) in
+    let lie =
+    lie_found c.self.inside.products.arena (at_number c.in-Some.n) c.self.inside.products.rows c.self.inside.products.reservations row c.self.invariant.apart (sym c.in-Some-first_row.ensures.first) in
     omega (arith, lie, c.self.invariant.arena, c.self.invariant.arena_small)
 
 pub overflow_add-front-2 : goal.overflow_add-front-2
 overflow_add-front-2 c =
     let row = row_kept c.in-Some-first_row.row in
-    let lie = lie_found c.self.inside.products.arena (at_number c.in-Some.n) c.self.inside.products.rows c.self.inside.products.reservations row c.self.invariant.apart (sym c.in-Some-first_row.ensures.first) in
+    let lie =
+    lie_found c.self.inside.products.arena (at_number c.in-Some.n) c.self.inside.products.rows c.self.inside.products.reservations row c.self.invariant.apart (sym c.in-Some-first_row.ensures.first) in
     omega (arith, lie, c.self.invariant.arena, c.self.invariant.arena_small)
 
 pub overflow_add-front-3 : goal.overflow_add-front-3
 overflow_add-front-3 c =
     let row = row_kept c.in-Some-first_row.row in
-    let lie = lie_found c.self.inside.products.arena (at_number c.in-Some.n) c.self.inside.products.rows c.self.inside.products.reservations row c.self.invariant.apart (sym c.in-Some-first_row.ensures.first) in
+    let lie =
+    lie_found c.self.inside.products.arena (at_number c.in-Some.n) c.self.inside.products.rows c.self.inside.products.reservations row c.self.invariant.apart (sym c.in-Some-first_row.ensures.first) in
     omega (arith, lie, c.min-len.ensures, c.self.invariant.arena, c.self.invariant.arena_small)
 
 pub slice_bounds-copy_from_slice-end-3 : goal.slice_bounds-copy_from_slice-end-3
 slice_bounds-copy_from_slice-end-3 c =
     let row = row_kept c.in-Some-first_row.row in
-    let lie = lie_found c.self.inside.products.arena (at_number c.in-Some.n) c.self.inside.products.rows c.self.inside.products.reservations row c.self.invariant.apart (sym c.in-Some-first_row.ensures.first) in
+    let lie =
+    lie_found c.self.inside.products.arena (at_number c.in-Some.n) c.self.inside.products.rows c.self.inside.products.reservations row c.self.invariant.apart (sym c.in-Some-first_row.ensures.first) in
     let bytes = c.self.inside.arena.ok.0 in
     omega (arith, lie, bytes, c.min-len.ensures, c.self.invariant.arena, c.deref.ensures.len)
 
@@ -75,7 +80,8 @@ returns-then-offset-size-clause-answers c = λ s stands.
     let there = held_at_there inside.admitted inside.products.rows inside.cursors c.args.k c.in-Some.n (kept_cursor is.cursor) c.self.invariant.readers is.kept (sym some) in
     let row = row_kept c.in-Some-first_row.row in
     subst (λ (b : BookView). Follows (reply.BadOffset row.size) b (read s c.args.actor c.args.k c.args.offset (asked_bytes (length c.args.into.now)))) c.self.view_is
-    (read-bad (view_of inside) s here c.args.actor c.args.k c.args.offset (asked_bytes (length c.args.into.now)) is c.in-Some.n there row (sym some) c.in-Some-first_row.ensures.first (omega (arith, c.if-offset-size.true)))
+    (read-bad (view_of inside) s here c.args.actor c.args.k c.args.offset (asked_bytes (length c.args.into.now)) is c.in-Some.n there row (sym some) c.in-Some-first_row.ensures.first
+    (omega (arith, c.if-offset-size.true)))
 
 pub returns-clause-answers : goal.returns-clause-answers
 returns-clause-answers c = λ s stands.
@@ -92,6 +98,8 @@ returns-clause-answers c = λ s stands.
     (omega arith) (omega (arith, c.min-len.ensures, c.if-offset-size.false)) (omega (arith, c.min-len.ensures, c.if-offset-size.false))
     (omega (arith, lie, bytes, c.min-len.ensures, c.if-offset-size.false, c.self.invariant.arena))
     (c.copy_from_slice.ensures.after ∙ ap (between front (front + c.min-len.result)) c.deref.ensures.value) in
-    subst (λ (b : BookView). Follows (reply.Bytes (take c.min-len.result (c.copy_from_slice.new.self ++ drop c.min-len.result c.args.into.now))) b (read s c.args.actor c.args.k c.args.offset (asked_bytes (length c.args.into.now)))) c.self.view_is
-    (read-bytes (view_of inside) s here c.args.actor c.args.k c.args.offset (asked_bytes (length c.args.into.now)) is c.in-Some.n there row (sym some) c.in-Some-first_row.ensures.first (omega (arith, c.if-offset-size.false))
+    subst (λ (b : BookView). Follows (reply.Bytes (take c.min-len.result (c.copy_from_slice.new.self ++ drop c.min-len.result c.args.into.now))) b
+    (read s c.args.actor c.args.k c.args.offset (asked_bytes (length c.args.into.now)))) c.self.view_is
+    (read-bytes (view_of inside) s here c.args.actor c.args.k c.args.offset (asked_bytes (length c.args.into.now)) is c.in-Some.n there row (sym some) c.in-Some-first_row.ensures.first
+    (omega (arith, c.if-offset-size.false))
     (take c.min-len.result (c.copy_from_slice.new.self ++ drop c.min-len.result c.args.into.now)) part)

@@ -34,7 +34,8 @@ returns-in-Queued-clause-answers c = λ s stands.
     let arena = ap (λ (b : BookView). b.arena) c.self.view_is in
     let rows = ap (λ (b : BookView). b.rows) c.self.view_is in
     let found = rw c.signature.ensures at c.in-Queued.ensures ∙ ap (λ (ks : List Kept). look_kept (kept_with c.args.info.now.signature ks)) rows in
-    reserve-duplicate c.args.self.now s stands c.args.actor c.args.info.now (omega (arith, c.extent-need.ensures, c.len-arena.ensures, arena, c.if-need-arena.false)) c.in-Queued.n c.in-Queued.time (sym found)
+    reserve-duplicate c.args.self.now s stands c.args.actor c.args.info.now (omega (arith, c.extent-need.ensures, c.len-arena.ensures, arena, c.if-need-arena.false)) c.in-Queued.n c.in-Queued.time
+    (sym found)
 
 pub returns-in_default-first_empty-clause-answers : goal.returns-in_default-first_empty-clause-answers
 returns-in_default-first_empty-clause-answers c = λ s stands.
@@ -58,7 +59,8 @@ returns-in_default-make_room-clause-answers c = λ s stands.
     let count = c.count_held.ensures ∙ ap (λ (b : BookView). count_held b.cursors + length (open_kept b.reservations)) (same ∙ sym c.self.view_is) ∙ counted in
     let none = ap (λ (n : ℕ). is_some (room_for (held_products book) n)) (sym c.extent-need.ensures) ∙ c.in_default-make_room.ensures.locked refl in
     subst (λ (b : BookView). Follows (reply.Locked c.count_held.result) b (reserve_of s c.args.actor c.args.info.now)) (sym same)
-    (reserve-locked book s stands c.args.actor c.args.info.now (subst (λ (b : BookView). AreRising b.rows) c.self.view_is c.self.invariant.rising) (omega arith) (omega (arith, c.extent-need.ensures, c.len-arena.ensures, arena, c.if-need-arena.false)) (sym absent) c.in-Some.r least none c.count_held.result count)
+    (reserve-locked book s stands c.args.actor c.args.info.now (subst (λ (b : BookView). AreRising b.rows) c.self.view_is c.self.invariant.rising) (omega arith)
+    (omega (arith, c.extent-need.ensures, c.len-arena.ensures, arena, c.if-need-arena.false)) (sym absent) c.in-Some.r least none c.count_held.result count)
 
 pub put_reserved-requires-clause-empty : goal.put_reserved-requires-clause-empty
 put_reserved-requires-clause-empty c =
@@ -85,19 +87,23 @@ returns-clause-answers c = λ s stands.
     let absent = rw c.signature.ensures at c.in_default.ensures ∙ ap (λ (ks : List Kept). look_kept (kept_with info.signature ks)) rows in
     let least = c.in-Some.ensures ∙ ap (λ (b : BookView). position is_none b.reservations) c.self.view_is in
     let after = without_oldest j book in
-    let needed : (i : ℕ) → i < j → room_for (products (without_oldest i book)) need ≡ None = λ i h. ap (λ (n : ℕ). room_for (products (without_oldest i book)) n) (sym c.extent-need.ensures) ∙ made.needed i h in
+    let needed : (i : ℕ) → i < j → room_for (products (without_oldest i book)) need ≡ None =
+    λ i h. ap (λ (n : ℕ). room_for (products (without_oldest i book)) n) (sym c.extent-need.ensures) ∙ made.needed i h in
     let room : room_for (products after) need ≡ Some puts.place = ap (λ (b : BookView). room_for (products b) need) (sym made.new_is) ∙ puts.room in
     let new_is : c.put_reserved.new.self ≡ reserved_at after c.args.actor r info puts.place = puts.new_is ∙ ap (λ (b : BookView). reserved_at b c.args.actor r info puts.place) made.new_is in
     let alike = alike_all (take j (unheld_numbers book)) book in
     let apart : LieApart book.arena (occupied (reserved_at after c.args.actor r info puts.place)) =
-    subst (λ (a : ℕ). LieApart a (occupied (reserved_at after c.args.actor r info puts.place))) alike.arena (subst (λ (b : BookView). LieApart b.arena (occupied b)) new_is c.put_reserved.ensures.apart) in
+    subst (λ (a : ℕ). LieApart a (occupied (reserved_at after c.args.actor r info puts.place))) alike.arena
+    (subst (λ (b : BookView). LieApart b.arena (occupied b)) new_is c.put_reserved.ensures.apart) in
     let bytes = ap (λ (b : BookView). length b.bytes) made.new_is in
     let same_bytes = ap (λ (bs : List ℕ). length bs) alike.bytes in
     let inside : puts.place + need ≤ length book.bytes = omega (arith, puts.within, puts.sized, bytes, same_bytes) in
     let many = ap (λ (b : BookView). length b.reservations) made.new_is in
     let same_many = ap (λ (rs : Reservations). length rs) alike.reservations in
     subst (λ (b : BookView). Follows (reply.Reserved r j) b (reserve_of s c.args.actor info)) (sym new_is)
-    (reserve-after book s stands c.args.actor info (subst (λ (b : BookView). AreRising b.rows) c.self.view_is c.self.invariant.rising) (omega (arith, c.extent-need.ensures, c.len-arena.ensures, arena, c.if-need-arena.false)) (sym absent) r least (omega (arith, puts.bound, many, same_many)) j puts.place made.free needed room c.put_reserved.ensures.fits inside
+    (reserve-after book s stands c.args.actor info (subst (λ (b : BookView). AreRising b.rows) c.self.view_is c.self.invariant.rising)
+    (omega (arith, c.extent-need.ensures, c.len-arena.ensures, arena, c.if-need-arena.false)) (sym absent) r least
+    (omega (arith, puts.bound, many, same_many)) j puts.place made.free needed room c.put_reserved.ensures.fits inside
     (sound_reserved c.self.inside c.self.invariant book c.self.view_is) apart)
 
 pub returns-clause-places : goal.returns-clause-places

@@ -15,14 +15,18 @@ pub overflow_add-result : goal.overflow_add-result
 overflow_add-result c =
     let inside = c.self.inside in
     let found = look_found (kept_with c.in-AfterSignature.signature.0 inside.products.rows) c.in-Queued.n c.in-Queued.time c.in-Queued.ensures in
-    let below = found_all (λ (k : Kept). k.number < inside.admitted) (kept_signature c.in-AfterSignature.signature.0) inside.products.rows found.0 (timed_below inside.last inside.admitted inside.products.rows c.self.invariant.timed) found.1 in
+    let below =
+    found_all (λ (k : Kept). k.number < inside.admitted) (kept_signature c.in-AfterSignature.signature.0) inside.products.rows found.0
+    (timed_below inside.last inside.admitted inside.products.rows c.self.invariant.timed) found.1 in
     omega (arith, below, found.2, c.self.invariant.admitted_small)
 
 pub returns-in-Queued-clause-within : goal.returns-in-Queued-clause-within
 returns-in-Queued-clause-within c =
     let inside = c.self.inside in
     let found = look_found (kept_with c.in-AfterSignature.signature.0 inside.products.rows) c.in-Queued.n c.in-Queued.time c.in-Queued.ensures in
-    let below = found_all (λ (k : Kept). k.number < inside.admitted) (kept_signature c.in-AfterSignature.signature.0) inside.products.rows found.0 (timed_below inside.last inside.admitted inside.products.rows c.self.invariant.timed) found.1 in
+    let below =
+    found_all (λ (k : Kept). k.number < inside.admitted) (kept_signature c.in-AfterSignature.signature.0) inside.products.rows found.0
+    (timed_below inside.last inside.admitted inside.products.rows c.self.invariant.timed) found.1 in
     let end = ap (λ (b : BookView). b.admitted) c.self.view_is in
     omega (arith, below, found.2, end)
 
@@ -46,7 +50,8 @@ pub returns-in-Some-clause-within : goal.returns-in-Some-clause-within
 returns-in-Some-clause-within c =
     let inside = c.self.inside in
     let found = number_found (find (at_number 0) inside.products.rows) c.in-Some.n c.in-Some.ensures.first in
-    let below = found_all (λ (k : Kept). k.number < inside.admitted) (at_number 0) inside.products.rows found.0 (timed_below inside.last inside.admitted inside.products.rows c.self.invariant.timed) found.1 in
+    let below =
+    found_all (λ (k : Kept). k.number < inside.admitted) (at_number 0) inside.products.rows found.0 (timed_below inside.last inside.admitted inside.products.rows c.self.invariant.timed) found.1 in
     let end = ap (λ (b : BookView). b.admitted) c.self.view_is in
     omega (arith, below, found.2, end)
 
@@ -54,6 +59,8 @@ pub returns-in-Some-first_after-clause-within : goal.returns-in-Some-first_after
 returns-in-Some-first_after-clause-within c =
     let inside = c.self.inside in
     let found = number_found (find (is_later c.in-After.time) inside.products.rows) c.in-Some-first_after.n c.in-Some-first_after.ensures in
-    let below = found_all (λ (k : Kept). k.number < inside.admitted) (is_later c.in-After.time) inside.products.rows found.0 (timed_below inside.last inside.admitted inside.products.rows c.self.invariant.timed) found.1 in
+    let below =
+    found_all (λ (k : Kept). k.number < inside.admitted) (is_later c.in-After.time) inside.products.rows found.0
+    (timed_below inside.last inside.admitted inside.products.rows c.self.invariant.timed) found.1 in
     let end = ap (λ (b : BookView). b.admitted) c.self.view_is in
     omega (arith, below, found.2, end)

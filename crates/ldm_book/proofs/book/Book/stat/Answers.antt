@@ -22,7 +22,8 @@ returns-clause-answers c = λ s stands.
       reply = stat-stands c.args.self.now s stands _ _ _ _ _
           (ap (λ (b : BookView). b.admitted) c.self.view_is)
           (c.len.ensures.count ∙ ap (λ (ks : List Kept). length ks) rows)
-          (c.count_held.ensures ∙ sym (ap (λ (b : BookView). count_held b.cursors + length (open_kept b.reservations)) c.self.view_is) ∙ count-stands (view_of inside) s here (timed_below inside.last inside.admitted inside.products.rows c.self.invariant.timed) c.self.invariant.readers)
+          (c.count_held.ensures ∙ sym (ap (λ (b : BookView). count_held b.cursors + length (open_kept b.reservations)) c.self.view_is)
+          ∙ count-stands (view_of inside) s here (timed_below inside.last inside.admitted inside.products.rows c.self.invariant.timed) c.self.invariant.readers)
           (c.used.ensures ∙ ap (λ (b : BookView). extents (occupied b)) c.self.view_is)
           (c.largest_free.ensures ∙ ap (λ (b : BookView). longest (gaps (occupied b) c.self.inside.products.arena)) c.self.view_is ∙ ap (λ (a : ℕ). longest (gaps (occupied c.args.self.now) a)) arena);
       state = stands;

@@ -53,14 +53,18 @@ pub hold-requires-clause-number : goal.hold-requires-clause-number
 hold-requires-clause-number c =
     let inside = c.self.inside in
     let row = row_kept c.in-Some-first_meeting.row in
-    let below = found_all (λ (k : Kept). k.number < inside.admitted) (awaits c.position-position.result c.feed.result.0) inside.products.rows row (timed_below inside.last inside.admitted inside.products.rows c.self.invariant.timed) (sym c.in-Some-first_meeting.ensures) in
+    let below =
+    found_all (λ (k : Kept). k.number < inside.admitted) (awaits c.position-position.result c.feed.result.0) inside.products.rows row
+    (timed_below inside.last inside.admitted inside.products.rows c.self.invariant.timed) (sym c.in-Some-first_meeting.ensures) in
     omega (arith, below, c.self.invariant.admitted_small)
 
 pub hold-requires-clause-reached : goal.hold-requires-clause-reached
 hold-requires-clause-reached c =
     let own = c.owned.ensures.owned.0 c.if-not-owned.false in
     let x = some_cursor (λ (y : KeptCursor). y.actor ≡ c.args.actor) (cursor_at c.self.inside.cursors c.args.k) own in
-    let same = c.tell.ensures.told ∙ told-nothing c.self.inside.cursors c.args.k x.0 x.1 (at_cursor (λ (y : KeptCursor). None ≡ option_map numbers_of y.untold) (cursor_at c.self.inside.cursors c.args.k) x.0 x.1 c.in_default-tell.ensures.value) in
+    let same =
+    c.tell.ensures.told ∙ told-nothing c.self.inside.cursors c.args.k x.0 x.1
+    (at_cursor (λ (y : KeptCursor). None ≡ option_map numbers_of y.untold) (cursor_at c.self.inside.cursors c.args.k) x.0 x.1 c.in_default-tell.ensures.value) in
     let at = ap (λ (cs : Places). cursor_at cs c.args.k) same ∙ x.1 in
     let position = at_cursor (λ (y : KeptCursor). c.position-position.result ≡ y.position) (cursor_at c.tell.new.self c.args.k) x.0 at c.position-position.ensures.value in
     let row = row_kept c.in-Some-first_meeting.row in
@@ -72,12 +76,16 @@ invariant_of-self-in-Some-first_meeting c =
     let inside = c.self.inside in
     let own = c.owned.ensures.owned.0 c.if-not-owned.false in
     let x = some_cursor (λ (y : KeptCursor). y.actor ≡ c.args.actor) (cursor_at c.self.inside.cursors c.args.k) own in
-    let same = c.tell.ensures.told ∙ told-nothing c.self.inside.cursors c.args.k x.0 x.1 (at_cursor (λ (y : KeptCursor). None ≡ option_map numbers_of y.untold) (cursor_at c.self.inside.cursors c.args.k) x.0 x.1 c.in_default-tell.ensures.value) in
+    let same =
+    c.tell.ensures.told ∙ told-nothing c.self.inside.cursors c.args.k x.0 x.1
+    (at_cursor (λ (y : KeptCursor). None ≡ option_map numbers_of y.untold) (cursor_at c.self.inside.cursors c.args.k) x.0 x.1 c.in_default-tell.ensures.value) in
     let at = ap (λ (cs : Places). cursor_at cs c.args.k) same ∙ x.1 in
     let position = at_cursor (λ (y : KeptCursor). c.position-position.result ≡ y.position) (cursor_at c.tell.new.self c.args.k) x.0 at c.position-position.ensures.value in
     let row = row_kept c.in-Some-first_meeting.row in
     let above = meets_above c.position-position.result c.feed.result.0 inside.products.rows row (sym c.in-Some-first_meeting.ensures) in
-    let below = found_all (λ (k : Kept). k.number < inside.admitted) (awaits c.position-position.result c.feed.result.0) inside.products.rows row (timed_below inside.last inside.admitted inside.products.rows c.self.invariant.timed) (sym c.in-Some-first_meeting.ensures) in
+    let below =
+    found_all (λ (k : Kept). k.number < inside.admitted) (awaits c.position-position.result c.feed.result.0) inside.products.rows row
+    (timed_below inside.last inside.admitted inside.products.rows c.self.invariant.timed) (sym c.in-Some-first_meeting.ensures) in
     let there = found_there (awaits c.position-position.result c.feed.result.0) inside.products.rows row (sym c.in-Some-first_meeting.ensures) in
     let held = c.hold.ensures.held ∙ ap (λ (cs : Places). with_change cs c.args.k (after_hold row.number)) same in
     record {
@@ -99,7 +107,9 @@ invariant_of-self-in-Some-first_meeting c =
 pub metadata_at-requires-clause-within : goal.metadata_at-requires-clause-within
 metadata_at-requires-clause-within c =
     let inside = c.self.inside in
-    let lie = lie_found inside.products.arena (awaits c.position-position.result c.feed.result.0) inside.products.rows inside.products.reservations (row_kept c.in-Some-first_meeting.row) c.self.invariant.apart (sym c.in-Some-first_meeting.ensures) in
+    let lie =
+    lie_found inside.products.arena (awaits c.position-position.result c.feed.result.0) inside.products.rows inside.products.reservations (row_kept c.in-Some-first_meeting.row) c.self.invariant.apart
+    (sym c.in-Some-first_meeting.ensures) in
     omega (arith, lie, inside.arena.ok.0, c.self.invariant.arena, c.deref.ensures.len)
 
 pub metadata_at-requires-clause-some : goal.metadata_at-requires-clause-some
@@ -114,7 +124,9 @@ returns-in-Some-first_meeting-clause-answers c = λ s stands.
     let inside = c.self.inside in
     let own = c.owned.ensures.owned.0 c.if-not-owned.false in
     let x = some_cursor (λ (y : KeptCursor). y.actor ≡ c.args.actor) (cursor_at c.self.inside.cursors c.args.k) own in
-    let same = c.tell.ensures.told ∙ told-nothing c.self.inside.cursors c.args.k x.0 x.1 (at_cursor (λ (y : KeptCursor). None ≡ option_map numbers_of y.untold) (cursor_at c.self.inside.cursors c.args.k) x.0 x.1 c.in_default-tell.ensures.value) in
+    let same =
+    c.tell.ensures.told ∙ told-nothing c.self.inside.cursors c.args.k x.0 x.1
+    (at_cursor (λ (y : KeptCursor). None ≡ option_map numbers_of y.untold) (cursor_at c.self.inside.cursors c.args.k) x.0 x.1 c.in_default-tell.ensures.value) in
     let at = ap (λ (cs : Places). cursor_at cs c.args.k) same ∙ x.1 in
     let row = row_kept c.in-Some-first_meeting.row in
     let here = subst (λ (b : BookView). StandsFor b s) (sym c.self.view_is) stands in
@@ -138,7 +150,9 @@ returns-in-None-clause-answers c = λ s stands.
     let inside = c.self.inside in
     let own = c.owned.ensures.owned.0 c.if-not-owned.false in
     let x = some_cursor (λ (y : KeptCursor). y.actor ≡ c.args.actor) (cursor_at c.self.inside.cursors c.args.k) own in
-    let same = c.tell.ensures.told ∙ told-nothing c.self.inside.cursors c.args.k x.0 x.1 (at_cursor (λ (y : KeptCursor). None ≡ option_map numbers_of y.untold) (cursor_at c.self.inside.cursors c.args.k) x.0 x.1 c.in_default-tell.ensures.value) in
+    let same =
+    c.tell.ensures.told ∙ told-nothing c.self.inside.cursors c.args.k x.0 x.1
+    (at_cursor (λ (y : KeptCursor). None ≡ option_map numbers_of y.untold) (cursor_at c.self.inside.cursors c.args.k) x.0 x.1 c.in_default-tell.ensures.value) in
     let at = ap (λ (cs : Places). cursor_at cs c.args.k) same ∙ x.1 in
     let here = subst (λ (b : BookView). StandsFor b s) (sym c.self.view_is) stands in
     let is = is_cursor (view_of inside) s c.args.actor c.args.k here own in

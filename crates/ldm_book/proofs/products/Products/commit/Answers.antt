@@ -68,7 +68,9 @@ index_mut-requires c =
     omega (arith, place_within (slots_of p) q p.reserved c.args.r kept.own (sym c.in-Some.ensures.at), kept.as_many, kept.rowed, p.slots.ok.0)
 
 -- the slots with the product
-filled : (c : goal.After-set) → slots_from (set c.self.inside.slots.items c.in-Some.place.slot (record c.in-Some.place.row { n = c.args.n; time = c.args.time })) c.put.new.self ≡ set (slots_of c.self.inside) c.in-Some.place.slot (Some (committed c.args.n c.args.time (reservation_of (kept_place c.in-Some.place))))
+filled : (c : goal.After-set)
+    → slots_from (set c.self.inside.slots.items c.in-Some.place.slot (record c.in-Some.place.row { n = c.args.n; time = c.args.time })) c.put.new.self
+    ≡ set (slots_of c.self.inside) c.in-Some.place.slot (Some (committed c.args.n c.args.time (reservation_of (kept_place c.in-Some.place))))
 filled c =
     let p = c.self.inside in
     ap (slots_from (set p.slots.items c.in-Some.place.slot (record c.in-Some.place.row { n = c.args.n; time = c.args.time }))) c.put.ensures.put

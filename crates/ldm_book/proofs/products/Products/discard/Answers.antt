@@ -28,7 +28,13 @@ overflow_sub-self c =
     let p = c.self.inside in
     let kept = c.self.invariant in
     let q = kept_place c.in-Some.place in
-    omega (arith, c.extent.ensures, kept.used, used-ended (kept_entries (slots_of p) p.by_number.entries) (reservations_of p.reserved) c.args.r (reservation_of q) (seen_place p.reserved c.args.r q c.in-Some.ensures.at))
+    omega (
+      arith,
+      c.extent.ensures,
+      kept.used,
+      used-ended (kept_entries (slots_of p) p.by_number.entries) (reservations_of p.reserved) c.args.r (reservation_of q)
+          (seen_place p.reserved c.args.r q c.in-Some.ensures.at),
+    )
 
 pub unreachable-requires-in_default-push : goal.unreachable-requires-in_default-push
 unreachable-requires-in_default-push c =
@@ -76,7 +82,8 @@ invariant_of-self c =
           ∙ ap (λ (s : Slots). option_map kept_region (row_at s k)) (sym all);
       tiles = c.give_back.ensures.tiles;
       free = subst (λ (s : Slots). AreFree s c.push.new.self.items) (sym all)
-          (subst (AreFree (set (all_taken p) q.slot None)) (sym free) (free-emptied (all_taken p) q.slot q.product (place_taken (slots_of p) q p.reserved c.args.r kept.own at) p.free.items kept.free));
+          (subst (AreFree (set (all_taken p) q.slot None)) (sym free)
+          (free-emptied (all_taken p) q.slot q.product (place_taken (slots_of p) q p.reserved c.args.r kept.own at) p.free.items kept.free));
       count = omega (arith, longer, opened, fewer, kept.count, same_slots);
       roomy = omega (arith, same_slots, kept.roomy, c.in-Ok.ensures.capacity);
       used = omega (arith, kept.used, ended, left, c.extent.ensures);

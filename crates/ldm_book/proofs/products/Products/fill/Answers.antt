@@ -37,9 +37,11 @@ invariant_of-self c =
     let all : taken_from (slots_of p) c.set.new.self ≡ all_taken p = ap (taken_from (slots_of p)) c.set.ensures.set ∙ taken-filled (slots_of p) q p.reserved c.args.r filled at in
     let seen = seen_place p.reserved c.args.r q c.in-Some.ensures.at in
     let rs = reservations_of p.reserved in
-    let new : reservations_of c.set.new.self ≡ set rs c.args.r (Some (record (reservation_of q) { filled = filled })) = ap reservations_of c.set.ensures.set ∙ map-set (option_map reservation_of) p.reserved c.args.r (Some (record q { filled = filled })) in
+    let new : reservations_of c.set.new.self ≡ set rs c.args.r (Some (record (reservation_of q) { filled = filled })) =
+    ap reservations_of c.set.ensures.set ∙ map-set (option_map reservation_of) p.reserved c.args.r (Some (record q { filled = filled })) in
     let count = ap (λ (x : Reservations). length (open_kept x)) new ∙ length-filled (reservation_of q) rs c.args.r filled seen in
-    let regions : map reserved_region (open_kept (reservations_of c.set.new.self)) ≡ map reserved_region (open_kept rs) = ap (λ (x : Reservations). map reserved_region (open_kept x)) new ∙ regions-filled (reservation_of q) rs c.args.r filled seen in
+    let regions : map reserved_region (open_kept (reservations_of c.set.new.self)) ≡ map reserved_region (open_kept rs) =
+    ap (λ (x : Reservations). map reserved_region (open_kept x)) new ∙ regions-filled (reservation_of q) rs c.args.r filled seen in
     let rows = map kept_region (kept_entries (slots_of p) p.by_number.entries) in
     record {
       as_many = kept.as_many;
@@ -56,7 +58,15 @@ invariant_of-self c =
       free = subst (λ (s : Slots). AreFree s p.free.items) (sym all) kept.free;
       count = omega (arith, count, kept.count);
       roomy = kept.roomy;
-      used = omega (arith, kept.used, extents-append rows (map reserved_region (open_kept rs)), extents-append rows (map reserved_region (open_kept (reservations_of c.set.new.self))), ap extents regions);
+      used =
+          omega (
+            arith,
+            kept.used,
+            extents-append rows (map reserved_region (open_kept rs)),
+            extents-append rows
+                (map reserved_region (open_kept (reservations_of c.set.new.self))),
+            ap extents regions,
+          );
       few = kept.few;
       small = kept.small;
     }

@@ -25,7 +25,8 @@ returns-in_err-slot-clause-first c =
     let inside = c.self.inside in
     let none = no_entry (find (at_entry c.args.n) inside.by_number.entries) (sym c.in_err-slot.ensures.first) in
     ap (option_map row_kept) c.from_residual.ensures
-    ∙ sym (ap (λ (p : ProductsView). find (at_number c.args.n) p.rows) (sym c.self.view_is) ∙ find_kept (slots_of inside) c.args.n inside.by_number.entries ∙ ap (option_map (kept_entry (slots_of inside))) none)
+    ∙ sym (ap (λ (p : ProductsView). find (at_number c.args.n) p.rows) (sym c.self.view_is) ∙ find_kept (slots_of inside) c.args.n inside.by_number.entries
+    ∙ ap (option_map (kept_entry (slots_of inside))) none)
 
 pub index-requires : goal.index-requires
 index-requires c =

@@ -4,7 +4,7 @@ use Rattle.std.proofs.lemmas.Bool.{cases_eq, eq-eqb, true≢false}
 use Rattle.ldm_regions.specs.Layout.{occupied}
 use Rattle.ldm_book.specs.Products.{ProductsView, room_for}
 use Rattle.ldm_book.proofs.KeptRegionLemmas.{place_for}
-use Rattle.ldm_book.proofs.SpaceLemmas.{fit-longest}
+use Rattle.ldm_model.proofs.Space.{fit-longest}
 use Rattle.ldm_book.proofs.products.Products.has_room.Goals as goal
 
 -- a vector that is not empty has items

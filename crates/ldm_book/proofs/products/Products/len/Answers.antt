@@ -16,4 +16,17 @@ returns-clause-count c =
     let p = c.self.inside in
     let kept = c.self.invariant in
     let rows = ap (λ (view : ProductsView). length view.rows) c.self.view_is in
-    omega (arith, c.count.ensures.count, open-places p.reserved, kept.count, kept.rowed, c.len.ensures, c.len-2.ensures, p.slots.ok.0, p.free.ok.0, rows, length-map p.by_number.entries (kept_entry (slots_of p)))
+    omega (
+      arith,
+      c.count.ensures.count,
+      open-places p.reserved,
+      kept.count,
+      kept.rowed,
+      c.len.ensures,
+      c.len-2.ensures,
+      p.slots.ok.0,
+      p.free.ok.0,
+      rows,
+      length-map p.by_number.entries
+          (kept_entry (slots_of p)),
+    )

@@ -33,5 +33,6 @@ returns c =
     let row = ap kept_row c.index-row.ensures ∙ slots-read inside.slots.items inside.by_signature c.in-Some.slot found.0 c.index-row.result.now found.1 in
     let once = subst IsOneToOne c.self.invariant.signatures c.self.invariant.one_to_one in
     ap (λ (k : Kept). reply.Queued k.number k.time) row
-    ∙ sym (found_kept (slots_of inside) signature c.in-Some.slot found.0 inside.by_number.entries once found.1 found.2 c.self.invariant.entries (c.self.invariant.listed c.in-Some.slot found.0 found.1))
+    ∙ sym (found_kept (slots_of inside) signature c.in-Some.slot found.0 inside.by_number.entries once found.1 found.2 c.self.invariant.entries
+    (c.self.invariant.listed c.in-Some.slot found.0 found.1))
     ∙ ap (λ (p : ProductsView). look_kept (kept_with signature p.rows)) c.self.view_is

@@ -135,7 +135,9 @@ invariant_of-self-2 c =
           ap (λ (layout : Layout). fin.get layout.owned k) regions ∙ ap (λ region. fin.get (fin.insert p.regions.owned slot region) k) taken
           ∙ owned-set (all_taken p) slot row p.regions.owned next.inside kept.owned k ∙ ap (λ (s : Slots). option_map kept_region (row_at s k)) (sym all);
       tiles = c.in_ok-place.ensures.tiles;
-      free = subst (λ (s : Slots). AreFree s c.pop-slot.new.self.items) (sym all) (subst (AreFree (set (all_taken p) slot (Some row))) (sym popped) (others_free (all_taken p) p.free.items slot next row));
+      free =
+          subst (λ (s : Slots). AreFree s c.pop-slot.new.self.items) (sym all)
+          (subst (AreFree (set (all_taken p) slot (Some row))) (sym popped) (others_free (all_taken p) p.free.items slot next row));
       count = omega (arith, left, pushed, next.some, kept.count, same_slots);
       roomy = omega (arith, same_slots, kept.roomy, c.pop-slot.ensures.capacity);
       used = (λ i. kept.used i + extent i) ∙ sym (extents-added p kept slot row inside none (reservations_of p.reserved))

@@ -65,7 +65,8 @@ abbrev made : goal.After-self-1 → KeptPlace
 made c = record { actor = c.args.actor; slot = c.in_ok-slot.field-0.now; product = kept_of 0 0 c.in_ok-place.place c.args.info.now; filled = 0 }
 
 placed : (c : goal.After-self-1) → c.set.new.self ≡ set c.self.inside.reserved c.args.r (Some (made c))
-placed c = c.set.ensures.set ∙ ap (λ (k : Kept). set c.self.inside.reserved c.args.r (Some (record { actor = c.args.actor; slot = c.in_ok-slot.field-0.now; product = k; filled = 0 }))) c.reserved.ensures
+placed c =
+    c.set.ensures.set ∙ ap (λ (k : Kept). set c.self.inside.reserved c.args.r (Some (record { actor = c.args.actor; slot = c.in_ok-slot.field-0.now; product = k; filled = 0 }))) c.reserved.ensures
 
 is_empty : (c : goal.After-self-1) → reservation_at (reservations_of c.self.inside.reserved) c.args.r ≡ None
 is_empty c = ap (λ (view : ProductsView). reservation_at view.reservations c.args.r) c.self.view_is ∙ c.requires
@@ -84,7 +85,8 @@ invariant_of-self-2 c =
     let bound : c.args.r < length p.reserved = omega (arith, c.set.ensures.many, c.set.ensures.bound) in
     let avoid = avoid_free (slots_of p) p.reserved slot kept.own next.none in
     let inside : slot < length (slots_of p) = omega (arith, next.inside, length-taken (slots_of p) p.reserved) in
-    let all : taken_from (slots_of p) c.set.new.self ≡ set (all_taken p) slot (Some new.product) = ap (taken_from (slots_of p)) (placed c) ∙ taken-reserve (slots_of p) new p.reserved c.args.r none bound avoid in
+    let all : taken_from (slots_of p) c.set.new.self ≡ set (all_taken p) slot (Some new.product) =
+    ap (taken_from (slots_of p)) (placed c) ∙ taken-reserve (slots_of p) new p.reserved c.args.r none bound avoid in
     let region : Region = record { start = c.in_ok-place.place; extent = c.extent-need.result } in
     let regions = c.in_ok-place.ensures.owned in
     let same_slots = ap (λ (layout : Layout). layout.slots) regions in
@@ -111,7 +113,9 @@ invariant_of-self-2 c =
           ap (λ (layout : Layout). fin.get layout.owned k) regions ∙ ap (λ region. fin.get (fin.insert p.regions.owned slot region) k) same
           ∙ owned-set (all_taken p) slot new.product p.regions.owned next.inside kept.owned k ∙ ap (λ (s : Slots). option_map kept_region (row_at s k)) (sym all);
       tiles = c.in_ok-place.ensures.tiles;
-      free = subst (λ (s : Slots). AreFree s c.pop-slot.new.self.items) (sym all) (subst (AreFree (set (all_taken p) slot (Some new.product))) (sym popped) (others_free (all_taken p) p.free.items slot next new.product));
+      free =
+          subst (λ (s : Slots). AreFree s c.pop-slot.new.self.items) (sym all)
+          (subst (AreFree (set (all_taken p) slot (Some new.product))) (sym popped) (others_free (all_taken p) p.free.items slot next new.product));
       count = omega (arith, left, opened, next.some, kept.count, same_slots);
       roomy = omega (arith, same_slots, kept.roomy, c.pop-slot.ensures.capacity);
       used = (λ i. kept.used i + extent i) ∙ sym (used-reserve rows (reservations_of p.reserved) c.args.r (reservation_of new) (is_empty c) seen_bound)
