@@ -36,6 +36,7 @@ pub mod FillLemmas
 pub mod CountLemmas
 pub mod StatLemmas
 pub mod SpanLemmas
+pub mod PartLemmas
 pub mod OpenLemmas
 pub mod HeldRoomLemmas
 pub mod FoundLemmas

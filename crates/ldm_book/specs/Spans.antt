@@ -1,5 +1,5 @@
 -- The parts of the arena that are held or reserved, and whether there is room beside them.
-use Rattle.std.specs.Prelude.{ℕ, ◌+◌, Bool, ◌&&◌, ◌||◌, nat_le, List, ◌++◌, map, Option, Some, None}
+use Rattle.std.specs.Prelude.{ℕ, ◌+◌, Bool, ◌&&◌, ◌||◌, nat_le, nat_lt, List, ◌++◌, map, Option, Some, None}
 use Rattle.std.specs.List.{find, list_any, list_all}
 use Rattle.ldm_types.specs.Cursors.{KeptCursor, Places}
 use Rattle.ldm_cursor.specs.Places.{held_of}
@@ -25,6 +25,10 @@ held_span rows place = span_at rows (held_of place)
 abbrev pub reserved_span : Option KeptReservation → Span
 reserved_span None = span_of None
 reserved_span (Some v) = span_of (Some v.product)
+
+-- whether a span is some part of the arena
+abbrev pub is_some_part : Span → Bool
+is_some_part span = nat_lt 0 span.back
 
 -- the spans of the cursor places, and then those of the reservation places
 abbrev pub held_spans : List Kept → Places → Reservations → List Span

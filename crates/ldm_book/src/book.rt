@@ -1,5 +1,5 @@
 //! The book: the queue of one thread.
-ghost use Rattle.std.specs.Prelude.{◌≡◌, ◌+◌, ◌<◌, ◌≤◌, ◌++◌, ◌∷◌, [], ℕ, None, Some, true, false, is_some, length, drop, set, slice_index_or, IfOk, IfErr, IfSome, IsSome, MatchOption};
+ghost use Rattle.std.specs.Prelude.{◌≡◌, ◌+◌, ◌<◌, ◌≤◌, ◌++◌, ◌∷◌, [], ℕ, None, Some, true, false, is_some, length, drop, filter, take, set, slice_index_or, IfOk, IfErr, IfSome, IsSome, MatchOption};
 ghost use Rattle.std.specs.List.{All, list_any};
 ghost use Rattle.std.specs.Option.{option_map};
 ghost use Rattle.ldm_cursor.specs.Places.{count_held, cursor_at, is_held};
@@ -20,7 +20,7 @@ ghost use Rattle.ldm_model.specs.Commit.{commit as commit_of};
 ghost use Rattle.ldm_xdr.specs.Spelling.{Fits};
 ghost use Rattle.ldm_book.specs.Lookup.{kept_with};
 ghost use Rattle.ldm_book.specs.Products.{AreRising, LieApart, has_number, if_reserved_by, kept_extent, reservation_at, room_for};
-ghost use Rattle.ldm_book.specs.Spans.{held_span, held_spans, reserved_span, span_of};
+ghost use Rattle.ldm_book.specs.Spans.{held_span, held_spans, is_some_part, reserved_span, span_of};
 ghost use Rattle.ldm_book.specs.Making.{IsTimely, MakesRoom, Puts, Reserves, reserving, start_at, with_committed};
 ghost use Rattle.ldm_book.specs.Reserved.{kept_place, reservation_of};
 ghost use Rattle.ldm_book.specs.View.{KeptReservation, open_kept};
@@ -542,15 +542,21 @@ impl Book {
         }
     }
 
-    // Where the held products and the reserved regions lie, by their places.
-    fn held_spans(&self) -> [Span; 128]
-        ensures { result ≡ held_spans self.now.rows self.now.cursors self.now.reservations }
+    // Writes where the held products and the reserved regions lie, by their places, to the front of the spans. How many they are.
+    fn gather_held(&self, spans: &mut [Span]) -> usize
+        requires { length spans.old ≡ CursorNo.COUNT + ReserveNo.COUNT }
+        ensures spans { take result spans.new ≡ filter is_some_part (held_spans self.now.rows self.now.cursors self.now.reservations) }
+        ensures few { result ≤ length spans.old }
     {
-        let mut spans = [Span::NONE; 128];
+        let mut count = 0;
         for place in 0..CursorNo::COUNT + ReserveNo::COUNT {
-            spans[place as usize] = self.span_at(place);
+            let span = self.span_at(place);
+            if span.back > 0 {
+                spans[count] = span;
+                count += 1;
+            }
         }
-        spans
+        count
     }
 
     // How many regions are held: those of the products that cursors hold, each counted once, and the reserved ones.
@@ -566,8 +572,16 @@ impl Book {
         requires need { need ≤ self.now.arena }
         ensures { result ≡ is_some (room_for (held_products self.now) need) }
     {
-        self.count_held() < self.products.slots()
-            && has_gap(&self.held_spans(), need, self.arena.len() as u64)
+        let held = self.count_held();
+        if held >= self.products.slots() {
+            return false;
+        }
+        if held == 0 {
+            return true;
+        }
+        let mut spans = [Span::NONE; 128];
+        let count = self.gather_held(&mut spans);
+        has_gap(&spans[..count], need, self.arena.len() as u64)
     }
 
     // Evicts as many of the oldest products that nobody holds as it takes until there is room for so many bytes, and no more.
