@@ -1,8 +1,7 @@
 //! Numbers within their bounds, feedtypes, metadata, classes, and want of memory.
 
-use anyhow::{Context, Result};
 use arrayvec::ArrayVec;
-use ldm_drive::{Case, digits_of};
+use ldm_drive::Trial;
 use ldm_types::{
     Actor, ClassSpec, CursorNo, Feed, Info, InfoFault, MOST_SPECS, Micros, OutOfMemory, Signature,
     Spec,
@@ -10,101 +9,160 @@ use ldm_types::{
 use std::alloc::Global;
 
 /// `instant N`: the instant of that number.
-pub fn instant(alloc: Global, case: &mut Case) -> Result<String> {
-    let number = Micros::new(case.number()?).map(Micros::get);
-    Ok(format!(in alloc; "{number:?}")?)
+pub fn instant(trial: &mut Trial) {
+    let number = trial.number();
+    trial.tell_debug(&Micros::new(number).map(Micros::get));
 }
 
 /// `actor N`: the actor of that number.
-pub fn actor(alloc: Global, case: &mut Case) -> Result<String> {
-    let number = Actor::new(case.small()?).map(Actor::get);
-    Ok(format!(in alloc; "{number:?}")?)
+pub fn actor(trial: &mut Trial) {
+    let number = trial.small();
+    trial.tell_debug(&Actor::new(number).map(Actor::get));
 }
 
 /// `cursor N`: the cursor place of that number.
-pub fn cursor(alloc: Global, case: &mut Case) -> Result<String> {
-    let number = CursorNo::new(case.small()?).map(CursorNo::get);
-    Ok(format!(in alloc; "{number:?}")?)
+pub fn cursor(trial: &mut Trial) {
+    let number = trial.small();
+    trial.tell_debug(&CursorNo::new(number).map(CursorNo::get));
 }
 
 /// `meets A B`: whether two sets of feedtypes meet.
-pub fn sets_meet(alloc: Global, case: &mut Case) -> Result<String> {
-    let meet = Feed(case.small()?).meets(Feed(case.small()?));
-    Ok(format!(in alloc; "{meet}")?)
+pub fn sets_meet(trial: &mut Trial) {
+    let meet = Feed(trial.small()).meets(Feed(trial.small()));
+    trial.tell_debug(&meet);
+}
+
+// The next word, which is an instant.
+fn instant_of(trial: &mut Trial) -> Option<Micros> {
+    let instant = Micros::new(trial.number());
+    if instant.is_none() {
+        trial.refuse("no such instant");
+    }
+    instant
+}
+
+// The next word, which is a signature in hexadecimal digits.
+fn signature_of(trial: &mut Trial) -> Signature {
+    let bytes = trial.bytes();
+    let mut signature = [0; 16];
+    if bytes.len() == 16 {
+        signature.copy_from_slice(&bytes);
+    } else {
+        trial.refuse("a signature has 16 bytes");
+    }
+    Signature(signature)
+}
+
+// Metadata of the words `ARRIVAL SIGNATURE ORIGIN FEED SEQNO IDENT SIZE`, or their fault.
+fn read_info(trial: &mut Trial) -> Option<Result<Info, InfoFault>> {
+    let arrival = instant_of(trial)?;
+    let signature = signature_of(trial);
+    let origin = trial.bytes();
+    let feed = Feed(trial.small());
+    let seqno = trial.small();
+    let ident = trial.bytes();
+    let size = trial.small();
+    Some(Info::new(arrival, signature, &origin, feed, seqno, &ident, size))
 }
 
 /// Metadata of the words `ARRIVAL SIGNATURE ORIGIN FEED SEQNO IDENT SIZE`.
-pub fn info_of(alloc: Global, case: &mut Case) -> Result<Result<Info, InfoFault>> {
-    let arrival = Micros::new(case.number()?).context("no such instant")?;
-    let signature = hex_signature(case.word()?)?;
-    let origin = case.bytes(alloc)?;
-    let feed = Feed(case.small()?);
-    let seqno = case.small()?;
-    let ident = case.bytes(alloc)?;
-    let size = case.small()?;
-    Ok(Info::new(arrival, signature, &origin, feed, seqno, &ident, size))
+pub fn info_of(trial: &mut Trial) -> Option<Info> {
+    match read_info(trial)? {
+        Ok(info) => Some(info),
+        Err(_) => {
+            trial.refuse("no metadata");
+            None
+        }
+    }
 }
 
-fn hex_signature(word: &str) -> Result<Signature> {
-    let mut signature = [0; 16];
-    hex::decode_to_slice(word, &mut signature)?;
-    Ok(Signature(signature))
+fn tell_words(trial: &mut Trial, numbers: [u64; 2]) {
+    for number in numbers {
+        trial.tell_number(number);
+        trial.tell(" ");
+    }
 }
 
 /// The words that [`info_of`] reads.
-pub fn text_of_info(alloc: Global, info: &Info) -> Result<String> {
-    let arrival = info.arrival().get();
-    let signature = digits_of(alloc, &info.signature().0)?;
-    let origin = digits_of(alloc, info.origin())?;
-    let feed = info.feed().0;
-    let seqno = info.seqno();
-    let ident = digits_of(alloc, info.ident())?;
-    let size = info.size();
-    Ok(format!(in alloc; "{arrival} {signature} {origin} {feed} {seqno} {ident} {size}")?)
+pub fn tell_info(trial: &mut Trial, info: &Info) {
+    trial.tell_number(info.arrival().get());
+    trial.tell(" ");
+    trial.tell_digits(&info.signature().0);
+    trial.tell(" ");
+    trial.tell_digits(info.origin());
+    trial.tell(" ");
+    tell_words(trial, [u64::from(info.feed().0), u64::from(info.seqno())]);
+    trial.tell_digits(info.ident());
+    trial.tell(" ");
+    trial.tell_number(u64::from(info.size()));
 }
 
 /// `info FIELDS`: metadata of these fields, or their fault and its text.
-pub fn made_info(alloc: Global, case: &mut Case) -> Result<String> {
-    match info_of(alloc, case)? {
-        Ok(info) => text_of_info(alloc, &info),
-        Err(fault) => Ok(format!(in alloc; "{fault:?}: {fault}")?),
+pub fn made_info(trial: &mut Trial) {
+    match read_info(trial) {
+        Some(Ok(info)) => tell_info(trial, &info),
+        Some(Err(fault)) => {
+            trial.tell_debug(&fault);
+            trial.tell(": ");
+            trial.tell_value(&fault);
+        }
+        None => {}
     }
 }
 
 /// `copy FIELDS`: a clone of a copy of these metadata.
-pub fn copied_info(alloc: Global, case: &mut Case) -> Result<String> {
-    let info = info_of(alloc, case)??;
-    text_of_info(alloc, &info.copy().clone()?)
+pub fn copied_info(trial: &mut Trial) {
+    let Some(info) = info_of(trial) else {
+        return;
+    };
+    match info.copy().clone() {
+        Ok(copy) => tell_info(trial, &copy),
+        Err(_) => trial.lack_memory(),
+    }
+}
+
+// The next two words, which are feedtypes and a pattern.
+fn spec_of(trial: &mut Trial) -> Option<Spec> {
+    let feed = Feed(trial.small());
+    let pattern = trial.bytes();
+    match ArrayVec::try_from(pattern.as_slice()) {
+        Ok(pattern) => Some(Spec { feed, pattern }),
+        Err(_) => {
+            trial.refuse("a long pattern");
+            None
+        }
+    }
 }
 
 /// `class FROM TO FEED PATTERN ..`: a class of these instants and specifications.
-pub fn class(alloc: Global, case: &mut Case) -> Result<String> {
-    let from = Micros::new(case.number()?).context("no such instant")?;
-    let to = Micros::new(case.number()?).context("no such instant")?;
+pub fn class(trial: &mut Trial) {
+    if let Some(class) = class_of(trial) {
+        trial.tell_debug(&class);
+    }
+}
+
+fn class_of(trial: &mut Trial) -> Option<ClassSpec> {
+    let from = instant_of(trial)?;
+    let to = instant_of(trial)?;
     let mut specs = ArrayVec::new();
     for _ in 0..=MOST_SPECS {
-        if case.is_done() {
+        if trial.is_done() {
             break;
         }
-        let feed = Feed(case.small()?);
-        let pattern = case.bytes(alloc)?;
-        let pattern = ArrayVec::try_from(pattern.as_slice())
-            .ok()
-            .context("a long pattern")?;
-        let spec = Spec { feed, pattern };
-        specs
-            .try_push(spec)
-            .ok()
-            .context("too many specifications")?;
+        if specs.try_push(spec_of(trial)?).is_err() {
+            trial.refuse("too many specifications");
+        }
     }
-    let class = ClassSpec { from, to, specs };
-    Ok(format!(in alloc; "{class:?}")?)
+    Some(ClassSpec { from, to, specs })
 }
 
 /// `memory BYTES`: a copy of these bytes, in a function that ends in [`OutOfMemory`] where there is no room.
-pub fn memory(alloc: Global, case: &mut Case) -> Result<String> {
-    let bytes = case.bytes(alloc)?;
-    digits_of(alloc, &kept(alloc, &bytes)?)
+pub fn memory(trial: &mut Trial) {
+    let bytes = trial.bytes();
+    match kept(trial.alloc(), &bytes) {
+        Ok(kept) => trial.tell_digits(&kept),
+        Err(_) => trial.lack_memory(),
+    }
 }
 
 fn kept(alloc: Global, bytes: &[u8]) -> Result<Vec<u8>, OutOfMemory> {

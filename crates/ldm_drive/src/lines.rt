@@ -1,7 +1,9 @@
 //! Cases in, answers out.
 
 use crate::case::Case;
+use crate::trial::Trial;
 use anyhow::Result;
+use std::io;
 use std::io::{BufRead, BufReader};
 
 /// Reads cases from standard input, and prints what `answer` says to each. A case that it refuses, or of which it leaves
@@ -26,6 +28,32 @@ pub fn drive<R: Input + Print + AllocGlobal, F: FnMut(&mut Case) -> Result<Strin
             Ok(_) => println!(rt; "bad case: words are left")?,
             Err(error) => println!(rt; "bad case: {error}")?,
         }
+    }
+    Ok(())
+}
+
+/// Reads cases from standard input, has `answer` tell the answer of each, and prints it. A case that is refused, or of which words
+/// are left, is answered by `bad case` and the reason.
+pub fn drive_trials<R: Input + Print + AllocGlobal, F: FnMut(&mut Trial)>(
+    rt: &R,
+    mut answer: F,
+) -> io::Result<()>
+    requires { F.IsAlwaysCallable answer }
+{
+    let alloc = rt.alloc();
+    for line in BufReader::new(alloc, rt.reader())?.lines(alloc) {
+        let line = line?;
+        if line.is_empty() || line.starts_with('#') {
+            println!(rt; "{line}")?;
+            continue;
+        }
+        let mut trial = Trial::of(alloc, &line);
+        answer(&mut trial);
+        if !trial.is_done() {
+            trial.refuse("words are left");
+        }
+        let told = trial.answer();
+        println!(rt; "{told}")?;
     }
     Ok(())
 }
