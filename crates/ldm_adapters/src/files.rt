@@ -11,6 +11,7 @@ use std::collections::BTreeMap;
 use std::fs::{self, File, OpenOptions};
 use std::io::{self, ErrorKind, Read, Write};
 use std::marker::Model;
+use std::os::unix::fs::FileTypeExt;
 use std::path::Path;
 use std::rt::HostRuntime;
 
@@ -57,8 +58,20 @@ impl RealFile {
     }
 }
 
-// Opens the file under the path, to be written at its end.
+// Whether a FIFO stands under the path.
+fn is_fifo(rt: HostRuntime, path: &str) -> bool {
+    match fs::metadata(&rt, path) {
+        Ok(found) => found.file_type().is_fifo(),
+        Err(_) => false,
+    }
+}
+
+// Opens the file under the path, to be written at its end. A FIFO is refused, since the opening of one that nobody reads would
+// wait for ever.
 fn open(rt: HostRuntime, path: &str) -> io::Result<File> {
+    if is_fifo(rt, path) {
+        return Err(io::Error::from(ErrorKind::Unsupported));
+    }
     let mut how = OpenOptions::new();
     how.append(true).create(true);
     how.open(&rt, path)
