@@ -26,7 +26,7 @@ use ldm_workers::Work;
 use std::alloc::Global;
 use std::sync::Wait;
 
-// Room for the number of an actor, a blank, and the longest answer line.
+/// Room for the number of an actor, a blank, and the longest answer line.
 pub(crate) const ANSWER_ROOM: usize = LONGEST_ANSWER + 41;
 
 /// A player: its gate, what `.` stands for, and what was answered to its lines so far.

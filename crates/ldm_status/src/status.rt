@@ -65,7 +65,7 @@ impl Status {
         }
     }
 
-    /// Writes the log line, with its newline, over what the buffer had: nothing where all went well.
+    // Writes the log line, with its newline, over what the buffer had: nothing where all went well.
     fn write_line(&self, out: &mut LogLine)
         ensures { out.new.items ≡ log_line self.now }
     {
