@@ -1,75 +1,96 @@
 //! The entries of a text.
 
-use anyhow::{Context, Result, ensure};
-use ldm_drive::{Case, shown};
+use ldm_drive::Trial;
 use ldm_pqact_conf::{Entries, Entry, PqactFault, read_pqact};
 use ldm_text::LONGEST_CONFIGURATION;
-use std::alloc::Global;
 
 /// The entries that a text means, or its fault.
-pub fn entries_of(alloc: Global, text: &[u8]) -> Result<Result<Entries, PqactFault>> {
-    ensure!(text.len() <= LONGEST_CONFIGURATION, "the text is too long");
-    Ok(read_pqact(alloc, text))
+pub fn entries_of(trial: &mut Trial, text: &[u8]) -> Option<Result<Entries, PqactFault>> {
+    if text.len() > LONGEST_CONFIGURATION {
+        trial.refuse("the text is too long");
+        return None;
+    }
+    Some(read_pqact(trial.alloc(), text))
 }
 
 /// Reads a text and keeps its entries. Tells how many there are and what the last one does, or the fault.
-pub fn read(
-    alloc: Global,
-    name: &str,
-    kept: &mut Option<Entries>,
-    case: &mut Case,
-) -> Result<String> {
+pub fn read(name: &str, kept: &mut Option<Entries>, trial: &mut Trial) {
     let text = if name == "pqact" {
-        case.text(alloc)?
+        trial.text()
     } else {
-        case.bytes(alloc)?
+        trial.bytes()
     };
-    match entries_of(alloc, &text)? {
-        Ok(entries) => {
-            let told = summary(alloc, &entries)?;
+    match entries_of(trial, &text) {
+        Some(Ok(entries)) => {
+            tell_summary(trial, &entries);
             *kept = Some(entries);
-            Ok(told)
         }
-        Err(fault) => {
-            let number = fault.kind.number();
-            Ok(format!(in alloc; "line {}: {number} {:?}", fault.line, fault.kind)?)
-        }
+        Some(Err(fault)) => tell_fault(trial, fault),
+        None => {}
     }
 }
 
-fn summary(alloc: Global, entries: &Entries) -> Result<String> {
-    let mut told = format!(in alloc; "{} read", entries.len())?;
+fn tell_fault(trial: &mut Trial, fault: PqactFault) {
+    trial.tell("line ");
+    trial.tell_value(&fault.line);
+    trial.tell(": ");
+    trial.tell_value(&fault.kind.number());
+    trial.tell(" ");
+    trial.tell_debug(&fault.kind);
+}
+
+fn tell_summary(trial: &mut Trial, entries: &Entries) {
+    trial.tell_value(&entries.len());
+    trial.tell(" read");
     if let Some(last) = entries.as_slice().last() {
-        write!(
-            told,
-            ", the last at line {}: {:?}",
-            last.line(),
-            last.action()
-        )?;
-        for word in last.words() {
-            write!(told, " {}", shown(alloc, word.bytes())?)?;
-        }
+        tell_entry(trial, last);
     }
-    Ok(told)
 }
 
-fn kept_at<'a>(kept: &'a Option<Entries>, case: &mut Case) -> Result<&'a Entry> {
-    let entries = kept.as_ref().context("no text was read")?;
-    let place = case.small()? as usize;
-    entries.as_slice().get(place).context("no such entry")
+fn tell_entry(trial: &mut Trial, entry: &Entry) {
+    trial.tell(", the last at line ");
+    trial.tell_value(&entry.line());
+    trial.tell(": ");
+    trial.tell_debug(&entry.action());
+    for word in entry.words() {
+        trial.tell(" ");
+        trial.tell_shown(word.bytes());
+    }
+}
+
+// The place of an entry that a case gives.
+fn kept_at<'a>(kept: &'a Option<Entries>, place: u32) -> Option<&'a Entry> {
+    kept.as_ref()?.as_slice().get(place as usize)
 }
 
 /// The feedtypes of an entry, whether it is an `_ELSE_` entry, and its options.
-pub fn entry(alloc: Global, kept: &Option<Entries>, case: &mut Case) -> Result<String> {
-    let entry = kept_at(kept, case)?;
-    let feed = entry.feed().0;
-    let is_else = entry.is_else();
-    Ok(format!(in alloc; "{feed:#010x} else {is_else} {:?}", entry.options())?)
+pub fn entry(kept: &Option<Entries>, trial: &mut Trial) {
+    let place = trial.small();
+    let Some(entry) = kept_at(kept, place) else {
+        return trial.refuse("no such entry");
+    };
+    tell_feed(trial, entry.feed().0);
+    trial.tell(" else ");
+    trial.tell_value(&entry.is_else());
+    trial.tell(" ");
+    trial.tell_debug(&entry.options());
+}
+
+// Feedtypes in eight hexadecimal digits.
+fn tell_feed(trial: &mut Trial, feed: u32) {
+    trial.tell("0x");
+    trial.tell_digits(&feed.to_be_bytes());
 }
 
 /// Whether the pattern of an entry is found in an ident.
-pub fn found(alloc: Global, kept: &Option<Entries>, case: &mut Case) -> Result<String> {
-    let entry = kept_at(kept, case)?;
-    let ident = case.text(alloc)?;
-    Ok(format!(in alloc; "{}", entry.is_found(alloc, &ident)?)?)
+pub fn found(kept: &Option<Entries>, trial: &mut Trial) {
+    let place = trial.small();
+    let Some(entry) = kept_at(kept, place) else {
+        return trial.refuse("no such entry");
+    };
+    let ident = trial.text();
+    match entry.is_found(trial.alloc(), &ident) {
+        Ok(is_found) => trial.tell_value(&is_found),
+        Err(_) => trial.lack_memory(),
+    }
 }

@@ -4,25 +4,23 @@
 mod choice;
 mod entries;
 
-use anyhow::{Result, bail};
-use ldm_drive::{Case, drive};
+use ldm_drive::{Trial, drive_trials};
 use ldm_pqact_conf::Entries;
-use std::alloc::Global;
+use std::io;
 
-fn main(rt: HostRuntime) -> Result<()> {
-    let alloc = rt.alloc();
+fn main(rt: HostRuntime) -> io::Result<()> {
     let mut kept = None;
-    drive(&rt, |case| answer(alloc, &mut kept, case))
+    drive_trials(&rt, |trial| answer(&mut kept, trial))
 }
 
-fn answer(alloc: Global, kept: &mut Option<Entries>, case: &mut Case) -> Result<String> {
-    let name = case.word()?;
+fn answer(kept: &mut Option<Entries>, trial: &mut Trial) {
+    let name = trial.word();
     match name {
-        "pqact" | "pqact_of" => entries::read(alloc, name, kept, case),
-        "entry" => entries::entry(alloc, kept, case),
-        "found" => entries::found(alloc, kept, case),
-        "acts" => choice::acts(alloc, case),
-        "count" => choice::count(alloc, case),
-        _ => bail!("no such word"),
+        "pqact" | "pqact_of" => entries::read(name, kept, trial),
+        "entry" => entries::entry(kept, trial),
+        "found" => entries::found(kept, trial),
+        "acts" => choice::acts(trial),
+        "count" => choice::count(trial),
+        _ => trial.refuse("no such word"),
     }
 }
