@@ -3,11 +3,10 @@
 
 use crate::draws::Draws;
 use crate::messages::{is_written, read};
-use anyhow::{Context, Result};
-use ldm_drive::Case;
+use ldm_drive::Trial;
 use ldm_relay::{LARGEST_CONTENT, RelayFault};
-use ldm_rpc::{Records, RpcFault};
-use std::alloc::Global;
+use ldm_rpc::{LAST_FRAGMENT, Records, RpcFault};
+use std::alloc::{AllocError, Global};
 
 // The most bytes of the content of a record.
 const LIMIT: u32 = 1024;
@@ -20,29 +19,43 @@ pub struct Sample {
 }
 
 /// `sample PROCEDURE CONTENT`: a message that is to be changed. How many there are now.
-pub fn add_sample(alloc: Global, samples: &mut Vec<Sample>, case: &mut Case) -> Result<String> {
-    let procedure = case.small()?;
-    let content = case.bytes(alloc)?;
-    samples.push(Sample { procedure, content })?;
-    let count = samples.len();
-    Ok(format!(in alloc; "{count}")?)
+pub fn add_sample(samples: &mut Vec<Sample>, trial: &mut Trial) {
+    let procedure = trial.small();
+    let content = trial.bytes();
+    if samples.push(Sample { procedure, content }).is_err() {
+        trial.lack_memory();
+    }
+    trial.tell_value(&samples.len());
 }
 
 /// `mutate SEED SEED COUNT`: so many changed samples, drawn behind the first seed, each as a stream in pieces that are
 /// drawn behind the second. What they were read as. The samples are forgotten.
-pub fn mutate(alloc: Global, samples: &mut Vec<Sample>, case: &mut Case) -> Result<String> {
-    let mut draws = Draws::behind(case.number()?);
-    let mut pieces = Draws::behind(case.number()?);
+pub fn mutate(samples: &mut Vec<Sample>, trial: &mut Trial) {
+    let mut draws = Draws::behind(trial.number());
+    let mut pieces = Draws::behind(trial.number());
+    let count = trial.small();
     let mut found = Found::default();
-    for _ in 0..case.small()? {
-        let at = draws.below((samples.len() as u64).max(1)) as usize;
-        let sample = samples.get(at).context("no sample")?;
-        let content = changed(alloc, &mut draws, &sample.content)?;
-        let stream = record(alloc, &mut draws, &content)?;
-        take_stream(alloc, &mut pieces, &mut found, &stream, sample.procedure)?;
+    for _ in 0..count {
+        if mutate_one(trial.alloc(), samples, &mut draws, &mut pieces, &mut found).is_none() {
+            return trial.refuse("no sample, or no memory");
+        }
     }
     samples.clear();
-    Ok(format!(in alloc; "{found:?}")?)
+    trial.tell_debug(&found);
+}
+
+fn mutate_one(
+    alloc: Global,
+    samples: &[Sample],
+    draws: &mut Draws,
+    pieces: &mut Draws,
+    found: &mut Found,
+) -> Option<()> {
+    let at = draws.below((samples.len() as u64).max(1)) as usize;
+    let sample = samples.get(at)?;
+    let content = changed(alloc, draws, &sample.content).ok()?;
+    let stream = record(alloc, draws, &content).ok()?;
+    take_stream(alloc, pieces, found, &stream, sample.procedure)
 }
 
 fn change_a_byte(draws: &mut Draws, bytes: &mut [u8]) {
@@ -58,7 +71,7 @@ fn change_a_byte(draws: &mut Draws, bytes: &mut [u8]) {
 }
 
 // The content with up to two bytes changed. One in eight is cut, and as many have some bytes more.
-fn changed(alloc: Global, draws: &mut Draws, content: &[u8]) -> Result<Vec<u8>> {
+fn changed(alloc: Global, draws: &mut Draws, content: &[u8]) -> Result<Vec<u8>, AllocError> {
     let mut bytes = content.to_vec(alloc)?;
     for _ in 0..draws.below(3) {
         change_a_byte(draws, &mut bytes);
@@ -76,13 +89,12 @@ fn changed(alloc: Global, draws: &mut Draws, content: &[u8]) -> Result<Vec<u8>> 
 }
 
 fn header_of(content: &[u8]) -> [u8; 4] {
-    (0x8000_0000 + (content.len() % 0x8000_0000) as u32).to_be_bytes()
+    (LAST_FRAGMENT + (content.len() % LAST_FRAGMENT as usize) as u32).to_be_bytes()
 }
 
 // The record of a content in one fragment. A byte of one header in sixteen is another.
-fn record(alloc: Global, draws: &mut Draws, content: &[u8]) -> Result<Vec<u8>> {
-    let mut record = header_of(content).to_vec(alloc)?;
-    record.extend_from_slice(content)?;
+fn record(alloc: Global, draws: &mut Draws, content: &[u8]) -> Result<Vec<u8>, AllocError> {
+    let mut record = whole_record(alloc, content)?;
     if draws.below(16) == 0 {
         let at = draws.below(4) as usize;
         if let Some(place) = record.get_mut(at) {
@@ -129,22 +141,28 @@ impl Found {
     }
 }
 
-fn take_content(alloc: Global, found: &mut Found, content: &[u8], procedure: u32) -> Result<()> {
+// The record of a content, as it stands.
+fn whole_record(alloc: Global, content: &[u8]) -> Result<Vec<u8>, AllocError> {
+    let mut record = header_of(content).to_vec(alloc)?;
+    record.extend_from_slice(content)?;
+    Ok(record)
+}
+
+fn take_content(alloc: Global, found: &mut Found, content: &[u8], procedure: u32) -> Option<()> {
     if content.len() > LARGEST_CONTENT {
-        return Ok(());
+        return Some(());
     }
     match read(content, procedure) {
         Ok(message) => {
             add(&mut found.messages, 1);
-            let mut record = header_of(content).to_vec(alloc)?;
-            record.extend_from_slice(content)?;
+            let record = whole_record(alloc, content).ok()?;
             if is_written(alloc, &message, &record)? {
                 add(&mut found.written, 1);
             }
         }
         Err(fault) => found.add_fault(fault),
     }
-    Ok(())
+    Some(())
 }
 
 // Gives a stream to a reader in pieces of up to 64 bytes, and reads each content that comes out.
@@ -154,7 +172,7 @@ fn take_stream(
     found: &mut Found,
     stream: &[u8],
     procedure: u32,
-) -> Result<()> {
+) -> Option<()> {
     let mut records = Records::create(alloc, LIMIT);
     let mut rest = stream;
     for _ in 0..stream.len() {
@@ -162,23 +180,21 @@ fn take_stream(
             break;
         }
         let len = rest.len().min(1 + pieces.below(64) as usize);
-        let piece = rest.get(..len).context("no piece")?;
         records.next();
-        let taken = match records.push(piece) {
-            Ok(taken) => taken,
+        match records.push(rest.get(..len)?) {
+            Ok(taken) => rest = rest.get(taken..)?,
             Err(RpcFault::TooLong { .. }) => {
                 add(&mut found.too_long, 1);
-                return Ok(());
+                return Some(());
             }
-            Err(fault) => return Err(fault.into()),
-        };
+            Err(_) => return None,
+        }
         if let Some(content) = records.whole() {
             take_content(alloc, found, content, procedure)?;
         }
-        rest = rest.get(taken..).context("more was taken than there is")?;
     }
     if records.pending() {
         add(&mut found.pending, 1);
     }
-    Ok(())
+    Some(())
 }

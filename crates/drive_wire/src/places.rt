@@ -4,8 +4,7 @@ ghost use Rattle.ldm_rpc.specs.Reading.{is_whole};
 ghost use Rattle.ldm_rpc.specs.Streams.{forgets, given, in_hand, records_in};
 ghost use Rattle.drive_wire.specs.Places.{EndsBy, all_of, position_of};
 
-use anyhow::{Result, ensure};
-use ldm_drive::{Case, digits_of};
+use ldm_drive::Trial;
 use ldm_rpc::{Records, RpcFault};
 use std::alloc::{AllocError, Global};
 
@@ -76,10 +75,13 @@ fn read_on(
 
 /// `places LIMIT STREAM`: the records of a stream, each with its place, and where the record in hand at the end begins; or,
 /// behind the records that came out before, the place of a record that is refused, and the fault.
-pub fn places(alloc: Global, case: &mut Case) -> Result<String> {
-    let limit = case.small()?;
-    let bytes = case.bytes(alloc)?;
-    ensure!(bytes.len() <= 1_048_576, "a long stream");
+pub fn places(trial: &mut Trial) {
+    let limit = trial.small();
+    let bytes = trial.bytes();
+    if bytes.len() > 1_048_576 {
+        return trial.refuse("a long stream");
+    }
+    let alloc = trial.alloc();
     let mut stream = Stream {
         records: Records::create(alloc, limit),
         begins: 0,
@@ -87,16 +89,30 @@ pub fn places(alloc: Global, case: &mut Case) -> Result<String> {
     };
     let mut found = Vec::new(alloc);
     let read = read_on(alloc, &mut stream, &bytes, &mut found);
-    let mut told = String::new(alloc);
-    for record in &found {
-        let digits = digits_of(alloc, &record.content)?;
-        let at = record.at;
-        told.push_str(&format!(in alloc; "{at} {digits}, ")?)?;
+    tell_records(trial, &found);
+    tell_end(trial, stream.begins, read);
+}
+
+fn tell_records(trial: &mut Trial, found: &[Found]) {
+    for record in found {
+        trial.tell_number(record.at);
+        trial.tell(" ");
+        trial.tell_digits(&record.content);
+        trial.tell(", ");
     }
-    let begins = stream.begins;
+}
+
+fn tell_end(trial: &mut Trial, begins: u64, read: Result<(), RpcFault>) {
     match read {
-        Ok(()) => told.push_str(&format!(in alloc; "then {begins}")?)?,
-        Err(fault) => told.push_str(&format!(in alloc; "refused at {begins}: {fault:?}")?)?,
+        Ok(()) => {
+            trial.tell("then ");
+            trial.tell_number(begins);
+        }
+        Err(fault) => {
+            trial.tell("refused at ");
+            trial.tell_number(begins);
+            trial.tell(": ");
+            trial.tell_debug(&fault);
+        }
     }
-    Ok(told)
 }

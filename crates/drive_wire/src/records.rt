@@ -1,50 +1,44 @@
 //! A reader of records, a call at a time.
 
-use anyhow::Result;
-use ldm_drive::{Case, bytes_of, digits_of};
+use ldm_drive::Trial;
 use ldm_rpc::Records;
-use std::alloc::Global;
 
 /// `records LIMIT STEP ..`: what a reader of records of at most that many bytes answers to each step. A step is `whole`,
 /// `next`, `pending`, or the bytes of a piece that is pushed.
-pub fn steps(alloc: Global, case: &mut Case) -> Result<String> {
-    let mut records = Records::create(alloc, case.small()?);
-    let mut told = String::new(alloc);
-    for step in case.rest().split(' ') {
-        if !told.is_empty() {
-            told.push_str(", ")?;
+pub fn steps(trial: &mut Trial) {
+    let limit = trial.small();
+    let mut records = Records::create(trial.alloc(), limit);
+    for (place, step) in trial.rest().split(' ').enumerate() {
+        if place > 0 {
+            trial.tell(", ");
         }
-        told.push_str(&answer_of(alloc, &mut records, step)?)?;
+        take(trial, &mut records, step);
     }
-    Ok(told)
 }
 
-fn answer_of(alloc: Global, records: &mut Records, step: &str) -> Result<String> {
+fn take(trial: &mut Trial, records: &mut Records, step: &str) {
     match step {
-        "whole" => content_of(alloc, records),
+        "whole" => tell_content(trial, records),
         "next" => {
             records.next();
-            Ok(String::from_str(alloc, "next")?)
+            trial.tell("next");
         }
-        "pending" => {
-            let pending = records.pending();
-            Ok(format!(in alloc; "{pending}")?)
-        }
-        piece => push(alloc, records, &bytes_of(alloc, piece)?),
+        "pending" => trial.tell_value(&records.pending()),
+        piece => push(trial, records, piece),
     }
 }
 
-fn content_of(alloc: Global, records: &Records) -> Result<String> {
+fn tell_content(trial: &mut Trial, records: &Records) {
     match records.whole() {
-        Some(content) => digits_of(alloc, content),
-        None => Ok(String::from_str(alloc, "None")?),
+        Some(content) => trial.tell_digits(content),
+        None => trial.tell("None"),
     }
 }
 
-fn push(alloc: Global, records: &mut Records, piece: &[u8]) -> Result<String> {
+fn push(trial: &mut Trial, records: &mut Records, piece: &str) {
+    let piece = trial.bytes_in(piece);
     if records.whole().is_some() {
-        return Ok(String::from_str(alloc, "a record is in hand")?);
+        return trial.tell("a record is in hand");
     }
-    let taken = records.push(piece);
-    Ok(format!(in alloc; "{taken:?}")?)
+    trial.tell_debug(&records.push(&piece));
 }
