@@ -6,10 +6,10 @@ use Rattle.ldm_status.proofs.SourceLemmas.{parts, whole_at_end}
 use Rattle.ldm_shared.specs.declared.fault.CreateFault.TheVariants as fault
 use Rattle.ldm_crowd.specs.Script.{script_of}
 use Rattle.ldm_crowd.specs.declared.orders.TheConstants.{MOST_SCRIPT}
-use Rattle.ldm_crowd_command.specs.declared.crowd_command.CrowdStop.{CrowdStop}
-use Rattle.ldm_crowd_command.specs.declared.crowd_command.CrowdStop.TheVariants as stop
-use Rattle.ldm_crowd_command.specs.declared.crowd_command.Unplayed.TheVariants as unplayed
-use Rattle.ldm_crowd_command.specs.declared.whole_script.Untaken.TheVariants as untaken
+use Rattle.ldm_crowd_command.specs.declared.crowd_command.CrowdFault.{CrowdFault}
+use Rattle.ldm_crowd_command.specs.declared.crowd_command.CrowdFault.TheVariants as stop
+use Rattle.ldm_crowd_command.specs.declared.crowd_command.PlayFault.TheVariants as unplayed
+use Rattle.ldm_crowd_command.specs.declared.whole_script.ScriptFault.TheVariants as untaken
 use Rattle.ldm_status.specs.declared.status.Status.TheVariants as status
 use Rattle.ldm_crowd_command.specs.WholeScript.{TakesWhole}
 use Rattle.ldm_crowd_command.specs.CrowdEnding.{CrowdSize, CrowdStops, CrowdEnds}
@@ -32,22 +32,22 @@ module _ (size : CrowdSize) (old new : WorldRecord) (free : CrowdUnhindered size
   whole_taken taken whole = whole_at_end free.text taken old.source new.source free.told whole.taken whole.at_end
 
   -- why it can stop nonetheless
-  stops_for : (why : CrowdStop) → CrowdStops why size old new → (status_of_crowd_stop why ≡ status.NoMemory) ⊎ (status_of_crowd_stop why ≡ status.Worn)
+  stops_for : (why : CrowdFault) → CrowdStops why size old new → (status_of_crowd_stop why ≡ status.NoMemory) ⊎ (status_of_crowd_stop why ≡ status.Worn)
   stops_for (stop.NotMade (fault.BadArena arena)) ends = absurd (ends.0.1 free.good_size.arena)
   stops_for (stop.NotMade (fault.BadSlots slots)) ends = absurd (ends.0.2 free.good_size.slots)
   stops_for (stop.NotMade (fault.BadPasses passes)) ends = absurd (ends.0.3 free.good_size.workers)
   stops_for (stop.NotMade fault.OutOfMemory) ends = inl refl
-  stops_for (stop.Untaken untaken.StreamLimit) ends = absurd (omega (arith, short_taken ends.1.text ends.1.taken, ends.1.stops))
-  stops_for (stop.Untaken untaken.SourceFault) ends = absurd (free.source_works ends.1.stops.1)
-  stops_for (stop.Untaken untaken.OutOfMemory) ends = inl refl
-  stops_for (stop.Unplayed (unplayed.BadLine line column)) ends =
+  stops_for (stop.ScriptFault untaken.StreamLimit) ends = absurd (omega (arith, short_taken ends.1.text ends.1.taken, ends.1.stops))
+  stops_for (stop.ScriptFault untaken.SourceFault) ends = absurd (free.source_works ends.1.stops.1)
+  stops_for (stop.ScriptFault untaken.OutOfMemory) ends = inl refl
+  stops_for (stop.PlayFault (unplayed.BadLine line column)) ends =
       let same = sym free.good_lines ∙ ap (script_of size.workers) (whole_taken ends.0.text ends.0.taken) ∙ ends.0.unplayed in
       cc
-  stops_for (stop.Unplayed unplayed.Worn) ends = inr refl
-  stops_for (stop.Unplayed unplayed.OutOfMemory) ends = inl refl
+  stops_for (stop.PlayFault unplayed.Worn) ends = inr refl
+  stops_for (stop.PlayFault unplayed.OutOfMemory) ends = inl refl
   stops_for stop.SinkFault ends = absurd (free.sink_works ends.2)
 
-  pub crowd_completes : (ending : Result (Unit {0}) CrowdStop) (code : ℕ) → CrowdEnds ending size old new → Reports (status_of_crowd ending) code old.log new.log → (code ≡ 0) ⊎ ((code ≡ 71) ⊎ (code ≡ 77))
+  pub crowd_completes : (ending : Result (Unit {0}) CrowdFault) (code : ℕ) → CrowdEnds ending size old new → Reports (status_of_crowd ending) code old.log new.log → (code ≡ 0) ⊎ ((code ≡ 71) ⊎ (code ≡ 77))
   crowd_completes (Ok done) code ends reports = elim reports [ inl told ↦ inl told.0 | inr failed ↦ absurd (free.log_works failed.1) ]
   crowd_completes (Err why) code ends reports = elim reports [
     | inl told ↦

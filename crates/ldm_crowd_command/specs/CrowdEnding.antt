@@ -14,10 +14,10 @@ use Rattle.ldm_crowd.specs.Script.{script_of}
 use Rattle.ldm_crowd.specs.Interleaving.{IsInterleaving, IsBegun, crowd_text}
 use Rattle.ldm_crowd.specs.declared.orders.OrdersFault.{OrdersFault}
 use Rattle.ldm_crowd.specs.declared.orders.OrdersFault.TheVariants as orders_fault
-use Rattle.ldm_crowd_command.specs.declared.crowd_command.CrowdStop.{CrowdStop}
-use Rattle.ldm_crowd_command.specs.declared.crowd_command.CrowdStop.TheVariants as stop
-use Rattle.ldm_crowd_command.specs.declared.crowd_command.Unplayed.{Unplayed}
-use Rattle.ldm_crowd_command.specs.declared.crowd_command.Unplayed.TheVariants as unplayed
+use Rattle.ldm_crowd_command.specs.declared.crowd_command.CrowdFault.{CrowdFault}
+use Rattle.ldm_crowd_command.specs.declared.crowd_command.CrowdFault.TheVariants as stop
+use Rattle.ldm_crowd_command.specs.declared.crowd_command.PlayFault.{PlayFault}
+use Rattle.ldm_crowd_command.specs.declared.crowd_command.PlayFault.TheVariants as unplayed
 use Rattle.ldm_crowd_command.specs.WholeScript.{TakesWhole, TakesPart}
 
 -- what a crowd is made with
@@ -54,7 +54,7 @@ pub record IsWornOut (size : CrowdSize) (text : List ℕ) : Type 0 where
   pub all_calls : length history ≡ MOST_TURNS
 
 -- Why a text was not played to its end.
-abbrev pub IsUnplayed : Unplayed → CrowdSize → List ℕ → Type 0
+abbrev pub IsUnplayed : PlayFault → CrowdSize → List ℕ → Type 0
 -- a line is outside the grammar, or of an actor without a worker
 IsUnplayed (unplayed.BadLine line column) size text = script_of size.workers text ≡ Err (orders_fault.BadLine line column)
 IsUnplayed unplayed.Worn size text = IsWornOut size text
@@ -68,31 +68,31 @@ pub record PlaysWhole (size : CrowdSize) (answers : List ℕ) (old new : SourceR
   pub answered : IsAnsweredBy size text answers
 
 -- A script was taken whole, and not played to its end.
-pub record LeavesUnplayed (why : Unplayed) (size : CrowdSize) (old new : SourceRecord) : Type 0 where
+pub record LeavesUnplayed (why : PlayFault) (size : CrowdSize) (old new : SourceRecord) : Type 0 where
   pub good : IsGoodSize size
   pub text : List ℕ
   pub taken : TakesWhole text old new
   pub unplayed : IsUnplayed why size text
 
 -- Why a crowd stopped, and what was read and written then.
-abbrev pub CrowdStops : CrowdStop → CrowdSize → WorldRecord → WorldRecord → Type 0
+abbrev pub CrowdStops : CrowdFault → CrowdSize → WorldRecord → WorldRecord → Type 0
 -- there is no such queue or no memory for it, and nothing was read or written
 CrowdStops (stop.NotMade fault) size old new = IsFaultOf size.arena size.slots size.workers fault × IsUntouched old new
 -- the script was not taken whole, and nothing was written
-CrowdStops (stop.Untaken why) size old new = IsGoodSize size × TakesPart why old.source new.source × (new.sink ≡ old.sink)
+CrowdStops (stop.ScriptFault why) size old new = IsGoodSize size × TakesPart why old.source new.source × (new.sink ≡ old.sink)
 -- the script was not played to its end, and nothing was written
-CrowdStops (stop.Unplayed why) size old new = LeavesUnplayed why size old.source new.source × (new.sink ≡ old.sink)
+CrowdStops (stop.PlayFault why) size old new = LeavesUnplayed why size old.source new.source × (new.sink ≡ old.sink)
 -- the sink failed, and a front of the answers was written
 CrowdStops stop.SinkFault size old new =
     (answers : List ℕ) × PlaysWhole size answers old.source new.source × Rose old.sink.faults new.sink.faults × WritesFront old.sink answers new.sink
 
 -- How a crowd of that size ends.
-abbrev pub CrowdEnds : Result (Unit {0}) CrowdStop → CrowdSize → WorldRecord → WorldRecord → Type 0
+abbrev pub CrowdEnds : Result (Unit {0}) CrowdFault → CrowdSize → WorldRecord → WorldRecord → Type 0
 -- the script was played, and all answers are written
 CrowdEnds (Ok done) size old new = (answers : List ℕ) × PlaysWhole size answers old.source new.source × Takes old.sink answers new.sink
 CrowdEnds (Err why) size old new = CrowdStops why size old new
 
 -- what a fault of reading a script comes to
-abbrev pub unplayed_of : OrdersFault → Unplayed
+abbrev pub unplayed_of : OrdersFault → PlayFault
 unplayed_of (orders_fault.BadLine line column) = unplayed.BadLine line column
 unplayed_of orders_fault.OutOfMemory = unplayed.OutOfMemory

@@ -3,8 +3,8 @@ use Rattle.std.specs.Prelude.{◌≡◌, ℕ, ◌<◌, ◌≤◌, List, length}
 use Rattle.ldm_outside.specs.Count.{Rose}
 use Rattle.ldm_outside.specs.Io.{SourceRecord, Gives}
 use Rattle.ldm_crowd.specs.declared.orders.TheConstants.{MOST_SCRIPT}
-use Rattle.ldm_crowd_command.specs.declared.whole_script.Untaken.{Untaken}
-use Rattle.ldm_crowd_command.specs.declared.whole_script.Untaken.TheVariants as untaken
+use Rattle.ldm_crowd_command.specs.declared.whole_script.ScriptFault.{ScriptFault}
+use Rattle.ldm_crowd_command.specs.declared.whole_script.ScriptFault.TheVariants as untaken
 use Rattle.ldm_status.specs.World.{AtEnd}
 
 -- A script was taken whole: the source told its end behind it, and it has fewer bytes than are too many.
@@ -14,7 +14,7 @@ pub record TakesWhole (text : List ℕ) (old new : SourceRecord) : Type 0 where
   pub at_end : AtEnd old new
 
 -- Why no more of a script was taken than these bytes.
-abbrev pub StopsTaking : Untaken → List ℕ → SourceRecord → SourceRecord → Type 0
+abbrev pub StopsTaking : ScriptFault → List ℕ → SourceRecord → SourceRecord → Type 0
 -- they are as many as are too many
 StopsTaking untaken.StreamLimit text old new = length text ≡ MOST_SCRIPT
 -- the source failed
@@ -23,7 +23,7 @@ StopsTaking untaken.SourceFault text old new = (length text < MOST_SCRIPT) × Ro
 StopsTaking untaken.OutOfMemory text old new = Unit {0}
 
 -- A script was not taken whole, but some bytes of it.
-pub record TakesPart (why : Untaken) (old new : SourceRecord) : Type 0 where
+pub record TakesPart (why : ScriptFault) (old new : SourceRecord) : Type 0 where
   pub text : List ℕ
   pub taken : Gives old text new
   pub limit : length text ≤ MOST_SCRIPT

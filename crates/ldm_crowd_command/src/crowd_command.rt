@@ -17,7 +17,7 @@ ghost use Rattle.ldm_crowd_command.specs.Law.{ObeysCrowdLaw};
 ghost use Rattle.ldm_crowd_command.specs.Complete.{CrowdCompletes};
 
 use crate::statuses::status_of;
-use crate::whole_script::{Untaken, take_script};
+use crate::whole_script::{ScriptFault, take_script};
 use ldm_book::Book;
 use ldm_calls::histories_are_lawful;
 use ldm_crowd::{CrowdEnd, Orders, OrdersFault};
@@ -32,7 +32,7 @@ use std::thread::Threads;
 
 /// Why a script that was taken whole was not played to its end.
 #[derive(Clone, Copy, Debug, PartialEq, Eq)]
-pub enum Unplayed {
+pub enum PlayFault {
     /// The first line that is outside the grammar: its number, from 1, and the column of its first fault.
     BadLine { line: u32, column: u32 },
     /// The queue has had all the calls that it can have.
@@ -43,83 +43,83 @@ pub enum Unplayed {
 
 /// Why a crowd stopped before all answers were written.
 #[derive(Clone, Copy, Debug, PartialEq, Eq)]
-pub enum CrowdStop {
+pub enum CrowdFault {
     /// No queue was made.
     NotMade(CreateFault),
     /// The script was not taken whole.
-    Untaken(Untaken),
+    ScriptFault(ScriptFault),
     /// The script was not played to its end.
-    Unplayed(Unplayed),
+    PlayFault(PlayFault),
     /// The sink failed.
     SinkFault,
 }
 
-impl From<OrdersFault> for Unplayed {
+impl From<OrdersFault> for PlayFault {
     ghost use Rattle.std.specs.Prelude.{◌≡◌};
     ghost use Rattle.ldm_crowd_command.specs.CrowdEnding.{unplayed_of};
 
     ghost from_gives = { λ fault why. why ≡ unplayed_of fault };
 
-    fn from(fault: OrdersFault) -> Unplayed {
+    fn from(fault: OrdersFault) -> PlayFault {
         match fault {
-            OrdersFault::BadLine { line, column } => Unplayed::BadLine { line, column },
-            OrdersFault::OutOfMemory => Unplayed::OutOfMemory,
+            OrdersFault::BadLine { line, column } => PlayFault::BadLine { line, column },
+            OrdersFault::OutOfMemory => PlayFault::OutOfMemory,
         }
     }
 }
 
-impl From<AllocError> for Unplayed {
+impl From<AllocError> for PlayFault {
     ghost use Rattle.std.specs.Prelude.{◌≡◌};
-    ghost use Rattle.ldm_crowd_command.specs.declared.crowd_command.Unplayed.TheVariants as unplayed;
+    ghost use Rattle.ldm_crowd_command.specs.declared.crowd_command.PlayFault.TheVariants as unplayed;
 
     ghost from_gives = { λ _ why. why ≡ unplayed.OutOfMemory };
 
-    fn from(_error: AllocError) -> Unplayed {
-        Unplayed::OutOfMemory
+    fn from(_error: AllocError) -> PlayFault {
+        PlayFault::OutOfMemory
     }
 }
 
-impl From<CreateFault> for CrowdStop {
+impl From<CreateFault> for CrowdFault {
     ghost use Rattle.std.specs.Prelude.{◌≡◌};
-    ghost use Rattle.ldm_crowd_command.specs.declared.crowd_command.CrowdStop.TheVariants as stop;
+    ghost use Rattle.ldm_crowd_command.specs.declared.crowd_command.CrowdFault.TheVariants as stop;
 
     ghost from_gives = { λ fault made. made ≡ stop.NotMade fault };
 
-    fn from(fault: CreateFault) -> CrowdStop {
-        CrowdStop::NotMade(fault)
+    fn from(fault: CreateFault) -> CrowdFault {
+        CrowdFault::NotMade(fault)
     }
 }
 
-impl From<Untaken> for CrowdStop {
+impl From<ScriptFault> for CrowdFault {
     ghost use Rattle.std.specs.Prelude.{◌≡◌};
-    ghost use Rattle.ldm_crowd_command.specs.declared.crowd_command.CrowdStop.TheVariants as stop;
+    ghost use Rattle.ldm_crowd_command.specs.declared.crowd_command.CrowdFault.TheVariants as stop;
 
-    ghost from_gives = { λ why made. made ≡ stop.Untaken why };
+    ghost from_gives = { λ why made. made ≡ stop.ScriptFault why };
 
-    fn from(why: Untaken) -> CrowdStop {
-        CrowdStop::Untaken(why)
+    fn from(why: ScriptFault) -> CrowdFault {
+        CrowdFault::ScriptFault(why)
     }
 }
 
-impl From<Unplayed> for CrowdStop {
+impl From<PlayFault> for CrowdFault {
     ghost use Rattle.std.specs.Prelude.{◌≡◌};
-    ghost use Rattle.ldm_crowd_command.specs.declared.crowd_command.CrowdStop.TheVariants as stop;
+    ghost use Rattle.ldm_crowd_command.specs.declared.crowd_command.CrowdFault.TheVariants as stop;
 
-    ghost from_gives = { λ why made. made ≡ stop.Unplayed why };
+    ghost from_gives = { λ why made. made ≡ stop.PlayFault why };
 
-    fn from(why: Unplayed) -> CrowdStop {
-        CrowdStop::Unplayed(why)
+    fn from(why: PlayFault) -> CrowdFault {
+        CrowdFault::PlayFault(why)
     }
 }
 
-impl From<SinkFailed> for CrowdStop {
+impl From<SinkFailed> for CrowdFault {
     ghost use Rattle.std.specs.Prelude.{◌≡◌};
-    ghost use Rattle.ldm_crowd_command.specs.declared.crowd_command.CrowdStop.TheVariants as stop;
+    ghost use Rattle.ldm_crowd_command.specs.declared.crowd_command.CrowdFault.TheVariants as stop;
 
     ghost from_gives = { λ _ made. made ≡ stop.SinkFault };
 
-    fn from(_failed: SinkFailed) -> CrowdStop {
-        CrowdStop::SinkFault
+    fn from(_failed: SinkFailed) -> CrowdFault {
+        CrowdFault::SinkFault
     }
 }
 
@@ -131,7 +131,7 @@ fn play_text<H: Threads + Wait + Sync>(
     passes: Vec<Pass>,
     workers: u32,
     text: &[u8],
-) -> Result<ldm_crowd::Crowd<OpenGate>, Unplayed>
+) -> Result<ldm_crowd::Crowd<OpenGate>, PlayFault>
     requires text { length text.now ≤ MOST_SCRIPT }
     requires workers { workers ≡ shared.passes }
     requires good { IsGoodPasses workers }
@@ -146,8 +146,8 @@ fn play_text<H: Threads + Wait + Sync>(
     let crowd = ldm_crowd::crowd(rt, alloc, &orders, shared, passes, gates);
     match crowd.end {
         CrowdEnd::Done => Ok(crowd),
-        CrowdEnd::Worn => Err(Unplayed::Worn),
-        CrowdEnd::OutOfMemory => Err(Unplayed::OutOfMemory),
+        CrowdEnd::Worn => Err(PlayFault::Worn),
+        CrowdEnd::OutOfMemory => Err(PlayFault::OutOfMemory),
         // an open gate never stops
         CrowdEnd::Stopped => unreachable!(),
     }
@@ -200,7 +200,7 @@ fn run_crowd<H: Threads + Wait + Sync, S: Source, K: Sink>(
     workers: u32,
     source: &mut S,
     sink: &mut K,
-) -> Result<(), CrowdStop>
+) -> Result<(), CrowdFault>
     ensures ends { (log_before log_after : SinkRecord) →
         let old : WorldRecord = record { source = S.tells source.old; sink = K.tells sink.old; log = log_before } in
         let new : WorldRecord = record { source = S.tells source.new; sink = K.tells sink.new; log = log_after } in

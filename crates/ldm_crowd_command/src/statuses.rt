@@ -2,53 +2,53 @@
 ghost use Rattle.std.specs.Prelude.{◌≡◌};
 ghost use Rattle.ldm_crowd_command.specs.Statuses.{status_of_crowd, status_of_fault};
 
-use crate::crowd_command::{CrowdStop, Unplayed};
-use crate::whole_script::Untaken;
+use crate::crowd_command::{CrowdFault, PlayFault};
+use crate::whole_script::ScriptFault;
 use ldm_shared::CreateFault;
 use ldm_status::Status;
 
-impl From<Untaken> for Status {
+impl From<ScriptFault> for Status {
     ghost use Rattle.ldm_crowd_command.specs.Statuses.{status_of_untaken};
 
     ghost from_gives = { λ why status. status ≡ status_of_untaken why };
 
-    fn from(why: Untaken) -> Status {
+    fn from(why: ScriptFault) -> Status {
         match why {
-            Untaken::StreamLimit => Status::StreamLimit,
-            Untaken::SourceFault => Status::SourceFault,
-            Untaken::OutOfMemory => Status::NoMemory,
+            ScriptFault::StreamLimit => Status::StreamLimit,
+            ScriptFault::SourceFault => Status::SourceFault,
+            ScriptFault::OutOfMemory => Status::NoMemory,
         }
     }
 }
 
-impl From<Unplayed> for Status {
+impl From<PlayFault> for Status {
     ghost use Rattle.ldm_crowd_command.specs.Statuses.{status_of_unplayed};
 
     ghost from_gives = { λ why status. status ≡ status_of_unplayed why };
 
-    fn from(why: Unplayed) -> Status {
+    fn from(why: PlayFault) -> Status {
         match why {
-            Unplayed::BadLine { line, column } => Status::BadLine {
+            PlayFault::BadLine { line, column } => Status::BadLine {
                 line: u64::from(line),
                 column,
             },
-            Unplayed::Worn => Status::Worn,
-            Unplayed::OutOfMemory => Status::NoMemory,
+            PlayFault::Worn => Status::Worn,
+            PlayFault::OutOfMemory => Status::NoMemory,
         }
     }
 }
 
-impl From<CrowdStop> for Status {
+impl From<CrowdFault> for Status {
     ghost use Rattle.ldm_crowd_command.specs.Statuses.{status_of_crowd_stop};
 
     ghost from_gives = { λ stop status. status ≡ status_of_crowd_stop stop };
 
-    fn from(stop: CrowdStop) -> Status {
+    fn from(stop: CrowdFault) -> Status {
         match stop {
-            CrowdStop::NotMade(fault) => not_made(fault),
-            CrowdStop::Untaken(why) => Status::from(why),
-            CrowdStop::Unplayed(why) => Status::from(why),
-            CrowdStop::SinkFault => Status::SinkFault,
+            CrowdFault::NotMade(fault) => not_made(fault),
+            CrowdFault::ScriptFault(why) => Status::from(why),
+            CrowdFault::PlayFault(why) => Status::from(why),
+            CrowdFault::SinkFault => Status::SinkFault,
         }
     }
 }
@@ -66,7 +66,7 @@ fn not_made(fault: CreateFault) -> Status
 }
 
 /// The status of how a crowd ended.
-pub fn status_of(ending: Result<(), CrowdStop>) -> Status
+pub fn status_of(ending: Result<(), CrowdFault>) -> Status
     ensures { result ≡ status_of_crowd ending }
 {
     match ending {

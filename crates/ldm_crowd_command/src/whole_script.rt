@@ -9,7 +9,7 @@ use std::alloc::{AllocError, Global};
 
 /// Why a script was not taken whole.
 #[derive(Clone, Copy, Debug, PartialEq, Eq)]
-pub enum Untaken {
+pub enum ScriptFault {
     /// As many bytes were taken as are too many: [`MOST_SCRIPT`].
     StreamLimit,
     /// The source failed.
@@ -18,19 +18,19 @@ pub enum Untaken {
     OutOfMemory,
 }
 
-impl From<AllocError> for Untaken {
+impl From<AllocError> for ScriptFault {
     ghost use Rattle.std.specs.Prelude.{◌≡◌};
-    ghost use Rattle.ldm_crowd_command.specs.declared.whole_script.Untaken.TheVariants as untaken;
+    ghost use Rattle.ldm_crowd_command.specs.declared.whole_script.ScriptFault.TheVariants as untaken;
 
     ghost from_gives = { λ _ why. why ≡ untaken.OutOfMemory };
 
-    fn from(_error: AllocError) -> Untaken {
-        Untaken::OutOfMemory
+    fn from(_error: AllocError) -> ScriptFault {
+        ScriptFault::OutOfMemory
     }
 }
 
 /// Takes all bytes of a source, up to its end.
-pub fn take_script<S: Source>(alloc: Global, source: &mut S) -> Result<Vec<u8>, Untaken>
+pub fn take_script<S: Source>(alloc: Global, source: &mut S) -> Result<Vec<u8>, ScriptFault>
     ensures whole { IfOk result (λ text. TakesWhole text.items (S.tells source.old) (S.tells source.new)) }
     ensures part { IfErr result (λ why. TakesPart why (S.tells source.old) (S.tells source.new)) }
     ensures source_faults_kept { (S.tells source.old).faults ≤ (S.tells source.new).faults }
@@ -44,7 +44,7 @@ fn take_pieces<S: Source>(
     alloc: Global,
     piece: &mut [u8],
     source: &mut S,
-) -> Result<Vec<u8>, Untaken>
+) -> Result<Vec<u8>, ScriptFault>
     requires { 0 < length piece.old }
     ensures whole { IfOk result (λ text. TakesWhole text.items (S.tells source.old) (S.tells source.new)) }
     ensures part { IfErr result (λ why. TakesPart why (S.tells source.old) (S.tells source.new)) }
@@ -58,8 +58,8 @@ fn take_pieces<S: Source>(
         match source.read(buffer) {
             Got::Bytes(n) => text.extend_from_slice(&buffer[..n])?,
             Got::End => return Ok(text),
-            Got::Failed => return Err(Untaken::SourceFault),
+            Got::Failed => return Err(ScriptFault::SourceFault),
         }
     }
-    Err(Untaken::StreamLimit)
+    Err(ScriptFault::StreamLimit)
 }

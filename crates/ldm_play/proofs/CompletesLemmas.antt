@@ -12,7 +12,7 @@ use Rattle.ldm_book.specs.declared.fault.CreateFault.TheVariants as fault
 use Rattle.ldm_play.specs.declared.play_command.ScriptEnd.{ScriptEnd}
 use Rattle.ldm_play.specs.declared.play_command.ScriptEnd.TheVariants as script_end
 use Rattle.ldm_play.specs.declared.play_command.TheConstants.{SCRIPT_LIMIT}
-use Rattle.ldm_play.specs.declared.player.Stop.TheVariants as stop
+use Rattle.ldm_play.specs.declared.player.LineFault.TheVariants as stop
 use Rattle.ldm_script.specs.declared.line.TheConstants.{LONGEST_LINE}
 use Rattle.ldm_status.specs.declared.status.Status.TheVariants as status
 use Rattle.ldm_script.specs.Lines.{Cut, cut, whole_lines, lines_of, last_line}

@@ -6,8 +6,8 @@ use Rattle.ldm_outside.specs.Io.{SinkRecord, Takes, WritesFront}
 use Rattle.ldm_outside.proofs.CallerLemmas.{Rose-later, Takes-nothing, Takes-same, Takes-then, WritesFront-behind}
 use Rattle.ldm_script.specs.Resolve.{Playing}
 use Rattle.ldm_script.specs.declared.line.TheConstants.{LONGEST_LINE}
-use Rattle.ldm_play.specs.declared.player.Stop.{Stop}
-use Rattle.ldm_play.specs.declared.player.Stop.TheVariants as stop
+use Rattle.ldm_play.specs.declared.player.LineFault.{LineFault}
+use Rattle.ldm_play.specs.declared.player.LineFault.TheVariants as stop
 use Rattle.ldm_script.specs.Lines.{Cut, cut, whole_lines, last_line}
 use Rattle.ldm_play.specs.Lines.{too_long, known_lines}
 use Rattle.ldm_play.specs.Play.{Played, play_line, play}
@@ -114,7 +114,7 @@ module _ (p : Playing) (script : List ℕ) (player : PlayerView) (pending : Pend
       )
 
   -- the play stops at a line behind the whole ones
-  stops_behind : (why : Stop) (line : List ℕ) (rest : List (List ℕ)) (after : SinkRecord) → LineStops why here (play_line pending.number here line) now after → StopsAt why p (whole_lines script ++ line ∷ rest) before after
+  stops_behind : (why : LineFault) (line : List ℕ) (rest : List (List ℕ)) (after : SinkRecord) → LineStops why here (play_line pending.number here line) now after → StopsAt why p (whole_lines script ++ line ∷ rest) before after
   stops_behind (stop.BadLine bad column) line rest after stops =
       let lines = whole_lines script in
       let whole = play-stop lines p line pending.number on.number on.running rest (record { line = bad; column = column }) stops.0 in
@@ -141,7 +141,7 @@ module _ (p : Playing) (script : List ℕ) (player : PlayerView) (pending : Pend
       )
 
   -- a line at which the play stops
-  pub line_stops : (why : Stop) (end behind : List ℕ) (after : SinkRecord) → Lacks 10 end
+  pub line_stops : (why : LineFault) (end behind : List ℕ) (after : SinkRecord) → Lacks 10 end
       → LineStops why here (play_line pending.number here (pending.bytes ++ end)) now after
       → StopsAt why p (known_lines false (script ++ (end ++ 10 ∷ behind))) before after
   line_stops why end behind after lacks stops =
@@ -195,7 +195,7 @@ module _ (p : Playing) (script : List ℕ) (player : PlayerView) (pending : Pend
         subst (λ (x : Played). StaysLegal p x.playing) (sym more) (legal_then (play_line pending.number here pending.bytes).playing legal),
       )
 
-  pub last_stops : (why : Stop) (after : SinkRecord) → eqb (length pending.bytes) 0 ≡ false
+  pub last_stops : (why : LineFault) (after : SinkRecord) → eqb (length pending.bytes) 0 ≡ false
       → LineStops why here (play_line pending.number here pending.bytes) now after
       → StopsAt why p (known_lines true script) before after
   last_stops why after some stops =

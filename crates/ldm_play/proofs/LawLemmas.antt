@@ -15,8 +15,8 @@ use Rattle.ldm_script.specs.declared.line.TheConstants.{LONGEST_LINE}
 use Rattle.ldm_calls.specs.Lawful.{IsLawful}
 use Rattle.ldm_play.specs.declared.play_command.ScriptEnd.{ScriptEnd}
 use Rattle.ldm_play.specs.declared.play_command.ScriptEnd.TheVariants as script_end
-use Rattle.ldm_play.specs.declared.player.Stop.{Stop}
-use Rattle.ldm_play.specs.declared.player.Stop.TheVariants as stop
+use Rattle.ldm_play.specs.declared.player.LineFault.{LineFault}
+use Rattle.ldm_play.specs.declared.player.LineFault.TheVariants as stop
 use Rattle.ldm_play.specs.Ending.{Size, AnswersKnownLines, StopsAt, PlaysScript, PlayEnds}
 use Rattle.ldm_play.specs.Law.{played_on, WritesLawful, ObeysPlayLaw}
 use Rattle.ldm_play.specs.Legal.{StaysLegal}
@@ -63,7 +63,7 @@ module _ (lawful : (arena slots : ℕ) (history : List Entry) → IsLegal arena 
         let within = known_within false script in
         writes (known_lines false script) within.0 within.1 known.legal (whole_front old.sink new.sink (played_on size (known_lines false script)).text known.written) (λ works. known.written)
 
-    stops : (why : Stop) (ended : Bool) → StopsAt why (new_play size.arena size.slots) (known_lines ended script) old.sink new.sink → WritesLawful size old new
+    stops : (why : LineFault) (ended : Bool) → StopsAt why (new_play size.arena size.slots) (known_lines ended script) old.sink new.sink → WritesLawful size old new
     stops (stop.BadLine line column) ended at =
         let within = known_within ended script in
         writes (known_lines ended script) within.0 within.1 at.2 (whole_front old.sink new.sink (played_on size (known_lines ended script)).text at.1) (λ works. at.1)

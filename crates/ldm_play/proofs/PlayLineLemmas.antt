@@ -24,7 +24,7 @@ use Rattle.ldm_script.specs.Grammar.{read_line, read_order, is_comment, at_colum
 use Rattle.ldm_script.specs.Answer.{answer_line}
 use Rattle.ldm_script.specs.Resolve.{Playing, no_places, resolved, unresolved, last_after, after_reply, answer_event, answer_order}
 use Rattle.ldm_play.specs.Play.{Played, play_reading, play_line}
-use Rattle.ldm_play.specs.declared.player.Stop.TheVariants as stop
+use Rattle.ldm_play.specs.declared.player.LineFault.TheVariants as stop
 use Rattle.ldm_play.specs.Legal.{StaysLegal}
 use Rattle.ldm_play.specs.PlayerView.{PlayerView, StandsForPlay, AnswersOrder}
 use Rattle.ldm_play.specs.Step.{LineGives}

@@ -9,8 +9,8 @@ use Rattle.ldm_book.specs.declared.fault.CreateFault.{CreateFault}
 use Rattle.ldm_play.specs.declared.play_command.TheConstants.{SCRIPT_LIMIT}
 use Rattle.ldm_play.specs.declared.play_command.ScriptEnd.{ScriptEnd}
 use Rattle.ldm_play.specs.declared.play_command.ScriptEnd.TheVariants as script_end
-use Rattle.ldm_play.specs.declared.player.Stop.{Stop}
-use Rattle.ldm_play.specs.declared.player.Stop.TheVariants as stop
+use Rattle.ldm_play.specs.declared.player.LineFault.{LineFault}
+use Rattle.ldm_play.specs.declared.player.LineFault.TheVariants as stop
 use Rattle.ldm_play.specs.Legal.{StaysLegal}
 use Rattle.ldm_play.specs.Lines.{known_lines}
 use Rattle.ldm_play.specs.Play.{play}
@@ -36,7 +36,7 @@ pub record WritesFirst (p : Playing) (lines : List (List ℕ)) (old new : SinkRe
   pub legal : StaysLegal p (play 1 p first).playing
 
 -- Why a play stopped at one of these lines, and what was written then.
-abbrev pub StopsAt : Stop → Playing → List (List ℕ) → SinkRecord → SinkRecord → Type 0
+abbrev pub StopsAt : LineFault → Playing → List (List ℕ) → SinkRecord → SinkRecord → Type 0
 -- a line is outside the grammar: all lines before it are answered
 StopsAt (stop.BadLine line column) p lines old new =
     ((play 1 p lines).stop ≡ Some (record { line = line; column = column })) × Takes old (play 1 p lines).text new × StaysLegal p (play 1 p lines).playing

@@ -6,11 +6,11 @@ use Rattle.ldm_status.specs.declared.status.Status.{Status}
 use Rattle.ldm_status.specs.declared.status.Status.TheVariants as status
 use Rattle.ldm_play.specs.declared.play_command.ScriptEnd.{ScriptEnd}
 use Rattle.ldm_play.specs.declared.play_command.ScriptEnd.TheVariants as script_end
-use Rattle.ldm_play.specs.declared.player.Stop.{Stop}
-use Rattle.ldm_play.specs.declared.player.Stop.TheVariants as stop
+use Rattle.ldm_play.specs.declared.player.LineFault.{LineFault}
+use Rattle.ldm_play.specs.declared.player.LineFault.TheVariants as stop
 
 -- the status of a stop at a line
-abbrev pub status_of_stop : Stop → Status
+abbrev pub status_of_stop : LineFault → Status
 status_of_stop (stop.BadLine line column) = status.BadLine line column
 status_of_stop stop.SinkFault = status.SinkFault
 

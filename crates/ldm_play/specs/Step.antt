@@ -4,8 +4,8 @@ use Rattle.ldm_outside.specs.Count.{Rose}
 use Rattle.ldm_outside.specs.Io.{SinkRecord, Takes, WritesFront}
 use Rattle.ldm_script.specs.declared.line.TheConstants.{LONGEST_LINE}
 use Rattle.ldm_script.specs.Resolve.{Playing}
-use Rattle.ldm_play.specs.declared.player.Stop.{Stop}
-use Rattle.ldm_play.specs.declared.player.Stop.TheVariants as stop
+use Rattle.ldm_play.specs.declared.player.LineFault.{LineFault}
+use Rattle.ldm_play.specs.declared.player.LineFault.TheVariants as stop
 use Rattle.ldm_script.specs.Lines.{cut, whole_lines}
 use Rattle.ldm_play.specs.Lines.{known_lines}
 use Rattle.ldm_play.specs.Play.{Played, play}
@@ -15,12 +15,12 @@ use Rattle.ldm_play.specs.Legal.{StaysLegal}
 use Rattle.ldm_play.specs.Ending.{StopsAt}
 
 -- why a line stopped the play, and what was written then
-abbrev pub LineStops : Stop → Playing → Played → SinkRecord → SinkRecord → Type 0
+abbrev pub LineStops : LineFault → Playing → Played → SinkRecord → SinkRecord → Type 0
 LineStops (stop.BadLine line column) p played old new = (played.stop ≡ Some (record { line = line; column = column })) × (new.written ≡ old.written)
 LineStops stop.SinkFault p played old new = (played.stop ≡ None) × Rose old.faults new.faults × WritesFront old played.text new × StaysLegal p played.playing
 
 -- a line was played
-abbrev pub LineGives : Result (Unit {0}) Stop → Playing → Played → PlayerView → SinkRecord → SinkRecord → Type 0
+abbrev pub LineGives : Result (Unit {0}) LineFault → Playing → Played → PlayerView → SinkRecord → SinkRecord → Type 0
 LineGives (Ok done) p played player old new = (played.stop ≡ None) × StandsForPlay player played.playing × Takes old played.text new × StaysLegal p played.playing
 LineGives (Err why) p played player old new = LineStops why p played old new
 
@@ -37,12 +37,12 @@ pub record GoesOn (p : Playing) (script : List ℕ) (player : PlayerView) (pendi
   pub faults_kept : old.faults ≤ new.faults
 
 -- a piece of a script was played: it goes on with the piece, or it stopped at a line that is known by then
-abbrev pub PieceGives : Result (Unit {0}) Stop → Playing → List ℕ → PlayerView → PendingView → SinkRecord → SinkRecord → Type 0
+abbrev pub PieceGives : Result (Unit {0}) LineFault → Playing → List ℕ → PlayerView → PendingView → SinkRecord → SinkRecord → Type 0
 PieceGives (Ok done) p script player pending old new = GoesOn p script player pending old new
 PieceGives (Err why) p script player pending old new = StopsAt why p (known_lines false script) old new
 
 -- the end of a script came, and its last line was played
-abbrev pub EndGives : Result (Unit {0}) Stop → Playing → List ℕ → SinkRecord → SinkRecord → Type 0
+abbrev pub EndGives : Result (Unit {0}) LineFault → Playing → List ℕ → SinkRecord → SinkRecord → Type 0
 EndGives (Ok done) p script old new =
     ((play 1 p (known_lines true script)).stop ≡ None) × Takes old (play 1 p (known_lines true script)).text new × StaysLegal p (play 1 p (known_lines true script)).playing
 EndGives (Err why) p script old new = StopsAt why p (known_lines true script) old new

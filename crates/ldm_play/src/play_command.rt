@@ -13,7 +13,7 @@ ghost use Rattle.ldm_play.specs.Run.{Plays};
 ghost use Rattle.ldm_play.specs.Complete.{Completes};
 
 use crate::pending::Pending;
-use crate::player::{Player, Stop};
+use crate::player::{LineFault, Player};
 use crate::statuses::status_of;
 use ldm_book::{Book, CreateFault};
 use ldm_calls::histories_are_lawful;
@@ -36,14 +36,14 @@ pub enum ScriptEnd {
     /// The source failed.
     SourceFault,
     /// The play stopped at a line.
-    Stopped(Stop),
+    Stopped(LineFault),
 }
 
 // A line that is longer than a line may be is refused behind the last byte that it may have.
-fn too_long(number: u64) -> Stop
-    ensures { result ≡ Stop.BadLine number (LONGEST_LINE + 1) }
+fn too_long(number: u64) -> LineFault
+    ensures { result ≡ LineFault.BadLine number (LONGEST_LINE + 1) }
 {
-    Stop::BadLine {
+    LineFault::BadLine {
         line: number,
         column: LONGEST_LINE as u32 + 1,
     }
@@ -55,7 +55,7 @@ fn play_ended<K: Sink>(
     pending: &mut Pending,
     end: &[u8],
     sink: &mut K,
-) -> Result<(), Stop>
+) -> Result<(), LineFault>
     ensures played { (p : Playing) → StandsForPlay player.old p
         → LineGives result p (play_line pending.old.number p (pending.old.bytes ++ end.now)) player.new (K.tells sink.old) (K.tells sink.new) }
     ensures number { pending.new.number ≡ pending.old.number }
@@ -76,7 +76,7 @@ fn end_line<K: Sink>(
     pending: &mut Pending,
     end: &[u8],
     sink: &mut K,
-) -> Result<(), Stop>
+) -> Result<(), LineFault>
     requires { pending.old.number + 1 < 2 ^ 64 }
     ensures played { (p : Playing) → StandsForPlay player.old p
         → LineGives result p (play_line pending.old.number p (pending.old.bytes ++ end.now)) player.new (K.tells sink.old) (K.tells sink.new) }
@@ -94,7 +94,7 @@ fn play_piece<K: Sink>(
     pending: &mut Pending,
     piece: &[u8],
     sink: &mut K,
-) -> Result<(), Stop>
+) -> Result<(), LineFault>
     requires { pending.old.number + length piece.now < 2 ^ 64 }
     ensures played { (p : Playing) (script : List ℕ) (before : SinkRecord) → GoesOn p script player.old pending.old before (K.tells sink.old) →
         PieceGives result p (script ++ piece.now) player.new pending.new before (K.tells sink.new) }
@@ -113,7 +113,7 @@ fn play_piece<K: Sink>(
 }
 
 // Plays the last line of a script, which no newline ends.
-fn play_last<K: Sink>(player: &mut Player, pending: &Pending, sink: &mut K) -> Result<(), Stop>
+fn play_last<K: Sink>(player: &mut Player, pending: &Pending, sink: &mut K) -> Result<(), LineFault>
     ensures played { (p : Playing) (script : List ℕ) (before : SinkRecord) → GoesOn p script player.old pending.now before (K.tells sink.old) →
         EndGives result p script before (K.tells sink.new) }
     ensures faults_kept { (K.tells sink.old).faults ≤ (K.tells sink.new).faults }

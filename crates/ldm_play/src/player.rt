@@ -16,7 +16,7 @@ use std::marker::Model;
 
 /// Why the play of a script stops before its end.
 #[derive(Clone, Copy, Debug, PartialEq, Eq)]
-pub enum Stop {
+pub enum LineFault {
     /// A line is outside the grammar: its number in the script, from 1, and the column of its first fault.
     BadLine { line: u64, column: u32 },
     /// The sink failed.
@@ -57,7 +57,12 @@ impl Player {
     ///
     /// The clause says how it ends: all done and answered; a line outside the grammar, at which nothing is written; or a
     /// sink that failed, at which a front of the answer is written.
-    pub fn play_line<K: Sink>(&mut self, number: u64, line: &[u8], sink: &mut K) -> Result<(), Stop>
+    pub fn play_line<K: Sink>(
+        &mut self,
+        number: u64,
+        line: &[u8],
+        sink: &mut K,
+    ) -> Result<(), LineFault>
         ensures played { (p : Playing) → StandsForPlay self.old p → LineGives result p (play_line number p line.now) self.new (K.tells sink.old) (K.tells sink.new) }
         ensures faults_kept { (K.tells sink.old).faults ≤ (K.tells sink.new).faults }
     {
@@ -65,7 +70,7 @@ impl Player {
             Ok(Some(order)) => order,
             Ok(None) => return Ok(()),
             Err(bad) => {
-                return Err(Stop::BadLine {
+                return Err(LineFault::BadLine {
                     line: number,
                     column: bad.column,
                 });
@@ -74,7 +79,7 @@ impl Player {
         answer(&mut self.book, &mut self.last, &mut self.room, &order);
         match write_all(sink, self.room.text()) {
             Ok(()) => Ok(()),
-            Err(SinkFailed) => Err(Stop::SinkFault),
+            Err(SinkFailed) => Err(LineFault::SinkFault),
         }
     }
 }

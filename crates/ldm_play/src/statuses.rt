@@ -3,19 +3,19 @@ ghost use Rattle.std.specs.Prelude.{◌≡◌};
 ghost use Rattle.ldm_play.specs.Statuses.{status_of_play, status_of_fault};
 
 use crate::play_command::ScriptEnd;
-use crate::player::Stop;
+use crate::player::LineFault;
 use ldm_book::CreateFault;
 use ldm_status::Status;
 
-impl From<Stop> for Status {
+impl From<LineFault> for Status {
     ghost use Rattle.ldm_play.specs.Statuses.{status_of_stop};
 
     ghost from_gives = { λ stop status. status ≡ status_of_stop stop };
 
-    fn from(stop: Stop) -> Status {
+    fn from(stop: LineFault) -> Status {
         match stop {
-            Stop::BadLine { line, column } => Status::BadLine { line, column },
-            Stop::SinkFault => Status::SinkFault,
+            LineFault::BadLine { line, column } => Status::BadLine { line, column },
+            LineFault::SinkFault => Status::SinkFault,
         }
     }
 }

@@ -1,8 +1,8 @@
 -- Words, piece by piece.
 use Rattle.std.proofs.Common.{◌<◌, ◌+◌, suc, length, get_or, drop-cons, arith, ◌≡◌, ℕ, List, [], ◌∷◌, ◌++◌, drop, Result, Ok, Err, refl, sym, ap, ◌∙◌, append_assoc, append-nil}
 use Rattle.ldm_pqact_match.specs.declared.forms.Form.{Form}
-use Rattle.ldm_pqact_match.specs.declared.substitute.Stop.{Stop}
-use Rattle.ldm_pqact_match.specs.declared.substitute.Stop.TheVariants.{NoDay, OutOfMemory}
+use Rattle.ldm_pqact_match.specs.declared.substitute.WordFault.{WordFault}
+use Rattle.ldm_pqact_match.specs.declared.substitute.WordFault.TheVariants.{NoDay, OutOfMemory}
 use Rattle.ldm_pqact_match.specs.Forms.{pieces_behind, pieces_of}
 use Rattle.ldm_pqact_match.specs.Substitution.{Meanings, in_front, piece_text, pieces_text, word_text, words_text}
 use Rattle.ldm_pqact_match.specs.Reading.{HasFront, IsStopOf, behind, behind_words, Appends}
@@ -19,7 +19,7 @@ piece_taken meanings bytes new text form front added =
     rw (front.pieces, added.1, added.2) (joined bytes added.0 (pieces_text meanings (pieces_of (drop form.length text))))
 
 -- a piece that stops a word stops it whatever stands already
-pub piece_stops : (meanings : Meanings) (bytes text word : List ℕ) (form : Form) (stop : Stop) → HasFront text form →
+pub piece_stops : (meanings : Meanings) (bytes text word : List ℕ) (form : Form) (stop : WordFault) → HasFront text form →
     behind bytes (pieces_text meanings (pieces_of text)) ≡ word_text meanings word → IsStopOf (piece_text meanings form.piece) stop →
     IsStopOf (word_text meanings word) stop
 unfolding pieces_text
@@ -43,7 +43,7 @@ pub word_taken : (meanings : Meanings) (texts : List (List ℕ)) (text word : Li
 unfolding words_text
 word_taken meanings texts text word words is = rw is (joined_words texts text (words_text meanings words))
 
-pub word_stops : (meanings : Meanings) (texts : List (List ℕ)) (word : List ℕ) (words all : List (List ℕ)) (stop : Stop) →
+pub word_stops : (meanings : Meanings) (texts : List (List ℕ)) (word : List ℕ) (words all : List (List ℕ)) (stop : WordFault) →
     behind_words texts (words_text meanings (word ∷ words)) ≡ words_text meanings all → IsStopOf (word_text meanings word) stop →
     IsStopOf (words_text meanings all) stop
 unfolding words_text

@@ -1,8 +1,8 @@
 -- What the contracts inside this crate speak of.
 use Rattle.std.specs.Prelude.{◌≡◌, ℕ, ◌≤◌, List, ◌∷◌, ◌++◌, length, drop, Result, Ok, Err}
 use Rattle.ldm_pqact_match.specs.declared.forms.Form.{Form}
-use Rattle.ldm_pqact_match.specs.declared.substitute.Stop.{Stop}
-use Rattle.ldm_pqact_match.specs.declared.substitute.Stop.TheVariants.{NoDay, OutOfMemory}
+use Rattle.ldm_pqact_match.specs.declared.substitute.WordFault.{WordFault}
+use Rattle.ldm_pqact_match.specs.declared.substitute.WordFault.TheVariants.{NoDay, OutOfMemory}
 use Rattle.ldm_pqact_match.specs.Forms.{pieces_of}
 
 -- what stands at the front of a text: its first piece, and behind it the others
@@ -12,7 +12,7 @@ pub record HasFront (text : List ℕ) (form : Form) : Type 0 where
   pub inside : form.length ≤ length text
 
 -- why nothing is put in place: the first group that is no day, or want of memory, of which nothing is said
-abbrev pub IsStopOf : {A : Type 0} → Result A ℕ → Stop → Type 0
+abbrev pub IsStopOf : {A : Type 0} → Result A ℕ → WordFault → Type 0
 IsStopOf meaning (NoDay group) = meaning ≡ Err group
 IsStopOf meaning OutOfMemory = Unit {0}
 

@@ -7,7 +7,7 @@ ghost use Rattle.ldm_pqact_match.specs.Views.{meanings_of};
 use crate::action::Action;
 use crate::chosen::{Decision, place_number};
 use crate::sources::Sources;
-use crate::substitute::{Stop, substitute_all};
+use crate::substitute::{WordFault, substitute_all};
 use crate::text::Text;
 use ldm_pqact_conf::Entry;
 use ldm_types::OutOfMemory;
@@ -19,10 +19,10 @@ pub fn decide(alloc: Global, entry: &Entry, sources: &Sources<'_>) -> Result<Dec
 {
     match substitute_all(alloc, entry.words(), sources) {
         Ok(texts) => with_texts(alloc, entry, texts),
-        Err(Stop::NoDay { group }) => Ok(Decision::NoDate {
+        Err(WordFault::NoDay { group }) => Ok(Decision::NoDate {
             group: group as u32,
         }),
-        Err(Stop::OutOfMemory) => Err(OutOfMemory),
+        Err(WordFault::OutOfMemory) => Err(OutOfMemory),
     }
 }
 

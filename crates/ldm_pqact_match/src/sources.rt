@@ -7,7 +7,7 @@ ghost use Rattle.ldm_pqact_match.specs.Reading.{IsStopOf, Appends};
 use crate::day::Day;
 use crate::forms::{DatePart, Mark, Piece};
 use crate::moment::Moment;
-use crate::substitute::Stop;
+use crate::substitute::WordFault;
 use crate::text::Text;
 use ldm_pattern::{GroupNo, Groups};
 use ldm_types::OutOfMemory;
@@ -24,7 +24,7 @@ pub struct Sources<'a> {
 
 impl Sources<'_> {
     /// Appends what a piece of a word becomes.
-    pub fn append(&self, text: &mut Text, piece: Piece) -> Result<(), Stop>
+    pub fn append(&self, text: &mut Text, piece: Piece) -> Result<(), WordFault>
         ensures { let meaning = piece_text (meanings_of self.now) piece in
             MatchResult result (λ _. Appends meaning text.old text.new) (IsStopOf meaning) }
     {
@@ -34,7 +34,9 @@ impl Sources<'_> {
             Piece::Mark(mark) => Ok(self.append_mark(text, mark)?),
             Piece::Date { group, part } => {
                 let number = group.get();
-                let day = self.date_of(group).ok_or(Stop::NoDay { group: number })?;
+                let day = self
+                    .date_of(group)
+                    .ok_or(WordFault::NoDay { group: number })?;
                 Ok(append_part(text, &day, self.inserted.hour(), part)?)
             }
         }

@@ -13,7 +13,7 @@ use std::alloc::{AllocFailed, Global};
 
 /// Why nothing is put in place of a word.
 #[derive(Clone, Copy)]
-pub enum Stop {
+pub enum WordFault {
     /// A form asks for the date of a group that says no day.
     NoDay {
         /// Its number, from 1.
@@ -22,25 +22,25 @@ pub enum Stop {
     OutOfMemory,
 }
 
-impl From<OutOfMemory> for Stop {
+impl From<OutOfMemory> for WordFault {
     ghost use Rattle.std.specs.Prelude.{◌≡◌};
-    ghost use Rattle.ldm_pqact_match.specs.declared.substitute.Stop.TheVariants.{OutOfMemory};
+    ghost use Rattle.ldm_pqact_match.specs.declared.substitute.WordFault.TheVariants.{OutOfMemory};
 
     ghost from_gives = { λ _ stop. stop ≡ OutOfMemory };
 
-    fn from(_error: OutOfMemory) -> Stop {
-        Stop::OutOfMemory
+    fn from(_error: OutOfMemory) -> WordFault {
+        WordFault::OutOfMemory
     }
 }
 
-impl From<AllocFailed<Text>> for Stop {
+impl From<AllocFailed<Text>> for WordFault {
     ghost use Rattle.std.specs.Prelude.{◌≡◌};
-    ghost use Rattle.ldm_pqact_match.specs.declared.substitute.Stop.TheVariants.{OutOfMemory};
+    ghost use Rattle.ldm_pqact_match.specs.declared.substitute.WordFault.TheVariants.{OutOfMemory};
 
     ghost from_gives = { λ _ stop. stop ≡ OutOfMemory };
 
-    fn from(_error: AllocFailed<Text>) -> Stop {
-        Stop::OutOfMemory
+    fn from(_error: AllocFailed<Text>) -> WordFault {
+        WordFault::OutOfMemory
     }
 }
 
@@ -49,7 +49,7 @@ pub fn substitute_all(
     alloc: Global,
     words: &[Word],
     sources: &Sources<'_>,
-) -> Result<Vec<Text>, Stop>
+) -> Result<Vec<Text>, WordFault>
     ensures { let meaning = words_text (meanings_of sources.now) words.now in
         MatchResult result (λ texts. meaning ≡ Ok texts.items) (IsStopOf meaning) }
 {
@@ -61,7 +61,7 @@ pub fn substitute_all(
 }
 
 // What a word becomes.
-fn substitute(alloc: Global, word: &[u8], sources: &Sources<'_>) -> Result<Text, Stop>
+fn substitute(alloc: Global, word: &[u8], sources: &Sources<'_>) -> Result<Text, WordFault>
     ensures { let meaning = word_text (meanings_of sources.now) word.now in
         MatchResult result (λ text. meaning ≡ Ok text) (IsStopOf meaning) }
 {

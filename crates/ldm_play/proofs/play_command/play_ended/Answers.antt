@@ -4,8 +4,8 @@ use Rattle.std.proofs.lemmas.List.{take_all, length-append}
 use Rattle.ldm_outside.specs.Io.{SinkRecord}
 use Rattle.ldm_script.specs.declared.line.TheConstants.{LONGEST_LINE}
 use Rattle.ldm_script.specs.Resolve.{Playing}
-use Rattle.ldm_play.specs.declared.player.Stop.{Stop}
-use Rattle.ldm_play.specs.declared.player.Stop.TheVariants as stop
+use Rattle.ldm_play.specs.declared.player.LineFault.{LineFault}
+use Rattle.ldm_play.specs.declared.player.LineFault.TheVariants as stop
 use Rattle.ldm_play.specs.Play.{play_line}
 use Rattle.ldm_play.specs.PlayerView.{PlayerView}
 use Rattle.ldm_play.specs.PendingView.{PendingView}
@@ -14,7 +14,7 @@ use Rattle.ldm_play.proofs.PlayLineLemmas.{read_line-long, stops_at}
 use Rattle.ldm_play.proofs.play_command.play_ended.Goals as goal
 
 -- the same line under the same number
-same_line : (result : Result (Unit {0}) Stop) (p : Playing) (player : PlayerView) (old new : SinkRecord) (m n : ℕ) (line text : List ℕ) → m ≡ n → line ≡ text
+same_line : (result : Result (Unit {0}) LineFault) (p : Playing) (player : PlayerView) (old new : SinkRecord) (m n : ℕ) (line text : List ℕ) → m ≡ n → line ≡ text
     → LineGives result p (play_line m p line) player old new → LineGives result p (play_line n p text) player old new
 same_line result p player old new m n line text number bytes gives =
     subst (λ (k : ℕ). LineGives result p (play_line k p text) player old new) number (subst (λ (t : List ℕ). LineGives result p (play_line m p t) player old new) bytes gives)
@@ -43,7 +43,7 @@ returns-then-not-add-clause-played g c = λ p stands.
     ] in
     let number : c.number-then-not-add.result ≡ pending.number = c.number-then-not-add.ensures ∙ ap (λ (v : PendingView). v.number) c.add.ensures.bytes in
     let what : c.too_long.result ≡ stop.BadLine pending.number (LONGEST_LINE + 1) = c.too_long.ensures ∙ ap (λ (n : ℕ). stop.BadLine n (LONGEST_LINE + 1)) number in
-    subst (λ (why : Stop). LineStops why p (play_line pending.number p line) (g.K.Sink.tells c.args.sink.now) (g.K.Sink.tells c.args.sink.now)) (sym what)
+    subst (λ (why : LineFault). LineStops why p (play_line pending.number p line) (g.K.Sink.tells c.args.sink.now) (g.K.Sink.tells c.args.sink.now)) (sym what)
     (stops_at pending.number p line (LONGEST_LINE + 1) (read_line-long line long), refl)
 
 pub returns-clause-played : goal.returns-clause-played

@@ -1,7 +1,7 @@
 use Rattle.std.proofs.Common.{◌≡◌, ◌∙◌, ℕ, List, Ok, Err, Result, sym, subst, eqb, true, false, length}
 use Rattle.ldm_outside.specs.Io.{SinkRecord}
 use Rattle.ldm_script.specs.Resolve.{Playing}
-use Rattle.ldm_play.specs.declared.player.Stop.{Stop}
+use Rattle.ldm_play.specs.declared.player.LineFault.{LineFault}
 use Rattle.ldm_script.specs.Lines.{whole_lines}
 use Rattle.ldm_play.specs.Play.{play, play_line}
 use Rattle.ldm_play.specs.PlayerView.{PlayerView}
@@ -11,7 +11,7 @@ use Rattle.ldm_play.proofs.GoesOnLemmas.{nothing_left, last_ends, last_stops}
 use Rattle.ldm_play.proofs.play_command.play_last.Goals as goal
 
 -- the end of the script, by what its last line gave
-end_gives : (result : Result (Unit {0}) Stop) (p : Playing) (script : List ℕ) (player played : PlayerView) (pending : PendingView) (before now after : SinkRecord) → GoesOn p script player pending before now
+end_gives : (result : Result (Unit {0}) LineFault) (p : Playing) (script : List ℕ) (player played : PlayerView) (pending : PendingView) (before now after : SinkRecord) → GoesOn p script player pending before now
     → eqb (length pending.bytes) 0 ≡ false
     → (number : ℕ) (line : List ℕ) → number ≡ pending.number → line ≡ pending.bytes
     → LineGives result (play 1 p (whole_lines script)).playing (play_line number (play 1 p (whole_lines script)).playing line) played now after → EndGives result p script before after

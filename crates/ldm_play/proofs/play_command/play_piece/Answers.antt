@@ -3,8 +3,8 @@ use Rattle.std.proofs.lemmas.Bool.{cases_lt, false≢true}
 use Rattle.std.proofs.lemmas.Result.{err_from_is_err_and}
 use Rattle.std.proofs.lemmas.List.{append-nil, take_all, take_rest, length-append, length-take, length-drop}
 use Rattle.ldm_script.specs.declared.line.TheConstants.{LONGEST_LINE}
-use Rattle.ldm_play.specs.declared.player.Stop.{Stop}
-use Rattle.ldm_play.specs.declared.player.Stop.TheVariants as stop
+use Rattle.ldm_play.specs.declared.player.LineFault.{LineFault}
+use Rattle.ldm_play.specs.declared.player.LineFault.TheVariants as stop
 use Rattle.ldm_play.specs.Lines.{known_lines}
 use Rattle.ldm_play.specs.PendingView.{PendingView, fresh_line}
 use Rattle.ldm_play.specs.Ending.{StopsAt}
@@ -89,6 +89,6 @@ returns-then-not-add-clause-played g c = λ p script before h.
     let number : c.number.result ≡ pending.number = c.number.ensures ∙ ap (λ (v : PendingView). v.number) c.add.ensures.bytes in
     let what : c.too_long.result ≡ stop.BadLine pending.number (LONGEST_LINE + 1) = c.too_long.ensures ∙ ap (λ (n : ℕ). stop.BadLine n (LONGEST_LINE + 1)) number in
     let whole : (script ++ front.0) ++ rest ≡ script ++ c.args.piece.now = append_assoc script front.0 rest ∙ ap (λ (x : List ℕ). script ++ x) front.1 in
-    subst (λ (why : Stop). StopsAt why p (known_lines false (script ++ c.args.piece.now)) before (g.K.Sink.tells c.loop-at.sink)) (sym what)
+    subst (λ (why : LineFault). StopsAt why p (known_lines false (script ++ c.args.piece.now)) before (g.K.Sink.tells c.loop-at.sink)) (sym what)
     (subst (λ (x : List ℕ). StopsAt (stop.BadLine pending.number (LONGEST_LINE + 1)) p (known_lines false x) before (g.K.Sink.tells c.loop-at.sink)) whole
     (line_too_long p (script ++ front.0) c.loop-at.player pending before (g.K.Sink.tells c.loop-at.sink) on rest (lacks-none 10 rest c.in_default.ensures) long))
