@@ -1,9 +1,10 @@
 //! Files of the system, in a folder of their own.
 
-use crate::files::{append_one, read_one, rewrite_one, tell_read, turn};
-use crate::told::{Bad, Told, bytes_in, number, word};
 use ldm_adapters::RealStore;
 use ldm_drive::Case;
+use ldm_drive_outside::{
+    Bad, Told, append_one, bytes_in, number, read_one, rewrite_one, tell_read, turn, word,
+};
 use ldm_outside::{Failed, Put};
 use std::alloc::Global;
 use std::rt::HostRuntime;

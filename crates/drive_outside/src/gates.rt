@@ -1,27 +1,8 @@
-//! Clocks and gates.
+//! The clock and the gate of the system.
 
-use crate::told::{Bad, Told};
 use ldm_adapters::{RealClock, RealGate};
-use ldm_outside::{Clock, Gate, Go};
-use ldm_types::Micros;
+use ldm_drive_outside::{Bad, Told, ask, idle, tell_go};
 use std::rt::HostRuntime;
-
-fn ask<C: Clock>(clock: &mut C) -> Micros {
-    clock.now()
-}
-
-/// What a gate answered, in a word.
-pub fn tell_go(go: Go, told: &mut Told) -> Result<(), Bad> {
-    told.word(match go {
-        Go::On => "on",
-        Go::Stop => "stop",
-    })
-}
-
-/// One idle call.
-pub fn idle<G: Gate>(gate: &mut G) -> Go {
-    gate.idle()
-}
 
 /// `time`: an idle call of the gate of the system, which stops after one, takes most of its time by the clock of the system.
 pub fn time(rt: HostRuntime, told: &mut Told) -> Result<(), Bad> {

@@ -1,27 +1,28 @@
-//! Cases of the forms of the system: files, programs, the clock, the gate and links over TCP.
+//! Cases of the forms of the system: streams, files, programs, the clock, the gate and links over TCP.
 #![tactic(auto)]
 
 mod disk;
-mod files;
 mod gates;
-mod programs;
+mod streams;
 mod system;
 mod tcp;
-mod told;
 
-use crate::told::{Bad, Told, word};
 use anyhow::{Result, bail};
 use ldm_drive::{Case, drive};
+use ldm_drive_outside::{Bad, Told, word};
 use std::rt::HostRuntime;
 
 // What the form that a case names answers.
 fn tell(rt: HostRuntime, case: &mut Case, told: &mut Told) -> Result<(), Bad> {
     match word(case)? {
+        "source" => streams::source(rt.alloc(), case, told),
+        "sink" => streams::sink(rt.alloc(), case, told),
         "disk" => disk::disk(rt, case, told),
         "shell" => system::run_shell(rt, case, told),
         "missing" => system::missing(rt, told),
         "late" => system::late(rt, told),
         "ended" => system::ended(rt, case, told),
+        "kept" => system::kept(rt, told),
         "tcp" => tcp::tcp(rt, case, told),
         "time" => gates::time(rt, told),
         _ => Err(Bad::Word),

@@ -1,12 +1,11 @@
 //! Programs of the system.
-ghost use Rattle.std.specs.Prelude.{◌<◌, length};
+ghost use Rattle.std.specs.Prelude.{◌<◌, ◌≢◌, length, IfOk};
+ghost use Rattle.ldm_outside.specs.Launcher.{IsTaking};
 
-use crate::gates::idle;
-use crate::programs::{shut, start, write};
-use crate::told::{Bad, Told, push, small, word};
 use ldm_adapters::{RealGate, RealLauncher};
 use ldm_drive::Case;
-use ldm_outside::{Failed, Launcher, Put};
+use ldm_drive_outside::{Bad, Told, idle, push, shut, small, start, word, write};
+use ldm_outside::{ChildNo, Failed, Launcher, Put};
 use std::alloc::Global;
 use std::rt::HostRuntime;
 
@@ -117,4 +116,65 @@ pub fn ended(rt: HostRuntime, case: &mut Case, told: &mut Told) -> Result<(), Ba
     let words = shell(rt.alloc(), DEAD)?;
     tell_ran(run(&mut launcher, &words, false), told)?;
     told.count("started", children.len() as u64)
+}
+
+// Starts a program beside another.
+fn start_beside<L: Launcher>(
+    launcher: &mut L,
+    words: &[String],
+    other: ChildNo,
+) -> Result<ChildNo, Failed>
+    requires words { 0 < length words.now }
+    requires other { IsTaking other (L.tells launcher.old) }
+    ensures other { IsTaking other (L.tells launcher.new) }
+    ensures started { IfOk result (λ child. IsTaking child (L.tells launcher.new) × (child.0 ≢ other.0)) }
+{
+    launcher.start(words, false)
+}
+
+// Waits for a program beside another.
+fn wait_beside<L: Launcher>(launcher: &mut L, child: ChildNo, other: ChildNo) -> Result<u32, Failed>
+    requires child { IsTaking child (L.tells launcher.old) }
+    requires other { IsTaking other (L.tells launcher.old) }
+    requires apart { other.0 ≢ child.0 }
+    ensures { IsTaking other (L.tells launcher.new) }
+{
+    launcher.wait(child)
+}
+
+fn wait<L: Launcher>(launcher: &mut L, child: ChildNo) -> Result<u32, Failed>
+    requires { IsTaking child (L.tells launcher.old) }
+{
+    launcher.wait(child)
+}
+
+// Two programs end before one of them is waited for. The status of the later, and then of the earlier.
+fn later_first<L: Launcher>(
+    rt: HostRuntime,
+    launcher: &mut L,
+    first: &[String],
+    second: &[String],
+) -> Result<(u32, u32), Failed>
+    requires first { 0 < length first.now }
+    requires second { 0 < length second.now }
+{
+    let earlier = start(launcher, first, false)?;
+    let later = start_beside(launcher, second, earlier)?;
+    pause(rt);
+    let status = wait_beside(launcher, later, earlier)?;
+    Ok((status, wait(launcher, earlier)?))
+}
+
+/// `kept`: two programs end with 5 and 6 before they are waited for.
+pub fn kept(rt: HostRuntime, told: &mut Told) -> Result<(), Bad> {
+    let mut launcher = RealLauncher::new(rt);
+    let first = shell(rt.alloc(), "exit 5")?;
+    let second = shell(rt.alloc(), "exit 6")?;
+    match later_first(rt, &mut launcher, &first, &second) {
+        Ok((later, earlier)) => {
+            told.count("later", u64::from(later))?;
+            told.count("earlier", u64::from(earlier))
+        }
+        Err(Failed) => told.word("failed"),
+    }
 }

@@ -3,12 +3,11 @@ ghost use Rattle.std.specs.Prelude.{◌≡◌, false, IfOk};
 ghost use Rattle.ldm_outside.specs.Link.{IsNotClosed};
 ghost use Rattle.ldm_adapters.specs.Told.{told_by_door, told_by_dial, told_by_link};
 
-use crate::gates::{idle, tell_go};
-use crate::told::{Bad, Told, number, word};
 use ldm_adapters::{RealDial, RealDoor, RealLink, RealNet, Timeouts};
 use ldm_drive::Case;
+use ldm_drive_outside::{Bad, Told, idle, number, small, tell_go, tell_got, tell_put, word};
 use ldm_outside::{Came, Dial, Dialled, Door, Got, Link, Manned, Net, Put};
-use std::net::{Ipv4Addr, Shutdown, TcpListener, TcpStream};
+use std::net::{IpAddr, Ipv4Addr, Ipv6Addr, Shutdown, SocketAddr, TcpListener, TcpStream};
 use std::rt::HostRuntime;
 use std::time::Duration;
 
@@ -53,22 +52,6 @@ fn pass<K: Link>(from: &mut K, to: &mut K, piece: &[u8], told: &mut Told) -> Res
     let got = to.recv(&mut buffer);
     tell_put(put, told)?;
     tell_got(got, told)
-}
-
-// What a call of `recv` gave, in a word.
-fn tell_got(got: Got, told: &mut Told) -> Result<(), Bad> {
-    match got {
-        Got::Bytes(n) => told.number(n as u64),
-        Got::End => told.word("end"),
-        Got::Failed => told.word("failed"),
-    }
-}
-
-fn tell_put(put: Put, told: &mut Told) -> Result<(), Bad> {
-    match put {
-        Put::Took(n) => told.number(n as u64),
-        Put::Failed => told.word("failed"),
-    }
 }
 
 // Sends pieces of 64 KiB until one fails: whether one did.
@@ -236,7 +219,43 @@ fn stations(rt: HostRuntime, told: &mut Told) -> Result<(), Bad> {
     Ok(())
 }
 
-/// `tcp talk`, `tcp reset`, `tcp wait`, `tcp half`, `tcp stations`, `tcp sessions COUNT`.
+// The port of a case.
+fn port_of(case: &mut Case) -> Result<u16, Bad> {
+    u16::try_from(small(case)?).map_err(|_| Bad::Word)
+}
+
+// A listener at a port of every address of this machine: of IPv6 and IPv4, or of IPv4 alone where the system has no IPv6.
+fn listen(rt: HostRuntime, port: u16) -> Result<TcpListener, Bad> {
+    let both = SocketAddr::new(IpAddr::V6(Ipv6Addr::UNSPECIFIED), port);
+    let old = SocketAddr::new(IpAddr::V4(Ipv4Addr::UNSPECIFIED), port);
+    match TcpListener::bind(&rt, both) {
+        Ok(listener) => Ok(listener),
+        Err(_) => Ok(TcpListener::bind(&rt, old)?),
+    }
+}
+
+// Lets one peer in at a port of every address of this machine: its host, and what it sent.
+fn visit(rt: HostRuntime, port: u16, told: &mut Told) -> Result<(), Bad> {
+    let mut door = RealDoor::new(listen(rt, port)?, Timeouts::new());
+    let Came::Peer { host, mut link } = door.accept() else {
+        return Err(Bad::System);
+    };
+    let mut buffer = [0; 8];
+    let got = link.recv(&mut buffer);
+    told.bytes(host.as_slice())?;
+    tell_got(got, told)
+}
+
+// Connects to a host, and sends it a greeting.
+fn call(rt: HostRuntime, host: &str, port: u16, told: &mut Told) -> Result<(), Bad> {
+    let mut dial = RealDial::new(rt, Timeouts::new());
+    match dial.connect(host.as_bytes(), port) {
+        Dialled::Linked(mut link) => tell_put(link.send(b"hello"), told),
+        Dialled::Failed => told.word("failed"),
+    }
+}
+
+/// `tcp talk`, `tcp reset`, `tcp wait`, `tcp half`, `tcp stations`, `tcp sessions COUNT`, `tcp visit PORT`, `tcp call HOST PORT`.
 pub fn tcp(rt: HostRuntime, case: &mut Case, told: &mut Told) -> Result<(), Bad> {
     match word(case)? {
         "talk" => talks(rt, told),
@@ -245,6 +264,8 @@ pub fn tcp(rt: HostRuntime, case: &mut Case, told: &mut Told) -> Result<(), Bad>
         "half" => halves(rt, told),
         "stations" => stations(rt, told),
         "sessions" => sessions(rt, number(case)?, told),
+        "visit" => visit(rt, port_of(case)?, told),
+        "call" => call(rt, word(case)?, port_of(case)?, told),
         _ => Err(Bad::Word),
     }
 }

@@ -85,7 +85,7 @@ fn copied(alloc: Global, words: &[String]) -> Result<Vec<String>, AllocError>
 }
 
 // Starts the program. Where it is not piped it has nothing to read.
-pub(crate) fn spawn(rt: HostRuntime, words: &[String], piped: bool) -> io::Result<Child>
+fn spawn(rt: HostRuntime, words: &[String], piped: bool) -> io::Result<Child>
     requires { 0 < length words.now }
 {
     let mut command = Command::new(rt.alloc(), words[0].as_str())?;

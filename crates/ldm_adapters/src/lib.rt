@@ -28,6 +28,3 @@ pub use lending::RealLending;
 pub use links::{RealLink, SILENT_SECONDS, STALLED_SECONDS, Timeouts};
 pub use net::{RealNet, RealStation};
 pub use streams::{RealSink, RealSource};
-
-#[cfg(test)]
-mod tests;

@@ -69,12 +69,6 @@ impl Processes {
         }
     }
 
-    /// How many were not collected yet.
-    #[cfg(test)]
-    pub(crate) fn running(&self) -> usize {
-        self.running.len()
-    }
-
     /// Waits until the process of that number ends, if it did not yet, and answers its status.
     pub(crate) fn wait(&mut self, number: usize) -> io::Result<u32> {
         self.collect();

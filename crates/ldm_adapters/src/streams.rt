@@ -40,6 +40,20 @@ impl<R: Read> RealSource<R> {
             ends: 0,
         }
     }
+
+    /// How often it failed.
+    pub fn faults(&self) -> u64
+        ensures { result ≡ self.now.faults }
+    {
+        self.faults
+    }
+
+    /// How often it was at its end.
+    pub fn ends(&self) -> u64
+        ensures { result ≡ self.now.ends }
+    {
+        self.ends
+    }
 }
 
 impl<R: Read> Source for RealSource<R> {
@@ -72,6 +86,20 @@ impl<W: Write> RealSink<W> {
         ensures { result ≡ record { writer = writer; faults = 0 } }
     {
         RealSink { writer, faults: 0 }
+    }
+
+    /// How often it failed.
+    pub fn faults(&self) -> u64
+        ensures { result ≡ self.now.faults }
+    {
+        self.faults
+    }
+
+    /// The writer.
+    pub fn into_writer(self) -> W
+        ensures { result ≡ self.writer }
+    {
+        self.writer
     }
 }
 
@@ -167,6 +195,3 @@ fn write_uninterrupted<W: Write>(writer: &mut W, piece: &[u8]) -> io::Result<usi
     }
     Err(io::Error::from(ErrorKind::TimedOut))
 }
-
-#[cfg(test)]
-mod tests;

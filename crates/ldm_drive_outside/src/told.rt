@@ -47,6 +47,22 @@ pub fn bytes_in(word: &str) -> &[u8] {
     if word == "-" { b"" } else { word.as_bytes() }
 }
 
+/// The next word, which is numbers with a comma between two. `-` is no numbers.
+pub fn numbers(alloc: Global, case: &mut Case) -> Result<Vec<u64>, Bad> {
+    let mut numbers = Vec::new(alloc);
+    let word = word(case)?;
+    if word == "-" {
+        return Ok(numbers);
+    }
+    for part in word.split(',') {
+        let Ok(number) = part.parse::<u64>() else {
+            return Err(Bad::Word);
+        };
+        push(&mut numbers, number)?;
+    }
+    Ok(numbers)
+}
+
 /// Adds an item to a list.
 pub fn push<T: Drop>(items: &mut Vec<T>, item: T) -> Result<(), Bad> {
     match items.push(item) {
