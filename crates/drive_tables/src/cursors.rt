@@ -1,8 +1,7 @@
 //! The places of cursors, each call where it may be made.
-use anyhow::{Context, Result, bail};
 use ldm_cursor::Cursors;
-use ldm_drive::Case;
-use ldm_types::{Actor, CursorNo, Feed};
+use ldm_drive::Trial;
+use ldm_types::{Actor, CursorNo, Feed, OutOfMemory};
 use std::alloc::Global;
 use std::marker::Model;
 
@@ -26,61 +25,75 @@ impl Model for Seats {
     ghost invariant = { λ seats. (0 < seats.limit) × CountsBelow seats.limit seats.cursors };
 }
 
-fn owner(case: &mut Case) -> Result<(Actor, CursorNo)> {
-    let actor = Actor::new(case.small()?).context("no actor")?;
-    let k = CursorNo::new(case.small()?).context("no place")?;
-    Ok((actor, k))
+// The next two words: an actor, and a cursor place.
+fn owner(trial: &mut Trial) -> Option<(Actor, CursorNo)> {
+    let actor = Actor::new(trial.small())?;
+    let k = CursorNo::new(trial.small())?;
+    Some((actor, k))
 }
 
 impl Seats {
-    pub fn create(alloc: Global) -> Result<Seats> {
+    pub fn create(alloc: Global) -> Result<Seats, OutOfMemory> {
         let cursors = Cursors::create(alloc)?;
         Ok(Seats { cursors, limit: 1 })
     }
 
     /// A case: `new`, `seat ACTOR FEED POSITION`, `lose N FEED`, and with `ACTOR K` `seen`, `hold` and a number, `let_go`, `tell`,
     /// `to_end` and a number, `leave`.
-    pub fn answer(&mut self, alloc: Global, case: &mut Case) -> Result<String> {
-        match case.word()? {
-            "new" => *self = Seats::create(alloc)?,
-            "seat" => {
-                let actor = Actor::new(case.small()?).context("no actor")?;
-                let (feed, position) = (Feed(case.small()?), case.number()?);
-                let place = self.seat(actor, feed, position).map(CursorNo::get);
-                return Ok(format!(in alloc; "{place:?}")?);
-            }
+    pub fn answer(&mut self, trial: &mut Trial) {
+        match trial.word() {
+            "new" => self.begin(trial),
+            "seat" => self.take_seat(trial),
             "lose" => {
-                let n = case.number()?;
-                self.lose(n, Feed(case.small()?));
+                let n = trial.number();
+                self.lose(n, Feed(trial.small()));
+                trial.tell("ok");
             }
-            "seen" => {
-                let (actor, k) = owner(case)?;
-                return self.seen(alloc, actor, k);
+            word => match owner(trial) {
+                Some((actor, k)) => self.call(word, actor, k, trial),
+                None => trial.refuse("no actor, or no place"),
+            },
+        }
+    }
+
+    fn begin(&mut self, trial: &mut Trial) {
+        match Seats::create(trial.alloc()) {
+            Ok(seats) => {
+                *self = seats;
+                trial.tell("ok");
             }
+            Err(_) => trial.lack_memory(),
+        }
+    }
+
+    fn take_seat(&mut self, trial: &mut Trial) {
+        let Some(actor) = Actor::new(trial.small()) else {
+            return trial.refuse("no actor");
+        };
+        let (feed, position) = (Feed(trial.small()), trial.number());
+        trial.tell_debug(&self.seat(actor, feed, position).map(CursorNo::get));
+    }
+
+    // A call on the place of an actor.
+    fn call(&mut self, word: &str, actor: Actor, k: CursorNo, trial: &mut Trial) {
+        match word {
+            "seen" => self.seen(actor, k, trial),
             "hold" => {
-                let (actor, k) = owner(case)?;
-                let held = self.hold(actor, k, case.number()?);
-                return Ok(format!(in alloc; "{held}")?);
+                let held = self.hold(actor, k, trial.number());
+                trial.tell_value(&held);
             }
-            "let_go" => {
-                let (actor, k) = owner(case)?;
-                return Ok(format!(in alloc; "{:?}", self.let_go(actor, k))?);
-            }
-            "tell" => {
-                let (actor, k) = owner(case)?;
-                return Ok(format!(in alloc; "{:?}", self.tell(actor, k))?);
-            }
+            "let_go" => trial.tell_debug(&self.let_go(actor, k)),
+            "tell" => trial.tell_debug(&self.tell(actor, k)),
             "to_end" => {
-                let (actor, k) = owner(case)?;
-                self.to_end(actor, k, case.number()?);
+                self.to_end(actor, k, trial.number());
+                trial.tell("ok");
             }
             "leave" => {
-                let (actor, k) = owner(case)?;
                 self.leave(actor, k);
+                trial.tell("ok");
             }
-            _ => bail!("no such word"),
+            _ => trial.refuse("no such word"),
         }
-        Ok(String::from_str(alloc, "ok")?)
     }
 
     fn seat(&mut self, actor: Actor, feed: Feed, position: u64) -> Option<CursorNo> {
@@ -95,13 +108,21 @@ impl Seats {
     }
 
     // The position, the feedtypes, what is held, and how many products were given and lost.
-    fn seen(&self, alloc: Global, actor: Actor, k: CursorNo) -> Result<String> {
+    fn seen(&self, actor: Actor, k: CursorNo, trial: &mut Trial) {
         if !self.cursors.owned(actor, k) {
-            return Ok(String::from_str(alloc, "None")?);
+            return trial.tell("None");
         }
-        let (position, feed) = (self.cursors.position(k), self.cursors.feed(k).0);
-        let (held, (given, lost)) = (self.cursors.held(k), self.cursors.counts(k));
-        Ok(format!(in alloc; "at {position} of {feed} holds {held:?} given {given} lost {lost}")?)
+        let (given, lost) = self.cursors.counts(k);
+        trial.tell("at ");
+        trial.tell_number(self.cursors.position(k));
+        trial.tell(" of ");
+        trial.tell_value(&self.cursors.feed(k).0);
+        trial.tell(" holds ");
+        trial.tell_debug(&self.cursors.held(k));
+        trial.tell(" given ");
+        trial.tell_value(&given);
+        trial.tell(" lost ");
+        trial.tell_value(&lost);
     }
 
     fn hold(&mut self, actor: Actor, k: CursorNo, n: u64) -> bool {

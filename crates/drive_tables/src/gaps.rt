@@ -3,9 +3,9 @@ ghost use Rattle.std.specs.Prelude.{◌≡◌, ℕ, ◌*◌, ◌/◌, ◌%◌, �
 ghost use Rattle.std.specs.FinSet as sets;
 
 use crate::draws::{drawn, with_pair};
-use anyhow::{Result, bail, ensure};
-use ldm_drive::Case;
+use ldm_drive::Trial;
 use ldm_freelist::{FreeSet, Steps};
+use ldm_types::OutOfMemory;
 use std::alloc::Global;
 use std::marker::Brand;
 use std::sync::ledger::{Blank, Ledger};
@@ -37,10 +37,12 @@ fn pair_of(place: u32) -> (u64, u64)
 }
 
 // The place of a pair of multiples of 8 below 16,384.
-fn place_of(extent: u64, offset: u64) -> Result<u32> {
-    ensure!(extent % 8 == 0 && offset % 8 == 0, "no multiples of 8");
-    ensure!(extent < 16_384 && offset < 16_384, "too large");
-    Ok((extent / 8 * 2048 + offset / 8) as u32)
+fn place_of(extent: u64, offset: u64) -> Option<u32> {
+    if extent % 8 == 0 && offset % 8 == 0 && extent < 16_384 && offset < 16_384 {
+        Some((extent / 8 * 2048 + offset / 8) as u32)
+    } else {
+        None
+    }
 }
 
 /// A set, and whether the pair of each place is in it.
@@ -57,7 +59,7 @@ pub struct Gaps {
 
 impl Gaps {
     /// A set with room for so many pairs, of so many places.
-    pub fn create(alloc: Global, room: u32, places: u32) -> Result<Gaps> {
+    pub fn create(alloc: Global, room: u32, places: u32) -> Result<Gaps, OutOfMemory> {
         let tree = FreeSet::create(alloc, room)?;
         let has = vec![in alloc; false; places as usize]?;
         Ok(Gaps {
@@ -70,31 +72,59 @@ impl Gaps {
 
     /// A case: `new ROOM PLACES`, `toggle EXTENT OFFSET`, `best NEED`, `greatest`, `row COUNT`, `toggles COUNT`, `orders`, `many
     /// COUNT`.
-    pub fn answer(&mut self, alloc: Global, case: &mut Case) -> Result<String> {
-        match case.word()? {
-            "new" => {
-                let room = case.small()?;
-                *self = Gaps::create(alloc, room, case.small()?)?;
-                Ok(String::from_str(alloc, "ok")?)
-            }
+    pub fn answer(&mut self, trial: &mut Trial) {
+        match trial.word() {
+            "new" => self.begin(trial),
             "toggle" => {
-                let extent = case.number()?;
-                self.toggle(place_of(extent, case.number()?)?);
-                Ok(format!(in alloc; "{} pairs", self.count)?)
+                let extent = trial.number();
+                self.toggle_pair(extent, trial.number(), trial);
+                self.tell_count(trial);
             }
-            "best" => Ok(format!(in alloc; "{:?}", self.best(case.number()?))?),
-            "greatest" => Ok(format!(in alloc; "{:?}", self.greatest())?),
+            "best" => {
+                let need = trial.number();
+                trial.tell_debug(&self.best(need));
+            }
+            "greatest" => trial.tell_debug(&self.greatest()),
             "row" => {
-                for number in 0..case.number()? {
-                    self.toggle(place_of(8, 16u64.saturating_mul(number))?);
+                for number in 0..trial.number() {
+                    self.toggle_pair(8, 16u64.saturating_mul(number), trial);
                 }
-                Ok(format!(in alloc; "{} pairs", self.count)?)
+                self.tell_count(trial);
             }
-            "toggles" => Ok(format!(in alloc; "{}", self.toggles(case.number()?))?),
-            "orders" => Ok(format!(in alloc; "{}", orders(alloc)?)?),
-            "many" => self.many(alloc, case.small()?),
-            _ => bail!("no such word"),
+            "toggles" => {
+                let count = trial.number();
+                trial.tell_number(self.toggles(count));
+            }
+            "orders" => match orders(trial.alloc()) {
+                Ok(sum) => trial.tell_number(sum),
+                Err(_) => trial.lack_memory(),
+            },
+            "many" => self.many(trial),
+            _ => trial.refuse("no such word"),
         }
+    }
+
+    fn begin(&mut self, trial: &mut Trial) {
+        let (room, places) = (trial.small(), trial.small());
+        match Gaps::create(trial.alloc(), room, places) {
+            Ok(gaps) => {
+                *self = gaps;
+                trial.tell("ok");
+            }
+            Err(_) => trial.lack_memory(),
+        }
+    }
+
+    fn toggle_pair(&mut self, extent: u64, offset: u64, trial: &mut Trial) {
+        match place_of(extent, offset) {
+            Some(place) => self.toggle(place),
+            None => trial.refuse("no multiples of 8 below 16,384"),
+        }
+    }
+
+    fn tell_count(&self, trial: &mut Trial) {
+        trial.tell_value(&self.count);
+        trial.tell(" pairs");
     }
 
     // Takes the pair of a place out, or puts it in.
@@ -138,17 +168,27 @@ impl Gaps {
 
     // Puts the pairs of so many places in, in no order, finds each as the least and takes it out: how many are in, are found,
     // and are left.
-    fn many(&mut self, alloc: Global, count: u32) -> Result<String> {
+    fn many(&mut self, trial: &mut Trial) {
+        let count = trial.small();
         for number in 0..u64::from(count) {
             self.toggle((number * 2_654_435_761 % u64::from(count)) as u32);
         }
-        let (full, mut found) = (self.count, 0u32);
+        trial.tell_value(&self.count);
+        trial.tell(" ");
+        trial.tell_value(&self.take_each(count));
+        trial.tell(" ");
+        trial.tell_value(&self.count);
+    }
+
+    // Takes each of so many pairs out, and answers how many were the least that is long enough.
+    fn take_each(&mut self, count: u32) -> u32 {
+        let mut found = 0u32;
         for place in 0..count {
             let pair = pair_of(place);
             found = found.saturating_add(u32::from(self.best(pair.0) == Some(pair)));
             self.toggle(place);
         }
-        Ok(format!(in alloc; "{full} {found} {}", self.count)?)
+        found
     }
 }
 
@@ -156,20 +196,24 @@ impl Gaps {
 const SIX: [u32; 6] = [0, 1, 2, 3, 2048, 2049];
 
 // Six pairs, from none and from all of them, and each row of six changes: the sum of the answers behind each.
-fn orders(alloc: Global) -> Result<u64> {
+fn orders(alloc: Global) -> Result<u64, OutOfMemory> {
     let mut sum = 0;
     for code in 0..46_656u32 {
-        for full in [false, true] {
-            let mut gaps = Gaps::create(alloc, 6, 2050)?;
-            if full {
-                for place in SIX {
-                    gaps.toggle(place);
-                }
-            }
-            sum = gaps.changes(code, sum);
-        }
+        sum = six(alloc, false)?.changes(code, sum);
+        sum = six(alloc, true)?.changes(code, sum);
     }
     Ok(sum)
+}
+
+// A set of none of the six pairs, or of all.
+fn six(alloc: Global, full: bool) -> Result<Gaps, OutOfMemory> {
+    let mut gaps = Gaps::create(alloc, 6, 2050)?;
+    if full {
+        for place in SIX {
+            gaps.toggle(place);
+        }
+    }
+    Ok(gaps)
 }
 
 impl Gaps {

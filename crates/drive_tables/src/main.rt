@@ -13,9 +13,9 @@ use crate::gaps::Gaps;
 use crate::regions::Owners;
 use crate::signatures::Signatures;
 use crate::times::Times;
-use anyhow::{Result, bail};
-use ldm_drive::{Case, drive};
+use ldm_drive::{Trial, drive_trials};
 use std::alloc::Global;
+use std::io;
 
 /// One table of each kind.
 #[derive(Drop)]
@@ -28,29 +28,32 @@ struct Tables {
 }
 
 impl Tables {
-    fn create(alloc: Global) -> Result<Tables> {
-        Ok(Tables {
-            gaps: Gaps::create(alloc, 0, 0)?,
-            regions: Owners::create(alloc, 64, 0)?,
-            signatures: Signatures::create(alloc, 0)?,
-            times: Times::create(alloc, 0)?,
-            cursors: Seats::create(alloc)?,
+    fn create(alloc: Global) -> Option<Tables> {
+        Some(Tables {
+            gaps: Gaps::create(alloc, 0, 0).ok()?,
+            regions: Owners::create(alloc, 64, 0).ok()?,
+            signatures: Signatures::create(alloc, 0).ok()?,
+            times: Times::create(alloc, 0).ok()?,
+            cursors: Seats::create(alloc).ok()?,
         })
     }
 
-    fn answer(&mut self, alloc: Global, case: &mut Case) -> Result<String> {
-        match case.word()? {
-            "gaps" => self.gaps.answer(alloc, case),
-            "regions" => self.regions.answer(alloc, case),
-            "signatures" => self.signatures.answer(alloc, case),
-            "times" => self.times.answer(alloc, case),
-            "cursors" => self.cursors.answer(alloc, case),
-            _ => bail!("no such table"),
+    fn answer(&mut self, trial: &mut Trial) {
+        match trial.word() {
+            "gaps" => self.gaps.answer(trial),
+            "regions" => self.regions.answer(trial),
+            "signatures" => self.signatures.answer(trial),
+            "times" => self.times.answer(trial),
+            "cursors" => self.cursors.answer(trial),
+            _ => trial.refuse("no such table"),
         }
     }
 }
 
-fn main(rt: HostRuntime) -> Result<()> {
-    let mut tables = Tables::create(rt.alloc())?;
-    drive(&rt, |case| tables.answer(rt.alloc(), case))
+fn main(rt: HostRuntime) -> io::Result<()> {
+    let Some(mut tables) = Tables::create(rt.alloc()) else {
+        println!(rt; "no memory")?;
+        return Ok(());
+    };
+    drive_trials(&rt, |trial| tables.answer(trial))
 }

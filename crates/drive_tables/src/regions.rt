@@ -3,9 +3,9 @@ ghost use Rattle.std.specs.Prelude.{◌≡◌, ℕ, ◌%◌, ◌≤◌, false, l
 ghost use Rattle.std.specs.FinMap as map;
 
 use crate::draws::{drawn, with_answer};
-use anyhow::{Result, bail, ensure};
-use ldm_drive::Case;
+use ldm_drive::Trial;
 use ldm_regions::Regions;
+use ldm_types::OutOfMemory;
 use std::alloc::Global;
 
 /// Regions, and who owns one.
@@ -18,50 +18,73 @@ pub struct Owners {
 }
 
 // The marks that a text of zeros and ones spells.
-fn marks_of(alloc: Global, text: &str) -> Result<Vec<bool>> {
+fn marks_of(alloc: Global, text: &str) -> Option<Vec<bool>> {
     let mut marks = Vec::new(alloc);
     for byte in text.as_bytes() {
-        marks.push(*byte == b'1')?;
+        marks.push(*byte == b'1').ok()?;
     }
-    Ok(marks)
+    Some(marks)
 }
 
 impl Owners {
-    pub fn create(alloc: Global, arena: u64, slots: u32) -> Result<Owners> {
-        ensure!(arena >= 64 && arena % 8 == 0, "no such arena");
-        ensure!(slots <= 1_048_576, "too many slots");
+    /// Regions of an arena of that size with so many slots.
+    pub fn create(alloc: Global, arena: u64, slots: u32) -> Result<Owners, OutOfMemory>
+        requires whole { arena % 8 ≡ 0 }
+        requires least { 64 ≤ arena }
+        requires slots { slots ≤ 1048576 }
+    {
         let regions = Regions::create(alloc, arena, slots)?;
         let owns = vec![in alloc; false; slots as usize]?;
         Ok(Owners { regions, owns })
     }
 
     /// A case: `new ARENA SLOTS`, `take OWNER NEED`, `back OWNER`, `kept MARKS`, `turns SEED COUNT`, `orders`.
-    pub fn answer(&mut self, alloc: Global, case: &mut Case) -> Result<String> {
-        match case.word()? {
+    pub fn answer(&mut self, trial: &mut Trial) {
+        match trial.word() {
             "new" => {
-                let arena = case.number()?;
-                *self = Owners::create(alloc, arena, case.small()?)?;
-                Ok(format!(in alloc; "longest {}", self.regions.largest())?)
+                self.begin(trial);
+                self.tell_longest(trial);
             }
             "take" => {
-                let owner = case.small()?;
-                let start = self.take(case.number()?, owner);
-                Ok(format!(in alloc; "{start:?} longest {}", self.regions.largest())?)
+                let (owner, need) = (trial.small(), trial.number());
+                trial.tell_debug(&self.take(need, owner));
+                trial.tell(" ");
+                self.tell_longest(trial);
             }
             "back" => {
-                self.give_back(case.small()?);
-                Ok(format!(in alloc; "longest {}", self.regions.largest())?)
+                self.give_back(trial.small());
+                self.tell_longest(trial);
             }
-            "kept" => {
-                let marks = marks_of(alloc, case.word()?)?;
-                Ok(format!(in alloc; "{:?}", self.largest_if(&marks))?)
-            }
+            "kept" => self.kept(trial),
             "turns" => {
-                let (seed, count) = (case.number()?, case.number()?);
-                Ok(format!(in alloc; "{}", self.turns(seed, count))?)
+                let (seed, count) = (trial.number(), trial.number());
+                trial.tell_number(self.turns(seed, count));
             }
-            "orders" => Ok(format!(in alloc; "{}", self.orders())?),
-            _ => bail!("no such word"),
+            "orders" => trial.tell_number(self.orders()),
+            _ => trial.refuse("no such word"),
+        }
+    }
+
+    fn begin(&mut self, trial: &mut Trial) {
+        let (arena, slots) = (trial.number(), trial.small());
+        if arena < 64 || arena % 8 != 0 || slots > 1_048_576 {
+            return trial.refuse("no such arena");
+        }
+        match Owners::create(trial.alloc(), arena, slots) {
+            Ok(owners) => *self = owners,
+            Err(_) => trial.lack_memory(),
+        }
+    }
+
+    fn tell_longest(&self, trial: &mut Trial) {
+        trial.tell("longest ");
+        trial.tell_number(self.regions.largest());
+    }
+
+    fn kept(&self, trial: &mut Trial) {
+        match marks_of(trial.alloc(), trial.word()) {
+            Some(marks) => trial.tell_debug(&self.largest_if(&marks)),
+            None => trial.lack_memory(),
         }
     }
 

@@ -2,10 +2,9 @@
 ghost use Rattle.std.specs.Prelude.{◌≡◌, ℕ, None, Some, slice_get, true};
 
 use crate::draws::{mixed, with_answer};
-use anyhow::{Result, bail, ensure};
-use ldm_drive::Case;
+use ldm_drive::Trial;
 use ldm_sigindex::SigIndex;
-use ldm_types::Signature;
+use ldm_types::{OutOfMemory, Signature};
 use std::alloc::Global;
 
 /// An index, and which of its slots are free.
@@ -23,43 +22,55 @@ fn member(n: u64) -> Signature {
     Signature((u128::from(high) << 64 | u128::from(low)).to_le_bytes())
 }
 
-fn signature(alloc: Global, case: &mut Case) -> Result<Signature> {
-    let bytes = case.bytes(alloc)?;
+// The next word, which is a signature in hexadecimal digits.
+fn signature(trial: &mut Trial) -> Signature {
+    let bytes = trial.bytes();
     let mut signature = [0; 16];
-    ensure!(bytes.len() == 16, "a signature has 16 bytes");
-    signature.copy_from_slice(&bytes);
-    Ok(Signature(signature))
+    if bytes.len() == 16 {
+        signature.copy_from_slice(&bytes);
+    } else {
+        trial.refuse("a signature has 16 bytes");
+    }
+    Signature(signature)
 }
 
 impl Signatures {
-    pub fn create(alloc: Global, slots: u32) -> Result<Signatures> {
+    pub fn create(alloc: Global, slots: u32) -> Result<Signatures, OutOfMemory> {
         let index = SigIndex::create(alloc, slots)?;
         let free = vec![in alloc; true; slots as usize]?;
         Ok(Signatures { index, free })
     }
 
     /// A case: `new SLOTS`, `toggle SIGNATURE SLOT`, `find SIGNATURE`, `toggles MEMBERS COUNT`, `many COUNT`.
-    pub fn answer(&mut self, alloc: Global, case: &mut Case) -> Result<String> {
-        match case.word()? {
-            "new" => {
-                *self = Signatures::create(alloc, case.small()?)?;
-                Ok(String::from_str(alloc, "ok")?)
-            }
+    pub fn answer(&mut self, trial: &mut Trial) {
+        match trial.word() {
+            "new" => self.begin(trial),
             "find" => {
-                let s = signature(alloc, case)?;
-                Ok(format!(in alloc; "{:?}", self.index.find(&s))?)
+                let s = signature(trial);
+                trial.tell_debug(&self.index.find(&s));
             }
             "toggle" => {
-                let s = signature(alloc, case)?;
-                self.toggle(s, case.small()?);
-                Ok(format!(in alloc; "{:?}", self.index.find(&s))?)
+                let s = signature(trial);
+                self.toggle(s, trial.small());
+                trial.tell_debug(&self.index.find(&s));
             }
             "toggles" => {
-                let (members, count) = (case.number()?, case.number()?);
-                Ok(format!(in alloc; "{}", self.toggles(members, count))?)
+                let (members, count) = (trial.number(), trial.number());
+                trial.tell_number(self.toggles(members, count));
             }
-            "many" => self.many(alloc, case.small()?),
-            _ => bail!("no such word"),
+            "many" => self.many(trial),
+            _ => trial.refuse("no such word"),
+        }
+    }
+
+    fn begin(&mut self, trial: &mut Trial) {
+        let slots = trial.small();
+        match Signatures::create(trial.alloc(), slots) {
+            Ok(signatures) => {
+                *self = signatures;
+                trial.tell("ok");
+            }
+            Err(_) => trial.lack_memory(),
         }
     }
 
@@ -90,22 +101,41 @@ impl Signatures {
     }
 
     // Puts so many in, finds each, and takes each out: how many were not there before, found, and not there after.
-    fn many(&mut self, alloc: Global, count: u32) -> Result<String> {
-        let (mut before, mut found, mut after) = (0u32, 0u32, 0u32);
+    fn many(&mut self, trial: &mut Trial) {
+        let count = trial.small();
+        trial.tell_value(&self.put_each(count));
+        trial.tell(" ");
+        trial.tell_value(&self.find_each(count));
+        trial.tell(" ");
+        trial.tell_value(&self.take_each(count));
+    }
+
+    fn put_each(&mut self, count: u32) -> u32 {
+        let mut before = 0u32;
         for slot in 0..count {
             let s = member(u64::from(slot));
             before = before.saturating_add(u32::from(self.index.find(&s).is_none()));
             self.toggle(s, slot);
         }
+        before
+    }
+
+    fn find_each(&self, count: u32) -> u32 {
+        let mut found = 0u32;
         for slot in 0..count {
             let s = member(u64::from(slot));
             found = found.saturating_add(u32::from(self.index.find(&s) == Some(slot)));
         }
+        found
+    }
+
+    fn take_each(&mut self, count: u32) -> u32 {
+        let mut after = 0u32;
         for slot in 0..count {
             let s = member(u64::from(slot));
             self.toggle(s, slot);
             after = after.saturating_add(u32::from(self.index.find(&s).is_none()));
         }
-        Ok(format!(in alloc; "{before} {found} {after}")?)
+        after
     }
 }

@@ -1,11 +1,10 @@
 //! The index of products by number and time.
-ghost use Rattle.std.specs.Prelude.{◌≡◌, ◌+◌, IfOk, if◌then◌else◌, length};
+ghost use Rattle.std.specs.Prelude.{◌≡◌, ◌+◌, ◌<◌, IfSome, if◌then◌else◌, length};
 
 use crate::draws::{mixed, with_pair};
-use anyhow::{Context, Result, bail, ensure};
-use ldm_drive::Case;
+use ldm_drive::Trial;
 use ldm_timeindex::TimeIndex;
-use ldm_types::Micros;
+use ldm_types::{Micros, OutOfMemory};
 use std::alloc::Global;
 
 /// An index, and how many products are in it.
@@ -25,10 +24,10 @@ fn wide(answer: Option<(u64, u32)>) -> Option<(u64, u64)> {
     }
 }
 
-fn instant(n: u64) -> Result<Micros>
-    ensures { IfOk result (λ micros. micros ≡ n) }
+fn instant(n: u64) -> Option<Micros>
+    ensures { IfSome result (λ micros. micros ≡ n) }
 {
-    Micros::new(n).context("no instant")
+    Micros::new(n)
 }
 
 // Takes a product out where it has that number and that slot, and answers whether it does.
@@ -44,7 +43,7 @@ fn take(index: &mut TimeIndex, n: u64, slot: u32) -> bool
 }
 
 impl Times {
-    pub fn create(alloc: Global, slots: u32) -> Result<Times> {
+    pub fn create(alloc: Global, slots: u32) -> Result<Times, OutOfMemory> {
         let index = TimeIndex::create(alloc, slots)?;
         Ok(Times {
             index,
@@ -54,103 +53,176 @@ impl Times {
     }
 
     /// A case: `new SLOTS`, `push N TIME SLOT`, `out N`, `at N`, `after TIME`, `changes COUNT`, `many COUNT`.
-    pub fn answer(&mut self, alloc: Global, case: &mut Case) -> Result<String> {
-        match case.word()? {
-            "new" => {
-                *self = Times::create(alloc, case.small()?)?;
-                Ok(String::from_str(alloc, "ok")?)
-            }
+    pub fn answer(&mut self, trial: &mut Trial) {
+        match trial.word() {
+            "new" => self.begin(trial),
             "push" => {
-                let (n, time, slot) = (case.number()?, case.number()?, case.small()?);
-                self.push(n, time, slot)?;
-                Ok(String::from_str(alloc, "ok")?)
+                let (n, time, slot) = (trial.number(), trial.number(), trial.small());
+                tell_done(trial, self.push(n, time, slot));
             }
             "out" => {
-                self.take_out(case.number()?)?;
-                Ok(String::from_str(alloc, "ok")?)
+                let n = trial.number();
+                tell_done(trial, self.take_out(n));
             }
-            "at" => Ok(format!(in alloc; "{:?}", self.index.first_at(case.number()?))?),
-            "after" => {
-                let time = instant(case.number()?)?;
-                Ok(format!(in alloc; "{:?}", self.index.first_after(time))?)
+            "at" => {
+                let n = trial.number();
+                trial.tell_debug(&self.index.first_at(n));
             }
-            "changes" => Ok(format!(in alloc; "{}", self.changes(alloc, case.number()?)?)?),
-            "many" => self.many(alloc, case.small()?),
-            _ => bail!("no such word"),
+            "after" => self.after(trial),
+            "changes" => {
+                let count = trial.number();
+                match self.changes(trial.alloc(), count) {
+                    Some(sum) => trial.tell_number(sum),
+                    None => trial.refuse("a change is not made"),
+                }
+            }
+            "many" => self.many(trial),
+            _ => trial.refuse("no such word"),
         }
     }
 
-    // Puts a product in that is later than all.
-    fn push(&mut self, n: u64, time: u64, slot: u32) -> Result<()> {
-        ensure!(self.count < self.slots, "no slot is left");
-        ensure!(time > 0, "no instant comes before");
+    fn begin(&mut self, trial: &mut Trial) {
+        let slots = trial.small();
+        match Times::create(trial.alloc(), slots) {
+            Ok(times) => {
+                *self = times;
+                trial.tell("ok");
+            }
+            Err(_) => trial.lack_memory(),
+        }
+    }
+
+    fn after(&self, trial: &mut Trial) {
+        match instant(trial.number()) {
+            Some(time) => trial.tell_debug(&self.index.first_after(time)),
+            None => trial.refuse("no instant"),
+        }
+    }
+
+    // Puts a product in that is later than all, where there is a slot left.
+    fn push(&mut self, n: u64, time: u64, slot: u32) -> Option<()> {
+        if self.count >= self.slots || time == 0 {
+            return None;
+        }
         let before = instant(time - 1)?;
         let now = instant(time)?;
         if self.index.first_at(n) != None {
-            bail!("not the greatest number");
+            return None;
         }
         if self.index.first_after(before) != None {
-            bail!("not the latest time");
+            return None;
         }
         self.index.push(n, now, slot);
         self.count += 1;
-        Ok(())
+        Some(())
     }
 
     // Takes a product out that is in.
-    fn take_out(&mut self, n: u64) -> Result<()> {
-        let Some((_, slot)) = self.index.first_at(n) else {
-            bail!("no such number");
-        };
+    fn take_out(&mut self, n: u64) -> Option<()> {
+        let (_, slot) = self.index.first_at(n)?;
         if !take(&mut self.index, n, slot) {
-            bail!("no such number");
+            return None;
         }
         self.count = self.count.saturating_sub(1);
-        Ok(())
+        Some(())
     }
 
     // Random changes of at most 64 products: the sum of what is found before each.
-    fn changes(&mut self, alloc: Global, count: u64) -> Result<u64> {
+    fn changes(&mut self, alloc: Global, count: u64) -> Option<u64> {
         let mut sum = 0;
         let mut plain = Vec::new(alloc);
         for step in 0..count.min(1 << 20) {
-            let random = mixed(step);
-            let n = (3 * step).saturating_sub(random / 4 % 400);
-            let time = (6 * step).saturating_sub(random / 2048 % 800);
-            sum = with_pair(sum, wide(self.index.first_at(n)));
-            sum = with_pair(sum, wide(self.index.first_after(instant(time)?)));
-            let n = 3 * step + random % 3;
-            if random % 2 == 0 && plain.len() < 64 {
-                self.push(n, 2 * n + 1, (random / 65536 % 64) as u32)?;
-                plain.push(n)?;
-            } else if !plain.is_empty() {
-                let n = plain.remove((random / 8) as usize % plain.len());
-                self.take_out(n)?;
-            }
+            sum = self.found(step, sum)?;
+            self.change(step, &mut plain)?;
         }
-        Ok(sum)
+        Some(sum)
+    }
+
+    // The sum with what is found by number and by time at a step.
+    fn found(&self, step: u64, sum: u64) -> Option<u64>
+        requires { step < 1048576 }
+    {
+        let random = mixed(step);
+        let n = (3 * step).saturating_sub(random / 4 % 400);
+        let time = (6 * step).saturating_sub(random / 2048 % 800);
+        let sum = with_pair(sum, wide(self.index.first_at(n)));
+        Some(with_pair(sum, wide(self.index.first_after(instant(time)?))))
+    }
+
+    // Puts a product in, or takes one of those out that are in.
+    fn change(&mut self, step: u64, plain: &mut Vec<u64>) -> Option<()>
+        requires { step < 1048576 }
+    {
+        let random = mixed(step);
+        let n = 3 * step + random % 3;
+        if random % 2 == 0 && plain.len() < 64 {
+            self.push(n, 2 * n + 1, (random / 65536 % 64) as u32)?;
+            plain.push(n).ok()?;
+        } else if !plain.is_empty() {
+            let n = plain.remove((random / 8) as usize % plain.len());
+            self.take_out(n)?;
+        }
+        Some(())
     }
 
     // Puts a product of each number below so many in, finds each by number and by time, and takes each out: how many were
     // found, and what is left.
-    fn many(&mut self, alloc: Global, count: u32) -> Result<String> {
+    fn many(&mut self, trial: &mut Trial) {
+        let count = trial.small();
+        if self.put_each(count).is_none() {
+            return trial.refuse("a product is not put in");
+        }
+        trial.tell_value(&self.find_each_by_number(count));
+        trial.tell(" ");
+        trial.tell_value(&self.find_each_by_time(count));
+        trial.tell(" ");
+        if self.take_each(count).is_none() {
+            return trial.refuse("a product is not taken out");
+        }
+        trial.tell_debug(&self.index.first_at(0));
+    }
+
+    fn put_each(&mut self, count: u32) -> Option<()> {
         for slot in 0..count {
             let n = u64::from(slot);
             self.push(n, 2 * n + 1, slot)?;
         }
-        let (mut by_number, mut by_time) = (0u32, 0u32);
+        Some(())
+    }
+
+    fn find_each_by_number(&self, count: u32) -> u32 {
+        let mut found = 0u32;
         for slot in 0..count {
             let n = u64::from(slot);
-            let (at, after) = (
-                self.index.first_at(n),
-                self.index.first_after(instant(2 * n)?),
-            );
-            by_number = by_number.saturating_add(u32::from(at == Some((n, slot))));
-            by_time = by_time.saturating_add(u32::from(after == Some((n, slot))));
+            let at = self.index.first_at(n);
+            found = found.saturating_add(u32::from(at == Some((n, slot))));
         }
+        found
+    }
+
+    fn find_each_by_time(&self, count: u32) -> u32 {
+        let mut found = 0u32;
+        for slot in 0..count {
+            let n = u64::from(slot);
+            if let Some(time) = instant(2 * n) {
+                let after = self.index.first_after(time);
+                found = found.saturating_add(u32::from(after == Some((n, slot))));
+            }
+        }
+        found
+    }
+
+    fn take_each(&mut self, count: u32) -> Option<()> {
         for slot in 0..count {
             self.take_out(u64::from(slot))?;
         }
-        Ok(format!(in alloc; "{by_number} {by_time} {:?}", self.index.first_at(0))?)
+        Some(())
+    }
+}
+
+fn tell_done(trial: &mut Trial, done: Option<()>) {
+    match done {
+        Some(()) => trial.tell("ok"),
+        None => trial.refuse("it may not be called"),
     }
 }
