@@ -155,3 +155,26 @@ is_filled call old new start body at is len =
 pub one_record_with : (call : CallWithBody) (body : List ℕ) → length (front_of call) + pad4 (body_len call) ≤ LARGEST_CONTENT → length body ≡ body_len call
     → RecordFits LARGEST_CONTENT (in_one (written (with_body call body)))
 one_record_with call body short len = one_record (written (with_body call body)) (omega (arith, length_with_body call body len, short))
+
+-- ---- a record up to its body
+
+pub room_for_head : (out : Vec ℕ) (call : CallWithBody) (len : ℕ) → vec_len out + (4 + length (front_of call)) ≤ vec_capacity out
+    → HasRoom out (number w32 (LAST_FRAGMENT + len) ++ front_of call)
+room_for_head out call len room =
+    omega (arith, room, length-append (number w32 (LAST_FRAGMENT + len)) (front_of call), length_unsigned (LAST_FRAGMENT + len))
+
+-- what stands before the body, the body and its padding
+pub head_and_body : (call : CallWithBody) (len : ℕ) (old mid new : Vec ℕ) (padding : ℕ) (body : List ℕ)
+    → len ≡ length (front_of call) + pad4 (body_len call) → mid.items ≡ old.items
+    → Appends mid new (number w32 (LAST_FRAGMENT + len) ++ front_of call) → padding ≡ pad4 (body_len call) - body_len call
+    → length body ≡ body_len call
+    → new.items ++ (body ++ replicate padding 0) ≡ old.items ++ record_of (written (with_body call body))
+head_and_body call len old mid new padding body is same all count body_is =
+    let head : number w32 (LAST_FRAGMENT + len) ++ front_of call ≡ record_front call =
+    ap (λ k. number w32 (LAST_FRAGMENT + k) ++ front_of call) is in
+    let now : new.items ≡ old.items ++ record_front call =
+    all.items ∙ ap (λ (x : List ℕ). x ++ (number w32 (LAST_FRAGMENT + len) ++ front_of call)) same ∙ ap (λ (x : List ℕ). old.items ++ x) head in
+    ap (λ (x : List ℕ). x ++ (body ++ replicate {A = ℕ} padding 0)) now
+    ∙ ap (λ k. (old.items ++ record_front call) ++ (body ++ replicate {A = ℕ} k 0)) count
+    ∙ append_assoc old.items (record_front call) (body ++ padding_of (body_len call))
+    ∙ ap (λ (x : List ℕ). old.items ++ x) (sym (record_parts call body body_is))

@@ -1,6 +1,6 @@
-//! Calls that carry bytes, and room for these in a record.
+//! Calls that carry bytes: their records with room for these, and up to these.
 ghost use Rattle.std.specs.Prelude.{◌≡◌, ◌+◌, ◌≤◌, ◌<◌, ◌^◌, ◌++◌, ℕ, List, length, replicate, OnOk, OnErr, IfOk, IsOk};
-ghost use Rattle.std.specs.Vec.{vec_len};
+ghost use Rattle.std.specs.Vec.{vec_len, vec_capacity};
 ghost use Rattle.ldm_types.specs.Info.{pad4};
 ghost use Rattle.ldm_xdr.specs.Writing.{put_at};
 ghost use Rattle.ldm_rpc.specs.Spelling.{Fits as RecordFits};
@@ -102,4 +102,32 @@ fn put_zeroed(out: &mut Vec<u8>, call: &CallWithBody) -> usize
     let start = out.len();
     put_zeros(out, padded(call.body_len()));
     start
+}
+
+/// Appends the record of a call up to where its body begins, and answers how many zero bytes follow the body: 0 to 3. Who
+/// sends what was appended, then the body, then so many zero bytes, has sent the record of the call with that body, as
+/// [`write_message`](crate::write_message) appends it: so a body may be larger than any buffer.
+///
+/// A body must leave the content within [`LARGEST_CONTENT`](crate::LARGEST_CONTENT), and a block must have at most
+/// [`LARGEST_BLOCK`](crate::LARGEST_BLOCK) bytes. No memory is taken for the body. After an `Err`, `out` is as before.
+pub fn write_head(call: &CallWithBody, out: &mut Vec<u8>) -> Result<usize, OutOfMemory>
+    requires { CanCarry call.now }
+    // With each body of that length, what stands there is what `write_message` appends.
+    ensures ok { IfOk result (λ padding. (body : List ℕ) → length body ≡ body_len call.now
+        → out.new.items ++ (body ++ replicate padding 0) ≡ out.old.items ++ record_of (written (with_body call.now body))) }
+    ensures padding { IfOk result (λ padding. body_len call.now + padding ≡ pad4 (body_len call.now)) }
+    // With any such body it is within the bounds of the law that it is read again, and one record of a stream.
+    ensures fits { (body : List ℕ) → length body ≡ body_len call.now → Fits (with_body call.now body) }
+    ensures record_fits { (body : List ℕ) → length body ≡ body_len call.now → RecordFits LARGEST_CONTENT (in_one (written (with_body call.now body))) }
+    ensures err { OnErr result (out.new.items ≡ out.old.items) }
+    // Memory is asked for only where there is no room for the header of the fragment and the content up to the body.
+    ensures enough { vec_len out.old + 4 + length (front_of call.now) ≤ vec_capacity out.old → IsOk result }
+{
+    let len = call_len(call);
+    let body = call.body_len();
+    let with_padding = padded(body);
+    out.reserve(4 + len - with_padding)?;
+    put_unsigned(out, LAST_FRAGMENT + len as u32);
+    put_front(out, call);
+    Ok(with_padding - body)
 }

@@ -19,7 +19,7 @@ mod refusal;
 mod reply;
 mod write;
 
-pub use body::{BodyPlace, CallWithBody, write_with_room};
+pub use body::{BodyPlace, CallWithBody, write_head, write_with_room};
 pub use call::read_call;
 pub use fault::RelayFault;
 pub use laws::{
