@@ -62,6 +62,7 @@ impl Shared {
         book: Book,
     ) -> Result<(Shared, Seat<Option<Book>, View>), CreateFault>
         requires stands { StandsFor book (empty sizes.arena sizes.slots) }
+        requires arena { IsGoodArena sizes.arena }
         requires passes { 0 < sizes.passes }
         ensures sizes { IfOk result (λ made. (made.0.arena ≡ sizes.arena) × (made.0.slots ≡ sizes.slots) × (made.0.passes ≡ sizes.passes)) }
         ensures seat { IfOk result (λ made. (made.1.table_id ≡ made.0.queue) × (made.1.me ≡ (opening sizes, []))) }

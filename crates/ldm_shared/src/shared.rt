@@ -1,5 +1,6 @@
 //! The queue of many threads.
 ghost use Rattle.std.specs.Prelude.{◌≡◌, ◌<◌};
+ghost use Rattle.ldm_book.specs.Limits.{IsGoodArena};
 
 use crate::rule::Law;
 use crate::sizes::Sizes;
@@ -31,7 +32,8 @@ impl Model for Shared {
 impl Shared {
     /// How many bytes the arena has. It waits for nobody.
     pub fn arena(&self) -> u64
-        ensures { result ≡ self.now.arena }
+        ensures is { result ≡ self.now.arena }
+        ensures good { IsGoodArena self.now.arena }
     {
         self.arena
     }
