@@ -1,121 +1,124 @@
 //! Classes of products.
 
-use crate::bad::{Answer, Bad};
 use arrayvec::ArrayVec;
 use ldm_class::Class;
-use ldm_drive::{Case, digits_of, shown, text_of};
+use ldm_drive::Trial;
 use ldm_feedtype::read_feed;
-use ldm_types::{ClassSpec, Feed, Info, Micros, Signature, Spec};
-use std::alloc::Global;
+use ldm_types::{ClassSpec, Feed, Info, MOST_SPECS, Micros, Signature, Spec};
 
-/// Builds a class and keeps it, or asks whether the class that was kept wants a product.
-pub fn answer(alloc: Global, name: &str, kept: &mut Option<Class>, case: &mut Case) -> Answer {
-    if name == "class" {
-        return build(alloc, kept, &class_of(alloc, case)?);
-    }
-    let info = product(alloc, case)?;
-    match kept {
-        Some(class) => wants(alloc, class, &info),
-        None => Err(Bad::NoClass),
-    }
-}
-
-fn wants(alloc: Global, class: &Class, info: &Info) -> Answer {
-    let wanted = class.wants(alloc, info)?;
-    let mut matcher = class.matcher(alloc)?;
-    if matcher.wants(info) != wanted || matcher.wants(info) != wanted {
-        return Err(Bad::Differs);
-    }
-    Ok(format!(in alloc; "{wanted}")?)
-}
-
-// What the class was built of, and the signature to go on behind; or the fault.
-fn build(alloc: Global, kept: &mut Option<Class>, spec: &ClassSpec) -> Answer {
-    match Class::build(alloc, spec) {
+/// Builds a class and keeps it: tells what it was built of, and the signature to go on behind; or the fault.
+pub fn build(kept: &mut Option<Class>, trial: &mut Trial) {
+    let Some(spec) = class_of(trial) else {
+        return trial.refuse("no class");
+    };
+    match Class::build(trial.alloc(), &spec) {
         Ok(class) => {
-            let told = shown_built(alloc, &class)?;
+            tell_built(trial, &class);
             *kept = Some(class);
-            Ok(told)
         }
-        Err(fault) => Ok(format!(in alloc; "{fault:?}")?),
+        Err(fault) => trial.tell_debug(&fault),
     }
 }
 
-fn shown_built(alloc: Global, class: &Class) -> Answer {
-    let mut told = shown_class(alloc, class.spec())?;
+fn tell_built(trial: &mut Trial, class: &Class) {
+    tell_class(trial, class.spec());
     if let Some(signature) = class.resume() {
-        write!(told, " behind {}", digits_of(alloc, &signature.0)?)?;
+        trial.tell(" behind ");
+        trial.tell_digits(&signature.0);
     }
-    Ok(told)
 }
 
-fn instant_of(case: &mut Case) -> Result<Micros, Bad> {
-    instant(case.number()?)
+/// Asks whether the class that was kept wants a product.
+pub fn ask(kept: &Option<Class>, trial: &mut Trial) {
+    let Some(info) = product(trial) else {
+        return trial.refuse("no product");
+    };
+    match kept {
+        Some(class) => tell_wanted(trial, class, &info),
+        None => trial.refuse("no class was built"),
+    }
 }
 
-fn instant(n: u64) -> Result<Micros, Bad> {
-    Micros::new(n).ok_or(Bad::Word)
+// Whether a class wants a product, in each way in which that is asked.
+fn tell_wanted(trial: &mut Trial, class: &Class, info: &Info) {
+    let Ok(wanted) = class.wants(trial.alloc(), info) else {
+        return trial.lack_memory();
+    };
+    let Ok(mut matcher) = class.matcher(trial.alloc()) else {
+        return trial.lack_memory();
+    };
+    if matcher.wants(info) != wanted || matcher.wants(info) != wanted {
+        return trial.refuse("another answer");
+    }
+    trial.tell_value(&wanted);
 }
 
 /// The product with the feedtypes and the ident that a case gives.
-pub fn product(alloc: Global, case: &mut Case) -> Result<Info, Bad> {
-    let feed = feed_word(case.word()?)?;
-    info_of(feed, &case.text(alloc)?)
+pub fn product(trial: &mut Trial) -> Option<Info> {
+    let word = trial.word();
+    let feed = feed_in(trial, word);
+    info_of(feed, &trial.text())
 }
 
-fn info_of(feed: Feed, ident: &[u8]) -> Result<Info, Bad> {
-    let arrival = instant(100)?;
-    match Info::new(arrival, Signature([1; 16]), b"h", feed, 1, ident, 4) {
-        Ok(info) => Ok(info),
-        Err(_) => Err(Bad::Word),
-    }
+fn info_of(feed: Feed, ident: &[u8]) -> Option<Info> {
+    let arrival = Micros::new(100)?;
+    Info::new(arrival, Signature([1; 16]), b"h", feed, 1, ident, 4).ok()
 }
 
 /// The class of all specifications that a case gives, each a feed expression, a slash and a pattern.
-pub fn class_of(alloc: Global, case: &mut Case) -> Result<ClassSpec, Bad> {
-    let from = instant_of(case)?;
-    let to = instant_of(case)?;
-    let mut specs = ArrayVec::new();
-    // a class has at most 32; one more is told
-    for _ in 0..=32 {
-        if case.is_done() {
-            break;
-        }
-        if specs.try_push(spec_of(alloc, case.word()?)?).is_err() {
-            return Err(Bad::Word);
-        }
-    }
-    Ok(ClassSpec { from, to, specs })
+pub fn class_of(trial: &mut Trial) -> Option<ClassSpec> {
+    let from = Micros::new(trial.number())?;
+    let to = Micros::new(trial.number())?;
+    let specs = specs_of(trial)?;
+    Some(ClassSpec { from, to, specs })
 }
 
-fn spec_of(alloc: Global, word: &str) -> Result<Spec, Bad> {
-    let (feed, pattern) = word.split_once('/').ok_or(Bad::Word)?;
-    let feed = feed_word(feed)?;
-    match ArrayVec::try_from(text_of(alloc, pattern)?.as_slice()) {
-        Ok(pattern) => Ok(Spec { feed, pattern }),
-        Err(_) => Err(Bad::Word),
+// The specifications of all words that are left, if a class may have so many.
+fn specs_of(trial: &mut Trial) -> Option<ArrayVec<Spec, MOST_SPECS>> {
+    let mut specs = ArrayVec::new();
+    for _ in 0..=MOST_SPECS {
+        if trial.is_done() {
+            break;
+        }
+        let spec = spec_of(trial)?;
+        specs.try_push(spec).ok()?;
     }
+    Some(specs)
+}
+
+fn spec_of(trial: &mut Trial) -> Option<Spec> {
+    let (feed, pattern) = trial.word().split_once('/')?;
+    let feed = feed_in(trial, feed);
+    let pattern = ArrayVec::try_from(trial.text_in(pattern).as_slice()).ok()?;
+    Some(Spec { feed, pattern })
 }
 
 /// The feedtypes that a word means.
-pub fn feed_word(word: &str) -> Result<Feed, Bad> {
+pub fn feed_in(trial: &mut Trial, word: &str) -> Feed {
     match read_feed(word.as_bytes()) {
-        Ok(feed) => Ok(feed),
-        Err(_) => Err(Bad::Word),
+        Ok(feed) => feed,
+        Err(_) => {
+            trial.refuse("no feedtypes");
+            Feed(0)
+        }
     }
 }
 
-/// A class as it is printed: its times, and the feedtypes and the pattern of each specification.
-pub fn shown_class(alloc: Global, class: &ClassSpec) -> Answer {
-    let mut told = format!(in alloc; "{} to {}:", class.from.get(), class.to.get())?;
+/// Tells a class: its times, and the feedtypes and the pattern of each specification.
+pub fn tell_class(trial: &mut Trial, class: &ClassSpec) {
+    trial.tell_number(class.from.get());
+    trial.tell(" to ");
+    trial.tell_number(class.to.get());
+    trial.tell(":");
     for spec in class.specs.as_slice() {
-        put_spec(alloc, &mut told, spec)?;
+        tell_spec(trial, spec);
     }
-    Ok(told)
 }
 
-fn put_spec(alloc: Global, told: &mut String, spec: &Spec) -> Result<(), Bad> {
-    let pattern = shown(alloc, spec.pattern.as_slice())?;
-    write!(told, " {:#x}/{pattern}", spec.feed.0)?;
-    Ok(())
+fn tell_spec(trial: &mut Trial, spec: &Spec) {
+    match format!(in trial.alloc(); " {:#x}/", spec.feed.0) {
+        Ok(feed) => trial.tell(feed.as_str()),
+        Err(_) => trial.lack_memory(),
+    }
+    trial.tell_shown(spec.pattern.as_slice());
 }

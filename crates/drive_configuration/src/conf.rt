@@ -1,108 +1,120 @@
 //! ldmd.conf, and the files that it includes.
 
 use crate::Kept;
-use crate::bad::{Answer, Bad};
-use crate::classes::shown_class;
-use crate::patterns::{text_or_bytes, word_text};
+use crate::classes::tell_class;
+use crate::patterns::text_or_bytes;
 use ldm_conf::{Command, Conf, ConfFault, Request, read_conf};
-use ldm_drive::{Case, shown};
+use ldm_drive::Trial;
 use ldm_outside::{MemFile, MemStore};
 use std::alloc::Global;
 
 /// Sets what the next texts find: a file, the numbers of the store's calls that fail, or neither.
-pub fn prepare(alloc: Global, name: &str, kept: &mut Kept, case: &mut Case) -> Answer {
+pub fn prepare(name: &str, kept: &mut Kept, trial: &mut Trial) {
     match name {
         "forget" => {
-            kept.files = Vec::new(alloc);
-            kept.failing = Vec::new(alloc);
+            kept.files = Vec::new(trial.alloc());
+            kept.failing = Vec::new(trial.alloc());
         }
-        "failing" => kept.failing = numbers(alloc, case)?,
-        _ => {
-            let file = file_of(alloc, name == "file", case)?;
-            kept.files.push(file)?;
-        }
+        "failing" => kept.failing = numbers(trial),
+        _ => add_file(name == "file", kept, trial),
     }
-    Ok(String::from_str(alloc, "done")?)
+    trial.tell("done");
 }
 
-fn numbers(alloc: Global, case: &mut Case) -> Result<Vec<u64>, Bad> {
-    let mut numbers = Vec::new(alloc);
+fn numbers(trial: &mut Trial) -> Vec<u64> {
+    let mut numbers = Vec::new(trial.alloc());
     for _ in 0..u64::MAX {
-        if case.is_done() {
+        if trial.is_done() {
             break;
         }
-        numbers.push(case.number()?)?;
+        if numbers.push(trial.number()).is_err() {
+            trial.lack_memory();
+        }
     }
-    Ok(numbers)
+    numbers
 }
 
-fn file_of(alloc: Global, is_text: bool, case: &mut Case) -> Result<MemFile, Bad> {
-    let path = word_text(alloc, case)?;
-    let bytes = text_or_bytes(alloc, is_text, case)?;
-    match str::from_utf8(&path) {
-        Ok(path) => Ok(MemFile::new(String::from_str(alloc, path)?, bytes)),
-        Err(_) => Err(Bad::Word),
+fn add_file(is_text: bool, kept: &mut Kept, trial: &mut Trial) {
+    let path = trial.word_text();
+    let bytes = text_or_bytes(is_text, trial);
+    let Some(path) = path_of(trial.alloc(), &path) else {
+        return trial.refuse("no path");
+    };
+    if kept.files.push(MemFile::new(path, bytes)).is_err() {
+        trial.lack_memory();
     }
+}
+
+fn path_of(alloc: Global, bytes: &[u8]) -> Option<String> {
+    let path = str::from_utf8(bytes).ok()?;
+    String::from_str(alloc, path).ok()
 }
 
 /// Reads a text, and keeps it and its rules of access. Tells its requests and commands, or the fault.
-pub fn read(alloc: Global, name: &str, kept: &mut Kept, case: &mut Case) -> Answer {
-    kept.text = text_or_bytes(alloc, name == "conf", case)?;
-    let mut store = store_of(alloc, kept)?;
-    match read_conf(alloc, &kept.text, &mut store) {
+pub fn read(name: &str, kept: &mut Kept, trial: &mut Trial) {
+    kept.text = text_or_bytes(name == "conf", trial);
+    let Some(mut store) = store_of(trial.alloc(), kept) else {
+        return trial.lack_memory();
+    };
+    match read_conf(trial.alloc(), &kept.text, &mut store) {
         Ok(conf) => {
-            let told = summary(alloc, &conf)?;
+            tell_conf(trial, &conf);
             kept.policy = conf.policy;
-            Ok(told)
         }
-        Err(fault) => shown_fault(alloc, fault),
+        Err(fault) => tell_fault(trial, fault),
     }
 }
 
-fn shown_fault(alloc: Global, fault: ConfFault) -> Answer {
-    let number = fault.kind.number();
-    Ok(format!(in alloc;
-        "file {} line {}: {number} {:?}",
-        fault.file, fault.line, fault.kind
-    )?)
+fn tell_fault(trial: &mut Trial, fault: ConfFault) {
+    trial.tell("file ");
+    trial.tell_value(&fault.file);
+    trial.tell(" line ");
+    trial.tell_value(&fault.line);
+    trial.tell(": ");
+    trial.tell_value(&fault.kind.number());
+    trial.tell(" ");
+    trial.tell_debug(&fault.kind);
 }
 
 /// The store of the files that were kept, with the calls that are to fail.
-pub fn store_of(alloc: Global, kept: &Kept) -> Result<MemStore, Bad> {
+pub fn store_of(alloc: Global, kept: &Kept) -> Option<MemStore> {
     let mut files = Vec::new(alloc);
     for file in kept.files.as_slice() {
-        files.push(copy_of(alloc, file)?)?;
+        files.push(copy_of(alloc, file)?).ok()?;
     }
-    Ok(MemStore::new(alloc, files, kept.failing.to_vec(alloc)?))
+    let failing = kept.failing.to_vec(alloc).ok()?;
+    Some(MemStore::new(alloc, files, failing))
 }
 
-fn copy_of(alloc: Global, file: &MemFile) -> Result<MemFile, Bad> {
-    let path = String::from_str(alloc, file.path())?;
-    Ok(MemFile::new(path, file.bytes().to_vec(alloc)?))
+fn copy_of(alloc: Global, file: &MemFile) -> Option<MemFile> {
+    let path = String::from_str(alloc, file.path()).ok()?;
+    let bytes = file.bytes().to_vec(alloc).ok()?;
+    Some(MemFile::new(path, bytes))
 }
 
-fn summary(alloc: Global, conf: &Conf) -> Answer {
-    let mut told = String::from_str(alloc, "read")?;
+fn tell_conf(trial: &mut Trial, conf: &Conf) {
+    trial.tell("read");
     for request in conf.requests.as_slice() {
-        put_request(alloc, &mut told, request)?;
+        tell_request(trial, request);
     }
     for command in conf.commands.as_slice() {
-        put_command(alloc, &mut told, command)?;
+        tell_command(trial, command);
     }
-    Ok(told)
 }
 
-fn put_request(alloc: Global, told: &mut String, request: &Request) -> Result<(), Bad> {
-    let host = shown(alloc, request.host.as_slice())?;
-    let class = shown_class(alloc, request.class.spec())?;
-    write!(told, "; request {class} of {host} at {}", request.port)?;
-    Ok(())
+fn tell_request(trial: &mut Trial, request: &Request) {
+    trial.tell("; request ");
+    tell_class(trial, request.class.spec());
+    trial.tell(" of ");
+    trial.tell_shown(request.host.as_slice());
+    trial.tell(" at ");
+    trial.tell_value(&request.port);
 }
 
-fn put_command(alloc: Global, told: &mut String, command: &Command) -> Result<(), Bad> {
-    told.push_str("; command")?;
+fn tell_command(trial: &mut Trial, command: &Command) {
+    trial.tell("; command");
     for word in command.words.as_slice() {
-        write!(told, " {}", shown(alloc, word.as_bytes())?)?;
+        trial.tell(" ");
+        trial.tell_shown(word.as_bytes());
     }
-    Ok(())
 }

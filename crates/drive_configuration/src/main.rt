@@ -1,7 +1,6 @@
 //! Cases of configuration files: lines and words, patterns, feed expressions, classes, rules of access, and ldmd.conf.
 #![tactic(auto)]
 
-mod bad;
 mod classes;
 mod conf;
 mod mutated;
@@ -9,11 +8,11 @@ mod patterns;
 mod policies;
 mod texts;
 
-use bad::{Answer, Bad};
 use ldm_class::{Class, Policy};
-use ldm_drive::{Case, drive};
+use ldm_drive::{Trial, drive_trials};
 use ldm_outside::MemFile;
 use std::alloc::Global;
+use std::io;
 
 // What earlier lines left.
 #[derive(Drop)]
@@ -26,31 +25,40 @@ struct Kept {
     text: Vec<u8>,
 }
 
-fn main(rt: HostRuntime) -> anyhow::Result<()> {
-    let alloc = rt.alloc();
-    let mut kept = Kept {
-        class: None,
-        policy: Policy::create(alloc)?,
-        files: Vec::new(alloc),
-        failing: Vec::new(alloc),
-        text: Vec::new(alloc),
-    };
-    drive(&rt, |case| Ok(answer(alloc, &mut kept, case)?))
+impl Kept {
+    fn create(alloc: Global) -> Option<Kept> {
+        Some(Kept {
+            class: None,
+            policy: Policy::create(alloc).ok()?,
+            files: Vec::new(alloc),
+            failing: Vec::new(alloc),
+            text: Vec::new(alloc),
+        })
+    }
 }
 
-fn answer(alloc: Global, kept: &mut Kept, case: &mut Case) -> Answer {
-    let name = case.word()?;
+fn main(rt: HostRuntime) -> io::Result<()> {
+    let Some(mut kept) = Kept::create(rt.alloc()) else {
+        println!(rt; "no memory")?;
+        return Ok(());
+    };
+    drive_trials(&rt, |trial| answer(&mut kept, trial))
+}
+
+fn answer(kept: &mut Kept, trial: &mut Trial) {
+    let name = trial.word();
     match name {
-        "lines" | "words" | "blank" | "begins" => texts::answer(alloc, name, case),
-        "find" | "part" | "group" | "feed" | "feed_of" => patterns::answer(alloc, name, case),
-        "class" | "wants" => classes::answer(alloc, name, &mut kept.class, case),
+        "lines" | "words" | "blank" | "begins" => texts::answer(name, trial),
+        "find" | "part" | "group" | "feed" | "feed_of" => patterns::answer(name, trial),
+        "class" => classes::build(&mut kept.class, trial),
+        "wants" => classes::ask(&kept.class, trial),
         "policy" | "policy_all" | "allow" | "accept" => {
-            policies::change(alloc, name, &mut kept.policy, case)
+            policies::change(name, &mut kept.policy, trial)
         }
-        "verdict" | "verdicts" | "reduce" => policies::ask(alloc, name, &kept.policy, case),
-        "file" | "file_of" | "failing" | "forget" => conf::prepare(alloc, name, kept, case),
-        "conf" | "conf_of" => conf::read(alloc, name, kept, case),
-        "mutated" => mutated::read(alloc, kept, case),
-        _ => Err(Bad::Word),
+        "verdict" | "verdicts" | "reduce" => policies::ask(name, &kept.policy, trial),
+        "file" | "file_of" | "failing" | "forget" => conf::prepare(name, kept, trial),
+        "conf" | "conf_of" => conf::read(name, kept, trial),
+        "mutated" => mutated::read(kept, trial),
+        _ => trial.refuse("no such word"),
     }
 }

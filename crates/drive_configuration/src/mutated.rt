@@ -1,10 +1,9 @@
 //! Texts that are changed at random.
 
 use crate::Kept;
-use crate::bad::{Answer, Bad};
 use crate::conf::store_of;
 use ldm_conf::{ConfKind, read_conf};
-use ldm_drive::Case;
+use ldm_drive::Trial;
 use std::alloc::Global;
 
 // What a byte becomes: bytes that lines are made of.
@@ -17,6 +16,23 @@ enum End {
     // At a line, and not for want of memory.
     Refused,
     Other,
+}
+
+// How many texts were read, and how many were refused at a line.
+#[derive(Clone, Copy)]
+struct Counts {
+    read: u32,
+    refused: u32,
+}
+
+impl Counts {
+    fn count(&mut self, end: End) {
+        match end {
+            End::Read => self.read = self.read.saturating_add(1),
+            End::Refused => self.refused = self.refused.saturating_add(1),
+            End::Other => {}
+        }
+    }
 }
 
 fn draw(state: &mut u64) -> usize {
@@ -36,38 +52,49 @@ fn change_byte(text: &mut [u8], state: &mut u64) {
     text[at] = mark;
 }
 
-// How reading ends of a text with up to three bytes changed.
-fn read_changed(alloc: Global, kept: &Kept, state: &mut u64) -> Result<End, Bad> {
-    let mut text = kept.text.as_slice().to_vec(alloc)?;
+// The last ldmd.conf with up to three bytes changed.
+fn changed(alloc: Global, kept: &Kept, state: &mut u64) -> Option<Vec<u8>> {
+    let mut text = kept.text.as_slice().to_vec(alloc).ok()?;
     for _ in 0..3 {
         change_byte(text.as_mut_slice(), state);
     }
-    let mut store = store_of(alloc, kept)?;
+    Some(text)
+}
+
+// How reading ends of a text that was changed.
+fn end_of(alloc: Global, kept: &Kept, state: &mut u64) -> End {
+    let Some(text) = changed(alloc, kept, state) else {
+        return End::Other;
+    };
+    let Some(mut store) = store_of(alloc, kept) else {
+        return End::Other;
+    };
     match read_conf(alloc, text.as_slice(), &mut store) {
-        Ok(_) => Ok(End::Read),
-        Err(fault) if fault.line > 0 && fault.kind != ConfKind::OutOfMemory => Ok(End::Refused),
-        Err(_) => Ok(End::Other),
+        Ok(_) => End::Read,
+        Err(fault) if fault.line > 0 && fault.kind != ConfKind::OutOfMemory => End::Refused,
+        Err(_) => End::Other,
     }
 }
 
 /// Reads the last ldmd.conf so many times, each time with up to three other bytes changed. Each text is read, or refused at a line
 /// and not for want of memory; told is how many were, and whether there are both kinds.
-pub fn read(alloc: Global, kept: &Kept, case: &mut Case) -> Answer {
-    let mut state = case.number()?;
-    let times = case.small()?;
-    let mut read = 0u32;
-    let mut refused = 0u32;
+pub fn read(kept: &Kept, trial: &mut Trial) {
+    let mut state = trial.number();
+    let times = trial.small();
+    let mut counts = Counts {
+        read: 0,
+        refused: 0,
+    };
     for _ in 0..times {
-        match read_changed(alloc, kept, &mut state)? {
-            End::Read => read = read.saturating_add(1),
-            End::Refused => refused = refused.saturating_add(1),
-            End::Other => {}
-        }
+        counts.count(end_of(trial.alloc(), kept, &mut state));
     }
-    let told = u64::from(read).saturating_add(u64::from(refused));
-    Ok(format!(in alloc;
-        "{told} told, some read {}, some refused {}",
-        read > 0,
-        refused > 0
-    )?)
+    tell_counts(trial, counts);
+}
+
+fn tell_counts(trial: &mut Trial, counts: Counts) {
+    trial.tell_number(u64::from(counts.read).saturating_add(u64::from(counts.refused)));
+    trial.tell(" told, some read ");
+    trial.tell_value(&(counts.read > 0));
+    trial.tell(", some refused ");
+    trial.tell_value(&(counts.refused > 0));
 }

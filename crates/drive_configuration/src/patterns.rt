@@ -1,98 +1,95 @@
 //! Patterns and feed expressions.
 
-use crate::bad::{Answer, Bad};
-use ldm_drive::{Case, shown, text_of};
+use ldm_drive::Trial;
 use ldm_feedtype::{feed_text, read_feed};
 use ldm_pattern::{GroupNo, Pattern};
-use std::alloc::Global;
 
 /// Answers a case of a pattern or a feed expression.
-pub fn answer(alloc: Global, name: &str, case: &mut Case) -> Answer {
+pub fn answer(name: &str, trial: &mut Trial) {
     match name {
-        "find" => {
-            let source = word_text(alloc, case)?;
-            find(alloc, &source, &case.text(alloc)?)
-        }
-        "part" => part(alloc, case),
-        "group" => group(alloc, case),
-        _ => feed(alloc, &text_or_bytes(alloc, name == "feed", case)?),
+        "find" => find(trial),
+        "part" => part(trial),
+        "group" => group(trial),
+        _ => feed(name == "feed", trial),
     }
 }
 
-// Whether a pattern is found in a text, or why it is none.
-fn find(alloc: Global, source: &[u8], text: &[u8]) -> Answer {
-    let pattern = match Pattern::build(alloc, source) {
-        Ok(pattern) => pattern,
-        Err(refusal) => return Ok(format!(in alloc; "{refusal:?}")?),
-    };
-    let mut matcher = pattern.matcher(alloc)?;
-    let is_in = pattern.is_in(alloc, text)?;
-    if matcher.finds(text) != is_in || matcher.finds(text) != is_in {
-        return Err(Bad::Differs);
+fn find(trial: &mut Trial) {
+    let source = trial.word_text();
+    let text = trial.text();
+    match Pattern::build(trial.alloc(), &source) {
+        Ok(pattern) => tell_found(trial, &pattern, &text),
+        Err(refusal) => trial.tell_debug(&refusal),
     }
-    Ok(format!(in alloc; "{is_in}")?)
+}
+
+// Whether a pattern is found in a text, in each way in which that is asked.
+fn tell_found(trial: &mut Trial, pattern: &Pattern, text: &[u8]) {
+    let Ok(is_in) = pattern.is_in(trial.alloc(), text) else {
+        return trial.lack_memory();
+    };
+    let Ok(mut matcher) = pattern.matcher(trial.alloc()) else {
+        return trial.lack_memory();
+    };
+    if matcher.finds(text) != is_in || matcher.finds(text) != is_in {
+        return trial.refuse("another answer");
+    }
+    trial.tell_value(&is_in);
+}
+
+fn part(trial: &mut Trial) {
+    let source = trial.word_text();
+    let Some(group) = group_of(trial) else {
+        return trial.refuse("no such group");
+    };
+    let text = trial.text();
+    match Pattern::build(trial.alloc(), &source) {
+        Ok(pattern) => tell_part(trial, &pattern, group, &text),
+        Err(_) => trial.tell("no pattern"),
+    }
 }
 
 // The part of a text that a group has in the first match of a pattern.
-fn part(alloc: Global, case: &mut Case) -> Answer {
-    let source = word_text(alloc, case)?;
-    let group = group_of(case)?.ok_or(Bad::Word)?;
-    part_of(alloc, &source, group, &case.text(alloc)?)
-}
-
-fn part_of(alloc: Global, source: &[u8], group: GroupNo, text: &[u8]) -> Answer {
-    let Ok(pattern) = Pattern::build(alloc, source) else {
-        return Ok(String::from_str(alloc, "no pattern")?);
+fn tell_part(trial: &mut Trial, pattern: &Pattern, group: GroupNo, text: &[u8]) {
+    let Ok(found) = pattern.groups(trial.alloc(), text) else {
+        return trial.lack_memory();
     };
-    let Some(groups) = pattern.groups(alloc, text)? else {
-        return Ok(String::from_str(alloc, "not found")?);
+    let Some(groups) = found else {
+        return trial.tell("not found");
     };
     match groups.part(group) {
-        Some(part) => Ok(shown(alloc, part)?),
-        None => Ok(String::from_str(alloc, "no part")?),
+        Some(part) => trial.tell_shown(part),
+        None => trial.tell("no part"),
     }
 }
 
 // Whether there is a group of the number that a case gives.
-fn group(alloc: Global, case: &mut Case) -> Answer {
-    let group = group_of(case)?;
-    Ok(format!(in alloc; "{}", group.is_some())?)
+fn group(trial: &mut Trial) {
+    let group = group_of(trial);
+    trial.tell_value(&group.is_some());
 }
 
 // The group of the number that a case gives, if there is one.
-fn group_of(case: &mut Case) -> Result<Option<GroupNo>, Bad> {
-    match u8::try_from(case.small()?) {
-        Ok(number) => Ok(GroupNo::new(number)),
-        Err(_) => Err(Bad::Word),
+fn group_of(trial: &mut Trial) -> Option<GroupNo> {
+    match u8::try_from(trial.small()) {
+        Ok(number) => GroupNo::new(number),
+        Err(_) => {
+            trial.refuse("a group is no byte");
+            None
+        }
     }
 }
 
 // The feedtypes that an expression means, or its first fault.
-fn feed(alloc: Global, text: &[u8]) -> Answer {
-    match read_feed(text) {
-        Ok(feed) => Ok(shown_digits(alloc, feed_text(feed).as_slice())?),
-        Err(fault) => Ok(format!(in alloc; "{fault:?}")?),
-    }
-}
-
-fn shown_digits(alloc: Global, digits: &[u8]) -> Answer {
-    match str::from_utf8(digits) {
-        Ok(digits) => Ok(String::from_str(alloc, digits)?),
-        Err(_) => Err(Bad::Word),
+fn feed(is_text: bool, trial: &mut Trial) {
+    let text = text_or_bytes(is_text, trial);
+    match read_feed(&text) {
+        Ok(feed) => trial.tell_text(feed_text(feed).as_slice()),
+        Err(fault) => trial.tell_debug(&fault),
     }
 }
 
 /// The rest of a case, which is text, or its next word, which is bytes.
-pub fn text_or_bytes(alloc: Global, is_text: bool, case: &mut Case) -> Result<Vec<u8>, Bad> {
-    if is_text {
-        Ok(case.text(alloc)?)
-    } else {
-        Ok(case.bytes(alloc)?)
-    }
-}
-
-/// The next word of a case, which is text; `-` is no bytes.
-pub fn word_text(alloc: Global, case: &mut Case) -> Result<Vec<u8>, Bad> {
-    let word = case.word()?;
-    Ok(text_of(alloc, if word == "-" { "" } else { word })?)
+pub fn text_or_bytes(is_text: bool, trial: &mut Trial) -> Vec<u8> {
+    if is_text { trial.text() } else { trial.bytes() }
 }

@@ -1,49 +1,42 @@
 //! Rules of access.
 
-use crate::bad::{Answer, Bad};
-use crate::classes::{class_of, feed_word, product, shown_class};
-use crate::patterns::word_text;
+use crate::classes::{class_of, feed_in, product, tell_class};
 use ldm_class::{Policy, PolicyFault, Reduced};
-use ldm_drive::Case;
-use ldm_types::{ClassSpec, Info};
-use std::alloc::Global;
+use ldm_drive::Trial;
 
 /// Begins a policy, or adds a rule to it.
-pub fn change(alloc: Global, name: &str, policy: &mut Policy, case: &mut Case) -> Answer {
-    let added = match name {
-        "allow" => allow(alloc, policy, case)?,
-        "accept" => accept(alloc, policy, case)?,
-        _ => {
-            begin(alloc, name == "policy_all", policy)?;
-            Ok(())
-        }
-    };
-    match added {
-        Ok(()) => Ok(String::from_str(alloc, "done")?),
-        Err(fault) => Ok(format!(in alloc; "{fault:?}")?),
+pub fn change(name: &str, policy: &mut Policy, trial: &mut Trial) {
+    match name {
+        "allow" => allow(policy, trial),
+        "accept" => accept(policy, trial),
+        _ => begin(name == "policy_all", policy, trial),
     }
 }
 
-fn begin(alloc: Global, is_for_all: bool, policy: &mut Policy) -> Result<(), Bad> {
-    *policy = if is_for_all {
-        Policy::all(alloc)?
+fn begin(is_for_all: bool, policy: &mut Policy, trial: &mut Trial) {
+    let begun = if is_for_all {
+        Policy::all(trial.alloc())
     } else {
-        Policy::create(alloc)?
+        Policy::create(trial.alloc())
     };
-    Ok(())
+    match begun {
+        Ok(begun) => {
+            *policy = begun;
+            trial.tell("done");
+        }
+        Err(_) => trial.lack_memory(),
+    }
 }
 
 // An ALLOW rule: feedtypes, host, okpattern and notpattern, of which the last two may be `-` for none.
-fn allow(
-    alloc: Global,
-    policy: &mut Policy,
-    case: &mut Case,
-) -> Result<Result<(), PolicyFault>, Bad> {
-    let feed = feed_word(case.word()?)?;
-    let host = word_text(alloc, case)?;
-    let ok = word_text(alloc, case)?;
-    let not = word_text(alloc, case)?;
-    Ok(policy.add_allow(alloc, feed, &host, given(&ok), given(&not)))
+fn allow(policy: &mut Policy, trial: &mut Trial) {
+    let word = trial.word();
+    let feed = feed_in(trial, word);
+    let host = trial.word_text();
+    let ok = trial.word_text();
+    let not = trial.word_text();
+    let added = policy.add_allow(trial.alloc(), feed, &host, given(&ok), given(&not));
+    tell_added(trial, added);
 }
 
 fn given(pattern: &[u8]) -> Option<&[u8]> {
@@ -55,54 +48,83 @@ fn given(pattern: &[u8]) -> Option<&[u8]> {
 }
 
 // An ACCEPT rule: feedtypes, pattern and host.
-fn accept(
-    alloc: Global,
-    policy: &mut Policy,
-    case: &mut Case,
-) -> Result<Result<(), PolicyFault>, Bad> {
-    let feed = feed_word(case.word()?)?;
-    let pattern = word_text(alloc, case)?;
-    let host = word_text(alloc, case)?;
-    Ok(policy.add_accept(alloc, feed, &pattern, &host))
+fn accept(policy: &mut Policy, trial: &mut Trial) {
+    let word = trial.word();
+    let feed = feed_in(trial, word);
+    let pattern = trial.word_text();
+    let host = trial.word_text();
+    let added = policy.add_accept(trial.alloc(), feed, &pattern, &host);
+    tell_added(trial, added);
+}
+
+fn tell_added(trial: &mut Trial, added: Result<(), PolicyFault>) {
+    match added {
+        Ok(()) => trial.tell("done"),
+        Err(fault) => trial.tell_debug(&fault),
+    }
 }
 
 /// Asks the rules about a host, which is to push or to be fed.
-pub fn ask(alloc: Global, name: &str, policy: &Policy, case: &mut Case) -> Answer {
-    let push = match case.word()? {
+pub fn ask(name: &str, policy: &Policy, trial: &mut Trial) {
+    let push = match trial.word() {
         "push" => true,
         "feed" => false,
-        _ => return Err(Bad::Word),
+        _ => return trial.refuse("`push` or `feed` is missing"),
     };
-    let host = word_text(alloc, case)?;
+    let host = trial.word_text();
     match name {
-        "reduce" => reduce(alloc, policy, &host, &class_of(alloc, case)?, push),
-        "verdict" => verdict(alloc, policy, &host, &product(alloc, case)?, push),
-        _ => verdicts(alloc, policy, &host, &product(alloc, case)?, push),
+        "reduce" => reduce(policy, &host, push, trial),
+        "verdict" => verdict(policy, &host, push, trial),
+        _ => verdicts(policy, &host, push, trial),
     }
 }
 
 // Whether a host may push a product, or be fed it.
-fn verdict(alloc: Global, policy: &Policy, host: &[u8], info: &Info, push: bool) -> Answer {
-    let verdict = policy.verdict(alloc, host, info, push)?;
-    Ok(format!(in alloc; "{verdict:?}")?)
+fn verdict(policy: &Policy, host: &[u8], push: bool, trial: &mut Trial) {
+    let Some(info) = product(trial) else {
+        return trial.refuse("no product");
+    };
+    match policy.verdict(trial.alloc(), host, &info, push) {
+        Ok(verdict) => trial.tell_debug(&verdict),
+        Err(_) => trial.lack_memory(),
+    }
 }
 
 // The same of the policy of the host, asked twice.
-fn verdicts(alloc: Global, policy: &Policy, host: &[u8], info: &Info, push: bool) -> Answer {
-    let mut policy = policy.for_host(alloc, host, push)?;
+fn verdicts(policy: &Policy, host: &[u8], push: bool, trial: &mut Trial) {
+    let Some(info) = product(trial) else {
+        return trial.refuse("no product");
+    };
+    let Ok(mut policy) = policy.for_host(trial.alloc(), host, push) else {
+        return trial.lack_memory();
+    };
     if policy.host() != host {
-        return Err(Bad::Differs);
+        return trial.refuse("another host");
     }
-    let first = policy.verdict(info);
-    let second = policy.verdict(info);
-    Ok(format!(in alloc; "{first:?} {second:?}")?)
+    trial.tell_debug(&policy.verdict(&info));
+    trial.tell(" ");
+    trial.tell_debug(&policy.verdict(&info));
 }
 
 // What is left of a class that a host wants to push, or to be fed.
-fn reduce(alloc: Global, policy: &Policy, host: &[u8], class: &ClassSpec, push: bool) -> Answer {
-    match policy.reduce(alloc, host, class, push)? {
-        Reduced::Same => Ok(String::from_str(alloc, "Same")?),
-        Reduced::Fewer(left) => shown_class(alloc, &left),
-        Reduced::Nothing { rule } => Ok(format!(in alloc; "Nothing {{ rule: {rule} }}")?),
+fn reduce(policy: &Policy, host: &[u8], push: bool, trial: &mut Trial) {
+    let Some(class) = class_of(trial) else {
+        return trial.refuse("no class");
+    };
+    match policy.reduce(trial.alloc(), host, &class, push) {
+        Ok(reduced) => tell_reduced(trial, &reduced),
+        Err(_) => trial.lack_memory(),
+    }
+}
+
+fn tell_reduced(trial: &mut Trial, reduced: &Reduced) {
+    match reduced {
+        Reduced::Same => trial.tell("Same"),
+        Reduced::Fewer(left) => tell_class(trial, left),
+        Reduced::Nothing { rule } => {
+            trial.tell("Nothing { rule: ");
+            trial.tell_value(rule);
+            trial.tell(" }");
+        }
     }
 }

@@ -1,52 +1,49 @@
 //! Lines and words of texts.
 
-use crate::bad::{Answer, Bad};
-use ldm_drive::{Case, shown};
+use ldm_drive::Trial;
 use ldm_text::{Comments, begins_with, first_line, first_word, is_blank_text, to_word};
-use std::alloc::Global;
 
 /// Answers a case of a text.
-pub fn answer(alloc: Global, name: &str, case: &mut Case) -> Answer {
+pub fn answer(name: &str, trial: &mut Trial) {
     match name {
-        "lines" => lines(alloc, &case.text(alloc)?),
-        "words" => {
-            let comments = comments_of(case.word()?)?;
-            words(alloc, comments, &case.text(alloc)?)
-        }
-        "blank" => Ok(format!(in alloc; "{}", is_blank_text(&case.text(alloc)?))?),
-        _ => begins(alloc, case),
+        "lines" => lines(trial),
+        "words" => words(trial),
+        "blank" => blank(trial),
+        _ => begins(trial),
     }
 }
 
 // The lines of a text.
-fn lines(alloc: Global, text: &[u8]) -> Answer {
-    let mut told = String::from_str(alloc, "lines")?;
-    let mut rest = Some(text);
+fn lines(trial: &mut Trial) {
+    let text = trial.text();
+    trial.tell("lines");
+    let mut rest = Some(text.as_slice());
     for _ in 0..=text.len() {
         let Some(left) = rest else { break };
         let (line, behind) = first_line(left);
-        put(alloc, &mut told, line)?;
+        tell_part(trial, line);
         rest = behind;
     }
-    Ok(told)
 }
 
-fn put(alloc: Global, told: &mut String, part: &[u8]) -> Result<(), Bad> {
-    write!(told, " {}", shown(alloc, part)?)?;
-    Ok(())
+fn tell_part(trial: &mut Trial, part: &[u8]) {
+    trial.tell(" ");
+    trial.tell_shown(part);
 }
 
-fn comments_of(word: &str) -> Result<Comments, Bad> {
-    match word {
-        "hash" => Ok(Comments::Hash),
-        "never" => Ok(Comments::Never),
-        _ => Err(Bad::Word),
-    }
+fn words(trial: &mut Trial) {
+    let comments = match trial.word() {
+        "hash" => Comments::Hash,
+        "never" => Comments::Never,
+        _ => return trial.refuse("`hash` or `never` is missing"),
+    };
+    let text = trial.text();
+    trial.tell("words");
+    tell_words(trial, comments, &text);
 }
 
 // The words of a text, up to the first with a wrong quote.
-fn words(alloc: Global, comments: Comments, text: &[u8]) -> Answer {
-    let mut told = String::from_str(alloc, "words")?;
+fn tell_words(trial: &mut Trial, comments: Comments, text: &[u8]) {
     let mut left = text;
     for _ in 0..=text.len() {
         let rest = to_word(comments, left);
@@ -54,17 +51,25 @@ fn words(alloc: Global, comments: Comments, text: &[u8]) -> Answer {
             break;
         }
         let Some((word, behind)) = first_word(comments, rest) else {
-            told.push_str(" and a wrong quote")?;
+            trial.tell(" and a wrong quote");
             break;
         };
-        put(alloc, &mut told, word)?;
+        tell_part(trial, word);
         left = behind;
     }
-    Ok(told)
+}
+
+// Whether a text is blank.
+fn blank(trial: &mut Trial) {
+    let text = trial.text();
+    trial.tell_value(&is_blank_text(&text));
 }
 
 // Whether a text begins with a byte.
-fn begins(alloc: Global, case: &mut Case) -> Answer {
-    let byte = *case.word()?.as_bytes().first().ok_or(Bad::Word)?;
-    Ok(format!(in alloc; "{}", begins_with(byte, &case.text(alloc)?))?)
+fn begins(trial: &mut Trial) {
+    let Some(byte) = trial.word().as_bytes().first() else {
+        return trial.refuse("a byte is missing");
+    };
+    let text = trial.text();
+    trial.tell_value(&begins_with(*byte, &text));
 }
