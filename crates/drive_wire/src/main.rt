@@ -10,7 +10,7 @@ mod records;
 
 use ldm_drive::{Trial, drive_trials};
 use messages::{
-    made_message, read_as_call, read_as_refusal, read_as_reply, refusal_owed, with_room,
+    head, made_message, read_as_call, read_as_refusal, read_as_reply, refusal_owed, with_room,
 };
 use mutated::{Sample, add_sample, mutate};
 use pieces::{cuts, random_pieces};
@@ -30,6 +30,7 @@ fn answer(samples: &mut Vec<Sample>, trial: &mut Trial) {
         "refusal" => read_as_refusal(trial),
         "made" => made_message(trial),
         "room" => with_room(trial),
+        "head" => head(trial),
         "owed" => refusal_owed(trial),
         "sample" => add_sample(samples, trial),
         "mutate" => mutate(samples, trial),

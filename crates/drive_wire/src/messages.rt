@@ -9,7 +9,7 @@ ghost use Rattle.ldm_relay.specs.declared.message.TheConstants.{LARGEST_CONTENT}
 use ldm_drive::Trial;
 use ldm_relay::{
     CallWithBody, Hereis, LARGEST_BLOCK, LARGEST_CONTENT, Message, RelayFault, read_call,
-    read_refusal, read_reply, write_message, write_with_room,
+    read_refusal, read_reply, write_head, write_message, write_with_room,
 };
 use ldm_types::{Feed, Info, Micros, Signature};
 use std::alloc::Global;
@@ -150,22 +150,29 @@ fn tell_with_room(trial: &mut Trial, procedure: u32, info: &Info, body: &[u8])
     requires metadata { metadata_len info.now ≡ 52 }
     requires short { length body.now ≤ 16384 }
 {
-    let signature = Signature([1; 16]);
-    let len = body.len() as u32;
+    match call_of(procedure, info) {
+        Some(call) => tell_filled(trial, &call, body),
+        None => trial.refuse("no call with a body"),
+    }
+}
+
+// A call of that procedure with a body of so many bytes as the metadata tell.
+fn call_of(procedure: u32, info: &Info) -> Option<CallWithBody<'_>>
+    requires metadata { metadata_len info.now ≡ 52 }
+    requires short { info.now.size ≤ 1000000 }
+    ensures { IfSome result (λ call. CanCarry call × (body_len call ≡ info.now.size)) }
+{
+    let size = info.size();
     match procedure {
-        1 => tell_filled(trial, &CallWithBody::Hereis { xid: 1, info }, body),
-        13 => tell_filled(
-            trial,
-            &CallWithBody::Blkdata {
-                xid: 1,
-                signature,
-                number: 2,
-                len,
-            },
-            body,
-        ),
-        101 => tell_filled(trial, &CallWithBody::Put { xid: 1, info }, body),
-        _ => trial.refuse("no call with a body"),
+        1 => Some(CallWithBody::Hereis { xid: 1, info }),
+        13 if size as usize <= LARGEST_BLOCK => Some(CallWithBody::Blkdata {
+            xid: 1,
+            signature: Signature([1; 16]),
+            number: 2,
+            len: size,
+        }),
+        101 => Some(CallWithBody::Put { xid: 1, info }),
+        _ => None,
     }
 }
 
@@ -187,6 +194,52 @@ fn filled(alloc: Global, call: &CallWithBody, body: &[u8]) -> Option<Vec<u8>>
     let place = write_with_room(call, &mut out).ok()?;
     out[place.start..place.start + place.len].copy_from_slice(body);
     Some(out)
+}
+
+/// `head PROCEDURE SIZE`: the record of a HEREIS, a PUT or a BLKDATA up to a body of that size, and how many bytes of padding
+/// follow the body.
+pub fn head(trial: &mut Trial) {
+    let procedure = trial.small();
+    let size = trial.small();
+    if size > 1_000_000 {
+        return trial.refuse("a long body");
+    }
+    match info_of(size) {
+        Some(info) => tell_head_of(trial, procedure, &info),
+        None => trial.refuse("no metadata"),
+    }
+}
+
+fn tell_head_of(trial: &mut Trial, procedure: u32, info: &Info)
+    requires metadata { metadata_len info.now ≡ 52 }
+    requires short { info.now.size ≤ 1000000 }
+{
+    match call_of(procedure, info) {
+        Some(call) => tell_head(trial, &call),
+        None => trial.refuse("no call with a body"),
+    }
+}
+
+fn tell_head(trial: &mut Trial, call: &CallWithBody)
+    requires { CanCarry call.now }
+{
+    match headed(trial.alloc(), call) {
+        Some((out, padding)) => {
+            trial.tell_digits(out.get(6..).unwrap_or(&[]));
+            trial.tell(", padding ");
+            trial.tell_number(padding as u64);
+        }
+        None => trial.lack_memory(),
+    }
+}
+
+// The record up to its body, behind what stands there, and the padding.
+fn headed(alloc: Global, call: &CallWithBody) -> Option<(Vec<u8>, usize)>
+    requires { CanCarry call.now }
+{
+    let mut out = Vec::from_slice(alloc, b"before").ok()?;
+    let padding = write_head(call, &mut out).ok()?;
+    Some((out, padding))
 }
 
 /// `owed RECORD`: the refusal that a call is owed which cannot be read.
