@@ -1,89 +1,115 @@
 //! Lines of scripts as `ldm_script` reads and writes them.
+ghost use Rattle.ldm_script.specs.OrderView.{IsWritable};
 
-use crate::streams::Outcome;
-use anyhow::{Result, bail, ensure};
-use ldm_drive::{Case, digits_of};
-use ldm_script::{Act, Text, read_line, text_into, write_line};
+use ldm_drive::Trial;
+use ldm_script::{Act, Order, Text, read_line, text_into, write_line};
 use ldm_types::Actor;
 use std::alloc::Global;
 use std::str::from_utf8;
 
 /// `line ACTORS TEXT`: `skipped`, the column of the first fault, or the canonical spelling.
-pub fn line(alloc: Global, case: &mut Case) -> Result<String> {
-    let actors = case.small()?;
-    told(alloc, &case.text(alloc)?, actors)
+pub fn line(trial: &mut Trial) {
+    let actors = trial.small();
+    let line = trial.text();
+    tell_read(trial, &line, actors);
 }
 
 /// `coded ACTORS BYTES`: the same of a line that is given as bytes.
-pub fn coded_line(alloc: Global, case: &mut Case) -> Result<String> {
-    let actors = case.small()?;
-    told(alloc, &case.bytes(alloc)?, actors)
+pub fn coded_line(trial: &mut Trial) {
+    let actors = trial.small();
+    let line = trial.bytes();
+    tell_read(trial, &line, actors);
+}
+
+fn tell_read(trial: &mut Trial, line: &[u8], actors: u32) {
+    if actors > Actor::COUNT {
+        return trial.refuse("too many actors");
+    }
+    match read_line(line, actors) {
+        Ok(None) => trial.tell("skipped"),
+        Ok(Some(order)) => tell_order(trial, &order),
+        Err(bad) => {
+            trial.tell("column ");
+            trial.tell_value(&bad.column);
+        }
+    }
+}
+
+fn tell_order(trial: &mut Trial, order: &Order)
+    requires { IsWritable order.now.act }
+{
+    match written(trial.alloc(), order) {
+        Some(line) => trial.tell_text(&line),
+        None => trial.lack_memory(),
+    }
+}
+
+fn written(alloc: Global, order: &Order) -> Option<Vec<u8>>
+    requires { IsWritable order.now.act }
+{
+    let mut line = Vec::new(alloc);
+    write_line(order, &mut line).ok()?;
+    Some(line)
 }
 
 /// `stays ACTORS TEXT`: whether a line is written as it stands.
-pub fn stays(alloc: Global, case: &mut Case) -> Result<String> {
-    let actors = case.small()?;
-    let line = case.text(alloc)?;
-    let same = told(alloc, &line, actors)?.as_bytes() == line.as_slice();
-    Ok(format!(in alloc; "{same}")?)
+pub fn stays(trial: &mut Trial) {
+    let actors = trial.small();
+    let line = trial.text();
+    if actors > Actor::COUNT {
+        return trial.refuse("too many actors");
+    }
+    match read_line(&line, actors) {
+        Ok(Some(order)) => tell_stays(trial, &order, &line),
+        _ => trial.tell("false"),
+    }
 }
 
-fn told(alloc: Global, line: &[u8], actors: u32) -> Result<String> {
-    ensure!(actors <= Actor::COUNT, "too many actors");
-    match read_line(line, actors) {
-        Ok(None) => Ok(String::from_str(alloc, "skipped")?),
-        Err(bad) => Ok(format!(in alloc; "column {}", bad.column)?),
-        Ok(Some(order)) => {
-            let mut out = Vec::new(alloc);
-            write_line(&order, &mut out)?;
-            Ok(String::from_str(alloc, from_utf8(&out)?)?)
-        }
+// Whether an order is written as this line.
+fn tell_stays(trial: &mut Trial, order: &Order, line: &[u8])
+    requires { IsWritable order.now.act }
+{
+    match written(trial.alloc(), order) {
+        Some(spelled) => trial.tell_value(&(spelled.as_slice() == line)),
+        None => trial.lack_memory(),
     }
 }
 
 /// `ident BYTES`: how these bytes are spelled, and what an insertion with that ident is read as: its ident, and whether it is
 /// written as it was.
-pub fn ident(alloc: Global, case: &mut Case) -> Result<String> {
-    let bytes = case.bytes(alloc)?;
-    ensure!(bytes.len() <= 255, "an ident has at most 255 bytes");
+pub fn ident(trial: &mut Trial) {
+    let bytes = trial.bytes();
+    if bytes.len() > 255 {
+        return trial.refuse("an ident has at most 255 bytes");
+    }
     let mut spelled = Text::new();
     text_into(&bytes, &mut spelled);
-    let spelled = from_utf8(spelled.as_slice())?;
-    let line = format!(in alloc; "0 insert 0 {:032x} 0x00000000 0 - {spelled} -", 0)?;
-    let same = told(alloc, line.as_bytes(), Actor::COUNT)?.as_str() == line.as_str();
-    let Ok(Some(order)) = read_line(line.as_bytes(), Actor::COUNT) else {
-        bail!("not read");
-    };
-    let Act::Insert { info, .. } = &order.act else {
-        bail!("no insertion");
-    };
-    let digits = digits_of(alloc, info.ident())?;
-    Ok(format!(in alloc; "{spelled} {digits} {same}")?)
+    trial.tell_text(spelled.as_slice());
+    trial.tell(" ");
+    match insertion(trial.alloc(), spelled.as_slice()) {
+        Some(line) => tell_inserted(trial, line.as_bytes()),
+        None => trial.lack_memory(),
+    }
 }
 
-/// The status of a run and the lines that it wrote, each with how often it stands there in a row.
-pub fn count_line(alloc: Global, outcome: &Outcome) -> Result<String> {
-    let mut text = format!(in alloc; "{}", outcome.status)?;
-    let lines: Vec<&str> = from_utf8(&outcome.written)?.split('\n').collect(alloc)?;
-    let mut times = 0u64;
-    for (i, line) in lines.iter().enumerate() {
-        times = times.saturating_add(1);
-        let goes_on = match lines.get(i.saturating_add(1)) {
-            Some(next) => *next == *line,
-            None => false,
-        };
-        if !goes_on {
-            add_count(alloc, &mut text, line, times)?;
-            times = 0;
-        }
-    }
-    Ok(text)
+// The line of an insertion with an ident that is spelled so.
+fn insertion(alloc: Global, spelled: &[u8]) -> Option<String> {
+    let spelled = from_utf8(spelled).ok()?;
+    format!(in alloc; "0 insert 0 {:032x} 0x00000000 0 - {spelled} -", 0).ok()
 }
 
-fn add_count(alloc: Global, text: &mut String, line: &str, times: u64) -> Result<()> {
-    if !line.is_empty() {
-        let counted = format!(in alloc; ", {times} of {line}")?;
-        text.push_str(counted.as_str())?;
+fn tell_inserted(trial: &mut Trial, line: &[u8]) {
+    let Ok(Some(order)) = read_line(line, Actor::COUNT) else {
+        return trial.refuse("not read");
+    };
+    tell_ident(trial, &order.act);
+    trial.tell(" ");
+    tell_stays(trial, &order, line);
+}
+
+fn tell_ident(trial: &mut Trial, act: &Act) {
+    match act {
+        Act::Insert { info, .. } => trial.tell_digits(info.ident()),
+        _ => trial.refuse("no insertion"),
     }
-    Ok(())
 }

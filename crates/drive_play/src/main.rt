@@ -5,39 +5,33 @@ mod lines;
 mod play;
 mod streams;
 
-use crate::lines::{coded_line, count_line, ident, line, stays};
+use crate::lines::{coded_line, ident, line, stays};
 use crate::play::Play;
-use anyhow::{Result, bail};
-use ldm_drive::{Case, drive};
-use std::alloc::Global;
+use ldm_drive::{Trial, drive_trials};
+use std::io;
 use std::sync::Wait;
 use std::thread::Threads;
 
 // What is said to a case.
-fn answer<H: Threads + Wait + Sync>(
-    rt: &H,
-    alloc: Global,
-    play: &mut Play,
-    case: &mut Case,
-) -> Result<String> {
-    match case.word()? {
-        "queue" => play.begin(rt, alloc, case),
-        ">" => play.line(rt, alloc, case),
-        "script" => play.script(alloc, case),
-        "more" => play.more(alloc, case),
-        "rounds" => play.rounds(alloc, case),
-        "with" => play.with(alloc, case),
-        "run" => play.run(rt, alloc, case),
-        "count" => count_line(alloc, &play.outcome_of(rt, alloc, case)?),
-        "line" => line(alloc, case),
-        "coded" => coded_line(alloc, case),
-        "stays" => stays(alloc, case),
-        "ident" => ident(alloc, case),
-        _ => bail!("no such word"),
+fn answer<H: Threads + Wait + Sync>(rt: &H, play: &mut Play, trial: &mut Trial) {
+    match trial.word() {
+        "queue" => play.begin(rt, trial),
+        ">" => play.line(rt, trial),
+        "script" => play.script(trial),
+        "more" => play.more(trial),
+        "rounds" => play.rounds(trial),
+        "with" => play.with(trial),
+        "run" => play.run(rt, trial),
+        "count" => play.count(rt, trial),
+        "line" => line(trial),
+        "coded" => coded_line(trial),
+        "stays" => stays(trial),
+        "ident" => ident(trial),
+        _ => trial.refuse("no such word"),
     }
 }
 
-fn main(rt: HostRuntime) -> Result<()> {
+fn main(rt: HostRuntime) -> io::Result<()> {
     let mut play = Play::new(rt.alloc());
-    drive(&rt, |case| answer(&rt, rt.alloc(), &mut play, case))
+    drive_trials(&rt, |trial| answer(&rt, &mut play, trial))
 }

@@ -1,11 +1,11 @@
 //! How the streams of a run behave, and what a run leaves.
 
-use anyhow::{Context, Result};
 use ldm_commands::run_ldm;
-use ldm_drive::Case;
+use ldm_drive::Trial;
 use ldm_outside::{MemSink, MemSource};
 use ldm_status::World;
 use std::alloc::{AllocError, Global};
+use std::str::from_utf8;
 use std::sync::Wait;
 use std::thread::Threads;
 
@@ -41,16 +41,16 @@ impl Plan {
     };
 
     // The plan of a word `MOST/CALL`, in which `-` stands for no limit and for no call.
-    fn of(word: &str) -> Result<Plan> {
-        let (most, call) = word.split_once('/').context("a plan is MOST/CALL")?;
+    fn of(word: &str) -> Option<Plan> {
+        let (most, call) = word.split_once('/')?;
         let mut plan = Plan::GOOD;
         if most != "-" {
-            plan.most = most.parse::<usize>().context("MOST is no number")?;
+            plan.most = most.parse::<usize>().ok()?;
         }
         if call != "-" {
-            plan.failing = Some(call.parse::<u64>().context("CALL is no number")?);
+            plan.failing = Some(call.parse::<u64>().ok()?);
         }
-        Ok(plan)
+        Some(plan)
     }
 
     fn failing_calls(self, alloc: Global) -> Result<Vec<u64>, AllocError> {
@@ -83,33 +83,101 @@ impl Plans {
     };
 
     /// The plans of three words: for the source, the sink and the log.
-    pub fn of(case: &mut Case) -> Result<Plans> {
-        let source = Plan::of(case.word()?)?;
-        let sink = Plan::of(case.word()?)?;
-        let log = Plan::of(case.word()?)?;
-        Ok(Plans { source, sink, log })
+    pub fn of(trial: &mut Trial) -> Option<Plans> {
+        let source = Plan::of(trial.word())?;
+        let sink = Plan::of(trial.word())?;
+        let log = Plan::of(trial.word())?;
+        Some(Plans { source, sink, log })
     }
 
-    /// What a run of these words over a script leaves.
+    fn world(
+        self,
+        alloc: Global,
+        script: &[u8],
+    ) -> Result<World<MemSource, MemSink, MemSink>, AllocError> {
+        Ok(World {
+            source: self.source.source(alloc, script)?,
+            sink: self.sink.sink(alloc)?,
+            log: self.log.sink(alloc)?,
+        })
+    }
+
+    /// What a run of these words over a script leaves, if there is memory to tell it.
     pub fn outcome<H: Threads + Wait + Sync>(
         self,
         rt: &H,
         alloc: Global,
         words: &[String],
         script: &[u8],
-    ) -> Result<Outcome> {
-        let mut world = World {
-            source: self.source.source(alloc, script)?,
-            sink: self.sink.sink(alloc)?,
-            log: self.log.sink(alloc)?,
-        };
+    ) -> Option<Outcome> {
+        let mut world = self.world(alloc, script).ok()?;
         let status = run_ldm(rt, alloc, words, &mut world);
-        let written = world.sink.written().to_vec(alloc)?;
-        let log = world.log.written().to_vec(alloc)?;
-        Ok(Outcome {
+        let written = world.sink.written().to_vec(alloc).ok()?;
+        let log = world.log.written().to_vec(alloc).ok()?;
+        Some(Outcome {
             status,
             written,
             log,
         })
+    }
+}
+
+// Text without the newlines at its end.
+fn trimmed(bytes: &[u8]) -> &str {
+    match from_utf8(bytes) {
+        Ok(text) => text.trim_end_matches('\n'),
+        Err(_) => "no text",
+    }
+}
+
+impl Outcome {
+    /// Tells what is new of the answers, `-` for nothing, and where the status is another than 0, this and the log.
+    pub fn tell_fresh(&self, fresh: &[u8], trial: &mut Trial) {
+        let text = trimmed(fresh);
+        trial.tell(if text.is_empty() { "-" } else { text });
+        if self.status != 0 {
+            trial.tell(" status ");
+            trial.tell_value(&self.status);
+            trial.tell(" ");
+            trial.tell(trimmed(&self.log));
+        }
+    }
+
+    /// Tells the status, the answers and the log.
+    pub fn tell_run(&self, trial: &mut Trial) {
+        trial.tell_value(&self.status);
+        trial.tell(" ");
+        trial.tell_shown(&self.written);
+        trial.tell(" ");
+        trial.tell_shown(&self.log);
+    }
+
+    /// Tells the status and the answers, each line with how often it stands there in a row.
+    pub fn tell_counts(&self, trial: &mut Trial) {
+        trial.tell_value(&self.status);
+        let Ok(text) = from_utf8(&self.written) else {
+            return trial.refuse("no text");
+        };
+        let mut last = "";
+        let mut times = 0u64;
+        for line in text.split('\n') {
+            if line == last {
+                times = times.saturating_add(1);
+            } else {
+                tell_count(trial, last, times);
+                last = line;
+                times = 1;
+            }
+        }
+        tell_count(trial, last, times);
+    }
+}
+
+fn tell_count(trial: &mut Trial, line: &str, times: u64) {
+    if !line.is_empty() {
+        trial.tell(", ");
+        trial.tell_value(&times);
+        trial.tell(" of ");
+        trial.tell(line);
     }
 }

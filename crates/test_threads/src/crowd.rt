@@ -2,13 +2,12 @@ ghost use Rattle.std.specs.Prelude.{◌≡◌, ◌<◌, ◌≤◌, length};
 ghost use Rattle.std.specs.Vec.{vec_len};
 ghost use Rattle.ldm_outside.specs.declared.gate.Go.{Go};
 
-use itoa::Buffer;
-use ldm_crowd::{Crowd, CrowdEnd, MOST_SCRIPT, Orders, OrdersFault, crowd};
+use ldm_crowd::{Crowd, CrowdEnd, MOST_SCRIPT, Orders, crowd};
 use ldm_model::Stat;
 use ldm_outside::{Gate, Go, MemGate, OpenGate};
 use ldm_shared::Shared;
 use ldm_types::Actor;
-use std::alloc::{AllocError, Global};
+use std::alloc::Global;
 use std::process::Abort;
 use std::sync::Wait;
 use std::sync::atomic::{AtomicBool, Ordering};
@@ -184,80 +183,5 @@ fn a_gate_stops_its_worker(rt: HostRuntime) -> Result<(), Fail> {
     assert!(rt; crowd.answers[0].as_slice() == b"0 stat 0 0 0 0 168\n".as_slice());
     assert!(rt; crowd.gates.len() == 1);
     assert!(rt; crowd.gates[0].stops() == 1 && crowd.gates[0].told().len() == 2);
-    Ok(())
-}
-
-// How many answers each of two actors gets.
-fn answered<H: Threads + Wait + Sync>(
-    rt: &H,
-    alloc: Global,
-    text: &[u8],
-) -> Result<(usize, usize), Fail> {
-    let crowd = played(rt, alloc, text, 2, vec![in alloc; OpenGate; 2]?)?;
-    let mut counts = (0, 0);
-    for (actor, answers) in crowd.answers.iter().enumerate() {
-        let lines = answers.iter().filter(|byte| **byte == b'\n').count();
-        if actor == 0 {
-            counts.0 = lines;
-        } else {
-            counts.1 = lines;
-        }
-    }
-    Ok(counts)
-}
-
-#[test]
-fn lines_are_dealt_out(rt: HostRuntime) -> Result<(), Fail> {
-    for (text, wanted) in [
-        (b"".as_slice(), (0, 0)),
-        (b"\n# a\n\n#", (0, 0)),
-        (b"1 stat\n0 expire\n1 stat", (1, 2)),
-        (b"1 stat\n\n0 expire\n# 0 stat\n1 stat\n", (1, 2)),
-    ] {
-        assert!(rt; answered(&rt, rt.alloc(), text)? == wanted);
-    }
-    Ok(())
-}
-
-#[test]
-fn bad_lines_are_told(rt: HostRuntime) {
-    for (text, line, column) in [
-        (b"1 stat\n0 expire\n1 look 0101".as_slice(), 3, 8),
-        (b"0 stat\n2 stat\n", 2, 1),
-        (b"0 stat\n#\n0 stat x\n2 stat\n", 3, 7),
-        (b"0 sta", 1, 3),
-    ] {
-        if text.len() <= 100 {
-            let fault = Orders::read(rt.alloc(), text, 2).err();
-            assert!(rt; fault == Some(OrdersFault::BadLine { line, column }));
-        }
-    }
-}
-
-// A script of so many rounds, in each of which every actor has one line.
-fn rounds(alloc: Global, count: u32) -> Result<Vec<u8>, AllocError> {
-    let mut text = Vec::new(alloc);
-    for _ in 0..count {
-        for actor in 0..Actor::COUNT {
-            let mut digits = Buffer::new();
-            text.extend_from_slice(digits.format(actor).as_bytes())?;
-            text.extend_from_slice(b" expire\n")?;
-        }
-    }
-    Ok(text)
-}
-
-#[test]
-fn sixty_four_workers_play_all_lines(rt: HostRuntime) -> Result<(), Fail> {
-    let alloc = rt.alloc();
-    let text = rounds(alloc, 1_000)?;
-    let gates = vec![in alloc; OpenGate; 64]?;
-    let crowd = played(&rt, alloc, &text, 64, gates)?;
-    assert!(rt; crowd.end == CrowdEnd::Done);
-    let mut lines = 0usize;
-    for answers in &crowd.answers {
-        lines = lines.saturating_add(answers.iter().filter(|byte| **byte == b'\n').count());
-    }
-    assert!(rt; lines == 64_000);
     Ok(())
 }

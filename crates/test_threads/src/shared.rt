@@ -1,7 +1,6 @@
 ghost use Rattle.std.specs.Prelude.{◌≡◌, [], IfOk};
 ghost use Rattle.ldm_shared.specs.Passes.{IsPassOf};
 
-mod answers;
 mod threads;
 mod worker;
 
