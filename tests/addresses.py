@@ -2,8 +2,9 @@
 """Looks at the links over TCP of ldm_adapters from addresses that the cases of drive_outside do not reach.
 
 The library cannot bind the calling end of a link, so a case there sees a peer at 127.0.0.1 alone, which is the address of the
-door too. Here a peer comes from 127.0.0.2, and where the machine has IPv6, one comes from ::1 and one is called there. The
-program that the gate has built of drive_outside answers the cases `tcp visit` and `tcp call`.
+door too. Here a peer comes from 127.0.0.2, and where the machine has IPv6, one comes from ::1 and one is called there. The peers
+come to the listener that a net makes, so that one which listened on one family alone is told. The program that the gate has built
+of drive_outside answers the cases `tcp visit` and `tcp call`.
 
 Called as: addresses.py"""
 

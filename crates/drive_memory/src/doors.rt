@@ -1,68 +1,60 @@
 //! Doors and dials.
 ghost use Rattle.std.specs.Prelude.{◌≡◌, false};
-ghost use Rattle.ldm_outside.specs.Link.{IsNotClosed};
 
-use crate::told::{Bad, Told, number, numbers, push};
 use arrayvec::ArrayVec;
-use ldm_drive::Case;
-use ldm_outside::{Came, Dial, Dialled, Door, Got, Link, LinkScript, MemDial, MemDoor, MemPeer};
-use std::alloc::Global;
+use ldm_drive::Trial;
+use ldm_drive_outside::{
+    copied, listen, numbers, push, tell_bytes, tell_count, tell_got, tell_number, tell_word,
+};
+use ldm_outside::{Came, Dial, Dialled, Door, Got, LinkScript, MemDial, MemDoor, MemPeer};
 
-fn script(alloc: Global, bytes: &[u8], failing: &[u64]) -> Result<LinkScript, Bad> {
-    Ok(LinkScript {
-        bytes: bytes.to_vec(alloc)?,
-        pieces: Vec::new(alloc),
+fn script(trial: &mut Trial, bytes: &[u8], failing: &[u64]) -> LinkScript {
+    LinkScript {
+        bytes: copied(trial, bytes),
+        pieces: Vec::new(trial.alloc()),
         has_end: true,
         most_sent: usize::MAX,
-        failing: failing.to_vec(alloc)?,
-    })
+        failing: copied(trial, failing),
+    }
 }
 
-/// Of three links the first gives bytes, the second ends and the third fails.
-pub fn scripts(alloc: Global) -> Result<Vec<LinkScript>, Bad> {
-    let mut scripts = Vec::new(alloc);
-    push(&mut scripts, script(alloc, b"hello", &[])?)?;
-    push(&mut scripts, script(alloc, b"", &[])?)?;
-    push(&mut scripts, script(alloc, b"", &[1])?)?;
-    Ok(scripts)
+// Of three links the first gives bytes, the second ends and the third fails.
+fn scripts(trial: &mut Trial) -> Vec<LinkScript> {
+    let first = script(trial, b"hello", &[]);
+    let second = script(trial, b"", &[]);
+    let third = script(trial, b"", &[1]);
+    let mut scripts = Vec::new(trial.alloc());
+    push(trial, &mut scripts, first);
+    push(trial, &mut scripts, second);
+    push(trial, &mut scripts, third);
+    scripts
 }
 
-fn peers(alloc: Global) -> Result<Vec<MemPeer>, Bad> {
-    let mut peers = Vec::new(alloc);
-    for script in scripts(alloc)? {
+/// A dial of three links.
+pub fn dial_of(trial: &mut Trial, failing: Vec<u64>) -> MemDial {
+    let scripts = scripts(trial);
+    MemDial::new(trial.alloc(), scripts, failing)
+}
+
+fn peers(trial: &mut Trial) -> Vec<MemPeer> {
+    let mut peers = Vec::new(trial.alloc());
+    for script in scripts(trial) {
         match ArrayVec::try_from(b"peer".as_slice()) {
-            Ok(host) => push(&mut peers, MemPeer { host, script })?,
-            Err(_) => return Err(Bad::Word),
+            Ok(host) => push(trial, &mut peers, MemPeer { host, script }),
+            Err(_) => trial.refuse("no such host"),
         }
     }
-    Ok(peers)
+    peers
 }
 
-// A session over a link: one call of `recv`.
-fn session<K: Link>(link: &mut K) -> Got
-    requires { IsNotClosed (K.tells link.old) }
-{
-    let mut buffer = [0; 8];
-    link.recv(&mut buffer)
-}
-
-// What a call of `recv` gave, in a word.
-fn tell_got(got: Got, told: &mut Told) -> Result<(), Bad> {
-    match got {
-        Got::Bytes(n) => told.number(n as u64),
-        Got::End => told.word("end"),
-        Got::Failed => told.word("failed"),
-    }
-}
-
-// Lets a peer in, for one session: what it came to, where one came.
+// Lets a peer in, for a session of one call of `recv`: what it gave, where a peer came.
 fn visit<D: Door>(door: &mut D) -> Option<Got>
     requires { (D.tells door.old).links.out ≡ false }
     ensures { (D.tells door.new).links.out ≡ false }
 {
     match door.accept() {
         Came::Peer { mut link, .. } => {
-            let got = session(&mut link);
+            let got = listen(&mut link);
             door.give_back(link);
             Some(got)
         }
@@ -70,14 +62,14 @@ fn visit<D: Door>(door: &mut D) -> Option<Got>
     }
 }
 
-// Connects, for one session.
+// Connects, for such a session.
 fn call<I: Dial>(dial: &mut I) -> Option<Got>
     requires { (I.tells dial.old).links.out ≡ false }
     ensures { (I.tells dial.new).links.out ≡ false }
 {
     match dial.connect(b"host", 388) {
         Dialled::Linked(mut link) => {
-            let got = session(&mut link);
+            let got = listen(&mut link);
             dial.give_back(link);
             Some(got)
         }
@@ -85,64 +77,64 @@ fn call<I: Dial>(dial: &mut I) -> Option<Got>
     }
 }
 
-fn tell_visit(got: Option<Got>, told: &mut Told) -> Result<(), Bad> {
+fn tell_session(trial: &mut Trial, got: Option<Got>) {
     match got {
-        Some(got) => tell_got(got, told),
-        None => told.word("none"),
+        Some(got) => tell_got(trial, got),
+        None => tell_word(trial, "none"),
     }
 }
 
-fn visits<D: Door>(door: &mut D, count: u64, told: &mut Told) -> Result<(), Bad>
+fn visits<D: Door>(trial: &mut Trial, door: &mut D, count: u64)
     requires { (D.tells door.old).links.out ≡ false }
 {
     for _ in 0..count {
-        tell_visit(visit(door), told)?;
+        tell_session(trial, visit(door));
     }
-    Ok(())
 }
 
-// So many calls of a dial.
-fn calls<I: Dial>(dial: &mut I, count: u64, told: &mut Told) -> Result<(), Bad>
+/// So many calls of a dial.
+pub fn calls<I: Dial>(trial: &mut Trial, dial: &mut I, count: u64)
     requires { (I.tells dial.old).links.out ≡ false }
 {
     for _ in 0..count {
-        tell_visit(call(dial), told)?;
+        tell_session(trial, call(dial));
     }
-    Ok(())
 }
 
 /// `door FAILING COUNT`: so many visits of three peers.
-pub fn door(alloc: Global, case: &mut Case, told: &mut Told) -> Result<(), Bad> {
-    let mut door = MemDoor::new(alloc, peers(alloc)?, numbers(alloc, case)?);
-    visits(&mut door, number(case)?, told)?;
-    told.count("peers", door.peers())?;
-    told.count("closings", door.closings())?;
-    told.count("faults", door.faults())?;
-    told.count("ended", door.ended())?;
-    told.count("failed", door.failed())?;
-    told.count("back", door.back().len() as u64)?;
+pub fn door(trial: &mut Trial) {
+    let peers = peers(trial);
+    let mut door = MemDoor::new(trial.alloc(), peers, numbers(trial));
+    let count = trial.number();
+    visits(trial, &mut door, count);
+    tell_count(trial, "peers", door.peers());
+    tell_count(trial, "closings", door.closings());
+    tell_count(trial, "faults", door.faults());
+    tell_count(trial, "ended", door.ended());
+    tell_count(trial, "failed", door.failed());
+    tell_count(trial, "back", door.back().len() as u64);
     for host in door.hosts() {
-        told.bytes(host.as_slice())?;
+        tell_bytes(trial, host.as_slice());
     }
-    Ok(())
 }
 
-// What a dial keeps.
-fn end_of_dial(dial: &MemDial, told: &mut Told) -> Result<(), Bad> {
-    told.count("faults", dial.faults())?;
-    told.count("ended", dial.ended())?;
-    told.count("failed", dial.failed())?;
-    told.count("back", dial.back().len() as u64)?;
+/// What a dial keeps.
+pub fn end_of_dial(trial: &mut Trial, dial: &MemDial) {
+    tell_count(trial, "faults", dial.faults());
+    tell_count(trial, "ended", dial.ended());
+    tell_count(trial, "failed", dial.failed());
+    tell_count(trial, "back", dial.back().len() as u64);
     for asked in dial.asked() {
-        told.bytes(asked.host.as_slice())?;
-        told.number(u64::from(asked.port))?;
+        tell_bytes(trial, asked.host.as_slice());
+        tell_number(trial, u64::from(asked.port));
     }
-    Ok(())
 }
 
 /// `dial FAILING COUNT`: so many calls, for three links.
-pub fn dial(alloc: Global, case: &mut Case, told: &mut Told) -> Result<(), Bad> {
-    let mut dial = MemDial::new(alloc, scripts(alloc)?, numbers(alloc, case)?);
-    calls(&mut dial, number(case)?, told)?;
-    end_of_dial(&dial, told)
+pub fn dial(trial: &mut Trial) {
+    let failing = numbers(trial);
+    let mut dial = dial_of(trial, failing);
+    let count = trial.number();
+    calls(trial, &mut dial, count);
+    end_of_dial(trial, &dial);
 }

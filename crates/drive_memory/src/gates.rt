@@ -1,41 +1,28 @@
 //! Clocks and gates.
 
-use crate::told::{Bad, Told, number, numbers, push};
-use ldm_drive::Case;
-use ldm_outside::{Clock, Gate, GateCall, Go, MemClock, MemGate, OpenGate};
+use ldm_drive::Trial;
+use ldm_drive_outside::{ask, idle, numbers, push, tell_count, tell_go, tell_number};
+use ldm_outside::{Gate, GateCall, Go, MemClock, MemGate, OpenGate};
 use ldm_types::{Actor, Micros};
-use std::alloc::Global;
 
-fn ask<C: Clock>(clock: &mut C) -> Micros {
-    clock.now()
-}
-
-fn instants(alloc: Global, case: &mut Case) -> Result<Vec<Micros>, Bad> {
-    let mut instants = Vec::new(alloc);
-    for instant in numbers(alloc, case)? {
+fn instants(trial: &mut Trial) -> Vec<Micros> {
+    let mut instants = Vec::new(trial.alloc());
+    for instant in numbers(trial) {
         match Micros::new(instant) {
-            Some(instant) => push(&mut instants, instant)?,
-            None => return Err(Bad::Word),
+            Some(instant) => push(trial, &mut instants, instant),
+            None => trial.refuse("a word is no instant"),
         }
     }
-    Ok(instants)
+    instants
 }
 
 /// `clock INSTANTS COUNT`: what it answers.
-pub fn clock(alloc: Global, case: &mut Case, told: &mut Told) -> Result<(), Bad> {
-    let mut clock = MemClock::new(instants(alloc, case)?);
-    for _ in 0..number(case)? {
-        told.number(ask(&mut clock).get())?;
+pub fn clock(trial: &mut Trial) {
+    let mut clock = MemClock::new(instants(trial));
+    for _ in 0..trial.number() {
+        tell_number(trial, ask(&mut clock).get());
     }
-    told.count("calls", clock.calls())
-}
-
-// What a gate answered, in a word.
-fn tell_go(go: Go, told: &mut Told) -> Result<(), Bad> {
-    told.word(match go {
-        Go::On => "on",
-        Go::Stop => "stop",
-    })
+    tell_count(trial, "calls", clock.calls());
 }
 
 // Passes a gate, and tells it where it let the call pass.
@@ -47,46 +34,40 @@ fn pass<G: Gate>(gate: &mut G, actor: Actor, i: u64) -> Go {
     go
 }
 
-// One idle call.
-fn idle<G: Gate>(gate: &mut G) -> Go {
-    gate.idle()
-}
-
 // Passes a gate twice, with an idle call in between.
-fn pass_twice<G: Gate>(gate: &mut G, told: &mut Told) -> Result<(), Bad> {
+fn pass_twice<G: Gate>(trial: &mut Trial, gate: &mut G) {
     let Some(actor) = Actor::new(3) else {
-        return Err(Bad::Word);
+        return trial.refuse("no such actor");
     };
-    tell_go(pass(gate, actor, 0), told)?;
-    tell_go(idle(gate), told)?;
-    tell_go(pass(gate, actor, 1), told)
+    tell_go(trial, pass(gate, actor, 0));
+    tell_go(trial, idle(gate));
+    tell_go(trial, pass(gate, actor, 1));
 }
 
-fn tell_call(call: &GateCall, told: &mut Told) -> Result<(), Bad> {
+fn tell_call(trial: &mut Trial, call: &GateCall) {
     match call {
         GateCall::Before { actor, i } => {
-            told.count("before", u64::from(actor.get()))?;
-            told.number(*i)
+            tell_count(trial, "before", u64::from(actor.get()));
+            tell_number(trial, *i);
         }
         GateCall::After { actor, i } => {
-            told.count("after", u64::from(actor.get()))?;
-            told.number(*i)
+            tell_count(trial, "after", u64::from(actor.get()));
+            tell_number(trial, *i);
         }
     }
 }
 
 /// `gate STOPPING`: what it answers, and the calls that it was told of.
-pub fn gate(alloc: Global, case: &mut Case, told: &mut Told) -> Result<(), Bad> {
-    let mut gate = MemGate::new(alloc, numbers(alloc, case)?);
-    pass_twice(&mut gate, told)?;
-    told.count("stops", gate.stops())?;
+pub fn gate(trial: &mut Trial) {
+    let mut gate = MemGate::new(trial.alloc(), numbers(trial));
+    pass_twice(trial, &mut gate);
+    tell_count(trial, "stops", gate.stops());
     for call in gate.told() {
-        tell_call(call, told)?;
+        tell_call(trial, call);
     }
-    Ok(())
 }
 
 /// `open_gate`.
-pub fn open_gate(told: &mut Told) -> Result<(), Bad> {
-    pass_twice(&mut OpenGate, told)
+pub fn open_gate(trial: &mut Trial) {
+    pass_twice(trial, &mut OpenGate);
 }

@@ -1,9 +1,9 @@
 //! Nets.
 
-use crate::doors::scripts;
-use crate::told::{Bad, Told, numbers, push, small};
-use ldm_drive::Case;
-use ldm_outside::{Manned, MemDial, MemNet, Net, StationScript};
+use crate::doors::{calls, dial_of, end_of_dial};
+use ldm_drive::Trial;
+use ldm_drive_outside::{numbers, push, tell_count, tell_number, tell_word};
+use ldm_outside::{Manned, MemNet, Net, StationScript};
 use std::alloc::Global;
 
 fn station(alloc: Global) -> StationScript {
@@ -18,49 +18,56 @@ fn station(alloc: Global) -> StationScript {
     }
 }
 
-// A net with two stations.
-fn net_of(alloc: Global, failing: Vec<u64>) -> Result<MemNet, Bad> {
+// A net with two stations, which connects as a dial of three links does.
+fn net_of(trial: &mut Trial, failing: Vec<u64>) -> MemNet {
+    let alloc = trial.alloc();
     let mut ready = Vec::new(alloc);
-    push(&mut ready, station(alloc))?;
-    push(&mut ready, station(alloc))?;
-    let dial = MemDial::new(alloc, scripts(alloc)?, failing);
-    Ok(MemNet::new(alloc, dial, ready))
+    push(trial, &mut ready, station(alloc));
+    push(trial, &mut ready, station(alloc));
+    MemNet::new(alloc, dial_of(trial, failing), ready)
 }
 
 // Takes stations and hands them back. How many came, where any did.
-fn man<N: Net>(net: &mut N, count: u32) -> Result<Option<usize>, Bad> {
+fn man<N: Net>(trial: &mut Trial, net: &mut N, count: u32) {
     match net.stations(388, count, Some(3)) {
         Manned::Stations(stations) => {
-            let count = stations.len();
+            tell_number(trial, stations.len() as u64);
             net.keep(stations);
-            Ok(Some(count))
         }
-        Manned::Failed => Ok(None),
-        Manned::OutOfMemory => Err(Bad::OutOfMemory),
+        Manned::Failed => tell_word(trial, "failed"),
+        Manned::OutOfMemory => trial.lack_memory(),
     }
 }
 
 // One call for so many stations, and what the net was asked for.
-fn tell_man(net: &mut MemNet, count: u32, told: &mut Told) -> Result<(), Bad> {
-    match man(net, count)? {
-        Some(came) => told.number(came as u64)?,
-        None => told.word("failed")?,
-    }
+fn tell_man(trial: &mut Trial, net: &mut MemNet, count: u32) {
+    man(trial, net, count);
     match net.asked() {
-        Some(asked) => told.count("of", u64::from(asked.count)),
-        None => told.word("none"),
+        Some(asked) => tell_count(trial, "of", u64::from(asked.count)),
+        None => tell_word(trial, "none"),
     }
 }
 
 /// `net FAILING COUNT ..`: a call for each number of stations, of which there are two.
-pub fn net(alloc: Global, case: &mut Case, told: &mut Told) -> Result<(), Bad> {
-    let mut net = net_of(alloc, numbers(alloc, case)?)?;
+pub fn net(trial: &mut Trial) {
+    let failing = numbers(trial);
+    let mut net = net_of(trial, failing);
     for _ in 0..u64::MAX {
-        if case.is_done() {
+        if trial.is_done() {
             break;
         }
-        tell_man(&mut net, small(case)?, told)?;
+        let count = trial.small();
+        tell_man(trial, &mut net, count);
     }
-    told.count("kept", net.kept().len() as u64)?;
-    told.count("faults", net.dial().faults())
+    tell_count(trial, "kept", net.kept().len() as u64);
+    tell_count(trial, "faults", net.dial().faults());
+}
+
+/// `net_dial FAILING COUNT`: so many calls of a net, for three links.
+pub fn net_dial(trial: &mut Trial) {
+    let failing = numbers(trial);
+    let mut net = net_of(trial, failing);
+    let count = trial.number();
+    calls(trial, &mut net, count);
+    end_of_dial(trial, net.dial());
 }

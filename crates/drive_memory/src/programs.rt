@@ -1,105 +1,84 @@
 //! Programs.
-ghost use Rattle.std.specs.Prelude.{◌<◌, length, IfOk};
-ghost use Rattle.ldm_outside.specs.Launcher.{IsTaking, IsNotWaitedFor};
+ghost use Rattle.std.specs.Prelude.{◌<◌, length};
 
-use crate::told::{Bad, Told, numbers};
-use ldm_drive::Case;
-use ldm_outside::{ChildNo, Failed, Launcher, MemLauncher, Put};
-use std::alloc::Global;
+use ldm_drive::Trial;
+use ldm_drive_outside::{
+    copied, numbers, shut, start, tell_bytes, tell_count, tell_word, text_copied, write,
+};
+use ldm_outside::{Launcher, MemLauncher, Put};
 
-// Starts a child.
-fn start<L: Launcher>(launcher: &mut L, words: &[String], piped: bool) -> Result<ChildNo, Failed>
-    requires { 0 < length words.now }
-    ensures { IfOk result (λ child. IsTaking child (L.tells launcher.new)) }
-{
-    launcher.start(words, piped)
+// How a child came to its end, or which call failed.
+enum Ran {
+    Ended(u32),
+    FailedAt(u64),
 }
 
-// Writes to a child. Its input stays open, and it can be waited for.
-fn write<L: Launcher>(launcher: &mut L, child: ChildNo, piece: &[u8]) -> Put
-    requires { IsTaking child (L.tells launcher.old) }
-    ensures taking { IsTaking child (L.tells launcher.new) }
-    ensures not_waited { IsNotWaitedFor child (L.tells launcher.new) }
-{
-    launcher.write(child, piece)
-}
-
-// Shuts the input of a child, which can be waited for.
-fn shut<L: Launcher>(launcher: &mut L, child: ChildNo) -> Result<(), Failed>
-    requires { IsTaking child (L.tells launcher.old) }
-    ensures { IsNotWaitedFor child (L.tells launcher.new) }
-{
-    launcher.shut(child)
-}
-
-// Starts a child, writes `ab` and `c` to it, shuts its input and waits for it: its status, or the number of the call that
-// failed.
-fn run_one<L: Launcher>(launcher: &mut L, words: &[String]) -> Result<u32, u64>
+// Starts a child, writes `ab` and `c` to it, shuts its input and waits for it.
+fn run_one<L: Launcher>(launcher: &mut L, words: &[String]) -> Ran
     requires { 0 < length words.now }
 {
     let Ok(child) = start(launcher, words, true) else {
-        return Err(1);
+        return Ran::FailedAt(1);
     };
     if write(launcher, child, b"ab") == Put::Failed {
-        return Err(2);
+        return Ran::FailedAt(2);
     }
     if write(launcher, child, b"c") == Put::Failed {
-        return Err(3);
+        return Ran::FailedAt(3);
     }
     if shut(launcher, child).is_err() {
-        return Err(4);
+        return Ran::FailedAt(4);
     }
-    launcher.wait(child).map_err(|_| 5)
+    match launcher.wait(child) {
+        Ok(status) => Ran::Ended(status),
+        Err(_) => Ran::FailedAt(5),
+    }
 }
 
-// Starts a child that is not piped, writes to it and waits for it: whether it took bytes, and its status.
-fn run_unpiped<L: Launcher>(launcher: &mut L, words: &[String]) -> Result<(bool, u32), u64>
+// Starts a child that is not piped, writes to it and waits for it. Whether it took bytes is told.
+fn run_unpiped<L: Launcher>(trial: &mut Trial, launcher: &mut L, words: &[String]) -> Ran
     requires { 0 < length words.now }
 {
     let Ok(child) = start(launcher, words, false) else {
-        return Err(1);
+        return Ran::FailedAt(1);
     };
-    let took = write(launcher, child, b"ab") != Put::Failed;
-    let status = launcher.wait(child).map_err(|_| 3u64)?;
-    Ok((took, status))
+    let put = write(launcher, child, b"ab");
+    tell_word(trial, if put == Put::Failed { "failed" } else { "took" });
+    match launcher.wait(child) {
+        Ok(status) => Ran::Ended(status),
+        Err(_) => Ran::FailedAt(3),
+    }
 }
 
-fn end_of_launcher(launcher: &MemLauncher, told: &mut Told) -> Result<(), Bad> {
-    told.count("faults", launcher.faults())?;
-    for child in launcher.children() {
-        told.word("child")?;
-        told.bytes(child.given())?;
-        told.word(if child.is_shut() { "shut" } else { "taking" })?;
-        told.word(if child.is_waited_for() {
-            "over"
-        } else {
-            "running"
-        })?;
+fn end_of_launcher(trial: &mut Trial, launcher: &MemLauncher, ran: Ran) {
+    match ran {
+        Ran::Ended(status) => tell_count(trial, "status", u64::from(status)),
+        Ran::FailedAt(call) => tell_count(trial, "at", call),
     }
-    Ok(())
+    tell_count(trial, "faults", launcher.faults());
+    for child in launcher.children() {
+        tell_word(trial, "child");
+        tell_bytes(trial, child.given());
+        tell_word(trial, if child.is_shut() { "shut" } else { "taking" });
+        let is_over = child.is_waited_for();
+        tell_word(trial, if is_over { "over" } else { "running" });
+    }
 }
 
 /// `run FAILING`: a child that ends with 7.
-pub fn run(alloc: Global, case: &mut Case, told: &mut Told) -> Result<(), Bad> {
-    let words = [String::from_str(alloc, "cat")?];
-    let mut launcher = MemLauncher::new(alloc, [7].to_vec(alloc)?, numbers(alloc, case)?);
-    match run_one(&mut launcher, &words) {
-        Ok(status) => told.count("status", u64::from(status))?,
-        Err(at) => told.count("at", at)?,
-    }
-    end_of_launcher(&launcher, told)
+pub fn run(trial: &mut Trial) {
+    let words = [text_copied(trial, "cat")];
+    let statuses = copied(trial, &[7]);
+    let mut launcher = MemLauncher::new(trial.alloc(), statuses, numbers(trial));
+    let ran = run_one(&mut launcher, &words);
+    end_of_launcher(trial, &launcher, ran);
 }
 
 /// `unpiped`: a child that takes nothing, where the list of statuses is over.
-pub fn unpiped(alloc: Global, told: &mut Told) -> Result<(), Bad> {
-    let words = [String::from_str(alloc, "cat")?];
+pub fn unpiped(trial: &mut Trial) {
+    let alloc = trial.alloc();
+    let words = [text_copied(trial, "cat")];
     let mut launcher = MemLauncher::new(alloc, Vec::new(alloc), Vec::new(alloc));
-    match run_unpiped(&mut launcher, &words) {
-        Ok((took, status)) => {
-            told.word(if took { "took" } else { "failed" })?;
-            told.count("status", u64::from(status))?;
-        }
-        Err(at) => told.count("at", at)?,
-    }
-    end_of_launcher(&launcher, told)
+    let ran = run_unpiped(trial, &mut launcher, &words);
+    end_of_launcher(trial, &launcher, ran);
 }

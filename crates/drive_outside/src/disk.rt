@@ -1,110 +1,98 @@
 //! Files of the system, in a folder of their own.
 
 use ldm_adapters::RealStore;
-use ldm_drive::Case;
-use ldm_drive_outside::{
-    Bad, Told, append_one, bytes_in, number, read_one, rewrite_one, tell_read, turn, word,
-};
-use ldm_outside::{Failed, Put};
-use std::alloc::Global;
+use ldm_drive::Trial;
+use ldm_drive_outside::{append, bytes_in, read, rewrite, tell_count, turns};
 use std::rt::HostRuntime;
-use std::{env, fs, process};
+use std::{env, fs, io, process};
 
 // The path of a name in a folder that no other run uses.
-fn path_of(rt: HostRuntime, name: &str) -> Result<String, Bad> {
-    let temporary = env::temp_dir(&rt)?;
+fn path_in(rt: HostRuntime, name: &str) -> Option<String> {
+    let temporary = env::temp_dir(&rt).ok()?;
     let id = process::id(rt.process());
-    Ok(format!(in rt.alloc();
+    format!(in rt.alloc();
         "{}/drive_outside_{id}/{name}",
         temporary.as_path().display()
-    )?)
+    )
+    .ok()
 }
 
-fn end_of_store(store: &RealStore, told: &mut Told) -> Result<(), Bad> {
-    told.count("faults", store.faults())?;
-    told.count("long", store.long())
+fn path_of(rt: HostRuntime, trial: &mut Trial, name: &str) -> String {
+    match path_in(rt, name) {
+        Some(path) => path,
+        None => {
+            trial.lack_memory();
+            String::new(rt.alloc())
+        }
+    }
+}
+
+// The path of the name in the next word.
+fn next_path(rt: HostRuntime, trial: &mut Trial) -> String {
+    let name = trial.word();
+    path_of(rt, trial, name)
 }
 
 /// `disk rewrite NAME`, `disk read LIMIT NAME ..`, `disk append NAME PIECE`, `disk folder NAME`, `disk turns NAME COUNT`,
 /// `disk long COUNT` for a name of so many bytes, `disk forget`.
-pub fn disk(rt: HostRuntime, case: &mut Case, told: &mut Told) -> Result<(), Bad> {
+pub fn disk(rt: HostRuntime, trial: &mut Trial) {
     let mut store = RealStore::new(rt);
-    match word(case)? {
-        "rewrite" => rewrite(rt, &mut store, word(case)?, told)?,
-        "read" => read(rt, &mut store, case, told)?,
-        "append" => append(rt, &mut store, word(case)?, word(case)?, told)?,
-        "turns" => turns(rt, &mut store, word(case)?, number(case)?, told)?,
-        "long" => long(rt, &mut store, number(case)?, told)?,
-        "folder" => fs::create_dir_all(&rt, path_of(rt, word(case)?)?.as_str())?,
-        "forget" => fs::remove_dir_all(&rt, path_of(rt, "")?.as_str())?,
-        _ => return Err(Bad::Word),
+    match trial.word() {
+        "rewrite" => {
+            let path = next_path(rt, trial);
+            rewrite(trial, &mut store, path.as_str());
+        }
+        "read" => read_files(rt, trial, &mut store),
+        "append" => {
+            let path = next_path(rt, trial);
+            let piece = trial.word();
+            append(trial, &mut store, path.as_str(), bytes_in(piece));
+        }
+        "turns" => {
+            let path = next_path(rt, trial);
+            let count = trial.number();
+            turns(trial, &mut store, path.as_str(), count);
+        }
+        "long" => append_long(rt, trial, &mut store),
+        "folder" => {
+            let path = next_path(rt, trial);
+            expect_done(trial, &fs::create_dir_all(&rt, path.as_str()));
+        }
+        "forget" => {
+            let path = path_of(rt, trial, "");
+            expect_done(trial, &fs::remove_dir_all(&rt, path.as_str()));
+        }
+        _ => trial.refuse("no such word"),
     }
-    end_of_store(&store, told)
+    tell_count(trial, "faults", store.faults());
+    tell_count(trial, "long", store.long());
 }
 
-fn rewrite(rt: HostRuntime, store: &mut RealStore, name: &str, told: &mut Told) -> Result<(), Bad> {
-    let path = path_of(rt, name)?;
-    told.count("at", rewrite_one(store, path.as_str()))
+// Refuses the case where the system failed.
+fn expect_done(trial: &mut Trial, done: &io::Result<()>) {
+    if done.is_err() {
+        trial.refuse("the system failed");
+    }
 }
 
-fn read(
-    rt: HostRuntime,
-    store: &mut RealStore,
-    case: &mut Case,
-    told: &mut Told,
-) -> Result<(), Bad> {
-    let limit = number(case)?;
+fn read_files(rt: HostRuntime, trial: &mut Trial, store: &mut RealStore) {
+    let limit = trial.number();
     for _ in 0..u64::MAX {
-        if case.is_done() {
+        if trial.is_done() {
             break;
         }
-        let path = path_of(rt, word(case)?)?;
-        tell_read(&read_one(rt.alloc(), store, path.as_str(), limit), told)?;
-    }
-    Ok(())
-}
-
-fn append(
-    rt: HostRuntime,
-    store: &mut RealStore,
-    name: &str,
-    piece: &str,
-    told: &mut Told,
-) -> Result<(), Bad> {
-    let path = path_of(rt, name)?;
-    match append_one(store, path.as_str(), bytes_in(piece)) {
-        Put::Took(n) => told.count("took", n as u64),
-        Put::Failed => told.word("failed"),
+        let path = next_path(rt, trial);
+        read(trial, store, path.as_str(), limit);
     }
 }
 
-fn turns(
-    rt: HostRuntime,
-    store: &mut RealStore,
-    name: &str,
-    count: u64,
-    told: &mut Told,
-) -> Result<(), Bad> {
-    let path = path_of(rt, name)?;
-    let mut last = 0;
-    for _ in 0..count {
-        last = match turn(store, path.as_str()) {
-            Ok(file) => file,
-            Err(Failed) => return Err(Bad::System),
-        };
+// A file whose name has so many bytes.
+fn append_long(rt: HostRuntime, trial: &mut Trial, store: &mut RealStore) {
+    let mut path = path_of(rt, trial, "");
+    for _ in 0..trial.number() {
+        if path.push_str("x").is_err() {
+            trial.lack_memory();
+        }
     }
-    told.count("last", last as u64)
-}
-
-fn long_name(alloc: Global, count: u64) -> Result<String, Bad> {
-    let mut name = String::new(alloc);
-    for _ in 0..count {
-        name.push_str("x")?;
-    }
-    Ok(name)
-}
-
-fn long(rt: HostRuntime, store: &mut RealStore, count: u64, told: &mut Told) -> Result<(), Bad> {
-    let name = long_name(rt.alloc(), count)?;
-    append(rt, store, name.as_str(), "ab", told)
+    append(trial, store, path.as_str(), b"ab");
 }

@@ -2,10 +2,9 @@
 ghost use Rattle.std.specs.Prelude.{◌≤◌, IfOk};
 
 use ldm_adapters::{RealSink, RealSource};
-use ldm_drive::Case;
-use ldm_drive_outside::{Bad, Told, number, push, reads, word, writes};
+use ldm_drive::Trial;
+use ldm_drive_outside::{push, reads, tell_bytes, tell_count, tell_word, writes};
 use ldm_outside::write_all;
-use std::alloc::Global;
 use std::io::{self, ErrorKind, Read, Write};
 use std::slice;
 
@@ -15,21 +14,29 @@ enum Answer {
     Fails(ErrorKind),
 }
 
-// The answers of a word: numbers of bytes, `i` for a call that is interrupted and `b` for one that fails, with a comma between two.
-fn answers(alloc: Global, case: &mut Case) -> Result<Vec<Answer>, Bad> {
-    let mut answers = Vec::new(alloc);
-    for part in word(case)?.split(',') {
-        let answer = match part {
-            "i" => Answer::Fails(ErrorKind::Interrupted),
-            "b" => Answer::Fails(ErrorKind::BrokenPipe),
-            digits => match digits.parse::<u32>() {
-                Ok(count) => Answer::Moves(count as usize),
-                Err(_) => return Err(Bad::Word),
-            },
-        };
-        push(&mut answers, answer)?;
+// The answer of a part of a word: a number of bytes, `i` for a call that is interrupted or `b` for one that fails.
+fn answer_of(trial: &mut Trial, part: &str) -> Answer {
+    match part {
+        "i" => Answer::Fails(ErrorKind::Interrupted),
+        "b" => Answer::Fails(ErrorKind::BrokenPipe),
+        digits => match digits.parse::<u32>() {
+            Ok(count) => Answer::Moves(count as usize),
+            Err(_) => {
+                trial.refuse("a word is no list of answers");
+                Answer::Moves(0)
+            }
+        },
     }
-    Ok(answers)
+}
+
+// The answers of the next word, with a comma between two.
+fn answers(trial: &mut Trial) -> Vec<Answer> {
+    let mut answers = Vec::new(trial.alloc());
+    for part in trial.word().split(',') {
+        let answer = answer_of(trial, part);
+        push(trial, &mut answers, answer);
+    }
+    answers
 }
 
 // A reader and a writer whose calls have these answers, one after another, and then move nothing.
@@ -71,49 +78,46 @@ impl Write for Scripted<'_> {
 }
 
 /// `source bytes BYTES COUNT`, `source script ANSWERS COUNT`: so many reads of two bytes.
-pub fn source(alloc: Global, case: &mut Case, told: &mut Told) -> Result<(), Bad> {
-    if word(case)? == "bytes" {
-        let mut source = RealSource::new(word(case)?.as_bytes());
-        reads(&mut source, number(case)?, told)?;
-        told.count("faults", source.faults())?;
-        return told.count("ends", source.ends());
+pub fn source(trial: &mut Trial) {
+    if trial.word() == "bytes" {
+        let bytes = trial.word().as_bytes();
+        return read_of(trial, bytes);
     }
-    let answers = answers(alloc, case)?;
-    let mut source = RealSource::new(Scripted {
-        answers: answers.iter(),
-    });
-    reads(&mut source, number(case)?, told)?;
-    told.count("faults", source.faults())?;
-    told.count("ends", source.ends())
+    let answers = answers(trial);
+    read_of(
+        trial,
+        Scripted {
+            answers: answers.iter(),
+        },
+    );
 }
 
-/// `sink bytes WHOLE PIECE ..`, `sink script ANSWERS WHOLE PIECE ..`: one call for each piece, and then one piece is written whole.
-pub fn sink(alloc: Global, case: &mut Case, told: &mut Told) -> Result<(), Bad> {
-    if word(case)? == "bytes" {
-        let whole = word(case)?;
-        let mut sink = RealSink::new(Vec::new(alloc));
-        writes(&mut sink, case, told)?;
-        tell_whole(
-            write_all(&mut sink, whole.as_bytes()).is_ok(),
-            sink.faults(),
-            told,
-        )?;
-        return told.bytes(sink.into_writer().as_slice());
+fn read_of<R: Read + Drop>(trial: &mut Trial, reader: R) {
+    let mut source = RealSource::new(reader);
+    let count = trial.number();
+    reads(trial, &mut source, count);
+    tell_count(trial, "faults", source.faults());
+    tell_count(trial, "ends", source.ends());
+}
+
+/// `sink bytes WHOLE PIECE ..`, `sink script ANSWERS WHOLE PIECE ..`: one call for each piece, and then WHOLE is written whole.
+pub fn sink(trial: &mut Trial) {
+    if trial.word() == "bytes" {
+        let mut sink = RealSink::new(Vec::new(trial.alloc()));
+        write_of(trial, &mut sink);
+        return tell_bytes(trial, sink.into_writer().as_slice());
     }
-    let answers = answers(alloc, case)?;
-    let whole = word(case)?;
+    let answers = answers(trial);
     let mut sink = RealSink::new(Scripted {
         answers: answers.iter(),
     });
-    writes(&mut sink, case, told)?;
-    tell_whole(
-        write_all(&mut sink, whole.as_bytes()).is_ok(),
-        sink.faults(),
-        told,
-    )
+    write_of(trial, &mut sink);
 }
 
-fn tell_whole(is_whole: bool, faults: u64, told: &mut Told) -> Result<(), Bad> {
-    told.word(if is_whole { "ok" } else { "failed" })?;
-    told.count("faults", faults)
+fn write_of<W: Write>(trial: &mut Trial, sink: &mut RealSink<W>) {
+    let whole = trial.word();
+    writes(trial, sink);
+    let is_whole = write_all(sink, whole.as_bytes()).is_ok();
+    tell_word(trial, if is_whole { "ok" } else { "failed" });
+    tell_count(trial, "faults", sink.faults());
 }

@@ -3,19 +3,18 @@ ghost use Rattle.std.specs.Prelude.{◌<◌, ◌≢◌, length, IfOk};
 ghost use Rattle.ldm_outside.specs.Launcher.{IsTaking};
 
 use ldm_adapters::{RealGate, RealLauncher};
-use ldm_drive::Case;
-use ldm_drive_outside::{Bad, Told, idle, push, shut, small, start, word, write};
+use ldm_drive::Trial;
+use ldm_drive_outside::{idle, push, shut, start, tell_count, tell_word, text_copied, write};
 use ldm_outside::{ChildNo, Failed, Launcher, Put};
-use std::alloc::Global;
 use std::rt::HostRuntime;
 
 // The words that start a shell with this line.
-fn shell(alloc: Global, line: &str) -> Result<[String; 3], Bad> {
-    Ok([
-        String::from_str(alloc, "sh")?,
-        String::from_str(alloc, "-c")?,
-        String::from_str(alloc, line)?,
-    ])
+fn shell(trial: &mut Trial, line: &str) -> [String; 3] {
+    [
+        text_copied(trial, "sh"),
+        text_copied(trial, "-c"),
+        text_copied(trial, line),
+    ]
 }
 
 // How a program ended that was given `ab`.
@@ -25,42 +24,51 @@ struct Ran {
     status: u32,
 }
 
-// Runs a program.
-fn run<L: Launcher>(launcher: &mut L, words: &[String], piped: bool) -> Result<Ran, Failed>
+// Runs a program, where no call fails.
+fn run<L: Launcher>(launcher: &mut L, words: &[String], piped: bool) -> Option<Ran>
     requires { 0 < length words.now }
 {
-    let child = start(launcher, words, piped)?;
+    let child = start(launcher, words, piped).ok()?;
     let took = write(launcher, child, b"ab") != Put::Failed;
-    shut(launcher, child)?;
-    let status = launcher.wait(child)?;
-    Ok(Ran { took, status })
+    shut(launcher, child).ok()?;
+    let status = launcher.wait(child).ok()?;
+    Some(Ran { took, status })
 }
 
-fn tell_ran(ran: Result<Ran, Failed>, told: &mut Told) -> Result<(), Bad> {
-    match ran {
-        Ok(ran) => {
-            told.word(if ran.took { "took" } else { "failed" })?;
-            told.count("status", u64::from(ran.status))
+// Whether a call took what it was given.
+fn tell_took(trial: &mut Trial, took: bool) {
+    tell_word(trial, if took { "took" } else { "failed" });
+}
+
+// Runs a program, and tells how it ended.
+fn tell_run<L: Launcher>(trial: &mut Trial, launcher: &mut L, words: &[String], piped: bool)
+    requires { 0 < length words.now }
+{
+    match run(launcher, words, piped) {
+        Some(ran) => {
+            tell_took(trial, ran.took);
+            tell_count(trial, "status", u64::from(ran.status));
         }
-        Err(Failed) => told.word("failed"),
+        None => tell_took(trial, false),
     }
 }
 
 /// `shell PIPED LINE`: a shell with this line, which is given `ab` where PIPED is `piped`.
-pub fn run_shell(rt: HostRuntime, case: &mut Case, told: &mut Told) -> Result<(), Bad> {
-    let piped = word(case)? == "piped";
-    let words = shell(rt.alloc(), case.rest())?;
+pub fn run_shell(rt: HostRuntime, trial: &mut Trial) {
+    let piped = trial.word() == "piped";
+    let line = trial.rest();
+    let words = shell(trial, line);
     let mut launcher = RealLauncher::new(rt);
-    tell_ran(run(&mut launcher, &words, piped), told)?;
-    told.count("faults", launcher.faults())
+    tell_run(trial, &mut launcher, &words, piped);
+    tell_count(trial, "faults", launcher.faults());
 }
 
 /// `missing`: a program that there is not.
-pub fn missing(rt: HostRuntime, told: &mut Told) -> Result<(), Bad> {
-    let words = [String::from_str(rt.alloc(), "/no/such/program")?];
+pub fn missing(rt: HostRuntime, trial: &mut Trial) {
+    let words = [text_copied(trial, "/no/such/program")];
     let mut launcher = RealLauncher::new(rt);
-    tell_ran(run(&mut launcher, &words, true), told)?;
-    told.count("faults", launcher.faults())
+    tell_run(trial, &mut launcher, &words, true);
+    tell_count(trial, "faults", launcher.faults());
 }
 
 // Lets some time pass.
@@ -71,30 +79,25 @@ fn pause(rt: HostRuntime) {
     }
 }
 
-// Starts a program that ends at once, and writes to it once it ended.
-fn write_late<L: Launcher>(
-    rt: HostRuntime,
-    launcher: &mut L,
-    words: &[String],
-) -> Result<Put, Failed>
+// Starts a program that ends at once, and writes to it once it ended: whether it took that.
+fn write_late<L: Launcher>(rt: HostRuntime, launcher: &mut L, words: &[String]) -> bool
     requires { 0 < length words.now }
 {
-    let child = start(launcher, words, true)?;
+    let Ok(child) = start(launcher, words, true) else {
+        return false;
+    };
     pause(rt);
     let put = write(launcher, child, b"ab");
-    launcher.wait(child)?;
-    Ok(put)
+    launcher.wait(child).is_ok() && put != Put::Failed
 }
 
 /// `late`: a write to a program that ended at once.
-pub fn late(rt: HostRuntime, told: &mut Told) -> Result<(), Bad> {
-    let words = shell(rt.alloc(), "exit 0")?;
+pub fn late(rt: HostRuntime, trial: &mut Trial) {
+    let words = shell(trial, "exit 0");
     let mut launcher = RealLauncher::new(rt);
-    match write_late(rt, &mut launcher, &words) {
-        Ok(Put::Took(_)) => told.word("took")?,
-        Ok(Put::Failed) | Err(Failed) => told.word("failed")?,
-    }
-    told.count("faults", launcher.faults())
+    let took = write_late(rt, &mut launcher, &words);
+    tell_took(trial, took);
+    tell_count(trial, "faults", launcher.faults());
 }
 
 // The number of dead processes of this one that were not collected, as the status of a shell.
@@ -102,20 +105,20 @@ const DEAD: &str =
     "n=0; for p in /proc/[0-9]*/stat; do read -r l 2>/dev/null < $p && case \"$l\" in *') Z '$PPID' '*) n=$((n+1));; esac; done; exit $n";
 
 /// `ended COUNT`: so many programs end before another is started. How many of them are dead processes still.
-pub fn ended(rt: HostRuntime, case: &mut Case, told: &mut Told) -> Result<(), Bad> {
+pub fn ended(rt: HostRuntime, trial: &mut Trial) {
     let mut launcher = RealLauncher::new(rt);
-    let words = shell(rt.alloc(), "exit 5")?;
+    let words = shell(trial, "exit 5");
     let mut children = Vec::new(rt.alloc());
-    for _ in 0..small(case)? {
+    for _ in 0..trial.small() {
         match start(&mut launcher, &words, false) {
-            Ok(child) => push(&mut children, child)?,
-            Err(Failed) => return Err(Bad::System),
+            Ok(child) => push(trial, &mut children, child),
+            Err(_) => trial.refuse("the system failed"),
         }
     }
     pause(rt);
-    let words = shell(rt.alloc(), DEAD)?;
-    tell_ran(run(&mut launcher, &words, false), told)?;
-    told.count("started", children.len() as u64)
+    let words = shell(trial, DEAD);
+    tell_run(trial, &mut launcher, &words, false);
+    tell_count(trial, "started", children.len() as u64);
 }
 
 // Starts a program beside another.
@@ -154,27 +157,27 @@ fn later_first<L: Launcher>(
     launcher: &mut L,
     first: &[String],
     second: &[String],
-) -> Result<(u32, u32), Failed>
+) -> Option<(u32, u32)>
     requires first { 0 < length first.now }
     requires second { 0 < length second.now }
 {
-    let earlier = start(launcher, first, false)?;
-    let later = start_beside(launcher, second, earlier)?;
+    let earlier = start(launcher, first, false).ok()?;
+    let later = start_beside(launcher, second, earlier).ok()?;
     pause(rt);
-    let status = wait_beside(launcher, later, earlier)?;
-    Ok((status, wait(launcher, earlier)?))
+    let status = wait_beside(launcher, later, earlier).ok()?;
+    Some((status, wait(launcher, earlier).ok()?))
 }
 
 /// `kept`: two programs end with 5 and 6 before they are waited for.
-pub fn kept(rt: HostRuntime, told: &mut Told) -> Result<(), Bad> {
+pub fn kept(rt: HostRuntime, trial: &mut Trial) {
     let mut launcher = RealLauncher::new(rt);
-    let first = shell(rt.alloc(), "exit 5")?;
-    let second = shell(rt.alloc(), "exit 6")?;
+    let first = shell(trial, "exit 5");
+    let second = shell(trial, "exit 6");
     match later_first(rt, &mut launcher, &first, &second) {
-        Ok((later, earlier)) => {
-            told.count("later", u64::from(later))?;
-            told.count("earlier", u64::from(earlier))
+        Some((later, earlier)) => {
+            tell_count(trial, "later", u64::from(later));
+            tell_count(trial, "earlier", u64::from(earlier));
         }
-        Err(Failed) => told.word("failed"),
+        None => trial.refuse("the system failed"),
     }
 }

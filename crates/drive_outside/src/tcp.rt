@@ -1,13 +1,15 @@
 //! Links over TCP, to this machine.
-ghost use Rattle.std.specs.Prelude.{◌≡◌, false, IfOk};
+ghost use Rattle.std.specs.Prelude.{◌≡◌, false, IfSome};
 ghost use Rattle.ldm_outside.specs.Link.{IsNotClosed};
 ghost use Rattle.ldm_adapters.specs.Told.{told_by_door, told_by_dial, told_by_link};
 
-use ldm_adapters::{RealDial, RealDoor, RealLink, RealNet, Timeouts};
-use ldm_drive::Case;
-use ldm_drive_outside::{Bad, Told, idle, number, small, tell_go, tell_got, tell_put, word};
+use ldm_adapters::{RealDial, RealDoor, RealLink, RealNet, RealStation, Timeouts};
+use ldm_drive::Trial;
+use ldm_drive_outside::{
+    idle, listen, tell_bytes, tell_count, tell_go, tell_got, tell_number, tell_put, tell_word,
+};
 use ldm_outside::{Came, Dial, Dialled, Door, Got, Link, Manned, Net, Put};
-use std::net::{IpAddr, Ipv4Addr, Ipv6Addr, Shutdown, SocketAddr, TcpListener, TcpStream};
+use std::net::{Ipv4Addr, Shutdown, TcpListener, TcpStream};
 use std::rt::HostRuntime;
 use std::time::Duration;
 
@@ -27,13 +29,13 @@ struct Both {
     port: u16,
 }
 
-fn door_and_dial(rt: HostRuntime, timeouts: Timeouts) -> Result<Both, Bad>
-    ensures door { IfOk result (λ both. (told_by_door both.door).links.out ≡ false) }
-    ensures dial { IfOk result (λ both. (told_by_dial both.dial).links.out ≡ false) }
+fn door_and_dial(rt: HostRuntime, timeouts: Timeouts) -> Option<Both>
+    ensures door { IfSome result (λ both. (told_by_door both.door).links.out ≡ false) }
+    ensures dial { IfSome result (λ both. (told_by_dial both.dial).links.out ≡ false) }
 {
-    let listener = TcpListener::bind(&rt, (Ipv4Addr::LOCALHOST, 0))?;
-    let port = listener.local_addr()?.port();
-    Ok(Both {
+    let listener = TcpListener::bind(&rt, (Ipv4Addr::LOCALHOST, 0)).ok()?;
+    let port = listener.local_addr().ok()?.port();
+    Some(Both {
         door: RealDoor::new(listener, timeouts),
         dial: RealDial::new(rt, timeouts),
         port,
@@ -41,17 +43,14 @@ fn door_and_dial(rt: HostRuntime, timeouts: Timeouts) -> Result<Both, Bad>
 }
 
 // Sends a piece at one end, and receives at the other.
-fn pass<K: Link>(from: &mut K, to: &mut K, piece: &[u8], told: &mut Told) -> Result<(), Bad>
+fn pass<K: Link>(trial: &mut Trial, from: &mut K, to: &mut K, piece: &[u8])
     requires from { IsNotClosed (K.tells from.old) }
     requires to { IsNotClosed (K.tells to.old) }
     ensures from { IsNotClosed (K.tells from.new) }
     ensures to { IsNotClosed (K.tells to.new) }
 {
-    let put = from.send(piece);
-    let mut buffer = [0; 8];
-    let got = to.recv(&mut buffer);
-    tell_put(put, told)?;
-    tell_got(got, told)
+    tell_put(trial, from.send(piece));
+    tell_got(trial, listen(to));
 }
 
 // Sends pieces of 64 KiB until one fails: whether one did.
@@ -68,17 +67,23 @@ fn fails_soon<K: Link>(link: &mut K) -> bool
     false
 }
 
+// Whether a link took all, or failed.
+fn tell_limit<K: Link>(trial: &mut Trial, link: &mut K)
+    requires { IsNotClosed (K.tells link.old) }
+{
+    tell_word(trial, if fails_soon(link) { "failed" } else { "took" });
+}
+
 // Bytes pass both ways; then one end closes, and the other is at its end and cannot send for long.
-fn talk<K: Link>(near: &mut K, far: &mut K, told: &mut Told) -> Result<(), Bad>
+fn talk<K: Link>(trial: &mut Trial, near: &mut K, far: &mut K)
     requires near { IsNotClosed (K.tells near.old) }
     requires far { IsNotClosed (K.tells far.old) }
 {
-    pass(near, far, b"abc", told)?;
-    pass(far, near, b"de", told)?;
+    pass(trial, near, far, b"abc");
+    pass(trial, far, near, b"de");
     near.close();
-    let mut buffer = [0; 8];
-    tell_got(far.recv(&mut buffer), told)?;
-    told.word(if fails_soon(far) { "failed" } else { "took" })
+    tell_got(trial, listen(far));
+    tell_limit(trial, far);
 }
 
 // How a session between a dial and a door ends that only greets: both links are given back.
@@ -94,8 +99,7 @@ fn greet<I: Dial, D: Door>(dial: &mut I, door: &mut D, port: u16) -> Option<Got>
     let got = match door.accept() {
         Came::Peer { mut link, .. } => {
             near.send(b"hello");
-            let mut buffer = [0; 8];
-            let got = link.recv(&mut buffer);
+            let got = listen(&mut link);
             door.give_back(link);
             Some(got)
         }
@@ -119,153 +123,185 @@ fn greets<I: Dial, D: Door>(dial: &mut I, door: &mut D, port: u16, count: u64) -
     came
 }
 
-/// `tcp sessions COUNT`: so many sessions, one after another.
-fn sessions(rt: HostRuntime, count: u64, told: &mut Told) -> Result<(), Bad> {
-    let mut both = door_and_dial(rt, Timeouts::new())?;
+// So many sessions, one after another.
+fn sessions(rt: HostRuntime, trial: &mut Trial) {
+    let count = trial.number();
+    let Some(mut both) = door_and_dial(rt, Timeouts::new()) else {
+        return trial.refuse("the system failed");
+    };
     let came = greets(&mut both.dial, &mut both.door, both.port, count);
-    told.count("came", came)?;
-    told.count("peers", both.door.peers())?;
-    told.count("failed", both.door.failed())
+    tell_count(trial, "came", came);
+    tell_count(trial, "peers", both.door.peers());
+    tell_count(trial, "failed", both.door.failed());
 }
 
-// Two ends of one connection: that of a dial, and that of a door with its host.
+// Two ends of one connection: that of a dial, and that of a door.
 #[derive(Drop)]
 struct Ends {
     near: RealLink,
     far: RealLink,
 }
 
-fn two_ends(rt: HostRuntime, timeouts: Timeouts, told: &mut Told) -> Result<Ends, Bad>
-    ensures near { IfOk result (λ ends. IsNotClosed (told_by_link ends.near)) }
-    ensures far { IfOk result (λ ends. IsNotClosed (told_by_link ends.far)) }
+// Two such ends, where the system does not fail. The host of the peer is told.
+fn two_ends(rt: HostRuntime, trial: &mut Trial, timeouts: Timeouts) -> Option<Ends>
+    ensures near { IfSome result (λ ends. IsNotClosed (told_by_link ends.near)) }
+    ensures far { IfSome result (λ ends. IsNotClosed (told_by_link ends.far)) }
 {
     let mut both = door_and_dial(rt, timeouts)?;
     let Dialled::Linked(near) = both.dial.connect(b"127.0.0.1", both.port) else {
-        return Err(Bad::System);
+        return None;
     };
     match both.door.accept() {
         Came::Peer { host, link } => {
-            told.bytes(host.as_slice())?;
-            Ok(Ends { near, far: link })
+            tell_bytes(trial, host.as_slice());
+            Some(Ends { near, far: link })
         }
-        Came::Closed | Came::Failed => Err(Bad::System),
+        Came::Closed | Came::Failed => None,
     }
 }
 
 // A peer that talks, and closes.
-fn talks(rt: HostRuntime, told: &mut Told) -> Result<(), Bad> {
-    let mut ends = two_ends(rt, Timeouts::new(), told)?;
-    talk(&mut ends.near, &mut ends.far, told)
+fn talks(rt: HostRuntime, trial: &mut Trial) {
+    match two_ends(rt, trial, Timeouts::new()) {
+        Some(mut ends) => talk(trial, &mut ends.near, &mut ends.far),
+        None => trial.refuse("the system failed"),
+    }
 }
 
 // A peer that goes with bytes that it did not read: the system resets the connection.
-fn resets(rt: HostRuntime, told: &mut Told) -> Result<(), Bad> {
-    let Ends { mut near, far } = two_ends(rt, Timeouts::new(), told)?;
-    let put = near.send(b"ab");
-    tell_put(put, told)?;
+fn resets(rt: HostRuntime, trial: &mut Trial) {
+    let Some(Ends { mut near, far }) = two_ends(rt, trial, Timeouts::new()) else {
+        return trial.refuse("the system failed");
+    };
+    tell_put(trial, near.send(b"ab"));
     drop(far);
-    let mut buffer = [0; 8];
-    tell_got(near.recv(&mut buffer), told)
+    tell_got(trial, listen(&mut near));
 }
 
 // A peer that never speaks, and one that stops reading.
-fn waits(rt: HostRuntime, told: &mut Told) -> Result<(), Bad> {
-    let mut ends = two_ends(rt, short(), told)?;
-    let mut buffer = [0; 8];
-    let got = ends.near.recv(&mut buffer);
-    tell_got(got, told)?;
-    told.word(if fails_soon(&mut ends.near) {
-        "failed"
-    } else {
-        "took"
-    })
+fn waits(rt: HostRuntime, trial: &mut Trial) {
+    let Some(mut ends) = two_ends(rt, trial, short()) else {
+        return trial.refuse("the system failed");
+    };
+    tell_got(trial, listen(&mut ends.near));
+    tell_limit(trial, &mut ends.near);
 }
 
-// A peer that sends no more, and still reads.
-fn halves(rt: HostRuntime, told: &mut Told) -> Result<(), Bad> {
-    let mut both = door_and_dial(rt, Timeouts::new())?;
-    let peer = TcpStream::connect(&rt, (Ipv4Addr::LOCALHOST, both.port))?;
-    peer.shutdown(Shutdown::Write)?;
-    let Came::Peer { mut link, .. } = both.door.accept() else {
-        return Err(Bad::System);
+// A peer of a door that sends no more, and still reads.
+fn half_peer(rt: HostRuntime, port: u16) -> Option<TcpStream> {
+    let peer = TcpStream::connect(&rt, (Ipv4Addr::LOCALHOST, port)).ok()?;
+    peer.shutdown(Shutdown::Write).ok()?;
+    Some(peer)
+}
+
+fn halves(rt: HostRuntime, trial: &mut Trial) {
+    let Some(mut both) = door_and_dial(rt, Timeouts::new()) else {
+        return trial.refuse("the system failed");
     };
-    let mut buffer = [0; 8];
-    let got = link.recv(&mut buffer);
-    tell_got(got, told)?;
-    tell_put(link.send(b"ab"), told)
+    let Some(_peer) = half_peer(rt, both.port) else {
+        return trial.refuse("the system failed");
+    };
+    let Came::Peer { mut link, .. } = both.door.accept() else {
+        return trial.refuse("the system failed");
+    };
+    tell_got(trial, listen(&mut link));
+    tell_put(trial, link.send(b"ab"));
 }
 
 // A port that nobody listens on.
-fn free_port(rt: HostRuntime) -> Result<u16, Bad> {
-    let listener = TcpListener::bind(&rt, (Ipv4Addr::LOCALHOST, 0))?;
-    Ok(listener.local_addr()?.port())
+fn free_port(rt: HostRuntime) -> Option<u16> {
+    let listener = TcpListener::bind(&rt, (Ipv4Addr::LOCALHOST, 0)).ok()?;
+    Some(listener.local_addr().ok()?.port())
 }
 
 // Two stations of a net at a port, whose gates stop after one idle call.
-fn stations(rt: HostRuntime, told: &mut Told) -> Result<(), Bad> {
-    let port = free_port(rt)?;
+fn stations(rt: HostRuntime, trial: &mut Trial) {
+    let Some(port) = free_port(rt) else {
+        return trial.refuse("the system failed");
+    };
     let mut net = RealNet::new(rt);
     let Manned::Stations(mut stations) = net.stations(port, 2, Some(1)) else {
-        return Err(Bad::System);
+        return trial.refuse("the system failed");
     };
-    told.number(stations.len() as u64)?;
+    tell_number(trial, stations.len() as u64);
     for station in stations.iter_mut() {
-        let same = station.door.port()? == port;
-        told.word(if same { "its_port" } else { "another_port" })?;
-        tell_go(idle(&mut station.gate), told)?;
-        tell_go(idle(&mut station.gate), told)?;
+        let same = station.door.port().is_ok_and(|found| found == port);
+        tell_word(trial, if same { "its_port" } else { "another_port" });
+        tell_go(trial, idle(&mut station.gate));
+        tell_go(trial, idle(&mut station.gate));
     }
     net.keep(stations);
-    Ok(())
 }
 
-// The port of a case.
-fn port_of(case: &mut Case) -> Result<u16, Bad> {
-    u16::try_from(small(case)?).map_err(|_| Bad::Word)
-}
-
-// A listener at a port of every address of this machine: of IPv6 and IPv4, or of IPv4 alone where the system has no IPv6.
-fn listen(rt: HostRuntime, port: u16) -> Result<TcpListener, Bad> {
-    let both = SocketAddr::new(IpAddr::V6(Ipv6Addr::UNSPECIFIED), port);
-    let old = SocketAddr::new(IpAddr::V4(Ipv4Addr::UNSPECIFIED), port);
-    match TcpListener::bind(&rt, both) {
-        Ok(listener) => Ok(listener),
-        Err(_) => Ok(TcpListener::bind(&rt, old)?),
+// The port in the next word.
+fn next_port(trial: &mut Trial) -> u16 {
+    match u16::try_from(trial.small()) {
+        Ok(port) => port,
+        Err(_) => {
+            trial.refuse("a word is no port");
+            0
+        }
     }
 }
 
-// Lets one peer in at a port of every address of this machine: its host, and what it sent.
-fn visit(rt: HostRuntime, port: u16, told: &mut Told) -> Result<(), Bad> {
-    let mut door = RealDoor::new(listen(rt, port)?, Timeouts::new());
-    let Came::Peer { host, mut link } = door.accept() else {
-        return Err(Bad::System);
-    };
-    let mut buffer = [0; 8];
-    let got = link.recv(&mut buffer);
-    told.bytes(host.as_slice())?;
-    tell_got(got, told)
+// Lets one peer in: its host, and what it sent.
+fn let_in<D: Door>(trial: &mut Trial, door: &mut D)
+    requires { (D.tells door.old).links.out ≡ false }
+{
+    match door.accept() {
+        Came::Peer { host, mut link } => {
+            tell_bytes(trial, host.as_slice());
+            tell_got(trial, listen(&mut link));
+            door.give_back(link);
+        }
+        Came::Closed | Came::Failed => tell_word(trial, "none"),
+    }
+}
+
+// The station of a net of one, at a port.
+fn station_at(rt: HostRuntime, port: u16) -> Option<RealStation>
+    ensures { IfSome result (λ station. (told_by_door station.door).links.out ≡ false) }
+{
+    let mut net = RealNet::new(rt);
+    match net.stations(port, 1, None) {
+        Manned::Stations(mut stations) => stations.pop(),
+        Manned::Failed | Manned::OutOfMemory => None,
+    }
+}
+
+// Lets one peer in by the station of a net at a port.
+fn visit(rt: HostRuntime, trial: &mut Trial) {
+    let port = next_port(trial);
+    if trial.is_refused() {
+        return;
+    }
+    match station_at(rt, port) {
+        Some(mut station) => let_in(trial, &mut station.door),
+        None => trial.refuse("the system failed"),
+    }
 }
 
 // Connects to a host, and sends it a greeting.
-fn call(rt: HostRuntime, host: &str, port: u16, told: &mut Told) -> Result<(), Bad> {
+fn call(rt: HostRuntime, trial: &mut Trial) {
+    let host = trial.word();
     let mut dial = RealDial::new(rt, Timeouts::new());
-    match dial.connect(host.as_bytes(), port) {
-        Dialled::Linked(mut link) => tell_put(link.send(b"hello"), told),
-        Dialled::Failed => told.word("failed"),
+    match dial.connect(host.as_bytes(), next_port(trial)) {
+        Dialled::Linked(mut link) => tell_put(trial, link.send(b"hello")),
+        Dialled::Failed => tell_word(trial, "failed"),
     }
 }
 
 /// `tcp talk`, `tcp reset`, `tcp wait`, `tcp half`, `tcp stations`, `tcp sessions COUNT`, `tcp visit PORT`, `tcp call HOST PORT`.
-pub fn tcp(rt: HostRuntime, case: &mut Case, told: &mut Told) -> Result<(), Bad> {
-    match word(case)? {
-        "talk" => talks(rt, told),
-        "reset" => resets(rt, told),
-        "wait" => waits(rt, told),
-        "half" => halves(rt, told),
-        "stations" => stations(rt, told),
-        "sessions" => sessions(rt, number(case)?, told),
-        "visit" => visit(rt, port_of(case)?, told),
-        "call" => call(rt, word(case)?, port_of(case)?, told),
-        _ => Err(Bad::Word),
+pub fn tcp(rt: HostRuntime, trial: &mut Trial) {
+    match trial.word() {
+        "talk" => talks(rt, trial),
+        "reset" => resets(rt, trial),
+        "wait" => waits(rt, trial),
+        "half" => halves(rt, trial),
+        "stations" => stations(rt, trial),
+        "sessions" => sessions(rt, trial),
+        "visit" => visit(rt, trial),
+        "call" => call(rt, trial),
+        _ => trial.refuse("no such word"),
     }
 }

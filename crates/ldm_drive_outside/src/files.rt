@@ -2,9 +2,9 @@
 ghost use Rattle.std.specs.Prelude.{IfOk};
 ghost use Rattle.ldm_outside.specs.Store.{IsOpen};
 
-use crate::told::{Bad, Told};
+use crate::words::{tell_bytes, tell_count, tell_word};
+use ldm_drive::Trial;
 use ldm_outside::{Failed, FileNo, FileRead, Put, Store};
-use std::alloc::Global;
 
 // Opens a file.
 fn open<F: Store>(store: &mut F, path: &str) -> Result<FileNo, Failed>
@@ -42,8 +42,8 @@ fn end<F: Store>(store: &mut F, file: FileNo) -> u64
     0
 }
 
-/// Opens a file, writes `ab`, empties it, writes `cd`, flushes and shuts it: the number of the call that failed, or 0.
-pub fn rewrite_one<F: Store>(store: &mut F, path: &str) -> u64 {
+// Opens a file, writes `ab`, empties it, writes `cd`, flushes and shuts it: the number of the call that failed, or 0.
+fn rewrite_one<F: Store>(store: &mut F, path: &str) -> u64 {
     let Ok(file) = open(store, path) else {
         return 1;
     };
@@ -59,32 +59,52 @@ pub fn rewrite_one<F: Store>(store: &mut F, path: &str) -> u64 {
     end(store, file)
 }
 
-/// One call of `read_file`.
-pub fn read_one<F: Store>(alloc: Global, store: &mut F, path: &str, limit: u64) -> FileRead {
-    store.read_file(alloc, path, limit)
+/// Opens a file, writes `ab`, empties it, writes `cd`, flushes and shuts it: `at` is the number of the call that failed, or 0.
+pub fn rewrite<F: Store>(trial: &mut Trial, store: &mut F, path: &str) {
+    tell_count(trial, "at", rewrite_one(store, path));
 }
 
-/// What reading a file came to.
-pub fn tell_read(read: &FileRead, told: &mut Told) -> Result<(), Bad> {
-    match read {
-        FileRead::Bytes(bytes) => told.bytes(bytes.as_slice()),
-        FileRead::TooLong => told.word("too_long"),
-        FileRead::Failed => told.word("failed"),
-        FileRead::OutOfMemory => Err(Bad::OutOfMemory),
+/// One call of `read_file`.
+pub fn read<F: Store>(trial: &mut Trial, store: &mut F, path: &str, limit: u64) {
+    match store.read_file(trial.alloc(), path, limit) {
+        FileRead::Bytes(bytes) => tell_bytes(trial, &bytes),
+        FileRead::TooLong => tell_word(trial, "too_long"),
+        FileRead::Failed => tell_word(trial, "failed"),
+        FileRead::OutOfMemory => trial.lack_memory(),
     }
 }
 
-/// Opens a file and writes a piece once.
-pub fn append_one<F: Store>(store: &mut F, path: &str, piece: &[u8]) -> Put {
+// Opens a file and writes a piece once.
+fn append_one<F: Store>(store: &mut F, path: &str, piece: &[u8]) -> Put {
     match open(store, path) {
         Ok(file) => write(store, file, piece),
         Err(_) => Put::Failed,
     }
 }
 
-/// Opens a file and shuts it: its number.
-pub fn turn<F: Store>(store: &mut F, path: &str) -> Result<usize, Failed> {
-    let file = open(store, path)?;
-    store.shut(file)?;
-    Ok(file.0)
+/// Opens a file and writes a piece once.
+pub fn append<F: Store>(trial: &mut Trial, store: &mut F, path: &str, piece: &[u8]) {
+    match append_one(store, path, piece) {
+        Put::Took(n) => tell_count(trial, "took", n as u64),
+        Put::Failed => tell_word(trial, "failed"),
+    }
+}
+
+// Opens a file and shuts it: its number.
+fn turn<F: Store>(store: &mut F, path: &str) -> Option<u64> {
+    let file = open(store, path).ok()?;
+    store.shut(file).ok()?;
+    Some(file.0 as u64)
+}
+
+/// Opens a file and shuts it, so many times: the last number.
+pub fn turns<F: Store>(trial: &mut Trial, store: &mut F, path: &str, count: u64) {
+    let mut last = 0;
+    for _ in 0..count {
+        match turn(store, path) {
+            Some(file) => last = file,
+            None => trial.refuse("a turn failed"),
+        }
+    }
+    tell_count(trial, "last", last);
 }

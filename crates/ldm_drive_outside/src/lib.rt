@@ -6,12 +6,14 @@ mod files;
 mod links;
 mod programs;
 mod streams;
-mod told;
 mod waits;
+mod words;
 
-pub use files::{append_one, read_one, rewrite_one, tell_read, turn};
-pub use links::{tell_got, tell_put};
+pub use files::{append, read, rewrite, turns};
+pub use links::{listen, tell_got, tell_put};
 pub use programs::{shut, start, write};
 pub use streams::{reads, wholes, writes};
-pub use told::{Bad, Told, bytes_in, number, numbers, push, small, word};
 pub use waits::{ask, idle, tell_go};
+pub use words::{
+    bytes_in, copied, numbers, push, tell_bytes, tell_count, tell_number, tell_word, text_copied,
+};

@@ -1,21 +1,32 @@
-//! What calls of links and streams gave, in words.
+//! Links, and what calls of links and streams gave, in words.
+ghost use Rattle.ldm_outside.specs.Link.{IsNotClosed};
 
-use crate::told::{Bad, Told};
-use ldm_outside::{Got, Put};
+use crate::words::{tell_number, tell_word};
+use ldm_drive::Trial;
+use ldm_outside::{Got, Link, Put};
 
-/// What a call gave, in a word.
-pub fn tell_got(got: Got, told: &mut Told) -> Result<(), Bad> {
+/// One call of `recv`, with room for eight bytes.
+pub fn listen<K: Link>(link: &mut K) -> Got
+    requires { IsNotClosed (K.tells link.old) }
+    ensures { IsNotClosed (K.tells link.new) }
+{
+    let mut buffer = [0; 8];
+    link.recv(&mut buffer)
+}
+
+/// Adds what a call gave, in a word.
+pub fn tell_got(trial: &mut Trial, got: Got) {
     match got {
-        Got::Bytes(n) => told.number(n as u64),
-        Got::End => told.word("end"),
-        Got::Failed => told.word("failed"),
+        Got::Bytes(n) => tell_number(trial, n as u64),
+        Got::End => tell_word(trial, "end"),
+        Got::Failed => tell_word(trial, "failed"),
     }
 }
 
-/// What a call took, in a word.
-pub fn tell_put(put: Put, told: &mut Told) -> Result<(), Bad> {
+/// Adds what a call took, in a word.
+pub fn tell_put(trial: &mut Trial, put: Put) {
     match put {
-        Put::Took(n) => told.number(n as u64),
-        Put::Failed => told.word("failed"),
+        Put::Took(n) => tell_number(trial, n as u64),
+        Put::Failed => tell_word(trial, "failed"),
     }
 }

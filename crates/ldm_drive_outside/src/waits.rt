@@ -1,6 +1,7 @@
 //! Clocks and gates.
 
-use crate::told::{Bad, Told};
+use crate::words::tell_word;
+use ldm_drive::Trial;
 use ldm_outside::{Clock, Gate, Go};
 use ldm_types::Micros;
 
@@ -14,10 +15,13 @@ pub fn idle<G: Gate>(gate: &mut G) -> Go {
     gate.idle()
 }
 
-/// What a gate answered, in a word.
-pub fn tell_go(go: Go, told: &mut Told) -> Result<(), Bad> {
-    told.word(match go {
-        Go::On => "on",
-        Go::Stop => "stop",
-    })
+/// Adds what a gate answered, in a word.
+pub fn tell_go(trial: &mut Trial, go: Go) {
+    tell_word(
+        trial,
+        match go {
+            Go::On => "on",
+            Go::Stop => "stop",
+        },
+    );
 }
