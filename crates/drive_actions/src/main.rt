@@ -4,13 +4,13 @@
 mod choice;
 mod entries;
 
-use ldm_drive::{Trial, drive_trials};
+use ldm_drive::{Trial, drive};
 use ldm_pqact_conf::Entries;
 use std::io;
 
 fn main(rt: HostRuntime) -> io::Result<()> {
     let mut kept = None;
-    drive_trials(&rt, |trial| answer(&mut kept, trial))
+    drive(&rt, |trial| answer(&mut kept, trial))
 }
 
 fn answer(kept: &mut Option<Entries>, trial: &mut Trial) {

@@ -9,7 +9,7 @@ mod policies;
 mod texts;
 
 use ldm_class::{Class, Policy};
-use ldm_drive::{Trial, drive_trials};
+use ldm_drive::{Trial, drive};
 use ldm_outside::MemFile;
 use std::alloc::Global;
 use std::io;
@@ -42,7 +42,7 @@ fn main(rt: HostRuntime) -> io::Result<()> {
         println!(rt; "no memory")?;
         return Ok(());
     };
-    drive_trials(&rt, |trial| answer(&mut kept, trial))
+    drive(&rt, |trial| answer(&mut kept, trial))
 }
 
 fn answer(kept: &mut Kept, trial: &mut Trial) {

@@ -9,7 +9,7 @@ mod nets;
 mod programs;
 mod streams;
 
-use ldm_drive::{Trial, drive_trials};
+use ldm_drive::{Trial, drive};
 use std::io;
 
 // What the object that a case names answers.
@@ -41,5 +41,5 @@ fn answer(trial: &mut Trial) {
 }
 
 fn main(rt: HostRuntime) -> io::Result<()> {
-    drive_trials(&rt, |trial| answer(trial))
+    drive(&rt, |trial| answer(trial))
 }

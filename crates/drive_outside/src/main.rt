@@ -7,7 +7,7 @@ mod streams;
 mod system;
 mod tcp;
 
-use ldm_drive::{Trial, drive_trials};
+use ldm_drive::{Trial, drive};
 use std::io;
 use std::rt::HostRuntime;
 
@@ -29,5 +29,5 @@ fn answer(rt: HostRuntime, trial: &mut Trial) {
 }
 
 fn main(rt: HostRuntime) -> io::Result<()> {
-    drive_trials(&rt, |trial| answer(rt, trial))
+    drive(&rt, |trial| answer(rt, trial))
 }

@@ -7,7 +7,7 @@ mod streams;
 
 use crate::lines::{coded_line, ident, line, stays};
 use crate::play::Play;
-use ldm_drive::{Trial, drive_trials};
+use ldm_drive::{Trial, drive};
 use std::io;
 use std::sync::Wait;
 use std::thread::Threads;
@@ -33,5 +33,5 @@ fn answer<H: Threads + Wait + Sync>(rt: &H, play: &mut Play, trial: &mut Trial) 
 
 fn main(rt: HostRuntime) -> io::Result<()> {
     let mut play = Play::new(rt.alloc());
-    drive_trials(&rt, |trial| answer(&rt, &mut play, trial))
+    drive(&rt, |trial| answer(&rt, &mut play, trial))
 }

@@ -13,7 +13,7 @@ use crate::gaps::Gaps;
 use crate::regions::Owners;
 use crate::signatures::Signatures;
 use crate::times::Times;
-use ldm_drive::{Trial, drive_trials};
+use ldm_drive::{Trial, drive};
 use std::alloc::Global;
 use std::io;
 
@@ -55,5 +55,5 @@ fn main(rt: HostRuntime) -> io::Result<()> {
         println!(rt; "no memory")?;
         return Ok(());
     };
-    drive_trials(&rt, |trial| tables.answer(trial))
+    drive(&rt, |trial| tables.answer(trial))
 }

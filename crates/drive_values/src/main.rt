@@ -5,7 +5,7 @@ mod metadata;
 mod signatures;
 mod values;
 
-use ldm_drive::{Trial, drive_trials};
+use ldm_drive::{Trial, drive};
 use metadata::{read_metadata, write_metadata};
 use signatures::{read_signature, sign_body};
 use std::io;
@@ -31,5 +31,5 @@ fn answer(trial: &mut Trial) {
 }
 
 fn main(rt: HostRuntime) -> io::Result<()> {
-    drive_trials(&rt, |trial| answer(trial))
+    drive(&rt, |trial| answer(trial))
 }

@@ -8,7 +8,7 @@ mod pieces;
 mod places;
 mod records;
 
-use ldm_drive::{Trial, drive_trials};
+use ldm_drive::{Trial, drive};
 use messages::{
     head, made_message, read_as_call, read_as_refusal, read_as_reply, refusal_owed, with_room,
 };
@@ -40,5 +40,5 @@ fn answer(samples: &mut Vec<Sample>, trial: &mut Trial) {
 
 fn main(rt: HostRuntime) -> io::Result<()> {
     let mut samples = Vec::new(rt.alloc());
-    drive_trials(&rt, |trial| answer(&mut samples, trial))
+    drive(&rt, |trial| answer(&mut samples, trial))
 }

@@ -5,13 +5,8 @@
 #![tactic(auto)]
 
 mod bytes;
-mod case;
 mod lines;
-mod printed;
 mod trial;
 
-pub use bytes::{bytes_of, digits_of, text_of};
-pub use case::Case;
-pub use lines::{drive, drive_trials};
-pub use printed::shown;
+pub use lines::drive;
 pub use trial::Trial;
