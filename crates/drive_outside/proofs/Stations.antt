@@ -19,5 +19,5 @@ pub unlent_last : {W : Type 0} → (result : Option (Station RealDoor RealDial (
     → items ≡ rest ++ option_to_list result → All (λ one. IsNew idles (told_by_station one)) items
     → IfSome result (λ one. (told_by_door one.door).links.out ≡ false)
 unlent_last (Some one) items rest idles is new =
-  (All-last (λ one. IsNew idles (told_by_station one)) rest one (rw is at new)).door.2.out
+    (All-last (λ one. IsNew idles (told_by_station one)) rest one (rw is at new)).door.2.out
 unlent_last None items rest idles is new = tt
