@@ -31,7 +31,9 @@ fn scripts(trial: &mut Trial) -> Vec<LinkScript> {
 }
 
 /// A dial of three links.
-pub fn dial_of(trial: &mut Trial, failing: Vec<u64>) -> MemDial {
+pub fn dial_of(trial: &mut Trial, failing: Vec<u64>) -> MemDial
+    ensures { result.links.out ≡ false }
+{
     let scripts = scripts(trial);
     MemDial::new(trial.alloc(), scripts, failing)
 }

@@ -1,4 +1,5 @@
 //! Links.
+ghost use Rattle.std.specs.Prelude.{◌≡◌, false};
 ghost use Rattle.ldm_outside.specs.Link.{IsNotClosed};
 
 use ldm_drive::Trial;
@@ -6,7 +7,9 @@ use ldm_drive_outside::{bytes_in, copied, numbers, push, tell_bytes, tell_count,
 use ldm_outside::{Got, Link, LinkScript, MemLink, Way, send_all};
 
 // A link that gives five bytes in pieces of 2, of 1 and of what is left, and takes two bytes a call.
-fn link_of(trial: &mut Trial, has_end: bool, failing: Vec<u64>) -> MemLink {
+fn link_of(trial: &mut Trial, has_end: bool, failing: Vec<u64>) -> MemLink
+    ensures { result.closed ≡ false }
+{
     let script = LinkScript {
         bytes: copied(trial, b"abcde"),
         pieces: copied(trial, &[2, 1]),

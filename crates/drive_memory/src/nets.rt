@@ -1,4 +1,5 @@
 //! Nets.
+ghost use Rattle.std.specs.Prelude.{◌≡◌, false};
 
 use crate::doors::{calls, dial_of, end_of_dial};
 use ldm_drive::Trial;
@@ -19,7 +20,9 @@ fn station(alloc: Global) -> StationScript {
 }
 
 // A net with two stations, which connects as a dial of three links does.
-fn net_of(trial: &mut Trial, failing: Vec<u64>) -> MemNet {
+fn net_of(trial: &mut Trial, failing: Vec<u64>) -> MemNet
+    ensures { result.dial.links.out ≡ false }
+{
     let alloc = trial.alloc();
     let mut ready = Vec::new(alloc);
     push(trial, &mut ready, station(alloc));

@@ -1,6 +1,6 @@
 -- The last of new stations has a door of which no link is out.
-use Rattle.std.specs.Prelude.{◌≡◌, ℕ, List, [], ◌∷◌, ◌++◌, All, Option, Some, None, IfSome, option_to_list}
-use Rattle.std.proofs.Common.{false}
+use Rattle.std.specs.Prelude.{◌≡◌, ℕ, suc, List, [], ◌∷◌, ◌++◌, All, Option, Some, None, IfSome, option_to_list}
+use Rattle.std.proofs.Common.{false, arith}
 use Rattle.ldm_outside.specs.declared.net.Station.{Station}
 use Rattle.ldm_outside.specs.Station.{IsNew}
 use Rattle.ldm_adapters.specs.declared.clock.RealClock.{RealClock}
@@ -11,8 +11,8 @@ use Rattle.ldm_adapters.specs.declared.streams.RealSink.{RealSink}
 use Rattle.ldm_adapters.specs.Told.{told_by_door, told_by_station}
 
 All-last : {X : Type 0} (P : X → Type 0) → (xs : List X) (x : X) → All P (xs ++ x ∷ []) → P x
-All-last P [] x all = all.0
-All-last P (y ∷ ys) x all = All-last P ys x all.1
+All-last P [] x all = all 0 x (omega arith)
+All-last P (y ∷ ys) x all = All-last P ys x (λ k d less. all (suc k) d (omega arith))
 
 pub unlent_last : {W : Type 0} → (result : Option (Station RealDoor RealDial (RealSink W) RealClock RealGate))
     → (items rest : List (Station RealDoor RealDial (RealSink W) RealClock RealGate)) (idles : Option ℕ)
