@@ -158,9 +158,10 @@ impl Outcome {
         let Ok(text) = from_utf8(&self.written) else {
             return trial.refuse("no text");
         };
-        let mut last = "";
+        let mut last = b"".as_slice();
         let mut times = 0u64;
         for line in text.split('\n') {
+            let line = line.as_bytes();
             if line == last {
                 times = times.saturating_add(1);
             } else {
@@ -173,11 +174,11 @@ impl Outcome {
     }
 }
 
-fn tell_count(trial: &mut Trial, line: &str, times: u64) {
+fn tell_count(trial: &mut Trial, line: &[u8], times: u64) {
     if !line.is_empty() {
         trial.tell(", ");
         trial.tell_value(&times);
         trial.tell(" of ");
-        trial.tell(line);
+        trial.tell(from_utf8(line).unwrap_or(""));
     }
 }
