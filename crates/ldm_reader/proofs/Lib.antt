@@ -1,0 +1,4 @@
+mod RowsStay
+mod Cursors
+mod Answered
+mod Readers
