@@ -1,0 +1,5 @@
+pub mod Exchange
+pub mod Gaps
+pub mod Gathering
+pub mod Idle
+pub mod Owed
