@@ -1,5 +1,5 @@
 -- Which products are due to the host that asked.
-use Rattle.std.specs.Prelude.{ℕ, Bool, true, false, ◌&&◌, nat_le, List}
+use Rattle.std.specs.Prelude.{ℕ, Bool, true, false, ◌&&◌, nat_le}
 use Rattle.ldm_types.specs.Info.{Metadata}
 use Rattle.ldm_class.specs.declared.answers.Verdict.{Verdict}
 use Rattle.ldm_class.specs.declared.answers.Verdict.TheVariants.{Yes, No}

@@ -1,6 +1,6 @@
 -- A whole feeding: how the request was answered, the turns, and how it ended. It is plain data. What was called, sent, read and asked
 -- are functions of it.
-use Rattle.std.specs.Prelude.{◌≡◌, ℕ, ◌<◌, List, [], ◌∷◌, ◌++◌, map}
+use Rattle.std.specs.Prelude.{◌≡◌, ℕ, ◌<◌, List, [], ◌∷◌, ◌++◌}
 use Rattle.std.specs.List.{flat_map}
 use Rattle.ldm_model.specs.declared.event.Reply.TheVariants as reply
 use Rattle.ldm_model.specs.declared.event.Entry.{Entry}
@@ -11,7 +11,7 @@ use Rattle.ldm_relay.specs.Sent as sent
 use Rattle.ldm_relay.specs.Spelling.{written, record_of}
 use Rattle.ldm_session.specs.Owed.{Code}
 use Rattle.ldm_upstream.specs.Asked.{Asked}
-use Rattle.ldm_upstream.specs.Opening.{Answered, Denied, Reclassed, Busy, Opened, IsAnswerTo, class_answer_of, opening_entries, place_of}
+use Rattle.ldm_upstream.specs.Opening.{Answered, Opened, IsAnswerTo, class_answer_of, opening_entries, place_of}
 use Rattle.ldm_upstream.specs.Turn.{Given, Turn, Standing, stepped, given_reply, announcement}
 use Rattle.ldm_upstream.specs.Turns.{IsDue, size_of, AreTurns, after_turns, entries_of_turns, instants_of_turns, goes_of_turns, messages_of_turns, codes_of_turns, given_in_turns}
 
