@@ -1,6 +1,6 @@
 -- What a reader is answered, and what it knows of its cursor then.
-use Rattle.std.proofs.Common.{◌≡◌, ◌≢◌, ◌∙◌, ℕ, ◌+◌, ◌-◌, ◌<◌, ◌≤◌, ◌==◌, true, false, List, [], ◌∷◌, ◌++◌, length, take, drop, min, All, Option, Some, None, refl, sym, ap, subst, append_assoc, append-nil, arith}
-use Rattle.std.specs.Prelude.{Bool, ◌&&◌, is_some, slice_get, IfSome}
+use Rattle.std.proofs.Common.{◌≡◌, ◌≢◌, ◌∙◌, ℕ, ◌+◌, ◌-◌, ◌≤◌, ◌==◌, true, false, List, [], ◌∷◌, ◌++◌, Option, Some, None, refl, sym, ap, subst, append_assoc, append-nil}
+use Rattle.std.specs.Prelude.{◌&&◌, is_some, IfSome}
 use Rattle.std.proofs.lemmas.Bool.{eq-eqb}
 use Rattle.std.proofs.lemmas.List.Elements.{All-nil, All-push}
 use Rattle.std.proofs.lemmas.Option.{same_Some}
@@ -13,18 +13,18 @@ use Rattle.ldm_model.specs.declared.event.Event.TheVariants as event
 use Rattle.ldm_model.specs.declared.event.Reply.{Reply}
 use Rattle.ldm_model.specs.declared.event.Reply.TheVariants as reply
 use Rattle.ldm_model.specs.declared.event.Entry.{Entry}
-use Rattle.ldm_model.specs.Product.{Product, extent_of}
-use Rattle.ldm_model.specs.State.{State, Row, empty, place_of_row}
+use Rattle.ldm_model.specs.Product.{Product}
+use Rattle.ldm_model.specs.State.{Row, empty, place_of_row}
 use Rattle.ldm_model.specs.Read.{part_of}
 use Rattle.ldm_model.specs.Release.{release}
 use Rattle.ldm_model.specs.Next.{next}
 use Rattle.ldm_model.specs.History.{after, IsLegal, IsAnswered, IsPossible}
-use Rattle.ldm_model.specs.Law.{Point, Hold, place_of_event, is_close, is_own, history_of, state_at, row_of, is_step, is_release, held_number, hold_of, IsPointOf, IsServed, IsAnsweredAt, GivesNext}
+use Rattle.ldm_model.specs.Law.{Point, Hold, place_of_event, is_close, is_own, history_of, state_at, row_of, is_step, is_release, held_number, hold_of, IsPointOf, IsServed, IsAnsweredAt}
 use Rattle.ldm_model.proofs.Appended.{IsLegalFrom-append}
 use Rattle.ldm_model.proofs.Lawful.{ObeysLaw-legal}
 use Rattle.ldm_shared.specs.Own.{own, Adds}
-use Rattle.ldm_shared.specs.Passes.{PassView, HasSeen, IsSamePass, Makes, Grows, FindsWorn, entry_of}
-use Rattle.ldm_shared.specs.OwnReaders.{OwnPoint, IsOwnPointOf, opening_by, is_about, number_held, with_held, IsSeenAt, IsCalledAt}
+use Rattle.ldm_shared.specs.Passes.{PassView, HasSeen}
+use Rattle.ldm_shared.specs.OwnReaders.{OwnPoint, IsOwnPointOf, opening_by, is_about, with_held, IsCalledAt}
 use Rattle.ldm_shared.proofs.OwnLaw.{answered, agrees, served}
 use Rattle.ldm_reader.specs.Staying.{HasRow}
 use Rattle.ldm_reader.specs.Reader.{HasCursor, HoldsProduct}

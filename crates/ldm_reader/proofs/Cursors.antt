@@ -1,14 +1,12 @@
 -- What a cursor does in the state of a queue: it holds what a release would let go, and then a read gives the bytes.
-use Rattle.std.proofs.Common.{◌≡◌, ◌∙◌, ℕ, ◌<◌, ◌≤◌, true, false, List, [], ◌∷◌, ◌++◌, Option, Some, None, refl, sym, ap, subst, arith}
-use Rattle.std.specs.Prelude.{Bool, ◌==◌, nat_lt, is_some, slice_get}
+use Rattle.std.proofs.Common.{◌≡◌, ◌∙◌, ℕ, ◌≤◌, true, List, [], ◌∷◌, ◌++◌, Option, Some, None, refl, ap}
+use Rattle.std.specs.Prelude.{Bool, is_some, slice_get}
 use Rattle.std.specs.Option.{option_map}
 use Rattle.std.proofs.lemmas.Bool.{false≢true, le-ltb}
-use Rattle.std.proofs.lemmas.Option.{same_Some}
 use Rattle.ldm_model.specs.declared.event.Reply.TheVariants as reply
 use Rattle.ldm_model.specs.declared.event.Entry.{Entry}
 use Rattle.ldm_model.specs.declared.event.Reply.{Reply}
 use Rattle.ldm_model.specs.State.{State, Row, Cursor, place_of_row}
-use Rattle.ldm_model.specs.Outcome.{Outcome}
 use Rattle.ldm_model.specs.Cursor.{cursor_of, with_place, on_cursor, on_held, least_empty}
 use Rattle.ldm_model.specs.declared.event.Start.{Start}
 use Rattle.ldm_model.specs.declared.event.Start.TheVariants as start

@@ -1,5 +1,5 @@
 -- What each call of a reader comes to, by how its pass grew.
-use Rattle.std.proofs.Common.{◌≡◌, ◌∙◌, ℕ, zero, suc, ◌+◌, ◌-◌, ◌^◌, ◌<◌, ◌≤◌, ◌==◌, true, false, List, [], ◌∷◌, ◌++◌, length, take, drop, min, Option, Some, None, refl, sym, ap, subst, arith, length-take, length-drop}
+use Rattle.std.proofs.Common.{◌≡◌, ◌∙◌, ℕ, zero, suc, ◌+◌, ◌-◌, ◌^◌, ◌<◌, ◌≤◌, ◌==◌, true, List, [], ◌∷◌, ◌++◌, length, take, drop, min, Option, Some, None, refl, sym, ap, subst, arith, length-take, length-drop}
 use Rattle.std.proofs.lemmas.Bool.{eq-eqb}
 use Rattle.ldm_types.specs.Info.{Metadata}
 use Rattle.ldm_model.specs.declared.event.Start.{Start}
@@ -12,7 +12,6 @@ use Rattle.ldm_model.specs.Read.{part_of}
 use Rattle.ldm_model.specs.History.{after, IsLegal}
 use Rattle.ldm_shared.specs.Passes.{PassView, HasSeen, Grows, FindsWorn}
 use Rattle.ldm_shared.specs.OwnReaders.{with_held}
-use Rattle.ldm_reader.specs.Staying.{HasRow}
 use Rattle.ldm_model.specs.declared.replies.StepReply.{StepReply}
 use Rattle.ldm_model.specs.declared.replies.StepReply.TheVariants as stepping
 use Rattle.ldm_model.specs.declared.event.Entry.{Entry}
@@ -25,7 +24,6 @@ use Rattle.ldm_reader.specs.declared.reader.Came.{Came}
 use Rattle.ldm_reader.specs.declared.reader.Came.TheVariants as came
 use Rattle.ldm_reader.specs.Reader.{HasCursor, HoldsProduct, HasOpened, HasStepped, GivesSome, NamesProduct, IfNotQueued, opening_reply, came_reply}
 use Rattle.ldm_reader.proofs.Cursors.{names-product}
-use Rattle.ldm_reader.proofs.RowsStay.{stays}
 use Rattle.ldm_reader.proofs.Answered as of_call
 
 pub itself : (k : ℕ) → (k == k) ≡ true

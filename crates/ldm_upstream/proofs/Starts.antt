@@ -1,6 +1,5 @@
 -- Where a cursor begins at an instant.
-use Rattle.std.proofs.Common.{◌≡◌, ℕ, zero, suc, ◌-◌, ◌<◌, refl, ap, sym, ◌∙◌, arith}
-use Rattle.ldm_model.specs.declared.event.Start.{Start}
+use Rattle.std.proofs.Common.{◌≡◌, ℕ, zero, suc, ◌-◌, ◌<◌, ap, arith}
 use Rattle.ldm_model.specs.declared.event.Start.TheVariants as start
 use Rattle.ldm_upstream.specs.Opening.{from_instant}
 

@@ -1,4 +1,3 @@
-use Rattle.std.proofs.Common.{refl}
 use Rattle.ldm_model.specs.declared.event.Event.TheVariants as event
 use Rattle.ldm_reader.proofs.Readers.{no_cursor, itself}
 use Rattle.ldm_reader.proofs.reader.Reader.close.Goals as goal

@@ -1,6 +1,4 @@
 use Rattle.std.proofs.Common.{arith}
-use Rattle.ldm_model.specs.declared.event.Reply.TheVariants as reply
-use Rattle.ldm_model.specs.declared.event.Event.TheVariants as event
 use Rattle.ldm_reader.proofs.Readers.{reads, fills, grown, held_still}
 use Rattle.ldm_reader.proofs.reader.Reader.read.Goals as goal
 
