@@ -1,0 +1,11 @@
+pub mod Course
+pub mod Notes
+pub mod Asking
+pub mod Receiving
+pub mod WantingView
+pub mod Step
+pub mod Answered
+pub mod Products
+pub mod Record
+pub mod Taken
+pub mod Examples
