@@ -8,4 +8,6 @@ pub mod Answered
 pub mod Products
 pub mod Record
 pub mod Taken
+pub mod Room
+pub mod Lawful
 pub mod Examples

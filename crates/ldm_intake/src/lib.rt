@@ -4,11 +4,17 @@
 mod asking;
 mod end;
 mod examples;
+mod notes;
 mod phase;
+mod reading;
+mod replies;
 mod wanting;
 
 pub use asking::{asked_class, is_same_class};
 pub use end::RecvEnd;
 pub use examples::worked_examples;
+pub use notes::{LONGEST_NOTE, note_commit, note_insert, put_refused, put_unwanted};
 pub use phase::{Pending, Phase};
+pub use reading::{Lawful, read_answer, read_lawful};
+pub use replies::{SOON_REPLY, put_feedme, put_soon};
 pub use wanting::Wanted;
