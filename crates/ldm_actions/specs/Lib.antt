@@ -1,0 +1,5 @@
+pub mod World
+pub mod Strip
+pub mod Effects
+pub mod Parts
+pub mod Examples

@@ -1,0 +1,16 @@
+//! What actions do to files and programs: a product's body is written at the end of a file, or given to a program that runs on, or a
+//! program is started.
+//!
+//! What stands after an action, by what stood before it, is a definition: `specs/Effects.antt`. What may stand where one fails is
+//! `specs/Parts.antt`.
+#![tactic(auto)]
+
+mod examples;
+mod laws;
+mod limits;
+mod options;
+
+pub use examples::{worked_examples_of_files, worked_examples_of_programs};
+pub use laws::{few_run_under_pipe, one_child_for_one_command, pieces_join};
+pub use limits::MOST_PIPED;
+pub use options::{FileOptions, PipeOptions};
