@@ -11,7 +11,7 @@ use Rattle.ldm_actions.specs.Strip.{is_text, kept}
 use Rattle.ldm_actions.specs.World.{Outside, World, appended, child_no, fed}
 
 -- bytes at the end of a file, and then more
-appended_twice : (path first second : List ℕ) (files : List File) →
+pub appended_twice : (path first second : List ℕ) (files : List File) →
     with_changed path (λ before. before ++ (first ++ second)) files
     ≡ with_changed path (λ before. before ++ second) (with_changed path (λ before. before ++ first) files)
 appended_twice path first second [] = refl
@@ -64,7 +64,7 @@ module _ (child : ℕ) (first second : List ℕ) (children : List Child) where
       ∙ sym (set_past children child other past)
       ∙ ap (λ (all : List Child). with_fed (child_no child) second all) (sym none)
 
-  fed_twice : with_fed (child_no child) (first ++ second) children ≡ with_fed (child_no child) second (with_fed (child_no child) first children)
+  pub fed_twice : with_fed (child_no child) (first ++ second) children ≡ with_fed (child_no child) second (with_fed (child_no child) first children)
   fed_twice = elim (cases_lt child (length children)) [
     | inl inside ↦ fed_within (child_at (child_no child) children) refl inside
     | inr past ↦ fed_beyond (child_at (child_no child) children) refl past

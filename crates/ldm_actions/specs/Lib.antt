@@ -3,3 +3,4 @@ pub mod Strip
 pub mod Effects
 pub mod Parts
 pub mod Examples
+pub mod Writing

@@ -9,8 +9,10 @@ mod examples;
 mod laws;
 mod limits;
 mod options;
+mod writing;
 
 pub use examples::{worked_examples_of_files, worked_examples_of_programs};
 pub use laws::{few_run_under_pipe, one_child_for_one_command, pieces_join};
 pub use limits::MOST_PIPED;
 pub use options::{FileOptions, PipeOptions};
+pub use writing::{append_all, feed_all};
