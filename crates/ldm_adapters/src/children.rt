@@ -15,7 +15,7 @@ use std::marker::Model;
 use std::process::{Child, ChildStdin, Command, Stdio};
 use std::rt::HostRuntime;
 
-// A program that was not waited for yet. Its input is closed where it is shut, or where it is waited for.
+// A program that was neither waited for nor detached. Its input is closed where it is shut, waited for or detached.
 #[derive(Drop)]
 struct RealChild {
     words: Vec<String>,
@@ -102,7 +102,7 @@ fn end(process: &mut Child) {
     let _ = process.wait();
 }
 
-// The programs that were not waited for, under their numbers, and the next number.
+// The programs that were neither waited for nor detached, under their numbers, and the next number.
 #[derive(Drop)]
 struct Running {
     children: BTreeMap<usize, RealChild>,
@@ -148,6 +148,15 @@ impl Running {
         self.children.remove(&child.0);
         Ok(status)
     }
+
+    // Forgets a program, which runs on.
+    fn detach(&mut self, child: ChildNo)
+        ensures next_kept { self.new.next ≡ self.old.next }
+        ensures forgotten { self.new.children.entries ≡ without_number child.0 self.old.children.entries }
+    {
+        self.processes.detach(child.0);
+        self.children.remove(&child.0);
+    }
 }
 
 // Closes the input of a program that is to be waited for.
@@ -173,7 +182,8 @@ fn shut_input(children: &mut BTreeMap<usize, RealChild>, child: ChildNo)
 /// A program is found as the system's search path says. One that is not piped has nothing to read; what a program writes
 /// goes where this program's own output goes. A program that a signal ended has the status 128 and the signal's number.
 /// A program that ended is collected by the next call of `start` or `wait`, whichever program that is for, and its status is
-/// kept until it is waited for. Nothing is kept of a program that was waited for.
+/// kept until it is waited for. Nothing is kept of a program that was waited for, and of one that was detached no more than what
+/// collects it once it ended.
 #[derive(Drop)]
 pub struct RealLauncher {
     rt: HostRuntime,
@@ -255,5 +265,9 @@ impl Launcher for RealLauncher {
             Ok(status) => Ok(status),
             Err(_) => Err(self.fail()),
         }
+    }
+
+    fn detach(&mut self, child: ChildNo) {
+        self.running.detach(child);
     }
 }

@@ -7,11 +7,17 @@ use std::io::{self, ErrorKind};
 use std::os::unix::process::ExitStatusExt;
 use std::process::{Child, ExitStatus};
 
-// A process that was not collected yet.
+// A process that was not collected yet, and the number under which it can be waited for: none, where it was detached.
 #[derive(Drop)]
 struct Process {
-    number: usize,
+    number: Option<usize>,
     child: Child,
+}
+
+// A process that ended.
+struct Ended {
+    number: Option<usize>,
+    status: u32,
 }
 
 impl Process {
@@ -28,7 +34,8 @@ impl Process {
 
 /// Processes under the numbers of a launcher's children.
 ///
-/// A process that ended is collected, so that the system can forget it. Its status is kept until it is asked for.
+/// A process that ended is collected, so that the system can forget it. Its status is kept until it is asked for, but for a
+/// process that was detached.
 #[derive(Drop)]
 pub(crate) struct Processes {
     running: Vec<Process>,
@@ -54,14 +61,17 @@ impl Processes {
     pub(crate) fn add(&mut self, number: usize, child: Child)
         requires { vec_len self.old.running < vec_capacity self.old.running }
     {
-        self.running.push_reserved(Process { number, child });
+        self.running.push_reserved(Process {
+            number: Some(number),
+            child,
+        });
     }
 
     /// Collects those that ended.
     pub(crate) fn collect(&mut self) {
         for at in (0..self.running.len()).rev() {
-            if let Some((number, status)) = ended_at(&mut self.running, at)
-                && self.ended.insert(number, status).is_ok()
+            if let Some(ended) = ended_at(&mut self.running, at)
+                && keep_status(&mut self.ended, ended).is_ok()
                 && at < self.running.len()
             {
                 self.running.swap_remove(at);
@@ -76,7 +86,7 @@ impl Processes {
             return Ok(status);
         }
         for at in 0..self.running.len() {
-            if self.running[at].number == number {
+            if self.running[at].number == Some(number) {
                 let process = &mut self.running[at];
                 let status = process.wait()?;
                 if at < self.running.len() {
@@ -87,13 +97,32 @@ impl Processes {
         }
         Err(io::Error::from(ErrorKind::NotFound))
     }
+
+    /// Keeps nothing of the process of that number but what collects it once it ended.
+    pub(crate) fn detach(&mut self, number: usize) {
+        self.ended.remove(&number);
+        for process in &mut self.running {
+            if process.number == Some(number) {
+                process.number = None;
+            }
+        }
+    }
 }
 
-// The number and the status of the process at that place, where it ended.
-fn ended_at(running: &mut Vec<Process>, at: usize) -> Option<(usize, u32)> {
+// Keeps the status of a process that ended, where it can be asked for.
+fn keep_status(kept: &mut BTreeMap<usize, u32>, ended: Ended) -> Result<(), AllocError> {
+    if let Some(number) = ended.number {
+        kept.insert(number, ended.status)?;
+    }
+    Ok(())
+}
+
+// The process at that place, where it ended.
+fn ended_at(running: &mut Vec<Process>, at: usize) -> Option<Ended> {
     let process = running.get_mut(at)?;
     let number = process.number;
-    Some((number, process.status()?))
+    let status = process.status()?;
+    Some(Ended { number, status })
 }
 
 // The status that a shell gives: 128 and the signal's number where a signal ended the program.

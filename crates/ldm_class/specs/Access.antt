@@ -79,3 +79,8 @@ reduced feeds rule class =
 -- what is left of a class that a host asks for, by these rules
 abbrev pub reduce : List Rule → List ℕ → ClassSpec → Reduced
 reduce rules host class = reduced (feeds_for host rules) (or_none (first_rule (is_about host) rules)) class
+
+-- whether it may
+abbrev pub is_yes : Verdict → Bool
+is_yes (Yes rule) = true
+is_yes (No rule) = false

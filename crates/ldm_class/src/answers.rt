@@ -1,4 +1,6 @@
 //! What a policy answers.
+ghost use Rattle.std.specs.Prelude.{◌≡◌};
+ghost use Rattle.ldm_class.specs.Access.{is_yes};
 
 use ldm_types::ClassSpec;
 
@@ -15,6 +17,15 @@ pub enum Verdict {
         /// The number, from 1, of the first rule that meets the host and the product, or 0 where none meets.
         rule: u64,
     },
+}
+
+impl Verdict {
+    /// Whether it may.
+    pub fn is_yes(self) -> bool
+        ensures { result ≡ is_yes self }
+    {
+        matches!(self, Verdict::Yes { .. })
+    }
 }
 
 /// What is left of a class that a host asks for.

@@ -3,10 +3,8 @@ use Rattle.std.specs.Prelude.{ℕ, ◌-◌, ◌*◌, Bool, true, false, ◌&&◌
 use Rattle.ldm_types.specs.Info.{Metadata}
 use Rattle.ldm_types.specs.declared.class.ClassSpec.{ClassSpec}
 use Rattle.ldm_relay.specs.declared.message.TheConstants.{LARGEST_BLOCK}
-use Rattle.ldm_class.specs.declared.answers.Verdict.{Verdict}
-use Rattle.ldm_class.specs.declared.answers.Verdict.TheVariants.{Yes, No}
 use Rattle.ldm_class.specs.HostRules.{HostRules}
-use Rattle.ldm_class.specs.Access.{verdict}
+use Rattle.ldm_class.specs.Access.{is_yes, verdict}
 use Rattle.ldm_class.specs.Classes.{wants}
 use Rattle.ldm_intake.specs.declared.phase.Phase.{Phase}
 use Rattle.ldm_intake.specs.declared.phase.Pending.{Pending}
@@ -25,10 +23,6 @@ pub record Receiving : Type 0 where
   pub pending : Option Pending
   -- the signature of the last product that was offered to the queue or declined
   pub last : Option (List ℕ)
-
-abbrev pub is_yes : Verdict → Bool
-is_yes (Yes rule) = true
-is_yes (No rule) = false
 
 -- whether the peer may push a product
 abbrev pub may_push : Option HostRules → Metadata → Bool

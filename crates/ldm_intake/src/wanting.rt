@@ -2,7 +2,7 @@
 ghost use Rattle.std.specs.Prelude.{◌≡◌, IfOk, Some, None};
 ghost use Rattle.ldm_intake.specs.Receiving.{is_wanted, may_push};
 
-use ldm_class::{Class, ClassMatcher, HostPolicy, Verdict};
+use ldm_class::{Class, ClassMatcher, HostPolicy};
 use ldm_types::{Info, OutOfMemory};
 use std::alloc::Global;
 use std::marker::Model;
@@ -77,7 +77,7 @@ fn allows(policy: &mut Option<HostPolicy<'_>>, info: &Info) -> bool
     ensures same { policy.new ≡ policy.old }
 {
     match policy {
-        Some(policy) => matches!(policy.verdict(info), Verdict::Yes { .. }),
+        Some(policy) => policy.verdict(info).is_yes(),
         None => true,
     }
 }

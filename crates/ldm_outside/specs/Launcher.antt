@@ -8,7 +8,7 @@ use Rattle.ldm_outside.specs.declared.launcher.ChildNo.{ChildNo}
 use Rattle.ldm_outside.specs.Count.{Rose}
 use Rattle.ldm_outside.specs.Numbered.{at_number, with_number, without_number, with_changed_number}
 
--- A child that was not waited for yet.
+-- A child that was neither waited for nor detached.
 pub record Running : Type 0 where
   -- the program and what it was told, each word as its bytes
   pub words : List (List ℕ)
@@ -35,22 +35,22 @@ pub record LauncherRecord : Type 0 where
   pub faults : ℕ
   -- the number that the next child gets which is started
   pub next : ℕ
-  -- the children that were not waited for yet, under their numbers
+  -- the children that were neither waited for nor detached, under their numbers
   pub running : List (ℕ × Running)
   -- all children that were ever started, in order, where it tells them: the number of a child is its place here
   pub children : Option (List Child)
 
--- a child that was not waited for
+-- a child that was neither waited for nor detached
 abbrev pub running_at : ChildNo → LauncherRecord → Option Running
 running_at child launcher = at_number child.0 launcher.running
 
--- The number was given, and the child was not waited for.
+-- The number was given, and the child was neither waited for nor detached.
 pub record IsNotWaitedFor (child : ChildNo) (launcher : LauncherRecord) : Type 0 where
   pub it : Running
   pub given : child.0 < launcher.next
   pub not_waited : running_at child launcher ≡ Some it
 
--- The number was given, and the child was not waited for, nor its input shut.
+-- The number was given, and the child was neither waited for nor detached, nor was its input shut.
 pub record IsTaking (child : ChildNo) (launcher : LauncherRecord) : Type 0 where
   pub it : Running
   pub given : child.0 < launcher.next
@@ -142,3 +142,7 @@ WaitsForChild (Ok status) child old new =
       children = option_map (with_waited child) old.children;
     }
 WaitsForChild (Err failed) child old new = LauncherFails old new
+
+-- What one call of `detach` did: nobody can wait for the child any more.
+abbrev pub DetachesChild : ChildNo → LauncherRecord → LauncherRecord → Type 0
+DetachesChild child old new = new ≡ record old { running = without_number child.0 old.running }

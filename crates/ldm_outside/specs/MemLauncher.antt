@@ -12,7 +12,7 @@ use Rattle.ldm_outside.specs.Launcher.{Child, Running, LauncherRecord, is_piped,
 -- a launcher that starts no program, and fails at chosen calls
 pub record LauncherState : Type 0 where
   pub faults : ℕ
-  -- the children that were not waited for yet, under their numbers
+  -- the children that were neither waited for nor detached, under their numbers
   pub running : List (ℕ × Running)
   -- all children that were ever started: the number of a child is its place here
   pub children : List Child
@@ -79,3 +79,7 @@ WaitsAsPlanned (Ok status) child old new =
       plan = after_call old.plan;
     })
 WaitsAsPlanned (Err failed) child old new = (next_fails old.plan ≡ true) × (new ≡ launcher_failed old)
+
+-- What one call of `detach` did. It is not one of the calls that may fail.
+abbrev pub DetachesAsPlanned : ChildNo → LauncherState → LauncherState → Type 0
+DetachesAsPlanned child old new = new ≡ record old { running = without_number child.0 old.running }

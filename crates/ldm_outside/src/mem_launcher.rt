@@ -94,7 +94,7 @@ impl MemChild {
     }
 }
 
-// What is known of a child that was not waited for yet.
+// What is known of a child that was neither waited for nor detached.
 #[derive(Debug, Drop)]
 struct MemRunning {
     words: Vec<String>,
@@ -194,7 +194,7 @@ fn shut_input(running: &mut BTreeMap<usize, MemRunning>, child: ChildNo)
 }
 
 /// A launcher in memory: it starts no program, keeps what each child was given, and answers the statuses that it was
-/// made with. Its calls are numbered from 1, and those of the numbers in a list fail.
+/// made with. Its calls are numbered from 1, and those of the numbers in a list fail; `detach` has no number.
 ///
 /// A write to a child that is not piped fails, and so does a call without memory for what it is to keep. A write takes as
 /// much of the piece as the limit allows.
@@ -258,8 +258,8 @@ impl MemLauncher {
 }
 
 impl Launcher for MemLauncher {
-    ghost use Rattle.ldm_outside.specs.Launcher.{StartsChild, IsTaking, FeedsChild, ShutsInput, IsNotWaitedFor, WaitsForChild};
-    ghost use Rattle.ldm_outside.specs.MemLauncher.{told_by_launcher, StartsChildAsPlanned, FeedsChildAsPlanned, ShutsInputAsPlanned, WaitsAsPlanned};
+    ghost use Rattle.ldm_outside.specs.Launcher.{StartsChild, IsTaking, FeedsChild, ShutsInput, IsNotWaitedFor, WaitsForChild, DetachesChild};
+    ghost use Rattle.ldm_outside.specs.MemLauncher.{told_by_launcher, StartsChildAsPlanned, FeedsChildAsPlanned, ShutsInputAsPlanned, WaitsAsPlanned, DetachesAsPlanned};
 
     ghost tells = { told_by_launcher };
 
@@ -318,5 +318,13 @@ impl Launcher for MemLauncher {
         self.started.now.remove(&child.0);
         self.started.ever[child.0].wait();
         Ok(self.statuses.get(child.0).copied().unwrap_or(0))
+    }
+
+    fn detach(&mut self, child: ChildNo)
+        requires { IsNotWaitedFor child (told_by_launcher self.old) }
+        ensures detached { DetachesChild child (told_by_launcher self.old) (told_by_launcher self.new) }
+        ensures planned { DetachesAsPlanned child self.old self.new }
+    {
+        self.started.now.remove(&child.0);
     }
 }

@@ -1,10 +1,10 @@
 -- What the calls of passes come to.
-use Rattle.std.proofs.Common.{◌≡◌, ℕ, Bool, cond, List, [], ◌∷◌, ◌++◌, length, refl, ap, sym, subst, ◌∙◌, arith, append_assoc, append-nil, length-append, eq-eqb}
+use Rattle.std.proofs.Common.{◌≡◌, ℕ, Bool, cond, List, [], ◌∷◌, ◌++◌, length, refl, ap, sym, subst, ◌∙◌, arith, append_assoc, append-nil, length-append, eq-eqb, ◌⊎◌, inl, inr}
 use mathlib.Core.List.{IsPrefix}
 use Rattle.ldm_model.specs.declared.event.Entry.{Entry}
 use Rattle.ldm_model.specs.History.{IsLegal}
 use Rattle.ldm_shared.specs.Own.{own, AreBelow, Adds}
-use Rattle.ldm_shared.specs.Passes.{SharedView, PassView, new_pass, HasSeen, Makes, HasAllOf, IsLast}
+use Rattle.ldm_shared.specs.Passes.{SharedView, PassView, new_pass, HasSeen, Makes, Calls, HasAllOf, IsLast}
 use Rattle.ldm_shared.proofs.Histories.{prefix_self, prefix_trans, own-append, own-all, below-front}
 
 pub adds_none : (actor : ℕ) (history : List Entry) → Adds actor history history []
@@ -42,6 +42,25 @@ makes_trans a b c made more first second = record {
   same = second.same ∙ ap (λ (p : PassView). record p { seen = c.seen }) first.same;
   adds = adds_trans a.actor a.seen b.seen c.seen made more first.adds (subst (λ (n : ℕ). Adds n b.seen c.seen more) (same_actor a b made first) second.adds);
   has_seen = second.has_seen;
+}
+
+pub calls_none : (pass : PassView) → Calls pass pass []
+calls_none pass = record { same = refl; adds = adds_none pass.actor pass.seen; has_seen = inl refl }
+
+pub calls_some : (old new : PassView) (made : List Entry) → Makes old new made → Calls old new made
+calls_some old new made makes = record { same = makes.same; adds = makes.adds; has_seen = inr makes.has_seen }
+
+seen_then : (a b c : PassView) → (b ≡ a) ⊎ HasSeen b → (c ≡ b) ⊎ HasSeen c → (c ≡ a) ⊎ HasSeen c
+seen_then a b c first (inr has) = inr has
+seen_then a b c (inl same) (inl again) = inl (again ∙ same)
+seen_then a b c (inr has) (inl again) = inr (subst HasSeen (sym again) has)
+
+pub calls_trans : (a b c : PassView) (made more : List Entry) → Calls a b made → Calls b c more → Calls a c (made ++ more)
+calls_trans a b c made more first second = record {
+  same = second.same ∙ ap (λ (p : PassView). record p { seen = c.seen }) first.same;
+  adds = adds_trans a.actor a.seen b.seen c.seen made more first.adds
+      (subst (λ (n : ℕ). Adds n b.seen c.seen more) (ap (λ (p : PassView). p.actor) first.same) second.adds);
+  has_seen = seen_then a b c first.has_seen second.has_seen;
 }
 
 pub makes_end : (old new last : PassView) (made : List Entry) → Makes old new made → HasAllOf last new → Adds old.actor old.seen last.seen made

@@ -61,6 +61,13 @@ pub record Makes (old new : PassView) (made : List Entry) : Type 0 where
   pub adds : Adds old.actor old.seen new.seen made
   pub has_seen : HasSeen new
 
+-- From an old pass to a new one just these calls were made with it, in order, perhaps none. Where none was made, and it did not look
+-- either, nothing is known of what it had seen.
+pub record Calls (old new : PassView) (made : List Entry) : Type 0 where
+  pub same : IsSamePass old new
+  pub adds : Adds old.actor old.seen new.seen made
+  pub has_seen : (new ≡ old) ⊎ HasSeen new
+
 -- the entry of a call of a pass
 abbrev pub entry_of : PassView → Event → Reply → Entry
 entry_of pass event reply = record { actor = pass.actor; event = event; reply = reply }

@@ -11,7 +11,7 @@ ghost use Rattle.ldm_model.specs.declared.event.Entry.{Entry};
 ghost use Rattle.ldm_model.specs.History.{IsLegal};
 ghost use Rattle.ldm_model.specs.Law.{Point, is_step, IsServed, IsAnsweredAt};
 ghost use Rattle.ldm_shared.specs.Own.{own, Adds};
-ghost use Rattle.ldm_shared.specs.Passes.{SharedView, PassView, new_pass, HasSeen, Makes, entry_of, Grows, FindsWorn, HasMet, HasAllOf, IsLast};
+ghost use Rattle.ldm_shared.specs.Passes.{SharedView, PassView, new_pass, HasSeen, Makes, Calls, entry_of, Grows, FindsWorn, HasMet, HasAllOf, IsLast};
 ghost use Rattle.ldm_shared.specs.OwnReaders.{OwnPoint, IsSeenAt, IsCalledAt, Agrees, HasLost, IsAdmittedFor, IsAdmittedWith, ReadsOfHeld, AtEveryOwnPoint, AtEveryOwnCall};
 ghost use Rattle.ldm_shared.specs.OwnReaders.{numbers_given, losses_told, number_held};
 
@@ -29,6 +29,11 @@ pub fn calls_made()
     ensures met { (old other new : PassView) → HasMet old other new → Makes old new [] }
     ensures in_a_row { (first second third : PassView) (made more : List Entry) → Makes first second made → Makes second third more → Makes first third (made ++ more) }
     ensures end { (old new last : PassView) (made : List Entry) → Makes old new made → HasAllOf last new → Adds old.actor old.seen last.seen made }
+
+    // The same of a caller that may make none, and of whose pass nothing is known before.
+    ensures nothing { (pass : PassView) → Calls pass pass [] }
+    ensures some { (old new : PassView) (made : List Entry) → Makes old new made → Calls old new made }
+    ensures more { (first second third : PassView) (made more : List Entry) → Calls first second made → Calls second third more → Calls first third (made ++ more) }
 
     // A new pass has seen a history that its queue can have, and so has a pass that has seen less than another.
     ensures new { (shared : SharedView) (actor : ℕ) → HasSeen (new_pass shared actor) }

@@ -1,15 +1,9 @@
 -- Which products are due to the host that asked.
 use Rattle.std.specs.Prelude.{ℕ, Bool, true, false, ◌&&◌, nat_le}
 use Rattle.ldm_types.specs.Info.{Metadata}
-use Rattle.ldm_class.specs.declared.answers.Verdict.{Verdict}
-use Rattle.ldm_class.specs.declared.answers.Verdict.TheVariants.{Yes, No}
-use Rattle.ldm_class.specs.Access.{verdict}
+use Rattle.ldm_class.specs.Access.{is_yes, verdict}
 use Rattle.ldm_class.specs.Classes.{wants}
 use Rattle.ldm_upstream.specs.Asked.{Asked}
-
-abbrev pub is_yes : Verdict → Bool
-is_yes (Yes rule) = true
-is_yes (No rule) = false
 
 -- Whether a product is due: it was inserted no later than the class asks, the class wants it, and the rules let the host have it.
 abbrev pub is_due : Asked → ℕ → Metadata → Bool

@@ -1,9 +1,9 @@
 //! Which products are due.
 ghost use Rattle.std.specs.Prelude.{◌≡◌};
 ghost use Rattle.ldm_upstream.specs.Asked.{Asked, IsAskedOf};
-ghost use Rattle.ldm_upstream.specs.Due.{is_due, is_yes};
+ghost use Rattle.ldm_upstream.specs.Due.{is_due};
 
-use ldm_class::{ClassMatcher, HostPolicy, Verdict};
+use ldm_class::{ClassMatcher, HostPolicy};
 use ldm_types::{Info, Micros};
 
 /// Whether a product that was inserted at that time is due: that is no later than `to`, up to which the class asks; the class wants it;
@@ -23,14 +23,5 @@ pub fn is_due(
     if time.get() > to.get() || !class.wants(info) {
         return false;
     }
-    is_yes(rules.verdict(info))
-}
-
-fn is_yes(verdict: Verdict) -> bool
-    ensures { result ≡ is_yes verdict }
-{
-    match verdict {
-        Verdict::Yes { .. } => true,
-        Verdict::No { .. } => false,
-    }
+    rules.verdict(info).is_yes()
 }

@@ -1,6 +1,6 @@
 use Rattle.std.proofs.Common.{sym, subst}
 use Rattle.ldm_model.specs.History.{IsLegal}
-use Rattle.ldm_shared.proofs.Made.{makes_none, makes_trans, makes_end, has_seen_new, has_seen_front}
+use Rattle.ldm_shared.proofs.Made.{makes_none, makes_trans, makes_end, calls_none, calls_some, calls_trans, has_seen_new, has_seen_front}
 use Rattle.ldm_shared.proofs.laws.calls_made.Goals as goal
 
 pub returns-clause-none : goal.returns-clause-none
@@ -20,6 +20,15 @@ returns-clause-in_a_row c = makes_trans
 
 pub returns-clause-end : goal.returns-clause-end
 returns-clause-end c = makes_end
+
+pub returns-clause-nothing : goal.returns-clause-nothing
+returns-clause-nothing c = calls_none
+
+pub returns-clause-some : goal.returns-clause-some
+returns-clause-some c = calls_some
+
+pub returns-clause-more : goal.returns-clause-more
+returns-clause-more c = calls_trans
 
 pub returns-clause-new : goal.returns-clause-new
 returns-clause-new c = has_seen_new
