@@ -6,7 +6,10 @@
 mod gaps;
 mod gathering;
 mod idle;
+mod replies;
+mod waiting;
 
 pub use gaps::{LONGEST_NAME, write_gap};
 pub use gathering::{GATHERED, room_to_gather, send_gathered, send_where_full};
 pub use idle::{LONGEST_SILENCE, is_silent_since};
+pub use replies::{NoReply, Replies};
