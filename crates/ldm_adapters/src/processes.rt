@@ -15,6 +15,7 @@ struct Process {
 }
 
 // A process that ended.
+#[derive(Clone, Copy, Drop)]
 struct Ended {
     number: Option<usize>,
     status: u32,

@@ -5,7 +5,7 @@ use Rattle.std.specs.declared.alloc.Global.{Global}
 use Rattle.std.proofs.lemmas.Slice.Eq.{bytes_eq-Decides}
 use Rattle.ldm_outside.specs.declared.launcher.ChildNo.{ChildNo}
 use Rattle.ldm_outside.specs.declared.store.FileNo.{FileNo}
-use Rattle.ldm_outside.specs.Launcher.{LauncherRecord, Running, IsTaking, IsNotWaitedFor, LauncherFails, new_running, running_at, with_fed, with_input_shut, with_shut, with_started, with_waited}
+use Rattle.ldm_outside.specs.Launcher.{LauncherRecord, Running, DetachesChild, IsTaking, IsNotWaitedFor, LauncherFails, new_running, running_at, with_fed, with_input_shut, with_shut, with_started, with_waited}
 use Rattle.ldm_outside.specs.Numbered.{at_number, without_number}
 use Rattle.ldm_outside.specs.Store.{File, StoreRecord, IsOpen, ChangesFile, StoreFails, bytes_under, path_of, with_changed, with_file, with_made, with_opened}
 use Rattle.ldm_outside.proofs.NumberLemmas.{at-with, at-with-others, at-without-others, at-changed, at-changed-others}
@@ -198,6 +198,22 @@ IsTaking-waited child other old new differ is taking = subst (λ (l : LauncherRe
 
 pub IsNotWaitedFor-waited : (child other : ChildNo) (old new : LauncherRecord) → child.0 ≢ other.0 → new ≡ with_wait_for other old → IsNotWaitedFor child old → IsNotWaitedFor child new
 IsNotWaitedFor-waited child other old new differ is running = subst (λ (l : LauncherRecord). IsNotWaitedFor child l) (sym is) (record {
+  it = running.it;
+  given = running.given;
+  not_waited = at-without-others other.0 child.0 old.running differ ∙ running.not_waited;
+})
+
+-- or where another was detached
+pub IsTaking-detached : (child other : ChildNo) (old new : LauncherRecord) → child.0 ≢ other.0 → DetachesChild other old new → IsTaking child old → IsTaking child new
+IsTaking-detached child other old new differ is taking = subst (λ (l : LauncherRecord). IsTaking child l) (sym is) (record {
+  it = taking.it;
+  given = taking.given;
+  not_waited = at-without-others other.0 child.0 old.running differ ∙ taking.not_waited;
+  not_shut = taking.not_shut;
+})
+
+pub IsNotWaitedFor-detached : (child other : ChildNo) (old new : LauncherRecord) → child.0 ≢ other.0 → DetachesChild other old new → IsNotWaitedFor child old → IsNotWaitedFor child new
+IsNotWaitedFor-detached child other old new differ is running = subst (λ (l : LauncherRecord). IsNotWaitedFor child l) (sym is) (record {
   it = running.it;
   given = running.given;
   not_waited = at-without-others other.0 child.0 old.running differ ∙ running.not_waited;
