@@ -29,6 +29,7 @@ fn answer(trial: &mut Trial) {
         "turns" => files::turn_file(trial),
         "run" => programs::run(trial),
         "unpiped" => programs::unpiped(trial),
+        "detached" => programs::detached(trial),
         "clock" => gates::clock(trial),
         "gate" => gates::gate(trial),
         "open_gate" => gates::open_gate(trial),

@@ -3,7 +3,8 @@ ghost use Rattle.std.specs.Prelude.{◌<◌, length};
 
 use ldm_drive::Trial;
 use ldm_drive_outside::{
-    copied, numbers, shut, start, tell_bytes, tell_count, tell_word, text_copied, write,
+    copied, detach, numbers, shut, start, start_beside, tell_bytes, tell_count, tell_word,
+    text_copied, write,
 };
 use ldm_outside::{Launcher, MemLauncher, Put};
 
@@ -50,6 +51,29 @@ fn run_unpiped<L: Launcher>(trial: &mut Trial, launcher: &mut L, words: &[String
     }
 }
 
+// Starts two children and detaches the first. The second is given `ab`, its input is shut, and it is waited for.
+fn run_beside<L: Launcher>(launcher: &mut L, words: &[String]) -> Ran
+    requires { 0 < length words.now }
+{
+    let Ok(first) = start(launcher, words, true) else {
+        return Ran::FailedAt(1);
+    };
+    let Ok(second) = start_beside(launcher, words, true, first) else {
+        return Ran::FailedAt(2);
+    };
+    detach(launcher, first);
+    if write(launcher, second, b"ab") == Put::Failed {
+        return Ran::FailedAt(3);
+    }
+    if shut(launcher, second).is_err() {
+        return Ran::FailedAt(4);
+    }
+    match launcher.wait(second) {
+        Ok(status) => Ran::Ended(status),
+        Err(_) => Ran::FailedAt(5),
+    }
+}
+
 fn end_of_launcher(trial: &mut Trial, launcher: &MemLauncher, ran: Ran) {
     match ran {
         Ran::Ended(status) => tell_count(trial, "status", u64::from(status)),
@@ -80,5 +104,14 @@ pub fn unpiped(trial: &mut Trial) {
     let words = [text_copied(trial, "cat")];
     let mut launcher = MemLauncher::new(alloc, Vec::new(alloc), Vec::new(alloc));
     let ran = run_unpiped(trial, &mut launcher, &words);
+    end_of_launcher(trial, &launcher, ran);
+}
+
+/// `detached FAILING`: a child that is detached, and one beside it that ends with 8.
+pub fn detached(trial: &mut Trial) {
+    let words = [text_copied(trial, "cat")];
+    let statuses = copied(trial, &[7, 8]);
+    let mut launcher = MemLauncher::new(trial.alloc(), statuses, numbers(trial));
+    let ran = run_beside(&mut launcher, &words);
     end_of_launcher(trial, &launcher, ran);
 }

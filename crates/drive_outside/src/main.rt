@@ -22,6 +22,8 @@ fn answer(rt: HostRuntime, trial: &mut Trial) {
         "late" => system::late(rt, trial),
         "ended" => system::ended(rt, trial),
         "kept" => system::kept(rt, trial),
+        "detached" => system::detached(rt, trial),
+        "beside" => system::beside(rt, trial),
         "tcp" => tcp::tcp(rt, trial),
         "time" => gates::time(rt, trial),
         _ => trial.refuse("no such word"),

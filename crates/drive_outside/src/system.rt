@@ -1,10 +1,12 @@
 //! Programs of the system.
-ghost use Rattle.std.specs.Prelude.{◌<◌, ◌≢◌, length, IfOk};
+ghost use Rattle.std.specs.Prelude.{◌<◌, ◌≢◌, length};
 ghost use Rattle.ldm_outside.specs.Launcher.{IsTaking};
 
 use ldm_adapters::{RealGate, RealLauncher};
 use ldm_drive::Trial;
-use ldm_drive_outside::{idle, push, shut, start, tell_count, tell_word, text_copied, write};
+use ldm_drive_outside::{
+    detach, idle, push, shut, start, start_beside, tell_count, tell_word, text_copied, write,
+};
 use ldm_outside::{ChildNo, Failed, Launcher, Put};
 use std::rt::HostRuntime;
 
@@ -100,11 +102,18 @@ pub fn late(rt: HostRuntime, trial: &mut Trial) {
     tell_count(trial, "faults", launcher.faults());
 }
 
-// The number of dead processes of this one that were not collected, as the status of a shell.
-const DEAD: &str =
-    "n=0; for p in /proc/[0-9]*/stat; do read -r l 2>/dev/null < $p && case \"$l\" in *') Z '$PPID' '*) n=$((n+1));; esac; done; exit $n";
+// How many processes this one has beside the shell itself, alive or dead, as the status of a shell.
+const LEFT: &str =
+    "n=0; for p in /proc/[0-9]*/stat; do read -r l 2>/dev/null < $p && case \"$l\" in *') '?' '$PPID' '*) n=$((n+1));; esac; done; exit $((n-1))";
 
-/// `ended COUNT`: so many programs end before another is started. How many of them are dead processes still.
+// Starts a shell behind some time, and tells how many processes are left then of those that were started before.
+fn tell_left<L: Launcher>(rt: HostRuntime, trial: &mut Trial, launcher: &mut L) {
+    pause(rt);
+    let words = shell(trial, LEFT);
+    tell_run(trial, launcher, &words, false);
+}
+
+/// `ended COUNT`: so many programs end before another is started.
 pub fn ended(rt: HostRuntime, trial: &mut Trial) {
     let mut launcher = RealLauncher::new(rt);
     let words = shell(trial, "exit 5");
@@ -115,24 +124,37 @@ pub fn ended(rt: HostRuntime, trial: &mut Trial) {
             Err(_) => trial.refuse("the system failed"),
         }
     }
-    pause(rt);
-    let words = shell(trial, DEAD);
-    tell_run(trial, &mut launcher, &words, false);
+    tell_left(rt, trial, &mut launcher);
     tell_count(trial, "started", children.len() as u64);
 }
 
-// Starts a program beside another.
-fn start_beside<L: Launcher>(
-    launcher: &mut L,
-    words: &[String],
-    other: ChildNo,
-) -> Result<ChildNo, Failed>
-    requires words { 0 < length words.now }
-    requires other { IsTaking other (L.tells launcher.old) }
-    ensures other { IsTaking other (L.tells launcher.new) }
-    ensures started { IfOk result (λ child. IsTaking child (L.tells launcher.new) × (child.0 ≢ other.0)) }
+// Starts a program, and detaches it: whether it was started.
+fn start_detached<L: Launcher>(launcher: &mut L, words: &[String], piped: bool) -> bool
+    requires { 0 < length words.now }
 {
-    launcher.start(words, false)
+    let Ok(child) = start(launcher, words, piped) else {
+        return false;
+    };
+    detach(launcher, child);
+    true
+}
+
+/// `detached PIPED COUNT LINE`: so many shells with this line are started and detached.
+pub fn detached(rt: HostRuntime, trial: &mut Trial) {
+    let mut launcher = RealLauncher::new(rt);
+    let piped = trial.word() == "piped";
+    let count = trial.small();
+    let line = trial.rest();
+    let words = shell(trial, line);
+    let mut started = 0u64;
+    for _ in 0..count {
+        if start_detached(&mut launcher, &words, piped) {
+            started = started.saturating_add(1);
+        }
+    }
+    tell_left(rt, trial, &mut launcher);
+    tell_count(trial, "started", started);
+    tell_count(trial, "faults", launcher.faults());
 }
 
 // Waits for a program beside another.
@@ -151,6 +173,34 @@ fn wait<L: Launcher>(launcher: &mut L, child: ChildNo) -> Result<u32, Failed>
     launcher.wait(child)
 }
 
+// Two programs end, and the later is detached. The status of the earlier.
+fn later_detached<L: Launcher>(
+    rt: HostRuntime,
+    launcher: &mut L,
+    first: &[String],
+    second: &[String],
+) -> Option<u32>
+    requires first { 0 < length first.now }
+    requires second { 0 < length second.now }
+{
+    let earlier = start(launcher, first, false).ok()?;
+    let later = start_beside(launcher, second, false, earlier).ok()?;
+    pause(rt);
+    detach(launcher, later);
+    wait(launcher, earlier).ok()
+}
+
+/// `beside`: two programs end with 5 and 6, and the later is detached.
+pub fn beside(rt: HostRuntime, trial: &mut Trial) {
+    let mut launcher = RealLauncher::new(rt);
+    let first = shell(trial, "exit 5");
+    let second = shell(trial, "exit 6");
+    match later_detached(rt, &mut launcher, &first, &second) {
+        Some(earlier) => tell_count(trial, "earlier", u64::from(earlier)),
+        None => trial.refuse("the system failed"),
+    }
+}
+
 // Two programs end before one of them is waited for. The status of the later, and then of the earlier.
 fn later_first<L: Launcher>(
     rt: HostRuntime,
@@ -162,7 +212,7 @@ fn later_first<L: Launcher>(
     requires second { 0 < length second.now }
 {
     let earlier = start(launcher, first, false).ok()?;
-    let later = start_beside(launcher, second, earlier).ok()?;
+    let later = start_beside(launcher, second, false, earlier).ok()?;
     pause(rt);
     let status = wait_beside(launcher, later, earlier).ok()?;
     Some((status, wait(launcher, earlier).ok()?))

@@ -11,7 +11,7 @@ mod words;
 
 pub use files::{append, read, rewrite, turns};
 pub use links::{listen, tell_got, tell_put};
-pub use programs::{shut, start, write};
+pub use programs::{detach, shut, start, start_beside, write};
 pub use streams::{reads, wholes, writes};
 pub use waits::{ask, idle, tell_go};
 pub use words::{
