@@ -3,6 +3,8 @@ pub mod Notes
 pub mod Asking
 pub mod Receiving
 pub mod WantingView
+pub mod IntakeView
+pub mod Opening
 pub mod Step
 pub mod Answered
 pub mod Products
@@ -10,4 +12,7 @@ pub mod Record
 pub mod Taken
 pub mod Room
 pub mod Lawful
+pub mod TakesRecord
+pub mod Turning
+pub mod Settled
 pub mod Examples

@@ -48,11 +48,16 @@ accepts s now xid info r =
 abbrev pub declines : Receiving → ℕ → Metadata → List Note → Course Step
 declines s xid info notes = Comes (Goes (with_last s info) (sent.ComingsoonReply xid soon_answer.DontSend ∷ []) notes)
 
+-- what is logged of a reservation
+abbrev pub reserve_note : Metadata → Reply → List Note
+reserve_note info (Reserved r evicted) = []
+reserve_note info (Duplicate n) = []
+reserve_note info reply = Refused info.ident reply ∷ []
+
 -- what the queue answers to a reservation
 abbrev pub reserved : Receiving → ℕ → ℕ → Metadata → Reply → Course Step
 reserved s now xid info (Reserved r evicted) = accepts s now xid info r
-reserved s now xid info (Duplicate n) = declines s xid info []
-reserved s now xid info reply = declines s xid info (Refused info.ident reply ∷ [])
+reserved s now xid info reply = declines s xid info (reserve_note info reply)
 
 -- a product is announced
 abbrev pub comingsoon_wanted : Receiving → ℕ → ℕ → Metadata → Course Step

@@ -1,5 +1,5 @@
 -- One record of the stream.
-use Rattle.std.specs.Prelude.{ℕ, Bool, List, [], Result, Ok, Err}
+use Rattle.std.specs.Prelude.{ℕ, Bool, List, [], Result, Ok}
 use Rattle.ldm_types.specs.declared.class.ClassSpec.{ClassSpec}
 use Rattle.ldm_relay.specs.declared.fault.RelayFault.{RelayFault}
 use Rattle.ldm_relay.specs.declared.procedure.Procedure.TheVariants as procedure

@@ -2,14 +2,14 @@
 ghost use Rattle.std.specs.Prelude.{◌≡◌, ◌≤◌, ◌<◌, ◌+◌, ◌∷◌, ◌++◌, [], length};
 ghost use Rattle.std.specs.Vec.{vec_len, vec_capacity};
 ghost use Rattle.ldm_types.specs.declared.limits.TheConstants.{LONGEST_IDENT};
-ghost use Rattle.ldm_model.specs.Answers.{insert_answer, commit_answer};
+ghost use Rattle.ldm_model.specs.Answers.{insert_answer, reserve_answer, commit_answer};
 ghost use Rattle.ldm_script.specs.AnswerView.{reply_of, FitsAnswer};
 ghost use Rattle.ldm_intake.specs.Notes.{note_line, note_lines};
 ghost use Rattle.ldm_intake.specs.Notes as note;
-ghost use Rattle.ldm_intake.specs.Products.{insert_note, commit_note};
+ghost use Rattle.ldm_intake.specs.Products.{insert_note, reserve_note, commit_note};
 ghost use Rattle.ldm_intake.specs.Room.{HasNoteRoom};
 
-use ldm_model::{CommitReply, InsertReply};
+use ldm_model::{CommitReply, InsertReply, ReserveReply};
 use ldm_script::{Answer, LONGEST_ANSWER, Text, put, text_into, write_answer};
 use ldm_types::{Info, LONGEST_IDENT};
 
@@ -71,6 +71,22 @@ pub fn note_insert(notes: &mut Vec<u8>, info: &Info, reply: InsertReply)
         InsertReply::Duplicate { n } => put_refused(notes, info, &Answer::Duplicate { n }),
         InsertReply::TimeEnd => put_refused(notes, info, &Answer::TimeEnd),
         InsertReply::Locked { held } => put_refused(notes, info, &Answer::Locked { held }),
+    }
+}
+
+/// Appends what is logged of a reservation.
+pub fn note_reserve(notes: &mut Vec<u8>, info: &Info, reply: ReserveReply)
+    requires { HasNoteRoom notes.old }
+    ensures { notes.new.items ≡ notes.old.items ++ note_lines (reserve_note info.now (reserve_answer reply)) }
+{
+    match reply {
+        ReserveReply::Reserved { .. } => {}
+        ReserveReply::Duplicate { .. } => {}
+        ReserveReply::TooBig { need, arena } => {
+            put_refused(notes, info, &Answer::TooBig { need, arena });
+        }
+        ReserveReply::AllReserved => put_refused(notes, info, &Answer::AllReserved),
+        ReserveReply::Locked { held } => put_refused(notes, info, &Answer::Locked { held }),
     }
 }
 

@@ -1,6 +1,6 @@
 //! Where a receiving stands.
 
-ghost use Rattle.std.specs.Prelude.{◌≡◌};
+ghost use Rattle.std.specs.Prelude.{◌≡◌, ◌<◌, ◌+◌};
 ghost use Rattle.ldm_intake.specs.Products.{is_next};
 ghost use Rattle.ldm_intake.specs.Receiving.{left_of};
 
@@ -43,6 +43,18 @@ impl Pending {
         part.signature.0.as_slice() == signature.0.as_slice()
             && part.number == self.blocks
             && part.block.len() == LARGEST_BLOCK.min(self.left())
+    }
+
+    /// What is pending behind one block more.
+    pub fn next(self) -> Pending
+        requires { 0 < left_of self }
+        ensures { result ≡ record self { blocks = self.blocks + 1 } }
+    {
+        Pending {
+            info: self.info,
+            r: self.r,
+            blocks: self.blocks + 1,
+        }
     }
 
     /// The same once more. It takes no memory.

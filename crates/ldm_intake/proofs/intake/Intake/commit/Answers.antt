@@ -1,0 +1,18 @@
+use Rattle.std.proofs.Common.{[], refl, sym, append-nil}
+use Rattle.ldm_model.specs.Answers.{commit_answer}
+use Rattle.ldm_model.specs.declared.event.Event.TheVariants.{Commit}
+use Rattle.ldm_intake.specs.Course.{Comes}
+use Rattle.ldm_intake.specs.Products.{commit_note}
+use Rattle.ldm_intake.specs.Receiving.{with_last}
+use Rattle.ldm_intake.specs.Step.{Goes}
+use Rattle.ldm_intake.proofs.Calling.{goes_by_one}
+use Rattle.ldm_intake.proofs.intake.Intake.commit.Goals as goal
+
+pub returns-in-Done : goal.returns-in-Done
+returns-in-Done g c = λ out.
+    let info = c.args.pending.now.info in
+    let s = with_last c.args.self.now info in
+    let reply = commit_answer c.in-Done.reply in
+    goes_by_one c.args.self.now c.pass_by.new.self s [] (commit_note info reply) out out c.args.notes.now.items c.note_commit.new.notes.items
+    c.pass_by.ensures (sym (append-nil out)) c.note_commit.ensures
+    (Commit c.args.pending.now.r c.args.now) (λ r. Comes (Goes s [] (commit_note info r))) reply c.args.pass.now c.commit.new.pass c.in-Done.ensures.done refl
