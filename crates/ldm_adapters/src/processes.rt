@@ -1,5 +1,6 @@
 //! The processes of a launcher: those that run, and how those ended that were not waited for yet.
-ghost use Rattle.std.specs.Prelude.{◌<◌, vec_len, vec_capacity, OnOk};
+ghost use Rattle.std.specs.Prelude.{◌≡◌, ◌≢◌, ◌<◌, vec_len, vec_capacity, All, Some, OnOk};
+ghost use Rattle.ldm_outside.specs.Numbered.{without_number};
 
 use std::alloc::{AllocError, Global};
 use std::collections::BTreeMap;
@@ -100,12 +101,22 @@ impl Processes {
     }
 
     /// Keeps nothing of the process of that number but what collects it once it ended.
-    pub(crate) fn detach(&mut self, number: usize) {
+    pub(crate) fn detach(&mut self, number: usize)
+        ensures unnamed { All (λ process. process.number ≢ Some number) self.new.running.items }
+        ensures forgotten { self.new.ended.entries ≡ without_number number self.old.ended.entries }
+    {
         self.ended.remove(&number);
-        for process in &mut self.running {
-            if process.number == Some(number) {
-                process.number = None;
-            }
+        forget_number(self.running.as_mut_slice(), number);
+    }
+}
+
+// Takes the number from the process that has it.
+fn forget_number(running: &mut [Process], number: usize)
+    ensures { All (λ process. process.number ≢ Some number) running.new }
+{
+    for process in running.iter_mut() {
+        if process.number == Some(number) {
+            process.number = None;
         }
     }
 }
