@@ -1,0 +1,134 @@
+-- A record that was found, by what taking it came to.
+use Rattle.std.proofs.Common.{◌≡◌, ℕ, Bool, true, false, List, [], ◌∷◌, ◌++◌, Option, Some, None, inl, refl, ap, sym, subst, ◌∙◌}
+use Rattle.std.proofs.lemmas.List.{append-nil}
+use Rattle.ldm_rpc.specs.declared.fault.RpcFault.{RpcFault}
+use Rattle.ldm_rpc.specs.declared.fault.RpcFault.TheVariants.{TooLong as too_long}
+use Rattle.ldm_rpc.specs.declared.stage.Stage.TheVariants.{Faulty}
+use Rattle.ldm_rpc.specs.Reading.{Reading, after, is_faulty, is_faulty_at, is_whole, is_whole_at, next_of, whole_of}
+use Rattle.ldm_rpc.specs.Streams.{Position, given}
+use Rattle.ldm_rpc.specs.Taking.{IsFaultOf}
+use Rattle.ldm_model.specs.declared.event.Entry.{Entry}
+use Rattle.ldm_relay.specs.declared.message.ClassAnswer.{ClassAnswer}
+use Rattle.ldm_shared.specs.Passes.{Calls}
+use Rattle.ldm_shared.proofs.Made.{calls_none}
+use Rattle.ldm_intake.specs.declared.end.RecvEnd.{RecvEnd}
+use Rattle.ldm_intake.specs.declared.end.RecvEnd.TheVariants.{BadFrame, Refused, Worn, OutOfMemory}
+use Rattle.ldm_intake.specs.Course.{Leads}
+use Rattle.ldm_intake.specs.Notes.{note_lines}
+use Rattle.ldm_intake.specs.Record.{record_course}
+use Rattle.ldm_intake.specs.Room.{records_of}
+use Rattle.ldm_intake.specs.Step.{Step, Goes, Bad, Declined}
+use Rattle.ldm_intake.specs.Taken.{Arrival, taken_none, taken}
+use Rattle.ldm_intake.specs.TakesRecord.{Standing, GoesOn, RunsOut}
+use Rattle.ldm_intake.proofs.TakenRecords.{stepped, leads-one}
+use Rattle.ldm_downstream.specs.Pieces.{arrived}
+use Rattle.ldm_downstream.specs.Taking.{Takes, BreaksOff}
+use Rattle.ldm_downstream.specs.Turns.{TakesAll, StopsBy, TooLong, Cuts, found, first_of, behind}
+use Rattle.ldm_downstream.proofs.Followed.{takes-none, breaks-here}
+
+-- what one record came to
+taken-one : (now at : ℕ) (content : List ℕ) (made : List Entry) (step : Step) (end : Option RecvEnd) (old new : Standing)
+    → Leads old.pass.actor (record_course old.receiving now content) made step → (stepped (taken_none old.receiving) at step).end ≡ end
+    → Calls old.pass new.pass made → new ≡ record new { receiving = (stepped (taken_none old.receiving) at step).receiving }
+    → new.out ≡ old.out ++ records_of (stepped (taken_none old.receiving) at step).replies
+    → new.notes ≡ old.notes ++ note_lines (stepped (taken_none old.receiving) at step).notes
+    → Takes (taken (taken_none old.receiving) (record { now = now; at = at; content = content } ∷ [])) end old new
+taken-one now at content made step end old new leads end_is calls receiving sends logs = record {
+  made = made;
+  to = stepped (taken_none old.receiving) at step;
+  leads = leads-one old.pass.actor (taken_none old.receiving) refl (record { now = now; at = at; content = content }) made step leads;
+  end_is = end_is;
+  calls = calls;
+  receiving = ap (λ (s : Standing). s.receiving) receiving;
+  sends = sends;
+  logs = logs;
+}
+
+pub found-goes : (now at : ℕ) (content : List ℕ) (old new : Standing) → GoesOn (record_course old.receiving now content) old new
+    → TakesAll (found now at (Some content)) old new
+found-goes now at content old new goes =
+    taken-one now at content goes.made (Goes new.receiving goes.replies goes.notes) None old new goes.leads refl goes.calls refl goes.sends goes.logs
+
+still : (old new : Standing) → new ≡ old → Calls old.pass new.pass []
+still old new same = subst (λ (s : Standing). Calls old.pass s.pass []) (sym same) (calls_none old.pass)
+
+pub found-bad : (now at : ℕ) (content : List ℕ) (old new : Standing) → Leads old.pass.actor (record_course old.receiving now content) [] Bad → new ≡ old
+    → StopsBy (BadFrame at) (found now at (Some content)) old new
+found-bad now at content old new leads same =
+    taken-one now at content [] Bad (Some (BadFrame at)) old new leads refl (still old new same)
+    (ap (λ (s : Standing). record new { receiving = s.receiving }) same)
+    (ap (λ (s : Standing). s.out) same ∙ sym (append-nil old.out)) (ap (λ (s : Standing). s.notes) same ∙ sym (append-nil old.notes))
+
+pub found-declined : (now at : ℕ) (content : List ℕ) (answer : ClassAnswer) (old new : Standing)
+    → Leads old.pass.actor (record_course old.receiving now content) [] (Declined answer) → new ≡ old → StopsBy (Refused answer) (found now at (Some content)) old new
+found-declined now at content answer old new leads same =
+    taken-one now at content [] (Declined answer) (Some (Refused answer)) old new leads refl (still old new same)
+    (ap (λ (s : Standing). record new { receiving = s.receiving }) same)
+    (ap (λ (s : Standing). s.out) same ∙ sym (append-nil old.out)) (ap (λ (s : Standing). s.notes) same ∙ sym (append-nil old.notes))
+
+pub found-worn : (now at : ℕ) (content : List ℕ) (old new : Standing) → RunsOut (record_course old.receiving now content) old new
+    → StopsBy Worn (found now at (Some content)) old new
+found-worn now at content old new runs = (
+  record {
+    front = [];
+    behind = record { now = now; at = at; content = content } ∷ [];
+    all = refl;
+    between = old;
+    takes = takes-none old;
+    made = runs.made;
+    begins = runs.begins;
+    calls = runs.calls;
+    same = runs.same;
+  },
+  runs.worn,
+)
+
+-- nothing was done
+pub quiet : (xs : List Arrival) (old new : Standing) → new ≡ old → BreaksOff xs old new
+quiet xs old new same = subst (λ (s : Standing). BreaksOff xs old s) (sym same) (breaks-here [] xs old old (takes-none old))
+
+pub found-memory : (now at : ℕ) (content : List ℕ) (old new : Standing) → new ≡ old → StopsBy OutOfMemory (found now at (Some content)) old new
+found-memory now at content old new same = quiet (found now at (Some content)) old new same
+
+-- ---- the first record in some bytes
+
+found-of : (now begins : ℕ) (r : Reading) (b : Bool) → is_whole r ≡ b → found now begins (whole_of r) ≡ arrived now (given begins r)
+found-of now begins r true whole = rw whole refl
+found-of now begins r false not = rw not refl
+
+pub found-first : (now : ℕ) (p : Position) (bytes : List ℕ) → found now p.begins (whole_of (after p.reading bytes)) ≡ first_of now p bytes
+found-first now p bytes = found-of now p.begins (after p.reading bytes) (is_whole (after p.reading bytes)) refl
+
+-- Bytes begin a record that is too long.
+pub first-too_long : (now : ℕ) (p : Position) (bytes : List ℕ) (fault : RpcFault) (old : Standing) → (after p.reading bytes).stage ≡ Faulty fault
+    → TooLong (BadFrame p.begins) (first_of now p bytes) (behind p bytes) old old
+first-too_long now p bytes fault old faulty =
+    let r = after p.reading bytes in
+    let not : is_whole r ≡ false = ap is_whole_at faulty in
+    let is : is_faulty r ≡ true = ap is_faulty_at faulty in
+    record {
+      takes = rw not (takes-none old);
+      faulty = rw not is;
+      end_is = rw not refl;
+    }
+
+pub first-fault : (now : ℕ) (p : Position) (bytes : List ℕ) (new : Reading) (fault : RpcFault) (place : ℕ) → fault ≡ too_long place → IsFaultOf p.reading bytes new fault
+    → (old : Standing) → Cuts (BadFrame p.begins) (first_of now p bytes) (behind p bytes) old old
+first-fault now p bytes new fault place fault_is is old =
+    let there = subst (λ (f : RpcFault). IsFaultOf p.reading bytes new f) fault_is is in
+    inl (first-too_long now p bytes (too_long place) old (ap (λ (s : Reading). s.stage) (sym there.0) ∙ there.1))
+
+-- `next` leaves no complete record
+next-ready_of : (r : Reading) (b : Bool) → is_whole r ≡ b → is_whole (next_of r) ≡ false
+next-ready_of r true whole = rw whole refl
+next-ready_of r false not = rw not not
+
+pub next-ready : (r : Reading) → is_whole (next_of r) ≡ false
+next-ready r = next-ready_of r (is_whole r) refl
+
+next-sound_of : (r : Reading) (b : Bool) → is_whole r ≡ b → is_faulty r ≡ false → is_faulty (next_of r) ≡ false
+next-sound_of r true whole sound = rw whole refl
+next-sound_of r false not sound = rw not sound
+
+pub next-sound : (r : Reading) → is_faulty r ≡ false → is_faulty (next_of r) ≡ false
+next-sound r sound = next-sound_of r (is_whole r) refl sound

@@ -1,0 +1,14 @@
+pub mod Arrivals
+pub mod Followed
+pub mod PieceEnds
+pub mod Found
+pub mod Running
+pub mod Ending
+pub mod Passing
+pub mod Linked
+pub mod Rounds
+pub mod Written
+pub mod SessionTurns
+pub mod AllReceived
+pub mod Complete
+pub mod Cut

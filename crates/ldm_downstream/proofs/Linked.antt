@@ -1,0 +1,128 @@
+-- What passed with the outside of a receiving, over one piece after another.
+use Rattle.std.proofs.Common.{◌≡◌, ℕ, Bool, true, false, List, [], ◌∷◌, ◌++◌, map, Option, Some, None, refl, ap, sym, subst, ◌∙◌, append_assoc}
+use Rattle.std.proofs.lemmas.List.{append-nil}
+use Rattle.std.proofs.lemmas.List.Concat.{flat_map-append}
+use Rattle.std.specs.Option.{option_map}
+use Rattle.ldm_rpc.specs.Streams.{Position}
+use Rattle.ldm_outside.proofs.CallerLemmas.{Rose-later}
+use Rattle.ldm_outside.specs.Clock.{ClockRecord, Answers}
+use Rattle.ldm_outside.specs.Io.{SinkRecord, Takes as TakesBytes}
+use Rattle.ldm_outside.specs.Session.{SessionRecord, KeepsFaults}
+use Rattle.ldm_shared.specs.Passes.{PassView}
+use Rattle.ldm_session.specs.Exchange.{AnsweredAll}
+use Rattle.ldm_session.proofs.CallerLemmas.{Exchanged-then, Exchanged-same, Exchanged-nothing, AnsweredAll-nothing, AnsweredAll-then}
+use Rattle.ldm_intake.specs.declared.end.RecvEnd.{RecvEnd}
+use Rattle.ldm_intake.specs.declared.end.RecvEnd.TheVariants.{Ended, Truncated, BadFrame, Refused, LinkFault, LogFault, StreamLimit, Worn, OutOfMemory}
+use Rattle.ldm_intake.specs.TakesRecord.{Standing}
+use Rattle.ldm_downstream.specs.Pieces.{Piece, joined}
+use Rattle.ldm_downstream.specs.Receives.{Passed, IsPart, Cause, Receives, is_whole_end}
+use Rattle.ldm_downstream.specs.Sessions.{Advances, Writes, HasGiven}
+use Rattle.ldm_downstream.proofs.Ending.{in_front_of, anew, comes-anew, continues-anew}
+
+-- ---- lines
+
+lines-then : (first second : List ℕ) (written : Option (List ℕ)) → option_map (λ before. before ++ second) (option_map (λ before. before ++ first) written)
+    ≡ option_map (λ before. before ++ (first ++ second)) written
+lines-then first second None = refl
+lines-then first second (Some before) = ap (λ (t : List ℕ). Some t) (append_assoc before first second)
+
+pub TakesBytes-then : (first second : List ℕ) (old mid new : SinkRecord) → TakesBytes old first mid → TakesBytes mid second new → TakesBytes old (first ++ second) new
+TakesBytes-then first second old mid new one other =
+    other ∙ ap (option_map (λ (before : List ℕ). before ++ second)) one ∙ lines-then first second old.written
+
+lines-none : (written : Option (List ℕ)) → written ≡ option_map (λ before. before ++ []) written
+lines-none None = refl
+lines-none (Some before) = ap (λ (t : List ℕ). Some t) (sym (append-nil before))
+
+pub TakesBytes-nothing : (old new : SinkRecord) → new.written ≡ old.written → TakesBytes old [] new
+TakesBytes-nothing old new same = same ∙ lines-none old.written
+
+-- ---- all of it
+
+joined-append : (first second : List Piece) → joined (first ++ second) ≡ joined first ++ joined second
+joined-append first second = flat_map-append (λ (piece : Piece). piece.bytes) first second
+
+moments : List Piece → List ℕ
+moments pieces = map (λ (piece : Piece). piece.now) pieces
+
+moments-append : (first second : List Piece) → moments (first ++ second) ≡ moments first ++ moments second
+unfolding moments
+moments-append [] second = refl
+moments-append (piece ∷ first) second = ap (λ (others : List ℕ). piece.now ∷ others) (moments-append first second)
+
+pub Passed-then : (first second : List Piece) (sent more lines others : List ℕ) (old mid new : SessionRecord) → Passed first sent lines old mid → Passed second more others mid new
+    → Passed (first ++ second) (sent ++ more) (lines ++ others) old new
+unfolding moments
+Passed-then first second sent more lines others old mid new one other =
+    let P : List ℕ → Type 0 = λ instants. AnsweredAll instants old.clock new.clock in
+    record {
+      exchanged = Exchanged-same old.link new.link (sent ++ more) (joined first ++ joined second) (sent ++ more) (joined (first ++ second)) refl (sym (joined-append first second))
+          (Exchanged-then old.link mid.link new.link sent (joined first) more (joined second) one.exchanged other.exchanged);
+      moments = subst P (sym (moments-append first second))
+          (AnsweredAll-then (moments first) (moments second) old.clock mid.clock new.clock one.moments other.moments);
+      logged = TakesBytes-then lines others old.log mid.log new.log one.logged other.logged;
+    }
+
+-- nothing passed, but counts may have risen
+pub Passed-nothing : (old new : SessionRecord) → new.link.passed ≡ old.link.passed → new.link.left ≡ old.link.left → new.clock ≡ old.clock → new.log.written ≡ old.log.written
+    → Passed [] [] [] old new
+Passed-nothing old new passed left clock written =
+    let P : ClockRecord → Type 0 = λ c. AnsweredAll [] old.clock c in
+    record {
+      exchanged = Exchanged-nothing old.link new.link passed left;
+      moments = subst P (sym clock) (AnsweredAll-nothing old.clock);
+      logged = TakesBytes-nothing old.log new.log written;
+    }
+
+-- one piece was given at a moment, and then bytes were sent and lines written
+pub Passed-piece : (piece : Piece) (sent lines : List ℕ) (begins before after : SessionRecord) → HasGiven piece.bytes begins before
+    → Answers piece.now before.clock after.clock → Writes sent lines before.link after.link before.log after.log → Passed (piece ∷ []) sent lines begins after
+Passed-piece piece sent lines begins before after given answered writes =
+    let P : ClockRecord → Type 0 = λ c. AnsweredAll (piece.now ∷ []) c after.clock in
+    let Q : SinkRecord → Type 0 = λ s. TakesBytes s lines after.log in
+    record {
+      exchanged = Exchanged-same begins.link after.link ([] ++ sent) (piece.bytes ++ []) sent (joined (piece ∷ [])) refl refl
+          (Exchanged-then begins.link before.link after.link [] piece.bytes sent [] given.exchanged writes.exchanged);
+      moments = subst P given.clock answered;
+      logged = subst Q given.log writes.logged;
+    }
+
+-- ---- parts and causes
+
+pub IsPart-behind : (whole : Bool) (before part all : List ℕ) → IsPart whole part all → IsPart whole (before ++ part) (before ++ all)
+IsPart-behind true before part all is = ap (λ (x : List ℕ). before ++ x) is
+IsPart-behind false before part all front = (front.0, append_assoc before part front.0 ∙ ap (λ (x : List ℕ). before ++ x) front.1)
+
+-- a cause that came later
+pub Cause-later : (end : RecvEnd) (pass : PassView) (old mid new : SessionRecord) → KeepsFaults old mid → Cause end pass mid new → Cause end pass old new
+Cause-later Ended pass old mid new kept cause = (Rose-later old.link.ends mid.link.ends new.link.ends kept.ends cause.0, cause.1)
+Cause-later (Truncated at) pass old mid new kept cause = (Rose-later old.link.ends mid.link.ends new.link.ends kept.ends cause.0, cause.1)
+Cause-later (BadFrame at) pass old mid new kept cause = tt
+Cause-later (Refused answer) pass old mid new kept cause = tt
+Cause-later StreamLimit pass old mid new kept cause = tt
+Cause-later LinkFault pass old mid new kept cause = Rose-later old.link.faults mid.link.faults new.link.faults kept.link cause
+Cause-later LogFault pass old mid new kept cause = Rose-later old.log.faults mid.log.faults new.log.faults kept.log cause
+Cause-later OutOfMemory pass old mid new kept cause = tt
+Cause-later Worn pass old mid new kept cause = cause
+
+-- ---- one piece after another
+
+pub Advances-then : (p q r : Position) (a b c : Standing) (old mid new : SessionRecord) → Advances p q a b old mid → Advances q r (anew b) c mid new → Advances p r a (in_front_of b c) old new
+Advances-then p q r a b c old mid new before later = record {
+  pieces = before.pieces ++ later.pieces;
+  continues = continues-anew p q before.pieces later.pieces a b before.continues r c later.continues;
+  passed = Passed-then before.pieces later.pieces b.out c.out b.notes c.notes old mid new before.passed later.passed;
+}
+
+pub Receives-then : (end : RecvEnd) (p q : Position) (a b c : Standing) (old mid new : SessionRecord) → Advances p q a b old mid → KeepsFaults old mid
+    → Receives end q (anew b) c mid new → Receives end p a (in_front_of b c) old new
+Receives-then end p q a b c old mid new before kept later = record {
+  pieces = before.pieces ++ later.pieces;
+  comes = comes-anew p q before.pieces later.pieces a b before.continues end c later.comes;
+  sent = b.out ++ later.sent;
+  lines = b.notes ++ later.lines;
+  passed = Passed-then before.pieces later.pieces b.out later.sent b.notes later.lines old mid new before.passed later.passed;
+  sent_is = IsPart-behind (is_whole_end end) b.out later.sent c.out later.sent_is;
+  lines_are = IsPart-behind (is_whole_end end) b.notes later.lines c.notes later.lines_are;
+  cause = Cause-later end c.pass old mid new kept later.cause;
+}

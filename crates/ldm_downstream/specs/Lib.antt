@@ -1,0 +1,12 @@
+pub mod Pieces
+pub mod Taking
+pub mod Received
+pub mod ReceiverView
+pub mod Inside
+pub mod InsideStream
+pub mod Pushing
+pub mod Turns
+pub mod Receives
+pub mod Sessions
+pub mod Complete
+pub mod Untimed

@@ -1,0 +1,100 @@
+-- What receiving over a link does, from its beginning to its end.
+use Rattle.std.specs.Prelude.{◌≡◌, ℕ, Bool, true, false, List, [], ◌++◌, length, map, Option, None, IfSome}
+use Rattle.ldm_rpc.specs.Streams.{Position}
+use Rattle.ldm_outside.specs.Count.{Rose}
+use Rattle.ldm_outside.specs.Io.{Takes as TakesBytes}
+use Rattle.ldm_outside.specs.Session.{SessionRecord}
+use Rattle.ldm_shared.specs.declared.steps.TheConstants.{MOST_TURNS}
+use Rattle.ldm_shared.specs.Passes.{PassView}
+use Rattle.ldm_session.specs.Exchange.{Exchanged, AnsweredAll}
+use Rattle.ldm_intake.specs.declared.end.RecvEnd.{RecvEnd}
+use Rattle.ldm_intake.specs.declared.end.RecvEnd.TheVariants.{Ended, Truncated, BadFrame, Refused, LinkFault, LogFault, StreamLimit, Worn, OutOfMemory}
+use Rattle.ldm_intake.specs.Opening.{request_of}
+use Rattle.ldm_intake.specs.Receiving.{Receiving}
+use Rattle.ldm_intake.specs.Room.{records_of}
+use Rattle.ldm_intake.specs.TakesRecord.{Standing}
+use Rattle.ldm_downstream.specs.Pieces.{Piece, beginning, hand, joined}
+use Rattle.ldm_downstream.specs.Taking.{Takes, GivesUp}
+use Rattle.ldm_downstream.specs.Received.{at_stream_end, received}
+use Rattle.ldm_downstream.specs.Pushing.{EndsEarly, EndsWhole, EndsWorn}
+
+-- The stream ended behind these pieces: all that they ask for was asked, and what was open is given up.
+pub record EndsStream (end : RecvEnd) (pieces : List Piece) (p : Position) (old new : Standing) : Type 0 where
+  pub between : Standing
+  pub takes : Takes (received old.receiving p pieces) None old between
+  pub gives_up : GivesUp between new
+  pub end_is : end ≡ at_stream_end (hand p pieces) between.receiving
+
+-- how a receiving goes on over these pieces, from a place in the stream to that end
+abbrev pub Comes : RecvEnd → List Piece → Position → Standing → Standing → Type 0
+Comes Ended pieces p old new = EndsStream Ended pieces p old new
+Comes (Truncated at) pieces p old new = EndsStream (Truncated at) pieces p old new
+Comes (BadFrame at) pieces p old new = EndsWhole (BadFrame at) pieces p old new
+Comes (Refused answer) pieces p old new = EndsWhole (Refused answer) pieces p old new
+Comes StreamLimit pieces p old new = EndsWhole StreamLimit pieces p old new
+Comes LinkFault pieces p old new = EndsEarly pieces p old new
+Comes LogFault pieces p old new = EndsEarly pieces p old new
+Comes OutOfMemory pieces p old new = EndsEarly pieces p old new
+Comes Worn pieces p old new = EndsWorn pieces p old new
+
+-- whether at that end all was sent that the peer is owed, and all was logged
+abbrev pub is_whole_end : RecvEnd → Bool
+is_whole_end Ended = true
+is_whole_end (Truncated at) = true
+is_whole_end (BadFrame at) = true
+is_whole_end (Refused answer) = true
+is_whole_end StreamLimit = true
+is_whole_end LinkFault = false
+is_whole_end LogFault = false
+is_whole_end OutOfMemory = false
+is_whole_end Worn = false
+
+-- some bytes are all of these, or a front of them
+abbrev pub IsPart : Bool → List ℕ → List ℕ → Type 0
+IsPart true part all = part ≡ all
+IsPart false part all = (rest : List ℕ) × (part ++ rest ≡ all)
+
+-- the stream ended: the link said so, and has nothing left
+abbrev pub HasEnded : SessionRecord → SessionRecord → Type 0
+HasEnded old new = Rose old.link.ends new.link.ends × IfSome new.link.left (λ rest. rest ≡ [])
+
+-- what stands at an end besides, in the outside and in what the pass has seen
+abbrev pub Cause : RecvEnd → PassView → SessionRecord → SessionRecord → Type 0
+Cause Ended pass old new = HasEnded old new
+Cause (Truncated at) pass old new = HasEnded old new
+Cause (BadFrame at) pass old new = Unit {0}
+Cause (Refused answer) pass old new = Unit {0}
+Cause StreamLimit pass old new = Unit {0}
+Cause LinkFault pass old new = Rose old.link.faults new.link.faults
+Cause LogFault pass old new = Rose old.log.faults new.log.faults
+Cause OutOfMemory pass old new = Unit {0}
+Cause Worn pass old new = length pass.seen ≡ MOST_TURNS
+
+-- What passed with the outside while these pieces came: the bytes that were sent and those of the log, and the clock's answers.
+pub record Passed (pieces : List Piece) (sent lines : List ℕ) (old new : SessionRecord) : Type 0 where
+  pub exchanged : Exchanged old.link sent (joined pieces) new.link
+  pub moments : AnsweredAll (map (λ (piece : Piece). piece.now) pieces) old.clock new.clock
+  pub logged : TakesBytes old.log lines new.log
+
+-- A receiving goes on from a place in the stream to its end. Where it then stands are all bytes that the peer was owed since then, and all
+-- log lines: these were sent and written, or a front of them.
+pub record Receives (end : RecvEnd) (p : Position) (old new : Standing) (before after : SessionRecord) : Type 0 where
+  pub pieces : List Piece
+  pub comes : Comes end pieces p old new
+  pub sent : List ℕ
+  pub lines : List ℕ
+  pub passed : Passed pieces sent lines before after
+  pub sent_is : IsPart (is_whole_end end) sent new.out
+  pub lines_are : IsPart (is_whole_end end) lines new.notes
+  pub cause : Cause end new.pass before after
+
+-- before the first piece: the request is owed to the peer
+abbrev pub at_first : Receiving → PassView → Standing
+at_first s pass = record { receiving = s; pass = pass; out = records_of (request_of s); notes = [] }
+
+-- A receiving that began with that request, from its beginning to its end.
+pub record ReceivesAll (end : RecvEnd) (last : Option (List ℕ)) (s : Receiving) (old new : PassView) (before after : SessionRecord) : Type 0 where
+  pub at_end : Standing
+  pub receives : Receives end beginning (at_first s old) at_end before after
+  pub pass_is : at_end.pass ≡ new
+  pub last_is : last ≡ at_end.receiving.last

@@ -1,0 +1,89 @@
+-- What receiving over a link keeps between two pieces.
+use Rattle.std.specs.Prelude.{◌≡◌, ℕ, ◌<◌, List, [], ◌++◌, Option, Some, None}
+use Rattle.ldm_rpc.specs.Streams.{Position}
+use Rattle.ldm_outside.specs.Count.{Rose}
+use Rattle.ldm_outside.specs.Io.{SinkRecord, Takes as TakesBytes}
+use Rattle.ldm_outside.specs.Link.{LinkRecord}
+use Rattle.ldm_outside.specs.Session.{SessionRecord}
+use Rattle.ldm_shared.specs.Passes.{PassView}
+use Rattle.ldm_session.specs.Exchange.{Exchanged}
+use Rattle.ldm_intake.specs.declared.end.RecvEnd.{RecvEnd}
+use Rattle.ldm_intake.specs.declared.end.RecvEnd.TheVariants.{LinkFault, LogFault}
+use Rattle.ldm_intake.specs.Receiving.{Receiving}
+use Rattle.ldm_intake.specs.TakesRecord.{Standing, stands}
+use Rattle.ldm_downstream.specs.Pieces.{Piece}
+use Rattle.ldm_downstream.specs.Pushing.{Continues}
+use Rattle.ldm_downstream.specs.ReceiverView.{ReceiverView}
+use Rattle.ldm_downstream.specs.Receives.{Passed, Receives}
+
+-- Bytes that the peer is owed were sent, and log lines were written.
+pub record Writes (sent lines : List ℕ) (link new_link : LinkRecord) (log new_log : SinkRecord) : Type 0 where
+  pub exchanged : Exchanged link sent [] new_link
+  pub logged : TakesBytes log lines new_log
+
+-- a front of some bytes
+pub record IsFront (front all : List ℕ) : Type 0 where
+  pub rest : List ℕ
+  pub is : front ++ rest ≡ all
+
+pub record FailsToSend (out : List ℕ) (link new_link : LinkRecord) (log new_log : SinkRecord) : Type 0 where
+  pub sent : List ℕ
+  pub front : IsFront sent out
+  pub writes : Writes sent [] link new_link log new_log
+  pub rose : Rose link.faults new_link.faults
+
+pub record FailsToLog (out notes : List ℕ) (link new_link : LinkRecord) (log new_log : SinkRecord) : Type 0 where
+  pub lines : List ℕ
+  pub front : IsFront lines notes
+  pub writes : Writes out lines link new_link log new_log
+  pub rose : Rose log.faults new_log.faults
+
+-- What sending and writing came to: all of both; or the link failed, after a front of what was to be sent; or the log failed, after all
+-- was sent and a front of the lines was written.
+abbrev pub WritesAt : Option RecvEnd → (out notes : List ℕ) → (link new_link : LinkRecord) → (log new_log : SinkRecord) → Type 0
+WritesAt None out notes link new_link log new_log = Writes out notes link new_link log new_log
+WritesAt (Some LinkFault) out notes link new_link log new_log = FailsToSend out link new_link log new_log
+WritesAt (Some LogFault) out notes link new_link log new_log = FailsToLog out notes link new_link log new_log
+WritesAt (Some _) out notes link new_link log new_log = ⊥
+
+-- A receiving went on over some pieces: all that the peer was owed was sent, and all lines were written.
+pub record Advances (p q : Position) (old new : Standing) (before after : SessionRecord) : Type 0 where
+  pub pieces : List Piece
+  pub continues : Continues pieces p q old new
+  pub passed : Passed pieces new.out new.notes before after
+
+-- since then the link gave these bytes, and nothing else happened
+pub record HasGiven (bytes : List ℕ) (begins now : SessionRecord) : Type 0 where
+  pub exchanged : Exchanged begins.link [] bytes now.link
+  pub faults : now.link.faults ≡ begins.link.faults
+  pub log : now.log ≡ begins.log
+  pub clock : now.clock ≡ begins.clock
+
+-- before a piece: all that was owed was sent
+abbrev pub settled : Receiving → PassView → Standing
+settled s pass = stands s pass [] []
+
+-- it goes on
+pub record RunsOn (receiver : ReceiverView) (pass : PassView) (p : Position) (old : Standing) (before after : SessionRecord) : Type 0 where
+  pub at : Standing
+  pub advances : Advances p receiver.hand old at before after
+  pub receiving : at.receiving ≡ receiver.receiving
+  pub pass_is : at.pass ≡ pass
+  pub live : receiver.end ≡ None
+
+-- it ended so
+pub record RunsOut (end : RecvEnd) (receiver : ReceiverView) (pass : PassView) (p : Position) (old : Standing) (before after : SessionRecord) : Type 0 where
+  pub at_end : Standing
+  pub receives : Receives end p old at_end before after
+  pub receiving : at_end.receiving ≡ receiver.receiving
+  pub pass_is : at_end.pass ≡ pass
+
+abbrev pub Rounds : Option RecvEnd → ReceiverView → PassView → Position → Standing → SessionRecord → SessionRecord → Type 0
+Rounds None receiver pass p old before after = RunsOn receiver pass p old before after
+Rounds (Some end) receiver pass p old before after = RunsOut end receiver pass p old before after
+
+-- nothing is owed and nothing is to be logged, and there is room for a piece
+pub record IsReady (out notes : List ℕ) (room : ℕ) : Type 0 where
+  pub no_out : out ≡ []
+  pub no_notes : notes ≡ []
+  pub some : 0 < room

@@ -1,0 +1,14 @@
+//! The receiver over a stream: the bytes of a connection come in pieces, and become products of the queue.
+#![tactic(auto)]
+
+mod ends;
+mod laws;
+mod limits;
+mod receiver;
+mod session;
+mod stream;
+
+pub use laws::{accepted_streams_are_received, pieces_make_no_difference};
+pub use limits::{LONGEST_PIECE, LONGEST_STREAM};
+pub use receiver::{Pushed, Receiver};
+pub use session::{Received, receive};

@@ -1,0 +1,251 @@
+//! What takes the bytes of a stream: its records, one after another.
+ghost use Rattle.std.specs.Prelude.{◌≡◌, ◌≤◌, ◌<◌, ◌+◌, ◌∷◌, [], ℕ, true, false, IfOk, IfNone, IfSome, MatchOption, OnOk, OnErr, None, Some, length};
+ghost use Rattle.std.specs.Option.{option_copied, option_map};
+ghost use Rattle.ldm_rpc.specs.Reading.{is_faulty};
+ghost use Rattle.ldm_rpc.specs.Streams.{Position};
+ghost use Rattle.ldm_shared.specs.Passes.{IsPassOf, IsSamePass};
+ghost use Rattle.ldm_downstream.specs.declared.limits.TheConstants.{LONGEST_STREAM};
+ghost use Rattle.ldm_downstream.specs.Pieces.{beginning};
+ghost use Rattle.ldm_downstream.specs.Received.{GoesOnAt, at_stream_end};
+ghost use Rattle.ldm_downstream.specs.Pushing.{ClosesIf, Pushes, is_worn};
+ghost use Rattle.ldm_downstream.specs.ReceiverView.{moment};
+ghost use Rattle.ldm_downstream.specs.Turns.{Finds, Turns, Runs, Passes};
+
+use crate::ends::is_worn;
+use crate::limits::LONGEST_STREAM;
+use ldm_intake::{Intake, RecordEnd, RecvEnd};
+use ldm_relay::LARGEST_RECORD;
+use ldm_rpc::{Records, RpcFault};
+use ldm_shared::{Pass, Shared, Turn};
+use ldm_types::{Micros, OutOfMemory, Signature};
+use std::alloc::Global;
+use std::marker::Model;
+use std::sync::Wait;
+
+/// What takes the bytes of a stream, from its first one on.
+#[derive(Drop)]
+pub(crate) struct Stream<'a> {
+    intake: Intake<'a>,
+    records: Records,
+    begins: u64,
+    came: u64,
+}
+
+impl<'a> Model for Stream<'a> {
+    ghost use Rattle.ldm_downstream.specs.ReceiverView.{StreamView};
+
+    ghost Value = { StreamView };
+
+    ghost use Rattle.ldm_downstream.specs.InsideStream.{stream_of, IsKept};
+
+    ghost view = { stream_of };
+
+    ghost invariant = { IsKept };
+}
+
+impl<'a> Stream<'a> {
+    /// Before the first byte of the stream.
+    pub(crate) fn begin(alloc: Global, intake: Intake<'a>) -> Stream<'a>
+        ensures { result ≡ record { receiving = intake.entry; hand = beginning } }
+    {
+        Stream {
+            intake,
+            records: Records::create(alloc, LARGEST_RECORD),
+            begins: 0,
+            came: 0,
+        }
+    }
+
+    /// Where its records are taken.
+    pub(crate) fn intake(&self) -> &Intake<'a>
+        ensures { result.now ≡ self.now.receiving }
+    {
+        &self.intake
+    }
+
+    /// How it ends where the stream ends there.
+    pub(crate) fn at_end(&self) -> RecvEnd
+        ensures { result ≡ at_stream_end self.now.hand self.now.receiving }
+    {
+        if !self.records.pending() && self.intake.is_settled() {
+            RecvEnd::Ended
+        } else {
+            RecvEnd::Truncated { at: self.came }
+        }
+    }
+
+    /// Takes a piece that came at the moment `now`, and gives up the reservation that is open where that ends the receiving.
+    pub(crate) fn push<H: Wait>(
+        &mut self,
+        shared: &Shared,
+        rt: &H,
+        pass: &mut Pass,
+        piece: &[u8],
+        now: Micros,
+        out: &mut Vec<u8>,
+        notes: &mut Vec<u8>,
+    ) -> Option<RecvEnd>
+        requires of { IsPassOf shared.now pass.old }
+        requires sound { is_faulty self.old.hand.reading ≡ false }
+        ensures kept { IsSamePass pass.old pass.new }
+        ensures pushes { Pushes result (record { now = now; bytes = piece.now }) self.old.hand self.new.hand
+            (moment self.old.receiving pass.old out.old notes.old) (moment self.new.receiving pass.new out.new notes.new) }
+        ensures goes_on { GoesOnAt result self.new.hand }
+    {
+        match self.take_piece(shared, rt, pass, piece, now, out, notes) {
+            Some(end) => Some(self.give_up(shared, rt, pass, end)),
+            None => None,
+        }
+    }
+
+    /// Ends it so: gives up the reservation that is open, if one is. Answers the end: the queue may have no call more.
+    pub(crate) fn give_up<H: Wait>(
+        &mut self,
+        shared: &Shared,
+        rt: &H,
+        pass: &mut Pass,
+        end: RecvEnd,
+    ) -> RecvEnd
+        requires { IsPassOf shared.now pass.old }
+        ensures kept { IsSamePass pass.old pass.new }
+        ensures closes { ClosesIf (is_worn end) end result self.old.receiving self.new.receiving pass.old pass.new }
+        ensures hand { self.new.hand ≡ self.old.hand }
+    {
+        if is_worn(&end) {
+            return end;
+        }
+        match self.intake.discard(shared, rt, pass) {
+            Turn::Done(()) => end,
+            Turn::Worn { .. } => RecvEnd::Worn,
+        }
+    }
+
+    // Takes of a piece what the limit leaves. Answers how that ends the receiving, if it does.
+    fn take_piece<H: Wait>(
+        &mut self,
+        shared: &Shared,
+        rt: &H,
+        pass: &mut Pass,
+        piece: &[u8],
+        now: Micros,
+        out: &mut Vec<u8>,
+        notes: &mut Vec<u8>,
+    ) -> Option<RecvEnd>
+        requires of { IsPassOf shared.now pass.old }
+        requires sound { is_faulty self.old.hand.reading ≡ false }
+        ensures kept { IsSamePass pass.old pass.new }
+        ensures passes { Passes result (record { now = now; bytes = piece.now }) self.old.hand self.new.hand
+            (moment self.old.receiving pass.old out.old notes.old) (moment self.new.receiving pass.new out.new notes.new) }
+    {
+        let room = LONGEST_STREAM - self.came;
+        let taken = room.min(piece.len() as u64) as usize;
+        let end = self.take_bytes(shared, rt, pass, &piece[..taken], now, out, notes);
+        if end.is_none() && self.came == LONGEST_STREAM {
+            return Some(RecvEnd::StreamLimit);
+        }
+        end
+    }
+
+    // Takes the records that these bytes complete.
+    fn take_bytes<H: Wait>(
+        &mut self,
+        shared: &Shared,
+        rt: &H,
+        pass: &mut Pass,
+        bytes: &[u8],
+        now: Micros,
+        out: &mut Vec<u8>,
+        notes: &mut Vec<u8>,
+    ) -> Option<RecvEnd>
+        requires of { IsPassOf shared.now pass.old }
+        requires sound { is_faulty self.old.hand.reading ≡ false }
+        requires room { self.old.hand.came + length bytes.now ≤ LONGEST_STREAM }
+        ensures kept { IsSamePass pass.old pass.new }
+        ensures runs { Runs result now bytes.now self.old.hand self.new.hand
+            (moment self.old.receiving pass.old out.old notes.old) (moment self.new.receiving pass.new out.new notes.new) }
+    {
+        // What is kept is known here.
+        let _ = &self.intake;
+        let mut rest = bytes;
+        while !rest.is_empty() {
+            match self.take_first(shared, rt, pass, rest, now, out, notes) {
+                Ok(count) => rest = &rest[count..],
+                Err(end) => return Some(end),
+            }
+        }
+        None
+    }
+
+    // Takes the record that these bytes complete first, or all of them where they complete none, and answers how many bytes that
+    // are.
+    fn take_first<H: Wait>(
+        &mut self,
+        shared: &Shared,
+        rt: &H,
+        pass: &mut Pass,
+        bytes: &[u8],
+        now: Micros,
+        out: &mut Vec<u8>,
+        notes: &mut Vec<u8>,
+    ) -> Result<usize, RecvEnd>
+        requires of { IsPassOf shared.now pass.old }
+        requires some { 0 < length bytes.now }
+        requires room { self.old.hand.came + length bytes.now ≤ LONGEST_STREAM }
+        ensures kept { IsSamePass pass.old pass.new }
+        ensures turns { Turns result now bytes.now self.old.hand self.new.hand
+            (moment self.old.receiving pass.old out.old notes.old) (moment self.new.receiving pass.new out.new notes.new) }
+    {
+        let count = match self.records.push(bytes) {
+            Ok(count) => count,
+            Err(RpcFault::TooLong { .. }) => return Err(RecvEnd::BadFrame { at: self.begins }),
+            Err(RpcFault::OutOfMemory) => return Err(RecvEnd::OutOfMemory),
+        };
+        self.came += count as u64;
+        let content = self.records.whole();
+        let is_whole = content.is_some();
+        let end = take_content(
+            &mut self.intake,
+            shared,
+            rt,
+            pass,
+            content,
+            self.begins,
+            now,
+            out,
+            notes,
+        );
+        self.records.next();
+        if let Some(end) = end {
+            return Err(end);
+        }
+        if is_whole {
+            self.begins = self.came;
+        }
+        Ok(count)
+    }
+}
+
+// Takes the content of a record that begins there, if there is one. Answers how that ends the receiving, if it does.
+fn take_content<H: Wait>(
+    intake: &mut Intake<'_>,
+    shared: &Shared,
+    rt: &H,
+    pass: &mut Pass,
+    content: Option<&[u8]>,
+    at: u64,
+    now: Micros,
+    out: &mut Vec<u8>,
+    notes: &mut Vec<u8>,
+) -> Option<RecvEnd>
+    requires { IsPassOf shared.now pass.old }
+    ensures kept { IsSamePass pass.old pass.new }
+    ensures finds { Finds result now at (option_copied content.entry) (moment intake.old pass.old out.old notes.old) (moment intake.new pass.new out.new notes.new) }
+{
+    match intake.take_record(shared, rt, pass, content?, now, out, notes) {
+        RecordEnd::Goes => None,
+        RecordEnd::Bad => Some(RecvEnd::BadFrame { at }),
+        RecordEnd::Declined(answer) => Some(RecvEnd::Refused { answer }),
+        RecordEnd::Worn => Some(RecvEnd::Worn),
+        RecordEnd::OutOfMemory => Some(RecvEnd::OutOfMemory),
+    }
+}
