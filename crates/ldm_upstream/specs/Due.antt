@@ -1,5 +1,5 @@
 -- Which products are due to the host that asked.
-use Rattle.std.specs.Prelude.{ℕ, Bool, true, false, ◌&&◌, nat_le}
+use Rattle.std.specs.Prelude.{ℕ, Bool, ◌&&◌, nat_le}
 use Rattle.ldm_types.specs.Info.{Metadata}
 use Rattle.ldm_class.specs.Access.{is_yes, verdict}
 use Rattle.ldm_class.specs.Classes.{wants}

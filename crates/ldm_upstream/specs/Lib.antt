@@ -3,6 +3,17 @@ pub mod Due
 pub mod Blocks
 pub mod Opening
 pub mod Turn
+pub mod Deeds
+pub mod Does
+pub mod Giving
 pub mod Turns
 pub mod Feeding
+pub mod NoReplyEnd
+pub mod Heard
+pub mod Acts
+pub mod Offering
+pub mod Idling
+pub mod Course
+pub mod Answering
+pub mod Feeds
 pub mod Examples

@@ -12,6 +12,7 @@ use Rattle.ldm_relay.specs.declared.message.TheConstants.{LARGEST_BLOCK}
 use Rattle.ldm_relay.specs.Sent.{Sent}
 use Rattle.ldm_relay.specs.Sent as sent
 use Rattle.ldm_session.specs.Owed.{Code}
+use Rattle.ldm_upstream.specs.declared.standing.Standing.{Standing}
 use Rattle.ldm_upstream.specs.Blocks.{blocks, reads}
 
 -- A product that the cursor was given: its number, its insertion time, its metadata and its body.
@@ -39,11 +40,6 @@ pub data Turn : Type 0 where
   -- It came to the end, and the gate said to go on; then the clock said `now`. An IS_ALIVE went or not.
   Quiet : (end now : ℕ) → Turn
   Alive : (end now at : ℕ) → Turn
-
--- Where a feeding stands between two turns: the number of its next call, and the answer of the clock after its last message.
-pub record Standing : Type 0 where
-  pub next : ℕ
-  pub sent_at : ℕ
 
 -- the number of the call that comes so many calls later
 abbrev pub later_call : ℕ → ℕ → ℕ

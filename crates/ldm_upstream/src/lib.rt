@@ -1,13 +1,29 @@
 //! The feeder: the end of a session that was asked for products, and feeds them.
 //!
-//! What a feeding is stands in `specs/`, as plain data: see `Feeding`. [`is_due`] tells which products are due, [`feeds_of`] and
-//! [`start_at`] where the cursor begins. The call that feeds is not built yet.
+//! [`feed`] answers a request and feeds a connection. What a feeding is stands in `specs/`, as plain data: see `Feeding`; and what the
+//! call says at each of its ends: see `Feeds`. [`is_due`] tells which products are due, [`feeds_of`] and [`start_at`] where the cursor
+//! begins.
 #![tactic(auto)]
 
+mod announcing;
+mod answer;
+mod body;
+mod course;
+mod declining;
 mod due;
+mod end;
 mod examples;
+mod feeding;
+mod give;
+mod handle;
+mod idle;
+mod offer;
+mod one_turn;
 mod opening;
+mod standing;
 
 pub use due::is_due;
+pub use end::FeedEnd;
 pub use examples::worked_examples;
+pub use feeding::feed;
 pub use opening::{feeds_of, start_at};

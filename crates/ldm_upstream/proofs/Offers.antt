@@ -1,0 +1,228 @@
+-- A product that is due goes whole, or is announced and goes in blocks, or not at all.
+use Rattle.std.proofs.Common.{◌≡◌, ◌∙◌, ℕ, ◌<◌, ◌≤◌, List, [], ◌∷◌, ◌++◌, length, false, Some, refl, sym, ap, subst, arith, append-nil}
+use Rattle.std.specs.Prelude.{Result, Ok, Err}
+use Rattle.ldm_outside.specs.Clock.{ClockRecord}
+use Rattle.ldm_outside.specs.Link.{LinkRecord}
+use Rattle.ldm_outside.proofs.CallerLemmas.{Rose-later}
+use Rattle.ldm_rpc.specs.Streams.{Placed}
+use Rattle.ldm_relay.specs.declared.message.SoonAnswer.TheVariants as soon
+use Rattle.ldm_relay.specs.Spelling.{written, record_of}
+use Rattle.ldm_shared.specs.Passes.{PassView}
+use Rattle.ldm_reader.specs.Reader.{HasCursor}
+use Rattle.ldm_session.specs.declared.replies.Replies.{Replies}
+use Rattle.ldm_session.specs.Owed.{Code}
+use Rattle.ldm_session.proofs.CallerLemmas.{Heard-said}
+use Rattle.ldm_upstream.specs.declared.end.FeedEnd.{FeedEnd}
+use Rattle.ldm_upstream.specs.declared.end.FeedEnd.TheVariants as end
+use Rattle.ldm_upstream.specs.declared.standing.Standing.{Standing}
+use Rattle.ldm_upstream.specs.Asked.{Asked}
+use Rattle.ldm_upstream.specs.Blocks.{blocks}
+use Rattle.ldm_upstream.specs.Turn.{Given, Handling, Passed, Whole, Declined, InBlocks, later_call, after_handling, handling_codes, announcement, block_messages}
+use Rattle.ldm_upstream.specs.Turns.{IsDue, IsHandled, size_of}
+use Rattle.ldm_upstream.specs.Deeds.{Deed, and_then, records_of, handling_deed, blocks_deed}
+use Rattle.ldm_upstream.specs.Does.{Moment, moment_of, Does, Breaks, IsPart}
+use Rattle.ldm_upstream.specs.Giving.{HoldsGiven, KeepsCursor, StopsGiving, GivesWhole, GivesBlocks}
+use Rattle.ldm_upstream.specs.Acts.{is_whole, IsAllSent}
+use Rattle.ldm_upstream.specs.Heard.{HearsOn, HearsLast, IsBehind}
+use Rattle.ldm_upstream.specs.Offering.{EndsDeed, StopsOffer, Announced, EndsAnnouncing, Offered, IsUnanswered, BreaksOffer, EndsOfferBy, EndsOffer, Offers}
+use Rattle.ldm_upstream.proofs.Acting.{deed_is}
+use Rattle.ldm_upstream.proofs.Blocks.{later_again}
+use Rattle.ldm_upstream.proofs.Doing.{does_then, breaks_then, one_done}
+use Rattle.ldm_upstream.proofs.Reading.{keeps_cursor}
+use Rattle.ldm_upstream.proofs.Turning.{hears_nothing}
+
+-- ---- what was heard at an end
+
+-- what was heard so far is the last
+pub heard_last : (why : FeedEnd) (next : ℕ) (came : List ℕ) (codes : List Code) (r r' : Replies) → ((given : List ℕ) (behind : List Placed) → IsBehind why next given behind)
+    → HearsOn came codes r r' → HearsLast why next came codes r
+heard_last why next came codes r r' free on = λ given earlier heard.
+    let said = Heard-said (given ++ came) (earlier ++ codes) r' (on given earlier heard) in
+    record { behind = said.0; said = said.1; is_behind = free (given ++ came) said.0 }
+
+-- for an end at which no reply is owed, any number will do
+pub heard_any : (why : FeedEnd) (next other : ℕ) (came : List ℕ) (codes : List Code) (r : Replies) → ((given : List ℕ) (behind : List Placed) → IsBehind why other given behind)
+    → HearsLast why next came codes r → HearsLast why other came codes r
+heard_any why next other came codes r free last = λ given earlier heard.
+    let says = last given earlier heard in
+    record { behind = says.behind; said = says.said; is_behind = free (given ++ came) says.behind }
+
+-- ---- it breaks off
+
+broke : (why : FeedEnd) (asked : Asked) (k : ℕ) (given : Given) (s : Standing) (old new : Moment) (r r' : Replies) (handling : Handling) (came : List ℕ) (codes : List Code)
+    → ((x : List ℕ) (behind : List Placed) → IsBehind why (after_handling s given handling).next x behind)
+    → IsHandled asked given handling → IsPart false codes (handling_codes s.next handling) → HearsOn came codes r r'
+    → Breaks came old new (handling_deed old.pass.actor k s.next given handling) → BreaksOffer why asked k given s old new r
+broke why asked k given s old new r r' handling came codes free is_handled part on breaks = record {
+  handling = handling;
+  is_handled = is_handled;
+  came = came;
+  breaks = breaks;
+  codes = codes;
+  codes_part = part;
+  heard = heard_last why (after_handling s given handling).next came codes r r' free on;
+}
+
+pub offer_breaks : (why : FeedEnd) (asked : Asked) (k : ℕ) (given : Given) (s : Standing) (first old new : Moment) (r r' : Replies) (handling : Handling) (came : List ℕ) (codes : List Code)
+    → IsHandled asked given handling → IsPart false codes (handling_codes s.next handling) → HearsOn came codes r r'
+    → Breaks came first new (handling_deed first.pass.actor k s.next given handling) → first.link.faults ≤ old.link.faults → StopsGiving why old new → KeepsCursor why new.pass k
+    → EndsOffer why asked k given s first new r
+offer_breaks end.LinkFault asked k given s first old new r r' handling came codes is_handled part on breaks later cause cursor = record {
+  ends = broke end.LinkFault asked k given s first new r r' handling came codes (λ _ _. tt) is_handled part on breaks;
+  cause = Rose-later first.link.faults old.link.faults new.link.faults later cause;
+  cursor = cursor;
+}
+offer_breaks end.Worn asked k given s first old new r r' handling came codes is_handled part on breaks later cause cursor = record {
+  ends = broke end.Worn asked k given s first new r r' handling came codes (λ _ _. tt) is_handled part on breaks;
+  cause = cause;
+  cursor = cursor;
+}
+offer_breaks end.OutOfMemory asked k given s first old new r r' handling came codes is_handled part on breaks later cause cursor = record {
+  ends = broke end.OutOfMemory asked k given s first new r r' handling came codes (λ _ _. tt) is_handled part on breaks;
+  cause = cause;
+  cursor = cursor;
+}
+offer_breaks end.Stopped asked k given s first old new r r' handling came codes is_handled part on breaks later cause cursor = absurd cause
+offer_breaks end.Reclassed asked k given s first old new r r' handling came codes is_handled part on breaks later cause cursor = absurd cause
+offer_breaks (end.Denied rule) asked k given s first old new r r' handling came codes is_handled part on breaks later cause cursor = absurd cause
+offer_breaks (end.PeerEnd at) asked k given s first old new r r' handling came codes is_handled part on breaks later cause cursor = absurd cause
+offer_breaks end.LogFault asked k given s first old new r r' handling came codes is_handled part on breaks later cause cursor = absurd cause
+offer_breaks (end.BadReply at) asked k given s first old new r r' handling came codes is_handled part on breaks later cause cursor = absurd cause
+offer_breaks end.AllBusy asked k given s first old new r r' handling came codes is_handled part on breaks later cause cursor = absurd cause
+
+-- ---- it is not due, or goes whole
+
+pub offers_nothing : (asked : Asked) (k : ℕ) (given : Given) (s : Standing) (now : Moment) (r : Replies) → IsHandled asked given Passed
+    → Does [] now now (handling_deed now.pass.actor k s.next given Passed) → HoldsGiven now.pass k given → Offered asked k given s s now now r r
+offers_nothing asked k given s now r passed does holds = record {
+  handling = Passed;
+  is_handled = passed;
+  came = [];
+  does = does;
+  stands = refl;
+  heard = hears_nothing r;
+  holds = holds;
+}
+
+pub offers_whole : (result : Result (Unit {0}) FeedEnd) (asked : Asked) (k : ℕ) (given : Given) (s s' : Standing) (old new : Moment) (r : Replies) → IsDue asked given
+    → size_of given ≤ asked.max_hereis → GivesWhole result k given s s' old new → Offers result asked k given s s' old new r r
+offers_whole (Ok done) asked k given s s' old new r due small gives = record {
+  handling = Whole s'.sent_at;
+  is_handled = (due, small);
+  came = [];
+  does = gives.0.does;
+  stands = gives.1;
+  heard = hears_nothing r;
+  holds = gives.0.holds;
+}
+offers_whole (Err why) asked k given s s' old new r due small gives =
+    offer_breaks why asked k given s old old new r r (Whole s'.sent_at) [] [] (due, small) ([], refl) (hears_nothing r) gives.breaks (omega arith) gives.cause gives.cursor
+
+-- ---- it is announced
+
+-- no reply came
+pub offer_unanswered : (why : FeedEnd) (asked : Asked) (k n : ℕ) (given : Given) (s : Standing) (old new : Moment) (r : Replies) → IsDue asked given → asked.max_hereis < size_of given
+    → HasCursor old.pass k (Some n) → EndsAnnouncing why k given s old new r → EndsOffer why asked k given s old new r
+offer_unanswered why asked k n given s old new r due large has ended = record {
+  ends = by_end why ended.cause ended.ends ended.heard ended.all_sent;
+  cause = ended.cause;
+  cursor = keeps_cursor why new.pass k n (subst (λ (p : PassView). HasCursor p k (Some n)) (sym ended.same) has);
+}
+  where
+    broken : (why : FeedEnd) → ((given : List ℕ) (behind : List Placed) → IsBehind why (later_call s.next 1) given behind)
+        → Breaks ended.came old new (handling_deed old.pass.actor k s.next given (Declined ended.at)) → HearsLast why s.next ended.came [] r
+        → BreaksOffer why asked k given s old new r
+    broken why free breaks heard = record {
+      handling = Declined ended.at;
+      is_handled = (due, large);
+      came = ended.came;
+      breaks = breaks;
+      codes = [];
+      codes_part = (handling_codes s.next (Declined ended.at), refl);
+      heard = heard_any why s.next (later_call s.next 1) ended.came [] r free heard;
+    }
+
+    unanswered : (why : FeedEnd) → Does ended.came old new (handling_deed old.pass.actor k s.next given (Declined ended.at)) → HearsLast why s.next ended.came [] r
+        → new.out ≡ [] → IsUnanswered why asked k given s old new r
+    unanswered why does heard empty = record { at = ended.at; is_last = (due, large); came = ended.came; does = does; heard = heard; all_sent = empty }
+
+    by_end : (why : FeedEnd) → StopsOffer why old new
+        → EndsDeed (is_whole why) ended.came old new (handling_deed old.pass.actor k s.next given (Declined ended.at))
+        → HearsLast why s.next ended.came [] r → IsAllSent (is_whole why) new.out → EndsOfferBy (is_whole why) why asked k given s old new r
+    by_end (end.PeerEnd at) cause ends heard empty = unanswered (end.PeerEnd at) ends heard empty
+    by_end (end.BadReply at) cause ends heard empty = unanswered (end.BadReply at) ends heard empty
+    by_end end.LinkFault cause ends heard empty = broken end.LinkFault (λ _ _. tt) ends heard
+    by_end end.Worn cause ends heard empty = broken end.Worn (λ _ _. tt) ends heard
+    by_end end.OutOfMemory cause ends heard empty = broken end.OutOfMemory (λ _ _. tt) ends heard
+    by_end end.Stopped cause ends heard empty = absurd cause
+    by_end end.Reclassed cause ends heard empty = absurd cause
+    by_end (end.Denied rule) cause ends heard empty = absurd cause
+    by_end end.LogFault cause ends heard empty = absurd cause
+    by_end end.AllBusy cause ends heard empty = absurd cause
+
+-- the peer did not want it
+pub offer_declined : (asked : Asked) (k : ℕ) (given : Given) (s s' : Standing) (old new : Moment) (r r' : Replies) → IsDue asked given → asked.max_hereis < size_of given
+    → HoldsGiven new.pass k given → Announced k given soon.DontSend s s' old new r r' → Offered asked k given s s' old new r r'
+offer_declined asked k given s s' old new r r' due large holds announced = record {
+  handling = Declined s'.sent_at;
+  is_handled = (due, large);
+  came = announced.came;
+  does = announced.does;
+  stands = announced.stands;
+  heard = announced.heard;
+  holds = holds;
+}
+
+-- ---- it goes in blocks
+
+-- the announcement, and then the blocks
+announced_blocks : (actor k next next' : ℕ) (given : Given) (at : ℕ) (blocks_at : List ℕ) → next' ≡ later_call next 1
+    → and_then (handling_deed actor k next given (Declined at)) (blocks_deed actor k next' given blocks_at) ≡ handling_deed actor k next given (InBlocks at blocks_at)
+announced_blocks actor k next next' given at blocks_at is =
+    let tail = λ (n : ℕ). records_of (block_messages n given.product.info.signature 0 (blocks given.product.body)) in
+    let head = record_of (written (announcement next given)) in
+    deed_is _ _ _ _ _ _ refl (ap (λ (x : List ℕ). x ++ tail next') (append-nil head) ∙ ap (λ (n : ℕ). head ++ tail n) is) refl
+
+stands_at : (s : Standing) (next at : ℕ) → s.next ≡ next → s.sent_at ≡ at → let there : Standing = record { next = next; sent_at = at } in s ≡ there
+stands_at s next at one two =
+    let by_next : ℕ → Standing = λ n. record { next = n; sent_at = s.sent_at } in
+    let by_at : ℕ → Standing = λ n. record { next = next; sent_at = n } in
+    ap by_next one ∙ ap by_at two
+
+pub offer_in_blocks : (result : Result (Unit {0}) FeedEnd) (asked : Asked) (k : ℕ) (given : Given) (s t u : Standing) (pass : PassView) (link link' : LinkRecord) (clock clock' : ClockRecord)
+    (out out' : List ℕ) (new : Moment) (r r' : Replies) → IsDue asked given → asked.max_hereis < size_of given
+    → Announced k given soon.Ok s t (moment_of pass link clock out) (moment_of pass link' clock' out') r r' → GivesBlocks result k given t u (moment_of pass link' clock' out') new
+    → Offers result asked k given s u (moment_of pass link clock out) new r r'
+offer_in_blocks (Ok done) asked k given s t u pass link link' clock clock' out out' new r r' due large announced gave =
+    let old = moment_of pass link clock out in
+    let mid = moment_of pass link' clock' out' in
+    let all = handling_deed pass.actor k s.next given (InBlocks t.sent_at gave.blocks_at) in
+    let next_is : t.next ≡ later_call s.next 1 = ap (λ (x : Standing). x.next) announced.stands in
+    let both = does_then announced.came [] old mid new _ _ announced.does gave.goes_on.does in
+    let joined : Does (announced.came ++ []) old new all =
+    subst (λ (d : Deed). Does (announced.came ++ []) old new d) (announced_blocks pass.actor k s.next t.next given t.sent_at gave.blocks_at next_is) both in
+    record {
+      handling = InBlocks t.sent_at gave.blocks_at;
+      is_handled = (due, large, gave.each);
+      came = announced.came;
+      does = subst (λ (x : List ℕ). Does x old new all) (append-nil announced.came) joined;
+      stands =
+          stands_at u _ _
+          (gave.next ∙ ap (λ (n : ℕ). later_call n (length (blocks given.product.body))) next_is ∙ later_again s.next 1 (length (blocks given.product.body)))
+          gave.sent_at;
+      heard = announced.heard;
+      holds = gave.goes_on.holds;
+    }
+offer_in_blocks (Err why) asked k given s t u pass link link' clock clock' out out' new r r' due large announced broken =
+    let old = moment_of pass link clock out in
+    let mid = moment_of pass link' clock' out' in
+    let all = handling_deed pass.actor k s.next given (InBlocks t.sent_at broken.blocks_at) in
+    let next_is : t.next ≡ later_call s.next 1 = ap (λ (x : Standing). x.next) announced.stands in
+    let first = handling_deed pass.actor k s.next given (Declined t.sent_at) in
+    let second = blocks_deed pass.actor k t.next given broken.blocks_at in
+    let both = breaks_then announced.came [] old mid new second (and_then first second) (one_done announced.came old mid first second announced.does) broken.breaks_off.breaks in
+    let joined : Breaks (announced.came ++ []) old new all =
+    subst (λ (d : Deed). Breaks (announced.came ++ []) old new d) (announced_blocks pass.actor k s.next t.next given t.sent_at broken.blocks_at next_is) both in
+    offer_breaks why asked k given s old mid new r r' (InBlocks t.sent_at broken.blocks_at) announced.came (record { xid = s.next; answer = soon.Ok } ∷ [])
+    (due, large, broken.each) ([], refl) announced.heard (subst (λ (x : List ℕ). Breaks x old new all) (append-nil announced.came) joined) announced.does.link.faults
+    broken.breaks_off.cause broken.breaks_off.cursor

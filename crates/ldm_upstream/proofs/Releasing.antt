@@ -1,0 +1,112 @@
+-- A product that was offered is let go.
+use Rattle.std.proofs.Common.{◌≡◌, ◌∙◌, ℕ, List, [], ◌∷◌, ◌++◌, Bool, true, false, None, refl, ap, subst, append-nil}
+use Rattle.ldm_model.specs.declared.event.Entry.{Entry}
+use Rattle.ldm_outside.specs.Clock.{ClockRecord}
+use Rattle.ldm_outside.specs.Link.{LinkRecord, IsNotClosed}
+use Rattle.ldm_shared.specs.Passes.{PassView, Makes, FindsWorn}
+use Rattle.ldm_shared.proofs.Made.{calls_none, calls_some}
+use Rattle.ldm_reader.specs.Reader.{HasCursor}
+use Rattle.ldm_session.specs.declared.replies.Replies.{Replies}
+use Rattle.ldm_upstream.specs.declared.end.FeedEnd.{FeedEnd}
+use Rattle.ldm_upstream.specs.declared.end.FeedEnd.TheVariants as end
+use Rattle.ldm_upstream.specs.declared.standing.Standing.{Standing}
+use Rattle.ldm_upstream.specs.Asked.{Asked}
+use Rattle.ldm_upstream.specs.Turn.{Given, let_go, after_handling, handling_codes}
+use Rattle.ldm_upstream.specs.Deeds.{and_then, no_deed, calling, handling_deed}
+use Rattle.ldm_upstream.specs.Does.{Moment, moment_of, Does, Breaks}
+use Rattle.ldm_upstream.specs.Acts.{is_whole}
+use Rattle.ldm_upstream.specs.Offering.{Offered, EndsOfferBy, EndsOffer, Handled, EndsHandlingBy, EndsHandling}
+use Rattle.ldm_upstream.proofs.Doing.{does_then, breaks_then, breaks_before, one_done, nothing_done, answered_none, keeps_link}
+use Rattle.ldm_upstream.proofs.Exchanges.{exchanged_nothing}
+use Rattle.ldm_upstream.proofs.Offers.{heard_last}
+
+-- a call was made, and nothing else happened
+pub one_call : (old new : PassView) (link : LinkRecord) (clock : ClockRecord) (out : List ℕ) (entry : Entry) → Makes old new (entry ∷ []) → IsNotClosed link
+    → Does [] (moment_of old link clock out) (moment_of new link clock out) (calling entry)
+one_call old new link clock out entry makes unclosed = record {
+  calls = calls_some old new (entry ∷ []) makes;
+  sent = [];
+  gathered = append-nil out;
+  exchanged = exchanged_nothing link;
+  answered = answered_none clock;
+  link = keeps_link link unclosed;
+}
+
+-- it ended before
+ended_by : (whole : Bool) (why : FeedEnd) (asked : Asked) (k : ℕ) (given : Given) (s : Standing) (old new : Moment) (r : Replies) → EndsOfferBy whole why asked k given s old new r
+    → EndsHandlingBy whole why asked k given s old new r
+ended_by true why asked k given s old new r ends = ends
+ended_by false why asked k given s old new r ends = record {
+  handling = ends.handling;
+  is_handled = ends.is_handled;
+  came = ends.came;
+  breaks =
+      breaks_before ends.came old new (handling_deed old.pass.actor k s.next given ends.handling) (calling (let_go old.pass.actor k given)) ends.breaks;
+  codes = ends.codes;
+  codes_part = ends.codes_part;
+  heard = ends.heard;
+}
+
+pub ended_before : (why : FeedEnd) (asked : Asked) (k : ℕ) (given : Given) (s : Standing) (old new : Moment) (r : Replies) → EndsOffer why asked k given s old new r
+    → EndsHandling why asked k given s old new r
+ended_before why asked k given s old new r ends =
+    record { ends = ended_by (is_whole why) why asked k given s old new r ends.ends; cause = ends.cause; cursor = ends.cursor }
+
+-- it is let go
+pub let_it_go : (asked : Asked) (k : ℕ) (given : Given) (s s' : Standing) (old : Moment) (mid new : PassView) (link : LinkRecord) (clock : ClockRecord) (out : List ℕ) (r r' : Replies)
+    → IsNotClosed link → Offered asked k given s s' old (moment_of mid link clock out) r r' → Makes mid new (let_go mid.actor k given ∷ []) → HasCursor new k None
+    → Handled asked k given s s' old (moment_of new link clock out) r r'
+let_it_go asked k given s s' old mid new link clock out r r' unclosed offered makes cursor =
+    let same : mid.actor ≡ old.pass.actor = ap (λ (p : PassView). p.actor) offered.does.calls.same in
+    let there = moment_of new link clock out in
+    let first = handling_deed old.pass.actor k s.next given offered.handling in
+    let second = calling (let_go old.pass.actor k given) in
+    let made : Makes mid new (let_go old.pass.actor k given ∷ []) = subst (λ (a : ℕ). Makes mid new (let_go a k given ∷ [])) same makes in
+    let both : Does (offered.came ++ []) old there (and_then first second) =
+    does_then offered.came [] old (moment_of mid link clock out) there first second offered.does (one_call mid new link clock out (let_go old.pass.actor k given) made unclosed) in
+    record {
+      handling = offered.handling;
+      is_handled = offered.is_handled;
+      came = offered.came;
+      does = subst (λ (x : List ℕ). Does x old there (and_then first second)) (append-nil offered.came) both;
+      stands = offered.stands;
+      heard = offered.heard;
+      cursor = cursor;
+    }
+
+-- the queue has had all its calls
+pub worn_before : (asked : Asked) (k turns : ℕ) (given : Given) (s s' : Standing) (old : Moment) (mid new : PassView) (link : LinkRecord) (clock : ClockRecord) (out : List ℕ) (r r' : Replies)
+    → IsNotClosed link → Offered asked k given s s' old (moment_of mid link clock out) r r' → FindsWorn mid new turns
+    → EndsHandling end.Worn asked k given s old (moment_of new link clock out) r
+worn_before asked k turns given s s' old mid new link clock out r r' unclosed offered worn =
+    let there = moment_of new link clock out in
+    let here = moment_of mid link clock out in
+    let first = handling_deed old.pass.actor k s.next given offered.handling in
+    let second = calling (let_go old.pass.actor k given) in
+    let both : Breaks (offered.came ++ []) old there (and_then first second) =
+    breaks_then offered.came [] old here there second (and_then first second) (one_done offered.came old here first second offered.does)
+    (nothing_done here there second unclosed (calls_some mid new [] worn.makes) refl refl) in
+    record {
+      ends = record {
+        handling = offered.handling;
+        is_handled = offered.is_handled;
+        came = offered.came;
+        breaks = subst (λ (x : List ℕ). Breaks x old there (and_then first second)) (append-nil offered.came) both;
+        codes = handling_codes s.next offered.handling;
+        codes_part = ([], append-nil (handling_codes s.next offered.handling));
+        heard = heard_last end.Worn (after_handling s given offered.handling).next offered.came (handling_codes s.next offered.handling) r r' (λ _ _. tt) offered.heard;
+      };
+      cause = worn.long ∙ worn.turns_are;
+      cursor = tt;
+    }
+
+-- nothing was done
+pub does_nothing : (now : Moment) → IsNotClosed now.link → Does [] now now no_deed
+does_nothing now unclosed = record {
+  calls = calls_none now.pass;
+  sent = [];
+  gathered = append-nil now.out;
+  exchanged = exchanged_nothing now.link;
+  answered = answered_none now.clock;
+  link = keeps_link now.link unclosed;
+}

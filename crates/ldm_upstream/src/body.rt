@@ -1,0 +1,91 @@
+//! The body of a product, read from the queue into what is gathered.
+ghost use Rattle.std.specs.Prelude.{◌≡◌, ◌+◌, ◌≤◌, ◌++◌, ℕ, List, length, replicate, OnOk};
+ghost use Rattle.std.specs.Vec.{vec_capacity};
+ghost use Rattle.ldm_outside.specs.Clock.{ClockRecord};
+ghost use Rattle.ldm_outside.specs.Link.{IsNotClosed};
+ghost use Rattle.ldm_shared.specs.Passes.{IsPassOf, IsSamePass};
+ghost use Rattle.ldm_reader.specs.Reader.{Holds};
+ghost use Rattle.ldm_upstream.specs.Deeds.{part_of};
+ghost use Rattle.ldm_upstream.specs.Does.{moment_of};
+ghost use Rattle.ldm_upstream.specs.Giving.{given_of, ReadsPart, ReadsAll};
+
+use crate::end::FeedEnd;
+use ldm_outside::Link;
+use ldm_reader::{Held, Reader};
+use ldm_relay::LARGEST_BLOCK;
+use ldm_session::send_where_full;
+use ldm_shared::{Pass, Shared, Turn};
+use ldm_types::OutOfMemory;
+use std::sync::Wait;
+
+// Appends a part of the body of the product that is held.
+pub(crate) fn append_part<H: Wait>(
+    rt: &H,
+    shared: &Shared,
+    reader: &Reader,
+    pass: &mut Pass,
+    held: &Held,
+    offset: u32,
+    len: u32,
+    out: &mut Vec<u8>,
+) -> Result<(), FeedEnd>
+    requires of { IsPassOf shared.now pass.old }
+    requires holds { (body : List ℕ) × Holds pass.old reader.now.k held.now body }
+    requires within { offset + len ≤ held.now.info.size }
+    ensures kept { IsSamePass pass.old pass.new }
+    ensures read { (body : List ℕ) → Holds pass.old reader.now.k held.now body
+        → ReadsPart result reader.now.k (given_of held.now body) offset (part_of offset len body) pass.old pass.new out.old.items out.new.items }
+{
+    let at = out.len();
+    out.resize(at + len as usize, 0)?;
+    match reader.read(
+        shared,
+        rt,
+        pass,
+        held,
+        offset,
+        &mut out.as_mut_slice()[at..],
+    ) {
+        Turn::Done(()) => Ok(()),
+        Turn::Worn { .. } => Err(FeedEnd::Worn),
+    }
+}
+
+// Appends so many zero bytes.
+pub(crate) fn append_zeros(count: usize, out: &mut Vec<u8>) -> Result<(), OutOfMemory>
+    requires { count ≤ 3 }
+    ensures { OnOk result (out.new.items ≡ out.old.items ++ replicate count 0) }
+{
+    out.extend_from_slice(&[0; 3][..count])?;
+    Ok(())
+}
+
+// Appends the whole body of the product that is held, a block at a time, and sends what is gathered where that is much.
+pub(crate) fn append_body<H: Wait, K: Link>(
+    rt: &H,
+    shared: &Shared,
+    reader: &Reader,
+    pass: &mut Pass,
+    held: &Held,
+    out: &mut Vec<u8>,
+    link: &mut K,
+) -> Result<(), FeedEnd>
+    requires of { IsPassOf shared.now pass.old }
+    requires holds { (body : List ℕ) × Holds pass.old reader.now.k held.now body }
+    requires not_closed { IsNotClosed (K.tells link.old) }
+    ensures kept { IsSamePass pass.old pass.new }
+    ensures still_open { IsNotClosed (K.tells link.new) }
+    ensures read { (body : List ℕ) (clock : ClockRecord) → Holds pass.old reader.now.k held.now body
+        → ReadsAll result reader.now.k (given_of held.now body)
+        (moment_of pass.old (K.tells link.old) clock out.old.items) (moment_of pass.new (K.tells link.new) clock out.new.items) }
+{
+    let size = held.info.size();
+    let mut at = 0;
+    while at < size {
+        let len = (size - at).min(LARGEST_BLOCK as u32);
+        append_part(rt, shared, reader, pass, held, at, len, out)?;
+        send_where_full(out, link)?;
+        at += len;
+    }
+    Ok(())
+}

@@ -1,0 +1,23 @@
+//! Where a feeding stands between two messages.
+ghost use Rattle.std.specs.Prelude.{◌≡◌};
+ghost use Rattle.ldm_outside.specs.Clock.{Answers};
+ghost use Rattle.ldm_upstream.specs.Turn.{later_call};
+
+use ldm_outside::Clock;
+use ldm_types::Micros;
+
+/// Where a feeding stands: the number of its next call, and the answer of the clock after its last message.
+#[derive(Clone, Copy, Debug, PartialEq, Eq)]
+pub struct Standing {
+    pub next: u32,
+    pub sent_at: Micros,
+}
+
+// A call is gathered: the next one has the next number, and the clock is asked.
+pub(crate) fn count_call<C: Clock>(standing: &mut Standing, clock: &mut C)
+    ensures next { standing.new.next ≡ later_call standing.old.next 1 }
+    ensures answered { Answers standing.new.sent_at (C.tells clock.old) (C.tells clock.new) }
+{
+    standing.next = standing.next.wrapping_add(1);
+    standing.sent_at = clock.now();
+}
