@@ -1,0 +1,107 @@
+//! What a feeder sends and logs.
+ghost use Rattle.ldm_shared.specs.Passes.{IsPassOf, IsSamePass};
+
+use crate::case::Case;
+use crate::gates::BusyGate;
+use crate::items::insert_all;
+use crate::outside::{clock_of, link_of, log_of, policy_of, queue_of};
+use crate::telling::{tell_log, tell_sent};
+use ldm_class::{Class, Policy};
+use ldm_drive::Trial;
+use ldm_drive_outside::copied;
+use ldm_model::{OpenReply, Start};
+use ldm_relay::Feedme;
+use ldm_session::LONGEST_NAME;
+use ldm_shared::{Pass, Shared, Turn};
+use ldm_types::Feed;
+use ldm_upstream::feed;
+use std::sync::Wait;
+
+/// `feed NAME=VALUE ..`: a feeder answers a request as call 1, and feeds. Tells its end, whether the link is closed, what it sent and
+/// logged, and the place that a cursor gets which is opened then.
+pub fn feed_case<H: Wait>(rt: &H, trial: &mut Trial) {
+    let case = Case::of(trial);
+    let Some(policy) = policy_of(trial.alloc(), &case) else {
+        return trial.refuse("no rules");
+    };
+    let Some((shared, mut pass, other)) = queue_of(trial.alloc(), &case) else {
+        return trial.refuse("no queue");
+    };
+    insert_all(rt, &shared, &mut pass, &case.queued);
+    open_all(rt, &shared, &mut pass, case.cursors);
+    feed_to(rt, trial, &case, &policy, &shared, &mut pass, other);
+    tell_cursor(rt, trial, &shared, &mut pass);
+}
+
+// Opens so many cursors.
+fn open_all<H: Wait>(rt: &H, shared: &Shared, pass: &mut Pass, count: u64)
+    requires { IsPassOf shared.now pass.old }
+    ensures { IsSamePass pass.old pass.new }
+{
+    for _ in 0..count {
+        let _ = shared.open_cursor(rt, pass, Feed(1), Start::Oldest);
+    }
+}
+
+fn feed_to<H: Wait>(
+    rt: &H,
+    trial: &mut Trial,
+    case: &Case,
+    policy: &Policy,
+    shared: &Shared,
+    pass: &mut Pass,
+    other: Pass,
+)
+    requires pass { IsPassOf shared.now pass.old }
+    requires other { IsPassOf shared.now other }
+    ensures { IsPassOf shared.now pass.new }
+{
+    let ask = Feedme {
+        xid: 1,
+        class: case.class.copy(),
+        max_hereis: case.max_hereis,
+    };
+    let Ok(class) = Class::build(trial.alloc(), &ask.class) else {
+        return trial.refuse("a pattern means nothing");
+    };
+    if case.host.len() > LONGEST_NAME {
+        return trial.refuse("the host is too long");
+    }
+    let stopping = copied(trial, &case.stops);
+    let mut gate = BusyGate::new(rt, shared, other, &case.later, stopping);
+    let mut link = link_of(trial, case);
+    let mut log = log_of(trial, case);
+    let mut clock = clock_of(trial, case);
+    let end = feed(
+        rt,
+        trial.alloc(),
+        shared,
+        pass,
+        &mut link,
+        &mut log,
+        &mut gate,
+        &mut clock,
+        &case.host,
+        &ask,
+        &class,
+        policy,
+    );
+    trial.tell_debug(&end);
+    trial.tell(if link.is_closed() { " closed" } else { " open" });
+    tell_sent(trial, &link);
+    tell_log(trial, log.written());
+}
+
+// The place of a cursor that is opened: 0, where the session closed its own; `-` where all are taken.
+fn tell_cursor<H: Wait>(rt: &H, trial: &mut Trial, shared: &Shared, pass: &mut Pass)
+    requires { IsPassOf shared.now pass.old }
+{
+    trial.tell(" cursor ");
+    let Turn::Done(reply) = shared.open_cursor(rt, pass, Feed(1), Start::Oldest) else {
+        return trial.refuse("no turn");
+    };
+    match reply {
+        OpenReply::Opened { k } => trial.tell_number(u64::from(k.get())),
+        OpenReply::AllBusy | OpenReply::NotQueued => trial.tell("-"),
+    }
+}

@@ -1,0 +1,27 @@
+//! Cases of sessions over links in memory: what a feeder sends and logs, and what a receiver takes, answers and logs.
+#![tactic(auto)]
+
+mod case;
+mod feeding;
+mod gates;
+mod items;
+mod outside;
+mod receiving;
+mod telling;
+
+use ldm_drive::{Trial, drive};
+use std::io;
+use std::sync::Wait;
+
+// What the session that a case names comes to.
+fn answer<H: Wait>(rt: &H, trial: &mut Trial) {
+    match trial.word() {
+        "feed" => feeding::feed_case(rt, trial),
+        "receive" => receiving::receive_case(rt, trial),
+        _ => trial.refuse("no such word"),
+    }
+}
+
+fn main(rt: HostRuntime) -> io::Result<()> {
+    drive(&rt, |trial| answer(&rt, trial))
+}
