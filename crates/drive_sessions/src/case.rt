@@ -18,6 +18,9 @@ pub struct Case {
     pub later: Vec<Item>,
     /// `cursors=`: how many cursors are open besides.
     pub cursors: u64,
+    /// `reserved=`: how many reservations are open besides. `held=`: 1 where the first product is held by a cursor besides.
+    pub reserved: u64,
+    pub held: u64,
     /// `host=`: the peer. `conf=`: the text of an ldmd.conf with the rules of access.
     pub host: Vec<u8>,
     pub conf: Vec<u8>,
@@ -27,6 +30,8 @@ pub struct Case {
     pub last: Option<Signature>,
     /// `max=`: the size of the largest product that is to come whole.
     pub max_hereis: u32,
+    /// `streams=`: streams that are changed, with `,` between two.
+    pub streams: Vec<Vec<u8>>,
     /// `given=`: what the link gives; `pieces=`: the lengths of its pieces; `open=`: 1 where it does not end behind them, and
     /// fails there; `sends=`: the most bytes that it takes at once.
     pub given: Vec<u8>,
@@ -55,6 +60,8 @@ impl Case {
             queued: Vec::new(alloc),
             later: Vec::new(alloc),
             cursors: 0,
+            reserved: 0,
+            held: 0,
             host: Vec::new(alloc),
             conf: Vec::new(alloc),
             class: ClassSpec {
@@ -64,6 +71,7 @@ impl Case {
             },
             last: None,
             max_hereis: 16_384,
+            streams: Vec::new(alloc),
             given: Vec::new(alloc),
             pieces: Vec::new(alloc),
             is_open: false,
@@ -101,6 +109,7 @@ impl Case {
             "host" => self.host = trial.text_in(value),
             "conf" => self.conf = trial.text_in(value),
             "given" => self.given = trial.bytes_in(value),
+            "streams" => self.streams = streams_in(trial, value),
             "class" => self.class.specs = specs_in(trial, value),
             "open" => self.is_open = value == "1",
             _ => self.set_numbers(trial, name, value),
@@ -129,6 +138,8 @@ impl Case {
             "to" => self.class.to = instant(trial, number),
             "sends" => self.sends = number,
             "cursors" => self.cursors = number,
+            "reserved" => self.reserved = number,
+            "held" => self.held = number,
             _ => trial.refuse("no such name"),
         }
     }
@@ -204,6 +215,17 @@ fn instants(trial: &mut Trial, value: &str) -> Vec<Micros> {
         }
     }
     instants
+}
+
+fn streams_in(trial: &mut Trial, value: &str) -> Vec<Vec<u8>> {
+    let mut streams = Vec::new(trial.alloc());
+    for part in value.split(',') {
+        let stream = trial.bytes_in(part);
+        if streams.push(stream).is_err() {
+            trial.lack_memory();
+        }
+    }
+    streams
 }
 
 fn specs_in(trial: &mut Trial, value: &str) -> ArrayVec<Spec, MOST_SPECS> {

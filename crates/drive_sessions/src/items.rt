@@ -65,6 +65,36 @@ pub fn insert_all<H: Wait>(rt: &H, shared: &Shared, pass: &mut Pass, items: &[It
     }
 }
 
+/// Reserves regions for so many products without a body.
+pub fn reserve_all<H: Wait>(rt: &H, shared: &Shared, pass: &mut Pass, count: u64)
+    requires { IsPassOf shared.now pass.old }
+    ensures { IsSamePass pass.old pass.new }
+{
+    for n in 0..count {
+        let byte = (n % 100) as u8 + 100;
+        if let Some(now) = Micros::new(1)
+            && let Some(info) = info_of(now, byte, Feed(2), b"r", &[])
+        {
+            let _ = shared.reserve(rt, pass, &info);
+        }
+    }
+}
+
+/// Opens so many cursors, each of which is given the first product and holds it.
+pub fn hold_some<H: Wait>(rt: &H, shared: &Shared, pass: &mut Pass, count: u64)
+    requires { IsPassOf shared.now pass.old }
+    ensures { IsSamePass pass.old pass.new }
+{
+    for _ in 0..count {
+        let Turn::Done(reply) = shared.open_cursor(rt, pass, Feed(u32::MAX), Start::Oldest) else {
+            return;
+        };
+        if let OpenReply::Opened { k } = reply {
+            let _ = shared.step(rt, pass, k);
+        }
+    }
+}
+
 /// Adds the products that are queued, in order: number, time, the first byte of the signature, ident and body of each.
 pub fn tell_queue<H: Wait>(rt: &H, trial: &mut Trial, shared: &Shared, pass: &mut Pass)
     requires { IsPassOf shared.now pass.old }
@@ -123,7 +153,7 @@ fn tell_product<H: Wait>(
 {
     trial.tell_number(u64::from(info.signature().0[0]));
     trial.tell("/");
-    trial.tell_text(info.ident());
+    tell_bytes(trial, info.ident());
     trial.tell("/");
     match vec![in trial.alloc(); 0u8; info.size() as usize] {
         Ok(mut body) => {

@@ -2,9 +2,11 @@
 #![tactic(auto)]
 
 mod case;
+mod crowd;
 mod feeding;
 mod gates;
 mod items;
+mod mutated;
 mod outside;
 mod receiving;
 mod telling;
@@ -12,11 +14,14 @@ mod telling;
 use ldm_drive::{Trial, drive};
 use std::io;
 use std::sync::Wait;
+use std::thread::Threads;
 
 // What the session that a case names comes to.
-fn answer<H: Wait>(rt: &H, trial: &mut Trial) {
+fn answer<H: Threads + Wait + Sync>(rt: &H, trial: &mut Trial) {
     match trial.word() {
         "feed" => feeding::feed_case(rt, trial),
+        "mutated" => mutated::mutated(rt, trial),
+        "crowd" => crowd::crowd(rt, trial),
         "receive" => receiving::receive_case(rt, trial),
         _ => trial.refuse("no such word"),
     }

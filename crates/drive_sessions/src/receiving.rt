@@ -2,7 +2,7 @@
 ghost use Rattle.ldm_shared.specs.Passes.{IsPassOf};
 
 use crate::case::Case;
-use crate::items::{insert_all, tell_queue};
+use crate::items::{hold_some, insert_all, reserve_all, tell_queue};
 use crate::outside::{clock_of, link_of, log_of, queue_of};
 use crate::telling::{tell_bytes, tell_log, tell_sent};
 use ldm_class::Class;
@@ -11,17 +11,19 @@ use ldm_drive::Trial;
 use ldm_intake::RecvEnd;
 use ldm_relay::ClassAnswer;
 use ldm_shared::{Pass, Shared};
+use ldm_types::Signature;
 use std::sync::Wait;
 
 /// `receive NAME=VALUE ..`: a receiver asks for a class, and takes what the link gives. Tells its end, the last product, what it sent and
 /// logged, and the products that are queued then.
 pub fn receive_case<H: Wait>(rt: &H, trial: &mut Trial) {
     let case = Case::of(trial);
-    let Some((shared, mut pass, other)) = queue_of(trial.alloc(), &case) else {
+    let Some((shared, mut pass, mut other)) = queue_of(trial.alloc(), &case) else {
         return trial.refuse("no queue");
     };
-    let _ = other;
     insert_all(rt, &shared, &mut pass, &case.queued);
+    reserve_all(rt, &shared, &mut other, case.reserved);
+    hold_some(rt, &shared, &mut other, case.held);
     receive_from(rt, trial, &case, &shared, &mut pass);
     tell_queue(rt, trial, &shared, &mut pass);
 }
@@ -55,14 +57,20 @@ fn receive_from<H: Wait>(rt: &H, trial: &mut Trial, case: &Case, shared: &Shared
 
 fn tell_received(trial: &mut Trial, received: &Received) {
     tell_end(trial, &received.end);
+    tell_last(trial, received.last);
+}
+
+/// Adds the signature of the last product.
+pub fn tell_last(trial: &mut Trial, last: Option<Signature>) {
     trial.tell(" last ");
-    match received.last {
+    match last {
         Some(signature) => tell_bytes(trial, &signature.0),
         None => trial.tell("-"),
     }
 }
 
-fn tell_end(trial: &mut Trial, end: &RecvEnd) {
+/// Adds how a receiving ended.
+pub fn tell_end(trial: &mut Trial, end: &RecvEnd) {
     match end {
         RecvEnd::Ended => trial.tell("Ended"),
         RecvEnd::Truncated { at } => tell_place(trial, "Truncated", *at),
