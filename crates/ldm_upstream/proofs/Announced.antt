@@ -14,16 +14,18 @@ use Rattle.ldm_session.specs.declared.replies.Replies.{Replies}
 use Rattle.ldm_session.specs.Exchange.{Exchanged}
 use Rattle.ldm_session.specs.Hearing.{Hears, Tells}
 use Rattle.ldm_session.specs.Owed.{Code}
-use Rattle.ldm_session.proofs.CallerLemmas.{Heard-said}
-use Rattle.ldm_upstream.specs.declared.end.FeedEnd.{FeedEnd}
-use Rattle.ldm_upstream.specs.declared.standing.Standing.{Standing}
-use Rattle.ldm_upstream.specs.Turn.{Given, Declined, later_call, after_handling}
-use Rattle.ldm_upstream.specs.Deeds.{Deed, no_deed, handling_deed}
-use Rattle.ldm_upstream.specs.Does.{Moment, moment_of, KeepsLink}
+use Rattle.ldm_session.proofs.CallerLemmas.{AnsweredAll-nothing, Heard-said}
+use Rattle.ldm_sender.specs.declared.end.SendEnd.{SendEnd}
+use Rattle.ldm_sender.specs.declared.standing.Standing.{Standing}
+use Rattle.ldm_upstream.specs.Turn.{Given, Declined, after_handling}
+use Rattle.ldm_sender.specs.Calls.{later_call}
+use Rattle.ldm_sender.specs.Deeds.{Deed, no_deed}
+use Rattle.ldm_upstream.specs.ProductDeeds.{handling_deed}
+use Rattle.ldm_sender.specs.Does.{Moment, moment_of, KeepsLink}
 use Rattle.ldm_upstream.specs.Heard.{HearsLast, IsBehind, SaysLast}
-use Rattle.ldm_upstream.specs.NoReplyEnd.{end_of}
+use Rattle.ldm_sender.specs.NoReplyEnd.{end_of}
 use Rattle.ldm_upstream.specs.Offering.{Announced, EndsAnnouncing}
-use Rattle.ldm_upstream.proofs.Doing.{Toward, toward_then, all_done, stops_here, answered_none}
+use Rattle.ldm_sender.proofs.Doing.{Toward, toward_then, all_done, stops_here}
 
 -- the count of calls goes on by one
 pub counted : (standing standing' : Standing) (given : Given) → standing'.next ≡ later_call standing.next 1 → standing' ≡ after_handling standing given (Declined standing'.sent_at)
@@ -44,7 +46,7 @@ hears_last no_reply xid old new link link' hears = λ given earlier heard.
     subst P (sym (append-nil earlier)) (says_last no_reply xid (given ++ hears.more) earlier new (hears.told given earlier heard))
 
 -- nothing was heard
-pub unheard : (why : FeedEnd) (xid : ℕ) (replies : Replies) → ((given : List ℕ) (behind : List Placed) → IsBehind why xid given behind) → HearsLast why xid [] [] replies
+pub unheard : (why : SendEnd) (xid : ℕ) (replies : Replies) → ((given : List ℕ) (behind : List Placed) → IsBehind why xid given behind) → HearsLast why xid [] [] replies
 unheard why xid replies free = λ given earlier heard.
     let said = Heard-said given earlier replies heard in
     let here : SaysLast why xid given earlier = record { behind = said.0; said = said.1; is_behind = free given said.0 } in
@@ -63,7 +65,7 @@ reply_came pass clock out came link link' exchanged keeps = record {
   exchanged = exchanged;
   bytes = refl;
   asked = [];
-  answered = answered_none clock;
+  answered = AnsweredAll-nothing clock;
   instants = refl;
   link = keeps;
 }

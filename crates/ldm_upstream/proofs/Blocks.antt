@@ -7,8 +7,9 @@ use Rattle.ldm_relay.specs.declared.message.TheConstants.{LARGEST_BLOCK}
 use Rattle.ldm_relay.specs.Sent.{Sent}
 use Rattle.ldm_relay.specs.Sent as sent
 use Rattle.ldm_upstream.specs.Blocks.{cut, count_blocks, blocks, reads}
-use Rattle.ldm_upstream.specs.Turn.{later_call, block_messages}
-use Rattle.ldm_upstream.specs.Deeds.{part_of, read_entry}
+use Rattle.ldm_sender.specs.Calls.{later_call}
+use Rattle.ldm_upstream.specs.Turn.{block_messages}
+use Rattle.ldm_upstream.specs.ProductDeeds.{part_of, read_entry}
 
 -- bytes that are some make a block more than those behind the first block
 count_more : (size : ℕ) → 0 < size → count_blocks size ≡ suc (count_blocks (size - LARGEST_BLOCK))

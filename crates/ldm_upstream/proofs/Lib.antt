@@ -1,20 +1,12 @@
-mod Starts
 mod Blocks
-pub mod Exchanges
-mod Doing
 mod Reading
 mod Sending
-mod Acting
 mod Turning
 mod Offers
 mod Releasing
 mod Stepping
 mod Coursing
-mod Messaging
 mod Announced
-mod Beginning
-mod Waiting
 mod Fed
 mod Closing
 mod Unfed
-mod Emptied

@@ -12,36 +12,39 @@ use Rattle.ldm_reader.specs.Reader.{HasCursor}
 use Rattle.ldm_session.specs.declared.replies.Replies.{Replies}
 use Rattle.ldm_session.specs.Owed.{Code}
 use Rattle.ldm_session.proofs.CallerLemmas.{Heard-said}
-use Rattle.ldm_upstream.specs.declared.end.FeedEnd.{FeedEnd}
-use Rattle.ldm_upstream.specs.declared.end.FeedEnd.TheVariants as end
-use Rattle.ldm_upstream.specs.declared.standing.Standing.{Standing}
-use Rattle.ldm_upstream.specs.Asked.{Asked}
+use Rattle.ldm_sender.specs.declared.end.SendEnd.{SendEnd}
+use Rattle.ldm_sender.specs.declared.end.SendEnd.TheVariants as end
+use Rattle.ldm_sender.specs.declared.standing.Standing.{Standing}
+use Rattle.ldm_sender.specs.Asked.{Asked}
 use Rattle.ldm_upstream.specs.Blocks.{blocks}
-use Rattle.ldm_upstream.specs.Turn.{Given, Handling, Passed, Whole, Declined, InBlocks, later_call, after_handling, handling_codes, announcement, block_messages}
+use Rattle.ldm_upstream.specs.Turn.{Given, Handling, Passed, Whole, Declined, InBlocks, after_handling, handling_codes, announcement, block_messages}
+use Rattle.ldm_sender.specs.Calls.{later_call}
 use Rattle.ldm_upstream.specs.Turns.{IsDue, IsHandled, size_of}
-use Rattle.ldm_upstream.specs.Deeds.{Deed, and_then, records_of, handling_deed, blocks_deed}
-use Rattle.ldm_upstream.specs.Does.{Moment, moment_of, Does, Breaks, IsPart}
-use Rattle.ldm_upstream.specs.Giving.{HoldsGiven, KeepsCursor, StopsGiving, GivesWhole, GivesBlocks}
-use Rattle.ldm_upstream.specs.Acts.{is_whole, IsAllSent}
+use Rattle.ldm_sender.specs.Deeds.{Deed, and_then, records_of}
+use Rattle.ldm_upstream.specs.ProductDeeds.{handling_deed, blocks_deed}
+use Rattle.ldm_sender.specs.Does.{Moment, moment_of, Does, Breaks, IsPart}
+use Rattle.ldm_upstream.specs.Giving.{HoldsGiven, GivesWhole, GivesBlocks}
+use Rattle.ldm_sender.specs.Stopping.{KeepsCursor, StopsSending}
+use Rattle.ldm_sender.specs.Acts.{is_whole, IsAllSent}
 use Rattle.ldm_upstream.specs.Heard.{HearsOn, HearsLast, IsBehind}
 use Rattle.ldm_upstream.specs.Offering.{EndsDeed, StopsOffer, Announced, EndsAnnouncing, Offered, IsUnanswered, BreaksOffer, EndsOfferBy, EndsOffer, Offers}
-use Rattle.ldm_upstream.proofs.Acting.{deed_is}
+use Rattle.ldm_sender.proofs.Acting.{deed_is}
 use Rattle.ldm_upstream.proofs.Blocks.{later_again}
-use Rattle.ldm_upstream.proofs.Doing.{does_then, breaks_then, one_done}
-use Rattle.ldm_upstream.proofs.Reading.{keeps_cursor}
+use Rattle.ldm_sender.proofs.Doing.{does_then, breaks_then, one_done}
+use Rattle.ldm_sender.proofs.Settling.{keeps_cursor}
 use Rattle.ldm_upstream.proofs.Turning.{hears_nothing}
 
 -- ---- what was heard at an end
 
 -- what was heard so far is the last
-pub heard_last : (why : FeedEnd) (next : ℕ) (came : List ℕ) (codes : List Code) (r r' : Replies) → ((given : List ℕ) (behind : List Placed) → IsBehind why next given behind)
+pub heard_last : (why : SendEnd) (next : ℕ) (came : List ℕ) (codes : List Code) (r r' : Replies) → ((given : List ℕ) (behind : List Placed) → IsBehind why next given behind)
     → HearsOn came codes r r' → HearsLast why next came codes r
 heard_last why next came codes r r' free on = λ given earlier heard.
     let said = Heard-said (given ++ came) (earlier ++ codes) r' (on given earlier heard) in
     record { behind = said.0; said = said.1; is_behind = free (given ++ came) said.0 }
 
 -- for an end at which no reply is owed, any number will do
-pub heard_any : (why : FeedEnd) (next other : ℕ) (came : List ℕ) (codes : List Code) (r : Replies) → ((given : List ℕ) (behind : List Placed) → IsBehind why other given behind)
+pub heard_any : (why : SendEnd) (next other : ℕ) (came : List ℕ) (codes : List Code) (r : Replies) → ((given : List ℕ) (behind : List Placed) → IsBehind why other given behind)
     → HearsLast why next came codes r → HearsLast why other came codes r
 heard_any why next other came codes r free last = λ given earlier heard.
     let says = last given earlier heard in
@@ -49,7 +52,7 @@ heard_any why next other came codes r free last = λ given earlier heard.
 
 -- ---- it breaks off
 
-broke : (why : FeedEnd) (asked : Asked) (k : ℕ) (given : Given) (s : Standing) (old new : Moment) (r r' : Replies) (handling : Handling) (came : List ℕ) (codes : List Code)
+broke : (why : SendEnd) (asked : Asked) (k : ℕ) (given : Given) (s : Standing) (old new : Moment) (r r' : Replies) (handling : Handling) (came : List ℕ) (codes : List Code)
     → ((x : List ℕ) (behind : List Placed) → IsBehind why (after_handling s given handling).next x behind)
     → IsHandled asked given handling → IsPart false codes (handling_codes s.next handling) → HearsOn came codes r r'
     → Breaks came old new (handling_deed old.pass.actor k s.next given handling) → BreaksOffer why asked k given s old new r
@@ -63,9 +66,9 @@ broke why asked k given s old new r r' handling came codes free is_handled part 
   heard = heard_last why (after_handling s given handling).next came codes r r' free on;
 }
 
-pub offer_breaks : (why : FeedEnd) (asked : Asked) (k : ℕ) (given : Given) (s : Standing) (first old new : Moment) (r r' : Replies) (handling : Handling) (came : List ℕ) (codes : List Code)
+pub offer_breaks : (why : SendEnd) (asked : Asked) (k : ℕ) (given : Given) (s : Standing) (first old new : Moment) (r r' : Replies) (handling : Handling) (came : List ℕ) (codes : List Code)
     → IsHandled asked given handling → IsPart false codes (handling_codes s.next handling) → HearsOn came codes r r'
-    → Breaks came first new (handling_deed first.pass.actor k s.next given handling) → first.link.faults ≤ old.link.faults → StopsGiving why old new → KeepsCursor why new.pass k
+    → Breaks came first new (handling_deed first.pass.actor k s.next given handling) → first.link.faults ≤ old.link.faults → StopsSending why old new → KeepsCursor why new.pass k
     → EndsOffer why asked k given s first new r
 offer_breaks end.LinkFault asked k given s first old new r r' handling came codes is_handled part on breaks later cause cursor = record {
   ends = broke end.LinkFault asked k given s first new r r' handling came codes (λ _ _. tt) is_handled part on breaks;
@@ -104,7 +107,7 @@ offers_nothing asked k given s now r passed does holds = record {
   holds = holds;
 }
 
-pub offers_whole : (result : Result (Unit {0}) FeedEnd) (asked : Asked) (k : ℕ) (given : Given) (s s' : Standing) (old new : Moment) (r : Replies) → IsDue asked given
+pub offers_whole : (result : Result (Unit {0}) SendEnd) (asked : Asked) (k : ℕ) (given : Given) (s s' : Standing) (old new : Moment) (r : Replies) → IsDue asked given
     → size_of given ≤ asked.max_hereis → GivesWhole result k given s s' old new → Offers result asked k given s s' old new r r
 offers_whole (Ok done) asked k given s s' old new r due small gives = record {
   handling = Whole s'.sent_at;
@@ -121,15 +124,15 @@ offers_whole (Err why) asked k given s s' old new r due small gives =
 -- ---- it is announced
 
 -- no reply came
-pub offer_unanswered : (why : FeedEnd) (asked : Asked) (k n : ℕ) (given : Given) (s : Standing) (old new : Moment) (r : Replies) → IsDue asked given → asked.max_hereis < size_of given
+pub offer_unanswered : (why : SendEnd) (asked : Asked) (k n : ℕ) (given : Given) (s : Standing) (old new : Moment) (r : Replies) → IsDue asked given → asked.max_hereis < size_of given
     → HasCursor old.pass k (Some n) → EndsAnnouncing why k given s old new r → EndsOffer why asked k given s old new r
 offer_unanswered why asked k n given s old new r due large has ended = record {
   ends = by_end why ended.cause ended.ends ended.heard ended.all_sent;
   cause = ended.cause;
-  cursor = keeps_cursor why new.pass k n (subst (λ (p : PassView). HasCursor p k (Some n)) (sym ended.same) has);
+  cursor = keeps_cursor why new.pass k (Some n) (subst (λ (p : PassView). HasCursor p k (Some n)) (sym ended.same) has);
 }
   where
-    broken : (why : FeedEnd) → ((given : List ℕ) (behind : List Placed) → IsBehind why (later_call s.next 1) given behind)
+    broken : (why : SendEnd) → ((given : List ℕ) (behind : List Placed) → IsBehind why (later_call s.next 1) given behind)
         → Breaks ended.came old new (handling_deed old.pass.actor k s.next given (Declined ended.at)) → HearsLast why s.next ended.came [] r
         → BreaksOffer why asked k given s old new r
     broken why free breaks heard = record {
@@ -142,11 +145,11 @@ offer_unanswered why asked k n given s old new r due large has ended = record {
       heard = heard_any why s.next (later_call s.next 1) ended.came [] r free heard;
     }
 
-    unanswered : (why : FeedEnd) → Does ended.came old new (handling_deed old.pass.actor k s.next given (Declined ended.at)) → HearsLast why s.next ended.came [] r
+    unanswered : (why : SendEnd) → Does ended.came old new (handling_deed old.pass.actor k s.next given (Declined ended.at)) → HearsLast why s.next ended.came [] r
         → new.out ≡ [] → IsUnanswered why asked k given s old new r
     unanswered why does heard empty = record { at = ended.at; is_last = (due, large); came = ended.came; does = does; heard = heard; all_sent = empty }
 
-    by_end : (why : FeedEnd) → StopsOffer why old new
+    by_end : (why : SendEnd) → StopsOffer why old new
         → EndsDeed (is_whole why) ended.came old new (handling_deed old.pass.actor k s.next given (Declined ended.at))
         → HearsLast why s.next ended.came [] r → IsAllSent (is_whole why) new.out → EndsOfferBy (is_whole why) why asked k given s old new r
     by_end (end.PeerEnd at) cause ends heard empty = unanswered (end.PeerEnd at) ends heard empty
@@ -189,7 +192,7 @@ stands_at s next at one two =
     let by_at : ℕ → Standing = λ n. record { next = next; sent_at = n } in
     ap by_next one ∙ ap by_at two
 
-pub offer_in_blocks : (result : Result (Unit {0}) FeedEnd) (asked : Asked) (k : ℕ) (given : Given) (s t u : Standing) (pass : PassView) (link link' : LinkRecord) (clock clock' : ClockRecord)
+pub offer_in_blocks : (result : Result (Unit {0}) SendEnd) (asked : Asked) (k : ℕ) (given : Given) (s t u : Standing) (pass : PassView) (link link' : LinkRecord) (clock clock' : ClockRecord)
     (out out' : List ℕ) (new : Moment) (r r' : Replies) → IsDue asked given → asked.max_hereis < size_of given
     → Announced k given soon.Ok s t (moment_of pass link clock out) (moment_of pass link' clock' out') r r' → GivesBlocks result k given t u (moment_of pass link' clock' out') new
     → Offers result asked k given s u (moment_of pass link clock out) new r r'

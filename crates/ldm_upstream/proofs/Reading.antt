@@ -10,16 +10,18 @@ use Rattle.ldm_shared.specs.Passes.{PassView, Makes, Calls, Grows}
 use Rattle.ldm_shared.proofs.Made.{calls_none, calls_some}
 use Rattle.ldm_reader.specs.Reader.{HasCursor}
 use Rattle.ldm_session.specs.Gathering as gathering
-use Rattle.ldm_upstream.specs.declared.end.FeedEnd.{FeedEnd}
-use Rattle.ldm_upstream.specs.declared.end.FeedEnd.TheVariants as end
+use Rattle.ldm_session.proofs.CallerLemmas.{AnsweredAll-nothing}
+use Rattle.ldm_sender.specs.declared.end.SendEnd.{SendEnd}
+use Rattle.ldm_sender.specs.declared.end.SendEnd.TheVariants as end
 use Rattle.ldm_upstream.specs.Blocks.{blocks, reads}
 use Rattle.ldm_upstream.specs.Turn.{Given}
-use Rattle.ldm_upstream.specs.Deeds.{Deed, no_deed, part_of, read_entry, reading_all}
-use Rattle.ldm_upstream.specs.Does.{Moment, moment_of}
-use Rattle.ldm_upstream.specs.Giving.{HoldsGiven, KeepsCursor, BreaksOff, GoesOn, AppendsPart, FailsToRead}
+use Rattle.ldm_sender.specs.Deeds.{Deed, no_deed}
+use Rattle.ldm_upstream.specs.ProductDeeds.{part_of, read_entry, reading_all}
+use Rattle.ldm_sender.specs.Does.{Moment, moment_of}
+use Rattle.ldm_upstream.specs.Giving.{HoldsGiven, BreaksOff, GoesOn, AppendsPart, FailsToRead}
+use Rattle.ldm_sender.specs.Stopping.{KeepsCursor}
 use Rattle.ldm_upstream.proofs.Blocks.{IsBlockAt, reads_from, rest_of_body, nothing_left, no_blocks}
-use Rattle.ldm_upstream.proofs.Doing.{Toward, toward_then, toward_same, all_done, breaks_then, nothing_done, some_sent, send_failed, answered_none, keeps_link}
-use Rattle.ldm_upstream.proofs.Exchanges.{exchanged_nothing}
+use Rattle.ldm_sender.proofs.Doing.{Toward, toward_then, toward_same, all_done, breaks_then, nothing_done, some_sent, send_failed, keeps_link, exchanged_nothing}
 
 -- ---- a part that is written behind what is gathered
 
@@ -82,27 +84,15 @@ part_gathered old new link clock out out' actor k given at len unclosed by is ap
           ap (λ (x : List ℕ). x ++ drop (at + len) body) appends.appended ∙ append_assoc out part (drop (at + len) body)
           ∙ ap (λ (x : List ℕ). out ++ x) (rest_of_body body at len);
       asked = [];
-      answered = answered_none clock;
+      answered = AnsweredAll-nothing clock;
       instants = refl;
       link = keeps_link link unclosed;
     }
 
 -- ---- where the reading breaks off
 
-pub keeps_cursor : (why : FeedEnd) (pass : PassView) (k n : ℕ) → HasCursor pass k (Some n) → KeepsCursor why pass k
-keeps_cursor end.Worn pass k n has = tt
-keeps_cursor end.Stopped pass k n has = (Some n, has)
-keeps_cursor end.Reclassed pass k n has = (Some n, has)
-keeps_cursor (end.Denied rule) pass k n has = (Some n, has)
-keeps_cursor (end.PeerEnd at) pass k n has = (Some n, has)
-keeps_cursor end.LinkFault pass k n has = (Some n, has)
-keeps_cursor end.LogFault pass k n has = (Some n, has)
-keeps_cursor (end.BadReply at) pass k n has = (Some n, has)
-keeps_cursor end.AllBusy pass k n has = (Some n, has)
-keeps_cursor end.OutOfMemory pass k n has = (Some n, has)
-
 -- no call could be made, or memory is missing
-pub reading_fails : (why : FeedEnd) (old : Moment) (mid_pass new_pass : PassView) (link : LinkRecord) (clock : ClockRecord) (mid_out new_out : List ℕ) (k : ℕ) (given : Given) (left all : Deed) → IsNotClosed link → HoldsGiven mid_pass k given → FailsToRead why mid_pass new_pass
+pub reading_fails : (why : SendEnd) (old : Moment) (mid_pass new_pass : PassView) (link : LinkRecord) (clock : ClockRecord) (mid_out new_out : List ℕ) (k : ℕ) (given : Given) (left all : Deed) → IsNotClosed link → HoldsGiven mid_pass k given → FailsToRead why mid_pass new_pass
     → Toward [] old (moment_of mid_pass link clock mid_out) left all
     → BreaksOff why k old (moment_of new_pass link clock new_out) all
 reading_fails end.Worn old mid_pass new_pass link clock mid_out new_out k given left all unclosed holds fails toward =

@@ -7,33 +7,23 @@ use Rattle.ldm_shared.specs.Passes.{PassView, Makes, FindsWorn}
 use Rattle.ldm_shared.proofs.Made.{calls_none, calls_some}
 use Rattle.ldm_reader.specs.Reader.{HasCursor}
 use Rattle.ldm_session.specs.declared.replies.Replies.{Replies}
-use Rattle.ldm_upstream.specs.declared.end.FeedEnd.{FeedEnd}
-use Rattle.ldm_upstream.specs.declared.end.FeedEnd.TheVariants as end
-use Rattle.ldm_upstream.specs.declared.standing.Standing.{Standing}
-use Rattle.ldm_upstream.specs.Asked.{Asked}
+use Rattle.ldm_session.proofs.CallerLemmas.{AnsweredAll-nothing}
+use Rattle.ldm_sender.proofs.Steps.{one_call}
+use Rattle.ldm_sender.specs.declared.end.SendEnd.{SendEnd}
+use Rattle.ldm_sender.specs.declared.end.SendEnd.TheVariants as end
+use Rattle.ldm_sender.specs.declared.standing.Standing.{Standing}
+use Rattle.ldm_sender.specs.Asked.{Asked}
 use Rattle.ldm_upstream.specs.Turn.{Given, let_go, after_handling, handling_codes}
-use Rattle.ldm_upstream.specs.Deeds.{and_then, no_deed, calling, handling_deed}
-use Rattle.ldm_upstream.specs.Does.{Moment, moment_of, Does, Breaks}
-use Rattle.ldm_upstream.specs.Acts.{is_whole}
+use Rattle.ldm_sender.specs.Deeds.{and_then, no_deed, calling}
+use Rattle.ldm_upstream.specs.ProductDeeds.{handling_deed}
+use Rattle.ldm_sender.specs.Does.{Moment, moment_of, Does, Breaks}
+use Rattle.ldm_sender.specs.Acts.{is_whole}
 use Rattle.ldm_upstream.specs.Offering.{Offered, EndsOfferBy, EndsOffer, Handled, EndsHandlingBy, EndsHandling}
-use Rattle.ldm_upstream.proofs.Doing.{does_then, breaks_then, breaks_before, one_done, nothing_done, answered_none, keeps_link}
-use Rattle.ldm_upstream.proofs.Exchanges.{exchanged_nothing}
+use Rattle.ldm_sender.proofs.Doing.{does_then, breaks_then, breaks_before, one_done, nothing_done, keeps_link, exchanged_nothing}
 use Rattle.ldm_upstream.proofs.Offers.{heard_last}
 
--- a call was made, and nothing else happened
-pub one_call : (old new : PassView) (link : LinkRecord) (clock : ClockRecord) (out : List ℕ) (entry : Entry) → Makes old new (entry ∷ []) → IsNotClosed link
-    → Does [] (moment_of old link clock out) (moment_of new link clock out) (calling entry)
-one_call old new link clock out entry makes unclosed = record {
-  calls = calls_some old new (entry ∷ []) makes;
-  sent = [];
-  gathered = append-nil out;
-  exchanged = exchanged_nothing link;
-  answered = answered_none clock;
-  link = keeps_link link unclosed;
-}
-
 -- it ended before
-ended_by : (whole : Bool) (why : FeedEnd) (asked : Asked) (k : ℕ) (given : Given) (s : Standing) (old new : Moment) (r : Replies) → EndsOfferBy whole why asked k given s old new r
+ended_by : (whole : Bool) (why : SendEnd) (asked : Asked) (k : ℕ) (given : Given) (s : Standing) (old new : Moment) (r : Replies) → EndsOfferBy whole why asked k given s old new r
     → EndsHandlingBy whole why asked k given s old new r
 ended_by true why asked k given s old new r ends = ends
 ended_by false why asked k given s old new r ends = record {
@@ -47,7 +37,7 @@ ended_by false why asked k given s old new r ends = record {
   heard = ends.heard;
 }
 
-pub ended_before : (why : FeedEnd) (asked : Asked) (k : ℕ) (given : Given) (s : Standing) (old new : Moment) (r : Replies) → EndsOffer why asked k given s old new r
+pub ended_before : (why : SendEnd) (asked : Asked) (k : ℕ) (given : Given) (s : Standing) (old new : Moment) (r : Replies) → EndsOffer why asked k given s old new r
     → EndsHandling why asked k given s old new r
 ended_before why asked k given s old new r ends =
     record { ends = ended_by (is_whole why) why asked k given s old new r ends.ends; cause = ends.cause; cursor = ends.cursor }
@@ -99,14 +89,3 @@ worn_before asked k turns given s s' old mid new link clock out r r' unclosed of
       cause = worn.long ∙ worn.turns_are;
       cursor = tt;
     }
-
--- nothing was done
-pub does_nothing : (now : Moment) → IsNotClosed now.link → Does [] now now no_deed
-does_nothing now unclosed = record {
-  calls = calls_none now.pass;
-  sent = [];
-  gathered = append-nil now.out;
-  exchanged = exchanged_nothing now.link;
-  answered = answered_none now.clock;
-  link = keeps_link now.link unclosed;
-}

@@ -9,17 +9,20 @@ use Rattle.ldm_shared.specs.Passes.{PassView}
 use Rattle.ldm_shared.proofs.Made.{calls_none, calls_some}
 use Rattle.ldm_session.specs.Gathering as gathering
 use Rattle.ldm_relay.specs.Sent as sent
-use Rattle.ldm_upstream.specs.declared.end.FeedEnd.{FeedEnd}
-use Rattle.ldm_upstream.specs.declared.end.FeedEnd.TheVariants as end
-use Rattle.ldm_upstream.specs.declared.standing.Standing.{Standing}
+use Rattle.ldm_session.proofs.CallerLemmas.{AnsweredAll-nothing}
+use Rattle.ldm_sender.specs.declared.end.SendEnd.{SendEnd}
+use Rattle.ldm_sender.specs.declared.end.SendEnd.TheVariants as end
+use Rattle.ldm_sender.specs.declared.standing.Standing.{Standing}
 use Rattle.ldm_upstream.specs.Blocks.{blocks, reads}
-use Rattle.ldm_upstream.specs.Turn.{Given, later_call, last_of, block_messages}
-use Rattle.ldm_upstream.specs.Deeds.{Deed, and_then, no_deed, asking, part_of, reading, records_of, blocks_deed}
-use Rattle.ldm_upstream.specs.Does.{Moment, moment_of, Does}
-use Rattle.ldm_upstream.specs.Giving.{HoldsGiven, StopsGiving, BreaksOff, GoesOn, AppendsPart, Block, one_block_deed, GaveBlocks, BreaksInBlocks}
+use Rattle.ldm_upstream.specs.Turn.{Given, last_of, block_messages}
+use Rattle.ldm_sender.specs.Calls.{later_call}
+use Rattle.ldm_sender.specs.Deeds.{Deed, and_then, no_deed, asking, records_of}
+use Rattle.ldm_upstream.specs.ProductDeeds.{part_of, reading, blocks_deed}
+use Rattle.ldm_sender.specs.Does.{Moment, moment_of, Does}
+use Rattle.ldm_upstream.specs.Giving.{HoldsGiven, BreaksOff, GoesOn, AppendsPart, Block, one_block_deed, GaveBlocks, BreaksInBlocks}
+use Rattle.ldm_sender.specs.Stopping.{StopsSending}
 use Rattle.ldm_upstream.proofs.Blocks.{IsBlockAt, reads_from, messages_from, no_blocks, one_block_more}
-use Rattle.ldm_upstream.proofs.Doing.{Toward, all_left, toward_then, toward_same, one_done, all_done, breaks_then, breaks_before, answered_none, keeps_link}
-use Rattle.ldm_upstream.proofs.Exchanges.{exchanged_nothing}
+use Rattle.ldm_sender.proofs.Doing.{Toward, all_left, toward_then, toward_same, one_done, all_done, breaks_then, breaks_before, keeps_link, exchanged_nothing}
 use Rattle.ldm_upstream.proofs.Reading.{reading_fails, sends_on}
 
 -- ---- one message
@@ -44,7 +47,7 @@ gathered_more pass link clock out out' left all unclosed entries instants bytes 
   exchanged = exchanged_nothing link;
   bytes = bytes;
   asked = [];
-  answered = answered_none clock;
+  answered = AnsweredAll-nothing clock;
   instants = instants;
   link = keeps_link link unclosed;
 }
@@ -86,7 +89,7 @@ part_done old new link clock out out' part k given offset unclosed appends = rec
   sent = [];
   gathered = sym appends.appended;
   exchanged = exchanged_nothing link;
-  answered = answered_none clock;
+  answered = AnsweredAll-nothing clock;
   link = keeps_link link unclosed;
 }
 
@@ -135,7 +138,7 @@ pub no_memory : (old : Moment) (pass : PassView) (link : LinkRecord) (clock : Cl
 no_memory old pass link clock out out' k given left all unclosed holds toward =
     reading_fails end.OutOfMemory old pass pass link clock out out' k given left all unclosed holds refl toward
 
-stops_later : (why : FeedEnd) (old mid new : Moment) → old.link.faults ≤ mid.link.faults → StopsGiving why mid new → StopsGiving why old new
+stops_later : (why : SendEnd) (old mid new : Moment) → old.link.faults ≤ mid.link.faults → StopsSending why mid new → StopsSending why old new
 stops_later end.LinkFault old mid new later stops = Rose-later old.link.faults mid.link.faults new.link.faults later stops
 stops_later end.Worn old mid new later stops = stops
 stops_later end.OutOfMemory old mid new later stops = stops
@@ -148,7 +151,7 @@ stops_later (end.BadReply at) old mid new later stops = stops
 stops_later end.AllBusy old mid new later stops = stops
 
 -- it breaks off in the first of what is left
-pub breaks_off_then : (why : FeedEnd) (k : ℕ) (old mid new : Moment) (first second all : Deed) → Toward [] old mid (and_then first second) all → BreaksOff why k mid new first
+pub breaks_off_then : (why : SendEnd) (k : ℕ) (old mid new : Moment) (first second all : Deed) → Toward [] old mid (and_then first second) all → BreaksOff why k mid new first
     → BreaksOff why k old new all
 breaks_off_then why k old mid new first second all toward breaks = record {
   breaks = breaks_then [] [] old mid new (and_then first second) all toward (breaks_before [] mid new first second breaks.breaks);
@@ -247,7 +250,7 @@ one_more_given k given standing mid_standing standing' old mid new number at len
     }
 
 -- it breaks off in one
-pub breaks_in_block : (why : FeedEnd) (k : ℕ) (given : Given) (standing mid_standing : Standing) (old mid new : Moment) (number at len instant : ℕ) → mid.pass.actor ≡ old.pass.actor
+pub breaks_in_block : (why : SendEnd) (k : ℕ) (given : Given) (standing mid_standing : Standing) (old mid new : Moment) (number at len instant : ℕ) → mid.pass.actor ≡ old.pass.actor
     → IsBlockAt given.product.body at len → HasGiven k given standing mid_standing old mid number at
     → BreaksOff why k mid new (one_block_deed mid.pass.actor k mid_standing.next given (block_at given number at len) instant) → BreaksInBlocks why k given standing old new
 breaks_in_block why k given standing mid_standing old mid new number at len instant by is has breaks =

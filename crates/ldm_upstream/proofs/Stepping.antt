@@ -18,28 +18,30 @@ use Rattle.ldm_reader.specs.Reader.{HasCursor}
 use Rattle.ldm_session.specs.declared.replies.Replies.{Replies}
 use Rattle.ldm_session.specs.Gaps.{gap_log, gap_line}
 use Rattle.ldm_session.specs.Owed.{Code}
-use Rattle.ldm_session.proofs.CallerLemmas.{gap_log-append}
-use Rattle.ldm_upstream.specs.declared.end.FeedEnd.{FeedEnd}
-use Rattle.ldm_upstream.specs.declared.end.FeedEnd.TheVariants as end
-use Rattle.ldm_upstream.specs.declared.standing.Standing.{Standing}
-use Rattle.ldm_upstream.specs.Asked.{Asked}
+use Rattle.ldm_session.proofs.CallerLemmas.{AnsweredAll-nothing, gap_log-append}
+use Rattle.ldm_sender.specs.declared.end.SendEnd.{SendEnd}
+use Rattle.ldm_sender.specs.declared.end.SendEnd.TheVariants as end
+use Rattle.ldm_sender.specs.declared.standing.Standing.{Standing}
+use Rattle.ldm_sender.specs.Asked.{Asked}
 use Rattle.ldm_upstream.specs.Blocks.{blocks, reads}
-use Rattle.ldm_upstream.specs.Turn.{Given, Handling, Passed, Whole, Declined, InBlocks, Lost, Gave, Quiet, Alive, stepped, let_go, given_reply, later_call, after_handling, handling_entries, handling_messages, handling_codes}
+use Rattle.ldm_upstream.specs.Turn.{Given, Handling, Passed, Whole, Declined, InBlocks, Lost, Gave, Quiet, Alive, let_go, given_reply, after_handling, handling_entries, handling_messages, handling_codes}
+use Rattle.ldm_sender.specs.Calls.{stepped, later_call}
 use Rattle.ldm_upstream.specs.Feeding.{GoesOn, Stopped, Unanswered}
-use Rattle.ldm_upstream.specs.Deeds.{calling, records_of, handling_deed}
-use Rattle.ldm_upstream.specs.Does.{Moment, moment_of, Does, Breaks, IsPart}
-use Rattle.ldm_upstream.specs.Giving.{KeepsCursor}
-use Rattle.ldm_upstream.specs.Acts.{situation_of, Act, then_act, ungated, Acts, BreaksAct, EndsAct, IsAllSent, is_whole}
+use Rattle.ldm_sender.specs.Deeds.{calling, records_of}
+use Rattle.ldm_upstream.specs.ProductDeeds.{handling_deed}
+use Rattle.ldm_sender.specs.Does.{Moment, moment_of, Does, Breaks, IsPart}
+use Rattle.ldm_sender.specs.Stopping.{KeepsCursor}
+use Rattle.ldm_sender.specs.Acts.{situation_of, Act, then_act, ungated, Acts, BreaksAct, EndsAct, IsAllSent, is_whole}
 use Rattle.ldm_upstream.specs.Heard.{HearsOn}
 use Rattle.ldm_upstream.specs.Offering.{StopsOffer, product_deed, Handled, IsUnanswered, BreaksHandling, EndsHandlingBy, Handles}
-use Rattle.ldm_upstream.specs.Idling.{quiet_act, alive_act, stop_act, EndsIdle, Idles}
-use Rattle.ldm_upstream.specs.Course.{turns_act, last_act, IsLastOf, AreRows, MakesTurns, EndsTurns, StopsTurns, TurnsBy}
-use Rattle.ldm_upstream.proofs.Acting.{deed_is, act_is, acts_same, breaks_same, acts_of, breaks_act_of, acts_then, acts_break}
-use Rattle.ldm_upstream.proofs.Doing.{answered_none, keeps_link}
-use Rattle.ldm_upstream.proofs.Exchanges.{exchanged_nothing}
+use Rattle.ldm_sender.specs.Idling.{quiet_act, alive_act, stop_act, EndsIdle, Idles}
+use Rattle.ldm_upstream.specs.Course.{turns_act, last_act, IsLastOf, AreRows, MakesTurns, EndsTurns, TurnsBy}
+use Rattle.ldm_sender.specs.Ending.{StopsTurns}
+use Rattle.ldm_sender.proofs.Acting.{deed_is, act_is, acts_same, breaks_same, acts_of, breaks_act_of, acts_then, acts_break}
+use Rattle.ldm_sender.proofs.Doing.{keeps_link, exchanged_nothing}
 use Rattle.ldm_upstream.proofs.Offers.{heard_last}
-use Rattle.ldm_upstream.proofs.Releasing.{one_call}
-use Rattle.ldm_upstream.proofs.Turning.{RowsStay, row_stays, hears_nothing}
+use Rattle.ldm_sender.proofs.Steps.{one_call, RowsStay, step_act, stepped_acts, one_line, silent_part}
+use Rattle.ldm_upstream.proofs.Turning.{hears_nothing, row_stays}
 
 pub no_rows : (pass : PassView) → AreRows pass []
 no_rows pass = λ k d within. absurd (omega (arith, within))
@@ -71,31 +73,9 @@ silent_product host actor k given handling =
     gap_log-append host (handling_entries actor k given handling) (let_go actor k given ∷ [])
     ∙ ap (λ (x : List ℕ). x ++ []) (silent_handling host actor k given handling)
 
-no_front : (front rest : List ℕ) → front ++ rest ≡ [] → front ≡ []
-no_front [] rest none = refl
-no_front (x ∷ front) rest none = cc
-
-silent_part : (host : List ℕ) (part all : List Entry) → IsPart false part all → gap_log host all ≡ [] → gap_log host part ≡ []
-silent_part host part all is none =
-    no_front (gap_log host part) (gap_log host is.0) (sym (gap_log-append host part is.0) ∙ ap (gap_log host) is.1 ∙ none)
-
 -- ---- the step
 
-abbrev step_act : ℕ → ℕ → Reply → Act
-step_act actor k answer = ungated (calling (stepped actor k answer))
-
-pub stepped_acts : (host : List ℕ) (old new : PassView) (k : ℕ) (answer : Reply) (link : LinkRecord) (clock : ClockRecord) (out : List ℕ) (log : SinkRecord) (gate : GateRecord)
-    → gap_log host (stepped old.actor k answer ∷ []) ≡ [] → Makes old new (stepped old.actor k answer ∷ []) → IsNotClosed link
-    → Acts host [] (situation_of (moment_of old link clock out) log gate) (situation_of (moment_of new link clock out) log gate) (step_act old.actor k answer)
-stepped_acts host old new k answer link clock out log gate silent makes unclosed =
-    acts_of host [] (moment_of old link clock out) (moment_of new link clock out) log gate (calling (stepped old.actor k answer)) silent
-    (one_call old new link clock out (stepped old.actor k answer) makes unclosed)
-
 -- ---- a loss
-
--- the line of one loss is the log of it
-one_line : (asked : Asked) (host : List ℕ) (count first last : ℕ) → asked.host ≡ host → gap_line host count first last ≡ gap_line asked.host count first last ++ []
-one_line asked host count first last is = ap (λ (h : List ℕ). gap_line h count first last) (sym is) ∙ sym (append-nil (gap_line asked.host count first last))
 
 pub lost : (asked : Asked) (host : List ℕ) (k count first last : ℕ) (s : Standing) (old new : PassView) (link : LinkRecord) (clock : ClockRecord) (out : List ℕ) (log log' : SinkRecord)
     (gate : GateRecord) (r : Replies) → asked.host ≡ host → Makes old new (stepped old.actor k (reply.Gap count first last) ∷ []) → IsNotClosed link → HasCursor new k None
@@ -140,7 +120,7 @@ lost_unlogged asked host k count first last s old new link clock out log log' ga
           exchanged = exchanged_nothing link;
           sent_part = (out ++ [], refl);
           instants = [];
-          answered = answered_none clock;
+          answered = AnsweredAll-nothing clock;
           instants_part = ([], refl);
           link = keeps_link link unclosed;
         };
@@ -180,7 +160,7 @@ unstepped asked k turns s old new link clock out log gate r unclosed worn = reco
       exchanged = exchanged_nothing link;
       sent_part = (out ++ [], refl);
       instants = [];
-      answered = answered_none clock;
+      answered = AnsweredAll-nothing clock;
       instants_part = ([], refl);
       link = keeps_link link unclosed;
     };
@@ -241,7 +221,7 @@ gave asked k given s s' first old link link' clock clock' out new out' log gate 
       rows = one_row new given (row_stays law old new _ given handled.does.calls row);
     }
 
-offer_to_turns : (why : FeedEnd) (old : PassView) (link : LinkRecord) (clock : ClockRecord) (out : List ℕ) (first : PassView) (new : Moment) (log : SinkRecord) (gate : GateRecord)
+offer_to_turns : (why : SendEnd) (old : PassView) (link : LinkRecord) (clock : ClockRecord) (out : List ℕ) (first : PassView) (new : Moment) (log : SinkRecord) (gate : GateRecord)
     → StopsOffer why (moment_of old link clock out) new → StopsTurns why (situation_of (moment_of first link clock out) log gate) (situation_of new log gate)
 offer_to_turns (end.PeerEnd at) old link clock out first new log gate cause = cause
 offer_to_turns (end.BadReply at) old link clock out first new log gate cause = tt
@@ -255,7 +235,7 @@ offer_to_turns end.LogFault old link clock out first new log gate cause = absurd
 offer_to_turns end.AllBusy old link clock out first new log gate cause = absurd cause
 
 -- no reply came
-pub gave_unanswered : (why : FeedEnd) (asked : Asked) (k : ℕ) (given : Given) (s : Standing) (first old : PassView) (link : LinkRecord) (clock : ClockRecord) (out : List ℕ) (new : Moment)
+pub gave_unanswered : (why : SendEnd) (asked : Asked) (k : ℕ) (given : Given) (s : Standing) (first old : PassView) (link : LinkRecord) (clock : ClockRecord) (out : List ℕ) (new : Moment)
     (log : SinkRecord) (gate : GateRecord) (r : Replies) → RowsStay → IsRowOf old given → IsNotClosed link → Makes first old (stepped first.actor k (given_reply given) ∷ [])
     → (ended : IsUnanswered why asked k given s (moment_of old link clock out) new r)
     → IsLastOf why (Unanswered given ended.at) → StopsOffer why (moment_of old link clock out) new → KeepsCursor why new.pass k
@@ -273,7 +253,7 @@ gave_unanswered why asked k given s first old link clock out new log gate r law 
     acts_then asked.host [] ended.came a b c (step_act first.actor k (given_reply given)) (ungated (deed first.actor)) step rest
 
 -- it broke off in what is done with it
-gave_broken : (why : FeedEnd) (asked : Asked) (k : ℕ) (given : Given) (s : Standing) (first old : PassView) (link : LinkRecord) (clock : ClockRecord) (out : List ℕ) (new : Moment)
+gave_broken : (why : SendEnd) (asked : Asked) (k : ℕ) (given : Given) (s : Standing) (first old : PassView) (link : LinkRecord) (clock : ClockRecord) (out : List ℕ) (new : Moment)
     (log : SinkRecord) (gate : GateRecord) (r : Replies) → IsNotClosed link → Makes first old (stepped first.actor k (given_reply given) ∷ [])
     → (ended : BreaksHandling why asked k given s (moment_of old link clock out) new r)
     → BreaksAct why asked.host ended.came (situation_of (moment_of first link clock out) log gate) (situation_of new log gate)
@@ -294,7 +274,7 @@ gave_broken why asked k given s first old link clock out new log gate r unclosed
     act_is _ _ _ _ (deed_is _ _ _ _ _ _ (sym (append-nil turns.deed.entries)) (sym (append-nil turns.deed.bytes)) (sym (append-nil turns.deed.instants))) (sym (append-nil turns.goes)) in
     breaks_same why asked.host ended.came a c _ _ (gave_act first.actor k s given ended.handling ∙ whole) both
 
-ends_whole : (why : FeedEnd) (asked : Asked) (k : ℕ) (given : Given) (s : Standing) (first old : PassView) (link : LinkRecord) (clock : ClockRecord) (out : List ℕ) (new : Moment)
+ends_whole : (why : SendEnd) (asked : Asked) (k : ℕ) (given : Given) (s : Standing) (first old : PassView) (link : LinkRecord) (clock : ClockRecord) (out : List ℕ) (new : Moment)
     (log : SinkRecord) (gate : GateRecord) (r : Replies) → RowsStay → IsRowOf old given → IsNotClosed link → Makes first old (stepped first.actor k (given_reply given) ∷ [])
     → (ended : IsUnanswered why asked k given s (moment_of old link clock out) new r)
     → IsLastOf why (Unanswered given ended.at) → is_whole why ≡ true → StopsOffer why (moment_of old link clock out) new → KeepsCursor why new.pass k
@@ -322,7 +302,7 @@ ends_whole why asked k given s first old link clock out new log gate r law row u
       rows = one_row new.pass given (row_stays law old new.pass _ given ended.does.calls row);
     }
 
-ends_broken : (why : FeedEnd) (asked : Asked) (k : ℕ) (given : Given) (s : Standing) (first old : PassView) (link : LinkRecord) (clock : ClockRecord) (out : List ℕ) (new : Moment)
+ends_broken : (why : SendEnd) (asked : Asked) (k : ℕ) (given : Given) (s : Standing) (first old : PassView) (link : LinkRecord) (clock : ClockRecord) (out : List ℕ) (new : Moment)
     (log : SinkRecord) (gate : GateRecord) (r : Replies) → RowsStay → IsRowOf old given → IsNotClosed link → Makes first old (stepped first.actor k (given_reply given) ∷ [])
     → BreaksHandling why asked k given s (moment_of old link clock out) new r → IsLastOf why GoesOn → is_whole why ≡ false
     → StopsOffer why (moment_of old link clock out) new → KeepsCursor why new.pass k
@@ -353,7 +333,7 @@ ends_broken why asked k given s first old link clock out new log gate r law row 
       rows = one_row new.pass given (row_stays law old new.pass _ given ended.breaks.calls row);
     }
 
-pub gave_ended : (why : FeedEnd) (asked : Asked) (k : ℕ) (given : Given) (s : Standing) (first old : PassView) (link : LinkRecord) (clock : ClockRecord) (out : List ℕ) (new : Moment)
+pub gave_ended : (why : SendEnd) (asked : Asked) (k : ℕ) (given : Given) (s : Standing) (first old : PassView) (link : LinkRecord) (clock : ClockRecord) (out : List ℕ) (new : Moment)
     (log : SinkRecord) (gate : GateRecord) (r : Replies) → RowsStay → IsRowOf old given → IsNotClosed link → Makes first old (stepped first.actor k (given_reply given) ∷ [])
     → EndsHandlingBy (is_whole why) why asked k given s (moment_of old link clock out) new r → StopsOffer why (moment_of old link clock out) new → KeepsCursor why new.pass k
     → EndsTurns why asked k s (situation_of (moment_of first link clock out) log gate) (situation_of new log gate) r
@@ -373,7 +353,7 @@ gave_ended (end.Denied rule) asked k given s first old link clock out new log ga
 gave_ended end.LogFault asked k given s first old link clock out new log gate r law row unclosed makes ended cause cursor = absurd cause
 gave_ended end.AllBusy asked k given s first old link clock out new log gate r law row unclosed makes ended cause cursor = absurd cause
 
-pub gave_by : (result : Result (Unit {0}) FeedEnd) (asked : Asked) (k : ℕ) (given : Given) (s s' : Standing) (first old : PassView) (link link' : LinkRecord) (clock clock' : ClockRecord)
+pub gave_by : (result : Result (Unit {0}) SendEnd) (asked : Asked) (k : ℕ) (given : Given) (s s' : Standing) (first old : PassView) (link link' : LinkRecord) (clock clock' : ClockRecord)
     (out : List ℕ) (new : PassView) (out' : List ℕ) (log : SinkRecord) (gate : GateRecord) (r r' : Replies) → RowsStay → IsRowOf old given → IsNotClosed link
     → Makes first old (stepped first.actor k (given_reply given) ∷ [])
     → Handles result asked k given s s' (moment_of old link clock out) (moment_of new link' clock' out') r r'
@@ -388,7 +368,7 @@ gave_by (Err why) asked k given s s' first old link link' clock clock' out new o
 stands_at : (s : Standing) (next : ℕ) → s.next ≡ next → let there : Standing = record { next = next; sent_at = s.sent_at } in s ≡ there
 stands_at s next is = let by_next : ℕ → Standing = λ n. record { next = n; sent_at = s.sent_at } in ap by_next is
 
-idle_ended : (why : FeedEnd) (asked : Asked) (k at : ℕ) (s : Standing) (first old : PassView) (link link' : LinkRecord) (clock clock' : ClockRecord) (out out' : List ℕ)
+idle_ended : (why : SendEnd) (asked : Asked) (k at : ℕ) (s : Standing) (first old : PassView) (link link' : LinkRecord) (clock clock' : ClockRecord) (out out' : List ℕ)
     (log : SinkRecord) (gate gate' : GateRecord) (r : Replies) → IsNotClosed link → HasCursor old k None → Makes first old (stepped first.actor k (reply.End at) ∷ [])
     → EndsIdle why asked.host s (situation_of (moment_of old link clock out) log gate) (situation_of (moment_of old link' clock' out') log gate')
     → EndsTurns why asked k s (situation_of (moment_of first link clock out) log gate) (situation_of (moment_of old link' clock' out') log gate') r
@@ -467,7 +447,7 @@ idle_ended (end.BadReply place) asked k at s first old link link' clock clock' o
 idle_ended end.AllBusy asked k at s first old link link' clock clock' out out' log gate gate' r unclosed cursor makes ends = absurd ends
 idle_ended end.Worn asked k at s first old link link' clock clock' out out' log gate gate' r unclosed cursor makes ends = absurd ends
 
-pub idle_by : (result : Result (Unit {0}) FeedEnd) (asked : Asked) (k at : ℕ) (s s' : Standing) (first old : PassView) (link link' : LinkRecord) (clock clock' : ClockRecord)
+pub idle_by : (result : Result (Unit {0}) SendEnd) (asked : Asked) (k at : ℕ) (s s' : Standing) (first old : PassView) (link link' : LinkRecord) (clock clock' : ClockRecord)
     (out out' : List ℕ) (log : SinkRecord) (gate gate' : GateRecord) (r : Replies) → IsNotClosed link → HasCursor old k None
     → Makes first old (stepped first.actor k (reply.End at) ∷ [])
     → Idles result asked.host s s' (situation_of (moment_of old link clock out) log gate) (situation_of (moment_of old link' clock' out') log gate')

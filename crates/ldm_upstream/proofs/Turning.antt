@@ -1,36 +1,29 @@
 -- Turns one after another, and where they end.
-use Rattle.std.proofs.Common.{◌≡◌, ◌∙◌, ℕ, List, [], ◌∷◌, ◌++◌, Bool, true, false, inl, inr, ◌⊎◌, refl, sym, ap, subst, append_assoc, append-nil}
+use Rattle.std.proofs.Common.{◌≡◌, ◌∙◌, ℕ, List, [], ◌∷◌, ◌++◌, refl, sym, ap, subst, append_assoc, append-nil}
 use Rattle.std.proofs.lemmas.List.Elements.{All-append}
 use Rattle.std.proofs.lemmas.List.Concat.{flat_map-append}
 use Rattle.ldm_model.specs.declared.event.Entry.{Entry}
-use Rattle.ldm_model.specs.History.{after, IsLegal}
-use Rattle.ldm_model.specs.Product.{Product}
 use Rattle.ldm_relay.specs.Sent.{Sent}
-use Rattle.ldm_relay.specs.Spelling.{written, record_of}
-use Rattle.ldm_outside.proofs.CallerLemmas.{Rose-later}
-use Rattle.ldm_shared.specs.Passes.{PassView, Calls, HasSeen}
-use Rattle.ldm_reader.specs.Staying.{HasRow}
+use Rattle.ldm_shared.specs.Passes.{PassView, Calls}
 use Rattle.ldm_session.specs.declared.replies.Replies.{Replies}
 use Rattle.ldm_session.specs.Hearing.{Heard}
 use Rattle.ldm_session.specs.Owed.{Code}
-use Rattle.ldm_upstream.specs.declared.end.FeedEnd.{FeedEnd}
-use Rattle.ldm_upstream.specs.declared.end.FeedEnd.TheVariants as end
-use Rattle.ldm_upstream.specs.declared.standing.Standing.{Standing}
-use Rattle.ldm_upstream.specs.Asked.{Asked}
+use Rattle.ldm_sender.proofs.Settling.{part_behind}
+use Rattle.ldm_sender.proofs.Steps.{records-append, then_act-assoc, RowsStay, HasRowIn, HasRowIn-stays, same_actor, calls_at_end, cause_later}
+use Rattle.ldm_sender.specs.declared.end.SendEnd.{SendEnd}
+use Rattle.ldm_sender.specs.declared.standing.Standing.{Standing}
+use Rattle.ldm_sender.specs.Asked.{Asked}
 use Rattle.ldm_upstream.specs.Turn.{Given, Turn, turn_entries, turn_instants, turn_goes, turn_messages, turn_codes, after_turn}
 use Rattle.ldm_upstream.specs.Turns.{AreTurns, after_turns, messages_of_turns, codes_of_turns, given_in, given_in_turns}
 use Rattle.ldm_upstream.specs.Feeding.{last_given}
-use Rattle.ldm_upstream.specs.Deeds.{records_of}
-use Rattle.ldm_upstream.specs.Does.{IsPart}
-use Rattle.ldm_upstream.specs.Acts.{Situation, Act, then_act, Acts, EndsAct, is_whole}
+use Rattle.ldm_sender.specs.Deeds.{records_of}
+use Rattle.ldm_sender.specs.Does.{IsPart}
+use Rattle.ldm_sender.specs.Acts.{Situation, Act, then_act, Acts, EndsAct, is_whole}
 use Rattle.ldm_upstream.specs.Heard.{HearsOn, SaysLast, HearsLast}
-use Rattle.ldm_upstream.specs.Course.{turns_act, last_act, AreRows, MakesTurns, EndsTurns, StopsTurns}
-use Rattle.ldm_upstream.proofs.Acting.{deed_is, act_is, acts_same, ends_same, acts_then, acts_end}
+use Rattle.ldm_upstream.specs.Course.{turns_act, last_act, AreRows, MakesTurns, EndsTurns}
+use Rattle.ldm_sender.proofs.Acting.{deed_is, act_is, acts_same, ends_same, acts_then, acts_end}
 
 -- ---- what turns come to, behind others
-
-pub records-append : (first second : List Sent) → records_of (first ++ second) ≡ records_of first ++ records_of second
-records-append first second = flat_map-append (λ (message : Sent). record_of (written message)) first second
 
 pub after_turns-append : (standing : Standing) (first second : List Turn) → after_turns standing (first ++ second) ≡ after_turns (after_turns standing first) second
 after_turns-append standing [] second = refl
@@ -64,45 +57,15 @@ turns_act-append actor k standing first second =
     (flat_map-append turn_instants first second))
     (flat_map-append turn_goes first second)
 
-pub then_act-assoc : (a b c : Act) → then_act (then_act a b) c ≡ then_act a (then_act b c)
-then_act-assoc a b c =
-    act_is _ _ _ _
-    (deed_is _ _ _ _ _ _ (append_assoc a.deed.entries b.deed.entries c.deed.entries) (append_assoc a.deed.bytes b.deed.bytes c.deed.bytes)
-    (append_assoc a.deed.instants b.deed.instants c.deed.instants))
-    (append_assoc a.goes b.goes c.goes)
-
 -- ---- rows stay
 
--- a product keeps its number, metadata, body and insertion time
-abbrev pub RowsStay : Type 0
-RowsStay =
-    (arena slots : ℕ) (front behind : List Entry) → IsLegal arena slots (front ++ behind) → (n : ℕ) (product : Product) (time : ℕ)
-    → HasRow n product time (after arena slots front) → HasRow n product time (after arena slots (front ++ behind))
-
 abbrev rows_in : PassView → Given → Type 0
-rows_in pass given = HasRow given.n given.product given.time (after pass.arena pass.slots pass.seen)
+rows_in pass given = HasRowIn pass given.n given.product given.time
 
 pub row_stays : (law : RowsStay) (old new : PassView) (made : List Entry) (given : Given) → Calls old new made → rows_in old given → rows_in new given
-row_stays law old new made given calls row = by_seen calls.has_seen
-  where
-    arena : new.arena ≡ old.arena
-    arena = ap (λ (p : PassView). p.arena) calls.same
+row_stays law old new made given calls row = HasRowIn-stays law old new made given.n given.product given.time calls row
 
-    slots : new.slots ≡ old.slots
-    slots = ap (λ (p : PassView). p.slots) calls.same
-
-    by_seen : (new ≡ old) ⊎ HasSeen new → rows_in new given
-    by_seen (inl same) = subst (λ (p : PassView). rows_in p given) (sym same) row
-    by_seen (inr has) =
-        let begins = calls.adds.begins in
-        let P : List Entry → Type 0 = λ seen. HasRow given.n given.product given.time (after new.arena new.slots seen) in
-        let here : HasRow given.n given.product given.time (after new.arena new.slots old.seen) =
-        subst (λ (a : ℕ). HasRow given.n given.product given.time (after a new.slots old.seen)) (sym arena)
-        (subst (λ (s : ℕ). HasRow given.n given.product given.time (after old.arena s old.seen)) (sym slots) row) in
-        subst P begins.1
-        (law new.arena new.slots old.seen begins.0 (subst (IsLegal new.arena new.slots) (sym begins.1) has.legal) given.n given.product given.time here)
-
-rows_stay : (law : RowsStay) (old new : PassView) (made : List Entry) (givens : List Given) → Calls old new made → AreRows old givens → AreRows new givens
+pub rows_stay : (law : RowsStay) (old new : PassView) (made : List Entry) (givens : List Given) → Calls old new made → AreRows old givens → AreRows new givens
 rows_stay law old new made givens calls rows = λ k d within. row_stays law old new made _ calls (rows k d within)
 
 -- ---- replies, one after another
@@ -113,7 +76,7 @@ hears_then came more first second a b c one two = λ given earlier heard.
     (subst (λ (x : List Code). Heard ((given ++ came) ++ more) x c) (append_assoc earlier first second)
     (two (given ++ came) (earlier ++ first) (one given earlier heard)))
 
-pub hears_end : (why : FeedEnd) (next : ℕ) (came more : List ℕ) (first second : List Code) (a b : Replies) → HearsOn came first a b → HearsLast why next more second b
+pub hears_end : (why : SendEnd) (next : ℕ) (came more : List ℕ) (first second : List Code) (a b : Replies) → HearsOn came first a b → HearsLast why next more second b
     → HearsLast why next (came ++ more) (first ++ second) a
 hears_end why next came more first second a b one two = λ given earlier heard.
     subst (λ (x : List ℕ). SaysLast why next x (earlier ++ (first ++ second))) (append_assoc given came more)
@@ -125,13 +88,6 @@ hears_nothing now = λ given earlier heard.
     subst (λ (x : List ℕ). Heard x (earlier ++ []) now) (sym (append-nil given)) (subst (λ (x : List Code). Heard given x now) (sym (append-nil earlier)) heard)
 
 -- ---- turns, one after another
-
-same_actor : (host came : List ℕ) (old new : Situation) (act : Act) → Acts host came old new act → new.moment.pass.actor ≡ old.moment.pass.actor
-same_actor host came old new act acts = ap (λ (p : PassView). p.actor) acts.does.calls.same
-
-part_behind : {A : Type 0} → (whole : Bool) → (before part all : List A) → IsPart whole part all → IsPart whole (before ++ part) (before ++ all)
-part_behind true before part all is = ap (λ xs. before ++ xs) is
-part_behind false before part all is = (is.0, append_assoc before part is.0 ∙ ap (λ xs. before ++ xs) is.1)
 
 pub turns_then : (law : RowsStay) (asked : Asked) (k : ℕ) (s t u : Standing) (a b c : Situation) (p q r : Replies) → MakesTurns asked k s t a b p q
     → MakesTurns asked k t u b c q r → MakesTurns asked k s u a c p r
@@ -162,25 +118,7 @@ turns_then law asked k s t u a b c p q r one two =
           (rows_stay law b.moment.pass c.moment.pass _ (given_in_turns one.turns) two.acts.does.calls one.rows) two.rows);
     }
 
--- what was called at an end
-pub calls_at_end : (whole : Bool) (why : FeedEnd) (host came : List ℕ) (old new : Situation) (act : Act) → EndsAct whole why host came old new act
-    → (made : List Entry) × Calls old.moment.pass new.moment.pass made
-calls_at_end true why host came old new act ends = (act.deed.entries, ends.does.calls)
-calls_at_end false why host came old new act ends = (ends.breaks.called, ends.breaks.calls)
-
-cause_later : (why : FeedEnd) (asked : Asked) (came : List ℕ) (a b c : Situation) (act : Act) → Acts asked.host came a b act → StopsTurns why b c → StopsTurns why a c
-cause_later end.Stopped asked came a b c act acts cause = Rose-later a.gate.stops b.gate.stops c.gate.stops acts.beside.stops cause
-cause_later (end.PeerEnd at) asked came a b c act acts cause = Rose-later a.moment.link.ends b.moment.link.ends c.moment.link.ends acts.does.link.ends cause
-cause_later (end.BadReply at) asked came a b c act acts cause = tt
-cause_later end.LinkFault asked came a b c act acts cause = Rose-later a.moment.link.faults b.moment.link.faults c.moment.link.faults acts.does.link.faults cause
-cause_later end.LogFault asked came a b c act acts cause = Rose-later a.log.faults b.log.faults c.log.faults acts.beside.log cause
-cause_later end.Worn asked came a b c act acts cause = cause
-cause_later end.OutOfMemory asked came a b c act acts cause = tt
-cause_later end.Reclassed asked came a b c act acts cause = absurd cause
-cause_later (end.Denied rule) asked came a b c act acts cause = absurd cause
-cause_later end.AllBusy asked came a b c act acts cause = absurd cause
-
-pub turns_end : (law : RowsStay) (why : FeedEnd) (asked : Asked) (k : ℕ) (s t : Standing) (a b c : Situation) (p q : Replies) → MakesTurns asked k s t a b p q
+pub turns_end : (law : RowsStay) (why : SendEnd) (asked : Asked) (k : ℕ) (s t : Standing) (a b c : Situation) (p q : Replies) → MakesTurns asked k s t a b p q
     → EndsTurns why asked k t b c q → EndsTurns why asked k s a c p
 turns_end law why asked k s t a b c p q one two =
     let actor = a.moment.pass.actor in
@@ -222,7 +160,7 @@ turns_end law why asked k s t a b c p q one two =
       heard =
           subst (λ (x : Standing). HearsLast why x.next (one.came ++ two.came) (codes_of_turns s one.turns ++ two.codes) p) at_last
           (hears_end why (after_turns here two.turns).next one.came two.came (codes_of_turns s one.turns) two.codes p q one.heard heard);
-      cause = cause_later why asked one.came a b c _ one.acts two.cause;
+      cause = cause_later why asked.host one.came a b c _ one.acts two.cause;
       cursor = two.cursor;
       rows =
           let old_rows = rows_stay law b.moment.pass c.moment.pass later.0 (given_in_turns one.turns) later.1 one.rows in

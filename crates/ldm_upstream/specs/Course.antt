@@ -1,24 +1,23 @@
 -- The turns of a feeding, as code makes them: it makes some and can go on, or it ends behind some, perhaps within one.
-use Rattle.std.specs.Prelude.{◌≡◌, ℕ, List, ◌++◌, length, All, None, Result, Ok, Err}
-use Rattle.ldm_outside.specs.Count.{Rose}
+use Rattle.std.specs.Prelude.{◌≡◌, ℕ, List, ◌++◌, All, None, Result, Ok, Err}
 use Rattle.ldm_model.specs.History.{after}
 use Rattle.ldm_shared.specs.Passes.{PassView}
-use Rattle.ldm_shared.specs.declared.steps.TheConstants.{MOST_TURNS}
 use Rattle.ldm_reader.specs.Staying.{HasRow}
 use Rattle.ldm_reader.specs.Reader.{HasCursor}
 use Rattle.ldm_session.specs.declared.replies.Replies.{Replies}
 use Rattle.ldm_session.specs.Owed.{Code}
-use Rattle.ldm_upstream.specs.declared.end.FeedEnd.{FeedEnd}
-use Rattle.ldm_upstream.specs.declared.end.FeedEnd.TheVariants as end
-use Rattle.ldm_upstream.specs.declared.standing.Standing.{Standing}
-use Rattle.ldm_upstream.specs.Asked.{Asked}
+use Rattle.ldm_sender.specs.declared.end.SendEnd.{SendEnd}
+use Rattle.ldm_sender.specs.declared.end.SendEnd.TheVariants as end
+use Rattle.ldm_sender.specs.declared.standing.Standing.{Standing}
+use Rattle.ldm_sender.specs.Asked.{Asked}
+use Rattle.ldm_sender.specs.Ending.{StopsTurns}
 use Rattle.ldm_upstream.specs.Turn.{Given, Turn}
 use Rattle.ldm_upstream.specs.Turns.{AreTurns, after_turns, entries_of_turns, instants_of_turns, goes_of_turns, messages_of_turns, codes_of_turns, given_in_turns}
 use Rattle.ldm_upstream.specs.Feeding.{Last, Stopped, Unanswered, IsLast, last_entries, last_messages, last_instants, last_goes, last_given}
-use Rattle.ldm_upstream.specs.Deeds.{records_of}
-use Rattle.ldm_upstream.specs.Does.{IsPart}
-use Rattle.ldm_upstream.specs.Giving.{KeepsCursor}
-use Rattle.ldm_upstream.specs.Acts.{Situation, Act, Acts, EndsAct, IsAllSent, then_act, is_whole}
+use Rattle.ldm_sender.specs.Deeds.{records_of}
+use Rattle.ldm_sender.specs.Does.{IsPart}
+use Rattle.ldm_sender.specs.Stopping.{KeepsCursor}
+use Rattle.ldm_sender.specs.Acts.{Situation, Act, Acts, EndsAct, IsAllSent, then_act, is_whole}
 use Rattle.ldm_upstream.specs.Heard.{HearsOn, HearsLast}
 
 -- turns, and how the last one ended
@@ -59,26 +58,15 @@ pub record MakesTurns (asked : Asked) (k : ℕ) (standing standing' : Standing) 
   pub cursor : HasCursor new.moment.pass k None
   pub rows : AreRows new.moment.pass (given_in_turns turns)
 
--- why turns end
-abbrev pub StopsTurns : FeedEnd → Situation → Situation → Type 0
-StopsTurns end.Stopped old new = Rose old.gate.stops new.gate.stops
-StopsTurns (end.PeerEnd at) old new = Rose old.moment.link.ends new.moment.link.ends
-StopsTurns (end.BadReply at) old new = Unit {0}
-StopsTurns end.LinkFault old new = Rose old.moment.link.faults new.moment.link.faults
-StopsTurns end.LogFault old new = Rose old.log.faults new.log.faults
-StopsTurns end.Worn old new = length new.moment.pass.seen ≡ MOST_TURNS
-StopsTurns end.OutOfMemory old new = Unit {0}
-StopsTurns _ old new = ⊥
-
 -- how the last turn ended, where it did
-abbrev pub IsLastOf : FeedEnd → Last → Type 0
+abbrev pub IsLastOf : SendEnd → Last → Type 0
 IsLastOf end.Stopped last = (at : ℕ) × (last ≡ Stopped at)
 IsLastOf (end.PeerEnd place) last = (given : Given) × (at : ℕ) × (last ≡ Unanswered given at)
 IsLastOf (end.BadReply place) last = (given : Given) × (at : ℕ) × (last ≡ Unanswered given at)
 IsLastOf _ last = Unit {0}
 
 -- Turns were made, and then it ended.
-pub record EndsTurns (why : FeedEnd) (asked : Asked) (k : ℕ) (standing : Standing) (old new : Situation) (replies : Replies) : Type 0 where
+pub record EndsTurns (why : SendEnd) (asked : Asked) (k : ℕ) (standing : Standing) (old new : Situation) (replies : Replies) : Type 0 where
   pub turns : List Turn
   pub last : Last
   pub are_turns : AreTurns asked standing turns
@@ -95,6 +83,6 @@ pub record EndsTurns (why : FeedEnd) (asked : Asked) (k : ℕ) (standing : Stand
   pub cursor : KeepsCursor why new.moment.pass k
   pub rows : AreRows new.moment.pass (given_in_turns turns ++ last_given last)
 
-abbrev pub TurnsBy : Result (Unit {0}) FeedEnd → Asked → ℕ → (standing standing' : Standing) → (old new : Situation) → (replies replies' : Replies) → Type 0
+abbrev pub TurnsBy : Result (Unit {0}) SendEnd → Asked → ℕ → (standing standing' : Standing) → (old new : Situation) → (replies replies' : Replies) → Type 0
 TurnsBy (Ok done) asked k standing standing' old new replies replies' = MakesTurns asked k standing standing' old new replies replies'
 TurnsBy (Err why) asked k standing standing' old new replies replies' = EndsTurns why asked k standing old new replies

@@ -9,8 +9,8 @@ use Rattle.ldm_model.specs.declared.event.Event.{Event}
 use Rattle.ldm_model.specs.declared.event.Event.TheVariants.{OpenCursor}
 use Rattle.ldm_model.specs.declared.event.Start.{Start}
 use Rattle.ldm_class.specs.Rules.{open_rule}
-use Rattle.ldm_upstream.specs.Asked.{Asked}
-use Rattle.ldm_upstream.specs.Opening.{Opened}
+use Rattle.ldm_sender.specs.Asked.{Asked}
+use Rattle.ldm_sender.specs.Opening.{Opened}
 use Rattle.ldm_upstream.specs.Turn.{Given, Turn}
 use Rattle.ldm_upstream.specs.Feeding.{Feeding, Last}
 

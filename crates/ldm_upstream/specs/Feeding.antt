@@ -10,10 +10,11 @@ use Rattle.ldm_relay.specs.Sent.{Sent}
 use Rattle.ldm_relay.specs.Sent as sent
 use Rattle.ldm_relay.specs.Spelling.{written, record_of}
 use Rattle.ldm_session.specs.Owed.{Code}
-use Rattle.ldm_upstream.specs.declared.standing.Standing.{Standing}
-use Rattle.ldm_upstream.specs.Asked.{Asked}
-use Rattle.ldm_upstream.specs.Opening.{Answered, Opened, IsAnswerTo, class_answer_of, opening_entries, place_of}
-use Rattle.ldm_upstream.specs.Turn.{Given, Turn, stepped, given_reply, announcement}
+use Rattle.ldm_sender.specs.declared.standing.Standing.{Standing}
+use Rattle.ldm_sender.specs.Asked.{Asked}
+use Rattle.ldm_sender.specs.Opening.{Answered, Opened, IsAnswerTo, class_answer_of, opening_entries, place_of}
+use Rattle.ldm_upstream.specs.Turn.{Given, Turn, given_reply, announcement}
+use Rattle.ldm_sender.specs.Calls.{stepped}
 use Rattle.ldm_upstream.specs.Turns.{IsDue, size_of, AreTurns, after_turns, entries_of_turns, instants_of_turns, goes_of_turns, messages_of_turns, codes_of_turns, given_in_turns}
 
 -- How the last turn ended, behind those that went on.

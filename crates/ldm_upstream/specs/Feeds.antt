@@ -1,55 +1,24 @@
 -- What a call that feeds comes to, at each of its ends: the feeding that it made, or a front of it.
-use Rattle.std.specs.Prelude.{◌≡◌, ℕ, List, [], ◌++◌, length, Bool, true, Result, Ok, Err}
-use Rattle.ldm_types.specs.declared.class.ClassSpec.{ClassSpec}
+use Rattle.std.specs.Prelude.{◌≡◌, ℕ, List, ◌++◌}
 use Rattle.ldm_model.specs.declared.event.Entry.{Entry}
 use Rattle.ldm_outside.specs.declared.gate.Go.{Go}
-use Rattle.ldm_outside.specs.Count.{Rose}
-use Rattle.ldm_outside.specs.Link.{LinkRecord, IsNotClosed}
 use Rattle.ldm_outside.specs.Session.{SessionRecord}
 use Rattle.ldm_shared.specs.Passes.{PassView, Calls}
-use Rattle.ldm_shared.specs.declared.steps.TheConstants.{MOST_TURNS}
 use Rattle.ldm_session.specs.Exchange.{Exchanged, AnsweredAll, IdledAll}
 use Rattle.ldm_session.specs.Gaps.{gap_log}
 use Rattle.ldm_session.specs.Owed.{Code}
-use Rattle.ldm_upstream.specs.declared.end.FeedEnd.{FeedEnd}
-use Rattle.ldm_upstream.specs.declared.end.FeedEnd.TheVariants as end
-use Rattle.ldm_upstream.specs.Asked.{Asked}
-use Rattle.ldm_upstream.specs.Opening.{Answered, Denied, Reclassed, Busy, closing_entries}
+use Rattle.ldm_sender.specs.declared.end.SendEnd.{SendEnd}
+use Rattle.ldm_sender.specs.Asked.{Asked}
+use Rattle.ldm_sender.specs.Opening.{Answered}
+use Rattle.ldm_sender.specs.Does.{IsPart}
+use Rattle.ldm_sender.specs.Acts.{Situation, Act, Logged, EndsAct, IsAllSent, is_whole}
+use Rattle.ldm_sender.specs.Ending.{IsEndOf, IsLeft, closing_of, session_of}
 use Rattle.ldm_upstream.specs.Feeding.{Feeding, IsFeeding, stands, entries_of, bytes_of, codes_of, instants_of, goes_of, given_of}
-use Rattle.ldm_outside.specs.Clock.{ClockRecord}
-use Rattle.ldm_relay.specs.declared.message.ClassAnswer.{ClassAnswer}
-use Rattle.ldm_upstream.specs.Answering.{answer_deed}
-use Rattle.ldm_upstream.specs.Giving.{StopsGiving}
-use Rattle.ldm_upstream.specs.Does.{moment_of, IsPart, Does, Breaks}
-use Rattle.ldm_upstream.specs.Acts.{Situation, Act, Logged, EndsAct, IsAllSent, is_whole}
 use Rattle.ldm_upstream.specs.Heard.{SaysLast}
 use Rattle.ldm_upstream.specs.Course.{IsLastOf, AreRows}
 
--- the call that closes the cursor, where one was opened and the queue can have a call more
-abbrev pub closing_of : ℕ → FeedEnd → Answered → List Entry
-closing_of actor end.Worn answered = []
-closing_of actor _ answered = closing_entries actor answered
-
--- only a feeding that the gate stopped closes the link
-abbrev pub IsLeft : FeedEnd → LinkRecord → Type 0
-IsLeft end.Stopped link = link.closed ≡ true
-IsLeft _ link = IsNotClosed link
-
--- why it ended
-abbrev pub IsEndOf : FeedEnd → Feeding → (new : PassView) → (before after : SessionRecord) → Type 0
-IsEndOf end.Stopped feeding new before after = Rose before.gate.stops after.gate.stops
-IsEndOf end.Reclassed feeding new before after = (class : ClassSpec) × (feeding.answered ≡ Reclassed class)
-IsEndOf (end.Denied rule) feeding new before after = feeding.answered ≡ Denied rule
-IsEndOf (end.PeerEnd at) feeding new before after = Rose before.link.ends after.link.ends
-IsEndOf end.LinkFault feeding new before after = Rose before.link.faults after.link.faults
-IsEndOf end.LogFault feeding new before after = Rose before.log.faults after.log.faults
-IsEndOf (end.BadReply at) feeding new before after = Unit {0}
-IsEndOf end.AllBusy feeding new before after = (missed : Bool) × (feeding.answered ≡ Busy missed)
-IsEndOf end.Worn feeding new before after = length new.seen ≡ MOST_TURNS
-IsEndOf end.OutOfMemory feeding new before after = Unit {0}
-
 -- A feeding was made up to an end: all of it where the end is a whole one, and else of each part a front.
-pub record Feeds (why : FeedEnd) (asked : Asked) (old new : PassView) (before after : SessionRecord) : Type 0 where
+pub record Feeds (why : SendEnd) (asked : Asked) (old new : PassView) (before after : SessionRecord) : Type 0 where
   pub feeding : Feeding
   pub is_feeding : IsFeeding asked feeding
   -- the calls on the queue, and the one that closes the cursor
@@ -78,7 +47,7 @@ pub record Feeds (why : FeedEnd) (asked : Asked) (old new : PassView) (before af
   pub logged : Logged why before.log (gap_log asked.host called) after.log
   -- why it ended, and how its last turn did
   pub last : IsLastOf why feeding.last
-  pub cause : IsEndOf why feeding new before after
+  pub cause : IsEndOf why feeding.answered new before after
 
 -- ---- its parts
 
@@ -89,12 +58,8 @@ feeding_act actor asked feeding = record {
   goes = goes_of feeding;
 }
 
--- what the outside of the session tells in a situation
-abbrev pub session_of : Situation → SessionRecord
-session_of situation = record { link = situation.moment.link; log = situation.log; clock = situation.moment.clock; gate = situation.gate }
-
 -- A feeding was made up to an end, and its cursor is not closed yet.
-pub record HasFed (why : FeedEnd) (asked : Asked) (answered : Answered) (old new : Situation) : Type 0 where
+pub record HasFed (why : SendEnd) (asked : Asked) (answered : Answered) (old new : Situation) : Type 0 where
   pub feeding : Feeding
   pub is_answered : feeding.answered ≡ answered
   pub is_feeding : IsFeeding asked feeding
@@ -106,12 +71,4 @@ pub record HasFed (why : FeedEnd) (asked : Asked) (answered : Answered) (old new
   pub codes_part : IsPart (is_whole why) codes (codes_of feeding)
   pub says : SaysLast why (stands feeding).next came codes
   pub last : IsLastOf why feeding.last
-  pub cause : IsEndOf why feeding new.moment.pass (session_of old) (session_of new)
-
--- a request was answered for which no cursor is opened
-abbrev pub Declines : Result (Unit {0}) FeedEnd → ℕ → ClassAnswer → (pass : PassView) → (link : LinkRecord) → (clock : ClockRecord) → (link' : LinkRecord) → (clock' : ClockRecord) → Type 0
-Declines (Ok done) xid answer pass link clock link' clock' =
-    (at : ℕ) × Does [] (moment_of pass link clock []) (moment_of pass link' clock' []) (answer_deed xid answer at)
-Declines (Err why) xid answer pass link clock link' clock' =
-    (at : ℕ) × (out : List ℕ) × Breaks [] (moment_of pass link clock []) (moment_of pass link' clock' out) (answer_deed xid answer at)
-    × StopsGiving why (moment_of pass link clock []) (moment_of pass link' clock' out)
+  pub cause : IsEndOf why feeding.answered new.moment.pass (session_of old) (session_of new)

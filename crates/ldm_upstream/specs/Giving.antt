@@ -1,17 +1,19 @@
 -- What it comes to that a product is given: the calls that read its body, and the messages that carry it.
-use Rattle.std.specs.Prelude.{◌≡◌, ℕ, List, [], ◌∷◌, ◌++◌, length, Option, Result, Ok, Err}
-use Rattle.ldm_outside.specs.Count.{Rose}
+use Rattle.std.specs.Prelude.{◌≡◌, ℕ, List, [], ◌∷◌, ◌++◌, length, Result, Ok, Err}
 use Rattle.ldm_shared.specs.Passes.{PassView, Makes}
 use Rattle.ldm_shared.specs.declared.steps.TheConstants.{MOST_TURNS}
 use Rattle.ldm_reader.specs.declared.reader.Held.{Held}
-use Rattle.ldm_reader.specs.Reader.{HasCursor, HoldsProduct}
-use Rattle.ldm_upstream.specs.declared.end.FeedEnd.{FeedEnd}
-use Rattle.ldm_upstream.specs.declared.end.FeedEnd.TheVariants as end
-use Rattle.ldm_upstream.specs.declared.standing.Standing.{Standing}
+use Rattle.ldm_reader.specs.Reader.{HoldsProduct}
+use Rattle.ldm_sender.specs.declared.end.SendEnd.{SendEnd}
+use Rattle.ldm_sender.specs.declared.end.SendEnd.TheVariants as end
+use Rattle.ldm_sender.specs.declared.standing.Standing.{Standing}
+use Rattle.ldm_sender.specs.Stopping.{KeepsCursor, StopsSending}
 use Rattle.ldm_upstream.specs.Blocks.{blocks}
-use Rattle.ldm_upstream.specs.Turn.{Given, Whole, later_call, last_of, after_handling}
-use Rattle.ldm_upstream.specs.Deeds.{Deed, read_entry, reading_all, handling_deed, block_deed, blocks_deed}
-use Rattle.ldm_upstream.specs.Does.{Moment, Does, Breaks}
+use Rattle.ldm_upstream.specs.Turn.{Given, Whole, last_of, after_handling}
+use Rattle.ldm_sender.specs.Calls.{later_call}
+use Rattle.ldm_sender.specs.Deeds.{Deed}
+use Rattle.ldm_upstream.specs.ProductDeeds.{read_entry, reading_all, handling_deed, block_deed, blocks_deed}
+use Rattle.ldm_sender.specs.Does.{Moment, Does, Breaks}
 
 -- a product that is held, with its body
 abbrev pub given_of : Held → List ℕ → Given
@@ -21,22 +23,10 @@ given_of held body = record { n = held.n; time = held.time; product = record { i
 abbrev pub HoldsGiven : PassView → ℕ → Given → Type 0
 HoldsGiven pass k given = HoldsProduct pass k given.n given.time given.product
 
--- The cursor is there still, so that it can be closed; of a queue that has had all its calls nothing is said.
-abbrev pub KeepsCursor : FeedEnd → PassView → ℕ → Type 0
-KeepsCursor end.Worn pass k = Unit {0}
-KeepsCursor _ pass k = (held : Option ℕ) × HasCursor pass k held
-
--- why the giving of a product breaks off
-abbrev pub StopsGiving : FeedEnd → Moment → Moment → Type 0
-StopsGiving end.LinkFault old new = Rose old.link.faults new.link.faults
-StopsGiving end.Worn old new = length new.pass.seen ≡ MOST_TURNS
-StopsGiving end.OutOfMemory old new = Unit {0}
-StopsGiving _ old new = ⊥
-
 -- The giving of a product broke off in this deed.
-pub record BreaksOff (why : FeedEnd) (k : ℕ) (old new : Moment) (deed : Deed) : Type 0 where
+pub record BreaksOff (why : SendEnd) (k : ℕ) (old new : Moment) (deed : Deed) : Type 0 where
   pub breaks : Breaks [] old new deed
-  pub cause : StopsGiving why old new
+  pub cause : StopsSending why old new
   pub cursor : KeepsCursor why new.pass k
 
 -- The deed was done, and the product is held still.
@@ -53,22 +43,22 @@ pub record AppendsPart (k : ℕ) (given : Given) (offset : ℕ) (part : List ℕ
   pub holds : HoldsGiven new k given
 
 -- no call was made: the queue has had all its calls, or memory is missing
-abbrev pub FailsToRead : FeedEnd → PassView → PassView → Type 0
+abbrev pub FailsToRead : SendEnd → PassView → PassView → Type 0
 FailsToRead end.Worn old new = Makes old new [] × (length new.seen ≡ MOST_TURNS)
 FailsToRead end.OutOfMemory old new = new ≡ old
 FailsToRead _ old new = ⊥
 
-abbrev pub ReadsPart : Result (Unit {0}) FeedEnd → ℕ → Given → ℕ → List ℕ → PassView → PassView → List ℕ → List ℕ → Type 0
+abbrev pub ReadsPart : Result (Unit {0}) SendEnd → ℕ → Given → ℕ → List ℕ → PassView → PassView → List ℕ → List ℕ → Type 0
 ReadsPart (Ok done) k given offset part old new out out' = AppendsPart k given offset part old new out out'
 ReadsPart (Err why) k given offset part old new out out' = FailsToRead why old new
 
-abbrev pub ReadsAll : Result (Unit {0}) FeedEnd → ℕ → Given → Moment → Moment → Type 0
+abbrev pub ReadsAll : Result (Unit {0}) SendEnd → ℕ → Given → Moment → Moment → Type 0
 ReadsAll (Ok done) k given old new = GoesOn k given old new (reading_all old.pass.actor k given.product.body)
 ReadsAll (Err why) k given old new = BreaksOff why k old new (reading_all old.pass.actor k given.product.body)
 
 -- ---- a product that goes whole
 
-abbrev pub GivesWhole : Result (Unit {0}) FeedEnd → ℕ → Given → Standing → Standing → Moment → Moment → Type 0
+abbrev pub GivesWhole : Result (Unit {0}) SendEnd → ℕ → Given → Standing → Standing → Moment → Moment → Type 0
 GivesWhole (Ok done) k given standing standing' old new =
     GoesOn k given old new (handling_deed old.pass.actor k standing.next given (Whole standing'.sent_at))
     × (standing' ≡ after_handling standing given (Whole standing'.sent_at))
@@ -86,7 +76,7 @@ pub record Block : Type 0 where
 abbrev pub one_block_deed : ℕ → ℕ → ℕ → Given → Block → ℕ → Deed
 one_block_deed actor k next given block at = block_deed actor k next given.product.info.signature block.offset block.number block.bytes at
 
-abbrev pub GivesBlock : Result (Unit {0}) FeedEnd → ℕ → Given → Block → Standing → Standing → Moment → Moment → Type 0
+abbrev pub GivesBlock : Result (Unit {0}) SendEnd → ℕ → Given → Block → Standing → Standing → Moment → Moment → Type 0
 GivesBlock (Ok done) k given block standing standing' old new =
     GoesOn k given old new (one_block_deed old.pass.actor k standing.next given block standing'.sent_at)
     × (standing'.next ≡ later_call standing.next 1)
@@ -102,11 +92,11 @@ pub record GaveBlocks (k : ℕ) (given : Given) (standing standing' : Standing) 
   pub sent_at : standing'.sent_at ≡ last_of standing.sent_at blocks_at
 
 -- It broke off: the answers that did not come are any.
-pub record BreaksInBlocks (why : FeedEnd) (k : ℕ) (given : Given) (standing : Standing) (old new : Moment) : Type 0 where
+pub record BreaksInBlocks (why : SendEnd) (k : ℕ) (given : Given) (standing : Standing) (old new : Moment) : Type 0 where
   pub blocks_at : List ℕ
   pub each : length blocks_at ≡ length (blocks given.product.body)
   pub breaks_off : BreaksOff why k old new (blocks_deed old.pass.actor k standing.next given blocks_at)
 
-abbrev pub GivesBlocks : Result (Unit {0}) FeedEnd → ℕ → Given → Standing → Standing → Moment → Moment → Type 0
+abbrev pub GivesBlocks : Result (Unit {0}) SendEnd → ℕ → Given → Standing → Standing → Moment → Moment → Type 0
 GivesBlocks (Ok done) k given standing standing' old new = GaveBlocks k given standing standing' old new
 GivesBlocks (Err why) k given standing standing' old new = BreaksInBlocks why k given standing old new

@@ -6,21 +6,23 @@ use Rattle.ldm_shared.specs.declared.steps.TheConstants.{MOST_TURNS}
 use Rattle.ldm_reader.specs.Reader.{HasCursor}
 use Rattle.ldm_session.specs.declared.replies.Replies.{Replies}
 use Rattle.ldm_session.specs.Owed.{Code}
-use Rattle.ldm_upstream.specs.declared.end.FeedEnd.{FeedEnd}
-use Rattle.ldm_upstream.specs.declared.end.FeedEnd.TheVariants as end
-use Rattle.ldm_upstream.specs.declared.standing.Standing.{Standing}
-use Rattle.ldm_upstream.specs.Asked.{Asked}
+use Rattle.ldm_sender.specs.declared.end.SendEnd.{SendEnd}
+use Rattle.ldm_sender.specs.declared.end.SendEnd.TheVariants as end
+use Rattle.ldm_sender.specs.declared.standing.Standing.{Standing}
+use Rattle.ldm_sender.specs.Asked.{Asked}
 use Rattle.ldm_upstream.specs.Turn.{Given, Handling, Declined, let_go, after_handling, handling_codes}
 use Rattle.ldm_upstream.specs.Turns.{IsHandled}
 use Rattle.ldm_upstream.specs.Feeding.{Unanswered, IsLast}
-use Rattle.ldm_upstream.specs.Deeds.{Deed, and_then, calling, handling_deed}
-use Rattle.ldm_upstream.specs.Does.{Moment, Does, Breaks, IsPart}
-use Rattle.ldm_upstream.specs.Giving.{HoldsGiven, KeepsCursor}
-use Rattle.ldm_upstream.specs.Acts.{is_whole, IsAllSent}
+use Rattle.ldm_sender.specs.Deeds.{Deed, and_then, calling}
+use Rattle.ldm_upstream.specs.ProductDeeds.{handling_deed}
+use Rattle.ldm_sender.specs.Does.{Moment, Does, Breaks, IsPart}
+use Rattle.ldm_upstream.specs.Giving.{HoldsGiven}
+use Rattle.ldm_sender.specs.Stopping.{KeepsCursor}
+use Rattle.ldm_sender.specs.Acts.{is_whole, IsAllSent}
 use Rattle.ldm_upstream.specs.Heard.{HearsOn, HearsLast}
 
 -- why the offer of a product ends
-abbrev pub StopsOffer : FeedEnd → Moment → Moment → Type 0
+abbrev pub StopsOffer : SendEnd → Moment → Moment → Type 0
 StopsOffer (end.PeerEnd at) old new = Rose old.link.ends new.link.ends
 StopsOffer (end.BadReply at) old new = Unit {0}
 StopsOffer end.LinkFault old new = Rose old.link.faults new.link.faults
@@ -43,7 +45,7 @@ pub record Announced (k : ℕ) (given : Given) (answer : SoonAnswer) (standing s
   pub heard : HearsOn came (record { xid = standing.next; answer = answer } ∷ []) replies replies'
 
 -- It was announced or not, and no reply came.
-pub record EndsAnnouncing (why : FeedEnd) (k : ℕ) (given : Given) (standing : Standing) (old new : Moment) (replies : Replies) : Type 0 where
+pub record EndsAnnouncing (why : SendEnd) (k : ℕ) (given : Given) (standing : Standing) (old new : Moment) (replies : Replies) : Type 0 where
   pub at : ℕ
   pub came : List ℕ
   pub ends : EndsDeed (is_whole why) came old new (handling_deed old.pass.actor k standing.next given (Declined at))
@@ -53,7 +55,7 @@ pub record EndsAnnouncing (why : FeedEnd) (k : ℕ) (given : Given) (standing : 
   -- no call was made
   pub same : new.pass ≡ old.pass
 
-abbrev pub Announces : Result SoonAnswer FeedEnd → ℕ → Given → (standing standing' : Standing) → (old new : Moment) → (replies replies' : Replies) → Type 0
+abbrev pub Announces : Result SoonAnswer SendEnd → ℕ → Given → (standing standing' : Standing) → (old new : Moment) → (replies replies' : Replies) → Type 0
 Announces (Ok answer) k given standing standing' old new replies replies' = Announced k given answer standing standing' old new replies replies'
 Announces (Err why) k given standing standing' old new replies replies' = EndsAnnouncing why k given standing old new replies
 
@@ -70,7 +72,7 @@ pub record Offered (asked : Asked) (k : ℕ) (given : Given) (standing standing'
   pub holds : HoldsGiven new.pass k given
 
 -- It was announced, and no reply came.
-pub record IsUnanswered (why : FeedEnd) (asked : Asked) (k : ℕ) (given : Given) (standing : Standing) (old new : Moment) (replies : Replies) : Type 0 where
+pub record IsUnanswered (why : SendEnd) (asked : Asked) (k : ℕ) (given : Given) (standing : Standing) (old new : Moment) (replies : Replies) : Type 0 where
   pub at : ℕ
   pub is_last : IsLast asked (Unanswered given at)
   pub came : List ℕ
@@ -79,7 +81,7 @@ pub record IsUnanswered (why : FeedEnd) (asked : Asked) (k : ℕ) (given : Given
   pub all_sent : new.out ≡ []
 
 -- It broke off in a handling.
-pub record BreaksOffer (why : FeedEnd) (asked : Asked) (k : ℕ) (given : Given) (standing : Standing) (old new : Moment) (replies : Replies) : Type 0 where
+pub record BreaksOffer (why : SendEnd) (asked : Asked) (k : ℕ) (given : Given) (standing : Standing) (old new : Moment) (replies : Replies) : Type 0 where
   pub handling : Handling
   pub is_handled : IsHandled asked given handling
   pub came : List ℕ
@@ -88,16 +90,16 @@ pub record BreaksOffer (why : FeedEnd) (asked : Asked) (k : ℕ) (given : Given)
   pub codes_part : IsPart false codes (handling_codes standing.next handling)
   pub heard : HearsLast why (after_handling standing given handling).next came codes replies
 
-abbrev pub EndsOfferBy : Bool → FeedEnd → Asked → ℕ → Given → Standing → (old new : Moment) → Replies → Type 0
+abbrev pub EndsOfferBy : Bool → SendEnd → Asked → ℕ → Given → Standing → (old new : Moment) → Replies → Type 0
 EndsOfferBy true why asked k given standing old new replies = IsUnanswered why asked k given standing old new replies
 EndsOfferBy false why asked k given standing old new replies = BreaksOffer why asked k given standing old new replies
 
-pub record EndsOffer (why : FeedEnd) (asked : Asked) (k : ℕ) (given : Given) (standing : Standing) (old new : Moment) (replies : Replies) : Type 0 where
+pub record EndsOffer (why : SendEnd) (asked : Asked) (k : ℕ) (given : Given) (standing : Standing) (old new : Moment) (replies : Replies) : Type 0 where
   pub ends : EndsOfferBy (is_whole why) why asked k given standing old new replies
   pub cause : StopsOffer why old new
   pub cursor : KeepsCursor why new.pass k
 
-abbrev pub Offers : Result (Unit {0}) FeedEnd → Asked → ℕ → Given → (standing standing' : Standing) → (old new : Moment) → (replies replies' : Replies) → Type 0
+abbrev pub Offers : Result (Unit {0}) SendEnd → Asked → ℕ → Given → (standing standing' : Standing) → (old new : Moment) → (replies replies' : Replies) → Type 0
 Offers (Ok done) asked k given standing standing' old new replies replies' = Offered asked k given standing standing' old new replies replies'
 Offers (Err why) asked k given standing standing' old new replies replies' = EndsOffer why asked k given standing old new replies
 
@@ -118,7 +120,7 @@ pub record Handled (asked : Asked) (k : ℕ) (given : Given) (standing standing'
   pub cursor : HasCursor new.pass k None
 
 -- It broke off in a handling.
-pub record BreaksHandling (why : FeedEnd) (asked : Asked) (k : ℕ) (given : Given) (standing : Standing) (old new : Moment) (replies : Replies) : Type 0 where
+pub record BreaksHandling (why : SendEnd) (asked : Asked) (k : ℕ) (given : Given) (standing : Standing) (old new : Moment) (replies : Replies) : Type 0 where
   pub handling : Handling
   pub is_handled : IsHandled asked given handling
   pub came : List ℕ
@@ -127,15 +129,15 @@ pub record BreaksHandling (why : FeedEnd) (asked : Asked) (k : ℕ) (given : Giv
   pub codes_part : IsPart false codes (handling_codes standing.next handling)
   pub heard : HearsLast why (after_handling standing given handling).next came codes replies
 
-abbrev pub EndsHandlingBy : Bool → FeedEnd → Asked → ℕ → Given → Standing → (old new : Moment) → Replies → Type 0
+abbrev pub EndsHandlingBy : Bool → SendEnd → Asked → ℕ → Given → Standing → (old new : Moment) → Replies → Type 0
 EndsHandlingBy true why asked k given standing old new replies = IsUnanswered why asked k given standing old new replies
 EndsHandlingBy false why asked k given standing old new replies = BreaksHandling why asked k given standing old new replies
 
-pub record EndsHandling (why : FeedEnd) (asked : Asked) (k : ℕ) (given : Given) (standing : Standing) (old new : Moment) (replies : Replies) : Type 0 where
+pub record EndsHandling (why : SendEnd) (asked : Asked) (k : ℕ) (given : Given) (standing : Standing) (old new : Moment) (replies : Replies) : Type 0 where
   pub ends : EndsHandlingBy (is_whole why) why asked k given standing old new replies
   pub cause : StopsOffer why old new
   pub cursor : KeepsCursor why new.pass k
 
-abbrev pub Handles : Result (Unit {0}) FeedEnd → Asked → ℕ → Given → (standing standing' : Standing) → (old new : Moment) → (replies replies' : Replies) → Type 0
+abbrev pub Handles : Result (Unit {0}) SendEnd → Asked → ℕ → Given → (standing standing' : Standing) → (old new : Moment) → (replies replies' : Replies) → Type 0
 Handles (Ok done) asked k given standing standing' old new replies replies' = Handled asked k given standing standing' old new replies replies'
 Handles (Err why) asked k given standing standing' old new replies replies' = EndsHandling why asked k given standing old new replies

@@ -1,6 +1,6 @@
 -- One step of the cursor, and what follows it: the calls on the queue, and the messages.
-use Rattle.std.specs.Prelude.{ℕ, ◌+◌, ◌%◌, ◌^◌, List, [], ◌∷◌, ◌++◌, length}
-use Rattle.ldm_model.specs.declared.event.Event.TheVariants.{Step, Release}
+use Rattle.std.specs.Prelude.{ℕ, ◌+◌, List, [], ◌∷◌, ◌++◌, length}
+use Rattle.ldm_model.specs.declared.event.Event.TheVariants.{Release}
 use Rattle.ldm_model.specs.declared.event.Reply.{Reply}
 use Rattle.ldm_model.specs.declared.event.Reply.TheVariants as reply
 use Rattle.ldm_model.specs.declared.event.Entry.{Entry}
@@ -12,7 +12,8 @@ use Rattle.ldm_relay.specs.declared.message.TheConstants.{LARGEST_BLOCK}
 use Rattle.ldm_relay.specs.Sent.{Sent}
 use Rattle.ldm_relay.specs.Sent as sent
 use Rattle.ldm_session.specs.Owed.{Code}
-use Rattle.ldm_upstream.specs.declared.standing.Standing.{Standing}
+use Rattle.ldm_sender.specs.declared.standing.Standing.{Standing}
+use Rattle.ldm_sender.specs.Calls.{later_call, stepped}
 use Rattle.ldm_upstream.specs.Blocks.{blocks, reads}
 
 -- A product that the cursor was given: its number, its insertion time, its metadata and its body.
@@ -41,14 +42,7 @@ pub data Turn : Type 0 where
   Quiet : (end now : ℕ) → Turn
   Alive : (end now at : ℕ) → Turn
 
--- the number of the call that comes so many calls later
-abbrev pub later_call : ℕ → ℕ → ℕ
-later_call next calls = (next + calls) % 2 ^ 32
-
 -- ---- calls on the queue
-
-abbrev pub stepped : ℕ → ℕ → Reply → Entry
-stepped actor k answer = record { actor = actor; event = Step k; reply = answer }
 
 abbrev pub given_reply : Given → Reply
 given_reply given = reply.Product given.n given.time given.product.info

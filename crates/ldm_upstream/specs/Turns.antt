@@ -6,9 +6,9 @@ use Rattle.ldm_outside.specs.declared.gate.Go.{Go}
 use Rattle.ldm_relay.specs.Sent.{Sent}
 use Rattle.ldm_session.specs.Idle.{is_silent_since}
 use Rattle.ldm_session.specs.Owed.{Code}
-use Rattle.ldm_upstream.specs.declared.standing.Standing.{Standing}
-use Rattle.ldm_upstream.specs.Asked.{Asked}
-use Rattle.ldm_upstream.specs.Due.{is_due}
+use Rattle.ldm_sender.specs.declared.standing.Standing.{Standing}
+use Rattle.ldm_sender.specs.Asked.{Asked}
+use Rattle.ldm_sender.specs.Due.{is_due}
 use Rattle.ldm_upstream.specs.Blocks.{blocks}
 use Rattle.ldm_upstream.specs.Turn.{Given, Handling, Passed, Whole, Declined, InBlocks, Turn, Lost, Gave, Quiet, Alive, turn_entries, turn_messages, turn_instants, turn_goes, turn_codes, after_turn}
 

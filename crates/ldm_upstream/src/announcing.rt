@@ -2,15 +2,14 @@
 ghost use Rattle.std.specs.Prelude.{◌≡◌, ℕ, List};
 ghost use Rattle.ldm_outside.specs.Link.{IsNotClosed};
 ghost use Rattle.ldm_shared.specs.Passes.{PassView};
-ghost use Rattle.ldm_upstream.specs.Does.{moment_of};
+ghost use Rattle.ldm_sender.specs.Does.{moment_of};
 ghost use Rattle.ldm_upstream.specs.Giving.{given_of};
 ghost use Rattle.ldm_upstream.specs.Offering.{Announces};
 
-use crate::end::FeedEnd;
-use crate::standing::{Standing, count_call};
 use ldm_outside::{Clock, Link};
 use ldm_reader::Held;
 use ldm_relay::{Comingsoon, LARGEST_BLOCK, Message, SoonAnswer, write_message};
+use ldm_sender::{SendEnd, Standing, count_call};
 use ldm_session::{Replies, send_gathered};
 use std::sync::Wait;
 
@@ -23,7 +22,7 @@ pub(crate) fn announce<H: Wait, K: Link, C: Clock>(
     link: &mut K,
     clock: &mut C,
     replies: &mut Replies,
-) -> Result<SoonAnswer, FeedEnd>
+) -> Result<SoonAnswer, SendEnd>
     requires { IsNotClosed (K.tells link.old) }
     ensures still_open { IsNotClosed (K.tells link.new) }
     ensures announces { (pass : PassView) (k : ℕ) (body : List ℕ) → Announces result k (given_of held.now body) standing.old standing.new

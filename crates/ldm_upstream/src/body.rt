@@ -5,14 +5,14 @@ ghost use Rattle.ldm_outside.specs.Clock.{ClockRecord};
 ghost use Rattle.ldm_outside.specs.Link.{IsNotClosed};
 ghost use Rattle.ldm_shared.specs.Passes.{IsPassOf, IsSamePass};
 ghost use Rattle.ldm_reader.specs.Reader.{Holds};
-ghost use Rattle.ldm_upstream.specs.Deeds.{part_of};
-ghost use Rattle.ldm_upstream.specs.Does.{moment_of};
+ghost use Rattle.ldm_upstream.specs.ProductDeeds.{part_of};
+ghost use Rattle.ldm_sender.specs.Does.{moment_of};
 ghost use Rattle.ldm_upstream.specs.Giving.{given_of, ReadsPart, ReadsAll};
 
-use crate::end::FeedEnd;
 use ldm_outside::Link;
 use ldm_reader::{Held, Reader};
 use ldm_relay::LARGEST_BLOCK;
+use ldm_sender::SendEnd;
 use ldm_session::send_where_full;
 use ldm_shared::{Pass, Shared, Turn};
 use ldm_types::OutOfMemory;
@@ -28,7 +28,7 @@ pub(crate) fn append_part<H: Wait>(
     offset: u32,
     len: u32,
     out: &mut Vec<u8>,
-) -> Result<(), FeedEnd>
+) -> Result<(), SendEnd>
     requires of { IsPassOf shared.now pass.old }
     requires holds { (body : List ℕ) × Holds pass.old reader.now.k held.now body }
     requires within { offset + len ≤ held.now.info.size }
@@ -47,7 +47,7 @@ pub(crate) fn append_part<H: Wait>(
         &mut out.as_mut_slice()[at..],
     ) {
         Turn::Done(()) => Ok(()),
-        Turn::Worn { .. } => Err(FeedEnd::Worn),
+        Turn::Worn { .. } => Err(SendEnd::Worn),
     }
 }
 
@@ -69,7 +69,7 @@ pub(crate) fn append_body<H: Wait, K: Link>(
     held: &Held,
     out: &mut Vec<u8>,
     link: &mut K,
-) -> Result<(), FeedEnd>
+) -> Result<(), SendEnd>
     requires of { IsPassOf shared.now pass.old }
     requires holds { (body : List ℕ) × Holds pass.old reader.now.k held.now body }
     requires not_closed { IsNotClosed (K.tells link.old) }

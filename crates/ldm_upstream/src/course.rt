@@ -5,18 +5,17 @@ ghost use Rattle.ldm_book.specs.Limits.{IsGoodArena};
 ghost use Rattle.ldm_shared.specs.Passes.{IsPassOf, IsSamePass};
 ghost use Rattle.ldm_reader.specs.Reader.{HasCursor};
 ghost use Rattle.ldm_session.specs.declared.gaps.TheConstants.{LONGEST_NAME};
-ghost use Rattle.ldm_upstream.specs.Asked.{Asked, IsAskedOf};
-ghost use Rattle.ldm_upstream.specs.Acts.{situation_of};
-ghost use Rattle.ldm_upstream.specs.Does.{moment_of};
+ghost use Rattle.ldm_sender.specs.Asked.{Asked, IsAskedOf};
+ghost use Rattle.ldm_sender.specs.Acts.{situation_of};
+ghost use Rattle.ldm_sender.specs.Does.{moment_of};
 ghost use Rattle.ldm_upstream.specs.Course.{EndsTurns};
 
-use crate::end::FeedEnd;
 use crate::one_turn::turn;
-use crate::standing::Standing;
 use ldm_class::{ClassMatcher, HostPolicy};
 use ldm_outside::{Clock, Gate, Link, Sink};
 use ldm_reader::{Reader, products_stay};
 use ldm_relay::Feedme;
+use ldm_sender::{SendEnd, Standing};
 use ldm_session::Replies;
 use ldm_shared::{Pass, Shared};
 use std::sync::Wait;
@@ -37,7 +36,7 @@ pub(crate) fn turns<H: Wait, K: Link, E: Sink, C: Clock, G: Gate>(
     clock: &mut C,
     gate: &mut G,
     replies: &mut Replies,
-) -> FeedEnd
+) -> SendEnd
     requires of { IsPassOf shared.now pass.old }
     requires cursor { HasCursor pass.old reader.now.k None }
     requires arena { IsGoodArena shared.now.arena }

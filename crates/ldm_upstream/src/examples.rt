@@ -9,8 +9,9 @@ ghost use Rattle.ldm_relay.specs.declared.message.SoonAnswer.TheVariants as soon
 ghost use Rattle.ldm_session.specs.Gaps.{gap_log};
 ghost use Rattle.ldm_session.specs.Idle.{is_silent_since};
 ghost use Rattle.ldm_upstream.specs.Blocks.{count_blocks};
-ghost use Rattle.ldm_upstream.specs.Opening.{Busy, Denied, feeds_of, from_instant, opening_calls, opening_entries};
-ghost use Rattle.ldm_upstream.specs.Turn.{Lost, Gave, Quiet, Alive, Whole, Declined, InBlocks, later_call};
+ghost use Rattle.ldm_sender.specs.Opening.{Busy, Denied, feeds_of, from_instant, opening_calls, opening_entries};
+ghost use Rattle.ldm_upstream.specs.Turn.{Lost, Gave, Quiet, Alive, Whole, Declined, InBlocks};
+ghost use Rattle.ldm_sender.specs.Calls.{later_call};
 ghost use Rattle.ldm_upstream.specs.Feeding.{GoesOn, Stopped, Unanswered, messages_of, entries_of, instants_of, goes_of, codes_of};
 ghost use Rattle.ldm_upstream.specs.Examples.{sample_asked, asks_for, spec_for, sample, sample_info, feeding_of, replies_of, events_of, opens_at, sample_signature};
 

@@ -6,25 +6,22 @@ ghost use Rattle.ldm_shared.specs.Passes.{IsPassOf, IsSamePass, PassView, Makes}
 ghost use Rattle.ldm_reader.specs.Reader.{HasCursor};
 ghost use Rattle.ldm_session.specs.Hearing.{Heard};
 ghost use Rattle.ldm_session.specs.declared.gaps.TheConstants.{LONGEST_NAME};
-ghost use Rattle.ldm_upstream.specs.Acts.{situation_of};
-ghost use Rattle.ldm_upstream.specs.Asked.{Asked, IsAskedOf, asked_of};
-ghost use Rattle.ldm_upstream.specs.Does.{moment_of};
-ghost use Rattle.ldm_upstream.specs.Giving.{KeepsCursor};
-ghost use Rattle.ldm_upstream.specs.Opening.{Opened, IsAnswerTo, opening_entries};
+ghost use Rattle.ldm_sender.specs.Acts.{situation_of};
+ghost use Rattle.ldm_sender.specs.Asked.{Asked, IsAskedOf, asked_of};
+ghost use Rattle.ldm_sender.specs.Does.{moment_of};
+ghost use Rattle.ldm_sender.specs.Stopping.{KeepsCursor};
+ghost use Rattle.ldm_sender.specs.Opening.{Opened, IsAnswerTo, opening_entries};
 ghost use Rattle.ldm_class.specs.Access.{reduce};
 ghost use Rattle.ldm_class.specs.Rules.{rules_for};
 ghost use Rattle.ldm_class.specs.declared.answers.Reduced.TheVariants as reduced;
 ghost use Rattle.ldm_upstream.specs.Feeds.{Feeds, HasFed};
 
-use crate::answer::{answer_class, open_for};
 use crate::course::turns;
-use crate::declining::decline;
-use crate::end::FeedEnd;
-use crate::standing::Standing;
 use ldm_class::{Class, ClassMatcher, HostPolicy, Policy, Reduced};
 use ldm_outside::{Clock, Gate, Link, Sink};
 use ldm_reader::{Reader, products_stay};
 use ldm_relay::{ClassAnswer, Feedme};
+use ldm_sender::{SendEnd, Standing, answer_class, decline, open_for};
 use ldm_session::{Replies, room_to_gather, send_gathered};
 use ldm_shared::{Pass, Shared, Turn};
 use ldm_types::OutOfMemory;
@@ -46,7 +43,7 @@ fn feed_turns<H: Wait, K: Link, E: Sink, C: Clock, G: Gate>(
     clock: &mut C,
     gate: &mut G,
     replies: &mut Replies,
-) -> FeedEnd
+) -> SendEnd
     requires of { IsPassOf shared.now pass.old }
     requires cursor { HasCursor pass.old reader.now.k None }
     requires class_is { class.old ≡ ask.now.class }
@@ -105,7 +102,7 @@ fn feed_cursor<H: Wait, K: Link, E: Sink, C: Clock, G: Gate>(
     clock: &mut C,
     gate: &mut G,
     replies: &mut Replies,
-) -> FeedEnd
+) -> SendEnd
     requires of { IsPassOf shared.now pass.old }
     requires cursor { HasCursor pass.old reader.k None }
     requires class_is { class.old ≡ ask.now.class }
@@ -124,13 +121,13 @@ fn feed_cursor<H: Wait, K: Link, E: Sink, C: Clock, G: Gate>(
     let end = feed_turns(
         rt, shared, &reader, pass, ask, class, rules, out, link, log, clock, gate, replies,
     );
-    if let FeedEnd::Worn = end {
+    if let SendEnd::Worn = end {
         return end;
     }
     if let Turn::Worn { .. } = reader.close(shared, rt, pass) {
-        return FeedEnd::Worn;
+        return SendEnd::Worn;
     }
-    if let FeedEnd::Stopped = end {
+    if let SendEnd::Stopped = end {
         link.close();
     }
     end
@@ -150,7 +147,7 @@ fn feed_class<H: Wait, K: Link, E: Sink, G: Gate, C: Clock>(
     ask: &Feedme,
     class: &Class,
     policy: &Policy,
-) -> FeedEnd
+) -> SendEnd
     requires of { IsPassOf shared.now pass.old }
     requires built { class.now ≡ ask.now.class }
     requires name { length host.now ≤ LONGEST_NAME }
@@ -163,16 +160,16 @@ fn feed_class<H: Wait, K: Link, E: Sink, G: Gate, C: Clock>(
         (session_tells K.tells E.tells C.tells G.tells link.new log.new clock.new gate.new) }
 {
     let Ok(mut out) = room_to_gather(alloc) else {
-        return FeedEnd::OutOfMemory;
+        return SendEnd::OutOfMemory;
     };
     let Ok(mut wanted) = class.matcher(alloc) else {
-        return FeedEnd::OutOfMemory;
+        return SendEnd::OutOfMemory;
     };
     let Ok(mut rules) = policy.for_host(alloc, host, false) else {
-        return FeedEnd::OutOfMemory;
+        return SendEnd::OutOfMemory;
     };
     let Ok(mut replies) = Replies::create(alloc) else {
-        return FeedEnd::OutOfMemory;
+        return SendEnd::OutOfMemory;
     };
     match open_for(rt, shared, pass, class) {
         Turn::Done(Some(reader)) => feed_cursor(
@@ -191,17 +188,17 @@ fn feed_class<H: Wait, K: Link, E: Sink, G: Gate, C: Clock>(
             &mut replies,
         ),
         Turn::Done(None) => match answer_class(ask.xid, ClassAnswer::Busy, &mut out, link, clock) {
-            Ok(_) => FeedEnd::AllBusy,
+            Ok(_) => SendEnd::AllBusy,
             Err(end) => end,
         },
-        Turn::Worn { .. } => FeedEnd::Worn,
+        Turn::Worn { .. } => SendEnd::Worn,
     }
 }
 
 /// Answers a peer's FEEDME and feeds its connection: each product that is due goes out, in the order of the queue, until the gate says
 /// to stop or something ends it. Losses are log lines.
 ///
-/// The cursor that was opened is closed at every end but [`FeedEnd::Worn`], and the link at [`FeedEnd::Stopped`] alone.
+/// The cursor that was opened is closed at every end but `FeedEnd::Worn`, and the link at `FeedEnd::Stopped` alone.
 pub fn feed<H: Wait, K: Link, E: Sink, G: Gate, C: Clock>(
     rt: &H,
     alloc: Global,
@@ -215,7 +212,7 @@ pub fn feed<H: Wait, K: Link, E: Sink, G: Gate, C: Clock>(
     ask: &Feedme,
     class: &Class,
     policy: &Policy,
-) -> FeedEnd
+) -> SendEnd
     requires of { IsPassOf shared.now pass.old }
     requires built { class.now ≡ ask.now.class }
     requires name { length host.now ≤ LONGEST_NAME }
@@ -232,16 +229,16 @@ pub fn feed<H: Wait, K: Link, E: Sink, G: Gate, C: Clock>(
         ),
         Ok(Reduced::Fewer(fewer)) => {
             match decline(alloc, ask.xid, ClassAnswer::Reclass(fewer), link, clock) {
-                Ok(()) => FeedEnd::Reclassed,
+                Ok(()) => SendEnd::Reclassed,
                 Err(end) => end,
             }
         }
         Ok(Reduced::Nothing { rule }) => {
             match decline(alloc, ask.xid, ClassAnswer::Denied, link, clock) {
-                Ok(()) => FeedEnd::Denied { rule },
+                Ok(()) => SendEnd::Denied { rule },
                 Err(end) => end,
             }
         }
-        Err(_) => FeedEnd::OutOfMemory,
+        Err(_) => SendEnd::OutOfMemory,
     }
 }

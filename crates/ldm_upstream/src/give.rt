@@ -5,16 +5,15 @@ ghost use Rattle.ldm_shared.specs.Passes.{IsPassOf, IsSamePass};
 ghost use Rattle.ldm_reader.specs.Reader.{Holds};
 ghost use Rattle.ldm_relay.specs.Writable.{IsShortProduct};
 ghost use Rattle.ldm_relay.specs.declared.message.TheConstants.{LARGEST_BLOCK};
-ghost use Rattle.ldm_upstream.specs.Deeds.{part_of};
-ghost use Rattle.ldm_upstream.specs.Does.{moment_of};
+ghost use Rattle.ldm_upstream.specs.ProductDeeds.{part_of};
+ghost use Rattle.ldm_sender.specs.Does.{moment_of};
 ghost use Rattle.ldm_upstream.specs.Giving.{given_of, GivesWhole, GivesBlock, GivesBlocks};
 
 use crate::body::{append_body, append_part, append_zeros};
-use crate::end::FeedEnd;
-use crate::standing::{Standing, count_call};
 use ldm_outside::{Clock, Link};
 use ldm_reader::{Held, Reader};
 use ldm_relay::{CallWithBody, LARGEST_BLOCK, write_head};
+use ldm_sender::{SendEnd, Standing, count_call};
 use ldm_session::send_where_full;
 use ldm_shared::{Pass, Shared};
 use std::sync::Wait;
@@ -30,7 +29,7 @@ pub(crate) fn give_whole<H: Wait, K: Link, C: Clock>(
     out: &mut Vec<u8>,
     link: &mut K,
     clock: &mut C,
-) -> Result<(), FeedEnd>
+) -> Result<(), SendEnd>
     requires of { IsPassOf shared.now pass.old }
     requires holds { (body : List ℕ) × Holds pass.old reader.now.k held.now body }
     requires short { IsShortProduct held.now.info held.now.info.size }
@@ -67,7 +66,7 @@ pub(crate) fn give_block<H: Wait, K: Link, C: Clock>(
     out: &mut Vec<u8>,
     link: &mut K,
     clock: &mut C,
-) -> Result<(), FeedEnd>
+) -> Result<(), SendEnd>
     requires of { IsPassOf shared.now pass.old }
     requires holds { (body : List ℕ) × Holds pass.old reader.now.k held.now body }
     requires within { offset + len ≤ held.now.info.size }
@@ -105,7 +104,7 @@ pub(crate) fn give_blocks<H: Wait, K: Link, C: Clock>(
     out: &mut Vec<u8>,
     link: &mut K,
     clock: &mut C,
-) -> Result<(), FeedEnd>
+) -> Result<(), SendEnd>
     requires of { IsPassOf shared.now pass.old }
     requires holds { (body : List ℕ) × Holds pass.old reader.now.k held.now body }
     requires not_closed { IsNotClosed (K.tells link.old) }

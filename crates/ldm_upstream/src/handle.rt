@@ -4,19 +4,17 @@ ghost use Rattle.ldm_outside.specs.Link.{IsNotClosed};
 ghost use Rattle.ldm_relay.specs.Writable.{IsShortProduct};
 ghost use Rattle.ldm_shared.specs.Passes.{IsPassOf, IsSamePass};
 ghost use Rattle.ldm_reader.specs.Reader.{Holds};
-ghost use Rattle.ldm_upstream.specs.Asked.{Asked, IsAskedOf};
-ghost use Rattle.ldm_upstream.specs.Does.{moment_of};
+ghost use Rattle.ldm_sender.specs.Asked.{Asked, IsAskedOf};
+ghost use Rattle.ldm_sender.specs.Does.{moment_of};
 ghost use Rattle.ldm_upstream.specs.Giving.{given_of};
 ghost use Rattle.ldm_upstream.specs.Offering.{Handles, Offers};
 
-use crate::due::is_due;
-use crate::end::FeedEnd;
 use crate::offer::offer;
-use crate::standing::Standing;
 use ldm_class::{ClassMatcher, HostPolicy};
 use ldm_outside::{Clock, Link};
 use ldm_reader::{Held, Reader};
 use ldm_relay::Feedme;
+use ldm_sender::{SendEnd, Standing, is_due};
 use ldm_session::Replies;
 use ldm_shared::{Pass, Shared, Turn};
 use std::sync::Wait;
@@ -36,7 +34,7 @@ pub(crate) fn offer_if_due<H: Wait, K: Link, C: Clock>(
     link: &mut K,
     clock: &mut C,
     replies: &mut Replies,
-) -> Result<(), FeedEnd>
+) -> Result<(), SendEnd>
     requires of { IsPassOf shared.now pass.old }
     requires holds { (body : List ℕ) × Holds pass.old reader.now.k held.now body }
     requires short { IsShortProduct held.now.info held.now.info.size }
@@ -85,7 +83,7 @@ pub(crate) fn handle<H: Wait, K: Link, C: Clock>(
     link: &mut K,
     clock: &mut C,
     replies: &mut Replies,
-) -> Result<(), FeedEnd>
+) -> Result<(), SendEnd>
     requires of { IsPassOf shared.now pass.old }
     requires holds { (body : List ℕ) × Holds pass.old reader.now.k held body }
     requires short { IsShortProduct held.info held.info.size }
@@ -106,6 +104,6 @@ pub(crate) fn handle<H: Wait, K: Link, C: Clock>(
     )?;
     match reader.release(shared, rt, pass, held) {
         Turn::Done(()) => Ok(()),
-        Turn::Worn { .. } => Err(FeedEnd::Worn),
+        Turn::Worn { .. } => Err(SendEnd::Worn),
     }
 }

@@ -6,24 +6,15 @@
 #![tactic(auto)]
 
 mod announcing;
-mod answer;
 mod body;
 mod course;
-mod declining;
-mod due;
-mod end;
 mod examples;
 mod feeding;
 mod give;
 mod handle;
-mod idle;
 mod offer;
 mod one_turn;
-mod opening;
-mod standing;
 
-pub use due::is_due;
-pub use end::FeedEnd;
 pub use examples::worked_examples;
 pub use feeding::feed;
-pub use opening::{feeds_of, start_at};
+pub use ldm_sender::{SendEnd as FeedEnd, feeds_of, is_due, start_at};

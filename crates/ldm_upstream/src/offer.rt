@@ -4,19 +4,18 @@ ghost use Rattle.ldm_outside.specs.Link.{IsNotClosed};
 ghost use Rattle.ldm_relay.specs.Writable.{IsShortProduct};
 ghost use Rattle.ldm_shared.specs.Passes.{IsPassOf, IsSamePass};
 ghost use Rattle.ldm_reader.specs.Reader.{Holds};
-ghost use Rattle.ldm_upstream.specs.Asked.{Asked};
-ghost use Rattle.ldm_upstream.specs.Does.{moment_of};
+ghost use Rattle.ldm_sender.specs.Asked.{Asked};
+ghost use Rattle.ldm_sender.specs.Does.{moment_of};
 ghost use Rattle.ldm_upstream.specs.Giving.{given_of};
 ghost use Rattle.ldm_upstream.specs.Turns.{IsDue};
 ghost use Rattle.ldm_upstream.specs.Offering.{Offers};
 
 use crate::announcing::announce;
-use crate::end::FeedEnd;
 use crate::give::{give_blocks, give_whole};
-use crate::standing::Standing;
 use ldm_outside::{Clock, Link};
 use ldm_reader::{Held, Reader};
 use ldm_relay::SoonAnswer;
+use ldm_sender::{SendEnd, Standing};
 use ldm_session::Replies;
 use ldm_shared::{Pass, Shared};
 use std::sync::Wait;
@@ -34,7 +33,7 @@ pub(crate) fn offer<H: Wait, K: Link, C: Clock>(
     link: &mut K,
     clock: &mut C,
     replies: &mut Replies,
-) -> Result<(), FeedEnd>
+) -> Result<(), SendEnd>
     requires of { IsPassOf shared.now pass.old }
     requires holds { (body : List ℕ) × Holds pass.old reader.now.k held.now body }
     requires short { IsShortProduct held.now.info held.now.info.size }

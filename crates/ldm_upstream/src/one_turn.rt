@@ -5,19 +5,17 @@ ghost use Rattle.ldm_book.specs.Limits.{IsGoodArena};
 ghost use Rattle.ldm_shared.specs.Passes.{IsPassOf, IsSamePass};
 ghost use Rattle.ldm_reader.specs.Reader.{HasCursor};
 ghost use Rattle.ldm_session.specs.declared.gaps.TheConstants.{LONGEST_NAME};
-ghost use Rattle.ldm_upstream.specs.Asked.{Asked, IsAskedOf};
-ghost use Rattle.ldm_upstream.specs.Acts.{situation_of};
-ghost use Rattle.ldm_upstream.specs.Does.{moment_of};
+ghost use Rattle.ldm_sender.specs.Asked.{Asked, IsAskedOf};
+ghost use Rattle.ldm_sender.specs.Acts.{situation_of};
+ghost use Rattle.ldm_sender.specs.Does.{moment_of};
 ghost use Rattle.ldm_upstream.specs.Course.{TurnsBy};
 
-use crate::end::FeedEnd;
 use crate::handle::handle;
-use crate::idle::wait_idle;
-use crate::standing::Standing;
 use ldm_class::{ClassMatcher, HostPolicy};
 use ldm_outside::{Clock, Gate, Link, Sink};
 use ldm_reader::{Came, Reader, products_stay};
 use ldm_relay::Feedme;
+use ldm_sender::{SendEnd, Standing, wait_idle};
 use ldm_session::{Replies, write_gap};
 use ldm_shared::{Pass, Shared, Turn};
 use std::sync::Wait;
@@ -38,7 +36,7 @@ pub(crate) fn turn<H: Wait, K: Link, E: Sink, C: Clock, G: Gate>(
     clock: &mut C,
     gate: &mut G,
     replies: &mut Replies,
-) -> Result<(), FeedEnd>
+) -> Result<(), SendEnd>
     requires of { IsPassOf shared.now pass.old }
     requires cursor { HasCursor pass.old reader.now.k None }
     requires arena { IsGoodArena shared.now.arena }
@@ -65,6 +63,6 @@ pub(crate) fn turn<H: Wait, K: Link, E: Sink, C: Clock, G: Gate>(
             rt, shared, reader, pass, held, ask, class, rules, standing, out, link, clock, replies,
         ),
         Turn::Done(Came::End { .. }) => wait_idle(standing, out, link, clock, gate),
-        Turn::Worn { .. } => Err(FeedEnd::Worn),
+        Turn::Worn { .. } => Err(SendEnd::Worn),
     }
 }

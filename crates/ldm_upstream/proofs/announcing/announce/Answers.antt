@@ -4,14 +4,15 @@ use Rattle.ldm_types.specs.Info.{Metadata}
 use Rattle.ldm_relay.specs.Sent as sent
 use Rattle.ldm_relay.specs.Spelling.{written, record_of}
 use Rattle.ldm_shared.proofs.Made.{calls_none}
-use Rattle.ldm_upstream.specs.declared.end.FeedEnd.TheVariants as end
+use Rattle.ldm_sender.specs.declared.end.SendEnd.TheVariants as end
 use Rattle.ldm_upstream.specs.Turn.{Declined, announcement}
-use Rattle.ldm_upstream.specs.Deeds.{no_deed, handling_deed}
-use Rattle.ldm_upstream.specs.Does.{moment_of}
+use Rattle.ldm_sender.specs.Deeds.{no_deed}
+use Rattle.ldm_upstream.specs.ProductDeeds.{handling_deed}
+use Rattle.ldm_sender.specs.Does.{moment_of}
 use Rattle.ldm_upstream.specs.Giving.{given_of}
 use Rattle.ldm_upstream.proofs.Announced.{announced, unanswered, unheard}
-use Rattle.ldm_upstream.proofs.Doing.{breaks_then, nothing_done, send_failed}
-use Rattle.ldm_upstream.proofs.Messaging.{gathers, then_sent}
+use Rattle.ldm_sender.proofs.Doing.{breaks_then, nothing_done, send_failed}
+use Rattle.ldm_sender.proofs.Messaging.{gathers, then_sent}
 use Rattle.ldm_upstream.proofs.announcing.announce.Goals as goal
 
 pub returns-in_err-write_message-clause-announces : goal.returns-in_err-write_message-clause-announces

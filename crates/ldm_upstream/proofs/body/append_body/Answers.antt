@@ -3,11 +3,11 @@ use Rattle.std.proofs.lemmas.Result.{err_from_is_err_and}
 use Rattle.ldm_outside.specs.Clock.{ClockRecord}
 use Rattle.ldm_shared.specs.Passes.{PassView}
 use Rattle.ldm_reader.specs.Reader.{Holds}
-use Rattle.ldm_upstream.specs.Deeds.{reading_all}
-use Rattle.ldm_upstream.specs.Does.{moment_of}
+use Rattle.ldm_upstream.specs.ProductDeeds.{reading_all}
+use Rattle.ldm_sender.specs.Does.{moment_of}
 use Rattle.ldm_upstream.specs.Giving.{given_of}
 use Rattle.ldm_upstream.proofs.Blocks.{IsBlockAt}
-use Rattle.ldm_upstream.proofs.Doing.{all_left, toward_then}
+use Rattle.ldm_sender.proofs.Doing.{all_left, toward_then}
 use Rattle.ldm_upstream.proofs.Reading.{body_read, part_gathered, part_goes_on, reading_fails, reading_from, sending_fails}
 use Rattle.ldm_upstream.proofs.body.append_body.Goals as goal
 

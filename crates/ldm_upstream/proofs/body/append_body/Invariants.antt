@@ -3,9 +3,9 @@ use Rattle.ldm_outside.specs.Clock.{ClockRecord}
 use Rattle.ldm_outside.specs.Link.{IsNotClosed}
 use Rattle.ldm_shared.specs.Passes.{IsSamePass}
 use Rattle.ldm_reader.specs.Reader.{Holds}
-use Rattle.ldm_upstream.specs.Deeds.{reading_all}
-use Rattle.ldm_upstream.specs.Does.{moment_of}
-use Rattle.ldm_upstream.proofs.Doing.{Toward}
+use Rattle.ldm_upstream.specs.ProductDeeds.{reading_all}
+use Rattle.ldm_sender.specs.Does.{moment_of}
+use Rattle.ldm_sender.proofs.Doing.{Toward}
 use Rattle.ldm_upstream.proofs.Reading.{reading_from}
 use Rattle.ldm_upstream.proofs.body.append_body.Given as goal
 

@@ -1,5 +1,5 @@
 use Rattle.std.proofs.Common.{◌≡◌, ◌∙◌, length, arith}
-use Rattle.ldm_upstream.specs.Deeds.{part_of}
+use Rattle.ldm_upstream.specs.ProductDeeds.{part_of}
 use Rattle.ldm_upstream.proofs.Blocks.{length_part}
 use Rattle.ldm_upstream.proofs.Reading.{asks_for_part, part_appended, part_read, room_made}
 use Rattle.ldm_upstream.proofs.body.append_part.Goals as goal

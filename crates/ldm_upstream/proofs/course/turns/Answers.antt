@@ -1,6 +1,7 @@
 use Rattle.std.proofs.Common.{◌∙◌, length, ap, arith}
 use Rattle.ldm_class.specs.HostRules.{HostRules}
-use Rattle.ldm_upstream.proofs.Coursing.{of_same, same_then, course_begins, course_goes_on, course_ends}
+use Rattle.ldm_sender.proofs.Steps.{of_same, same_then}
+use Rattle.ldm_upstream.proofs.Coursing.{course_begins, course_goes_on, course_ends}
 use Rattle.ldm_upstream.proofs.course.turns.Goals as goal
 
 pub loop-init : goal.loop-init

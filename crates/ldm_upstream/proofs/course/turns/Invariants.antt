@@ -1,5 +1,5 @@
-use Rattle.ldm_upstream.specs.Acts.{situation_of}
-use Rattle.ldm_upstream.specs.Does.{moment_of}
+use Rattle.ldm_sender.specs.Acts.{situation_of}
+use Rattle.ldm_sender.specs.Does.{moment_of}
 use Rattle.ldm_upstream.proofs.Coursing.{KeepsCourse}
 use Rattle.ldm_upstream.proofs.course.turns.Given as goal
 

@@ -2,23 +2,24 @@ use Rattle.std.proofs.Common.{◌∙◌, sym, ap, refl}
 use Rattle.ldm_class.specs.HostRules.{HostRules}
 use Rattle.ldm_relay.specs.declared.message.ClassAnswer.TheVariants as class_answer
 use Rattle.ldm_shared.proofs.Made.{calls_some}
-use Rattle.ldm_upstream.specs.Asked.{asked_of}
-use Rattle.ldm_upstream.specs.Opening.{Busy}
-use Rattle.ldm_upstream.proofs.Unfed.{busy_fed, decline_breaks, worn_first_fed, short_fed}
-use Rattle.ldm_upstream.proofs.Emptied.{does_from_empty, breaks_from_empty}
+use Rattle.ldm_sender.specs.Asked.{asked_of}
+use Rattle.ldm_sender.specs.Opening.{Busy}
+use Rattle.ldm_sender.proofs.Unturned.{busy, answer_breaks, worn_first, short}
+use Rattle.ldm_upstream.proofs.Unfed.{unfed}
+use Rattle.ldm_sender.proofs.Emptied.{does_from_empty, breaks_from_empty}
 use Rattle.ldm_upstream.proofs.feeding.feed_class.Goals as goal
 
 pub returns-in_default-clause-fed : goal.returns-in_default-clause-fed
-returns-in_default-clause-fed g c = short_fed _ _ _ _ _ _ c.requires.not_closed
+returns-in_default-clause-fed g c = unfed _ _ _ _ _ _ (short _ _ _ _ _ _ c.requires.not_closed)
 
 pub returns-in_default-matcher-clause-fed : goal.returns-in_default-matcher-clause-fed
-returns-in_default-matcher-clause-fed g c = short_fed _ _ _ _ _ _ c.requires.not_closed
+returns-in_default-matcher-clause-fed g c = unfed _ _ _ _ _ _ (short _ _ _ _ _ _ c.requires.not_closed)
 
 pub returns-in_default-for_host-clause-fed : goal.returns-in_default-for_host-clause-fed
-returns-in_default-for_host-clause-fed g c = short_fed _ _ _ _ _ _ c.requires.not_closed
+returns-in_default-for_host-clause-fed g c = unfed _ _ _ _ _ _ (short _ _ _ _ _ _ c.requires.not_closed)
 
 pub returns-in_default-create-clause-fed : goal.returns-in_default-create-clause-fed
-returns-in_default-create-clause-fed g c = short_fed _ _ _ _ _ _ c.requires.not_closed
+returns-in_default-create-clause-fed g c = unfed _ _ _ _ _ _ (short _ _ _ _ _ _ c.requires.not_closed)
 
 pub feed_cursor-requires-clause-cursor : goal.feed_cursor-requires-clause-cursor
 feed_cursor-requires-clause-cursor g c =
@@ -43,21 +44,23 @@ pub returns-in-Ok-answer_class-clause-fed : goal.returns-in-Ok-answer_class-clau
 returns-in-Ok-answer_class-clause-fed g c =
     let asked = asked_of c.args.host.now c.args.policy.now c.args.ask.now in
     let at = rw c.in-Done-None.field-0-is at c.in-Done-None.ensures in
-    let busy = at.opens asked (sym c.requires.built) in
+    let found = at.opens asked (sym c.requires.built) in
     let is = c.in-Ok-answer_class.ensures in
-    busy_fed asked c.args.pass.now c.open_for.new.pass _ _ _ _ _ _ c.requires.same busy
-    (c.in-Ok-answer_class.field-0, does_from_empty _ _ _ _ _ _ _ _ c.in-Ok.ensures.empty is.empty (is.answers c.open_for.new.pass))
+    unfed _ asked _ _ _ _
+    (busy asked c.args.pass.now c.open_for.new.pass _ _ _ _ _ _ c.requires.not_closed c.requires.same found
+    (c.in-Ok-answer_class.field-0, does_from_empty _ _ _ _ _ _ _ _ c.in-Ok.ensures.empty is.empty (is.answers c.open_for.new.pass)))
 
 pub returns-in-Done-None-clause-fed : goal.returns-in-Done-None-clause-fed
 returns-in-Done-None-clause-fed g c =
     let asked = asked_of c.args.host.now c.args.policy.now c.args.ask.now in
     let at = rw c.in-Done-None.field-0-is at c.in-Done-None.ensures in
-    let busy = at.opens asked (sym c.requires.built) in
+    let found = at.opens asked (sym c.requires.built) in
     let is = c.in-Err.ensures.answers c.open_for.new.pass in
-    decline_breaks c.in-Err.end asked (Busy busy.missed) c.args.pass.now c.open_for.new.pass _ _ _ _ _ _ (c.requires.same, busy.may_miss) (λ actor. refl)
-    (calls_some _ _ _ busy.makes) (breaks_from_empty c.in-Err.end asked.xid class_answer.Busy _ _ _ _ _ _ _ c.in-Ok.ensures.empty is)
+    unfed _ asked _ _ _ _
+    (answer_breaks c.in-Err.end asked (Busy found.missed) c.args.pass.now c.open_for.new.pass _ _ _ _ _ _ c.requires.not_closed (c.requires.same, found.may_miss) (λ actor. refl)
+    (calls_some _ _ _ found.makes) (breaks_from_empty c.in-Err.end asked.xid class_answer.Busy _ _ _ _ _ _ _ c.in-Ok.ensures.empty is))
 
 pub returns-clause-fed : goal.returns-clause-fed
 returns-clause-fed g c =
     let asked = asked_of c.args.host.now c.args.policy.now c.args.ask.now in
-    worn_first_fed asked c.args.pass.now c.open_for.new.pass _ _ _ _ c.requires.not_closed c.requires.same (c.in-Worn.ensures.opens asked (sym c.requires.built))
+    unfed _ asked _ _ _ _ (worn_first asked c.args.pass.now c.open_for.new.pass _ _ _ _ c.requires.not_closed c.requires.same (c.in-Worn.ensures.opens asked (sym c.requires.built)))

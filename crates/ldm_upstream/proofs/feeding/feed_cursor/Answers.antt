@@ -3,12 +3,14 @@ use Rattle.ldm_outside.specs.Link.{LinkRecord}
 use Rattle.ldm_outside.specs.Session.{SessionRecord, KeepsFaults}
 use Rattle.ldm_shared.specs.Passes.{PassView}
 use Rattle.ldm_shared.proofs.Made.{calls_none}
-use Rattle.ldm_upstream.specs.declared.end.FeedEnd.TheVariants as end
-use Rattle.ldm_upstream.specs.Acts.{situation_of}
-use Rattle.ldm_upstream.specs.Does.{moment_of}
-use Rattle.ldm_upstream.specs.Opening.{Opened}
-use Rattle.ldm_upstream.specs.Feeds.{Feeds, session_of}
-use Rattle.ldm_upstream.proofs.Closing.{begins, cause_moves, closing_calls, feeds, left_closed, left_open, worn_at_close}
+use Rattle.ldm_sender.specs.declared.end.SendEnd.TheVariants as end
+use Rattle.ldm_sender.specs.Acts.{situation_of}
+use Rattle.ldm_sender.specs.Does.{moment_of}
+use Rattle.ldm_sender.specs.Opening.{Answered, Opened}
+use Rattle.ldm_upstream.specs.Feeds.{Feeds}
+use Rattle.ldm_sender.specs.Ending.{IsEndOf, session_of}
+use Rattle.ldm_sender.proofs.Settling.{begins, cause_moves, closing_calls, left_closed, left_open}
+use Rattle.ldm_upstream.proofs.Closing.{feeds, worn_at_close}
 use Rattle.ldm_upstream.proofs.feeding.feed_cursor.Goals as goal
 
 pub returns-in-Worn-close : goal.returns-in-Worn-close
@@ -35,7 +37,7 @@ returns-in-Worn-close g c =
           let fed = worn_at_close why asked (Opened missed k) (begins first link0 clock0 log0 gate0) pass final link clock out log gate c.in-Worn-close.turns law
           (c.feed_turns-end.ensures.fed asked missed first asked_is most xid answer makes empty heard) c.in-Worn-close.ensures.worn in
           feeds end.Worn asked (Opened missed k) first link0 clock0 log0 gate0 (situation_of (moment_of final link clock out) log gate) final link.closed law fed (calls_none final)
-          c.feed_turns-end.ensures.still_open fed.cause;
+          c.feed_turns-end.ensures.still_open (c.in-Worn-close.ensures.worn.long ∙ c.in-Worn-close.ensures.worn.turns_are);
     }
 
 pub returns-in-Stopped : goal.returns-in-Stopped
@@ -66,7 +68,7 @@ returns-in-Stopped g c =
           subst P (sym c.close-in-Stopped.ensures)
           (feeds why asked (Opened missed k) first link0 clock0 log0 gate0 new final true law fed
           (closing_calls why first pass final missed k c.in_default.not-Worn (ap (λ (p : PassView). p.actor) c.feed_turns-end.ensures.kept ∙ ap (λ (p : PassView). p.actor) makes.same) c.in_default-close.ensures.done) (left_closed why link c.in-Stopped.is)
-          (cause_moves why fed.feeding pass final before (session_of new) c.in_default.not-Worn fed.cause));
+          (subst (λ (a : Answered). IsEndOf why a final before (session_of new)) fed.is_answered (cause_moves why fed.feeding.answered pass final before (session_of new) c.in_default.not-Worn fed.cause)));
     }
 
 pub returns-in_default-end : goal.returns-in_default-end
@@ -95,5 +97,5 @@ returns-in_default-end g c =
           feeds why asked (Opened missed k) first link0 clock0 log0 gate0 new final link.closed law fed
           (closing_calls why first pass final missed k c.in_default.not-Worn (ap (λ (p : PassView). p.actor) c.feed_turns-end.ensures.kept ∙ ap (λ (p : PassView). p.actor) makes.same) c.in_default-close.ensures.done)
           (left_open why link c.in_default-end.not-Stopped c.feed_turns-end.ensures.still_open)
-          (cause_moves why fed.feeding pass final before (session_of new) c.in_default.not-Worn fed.cause);
+          (subst (λ (a : Answered). IsEndOf why a final before (session_of new)) fed.is_answered (cause_moves why fed.feeding.answered pass final before (session_of new) c.in_default.not-Worn fed.cause));
     }

@@ -1,13 +1,13 @@
 use Rattle.std.proofs.Common.{[], sym, subst, refl, List, ℕ}
 use Rattle.ldm_relay.specs.declared.message.ClassAnswer.TheVariants as class_answer
 use Rattle.ldm_shared.proofs.Made.{calls_some}
-use Rattle.ldm_upstream.specs.Asked.{Asked}
-use Rattle.ldm_upstream.specs.Acts.{situation_of}
-use Rattle.ldm_upstream.specs.Answering.{answer_deed}
-use Rattle.ldm_upstream.specs.Does.{moment_of, Does, Breaks}
-use Rattle.ldm_upstream.specs.Giving.{StopsGiving}
-use Rattle.ldm_upstream.specs.Opening.{Opened}
-use Rattle.ldm_upstream.proofs.Fed.{turns_fed, answer_broke}
+use Rattle.ldm_sender.specs.Asked.{Asked}
+use Rattle.ldm_sender.specs.Acts.{situation_of}
+use Rattle.ldm_sender.specs.Answering.{answer_deed}
+use Rattle.ldm_sender.specs.Does.{moment_of, Does, Breaks}
+use Rattle.ldm_sender.specs.Stopping.{StopsSending}
+use Rattle.ldm_sender.specs.Opening.{Opened}
+use Rattle.ldm_upstream.proofs.Fed.{turns_fed, answer_broke_fed}
 use Rattle.ldm_upstream.proofs.feeding.feed_turns.Goals as goal
 
 pub returns-clause-fed : goal.returns-clause-fed
@@ -60,6 +60,6 @@ returns-in-Err-clause-fed g c = λ asked missed first asked_is most xid answer m
     let answers = c.in-Err.ensures.answers pass in
     let breaks = subst (λ (x : ℕ). Breaks [] (moment_of pass link clock []) new (answer_deed x class_answer.Ok answers.0)) (sym xid)
     (subst (λ (o : List ℕ). Breaks [] (moment_of pass link clock o) new (answer_deed c.args.ask.now.xid class_answer.Ok answers.0)) empty answers.1) in
-    let stops = subst (λ (o : List ℕ). StopsGiving c.in-Err.end (moment_of pass link clock o) new) empty answers.2 in
-    answer_broke c.in-Err.end asked (Opened missed c.args.reader.now.k) answers.0 first pass link (tells c.answer_class.new.link) clock (clock_tells c.answer_class.new.clock)
+    let stops = subst (λ (o : List ℕ). StopsSending c.in-Err.end (moment_of pass link clock o) new) empty answers.2 in
+    answer_broke_fed c.in-Err.end asked (Opened missed c.args.reader.now.k) answers.0 first pass link (tells c.answer_class.new.link) clock (clock_tells c.answer_class.new.clock)
     c.answer_class.new.out.items (g.E.Sink.tells c.args.log.now) (g.G.Gate.tells c.args.gate.now) c.requires.not_closed answer (calls_some first pass _ makes) breaks stops

@@ -2,11 +2,11 @@ use Rattle.std.proofs.Common.{◌≡◌, ◌∙◌, ℕ, List, [], ◌∷◌, �
 use Rattle.std.proofs.lemmas.Result.{err_from_is_err_and}
 use Rattle.ldm_relay.specs.Sent as sent
 use Rattle.ldm_relay.specs.Spelling.{written, record_of}
-use Rattle.ldm_upstream.specs.Deeds.{part_of, read_entry}
-use Rattle.ldm_upstream.specs.Does.{moment_of}
+use Rattle.ldm_upstream.specs.ProductDeeds.{part_of, read_entry}
+use Rattle.ldm_sender.specs.Does.{moment_of}
 use Rattle.ldm_upstream.specs.Giving.{given_of, one_block_deed}
 use Rattle.ldm_upstream.proofs.Blocks.{length_part}
-use Rattle.ldm_upstream.proofs.Doing.{all_left}
+use Rattle.ldm_sender.proofs.Doing.{all_left}
 use Rattle.ldm_upstream.proofs.Reading.{reading_fails, sending_fails}
 use Rattle.ldm_upstream.proofs.Sending.{block_at, body_gathered, head_gathered, message_deed, message_given, no_memory, part_done, whole_gathered}
 use Rattle.ldm_upstream.proofs.give.give_block.Goals as goal

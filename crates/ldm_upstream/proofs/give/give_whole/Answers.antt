@@ -2,12 +2,12 @@ use Rattle.std.proofs.Common.{◌≡◌, ◌∙◌, ℕ, List, [], ◌++◌, ap,
 use Rattle.std.proofs.lemmas.Result.{err_from_is_err_and}
 use Rattle.ldm_relay.specs.Sent as sent
 use Rattle.ldm_relay.specs.Spelling.{written, record_of}
-use Rattle.ldm_upstream.specs.Deeds.{handling_deed, reading_all}
-use Rattle.ldm_upstream.specs.Does.{moment_of}
+use Rattle.ldm_upstream.specs.ProductDeeds.{handling_deed, reading_all}
+use Rattle.ldm_sender.specs.Does.{moment_of}
 use Rattle.ldm_upstream.specs.Giving.{given_of}
 use Rattle.ldm_upstream.specs.Blocks.{blocks, reads}
 use Rattle.ldm_upstream.specs.Turn.{Whole}
-use Rattle.ldm_upstream.proofs.Doing.{all_left}
+use Rattle.ldm_sender.proofs.Doing.{all_left}
 use Rattle.ldm_upstream.proofs.Reading.{sending_fails}
 use Rattle.ldm_upstream.proofs.Sending.{breaks_off_then, body_gathered, head_gathered, message_deed, message_given, no_memory, whole_gathered}
 use Rattle.ldm_upstream.proofs.give.give_whole.Goals as goal

@@ -1,6 +1,6 @@
 use Rattle.std.proofs.Common.{refl}
 use Rattle.std.proofs.lemmas.Result.{err_from_is_err_and}
-use Rattle.ldm_upstream.specs.Asked.{Asked}
+use Rattle.ldm_sender.specs.Asked.{Asked}
 use Rattle.ldm_upstream.proofs.Releasing.{ended_before, let_it_go, worn_before}
 use Rattle.ldm_upstream.proofs.handle.handle.Goals as goal
 

@@ -1,7 +1,7 @@
 use Rattle.std.proofs.Common.{◌∙◌, sym}
 use Rattle.ldm_upstream.specs.Giving.{given_of}
 use Rattle.ldm_upstream.proofs.Offers.{offers_nothing}
-use Rattle.ldm_upstream.proofs.Releasing.{does_nothing}
+use Rattle.ldm_sender.proofs.Steps.{does_nothing}
 use Rattle.ldm_upstream.proofs.handle.offer_if_due.Goals as goal
 
 pub returns-then-is_due-clause-offers : goal.returns-then-is_due-clause-offers

@@ -1,7 +1,7 @@
 use Rattle.std.proofs.Common.{subst, arith}
 use Rattle.std.proofs.lemmas.Result.{err_from_is_err_and}
 use Rattle.ldm_relay.specs.declared.message.SoonAnswer.{SoonAnswer}
-use Rattle.ldm_upstream.specs.Does.{moment_of}
+use Rattle.ldm_sender.specs.Does.{moment_of}
 use Rattle.ldm_upstream.specs.Giving.{given_of}
 use Rattle.ldm_upstream.specs.Offering.{Announced}
 use Rattle.ldm_upstream.proofs.Offers.{offers_whole, offer_unanswered, offer_declined, offer_in_blocks}

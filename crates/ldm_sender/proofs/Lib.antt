@@ -1,0 +1,11 @@
+mod Starts
+mod Beginning
+pub mod Doing
+pub mod Acting
+pub mod Messaging
+mod Waiting
+pub mod Emptied
+pub mod Steps
+pub mod Opened
+pub mod Settling
+pub mod Unturned

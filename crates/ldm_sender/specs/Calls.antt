@@ -1,0 +1,13 @@
+-- The numbers of a sending end's calls on the link, and the steps of its cursor.
+use Rattle.std.specs.Prelude.{ℕ, ◌+◌, ◌%◌, ◌^◌}
+use Rattle.ldm_model.specs.declared.event.Event.TheVariants.{Step}
+use Rattle.ldm_model.specs.declared.event.Reply.{Reply}
+use Rattle.ldm_model.specs.declared.event.Entry.{Entry}
+
+-- the number of the call that comes so many calls later
+abbrev pub later_call : ℕ → ℕ → ℕ
+later_call next calls = (next + calls) % 2 ^ 32
+
+-- a step of the cursor at that place, and its answer
+abbrev pub stepped : ℕ → ℕ → Reply → Entry
+stepped actor k answer = record { actor = actor; event = Step k; reply = answer }

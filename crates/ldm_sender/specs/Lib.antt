@@ -1,0 +1,12 @@
+pub mod Asked
+pub mod Due
+pub mod Opening
+pub mod Calls
+pub mod Deeds
+pub mod Does
+pub mod NoReplyEnd
+pub mod Acts
+pub mod Stopping
+pub mod Answering
+pub mod Idling
+pub mod Ending
