@@ -1,5 +1,5 @@
 -- How a session begins: the calls that open its cursor, and the answer to the request.
-use Rattle.std.proofs.Common.{◌≡◌, ◌∙◌, ℕ, List, [], ◌++◌, Bool, true, false, Option, Some, None, refl, sym, ap, subst, append-nil}
+use Rattle.std.proofs.Common.{◌≡◌, ◌∙◌, ℕ, List, [], Bool, true, false, Option, Some, None, refl, sym, ap, subst, append-nil}
 use Rattle.ldm_class.specs.Classes.{resumed}
 use Rattle.ldm_model.specs.declared.event.Reply.TheVariants as reply
 use Rattle.ldm_model.specs.declared.event.Entry.{Entry}
@@ -21,7 +21,7 @@ use Rattle.ldm_sender.specs.Answering.{answer_deed}
 use Rattle.ldm_sender.specs.Stopping.{StopsSending}
 use Rattle.ldm_sender.specs.Deeds.{Deed, and_then}
 use Rattle.ldm_sender.specs.Does.{Moment, moment_of, Does, Breaks, KeepsLink}
-use Rattle.ldm_sender.specs.Acts.{Situation, situation_of, Act, then_act, ungated, Acts, BreaksAct, EndsAct, is_whole, IsAllSent}
+use Rattle.ldm_sender.specs.Acts.{Situation, situation_of, Act, then_act, ungated, Acts, BreaksAct, EndsAct, is_whole}
 use Rattle.ldm_sender.specs.Ending.{IsEndOf, StopsTurns, session_of}
 use Rattle.ldm_sender.proofs.Acting.{acts_of, acts_break, acts_end, breaks_act_of, breaks_act_before}
 use Rattle.ldm_sender.proofs.Doing.{does_then, keeps_link, exchanged_nothing}

@@ -1,5 +1,5 @@
 -- A session that makes no turn: the request is declined, or it ends before it is answered.
-use Rattle.std.proofs.Common.{◌≡◌, ◌∙◌, ℕ, List, [], ◌++◌, Bool, true, false, refl, sym, ap, subst, append-nil}
+use Rattle.std.proofs.Common.{◌≡◌, ◌∙◌, ℕ, List, [], ◌++◌, false, refl, sym, ap, subst, append-nil}
 use Rattle.std.specs.Prelude.{Ok, Err}
 use Rattle.ldm_types.specs.declared.class.ClassSpec.{ClassSpec}
 use Rattle.ldm_class.specs.Access.{reduce}
@@ -19,15 +19,15 @@ use Rattle.ldm_sender.specs.declared.end.SendEnd.{SendEnd}
 use Rattle.ldm_sender.specs.declared.end.SendEnd.TheVariants as end
 use Rattle.ldm_sender.specs.Asked.{Asked}
 use Rattle.ldm_sender.specs.Opening.{Answered, Denied, Reclassed, Busy, IsAnswerTo, class_answer_of, closing_entries, opening_entries}
-use Rattle.ldm_sender.specs.Answering.{FindsBusy, FindsWornFirst, Declines, answer_deed}
-use Rattle.ldm_sender.specs.Does.{moment_of, Breaks, Does}
-use Rattle.ldm_sender.specs.Acts.{Situation, situation_of, Act, Acts, BreaksAct, EndsAct, IsAllSent, is_whole}
-use Rattle.ldm_sender.specs.Ending.{IsEndOf, IsLeft, closing_of, session_of}
+use Rattle.ldm_sender.specs.Answering.{FindsBusy, FindsWornFirst, Declines}
+use Rattle.ldm_sender.specs.Does.{moment_of, Breaks}
+use Rattle.ldm_sender.specs.Acts.{Situation, situation_of, BreaksAct, EndsAct, IsAllSent, is_whole}
+use Rattle.ldm_sender.specs.Ending.{IsEndOf, IsLeft, closing_of}
 use Rattle.ldm_sender.proofs.Acting.{breaks_act_of, breaks_same}
 use Rattle.ldm_sender.proofs.Doing.{exchanged_nothing, keeps_link, nothing_done}
 use Rattle.ldm_sender.proofs.Opened.{AnswerBroke, answer_broke, beginning, beginning_done, opening_silent}
 use Rattle.ldm_sender.proofs.Settling.{Settles, begins, settles}
-use Rattle.ldm_sender.proofs.Steps.{none_in_front, silent_part, then_act-none}
+use Rattle.ldm_sender.proofs.Steps.{silent_part, then_act-none}
 
 -- the ends at which no reply was owed, and no turn is told of
 abbrev pub IsQuit : SendEnd → Type 0
