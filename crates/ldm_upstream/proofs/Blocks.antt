@@ -4,7 +4,6 @@ use Rattle.std.proofs.lemmas.List.{take-append-drop, length-take-le, drop-drop, 
 use Rattle.std.proofs.lemmas.Bool.{cases_lt}
 use Rattle.std.proofs.Math.ListN.{drop_of_length-le}
 use Rattle.ldm_relay.specs.declared.message.TheConstants.{LARGEST_BLOCK}
-use Rattle.ldm_relay.specs.Sent.{Sent}
 use Rattle.ldm_relay.specs.Sent as sent
 use Rattle.ldm_upstream.specs.Blocks.{cut, count_blocks, blocks, reads}
 use Rattle.ldm_sender.specs.Calls.{later_call}

@@ -1,5 +1,5 @@
 -- What a call that feeds comes to, once its cursor is closed.
-use Rattle.std.proofs.Common.{◌≡◌, ◌∙◌, ℕ, List, [], Bool, refl, sym, subst}
+use Rattle.std.proofs.Common.{◌∙◌, ℕ, List, [], Bool, refl, sym, subst}
 use Rattle.ldm_outside.specs.Io.{SinkRecord}
 use Rattle.ldm_outside.specs.Gate.{GateRecord}
 use Rattle.ldm_outside.specs.Clock.{ClockRecord}

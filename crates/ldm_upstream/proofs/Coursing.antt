@@ -1,10 +1,10 @@
 -- The loop over turns: what it keeps.
-use Rattle.std.proofs.Common.{◌≡◌, ◌∙◌, ℕ, [], None, refl, sym, ap, append-nil}
+use Rattle.std.proofs.Common.{◌≡◌, ◌∙◌, ℕ, [], None, refl, append-nil}
 use Rattle.ldm_types.specs.declared.class.ClassSpec.{ClassSpec}
 use Rattle.ldm_class.specs.HostRules.{HostRules}
 use Rattle.ldm_outside.specs.Link.{IsNotClosed}
 use Rattle.ldm_outside.proofs.CallerLemmas.{Takes-nothing}
-use Rattle.ldm_shared.specs.Passes.{SharedView, PassView, IsPassOf, IsSamePass}
+use Rattle.ldm_shared.specs.Passes.{IsSamePass}
 use Rattle.ldm_shared.proofs.Made.{calls_none}
 use Rattle.ldm_reader.specs.Reader.{HasCursor}
 use Rattle.ldm_session.specs.declared.replies.Replies.{Replies}

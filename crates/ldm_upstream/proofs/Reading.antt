@@ -19,7 +19,6 @@ use Rattle.ldm_sender.specs.Deeds.{Deed, no_deed}
 use Rattle.ldm_upstream.specs.ProductDeeds.{part_of, read_entry, reading_all}
 use Rattle.ldm_sender.specs.Does.{Moment, moment_of}
 use Rattle.ldm_upstream.specs.Giving.{HoldsGiven, BreaksOff, GoesOn, AppendsPart, FailsToRead}
-use Rattle.ldm_sender.specs.Stopping.{KeepsCursor}
 use Rattle.ldm_upstream.proofs.Blocks.{IsBlockAt, reads_from, rest_of_body, nothing_left, no_blocks}
 use Rattle.ldm_sender.proofs.Doing.{Toward, toward_then, toward_same, all_done, breaks_then, nothing_done, some_sent, send_failed, keeps_link, exchanged_nothing}
 

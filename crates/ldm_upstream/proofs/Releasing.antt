@@ -1,25 +1,23 @@
 -- A product that was offered is let go.
 use Rattle.std.proofs.Common.{◌≡◌, ◌∙◌, ℕ, List, [], ◌∷◌, ◌++◌, Bool, true, false, None, refl, ap, subst, append-nil}
-use Rattle.ldm_model.specs.declared.event.Entry.{Entry}
 use Rattle.ldm_outside.specs.Clock.{ClockRecord}
 use Rattle.ldm_outside.specs.Link.{LinkRecord, IsNotClosed}
 use Rattle.ldm_shared.specs.Passes.{PassView, Makes, FindsWorn}
-use Rattle.ldm_shared.proofs.Made.{calls_none, calls_some}
+use Rattle.ldm_shared.proofs.Made.{calls_some}
 use Rattle.ldm_reader.specs.Reader.{HasCursor}
 use Rattle.ldm_session.specs.declared.replies.Replies.{Replies}
-use Rattle.ldm_session.proofs.CallerLemmas.{AnsweredAll-nothing}
 use Rattle.ldm_sender.proofs.Steps.{one_call}
 use Rattle.ldm_sender.specs.declared.end.SendEnd.{SendEnd}
 use Rattle.ldm_sender.specs.declared.end.SendEnd.TheVariants as end
 use Rattle.ldm_sender.specs.declared.standing.Standing.{Standing}
 use Rattle.ldm_sender.specs.Asked.{Asked}
 use Rattle.ldm_upstream.specs.Turn.{Given, let_go, after_handling, handling_codes}
-use Rattle.ldm_sender.specs.Deeds.{and_then, no_deed, calling}
+use Rattle.ldm_sender.specs.Deeds.{and_then, calling}
 use Rattle.ldm_upstream.specs.ProductDeeds.{handling_deed}
 use Rattle.ldm_sender.specs.Does.{Moment, moment_of, Does, Breaks}
 use Rattle.ldm_sender.specs.Acts.{is_whole}
 use Rattle.ldm_upstream.specs.Offering.{Offered, EndsOfferBy, EndsOffer, Handled, EndsHandlingBy, EndsHandling}
-use Rattle.ldm_sender.proofs.Doing.{does_then, breaks_then, breaks_before, one_done, nothing_done, keeps_link, exchanged_nothing}
+use Rattle.ldm_sender.proofs.Doing.{does_then, breaks_then, breaks_before, one_done, nothing_done}
 use Rattle.ldm_upstream.proofs.Offers.{heard_last}
 
 -- it ended before

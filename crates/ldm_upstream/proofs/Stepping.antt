@@ -2,7 +2,6 @@
 use Rattle.std.proofs.Common.{◌≡◌, ◌∙◌, ℕ, zero, suc, ◌+◌, ◌<◌, ◌≤◌, List, [], ◌∷◌, ◌++◌, length, Bool, true, false, None, inl, inr, refl, sym, ap, subst, arith, append-nil}
 use Rattle.std.specs.Prelude.{Result, Ok, Err, slice_index_or}
 use Rattle.ldm_model.specs.declared.event.Entry.{Entry}
-use Rattle.ldm_model.specs.declared.event.Reply.{Reply}
 use Rattle.ldm_model.specs.declared.event.Reply.TheVariants as reply
 use Rattle.ldm_model.specs.History.{after}
 use Rattle.ldm_outside.specs.Clock.{ClockRecord}
@@ -27,11 +26,11 @@ use Rattle.ldm_upstream.specs.Blocks.{blocks, reads}
 use Rattle.ldm_upstream.specs.Turn.{Given, Handling, Passed, Whole, Declined, InBlocks, Lost, Gave, Quiet, Alive, let_go, given_reply, after_handling, handling_entries, handling_messages, handling_codes}
 use Rattle.ldm_sender.specs.Calls.{stepped, later_call}
 use Rattle.ldm_upstream.specs.Feeding.{GoesOn, Stopped, Unanswered}
-use Rattle.ldm_sender.specs.Deeds.{calling, records_of}
+use Rattle.ldm_sender.specs.Deeds.{records_of}
 use Rattle.ldm_upstream.specs.ProductDeeds.{handling_deed}
 use Rattle.ldm_sender.specs.Does.{Moment, moment_of, Does, Breaks, IsPart}
 use Rattle.ldm_sender.specs.Stopping.{KeepsCursor}
-use Rattle.ldm_sender.specs.Acts.{situation_of, Act, then_act, ungated, Acts, BreaksAct, EndsAct, IsAllSent, is_whole}
+use Rattle.ldm_sender.specs.Acts.{situation_of, then_act, ungated, BreaksAct, EndsAct, IsAllSent, is_whole}
 use Rattle.ldm_upstream.specs.Heard.{HearsOn}
 use Rattle.ldm_upstream.specs.Offering.{StopsOffer, product_deed, Handled, IsUnanswered, BreaksHandling, EndsHandlingBy, Handles}
 use Rattle.ldm_sender.specs.Idling.{quiet_act, alive_act, stop_act, EndsIdle, Idles}

@@ -1,5 +1,5 @@
 //! The announcement of a product, and the reply to it.
-ghost use Rattle.std.specs.Prelude.{◌≡◌, ℕ, List};
+ghost use Rattle.std.specs.Prelude.{ℕ, List};
 ghost use Rattle.ldm_outside.specs.Link.{IsNotClosed};
 ghost use Rattle.ldm_shared.specs.Passes.{PassView};
 ghost use Rattle.ldm_sender.specs.Does.{moment_of};

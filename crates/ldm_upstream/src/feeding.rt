@@ -1,5 +1,5 @@
 //! The call that feeds.
-ghost use Rattle.std.specs.Prelude.{◌≡◌, ◌≤◌, length, Bool, false, List, ℕ, None, [], OnOk};
+ghost use Rattle.std.specs.Prelude.{◌≡◌, ◌≤◌, length, Bool, false, None, []};
 ghost use Rattle.ldm_outside.specs.Link.{IsNotClosed};
 ghost use Rattle.ldm_outside.specs.Session.{session_tells, KeepsFaults};
 ghost use Rattle.ldm_shared.specs.Passes.{IsPassOf, IsSamePass, PassView, Makes};

@@ -1,0 +1,7 @@
+mod Turning
+mod Handling
+mod Stepping
+mod Coursing
+mod Noted
+mod Closing
+mod Unnoted

@@ -1,0 +1,63 @@
+use Rattle.std.proofs.Common.{◌∙◌, sym, ap, refl}
+use Rattle.ldm_class.specs.HostRules.{HostRules}
+use Rattle.ldm_relay.specs.declared.message.ClassAnswer.TheVariants as class_answer
+use Rattle.ldm_shared.proofs.Made.{calls_some}
+use Rattle.ldm_notify.specs.Notifying.{asked_of}
+use Rattle.ldm_sender.specs.Opening.{Busy}
+use Rattle.ldm_sender.proofs.Unturned.{busy, answer_breaks, worn_first, short}
+use Rattle.ldm_notify.proofs.Unnoted.{unnoted}
+use Rattle.ldm_sender.proofs.Emptied.{does_from_empty, breaks_from_empty}
+use Rattle.ldm_notify.proofs.notifying.notify_class.Goals as goal
+
+pub returns-in_default-clause-notified : goal.returns-in_default-clause-notified
+returns-in_default-clause-notified g c = unnoted _ _ _ _ _ _ (short _ _ _ _ _ _ c.requires.not_closed)
+
+pub returns-in_default-matcher-clause-notified : goal.returns-in_default-matcher-clause-notified
+returns-in_default-matcher-clause-notified g c = unnoted _ _ _ _ _ _ (short _ _ _ _ _ _ c.requires.not_closed)
+
+pub returns-in_default-for_host-clause-notified : goal.returns-in_default-for_host-clause-notified
+returns-in_default-for_host-clause-notified g c = unnoted _ _ _ _ _ _ (short _ _ _ _ _ _ c.requires.not_closed)
+
+pub notify_cursor-requires-clause-cursor : goal.notify_cursor-requires-clause-cursor
+notify_cursor-requires-clause-cursor g c =
+    let at = rw c.in-Done-Some.field-0-is at c.in-Done-Some.ensures in
+    (at.opens (asked_of c.args.host.now c.args.policy.now c.args.ask.now) (sym c.requires.built)).cursor
+
+pub returns-in-Done-Some-clause-notified : goal.returns-in-Done-Some-clause-notified
+returns-in-Done-Some-clause-notified g c =
+    let asked = asked_of c.args.host.now c.args.policy.now c.args.ask.now in
+    let at = rw c.in-Done-Some.field-0-is at c.in-Done-Some.ensures in
+    let opened = at.opens asked (sym c.requires.built) in
+    let rules = c.in-Ok-for_host.ensures in
+    c.notify_cursor.ensures.notified asked opened.missed c.args.pass.now
+    (record {
+      class_is = sym (c.in-Ok-matcher.ensures ∙ c.requires.built);
+      rules_are = sym (ap (λ (x : HostRules). x.rules) rules);
+      host_is = sym (ap (λ (x : HostRules). x.host) rules);
+    })
+    refl (c.requires.same, opened.may_miss) opened.makes c.in-Ok.ensures.empty
+
+pub returns-in-Ok-answer_class-clause-notified : goal.returns-in-Ok-answer_class-clause-notified
+returns-in-Ok-answer_class-clause-notified g c =
+    let asked = asked_of c.args.host.now c.args.policy.now c.args.ask.now in
+    let at = rw c.in-Done-None.field-0-is at c.in-Done-None.ensures in
+    let found = at.opens asked (sym c.requires.built) in
+    let is = c.in-Ok-answer_class.ensures in
+    unnoted _ asked _ _ _ _
+    (busy asked c.args.pass.now c.open_for.new.pass _ _ _ _ _ _ c.requires.not_closed c.requires.same found
+    (c.in-Ok-answer_class.field-0, does_from_empty _ _ _ _ _ _ _ _ c.in-Ok.ensures.empty is.empty (is.answers c.open_for.new.pass)))
+
+pub returns-in-Done-None-clause-notified : goal.returns-in-Done-None-clause-notified
+returns-in-Done-None-clause-notified g c =
+    let asked = asked_of c.args.host.now c.args.policy.now c.args.ask.now in
+    let at = rw c.in-Done-None.field-0-is at c.in-Done-None.ensures in
+    let found = at.opens asked (sym c.requires.built) in
+    let is = c.in-Err.ensures.answers c.open_for.new.pass in
+    unnoted _ asked _ _ _ _
+    (answer_breaks c.in-Err.end asked (Busy found.missed) c.args.pass.now c.open_for.new.pass _ _ _ _ _ _ c.requires.not_closed (c.requires.same, found.may_miss) (λ actor. refl)
+    (calls_some _ _ _ found.makes) (breaks_from_empty c.in-Err.end asked.xid class_answer.Busy _ _ _ _ _ _ _ c.in-Ok.ensures.empty is))
+
+pub returns-clause-notified : goal.returns-clause-notified
+returns-clause-notified g c =
+    let asked = asked_of c.args.host.now c.args.policy.now c.args.ask.now in
+    unnoted _ asked _ _ _ _ (worn_first asked c.args.pass.now c.open_for.new.pass _ _ _ _ c.requires.not_closed c.requires.same (c.in-Worn.ensures.opens asked (sym c.requires.built)))

@@ -1,0 +1,7 @@
+pub mod Turn
+pub mod Turns
+pub mod Notifying
+pub mod Telling
+pub mod Course
+pub mod Notifies
+pub mod Examples

@@ -1,0 +1,17 @@
+//! One who tells of products: the end of a session that was asked for notices (NOTIFYME), and sends one for each product that is due.
+//!
+//! [`notify`] answers a request and tells of products. What a session of notices is stands in `specs/`, as plain data: see `Notifying`;
+//! and what the call says at each of its ends: see `Notifies`.
+#![tactic(auto)]
+
+mod course;
+mod end;
+mod examples;
+mod handle;
+mod notice;
+mod notifying;
+mod one_turn;
+
+pub use end::NoteEnd;
+pub use examples::worked_examples;
+pub use notifying::notify;
