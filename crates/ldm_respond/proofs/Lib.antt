@@ -1,0 +1,4 @@
+pub mod Lengths
+pub mod Giving
+pub mod Knowing
+pub mod Keeping
