@@ -34,7 +34,7 @@ unfolding begun
 same_command words others options world same = again_by words others (runs_under (command_of words) world) world same
 
 -- an entry that is found is one less where it is removed
-one_less : (test : List ℕ → Bool) (entries : List (List ℕ × ℕ)) (child : ℕ) → lookup test entries ≡ Some child →
+pub one_less : (test : List ℕ → Bool) (entries : List (List ℕ × ℕ)) (child : ℕ) → lookup test entries ≡ Some child →
     length (remove_entry test entries) + 1 ≡ length entries
 one_less test [] child found = absurd cc
 one_less test (entry ∷ entries) child found = by_test (test entry.0) refl (one_less test entries child) found

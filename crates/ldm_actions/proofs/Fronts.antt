@@ -37,7 +37,7 @@ module _ (file : FileNo) where
   files_then None first second (Some files) = refl
   files_then (Some path) first second (Some files) = ap (λ (all : List File). Some all) (appended_twice path first second files)
 
-  appended_then : (first second : List ℕ) (old : StoreRecord) → with_appended file (first ++ second) old ≡ with_appended file second (with_appended file first old)
+  pub appended_then : (first second : List ℕ) (old : StoreRecord) → with_appended file (first ++ second) old ≡ with_appended file second (with_appended file first old)
   appended_then first second old =
       ap (λ (files : Option (List File)). record old { files = files }) (files_then (path_of file old) first second old.files)
 
@@ -84,7 +84,7 @@ module _ (child : ChildNo) where
   children_then first second None = refl
   children_then first second (Some children) = ap (λ (all : List Child). Some all) (fed_twice child.0 first second children)
 
-  given_then : (first second : List ℕ) (old : LauncherRecord) → with_given child (first ++ second) old ≡ with_given child second (with_given child first old)
+  pub given_then : (first second : List ℕ) (old : LauncherRecord) → with_given child (first ++ second) old ≡ with_given child second (with_given child first old)
   given_then first second old = ap (λ (children : Option (List Child)). record old { children = children }) (children_then first second old.children)
 
   pub given_next : (old mid new : LauncherRecord) (piece : List ℕ) (m n : ℕ) → mid ≡ with_given child (take m piece) old →

@@ -1,3 +1,10 @@
 pub mod Pieces
 pub mod Commands
 pub mod Fronts
+pub mod KeptLemmas
+pub mod TextFronts
+pub mod FileSteps
+pub mod JoinLemmas
+pub mod ProgramSteps
+pub mod StepLemmas
+pub mod OutputsLemmas

@@ -123,10 +123,11 @@ abbrev pub effects : List (Action × List ℕ) → World → World
 effects [] world = world
 effects (one ∷ others) world = effects others (acted one.0 one.1 world)
 
+-- these children are over, the last of them first
 abbrev pub all_over : List (List ℕ × ℕ) → Outside → Outside
 all_over [] outside = outside
-all_over (it ∷ others) outside = all_over others (over it.1 outside)
+all_over (it ∷ others) outside = over it.1 (all_over others outside)
 
--- after all that runs under PIPE is over, the one that was written last first
+-- after all that runs under PIPE is over, the one that was written longest ago first
 abbrev pub closed : World → World
 closed world = record { outside = all_over world.piped world.outside; piped = [] }

@@ -1,5 +1,10 @@
 pub mod World
 pub mod Strip
+pub mod Kept
+pub mod OpenFiles
+pub mod Programs
+pub mod Hands
+pub mod Outputs
 pub mod Effects
 pub mod Parts
 pub mod Examples

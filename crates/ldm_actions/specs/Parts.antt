@@ -3,9 +3,9 @@
 use Rattle.std.specs.Prelude.{◌≡◌, ℕ, Bool, false, nat_lt, if◌then◌else◌, List, [], ◌∷◌, ◌++◌, length, slice_get, Option, Some, None}
 use Rattle.ldm_actions.specs.declared.limits.TheConstants.{MOST_PIPED}
 use Rattle.ldm_actions.specs.Effects.{Action, ToFile, ToProgram, Start, Nothing, InHand, Target, Nowhere, File, Child}
-use Rattle.ldm_actions.specs.Effects.{last_of, runs_under, with_room, written}
+use Rattle.ldm_actions.specs.Effects.{all_over, last_of, runs_under, with_room, written}
 use Rattle.ldm_actions.specs.Strip.{kept}
-use Rattle.ldm_actions.specs.World.{Outside, World, command_of, input_shut, made, over, started}
+use Rattle.ldm_actions.specs.World.{Outside, World, command_of, input_shut, made, started}
 
 -- a child that is to be over: its input could not be shut; or it could not be waited for, after its input was shut
 abbrev pub over_parts : Option (List ℕ × ℕ) → Outside → List Outside
@@ -48,9 +48,10 @@ finish_parts_by Child close world = if close then over_parts (slice_get world.pi
 unfoldable pub finish_parts : InHand → World → List Outside
 finish_parts hand world = finish_parts_by hand.target hand.close world
 
+-- these children are to be over, the last of them first
 abbrev pub all_over_parts : List (List ℕ × ℕ) → Outside → List Outside
 all_over_parts [] outside = []
-all_over_parts (it ∷ others) outside = outside ∷ input_shut it.1 outside ∷ all_over_parts others (over it.1 outside)
+all_over_parts (it ∷ others) outside = all_over_parts others outside ++ over_parts (Some it) (all_over others outside)
 
 -- where closing all fails: a file could not be shut; or some children are over, and of the next at most the input is shut
 abbrev pub close_parts : World → List Outside

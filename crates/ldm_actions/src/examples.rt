@@ -37,5 +37,5 @@ pub fn worked_examples_of_programs()
     ensures ends_none_that_was_written_since { let world = acted (program_of ((99 ∷ []) ∷ [])) [] (acted (program_of ((0 ∷ []) ∷ [])) [] (fed_many 32)) in
         (waited_in world 0 ≡ Some false) × (waited_in world 1 ≡ Some true) }
     ensures fails_at_the_second_child { let world = fed_many 2 in close_parts world
-        ≡ world.outside ∷ world.outside ∷ input_shut 1 world.outside ∷ over 1 world.outside ∷ input_shut 0 (over 1 world.outside) ∷ [] }
+        ≡ world.outside ∷ world.outside ∷ input_shut 0 world.outside ∷ over 0 world.outside ∷ input_shut 1 (over 0 world.outside) ∷ [] }
 {}

@@ -1,0 +1,100 @@
+-- Files that are kept open, and what each step of keeping them does.
+use Rattle.std.specs.Prelude.{◌≡◌, ℕ, ◌-◌, ◌≤◌, ◌⊎◌, Bool, true, nat_lt, if◌then◌else◌, List, [], ◌∷◌, length, take, Option, Some, None, option_map, Result, Ok, Err}
+use Rattle.ldm_outside.specs.Count.{Rose}
+use Rattle.ldm_outside.specs.declared.fault.Failed.{Failed}
+use Rattle.ldm_outside.specs.declared.store.FileNo.{FileNo}
+use Rattle.ldm_outside.specs.Store.{File, IsOpen, StoreRecord, path_of, with_changed, with_made}
+use Rattle.ldm_actions.specs.declared.answers.Begun.{Begun}
+use Rattle.ldm_actions.specs.declared.answers.Begun.TheVariants as begun
+use Rattle.ldm_actions.specs.declared.limits.TheConstants.{MOST_OPEN}
+use Rattle.ldm_actions.specs.Kept.{AreApart, Each, number_under, raised_by}
+
+-- the files that are kept open, and what the store tells
+pub record FileSide : Type 0 where
+  pub kept : List (List ℕ × ℕ)
+  pub store : StoreRecord
+
+abbrev pub file_side : List (List ℕ × ℕ) → StoreRecord → FileSide
+file_side kept store = record { kept = kept; store = store }
+
+abbrev pub file_no : ℕ → FileNo
+file_no number = record { 0 = number }
+
+-- A file that is kept is open in the store, under its path.
+pub record IsOpenUnder (store : StoreRecord) (it : List ℕ × ℕ) : Type 0 where
+  pub is_open : IsOpen (file_no it.1) store
+  pub under : path_of (file_no it.1) store ≡ Some it.0
+
+-- The files that are kept are of this store and open there, and there are not too many.
+pub record KeepsFiles (side : FileSide) : Type 0 where
+  pub are_open : Each (IsOpenUnder side.store) side.kept
+  pub apart : AreApart side.kept
+  pub few : length side.kept ≤ MOST_OPEN
+
+-- the files that are kept after one was made room for: where as many are open as may, the one that was used longest ago is shut
+abbrev pub with_room_open : List (List ℕ × ℕ) → List (List ℕ × ℕ)
+with_room_open kept = if nat_lt (length kept) MOST_OPEN then kept else take (length kept - 1) kept
+
+abbrev pub used_by : Option ℕ → List ℕ → ℕ → List (List ℕ × ℕ) → List (List ℕ × ℕ)
+used_by (Some number) path next kept = raised_by (Some number) path kept
+used_by None path next kept = (path, next) ∷ with_room_open kept
+
+-- the files that are kept after that of a path was used, where the next one that is opened has this number
+abbrev pub used : List ℕ → ℕ → List (List ℕ × ℕ) → List (List ℕ × ℕ)
+used path next kept = used_by (number_under path kept) path next kept
+
+-- all files after that of a path was opened
+abbrev pub files_made : List ℕ → Option (List File) → Option (List File)
+files_made path files = option_map (with_made path) files
+
+-- and was emptied, where it is to be written anew
+abbrev pub files_begun : Bool → List ℕ → Option (List File) → Option (List File)
+files_begun overwrite path files =
+    if overwrite then option_map (with_changed path (λ _. [])) (files_made path files) else files_made path files
+
+-- No call failed. These are kept now, and these are all files.
+pub record FilesBecome (kept : List (List ℕ × ℕ)) (files : Option (List File)) (old new : FileSide) : Type 0 where
+  pub kept_now : new.kept ≡ kept
+  pub files_now : new.store.files ≡ files
+  pub faults : new.store.faults ≡ old.store.faults
+  pub long : new.store.long ≡ old.store.long
+  pub keeps : KeepsFiles new
+
+-- The store failed, and these are all files.
+pub record FilesFail (files : Option (List File)) (old new : FileSide) : Type 0 where
+  pub rose : Rose old.store.faults new.store.faults
+  pub files_now : new.store.files ≡ files
+  pub long : new.store.long ≡ old.store.long
+
+-- What a step did that changes no file: these are kept after it, or the store failed.
+abbrev pub KeepsOr : Result (Unit {0}) Failed → List (List ℕ × ℕ) → FileSide → FileSide → Type 0
+KeepsOr (Ok ok) kept old new = FilesBecome kept old.store.files old new × (new.store.next ≡ old.store.next)
+KeepsOr (Err failed) kept old new = FilesFail old.store.files old new
+
+-- What opening the file of a path did.
+abbrev pub OpensNew : Result (Unit {0}) Failed → List ℕ → FileSide → FileSide → Type 0
+OpensNew (Ok ok) path old new = FilesBecome ((path, old.store.next) ∷ old.kept) (files_made path old.store.files) old new
+OpensNew (Err failed) path old new = FilesFail old.store.files old new
+
+-- What it did with room for it.
+abbrev pub OpensWithRoom : Result (Unit {0}) Failed → List ℕ → FileSide → FileSide → Type 0
+OpensWithRoom (Ok ok) path old new =
+    FilesBecome ((path, old.store.next) ∷ with_room_open old.kept) (files_made path old.store.files) old new
+OpensWithRoom (Err failed) path old new = FilesFail old.store.files old new
+
+-- What using the file of a path did: it is open, and was made where it was not there; or the store failed, before that; or there was
+-- no memory, and nothing was done.
+abbrev pub UsesFile : Begun → List ℕ → FileSide → FileSide → Type 0
+UsesFile begun.Ready path old new = FilesBecome (used path old.store.next old.kept) (files_made path old.store.files) old new
+UsesFile begun.StoreFault path old new = FilesFail old.store.files old new
+UsesFile begun.LaunchFault path old new = ⊥
+UsesFile begun.OutOfMemory path old new = new ≡ old
+
+-- What beginning to write to it did.
+abbrev pub BeginsFile : Begun → Bool → List ℕ → FileSide → FileSide → Type 0
+BeginsFile begun.Ready overwrite path old new =
+    FilesBecome (used path old.store.next old.kept) (files_begun overwrite path old.store.files) old new
+BeginsFile begun.StoreFault overwrite path old new =
+    FilesFail old.store.files old new ⊎ ((overwrite ≡ true) × FilesFail (files_made path old.store.files) old new)
+BeginsFile begun.LaunchFault overwrite path old new = ⊥
+BeginsFile begun.OutOfMemory overwrite path old new = new ≡ old

@@ -1,0 +1,207 @@
+-- What an `Outputs` keeps, and what each call of it does.
+use Rattle.std.specs.Prelude.{◌≡◌, ℕ, Bool, true, false, List, [], ◌∷◌, drop, Option, Some, None}
+use Rattle.ldm_outside.specs.Count.{Rose}
+use Rattle.ldm_outside.specs.Launcher.{LauncherRecord}
+use Rattle.ldm_outside.specs.Store.{StoreRecord}
+use Rattle.ldm_actions.specs.declared.answers.Begun.{Begun}
+use Rattle.ldm_actions.specs.declared.answers.Begun.TheVariants as answer
+use Rattle.ldm_actions.specs.declared.answers.Done.{Done}
+use Rattle.ldm_actions.specs.declared.answers.Done.TheVariants as done
+use Rattle.ldm_actions.specs.declared.answers.Fault.{Fault}
+use Rattle.ldm_actions.specs.declared.answers.Fault.TheVariants as fault
+use Rattle.ldm_actions.specs.declared.hand.Hand.{Hand}
+use Rattle.ldm_actions.specs.Effects.{Action, ToFile, ToProgram, Start, Nothing, InHand, Target, Nowhere, File, Child, begun, closed, finished, given, in_hand}
+use Rattle.ldm_actions.specs.Hands.{hand_seen}
+use Rattle.ldm_actions.specs.Kept.{IsNewest}
+use Rattle.ldm_actions.specs.OpenFiles.{KeepsFiles, file_side, used}
+use Rattle.ldm_actions.specs.Parts.{IsGivenPart, begin_parts, close_parts, finish_parts}
+use Rattle.ldm_actions.specs.Programs.{IsOneOf, KeepsPrograms, program_side, world_with}
+use Rattle.ldm_actions.specs.World.{Outside, World}
+
+-- What is kept open and running, and what the store and the launcher tell.
+pub record Kept : Type 0 where
+  pub files : List (List ℕ × ℕ)
+  pub piped : List (List ℕ × ℕ)
+  pub store : StoreRecord
+  pub launcher : LauncherRecord
+
+abbrev pub kept_in : List (List ℕ × ℕ) → List (List ℕ × ℕ) → StoreRecord → LauncherRecord → Kept
+kept_in files piped store launcher = record { files = files; piped = piped; store = store; launcher = launcher }
+
+-- All that is kept is of this store and launcher: files that are open there, each under its path, and programs that take bytes.
+pub record Keeps (now : Kept) : Type 0 where
+  pub files : KeepsFiles (file_side now.files now.store)
+  pub programs : KeepsPrograms (program_side now.piped now.launcher)
+
+-- what stands
+abbrev pub world_of : Kept → World
+world_of now = world_with now.store.files (program_side now.piped now.launcher)
+
+-- No call failed. This world stands now, and these files are kept open.
+pub record Becomes (world : World) (files : List (List ℕ × ℕ)) (old new : Kept) : Type 0 where
+  pub world_now : world_of new ≡ world
+  pub files_now : new.files ≡ files
+  pub keeps : Keeps new
+  pub store_faults : new.store.faults ≡ old.store.faults
+  pub long : new.store.long ≡ old.store.long
+  pub launcher_faults : new.launcher.faults ≡ old.launcher.faults
+
+-- The store failed, and what stands is such.
+pub record StoreStops (IsPart : Outside → Type 0) (old new : Kept) : Type 0 where
+  pub rose : Rose old.store.faults new.store.faults
+  pub stands : IsPart (world_of new).outside
+  pub long : new.store.long ≡ old.store.long
+  pub launcher_faults : new.launcher.faults ≡ old.launcher.faults
+
+-- The launcher failed, and what stands is such.
+pub record LauncherStops (IsPart : Outside → Type 0) (old new : Kept) : Type 0 where
+  pub rose : Rose old.launcher.faults new.launcher.faults
+  pub stands : IsPart (world_of new).outside
+  pub store_faults : new.store.faults ≡ old.store.faults
+  pub long : new.store.long ≡ old.store.long
+
+-- the files that are kept open after an action was begun: before one more is opened than may be, the one used longest ago is shut
+abbrev pub files_after_begin : Action → Kept → List (List ℕ × ℕ)
+files_after_begin (ToFile path options) old = used path old.store.next old.files
+files_after_begin (ToProgram words options) old = old.files
+files_after_begin (Start words wait) old = old.files
+files_after_begin Nothing old = old.files
+
+-- What beginning an action did to what is kept.
+abbrev pub BeginsKept : Begun → Action → Kept → Kept → Type 0
+BeginsKept answer.Ready action old new = Becomes (begun action (world_of old)) (files_after_begin action old) old new
+BeginsKept answer.StoreFault action old new = StoreStops (IsOneOf (begin_parts action (world_of old))) old new
+BeginsKept answer.LaunchFault action old new = LauncherStops (IsOneOf (begin_parts action (world_of old))) old new
+BeginsKept answer.OutOfMemory action old new = new ≡ old
+
+-- What each further call did: this world and these files, or what stands is such.
+abbrev pub GoesOn : Done → World → List (List ℕ × ℕ) → (Outside → Type 0) → Kept → Kept → Type 0
+GoesOn done.Ok world files IsPart old new = Becomes world files old new
+GoesOn done.StoreFault world files IsPart old new = StoreStops IsPart old new
+GoesOn done.LaunchFault world files IsPart old new = LauncherStops IsPart old new
+
+abbrev pub GivesKept : Done → InHand → List ℕ → Kept → Kept → Type 0
+GivesKept result hand bytes old new = GoesOn result (given hand bytes (world_of old)) old.files (IsGivenPart hand bytes (world_of old)) old new
+
+-- the files that are kept open after an action was finished
+abbrev pub files_after_finish : Target → Bool → List (List ℕ × ℕ) → List (List ℕ × ℕ)
+files_after_finish (File path) true files = drop 1 files
+files_after_finish (File path) false files = files
+files_after_finish Nowhere close files = files
+files_after_finish Child close files = files
+
+abbrev pub FinishesKept : Done → InHand → Kept → Kept → Type 0
+FinishesKept result hand old new =
+    GoesOn result (finished hand (world_of old)) (files_after_finish hand.target hand.close old.files) (IsOneOf (finish_parts hand (world_of old))) old new
+
+abbrev pub ClosesKept : Done → Kept → Kept → Type 0
+ClosesKept result old new = GoesOn result (closed (world_of old)) [] (IsOneOf (close_parts (world_of old))) old new
+
+-- An action in hand writes to what was used last.
+abbrev pub IsOfKept : Target → List (List ℕ × ℕ) → List (List ℕ × ℕ) → Type 0
+IsOfKept Nowhere files piped = Unit {0}
+IsOfKept (File path) files piped = (number : ℕ) × IsNewest (path, number) files
+IsOfKept Child files piped = (it : List ℕ × ℕ) × IsNewest it piped
+
+-- What contracts see of an `Outputs`.
+pub record OutputsView : Type 0 where
+  -- the files that are kept open, each under its path: the one that was used last comes first
+  pub files : List (List ℕ × ℕ)
+  -- the children that run under PIPE, each under its command: the one that was written last comes first
+  pub piped : List (List ℕ × ℕ)
+  -- the action in hand
+  pub hand : Option InHand
+  -- the fault that it is spent by
+  pub spent : Option Fault
+
+abbrev pub outputs_view : List (List ℕ × ℕ) → List (List ℕ × ℕ) → Option Hand → Option Fault → OutputsView
+outputs_view files piped hand spent = record { files = files; piped = piped; hand = hand_seen hand files; spent = spent }
+
+-- an `Outputs` that was just made
+abbrev pub no_outputs : OutputsView
+no_outputs = record { files = []; piped = []; hand = None; spent = None }
+
+-- An `Outputs`, and the store and the launcher that are lent.
+pub record Standing : Type 0 where
+  pub outputs : OutputsView
+  pub store : StoreRecord
+  pub launcher : LauncherRecord
+
+abbrev pub standing : OutputsView → StoreRecord → LauncherRecord → Standing
+standing outputs store launcher = record { outputs = outputs; store = store; launcher = launcher }
+
+abbrev pub kept_by : Standing → Kept
+kept_by now = kept_in now.outputs.files now.outputs.piped now.store now.launcher
+
+abbrev pub HandIsKept : Option InHand → Standing → Type 0
+HandIsKept None now = Unit {0}
+HandIsKept (Some hand) now = IsOfKept hand.target now.outputs.files now.outputs.piped
+
+-- All that it keeps is of this store and launcher, and an action in hand writes to what was used last.
+pub record KeepsAll (now : Standing) : Type 0 where
+  pub kept : Keeps (kept_by now)
+  pub hand : HandIsKept now.outputs.hand now
+
+-- the same of one that is not spent
+abbrev pub KeepsUnlessSpent : Standing → Type 0
+KeepsUnlessSpent now = now.outputs.spent ≡ None → KeepsAll now
+
+-- It is not spent, and this action is in hand.
+pub record HasInHand (hand : Option InHand) (now : Standing) : Type 0 where
+  pub in_hand : now.outputs.hand ≡ hand
+  pub unspent : now.outputs.spent ≡ None
+
+-- what a spent one answers
+abbrev pub begun_again : Fault → Begun
+begun_again fault.Store = answer.StoreFault
+begun_again fault.Launch = answer.LaunchFault
+
+abbrev pub done_again : Fault → Done
+done_again fault.Store = done.StoreFault
+done_again fault.Launch = done.LaunchFault
+
+-- What a call on one that is not spent left in hand: after a fault it is spent.
+abbrev pub LeavesBegun : Begun → Option InHand → Standing → Standing → Type 0
+LeavesBegun answer.Ready hand old new = HasInHand hand new
+LeavesBegun answer.StoreFault hand old new = new.outputs.spent ≡ Some fault.Store
+LeavesBegun answer.LaunchFault hand old new = new.outputs.spent ≡ Some fault.Launch
+LeavesBegun answer.OutOfMemory hand old new = new ≡ old
+
+abbrev pub LeavesDone : Done → Option InHand → Standing → Type 0
+LeavesDone done.Ok hand new = HasInHand hand new
+LeavesDone done.StoreFault hand new = new.outputs.spent ≡ Some fault.Store
+LeavesDone done.LaunchFault hand new = new.outputs.spent ≡ Some fault.Launch
+
+-- What `begin` did. One that is spent answers its first fault again and touches nothing.
+abbrev pub BeginsBy : Option Fault → Begun → Action → Standing → Standing → Type 0
+BeginsBy (Some fault) result action old new = (result ≡ begun_again fault) × (new ≡ old)
+BeginsBy None result action old new = BeginsKept result action (kept_by old) (kept_by new) × LeavesBegun result (Some (in_hand action)) old new
+
+abbrev pub Begins : Begun → Action → Standing → Standing → Type 0
+Begins result action old new = BeginsBy old.outputs.spent result action old new
+
+-- What `piece` did.
+abbrev pub GivesBy : Option Fault → Option InHand → Done → List ℕ → Standing → Standing → Type 0
+GivesBy (Some fault) hand result bytes old new = (result ≡ done_again fault) × (new ≡ old)
+GivesBy None None result bytes old new = ⊥
+GivesBy None (Some hand) result bytes old new = GivesKept result hand bytes (kept_by old) (kept_by new) × LeavesDone result (Some hand) new
+
+abbrev pub Gives : Done → List ℕ → Standing → Standing → Type 0
+Gives result bytes old new = GivesBy old.outputs.spent old.outputs.hand result bytes old new
+
+-- What `finish` did.
+abbrev pub FinishesBy : Option Fault → Option InHand → Done → Standing → Standing → Type 0
+FinishesBy (Some fault) hand result old new = (result ≡ done_again fault) × (new ≡ old)
+FinishesBy None None result old new = ⊥
+FinishesBy None (Some hand) result old new = FinishesKept result hand (kept_by old) (kept_by new) × LeavesDone result None new
+
+abbrev pub Finishes : Done → Standing → Standing → Type 0
+Finishes result old new = FinishesBy old.outputs.spent old.outputs.hand result old new
+
+-- What `close_all` did.
+abbrev pub ClosesBy : Option Fault → Done → Standing → Standing → Type 0
+ClosesBy (Some fault) result old new = (result ≡ done_again fault) × (new ≡ old)
+ClosesBy None result old new = ClosesKept result (kept_by old) (kept_by new) × LeavesDone result None new
+
+abbrev pub Closes : Done → Standing → Standing → Type 0
+Closes result old new = ClosesBy old.outputs.spent result old new
