@@ -5,6 +5,7 @@ use Rattle.ldm_outside.specs.Launcher.{LauncherRecord}
 use Rattle.ldm_outside.specs.Store.{StoreRecord}
 use Rattle.ldm_actions.specs.declared.action.Action.{Action as Given}
 use Rattle.ldm_actions.specs.declared.action.Action.TheVariants as given
+use Rattle.ldm_actions.specs.declared.answers.Begun.{Begun}
 use Rattle.ldm_actions.specs.declared.answers.Begun.TheVariants as answer
 use Rattle.ldm_actions.specs.declared.answers.Fault.{Fault}
 use Rattle.ldm_actions.specs.declared.hand.Hand.{Hand}
@@ -14,7 +15,7 @@ use Rattle.ldm_actions.specs.Effects.{Action, File as FileTarget, begun, in_hand
 use Rattle.ldm_actions.specs.Hands.{action_of, hand_of, hand_seen, newest_path, seen_with}
 use Rattle.ldm_actions.specs.Kept.{IsNewest, number_under}
 use Rattle.ldm_actions.specs.OpenFiles.{used, used_by}
-use Rattle.ldm_actions.specs.Outputs.{Becomes, Begins, BeginsBy, BeginsKept, Closes, ClosesBy, ClosesKept, Finishes, FinishesBy, FinishesKept, Gives, GivesBy, GivesKept, GoesOn, HandIsKept, IsOfKept, Kept, Keeps, KeepsAll, KeepsUnlessSpent, Standing, files_after_begin, kept_in, outputs_view, standing, world_of}
+use Rattle.ldm_actions.specs.Outputs.{Becomes, Begins, BeginsBy, BeginsHand, BeginsKept, HasHand, IsOfKept, Kept, KeepsUnlessSpent, OutputsView, files_after_begin, kept_in, outputs_view, standing, world_of}
 use Rattle.ldm_actions.specs.World.{World, command_of}
 use Rattle.ldm_actions.proofs.KeptLemmas.{Entry}
 
@@ -41,10 +42,10 @@ unfolding begun
 begun_is_kept (given.ToFile path options) old new becomes =
     let text = string_bytes path in
     let first = used_first text old.store.next (number_under text old.files) old.files in
-    (first.0, newest_first new.files (text, first.0) first.1 (becomes.files_now ∙ first.2))
+    (first.0, newest_first new.files (text, first.0) first.1 (becomes.0.files_now ∙ first.2))
 begun_is_kept (given.ToProgram program options) old new becomes =
     let first = piped_first program (runs_under (command_of program) (world_of old)) (world_of old) in
-    (first.0, record { others = first.1; is = ap (λ (world : World). world.piped) becomes.world_now ∙ first.2 })
+    (first.0, record { others = first.1; is = ap (λ (world : World). world.piped) becomes.0.world_now ∙ first.2 })
 begun_is_kept (given.Start program wait) old new becomes = tt
 begun_is_kept given.Nothing old new becomes = tt
 
@@ -55,7 +56,7 @@ begun_is_seen (given.ToFile path options) old new becomes =
     let text = string_bytes path in
     let first = used_first text old.store.next (number_under text old.files) old.files in
     ap (λ (p : List ℕ). record { target = FileTarget p; strip = options.strip; close = options.close })
-    (ap newest_path (becomes.files_now ∙ first.2))
+    (ap newest_path (becomes.0.files_now ∙ first.2))
 begun_is_seen (given.ToProgram program options) old new becomes = refl
 begun_is_seen (given.Start program wait) old new becomes = refl
 begun_is_seen given.Nothing old new becomes = refl
@@ -80,4 +81,15 @@ module _ (files piped files' piped' : List Entry) (hand : Option Hand) (spent : 
 
   pub keeps_ready : (action : Given) → BeginsKept answer.Ready (action_of action) old new →
       KeepsUnlessSpent (standing (outputs_view files' piped' (Some (hand_of action)) spent) store' launcher')
-  keeps_ready action becomes = λ _. record { kept = becomes.keeps; hand = begun_is_kept action old new becomes }
+  keeps_ready action becomes = λ _. record { kept = becomes.0.keeps; hand = begun_is_kept action old new becomes }
+
+module _ (outputs : OutputsView) (which : Fault) (spent : outputs.spent ≡ Some which) where
+  -- one that is spent needs no action in hand
+  pub has_spent : HasHand outputs
+  has_spent none = absurd (cc)
+
+  pub begins_spent : (result : Begun) → BeginsHand result outputs
+  begins_spent answer.Ready = has_spent
+  begins_spent answer.StoreFault = has_spent
+  begins_spent answer.LaunchFault = has_spent
+  begins_spent answer.OutOfMemory = tt

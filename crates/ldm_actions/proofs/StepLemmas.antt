@@ -4,7 +4,7 @@ use Rattle.std.specs.Prelude.{slice_get, String}
 use Rattle.std.specs.declared.alloc.Global.{Global}
 use Rattle.ldm_outside.specs.Count.{Rose}
 use Rattle.ldm_outside.specs.declared.fault.Failed.{Failed}
-use Rattle.ldm_outside.specs.Launcher.{IsTaking, LauncherFails, LauncherRecord, spelled, with_started}
+use Rattle.ldm_outside.specs.Launcher.{Child as ChildRecord, IsTaking, LauncherFails, LauncherRecord, spelled, with_started}
 use Rattle.ldm_outside.specs.Store.{File, StoreFails, StoreRecord, path_of, with_changed, with_file}
 use Rattle.ldm_outside.proofs.StoreLemmas.{IsTaking-before, IsTaking-detached, IsTaking-fed, IsTaking-waited}
 use Rattle.ldm_actions.specs.declared.answers.Begun.{Begun}
@@ -18,7 +18,7 @@ use Rattle.ldm_actions.specs.Kept.{Each, IsNewest}
 use Rattle.ldm_actions.specs.OpenFiles.{BeginsFile, FileSide, FilesBecome, FilesFail, IsOpenUnder, KeepsFiles, KeepsOr, file_no, file_side, files_begun, files_made, used}
 use Rattle.ldm_actions.specs.Outputs.{Becomes, BeginsKept, ClosesKept, FinishesKept, GivesKept, Kept, Keeps, LauncherStops, StoreStops, files_after_finish, kept_in, world_of}
 use Rattle.ldm_actions.specs.Parts.{IsGivenPart, begin_parts, finish_parts, finish_parts_by}
-use Rattle.ldm_actions.specs.Programs.{BeginsProgram, ChangesOr, Executes, IsOneOf, KeepsPrograms, ProgramSide, ProgramsBecome, ProgramsFail, closing_parts, outside_with, program_side, with_child_gone, with_child_over, with_executed, world_with}
+use Rattle.ldm_actions.specs.Programs.{BeginsProgram, ChangesOr, Executes, IsOneOf, KeepsPrograms, ProgramSide, ProgramsBecome, ProgramsFail, closing_parts, outside_with, program_side, running_after, with_child_gone, with_child_over, with_executed, world_with}
 use Rattle.ldm_actions.specs.Strip.{kept}
 use Rattle.ldm_actions.specs.World.{Outside, World, child_no, fed, made, started}
 use Rattle.ldm_actions.specs.Writing.{AppendsAll, FeedsAll, with_appended, with_given}
@@ -42,19 +42,22 @@ module _ (files files' piped : List Entry) (store store' : StoreRecord) (launche
   pub file_begun : (result : Begun) (path : List ℕ) (options : FileOptions) → Keeps old_files →
       BeginsFile result options.overwrite path (file_side files store) (file_side files' store') → BeginsKept result (ToFile path options) old_files new_files
   unfolding begun begin_parts
-  file_begun answer.Ready path options keeps becomes = record {
-    world_now = ap (λ (all : Option (List File)). world_with all (program_side piped launcher)) becomes.files_now ∙ opened_is options.overwrite path;
-    files_now = becomes.kept_now;
-    keeps = record { files = becomes.keeps; programs = keeps.programs };
-    store_faults = becomes.faults;
-    long = becomes.long;
-    launcher_faults = refl;
-  }
+  file_begun answer.Ready path options keeps becomes = (
+    record {
+      world_now = ap (λ (all : Option (List File)). world_with all (program_side piped launcher)) becomes.files_now ∙ opened_is options.overwrite path;
+      files_now = becomes.kept_now;
+      keeps = record { files = becomes.keeps; programs = keeps.programs };
+      store_faults = becomes.faults;
+      long = becomes.long;
+      launcher_faults = refl;
+    },
+    refl,
+  )
   file_begun answer.StoreFault path options keeps (inl fails) = record {
     rose = fails.rose;
     stands = inl (ap (λ (all : Option (List File)). outside_with all launcher) fails.files_now);
     long = fails.long;
-    launcher_faults = refl;
+    launcher = refl;
   }
   file_begun answer.StoreFault path options keeps (inr both) = record {
     rose = both.1.rose;
@@ -62,7 +65,7 @@ module _ (files files' piped : List Entry) (store store' : StoreRecord) (launche
         (subst (λ (b : Bool). IsOneOf (cond b (made path (outside_with store.files launcher) ∷ []) []) (outside_with store'.files launcher)) (sym both.0)
         (inl (ap (λ (all : Option (List File)). outside_with all launcher) both.1.files_now)));
     long = both.1.long;
-    launcher_faults = refl;
+    launcher = refl;
   }
   file_begun answer.LaunchFault path options keeps never = absurd never
   file_begun answer.OutOfMemory path options keeps same =
@@ -77,14 +80,17 @@ module _ (files files' piped : List Entry) (store store' : StoreRecord) (launche
       FilesBecome (cond close (drop 1 files) files) store.files (file_side files store) (file_side files' store') × (store'.next ≡ store.next) →
       FinishesKept done.Ok (record { target = FileTarget path; strip = strip; close = close }) old_files new_files
   unfolding finished
-  file_is_finished path strip close keeps both = record {
-    world_now = ap (λ (all : Option (List File)). world_with all (program_side piped launcher)) both.0.files_now;
-    files_now = both.0.kept_now ∙ file_finished path close;
-    keeps = record { files = both.0.keeps; programs = keeps.programs };
-    store_faults = both.0.faults;
-    long = both.0.long;
-    launcher_faults = refl;
-  }
+  file_is_finished path strip close keeps both = (
+    record {
+      world_now = ap (λ (all : Option (List File)). world_with all (program_side piped launcher)) both.0.files_now;
+      files_now = both.0.kept_now ∙ file_finished path close;
+      keeps = record { files = both.0.keeps; programs = keeps.programs };
+      store_faults = both.0.faults;
+      long = both.0.long;
+      launcher_faults = refl;
+    },
+    refl,
+  )
 
   pub file_not_finished : (path : List ℕ) (strip close : Bool) → FilesFail store.files (file_side files store) (file_side files' store') →
       FinishesKept done.StoreFault (record { target = FileTarget path; strip = strip; close = close }) old_files new_files
@@ -93,7 +99,7 @@ module _ (files files' piped : List Entry) (store store' : StoreRecord) (launche
     rose = fails.rose;
     stands = inl (ap (λ (all : Option (List File)). outside_with all launcher) fails.files_now);
     long = fails.long;
-    launcher_faults = refl;
+    launcher = refl;
   }
 
 -- a program was begun
@@ -108,14 +114,17 @@ module _ (files piped piped' : List Entry) (store : StoreRecord) (launcher launc
       BeginsProgram result words (program_side piped launcher) (program_side piped' launcher') →
       BeginsKept result (ToProgram words options) old_programs new_programs
   unfolding begun begin_parts
-  program_begun answer.Ready words options keeps becomes = record {
-    world_now = becomes.world store.files;
-    files_now = refl;
-    keeps = record { files = keeps.files; programs = becomes.keeps };
-    store_faults = refl;
-    long = refl;
-    launcher_faults = becomes.faults;
-  }
+  program_begun answer.Ready words options keeps becomes = (
+    record {
+      world_now = becomes.world store.files;
+      files_now = refl;
+      keeps = record { files = keeps.files; programs = becomes.keeps };
+      store_faults = refl;
+      long = refl;
+      launcher_faults = becomes.faults;
+    },
+    refl,
+  )
   program_begun answer.StoreFault words options keeps never = absurd never
   program_begun answer.LaunchFault words options keeps fails = record { rose = fails.rose; stands = fails.stands store.files; store_faults = refl; long = refl }
   program_begun answer.OutOfMemory words options keeps same =
@@ -126,14 +135,17 @@ module _ (files piped piped' : List Entry) (store : StoreRecord) (launcher launc
       ProgramsBecome (finished_by Child close) (program_side piped launcher) (program_side piped' launcher') →
       FinishesKept done.Ok (record { target = Child; strip = strip; close = close }) old_programs new_programs
   unfolding finished
-  program_finished strip close keeps becomes = record {
-    world_now = becomes.world store.files;
-    files_now = refl;
-    keeps = record { files = keeps.files; programs = becomes.keeps };
-    store_faults = refl;
-    long = refl;
-    launcher_faults = becomes.faults;
-  }
+  program_finished strip close keeps becomes = (
+    record {
+      world_now = becomes.world store.files;
+      files_now = refl;
+      keeps = record { files = keeps.files; programs = becomes.keeps };
+      store_faults = refl;
+      long = refl;
+      launcher_faults = becomes.faults;
+    },
+    refl,
+  )
 
   pub program_not_finished : (strip close : Bool) →
       ProgramsFail (finish_parts_by Child close) (program_side piped launcher) (program_side piped' launcher') →
@@ -154,6 +166,11 @@ module _ (files piped : List Entry) (store : StoreRecord) (launcher launcher' : 
   executed_faults true told = refl
   executed_faults false told = refl
 
+  executed_running : (wait : Bool) (told : List (String Global)) →
+      (with_executed wait (child_no launcher.next) (with_started told false launcher)).running ≡ running_after (spelled told) launcher
+  executed_running true told = refl
+  executed_running false told = refl
+
   executed_taking : (wait : Bool) (told : List (String Global)) (it : Entry) → IsTaking (child_no it.1) launcher →
       IsTaking (child_no it.1) (with_executed wait (child_no launcher.next) (with_started told false launcher))
   executed_taking true told it taking =
@@ -170,26 +187,29 @@ module _ (files piped : List Entry) (store : StoreRecord) (launcher launcher' : 
   pub program_executed : (words : List (List ℕ)) (wait : Bool) → Keeps (kept_in files piped store launcher) → Executes (Ok tt) words wait launcher launcher' →
       BeginsKept answer.Ready (Start words wait) (kept_in files piped store launcher) (kept_in files piped store launcher')
   unfolding begun
-  program_executed words wait keeps done = record {
-    world_now =
-        ap (λ (l : LauncherRecord). world_with store.files (program_side piped l)) done.2
-        ∙ ap (λ (outside : Outside). record { outside = outside; piped = piped })
-        (executed_is wait done.0 ∙ ap (λ (w : List (List ℕ)). executed wait w (outside_with store.files launcher)) done.1);
-    files_now = refl;
-    keeps = record {
-      files = keeps.files;
-      programs = record {
-        are_taking = each_then (λ it. IsTaking (child_no it.1) launcher) (λ it. IsTaking (child_no it.1) launcher')
-            (λ it taking. subst (λ (l : LauncherRecord). IsTaking (child_no it.1) l) (sym done.2) (executed_taking wait done.0 it taking)) piped
-            keeps.programs.are_taking;
-        apart = keeps.programs.apart;
-        few = keeps.programs.few;
+  program_executed words wait keeps done = (
+    record {
+      world_now =
+          ap (λ (l : LauncherRecord). world_with store.files (program_side piped l)) done.2
+          ∙ ap (λ (outside : Outside). record { outside = outside; piped = piped })
+          (executed_is wait done.0 ∙ ap (λ (w : List (List ℕ)). executed wait w (outside_with store.files launcher)) done.1);
+      files_now = refl;
+      keeps = record {
+        files = keeps.files;
+        programs = record {
+          are_taking = each_then (λ it. IsTaking (child_no it.1) launcher) (λ it. IsTaking (child_no it.1) launcher')
+              (λ it taking. subst (λ (l : LauncherRecord). IsTaking (child_no it.1) l) (sym done.2) (executed_taking wait done.0 it taking)) piped
+              keeps.programs.are_taking;
+          apart = keeps.programs.apart;
+          few = keeps.programs.few;
+        };
       };
-    };
-    store_faults = refl;
-    long = refl;
-    launcher_faults = ap (λ (l : LauncherRecord). l.faults) done.2 ∙ executed_faults wait done.0;
-  }
+      store_faults = refl;
+      long = refl;
+      launcher_faults = ap (λ (l : LauncherRecord). l.faults) done.2 ∙ executed_faults wait done.0;
+    },
+    (refl, ap (λ (l : LauncherRecord). l.running) done.2 ∙ executed_running wait done.0 ∙ ap (λ (w : List (List ℕ)). running_after w launcher) done.1),
+  )
 
   pub program_not_executed : (words : List (List ℕ)) (wait : Bool) (failed : Failed) → Executes (Err failed) words wait launcher launcher' →
       BeginsKept answer.LaunchFault (Start words wait) (kept_in files piped store launcher) (kept_in files piped store launcher')
@@ -215,16 +235,16 @@ becomes_same now keeps = record { world_now = refl; files_now = refl; keeps = ke
 
 pub nothing_begun : (now : Kept) → Keeps now → BeginsKept answer.Ready Nothing now now
 unfolding begun
-nothing_begun now keeps = becomes_same now keeps
+nothing_begun now keeps = (becomes_same now keeps, (refl, refl))
 
 pub nothing_given : (strip close : Bool) (bytes : List ℕ) (now : Kept) → Keeps now →
     GivesKept done.Ok (record { target = Nowhere; strip = strip; close = close }) bytes now now
 unfolding given
-nothing_given strip close bytes now keeps = becomes_same now keeps
+nothing_given strip close bytes now keeps = (becomes_same now keeps, (refl, refl))
 
 pub nothing_finished : (strip close : Bool) (now : Kept) → Keeps now → FinishesKept done.Ok (record { target = Nowhere; strip = strip; close = close }) now now
 unfolding finished
-nothing_finished strip close now keeps = becomes_same now keeps
+nothing_finished strip close now keeps = (becomes_same now keeps, (refl, refl))
 
 -- a piece was written to the file that was used last
 module _ (files piped : List Entry) (store store' : StoreRecord) (launcher : LauncherRecord) (it : Entry) (newest : IsNewest it files)
@@ -242,18 +262,24 @@ module _ (files piped : List Entry) (store store' : StoreRecord) (launcher : Lau
       GivesKept done.Ok (record { target = FileTarget (newest_path files); strip = strip; close = close }) bytes (kept_in files piped store launcher)
       (kept_in files piped store' launcher)
   unfolding given
-  file_given strip close bytes is = record {
-    world_now = ap (λ (all : Option (List File)). world_with all (program_side piped launcher))
-        (ap (λ (s : StoreRecord). s.files) is ∙ appended_files (kept strip bytes));
-    files_now = refl;
-    keeps = record {
-      files = keeps_changed store store' files it.1 (λ before. before ++ kept strip bytes) is keeps.files;
-      programs = keeps.programs;
-    };
-    store_faults = ap (λ (s : StoreRecord). s.faults) is;
-    long = ap (λ (s : StoreRecord). s.long) is;
-    launcher_faults = refl;
-  }
+  file_given strip close bytes is = (
+    record {
+      world_now = ap (λ (all : Option (List File)). world_with all (program_side piped launcher))
+          (ap (λ (s : StoreRecord). s.files) is ∙ appended_files (kept strip bytes));
+      files_now = refl;
+      keeps = record {
+        files = keeps_changed store store' files it.1 (λ before. before ++ kept strip bytes) is keeps.files;
+        programs = keeps.programs;
+      };
+      store_faults = ap (λ (s : StoreRecord). s.faults) is;
+      long = ap (λ (s : StoreRecord). s.long) is;
+      launcher_faults = refl;
+    },
+    (store_is, refl),
+  )
+    where
+      store_is : store' ≡ record store { files = store'.files }
+      store_is = is ∙ ap (λ (all : Option (List File)). record store { files = all }) (sym (ap (λ (s : StoreRecord). s.files) is))
 
   pub file_not_given : (strip close : Bool) (bytes : List ℕ) (failed : Failed) → AppendsAll (Err failed) (file_no it.1) (kept strip bytes) store store' →
       GivesKept done.StoreFault (record { target = FileTarget (newest_path files); strip = strip; close = close }) bytes
@@ -268,7 +294,7 @@ module _ (files piped : List Entry) (store store' : StoreRecord) (launcher : Lau
           (ap (λ (s : StoreRecord). s.files) front.fails.1 ∙ appended_files front.front);
     };
     long = ap (λ (s : StoreRecord). s.long) front.fails.1;
-    launcher_faults = refl;
+    launcher = refl;
   }
 
 -- a piece was given to the program that was written last
@@ -282,23 +308,29 @@ module _ (files piped : List Entry) (store : StoreRecord) (launcher launcher' : 
       GivesKept done.Ok (record { target = Child; strip = strip; close = close }) bytes (kept_in files piped store launcher)
       (kept_in files piped store launcher')
   unfolding given
-  child_given strip close bytes is = record {
-    world_now = ap (λ (outside : Outside). record { outside = outside; piped = piped })
-        (ap (outside_with store.files) is ∙ fed_is (kept strip bytes));
-    files_now = refl;
-    keeps = record {
-      files = keeps.files;
-      programs = record {
-        are_taking = each_then (λ other. IsTaking (child_no other.1) launcher) (λ other. IsTaking (child_no other.1) launcher')
-            (λ other taking. IsTaking-fed (child_no other.1) (child_no it.1) (kept strip bytes) launcher launcher' is taking) piped keeps.programs.are_taking;
-        apart = keeps.programs.apart;
-        few = keeps.programs.few;
+  child_given strip close bytes is = (
+    record {
+      world_now = ap (λ (outside : Outside). record { outside = outside; piped = piped })
+          (ap (outside_with store.files) is ∙ fed_is (kept strip bytes));
+      files_now = refl;
+      keeps = record {
+        files = keeps.files;
+        programs = record {
+          are_taking = each_then (λ other. IsTaking (child_no other.1) launcher) (λ other. IsTaking (child_no other.1) launcher')
+              (λ other taking. IsTaking-fed (child_no other.1) (child_no it.1) (kept strip bytes) launcher launcher' is taking) piped keeps.programs.are_taking;
+          apart = keeps.programs.apart;
+          few = keeps.programs.few;
+        };
       };
-    };
-    store_faults = refl;
-    long = refl;
-    launcher_faults = ap (λ (l : LauncherRecord). l.faults) is;
-  }
+      store_faults = refl;
+      long = refl;
+      launcher_faults = ap (λ (l : LauncherRecord). l.faults) is;
+    },
+    (refl, launcher_is),
+  )
+    where
+      launcher_is : launcher' ≡ record launcher { children = launcher'.children }
+      launcher_is = is ∙ ap (λ (all : Option (List ChildRecord)). record launcher { children = all }) (sym (ap (λ (l : LauncherRecord). l.children) is))
 
   pub child_not_given : (strip close : Bool) (bytes : List ℕ) (failed : Failed) → FeedsAll (Err failed) (child_no it.1) (kept strip bytes) launcher launcher' →
       GivesKept done.LaunchFault (record { target = Child; strip = strip; close = close }) bytes (kept_in files piped store launcher)
@@ -323,7 +355,7 @@ files_not_closed files files' piped store store' launcher fails = record {
   rose = fails.rose;
   stands = inl (ap (λ (all : Option (List File)). outside_with all launcher) fails.files_now);
   long = fails.long;
-  launcher_faults = refl;
+  launcher = refl;
 }
 
 module _ (files files' piped piped' : List Entry) (store store' : StoreRecord) (launcher launcher' : LauncherRecord)

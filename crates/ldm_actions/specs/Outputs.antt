@@ -1,5 +1,5 @@
 -- What an `Outputs` keeps, and what each call of it does.
-use Rattle.std.specs.Prelude.{◌≡◌, ℕ, Bool, true, false, List, [], ◌∷◌, drop, Option, Some, None}
+use Rattle.std.specs.Prelude.{◌≡◌, ℕ, Bool, true, false, List, [], ◌∷◌, drop, Option, Some, None, IsSome}
 use Rattle.ldm_outside.specs.Count.{Rose}
 use Rattle.ldm_outside.specs.Launcher.{LauncherRecord}
 use Rattle.ldm_outside.specs.Store.{StoreRecord}
@@ -15,7 +15,7 @@ use Rattle.ldm_actions.specs.Hands.{hand_seen}
 use Rattle.ldm_actions.specs.Kept.{IsNewest}
 use Rattle.ldm_actions.specs.OpenFiles.{KeepsFiles, file_side, used}
 use Rattle.ldm_actions.specs.Parts.{IsGivenPart, begin_parts, close_parts, finish_parts}
-use Rattle.ldm_actions.specs.Programs.{IsOneOf, KeepsPrograms, program_side, world_with}
+use Rattle.ldm_actions.specs.Programs.{IsOneOf, KeepsPrograms, program_side, running_after, world_with}
 use Rattle.ldm_actions.specs.World.{Outside, World}
 
 -- What is kept open and running, and what the store and the launcher tell.
@@ -51,7 +51,7 @@ pub record StoreStops (IsPart : Outside → Type 0) (old new : Kept) : Type 0 wh
   pub rose : Rose old.store.faults new.store.faults
   pub stands : IsPart (world_of new).outside
   pub long : new.store.long ≡ old.store.long
-  pub launcher_faults : new.launcher.faults ≡ old.launcher.faults
+  pub launcher : new.launcher ≡ old.launcher
 
 -- The launcher failed, and what stands is such.
 pub record LauncherStops (IsPart : Outside → Type 0) (old new : Kept) : Type 0 where
@@ -67,21 +67,42 @@ files_after_begin (ToProgram words options) old = old.files
 files_after_begin (Start words wait) old = old.files
 files_after_begin Nothing old = old.files
 
+-- what is left alone by writing to a target
+abbrev pub Leaves : Target → Kept → Kept → Type 0
+Leaves Nowhere old new = (new.store ≡ old.store) × (new.launcher ≡ old.launcher)
+Leaves (File path) old new = new.launcher ≡ old.launcher
+Leaves Child old new = new.store ≡ old.store
+
+-- What is left alone by beginning an action. A program that was started by EXEC is told no more: it has ended, or was let go.
+abbrev pub BeginLeaves : Action → Kept → Kept → Type 0
+BeginLeaves (ToFile path options) old new = new.launcher ≡ old.launcher
+BeginLeaves (ToProgram words options) old new = new.store ≡ old.store
+BeginLeaves (Start words wait) old new = (new.store ≡ old.store) × (new.launcher.running ≡ running_after words old.launcher)
+BeginLeaves Nothing old new = (new.store ≡ old.store) × (new.launcher ≡ old.launcher)
+
 -- What beginning an action did to what is kept.
 abbrev pub BeginsKept : Begun → Action → Kept → Kept → Type 0
-BeginsKept answer.Ready action old new = Becomes (begun action (world_of old)) (files_after_begin action old) old new
+BeginsKept answer.Ready action old new =
+    Becomes (begun action (world_of old)) (files_after_begin action old) old new × BeginLeaves action old new
 BeginsKept answer.StoreFault action old new = StoreStops (IsOneOf (begin_parts action (world_of old))) old new
 BeginsKept answer.LaunchFault action old new = LauncherStops (IsOneOf (begin_parts action (world_of old))) old new
 BeginsKept answer.OutOfMemory action old new = new ≡ old
 
--- What each further call did: this world and these files, or what stands is such.
-abbrev pub GoesOn : Done → World → List (List ℕ × ℕ) → (Outside → Type 0) → Kept → Kept → Type 0
-GoesOn done.Ok world files IsPart old new = Becomes world files old new
-GoesOn done.StoreFault world files IsPart old new = StoreStops IsPart old new
-GoesOn done.LaunchFault world files IsPart old new = LauncherStops IsPart old new
+-- What each further call did: all of it, or what stands is such.
+abbrev pub GoesOn : Done → Type 0 → (Outside → Type 0) → Kept → Kept → Type 0
+GoesOn done.Ok all IsPart old new = all
+GoesOn done.StoreFault all IsPart old new = StoreStops IsPart old new
+GoesOn done.LaunchFault all IsPart old new = LauncherStops IsPart old new
+
+-- nothing that the store and the launcher tell changed but the bytes of files, or those that children were given
+abbrev pub OnlyGives : Target → Kept → Kept → Type 0
+OnlyGives Nowhere old new = (new.store ≡ old.store) × (new.launcher ≡ old.launcher)
+OnlyGives (File path) old new = (new.store ≡ record old.store { files = new.store.files }) × (new.launcher ≡ old.launcher)
+OnlyGives Child old new = (new.store ≡ old.store) × (new.launcher ≡ record old.launcher { children = new.launcher.children })
 
 abbrev pub GivesKept : Done → InHand → List ℕ → Kept → Kept → Type 0
-GivesKept result hand bytes old new = GoesOn result (given hand bytes (world_of old)) old.files (IsGivenPart hand bytes (world_of old)) old new
+GivesKept result hand bytes old new =
+    GoesOn result (Becomes (given hand bytes (world_of old)) old.files old new × OnlyGives hand.target old new) (IsGivenPart hand bytes (world_of old)) old new
 
 -- the files that are kept open after an action was finished
 abbrev pub files_after_finish : Target → Bool → List (List ℕ × ℕ) → List (List ℕ × ℕ)
@@ -92,10 +113,12 @@ files_after_finish Child close files = files
 
 abbrev pub FinishesKept : Done → InHand → Kept → Kept → Type 0
 FinishesKept result hand old new =
-    GoesOn result (finished hand (world_of old)) (files_after_finish hand.target hand.close old.files) (IsOneOf (finish_parts hand (world_of old))) old new
+    GoesOn result
+    (Becomes (finished hand (world_of old)) (files_after_finish hand.target hand.close old.files) old new × Leaves hand.target old new)
+    (IsOneOf (finish_parts hand (world_of old))) old new
 
 abbrev pub ClosesKept : Done → Kept → Kept → Type 0
-ClosesKept result old new = GoesOn result (closed (world_of old)) [] (IsOneOf (close_parts (world_of old))) old new
+ClosesKept result old new = GoesOn result (Becomes (closed (world_of old)) [] old new) (IsOneOf (close_parts (world_of old))) old new
 
 -- An action in hand writes to what was used last.
 abbrev pub IsOfKept : Target → List (List ℕ × ℕ) → List (List ℕ × ℕ) → Type 0
@@ -145,6 +168,21 @@ pub record KeepsAll (now : Standing) : Type 0 where
 -- the same of one that is not spent
 abbrev pub KeepsUnlessSpent : Standing → Type 0
 KeepsUnlessSpent now = now.outputs.spent ≡ None → KeepsAll now
+
+-- what was just made keeps nothing, of whatever store and launcher
+abbrev pub KeepsOfAny : OutputsView → Type 0
+KeepsOfAny outputs = (store : StoreRecord) (launcher : LauncherRecord) → KeepsUnlessSpent (standing outputs store launcher)
+
+-- an action is in hand, of one that is not spent
+abbrev pub HasHand : OutputsView → Type 0
+HasHand outputs = outputs.spent ≡ None → IsSome outputs.hand
+
+-- an action is in hand after it was begun, but for want of memory
+abbrev pub BeginsHand : Begun → OutputsView → Type 0
+BeginsHand answer.Ready outputs = HasHand outputs
+BeginsHand answer.StoreFault outputs = HasHand outputs
+BeginsHand answer.LaunchFault outputs = HasHand outputs
+BeginsHand answer.OutOfMemory outputs = Unit {0}
 
 -- It is not spent, and this action is in hand.
 pub record HasInHand (hand : Option InHand) (now : Standing) : Type 0 where

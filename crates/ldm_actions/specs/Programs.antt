@@ -4,8 +4,8 @@ use Rattle.std.specs.declared.alloc.Global.{Global}
 use Rattle.ldm_outside.specs.Count.{Rose}
 use Rattle.ldm_outside.specs.declared.fault.Failed.{Failed}
 use Rattle.ldm_outside.specs.declared.launcher.ChildNo.{ChildNo}
-use Rattle.ldm_outside.specs.Launcher.{IsTaking, LauncherFails, LauncherRecord, StartsChild, running_at, spelled, with_input_shut, with_shut, with_started, with_waited}
-use Rattle.ldm_outside.specs.Numbered.{without_number}
+use Rattle.ldm_outside.specs.Launcher.{IsTaking, LauncherFails, LauncherRecord, Running, StartsChild, running_at, spelled, with_input_shut, with_shut, with_started, with_waited}
+use Rattle.ldm_outside.specs.Numbered.{with_number, without_number}
 use Rattle.ldm_outside.specs.Store.{File}
 use Rattle.ldm_actions.specs.declared.answers.Begun.{Begun}
 use Rattle.ldm_actions.specs.declared.answers.Begun.TheVariants as begun
@@ -137,3 +137,7 @@ Executes (Ok ok) words wait old new =
 Executes (Err failed) words wait old new =
     LauncherFails old new
     ⊎ ((told : List (String Global)) × (spelled told ≡ words) × (wait ≡ true) × LauncherFails (with_started told false old) new)
+
+-- the programs that run after one was started that is told no more
+abbrev pub running_after : List (List ℕ) → LauncherRecord → List (ℕ × Running)
+running_after words old = without_number old.next (with_number old.next (record { words = words; piped = false; shut = false }) old.running)

@@ -1,7 +1,7 @@
 //! Outputs: files that are kept open and programs that run on, from one action to the next.
-ghost use Rattle.std.specs.Prelude.{◌≡◌, IfOk, IsSome, None};
+ghost use Rattle.std.specs.Prelude.{◌≡◌, IfOk};
 ghost use Rattle.ldm_actions.specs.Hands.{action_of};
-ghost use Rattle.ldm_actions.specs.Outputs.{Begins, Closes, Finishes, Gives, KeepsUnlessSpent, no_outputs, standing};
+ghost use Rattle.ldm_actions.specs.Outputs.{Begins, BeginsHand, Closes, Finishes, Gives, HasHand, KeepsOfAny, KeepsUnlessSpent, no_outputs, standing};
 
 use crate::action::Action;
 use crate::answers::{Begun, Done, Fault};
@@ -37,7 +37,8 @@ impl Model for Outputs {
 impl Outputs {
     /// Outputs that keep nothing.
     pub fn create(alloc: Global) -> Result<Outputs, AllocError>
-        ensures { IfOk result (λ made. made ≡ no_outputs) }
+        ensures empty { IfOk result (λ made. made ≡ no_outputs) }
+        ensures keeps { IfOk result KeepsOfAny }
     {
         Ok(Outputs {
             files: Recent::new(alloc)?,
@@ -59,6 +60,7 @@ impl Outputs {
         requires { KeepsUnlessSpent (standing self.old (F.tells store.old) (L.tells launcher.old)) }
         ensures begun { Begins result (action_of action.now) (standing self.old (F.tells store.old) (L.tells launcher.old)) (standing self.new (F.tells store.new) (L.tells launcher.new)) }
         ensures keeps { KeepsUnlessSpent (standing self.new (F.tells store.new) (L.tells launcher.new)) }
+        ensures in_hand { BeginsHand result self.new }
     {
         if let Some(fault) = self.spent {
             return fault.begun();
@@ -88,9 +90,10 @@ impl Outputs {
         bytes: &[u8],
     ) -> Done
         requires keeps { KeepsUnlessSpent (standing self.old (F.tells store.old) (L.tells launcher.old)) }
-        requires in_hand { self.old.spent ≡ None → IsSome self.old.hand }
+        requires in_hand { HasHand self.old }
         ensures given { Gives result bytes.now (standing self.old (F.tells store.old) (L.tells launcher.old)) (standing self.new (F.tells store.new) (L.tells launcher.new)) }
         ensures keeps { KeepsUnlessSpent (standing self.new (F.tells store.new) (L.tells launcher.new)) }
+        ensures in_hand { HasHand self.new }
     {
         if let Some(fault) = self.spent {
             return fault.done();
@@ -112,7 +115,7 @@ impl Outputs {
     /// Finishes the action in hand.
     pub fn finish<F: Store, L: Launcher>(&mut self, store: &mut F, launcher: &mut L) -> Done
         requires keeps { KeepsUnlessSpent (standing self.old (F.tells store.old) (L.tells launcher.old)) }
-        requires in_hand { self.old.spent ≡ None → IsSome self.old.hand }
+        requires in_hand { HasHand self.old }
         ensures finished { Finishes result (standing self.old (F.tells store.old) (L.tells launcher.old)) (standing self.new (F.tells store.new) (L.tells launcher.new)) }
         ensures keeps { KeepsUnlessSpent (standing self.new (F.tells store.new) (L.tells launcher.new)) }
     {
