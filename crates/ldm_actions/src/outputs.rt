@@ -9,7 +9,8 @@ use crate::hand::Hand;
 use crate::recent::Recent;
 use crate::steps;
 use ldm_outside::{Launcher, Store};
-use std::alloc::{AllocError, Global};
+use ldm_types::OutOfMemory;
+use std::alloc::Global;
 use std::marker::Model;
 
 /// Carries out actions over a store and a launcher. It keeps at most [`MOST_OPEN`](crate::MOST_OPEN) files open and
@@ -36,7 +37,7 @@ impl Model for Outputs {
 
 impl Outputs {
     /// Outputs that keep nothing.
-    pub fn create(alloc: Global) -> Result<Outputs, AllocError>
+    pub fn create(alloc: Global) -> Result<Outputs, OutOfMemory>
         ensures empty { IfOk result (λ made. made ≡ no_outputs) }
         ensures keeps { IfOk result KeepsOfAny }
     {
