@@ -1,0 +1,12 @@
+pub mod Step
+pub mod Watched
+pub mod Notices
+pub mod Told
+pub mod Outside
+pub mod Watches
+pub mod Complete
+pub mod StreamView
+pub mod InsideStream
+pub mod Taking
+pub mod Turns
+pub mod Sessions

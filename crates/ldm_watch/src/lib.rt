@@ -1,0 +1,18 @@
+//! One asks a peer to be told of the products of a class, and writes a line for each.
+#![tactic(auto)]
+
+mod end;
+mod limits;
+mod notices;
+mod reading;
+mod session;
+mod step;
+mod stop;
+mod stream;
+mod watching;
+
+pub use end::WatchEnd;
+pub use limits::{LONGEST_PIECE, LONGEST_STREAM};
+pub use session::watch;
+pub use step::Step;
+pub use watching::{Phase, Watching};
