@@ -1,0 +1,146 @@
+-- Which messages come with the first bytes of a feeding, in whatever pieces.
+use Rattle.std.proofs.Common.{◌≡◌, ℕ, ◌+◌, ◌<◌, ◌≤◌, false, leb, List, [], ◌∷◌, ◌++◌, length, None, refl, ap, sym, subst, ◌∙◌, arith}
+use Rattle.std.specs.Prelude.{All, Contains, map}
+use Rattle.std.specs.List.{flat_map, AllByRecursion}
+use Rattle.std.proofs.lemmas.Bool.{lt-leb}
+use Rattle.std.proofs.lemmas.List.{append-nil}
+use Rattle.std.proofs.lemmas.List.Elements.{All-nil, All-cons, Contains-push, Contains-append_left, Contains-append_right}
+use Rattle.ldm_rpc.specs.Reading.{after_byte, is_faulty}
+use Rattle.ldm_rpc.specs.Spelling.{Record, Fits, IsShort, spelling}
+use Rattle.ldm_rpc.specs.Streams.{Position, Placed, forgets, in_hand, placed, records_in}
+use Rattle.ldm_relay.specs.declared.message.TheConstants.{LARGEST_RECORD}
+use Rattle.ldm_relay.specs.Sent.{Sent}
+use Rattle.ldm_relay.specs.Spelling.{written, record_of, in_one}
+use Rattle.ldm_intake.specs.Taken.{Arrival}
+use Rattle.ldm_downstream.specs.declared.limits.TheConstants.{LONGEST_STREAM}
+use Rattle.ldm_downstream.specs.Pieces.{Piece, within, arrived, arrivals, beginning, hand, joined}
+use Rattle.ldm_downstream.specs.Received.{end_by_bytes}
+use Rattle.ldm_downstream.specs.Untimed.{untimed}
+use Rattle.ldm_passing.specs.Passing.{moments_of}
+use Rattle.ldm_passing.proofs.Reaching.{First}
+use Rattle.ldm_passing.proofs.Pieces.{StreamLaws, rest-reads}
+use Rattle.ldm_passing.proofs.Sizes.{IsShortMessage}
+use Rattle.ldm_passing.proofs.Splitting.{IsPart, splits, splits-all}
+
+-- ---- moments
+
+arrived-moments : (moments : List ℕ) (now : ℕ) (records : List Placed) (others : List Arrival) → Contains moments now
+    → AllByRecursion (λ (a : Arrival). Contains moments a.now) others → AllByRecursion (λ (a : Arrival). Contains moments a.now) (arrived now records ++ others)
+arrived-moments moments now [] others is all = all
+arrived-moments moments now (placed_ ∷ records) others is all = (is, arrived-moments moments now records others is all)
+
+arrivals-moments : (moments : List ℕ) (p : Position) (pieces : List Piece) → AllByRecursion (λ (piece : Piece). Contains moments piece.now) pieces
+    → AllByRecursion (λ (a : Arrival). Contains moments a.now) (arrivals p pieces)
+unfolding arrivals
+arrivals-moments moments p [] all = tt
+arrivals-moments moments p (piece ∷ pieces) all =
+    arrived-moments moments piece.now (records_in p (within p piece.bytes)) (arrivals (in_hand p (within p piece.bytes)) pieces) all.0
+    (arrivals-moments moments (in_hand p (within p piece.bytes)) pieces all.1)
+
+pieces-moments : (moments : List ℕ) (pieces : List Piece) → ((n : ℕ) → Contains (moments_of pieces) n → Contains moments n)
+    → AllByRecursion (λ (piece : Piece). Contains moments piece.now) pieces
+pieces-moments moments [] among = tt
+pieces-moments moments (piece ∷ pieces) among = (
+  among piece.now (Contains-append_left (piece.now ∷ []) (moments_of pieces) piece.now (Contains-push [] piece.now)),
+  pieces-moments moments pieces (λ n has. among n (Contains-append_right (piece.now ∷ []) (moments_of pieces) n has)),
+)
+
+-- ---- messages
+
+abbrev pub record_bytes : Sent → List ℕ
+record_bytes m = record_of (written m)
+
+abbrev pub one_record : Sent → Record
+one_record m = in_one (written m)
+
+content_first : List Placed → List ℕ
+content_first [] = []
+content_first (p ∷ ps) = p.content
+
+behind_first : List Placed → List Placed
+behind_first [] = []
+behind_first (p ∷ ps) = ps
+
+first-none : (moments : List ℕ) (behind : List Sent) → First moments behind [] behind
+first-none moments [] = refl
+first-none moments (m ∷ behind) = refl
+
+first-of : (moments : List ℕ) (front behind : List Sent) (at : ℕ) (came : List Arrival) → untimed came ≡ placed at (map one_record front)
+    → AllByRecursion (λ (a : Arrival). Contains moments a.now) came → First moments (front ++ behind) came behind
+unfolding placed content_first behind_first
+first-of moments [] behind at [] same all = first-none moments behind
+first-of moments [] behind at (a ∷ came) same all = absurd (cc same)
+first-of moments (m ∷ front) behind at [] same all = absurd (cc same)
+first-of moments (m ∷ front) behind at (a ∷ came) same all =
+    (ap content_first same, all.0, first-of moments front behind _ came (ap behind_first same) all.1)
+
+-- ---- bytes
+
+records-bytes : (messages : List Sent) → flat_map record_bytes messages ≡ flat_map spelling (map one_record messages)
+records-bytes [] = refl
+records-bytes (m ∷ messages) = ap (λ (x : List ℕ). record_bytes m ++ x) (records-bytes messages)
+
+part-records : (behind : List Sent) (part : List ℕ) → IsPart record_bytes behind part → IsPart spelling (map one_record behind) part
+part-records [] part is = is
+part-records (m ∷ behind) part is = is
+
+all-fit : (messages : List Sent) → AllByRecursion IsShortMessage messages → All (Fits LARGEST_RECORD) (map one_record messages)
+all-fit [] short = All-nil (Fits LARGEST_RECORD)
+all-fit (m ∷ messages) short =
+    All-cons (Fits LARGEST_RECORD) (one_record m) (map one_record messages)
+    (record { before = All-nil IsShort; last = omega (arith, short.0); within = short.0 }) (all-fit messages short.1)
+
+all-front : (front behind : List Sent) → AllByRecursion IsShortMessage (front ++ behind) → AllByRecursion IsShortMessage front
+all-front [] behind short = tt
+all-front (m ∷ front) behind short = (short.0, all-front front behind short.1)
+
+all-behind : (front behind : List Sent) → AllByRecursion IsShortMessage (front ++ behind) → AllByRecursion IsShortMessage behind
+all-behind [] behind short = short
+all-behind (m ∷ front) behind short = all-behind front behind short.1
+
+came-behind : (p : Position) (bytes : List ℕ) → (in_hand p bytes).came ≡ p.came + length bytes
+unfolding in_hand
+came-behind p [] = omega arith
+came-behind p (byte ∷ bytes) =
+    let rest = came-behind (forgets p.begins (p.came + 1) (after_byte p.reading byte)) bytes in
+    omega (arith, rest)
+
+-- The first of these messages came, and behind them nothing ends the receiving.
+pub record Arrives (messages : List Sent) (pieces : List Piece) : Type 0 where
+  pub behind : List Sent
+  pub first : First (moments_of pieces) messages (arrivals beginning pieces) behind
+  pub on : end_by_bytes (hand beginning pieces) ≡ None
+  pub whole : joined pieces ≡ flat_map record_bytes messages → behind ≡ []
+
+module _ (laws : StreamLaws)
+    (records_law : (pieces : List Piece) → length (joined pieces) ≤ LONGEST_STREAM → untimed (arrivals beginning pieces) ≡ records_in beginning (joined pieces))
+    (hand_law : (pieces : List Piece) → length (joined pieces) ≤ LONGEST_STREAM → hand beginning pieces ≡ in_hand beginning (joined pieces))
+    (messages : List Sent) (short : AllByRecursion IsShortMessage messages) (pieces : List Piece) (rest : List ℕ)
+    (is : joined pieces ++ rest ≡ flat_map record_bytes messages) (few : length (joined pieces) < LONGEST_STREAM) where
+  pub arrives : Arrives messages pieces
+  arrives =
+      let got = joined pieces in
+      let cut = splits record_bytes messages got rest is in
+      let records = map one_record cut.front in
+      let shorts : AllByRecursion IsShortMessage (cut.front ++ cut.behind) = subst (λ (x : List Sent). AllByRecursion IsShortMessage x) (sym cut.all) short in
+      let front_fits = all-fit cut.front (all-front cut.front cut.behind shorts) in
+      let behind_fits = all-fit cut.behind (all-behind cut.front cut.behind shorts) in
+      let at = 0 + length (flat_map spelling records) in
+      let reads = rest-reads laws LARGEST_RECORD at (map one_record cut.behind) cut.part behind_fits (part-records cut.behind cut.part cut.part_is) in
+      let got_is : got ≡ flat_map spelling records ++ cut.part = cut.got_is ∙ ap (λ (x : List ℕ). x ++ cut.part) (records-bytes cut.front) in
+      let came : untimed (arrivals beginning pieces) ≡ placed 0 records =
+      records_law pieces (omega arith) ∙ ap (records_in beginning) got_is ∙ laws.records LARGEST_RECORD 0 records cut.part front_fits
+      ∙ ap (λ (x : List Placed). placed 0 records ++ x) reads.out_is ∙ append-nil (placed 0 records) in
+      let moments = arrivals-moments (moments_of pieces) beginning pieces (pieces-moments (moments_of pieces) pieces (λ n has. has)) in
+      let sound : is_faulty (hand beginning pieces).reading ≡ false =
+      ap (λ (q : Position). is_faulty q.reading) (hand_law pieces (omega arith) ∙ ap (in_hand beginning) got_is ∙ laws.hand LARGEST_RECORD 0 records cut.part front_fits) ∙ reads.sound in
+      let below : leb LONGEST_STREAM (hand beginning pieces).came ≡ false =
+      lt-leb LONGEST_STREAM (hand beginning pieces).came
+      (omega (arith, few, ap (λ (q : Position). q.came) (hand_law pieces (omega arith)), came-behind beginning got)) in
+      record {
+        behind = cut.behind;
+        first = subst (λ (x : List Sent). First (moments_of pieces) x (arrivals beginning pieces) cut.behind) cut.all
+            (first-of (moments_of pieces) cut.front cut.behind 0 (arrivals beginning pieces) came moments);
+        on = rw (sound, below) refl;
+        whole = λ all. splits-all record_bytes messages got cut all;
+      }

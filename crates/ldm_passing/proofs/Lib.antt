@@ -1,0 +1,12 @@
+pub mod Messages
+pub mod Growing
+pub mod Reaching
+pub mod Taking
+pub mod Announcing
+pub mod Filling
+pub mod Following
+pub mod Splitting
+pub mod Pieces
+pub mod Sizes
+pub mod Arriving
+pub mod Joining

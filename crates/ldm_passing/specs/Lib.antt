@@ -1,0 +1,4 @@
+pub mod Handed
+pub mod Takings
+pub mod Codes
+pub mod Passing
