@@ -13,10 +13,11 @@ use Rattle.ldm_relay.specs.Sent.{Sent}
 use Rattle.ldm_relay.specs.Spelling.{written, record_of, in_one}
 use Rattle.ldm_intake.specs.Taken.{Arrival}
 use Rattle.ldm_downstream.specs.declared.limits.TheConstants.{LONGEST_STREAM}
-use Rattle.ldm_downstream.specs.Pieces.{Piece, within, arrived, arrivals, beginning, hand, joined}
+use Rattle.ldm_downstream.specs.Pieces.{Piece, within, arrived, arrivals, hand, joined}
 use Rattle.ldm_downstream.specs.Received.{end_by_bytes}
 use Rattle.ldm_downstream.specs.Untimed.{untimed}
-use Rattle.ldm_passing.specs.Passing.{moments_of}
+use Rattle.ldm_downstream.proofs.Cut.{cut-records, cut-hand}
+use Rattle.ldm_passing.specs.Passing.{moments_of, record_at}
 use Rattle.ldm_passing.proofs.Reaching.{First}
 use Rattle.ldm_passing.proofs.Pieces.{StreamLaws, rest-reads}
 use Rattle.ldm_passing.proofs.Sizes.{IsShortMessage}
@@ -105,42 +106,52 @@ came-behind p (byte ∷ bytes) =
     let rest = came-behind (forgets p.begins (p.came + 1) (after_byte p.reading byte)) bytes in
     omega (arith, rest)
 
--- The first of these messages came, and behind them nothing ends the receiving.
-pub record Arrives (messages : List Sent) (pieces : List Piece) : Type 0 where
-  pub behind : List Sent
-  pub first : First (moments_of pieces) messages (arrivals beginning pieces) behind
-  pub on : end_by_bytes (hand beginning pieces) ≡ None
-  pub whole : joined pieces ≡ flat_map record_bytes messages → behind ≡ []
+-- where all came, there is no part of a record
+no-part : (behind : List Sent) (part : List ℕ) → behind ≡ [] → IsPart record_bytes behind part → part ≡ []
+no-part [] part none is = is
+no-part (m ∷ behind) part none is = absurd (cc none)
 
-module _ (laws : StreamLaws)
-    (records_law : (pieces : List Piece) → length (joined pieces) ≤ LONGEST_STREAM → untimed (arrivals beginning pieces) ≡ records_in beginning (joined pieces))
-    (hand_law : (pieces : List Piece) → length (joined pieces) ≤ LONGEST_STREAM → hand beginning pieces ≡ in_hand beginning (joined pieces))
-    (messages : List Sent) (short : AllByRecursion IsShortMessage messages) (pieces : List Piece) (rest : List ℕ)
-    (is : joined pieces ++ rest ≡ flat_map record_bytes messages) (few : length (joined pieces) < LONGEST_STREAM) where
-  pub arrives : Arrives messages pieces
+-- The first of these messages came, and behind them nothing ends the receiving.
+pub record Arrives (at : ℕ) (messages : List Sent) (pieces : List Piece) : Type 0 where
+  pub behind : List Sent
+  pub first : First (moments_of pieces) messages (arrivals (record_at at) pieces) behind
+  pub on : end_by_bytes (hand (record_at at) pieces) ≡ None
+  pub whole : joined pieces ≡ flat_map record_bytes messages → behind ≡ []
+  pub edge : behind ≡ [] → hand (record_at at) pieces ≡ record_at (at + length (joined pieces))
+
+module _ (laws : StreamLaws) (at : ℕ) (messages : List Sent) (short : AllByRecursion IsShortMessage messages) (pieces : List Piece) (rest : List ℕ)
+    (is : joined pieces ++ rest ≡ flat_map record_bytes messages) (few : at + length (joined pieces) < LONGEST_STREAM) where
+  pub arrives : Arrives at messages pieces
+  unfolding in_hand
   arrives =
+      let p = record_at at in
       let got = joined pieces in
       let cut = splits record_bytes messages got rest is in
       let records = map one_record cut.front in
       let shorts : AllByRecursion IsShortMessage (cut.front ++ cut.behind) = subst (λ (x : List Sent). AllByRecursion IsShortMessage x) (sym cut.all) short in
       let front_fits = all-fit cut.front (all-front cut.front cut.behind shorts) in
       let behind_fits = all-fit cut.behind (all-behind cut.front cut.behind shorts) in
-      let at = 0 + length (flat_map spelling records) in
-      let reads = rest-reads laws LARGEST_RECORD at (map one_record cut.behind) cut.part behind_fits (part-records cut.behind cut.part cut.part_is) in
+      let then_at = at + length (flat_map spelling records) in
+      let reads = rest-reads laws LARGEST_RECORD then_at (map one_record cut.behind) cut.part behind_fits (part-records cut.behind cut.part cut.part_is) in
       let got_is : got ≡ flat_map spelling records ++ cut.part = cut.got_is ∙ ap (λ (x : List ℕ). x ++ cut.part) (records-bytes cut.front) in
-      let came : untimed (arrivals beginning pieces) ≡ placed 0 records =
-      records_law pieces (omega arith) ∙ ap (records_in beginning) got_is ∙ laws.records LARGEST_RECORD 0 records cut.part front_fits
-      ∙ ap (λ (x : List Placed). placed 0 records ++ x) reads.out_is ∙ append-nil (placed 0 records) in
-      let moments = arrivals-moments (moments_of pieces) beginning pieces (pieces-moments (moments_of pieces) pieces (λ n has. has)) in
-      let sound : is_faulty (hand beginning pieces).reading ≡ false =
-      ap (λ (q : Position). is_faulty q.reading) (hand_law pieces (omega arith) ∙ ap (in_hand beginning) got_is ∙ laws.hand LARGEST_RECORD 0 records cut.part front_fits) ∙ reads.sound in
-      let below : leb LONGEST_STREAM (hand beginning pieces).came ≡ false =
-      lt-leb LONGEST_STREAM (hand beginning pieces).came
-      (omega (arith, few, ap (λ (q : Position). q.came) (hand_law pieces (omega arith)), came-behind beginning got)) in
+      let below_limit : at + length got ≤ LONGEST_STREAM = omega (arith, few) in
+      let came : untimed (arrivals p pieces) ≡ placed at records =
+      cut-records p pieces below_limit ∙ ap (records_in p) got_is ∙ laws.records LARGEST_RECORD at records cut.part front_fits
+      ∙ ap (λ (x : List Placed). placed at records ++ x) reads.out_is ∙ append-nil (placed at records) in
+      let moments = arrivals-moments (moments_of pieces) p pieces (pieces-moments (moments_of pieces) pieces (λ n has. has)) in
+      let hand_is : hand p pieces ≡ in_hand (record_at then_at) cut.part =
+      cut-hand p pieces below_limit ∙ ap (in_hand p) got_is ∙ laws.hand LARGEST_RECORD at records cut.part front_fits in
+      let sound : is_faulty (hand p pieces).reading ≡ false = ap (λ (q : Position). is_faulty q.reading) hand_is ∙ reads.sound in
+      let below : leb LONGEST_STREAM (hand p pieces).came ≡ false =
+      lt-leb LONGEST_STREAM (hand p pieces).came (omega (arith, few, ap (λ (q : Position). q.came) (cut-hand p pieces below_limit), came-behind p got)) in
       record {
         behind = cut.behind;
-        first = subst (λ (x : List Sent). First (moments_of pieces) x (arrivals beginning pieces) cut.behind) cut.all
-            (first-of (moments_of pieces) cut.front cut.behind 0 (arrivals beginning pieces) came moments);
+        first = subst (λ (x : List Sent). First (moments_of pieces) x (arrivals p pieces) cut.behind) cut.all
+            (first-of (moments_of pieces) cut.front cut.behind at (arrivals p pieces) came moments);
         on = rw (sound, below) refl;
         whole = λ all. splits-all record_bytes messages got cut all;
+        edge = λ none.
+            let no_part = no-part cut.behind cut.part none cut.part_is in
+            let all : got ≡ flat_map spelling records = got_is ∙ ap (λ (x : List ℕ). flat_map spelling records ++ x) no_part ∙ append-nil (flat_map spelling records) in
+            hand_is ∙ ap (in_hand (record_at then_at)) no_part ∙ ap (λ (x : List ℕ). record_at (at + length x)) (sym all);
       }

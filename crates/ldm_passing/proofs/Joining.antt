@@ -1,5 +1,5 @@
 -- A feeding that comes to a receiver that asked for it.
-use Rattle.std.proofs.Common.{◌≡◌, ℕ, ◌^◌, ◌<◌, ◌≤◌, Bool, true, false, List, [], ◌∷◌, ◌++◌, length, Option, None, refl, ap, sym, subst, ◌∙◌, arith}
+use Rattle.std.proofs.Common.{◌≡◌, ℕ, ◌+◌, ◌^◌, ◌<◌, Bool, true, false, List, [], ◌∷◌, ◌++◌, length, Option, None, refl, ap, sym, subst, ◌∙◌, arith}
 use Rattle.std.specs.List.{AllByRecursion}
 use Rattle.std.proofs.lemmas.Bool.{and_from}
 use Rattle.std.proofs.lemmas.List.{append-nil}
@@ -8,7 +8,6 @@ use Rattle.ldm_types.specs.Info.{Metadata}
 use Rattle.ldm_model.specs.declared.event.Entry.{Entry}
 use Rattle.ldm_class.specs.HostRules.{HostRules}
 use Rattle.ldm_class.specs.Classes.{wants}
-use Rattle.ldm_rpc.specs.Streams.{in_hand, records_in}
 use Rattle.ldm_relay.specs.declared.message.ClassAnswer.{ClassAnswer}
 use Rattle.ldm_relay.specs.declared.message.ClassAnswer.TheVariants as class_answer
 use Rattle.ldm_relay.specs.Sent.{Sent}
@@ -21,14 +20,12 @@ use Rattle.ldm_intake.proofs.Courses.{leads-then_parts}
 use Rattle.ldm_upstream.specs.Asked.{Asked}
 use Rattle.ldm_upstream.specs.Opening.{class_answer_of}
 use Rattle.ldm_upstream.specs.Turns.{messages_of_turns}
-use Rattle.ldm_upstream.specs.Feeding.{Feeding, begun, stands, last_messages, messages_of, bytes_of, codes_of, given_of}
-use Rattle.ldm_downstream.specs.declared.limits.TheConstants.{LONGEST_STREAM}
-use Rattle.ldm_downstream.specs.Pieces.{Piece, arrivals, beginning, hand, joined}
+use Rattle.ldm_upstream.specs.Feeding.{Feeding, begun, stands, last_messages, messages_of, codes_of, given_of}
+use Rattle.ldm_downstream.specs.Pieces.{arrivals, hand, joined}
 use Rattle.ldm_downstream.specs.Received.{end_behind, with_hand}
-use Rattle.ldm_downstream.specs.Untimed.{untimed}
 use Rattle.ldm_passing.specs.Codes.{Agree, soon_codes}
 use Rattle.ldm_passing.specs.Handed.{handed}
-use Rattle.ldm_passing.specs.Passing.{IsSound, IsGranted, HasAsked, Passing, PassesOn, PassesAll, IsAnswered, moments_of}
+use Rattle.ldm_passing.specs.Passing.{IsSound, IsGranted, HasAsked, Passing, IsPassing, CarriesAll, PassesFirst, PassesOn, PassesWhole, IsAnswered, moments_of, record_at}
 use Rattle.ldm_passing.proofs.Growing.{none-taken, comes-made}
 use Rattle.ldm_passing.proofs.Messages.{Again, reply_comes}
 use Rattle.ldm_passing.proofs.Reaching.{First, Passed, begins-nothing}
@@ -75,42 +72,48 @@ module _ (again : Again) (actor : ℕ) (moments : List ℕ) (asked : Asked) (fee
       granted.is.turns granted.is.last (recursion_from_All IsSound (given_of feeding) granted.sound) heard
       (record { replies = []; notes = []; arrivals = came; codes_are = refl; first = first.2; leads = leads-along actor _ _ made u comes leads })
 
--- What such a feeding came to.
-pub record Joined (actor : ℕ) (asked : Asked) (feeding : Feeding) (s : Receiving) (pieces : List Piece) (made : List Entry) (t : Taken) : Type 0 where
-  pub live : t.end ≡ None
-  pub passes : PassesOn actor (moments_of pieces) s.last t.receiving.last (handed feeding) made
-  pub whole : joined pieces ≡ bytes_of asked feeding → IsAnswered feeding.last → PassesAll actor (moments_of pieces) s t.receiving (handed feeding) made
+-- What a passing came to.
+pub record Joined (p : Passing) : Type 0 where
+  pub live : p.came_to.end ≡ None
+  pub passes : PassesFirst p
+  pub whole : CarriesAll p → IsAnswered p.feeding.last → PassesWhole p
+  pub edge : CarriesAll p → hand (record_at p.at) p.pieces ≡ record_at (p.at + length (joined p.pieces))
 
-module _ (again : Again) (laws : StreamLaws)
-    (records_law : (pieces : List Piece) → length (joined pieces) ≤ LONGEST_STREAM → untimed (arrivals beginning pieces) ≡ records_in beginning (joined pieces))
-    (hand_law : (pieces : List Piece) → length (joined pieces) ≤ LONGEST_STREAM → hand beginning pieces ≡ in_hand beginning (joined pieces))
-    (actor : ℕ) (asked : Asked) (feeding : Feeding) (s : Receiving) (pieces : List Piece) (made : List Entry) (t : Taken)
-    (passing : Passing actor asked feeding s pieces made t) where
-  pub joins : Joined actor asked feeding s pieces made t
-  joins =
-      let granted = passing.granted in
-      let moments = moments_of pieces in
-      let answer : class_answer_of feeding.answered ≡ class_answer.Ok = ap class_answer_of granted.opened in
-      let same : messages_of asked feeding ≡ sent.FeedmeReply asked.xid class_answer.Ok ∷ behind_reply feeding =
-      ap (λ (a : ClassAnswer). sent.FeedmeReply asked.xid a ∷ behind_reply feeding) answer in
-      let short : AllByRecursion IsShortMessage (messages_of asked feeding) = subst (λ (x : List Sent). AllByRecursion IsShortMessage x) (sym same)
-      (short-reply asked.xid, short-messages feeding.turns (begun feeding) feeding.last (recursion_from_All IsSound (given_of feeding) granted.sound)) in
-      let came = arrives laws records_law hand_law (messages_of asked feeding) short pieces passing.carries.rest passing.carries.is passing.carries.few in
-      let position = hand beginning pieces in
-      let parts = leads-then_parts actor (taken (taken_none s) (arrivals beginning pieces)) (λ (v : Taken). Comes (with_hand position v)) made t passing.leads in
-      let u = parts.mid in
-      let ends = comes-made actor (with_hand position u) parts.more t parts.second in
-      let made_is : parts.made ≡ made = sym (parts.all ∙ ap (λ (x : List Entry). parts.made ++ x) ends.0 ∙ append-nil parts.made) in
-      let heard : Agree (codes_of feeding) (soon_codes u.replies) =
-      subst (λ (v : Taken). Agree (codes_of feeding) (soon_codes v.replies)) (sym ends.1) passing.heard in
-      let all : Passed actor moments s.wanting s.max_hereis u s.last (handed feeding) (IsAnswered feeding.last) came.behind made =
-      all_by again actor moments asked feeding s u came.behind granted passing.asker heard (arrivals beginning pieces) made
-      (subst (λ (x : List Sent). First moments x (arrivals beginning pieces) came.behind) same came.first)
-      (subst (λ (x : List Entry). Leads actor (taken (taken_none s) (arrivals beginning pieces)) x u) made_is parts.first) in
-      record {
-        live = ap (λ (v : Taken). v.end) (sym ends.1) ∙ ap (end_behind position) all.live ∙ came.on;
-        passes = subst (λ (v : Taken). PassesOn actor moments s.last v.receiving.last (handed feeding) made) ends.1 all.passes;
-        whole = λ bytes ended.
-            let is = all.whole (came.whole bytes) ended in
-            record { takings = is.0; stands = ap (λ (v : Taken). v.receiving) (sym ends.1) ∙ is.1 };
-      }
+pub joins : (again : Again) (laws : StreamLaws) (p : Passing) → IsPassing p → Joined p
+joins again laws p passing =
+    let actor = p.actor in
+    let asked = p.asked in
+    let feeding = p.feeding in
+    let s = p.begins in
+    let pieces = p.pieces in
+    let made = p.made in
+    let t = p.came_to in
+    let granted = passing.granted in
+    let moments = moments_of pieces in
+    let came_to = arrivals (record_at p.at) pieces in
+    let answer : class_answer_of feeding.answered ≡ class_answer.Ok = ap class_answer_of granted.opened in
+    let same : messages_of asked feeding ≡ sent.FeedmeReply asked.xid class_answer.Ok ∷ behind_reply feeding =
+    ap (λ (a : ClassAnswer). sent.FeedmeReply asked.xid a ∷ behind_reply feeding) answer in
+    let sound = recursion_from_All IsSound (given_of feeding) granted.sound in
+    let short : AllByRecursion IsShortMessage (messages_of asked feeding) = subst (λ (x : List Sent). AllByRecursion IsShortMessage x) (sym same)
+    (short-reply asked.xid, short-messages feeding.turns (begun feeding) feeding.last sound) in
+    let came = arrives laws p.at (messages_of asked feeding) short pieces passing.carries.rest passing.carries.is passing.carries.few in
+    let position = hand (record_at p.at) pieces in
+    let parts = leads-then_parts actor (taken (taken_none s) came_to) (λ (v : Taken). Comes (with_hand position v)) made t passing.leads in
+    let u = parts.mid in
+    let ends = comes-made actor (with_hand position u) parts.more t parts.second in
+    let made_is : parts.made ≡ made = sym (parts.all ∙ ap (λ (x : List Entry). parts.made ++ x) ends.0 ∙ append-nil parts.made) in
+    let heard : Agree (codes_of feeding) (soon_codes u.replies) =
+    subst (λ (v : Taken). Agree (codes_of feeding) (soon_codes v.replies)) (sym ends.1) passing.heard in
+    let all : Passed actor moments s.wanting s.max_hereis u s.last (handed feeding) (IsAnswered feeding.last) came.behind made =
+    all_by again actor moments asked feeding s u came.behind granted passing.asker heard came_to made
+    (subst (λ (x : List Sent). First moments x came_to came.behind) same came.first)
+    (subst (λ (x : List Entry). Leads actor (taken (taken_none s) came_to) x u) made_is parts.first) in
+    record {
+      live = ap (λ (v : Taken). v.end) (sym ends.1) ∙ ap (end_behind position) all.live ∙ came.on;
+      passes = subst (λ (v : Taken). PassesOn actor moments s.last v.receiving.last (handed feeding) made) ends.1 all.passes;
+      whole = λ bytes ended.
+          let is = all.whole (came.whole bytes) ended in
+          record { takings = is.0; stands = ap (λ (v : Taken). v.receiving) (sym ends.1) ∙ is.1 };
+      edge = λ bytes. came.edge (came.whole bytes);
+    }

@@ -10,3 +10,6 @@ pub mod Pieces
 pub mod Sizes
 pub mod Arriving
 pub mod Joining
+pub mod Moments
+pub mod Queueing
+pub mod Setting

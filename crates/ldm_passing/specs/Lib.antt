@@ -2,3 +2,4 @@ pub mod Handed
 pub mod Takings
 pub mod Codes
 pub mod Passing
+pub mod Queue

@@ -1,5 +1,6 @@
 -- What a receiver asks of its queue for products that come to it, as entries of the queue. The queue may reply what it likes.
 use Rattle.std.specs.Prelude.{◌≡◌, ◌⊎◌, ℕ, Bool, true, false, List, [], ◌∷◌, ◌++◌, Contains}
+use Rattle.ldm_model.specs.declared.event.Event.{Event}
 use Rattle.ldm_model.specs.declared.event.Event.TheVariants.{Insert, Reserve, Fill, Commit}
 use Rattle.ldm_model.specs.declared.event.Reply.{Reply}
 use Rattle.ldm_model.specs.declared.event.Reply.TheVariants.{Reserved}
@@ -98,3 +99,11 @@ BeginsBy Announced actor product made = (made ≡ []) ⊎ Reserves actor product
 abbrev pub BeginsFirst : ℕ → List Handed → List Entry → Type 0
 BeginsFirst actor [] made = made ≡ []
 BeginsFirst actor (product ∷ behind) made = BeginsBy product.way actor product.given.product made
+
+-- ---- moments
+
+-- the moment of an event, where it has one
+abbrev pub IsAt : ℕ → Event → Type 0
+IsAt now (Insert at info body) = at ≡ now
+IsAt now (Commit r at) = at ≡ now
+IsAt now _ = Unit {0}

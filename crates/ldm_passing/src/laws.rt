@@ -1,35 +1,73 @@
 //! What holds of all feedings that come to a receiver. These functions do nothing: their contracts are the laws.
-ghost use Rattle.std.specs.Prelude.{◌≡◌, ℕ, List, None};
-ghost use Rattle.ldm_model.specs.declared.event.Entry.{Entry};
+ghost use Rattle.std.specs.Prelude.{◌≡◌, ℕ, ◌+◌, ◌≤◌, ◌++◌, length, List, Option, None, All, false};
+ghost use Rattle.ldm_types.specs.declared.class.ClassSpec.{ClassSpec};
+ghost use Rattle.ldm_types.specs.declared.limits.TheConstants.{LARGEST_ARENA};
+ghost use Rattle.ldm_types.specs.Info.{IsMetadata};
+ghost use Rattle.ldm_model.specs.Product.{extent_of};
+ghost use Rattle.ldm_model.specs.State.{State};
+ghost use Rattle.ldm_model.specs.History.{after_entries, IsLegalFrom};
+ghost use Rattle.ldm_session.specs.Owed.{Code};
 ghost use Rattle.ldm_upstream.specs.Asked.{Asked};
-ghost use Rattle.ldm_upstream.specs.Feeding.{Feeding, bytes_of};
-ghost use Rattle.ldm_intake.specs.Receiving.{Receiving};
-ghost use Rattle.ldm_intake.specs.Taken.{Taken};
-ghost use Rattle.ldm_downstream.specs.Pieces.{Piece, joined};
+ghost use Rattle.ldm_upstream.specs.Turn.{Given};
+ghost use Rattle.ldm_upstream.specs.Feeding.{IsFeeding};
+ghost use Rattle.ldm_intake.specs.Answered.{number_of_request};
+ghost use Rattle.ldm_intake.specs.Asking.{asked_class};
+ghost use Rattle.ldm_intake.specs.Opening.{requesting};
+ghost use Rattle.ldm_downstream.specs.Pieces.{hand, joined};
+ghost use Rattle.ldm_passing.specs.Codes.{Agree};
 ghost use Rattle.ldm_passing.specs.Handed.{handed};
-ghost use Rattle.ldm_passing.specs.Passing.{Passing, PassesOn, PassesAll, IsAnswered, moments_of};
+ghost use Rattle.ldm_passing.specs.Passing.{CameAt, CarriesAll, HasAsked, IsAnswered, IsPassing, IsSound, Passing, PassesFirst, PassesWhole, record_at};
+ghost use Rattle.ldm_passing.specs.Queue.{passed_all, products_of};
+ghost use Rattle.ldm_passing.specs.Takings.{IsAt};
 
-use ldm_downstream::pieces_make_no_difference;
 use ldm_relay::what_is_written_is_read;
 use ldm_rpc::{pieces_join, pushes_read_the_stream, records_are_read};
 
-/// What a receiver takes of the bytes that a feeder owes, cut anywhere and in whatever pieces: the products that were given and are
-/// due, in order, each once.
+/// What a receiver takes of the bytes that a feeder owes, cut anywhere and in whatever pieces: the products that were given and
+/// are due, in order, each once.
 pub fn products_are_passed_on()
     // No byte of a feeding ends the receiving.
-    ensures goes_on { (actor : ℕ) (asked : Asked) (feeding : Feeding) (s : Receiving) (pieces : List Piece) (made : List Entry) (t : Taken) →
-        Passing actor asked feeding s pieces made t → t.end ≡ None }
-    // The first products are taken, each by what a queue is asked for it, and of the next one perhaps some.
-    ensures in_order { (actor : ℕ) (asked : Asked) (feeding : Feeding) (s : Receiving) (pieces : List Piece) (made : List Entry) (t : Taken) →
-        Passing actor asked feeding s pieces made t → PassesOn actor (moments_of pieces) s.last t.receiving.last (handed feeding) made }
+    ensures goes_on { (p : Passing) → IsPassing p → p.came_to.end ≡ None }
+    // The first products are taken, each by what a queue is asked for it, and of the next one perhaps some was asked.
+    ensures in_order { (p : Passing) → IsPassing p → PassesFirst p }
     // Where all bytes came, all products are taken, and the receiver waits for the next one.
-    ensures whole { (actor : ℕ) (asked : Asked) (feeding : Feeding) (s : Receiving) (pieces : List Piece) (made : List Entry) (t : Taken) →
-        Passing actor asked feeding s pieces made t → joined pieces ≡ bytes_of asked feeding → IsAnswered feeding.last →
-        PassesAll actor (moments_of pieces) s t.receiving (handed feeding) made }
+    ensures whole { (p : Passing) → IsPassing p → CarriesAll p → IsAnswered p.feeding.last → PassesWhole p }
+    // Behind them no record is begun.
+    ensures edge { (p : Passing) → IsPassing p → CarriesAll p →
+        hand (record_at p.at) p.pieces ≡ record_at (p.at + length (joined p.pieces)) }
+    // Where all pieces came at one moment, that is the moment of each insertion and of each commit.
+    ensures at_once { (p : Passing) (now : ℕ) → IsPassing p → CameAt now p.pieces → All (λ entry. IsAt now entry.event) p.made }
 {
-    pieces_make_no_difference();
     what_is_written_is_read();
     records_are_read();
     pieces_join();
     pushes_read_the_stream();
 }
+
+/// What the queue of a receiver comes to, where all pieces come at one moment and the queue is asked nothing else meanwhile: the
+/// products one after another, each inserted where it is no larger than what is to come whole, and else in blocks.
+pub fn a_queue_is_passed_on()
+    // Where all bytes came: by all products of the feeding that are due.
+    ensures whole { (p : Passing) (now : ℕ) (queue : State) →
+        IsPassing p → CarriesAll p → IsAnswered p.feeding.last → CameAt now p.pieces → IsLegalFrom queue p.made →
+        after_entries queue p.made ≡ passed_all p.actor p.asked.max_hereis now (products_of (handed p.feeding)) queue }
+    // Wherever they were cut: by the products that were taken.
+    ensures first { (p : Passing) (now : ℕ) (queue : State) →
+        IsFeeding p.asked p.feeding → CameAt now p.pieces → (passes : PassesFirst p) → IsLegalFrom queue passes.made_is.first →
+        after_entries queue passes.made_is.first ≡ passed_all p.actor p.asked.max_hereis now (products_of passes.done) queue }
+{
+    products_are_passed_on();
+}
+
+/// How what these laws are about comes to be.
+pub fn the_setting_is_met()
+    // A receiver that requests a class behind the last product has asked for it, and wants all that it asked for.
+    ensures requested { (asked : Asked) (class : ClassSpec) (last : Option (List ℕ)) (max_hereis : ℕ) →
+        asked.class ≡ asked_class class last → asked.xid ≡ number_of_request false →
+        HasAsked asked (requesting class last max_hereis) }
+    // A product that an arena can have is sound.
+    ensures sound { (given : Given) → IsMetadata given.product.info → length given.product.body ≡ given.product.info.size →
+        extent_of given.product.info ≤ LARGEST_ARENA → IsSound given }
+    // A feeder that heard the first replies heard what agrees with all of them.
+    ensures heard { (codes behind replies : List Code) → codes ++ behind ≡ replies → Agree codes replies }
+{}

@@ -3,4 +3,4 @@
 
 mod laws;
 
-pub use laws::products_are_passed_on;
+pub use laws::{a_queue_is_passed_on, products_are_passed_on, the_setting_is_met};

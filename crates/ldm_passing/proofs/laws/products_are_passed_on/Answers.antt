@@ -1,4 +1,10 @@
-use Rattle.ldm_passing.proofs.Joining.{joins}
+use Rattle.std.proofs.lemmas.List.Elements.{All-from_recursion}
+use Rattle.ldm_model.specs.declared.event.Entry.{Entry}
+use Rattle.ldm_passing.specs.Handed.{handed}
+use Rattle.ldm_passing.specs.Passing.{Passing, IsPassing, moments_of}
+use Rattle.ldm_passing.specs.Takings.{IsAt}
+use Rattle.ldm_passing.proofs.Joining.{Joined, joins}
+use Rattle.ldm_passing.proofs.Moments.{passes-are, moments-at}
 use Rattle.ldm_passing.proofs.Pieces.{StreamLaws}
 use Rattle.ldm_passing.proofs.laws.products_are_passed_on.Goals as goal
 
@@ -13,17 +19,23 @@ stream_laws c = record {
   pushed_hand = c.pushes_read_the_stream.ensures.in_hand;
 }
 
+by_laws : goal.After-pushes_read_the_stream → (p : Passing) → IsPassing p → Joined p
+by_laws c = joins c.what_is_written_is_read.ensures (stream_laws c)
+
 pub returns-clause-goes_on : goal.returns-clause-goes_on
-returns-clause-goes_on c = λ actor asked feeding s pieces made t passing.
-    (joins c.what_is_written_is_read.ensures (stream_laws c) c.pieces_make_no_difference.ensures.records c.pieces_make_no_difference.ensures.in_hand
-    actor asked feeding s pieces made t passing).live
+returns-clause-goes_on c = λ p passing. (by_laws c p passing).live
 
 pub returns-clause-in_order : goal.returns-clause-in_order
-returns-clause-in_order c = λ actor asked feeding s pieces made t passing.
-    (joins c.what_is_written_is_read.ensures (stream_laws c) c.pieces_make_no_difference.ensures.records c.pieces_make_no_difference.ensures.in_hand
-    actor asked feeding s pieces made t passing).passes
+returns-clause-in_order c = λ p passing. (by_laws c p passing).passes
 
 pub returns-clause-whole : goal.returns-clause-whole
-returns-clause-whole c = λ actor asked feeding s pieces made t passing.
-    (joins c.what_is_written_is_read.ensures (stream_laws c) c.pieces_make_no_difference.ensures.records c.pieces_make_no_difference.ensures.in_hand
-    actor asked feeding s pieces made t passing).whole
+returns-clause-whole c = λ p passing. (by_laws c p passing).whole
+
+pub returns-clause-edge : goal.returns-clause-edge
+returns-clause-edge c = λ p passing. (by_laws c p passing).edge
+
+pub returns-clause-at_once : goal.returns-clause-at_once
+returns-clause-at_once c = λ p now passing at.
+    All-from_recursion (λ (entry : Entry). IsAt now entry.event) p.made
+    (passes-are now p.actor (moments_of p.pieces) (moments-at now p.pieces at) p.begins.last p.came_to.receiving.last (handed p.feeding) p.made
+    (by_laws c p passing).passes)
