@@ -1,0 +1,4 @@
+pub mod Doing
+pub mod Contents
+pub mod First
+pub mod Running

@@ -1,0 +1,36 @@
+-- What a server does with the content of a record, if there is one.
+use Rattle.std.specs.Prelude.{◌≡◌, ℕ, List, [], ◌∷◌, Option, Some, None}
+use Rattle.ldm_rpc.specs.Streams.{Placed}
+use Rattle.ldm_respond.specs.declared.responded.Responded.{Responded}
+use Rattle.ldm_respond.specs.declared.responded.Responded.TheVariants as responded
+use Rattle.ldm_respond.specs.Responds.{Standing}
+use Rattle.ldm_serve.specs.declared.serving.Answered.{Answered}
+use Rattle.ldm_serve.specs.declared.serving.Answered.TheVariants as answered
+use Rattle.ldm_serve.specs.Steps.{Client}
+use Rattle.ldm_serve.specs.Turns.{AnswersAll, EndsWith, RunsOutAt}
+
+-- a content, if there is one, as the record that begins there
+abbrev pub found : ℕ → Option (List ℕ) → List Placed
+found at None = []
+found at (Some content) = record { at = at; content = content } ∷ []
+
+-- how a record that begins there ends the session, if it does
+abbrev pub stop_of : Responded → ℕ → Answered
+stop_of responded.GoesOn at = answered.On
+stop_of (responded.Feeds ask class) at = answered.Over (responded.Feeds ask class) at
+stop_of (responded.Receives class) at = answered.Over (responded.Receives class) at
+stop_of (responded.Notifies ask class) at = answered.Over (responded.Notifies ask class) at
+stop_of responded.Refused at = answered.Over responded.Refused at
+stop_of (responded.Denied rule) at = answered.Over (responded.Denied rule) at
+
+-- there is one, and the session does not outlive it
+abbrev pub FindsEnd : Client → Responded → (place at : ℕ) → Option (List ℕ) → Standing → Standing → Type 0
+FindsEnd client next place at None old new = ⊥
+FindsEnd client next place at (Some content) old new = EndsWith client next (record { at = at; content = content }) old new × (place ≡ at)
+
+abbrev pub Finds : Answered → Client → ℕ → Option (List ℕ) → Standing → Standing → Type 0
+Finds answered.On client at content old new = AnswersAll client (found at content) old new
+Finds (answered.Over next place) client at content old new = FindsEnd client next place at content old new
+Finds (answered.TooLong place) client at content old new = ⊥
+Finds answered.Worn client at content old new = RunsOutAt client (found at content) old new
+Finds answered.OutOfMemory client at content old new = new ≡ old

@@ -1,0 +1,5 @@
+pub mod Steps
+pub mod ServingView
+pub mod Turns
+pub mod Contents
+pub mod Served
