@@ -1,0 +1,4 @@
+pub mod Walks
+pub mod Reframing
+pub mod Pushed
+pub mod Mirroring

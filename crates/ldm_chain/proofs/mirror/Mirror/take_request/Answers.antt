@@ -1,0 +1,19 @@
+use Rattle.std.proofs.Common.{sym, ap, arith}
+use Rattle.std.proofs.lemmas.List.{take_rest}
+use Rattle.ldm_chain.proofs.Mirroring.{reads-all}
+use Rattle.ldm_chain.proofs.mirror.Mirror.take_request.Goals as goal
+
+pub invariant_of-self : goal.invariant_of-self
+invariant_of-self g c =
+    let i = c.self.invariant in
+    let s = c.self.inside in
+    let told = rw (take_rest, c.deref.ensures.value) at c.then-self-inside.ensures in
+    record {
+      of = i.of;
+      name_is = i.name_is;
+      now_is = i.now_is;
+      within = omega arith;
+      over_is = i.over_is;
+      reflects = reads-all g.B.Begun.begun s.told.passed s.ends s.faults s.closed s.read s.replies.items s.receiver s.pass.now c.then-self-inside.result.passed
+          c.clear.new.self.items told c.clear.ensures.items i.reflects;
+    }

@@ -1,0 +1,5 @@
+pub mod Telling
+pub mod Beginning
+pub mod MirrorView
+pub mod Reflecting
+pub mod Ending

@@ -1,0 +1,253 @@
+//! A link that owns the receiver of the next queue.
+ghost use Rattle.std.specs.Prelude.{◌≡◌, ◌≤◌, ◌<◌, length, take, drop, min, is_some, true, vec_len};
+ghost use Rattle.ldm_shared.specs.Passes.{IsPassOf};
+ghost use Rattle.ldm_intake.specs.Opening.{request_of};
+ghost use Rattle.ldm_intake.specs.Room.{records_of};
+ghost use Rattle.ldm_downstream.specs.ReceiverView.{before_stream};
+ghost use Rattle.ldm_downstream.specs.Receives.{at_first};
+ghost use Rattle.ldm_chain.specs.Ending.{end_pushed};
+
+use crate::told::{Passing, Told};
+use ldm_downstream::{Pushed, Receiver};
+use ldm_intake::RecvEnd;
+use ldm_outside::{Got, Link, Put};
+use ldm_shared::{Pass, Shared};
+use ldm_types::Micros;
+use std::alloc::Global;
+use std::marker::{Brand, Model, PhantomData};
+use std::sync::Wait;
+
+/// How a mirror began, which contracts alone know: it stands for the type of each mirror, so that it is known whatever a mirror was
+/// lent to.
+pub trait Begun {
+    ghost use Rattle.ldm_chain.specs.Beginning.{Beginning};
+
+    ghost begun: { Beginning };
+}
+
+impl Begun for Brand {
+    ghost use Rattle.ldm_chain.specs.Beginning.{no_beginning};
+
+    ghost begun = { no_beginning };
+}
+
+/// The pass that a mirror is lent.
+#[derive(Drop)]
+pub struct Lent<'a> {
+    pub pass: &'a mut Pass,
+}
+
+/// What a mirror hands back.
+#[derive(Drop)]
+pub struct Returned<'a> {
+    pub lent: Lent<'a>,
+    /// How the receiver ended, where it is over.
+    pub end: Option<RecvEnd>,
+}
+
+/// A link that owns the receiver of a queue: what it is sent is pushed into the receiver, all at one moment, and what the receiver
+/// replies is what it gives.
+///
+/// A send in whose push the receiver ends takes its piece; each later one fails. It is at its end where no reply waits. What is
+/// logged is forgotten.
+#[derive(Drop)]
+pub struct Mirror<'a, H, B: Begun> {
+    rt: &'a H,
+    shared: &'a Shared,
+    pass: &'a mut Pass,
+    receiver: Receiver<'a>,
+    now: Micros,
+    // What the receiver replied, and how many bytes of it were received.
+    replies: Vec<u8>,
+    read: usize,
+    notes: Vec<u8>,
+    over: Option<RecvEnd>,
+    ends: u64,
+    faults: u64,
+    closed: bool,
+    told: Told,
+    of: PhantomData<B>,
+}
+
+impl<'a, H, B: Begun> Model for Mirror<'a, H, B> {
+    ghost use Rattle.ldm_chain.specs.MirrorView.{MirrorView};
+
+    ghost Value = { MirrorView };
+
+    ghost use Rattle.ldm_chain.specs.Reflecting.{IsKept, mirror_of};
+
+    ghost view = { λ m. mirror_of m.told.passed m.ends m.faults m.closed m.read m.replies.items m.receiver m.pass.now };
+
+    ghost invariant = { λ m. IsKept B.begun m.shared.now m.pass.ghost_name m.now m.read m.replies.items m.over
+        (mirror_of m.told.passed m.ends m.faults m.closed m.read m.replies.items m.receiver m.pass.now) };
+}
+
+impl<'a, H, B: Begun> Mirror<'a, H, B> {
+    ghost use Rattle.std.specs.Prelude.{[], false};
+    ghost use Rattle.ldm_chain.specs.MirrorView.{all_read};
+    ghost use Rattle.ldm_chain.specs.Reflecting.{Reflects};
+
+    /// A mirror before the first byte of a stream. `request` is the record of the request that the receiver begins with, as
+    /// [`Receiver::begin`] wrote it.
+    pub fn over(
+        rt: &'a H,
+        alloc: Global,
+        shared: &'a Shared,
+        lent: Lent<'a>,
+        receiver: Receiver<'a>,
+        request: Vec<u8>,
+        now: Micros,
+    ) -> Mirror<'a, H, B>
+        requires of { IsPassOf shared.now lent.pass.now }
+        requires before { receiver ≡ before_stream receiver.receiving false }
+        requires asks { request.items ≡ records_of (request_of receiver.receiving) }
+        requires first { B.begun.first ≡ at_first receiver.receiving lent.pass.now }
+        requires moment { B.begun.now ≡ now }
+        requires name { B.begun.name ≡ lent.pass.ghost_name }
+        ensures { result ≡ record { passed = []; ends = 0; faults = 0; closed = false; waiting = request.items; receiver = receiver.entry; pass = lent.entry.pass.now } }
+    {
+        let Lent { pass } = lent;
+        Mirror {
+            rt,
+            shared,
+            pass,
+            receiver,
+            now,
+            replies: request,
+            read: 0,
+            notes: Vec::new(alloc),
+            over: None,
+            ends: 0,
+            faults: 0,
+            closed: false,
+            told: Told::new(),
+            of: PhantomData,
+        }
+    }
+
+    /// Takes the request that waits as read: all that waits.
+    pub fn take_request(&mut self)
+        ensures { self.new ≡ all_read self.old }
+    {
+        let waiting = &self.replies[self.read..];
+        self.told = self.told.then(&Passing::Given(waiting));
+        self.replies.clear();
+        self.read = 0;
+    }
+
+    /// Whether the receiver is over.
+    pub fn is_over(&self) -> bool
+        ensures { result ≡ is_some self.entry.now.receiver.end }
+    {
+        self.over.is_some()
+    }
+
+    /// Takes it apart. What its receiver took and replied is what passed.
+    pub fn into_parts(self) -> Returned<'a>
+        ensures name { result.lent.pass.ghost_name ≡ B.begun.name }
+        ensures pass { result.lent.pass.now ≡ self.entry.pass }
+        ensures end { result.end ≡ self.entry.receiver.end }
+        ensures reflects { Reflects B.begun self.entry }
+    {
+        let Mirror { pass, over, .. } = self;
+        Returned {
+            lent: Lent { pass },
+            end: over,
+        }
+    }
+}
+
+impl<'a, H: Wait, B: Begun> Link for Mirror<'a, H, B> {
+    ghost use Rattle.std.specs.Prelude.{drop, true};
+    ghost use Rattle.ldm_outside.specs.Link.{IsNotClosed, RecvGives, SendGives};
+    ghost use Rattle.ldm_chain.specs.MirrorView.{RecvsFrom, SendsTo, told_by_mirror};
+
+    ghost tells = { told_by_mirror };
+
+    fn recv(&mut self, into: &mut [u8]) -> Got
+        requires room { 0 < length into.old }
+        requires not_closed { IsNotClosed (told_by_mirror self.old) }
+        ensures given { RecvGives result into.new (told_by_mirror self.old) (told_by_mirror self.new) }
+        ensures faults_kept { self.old.faults ≤ self.new.faults }
+        ensures ends_kept { self.old.ends ≤ self.new.ends }
+        ensures still_open { IsNotClosed (told_by_mirror self.new) }
+        ensures waited { RecvsFrom result (length into.old) self.old self.new }
+    {
+        let waiting = &self.replies[self.read..];
+        if waiting.is_empty() {
+            self.ends = self.ends.saturating_add(1);
+            return Got::End;
+        }
+        let n = copy_front(waiting, into);
+        self.told = self.told.then(&Passing::Given(&waiting[..n]));
+        self.read += n;
+        Got::Bytes(n)
+    }
+
+    fn send(&mut self, piece: &[u8]) -> Put
+        requires not_closed { IsNotClosed (told_by_mirror self.old) }
+        ensures sent { SendGives result piece.now (told_by_mirror self.old) (told_by_mirror self.new) }
+        ensures faults_kept { self.old.faults ≤ self.new.faults }
+        ensures still_open { IsNotClosed (told_by_mirror self.new) }
+        ensures whole { SendsTo result piece.now self.old self.new }
+    {
+        if self.over.is_some() {
+            self.faults = self.faults.saturating_add(1);
+            return Put::Failed;
+        }
+        self.read = forget_read(&mut self.replies, self.read);
+        self.notes.clear();
+        let pushed = self.receiver.push(
+            self.shared,
+            self.rt,
+            self.pass,
+            piece,
+            self.now,
+            &mut self.replies,
+            &mut self.notes,
+        );
+        self.over = end_pushed(pushed);
+        self.told = self.told.then(&Passing::Sent(piece));
+        Put::Took(piece.len())
+    }
+
+    fn close(&mut self)
+        ensures { self.new ≡ record self.old { closed = true } }
+    {
+        self.closed = true;
+    }
+}
+
+// How the receiver ended, by what a push answered.
+fn end_pushed(pushed: Pushed) -> Option<RecvEnd>
+    ensures { result ≡ end_pushed pushed }
+{
+    match pushed {
+        Pushed::On => None,
+        Pushed::Over(end) => Some(end),
+        Pushed::OutOfMemory => Some(RecvEnd::OutOfMemory),
+    }
+}
+
+// Forgets the replies where so many bytes, all of them, were received. Answers how many of those that are left were.
+fn forget_read(replies: &mut Vec<u8>, read: usize) -> usize
+    requires { read ≤ vec_len replies.old }
+    ensures within { result ≤ vec_len replies.new }
+    ensures rest { drop result replies.new.items ≡ drop read replies.old.items }
+{
+    if read < replies.len() {
+        return read;
+    }
+    replies.clear();
+    0
+}
+
+// Copies as many bytes as there are and as fit, to the front of the buffer, and answers how many.
+fn copy_front(bytes: &[u8], into: &mut [u8]) -> usize
+    ensures count { result ≡ min (length bytes.now) (length into.old) }
+    ensures front { take result into.new ≡ take result bytes.now }
+{
+    let n = bytes.len().min(into.len());
+    into[..n].copy_from_slice(&bytes[..n]);
+    n
+}
