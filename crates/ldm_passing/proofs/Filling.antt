@@ -21,7 +21,8 @@ use Rattle.ldm_intake.specs.Products.{filled_in, commit_note}
 use Rattle.ldm_intake.specs.Receiving.{Wanting, is_wanted, left_of}
 use Rattle.ldm_intake.specs.Taken.{Arrival, Taken, after_step, taken}
 use Rattle.ldm_upstream.specs.Blocks.{cut, count_blocks, blocks}
-use Rattle.ldm_upstream.specs.Turn.{Given, later_call, announcement, block_messages}
+use Rattle.ldm_upstream.specs.Turn.{Given, announcement, block_messages}
+use Rattle.ldm_sender.specs.Calls.{later_call}
 use Rattle.ldm_passing.specs.Codes.{Agree, soon_codes}
 use Rattle.ldm_passing.specs.Handed.{Handed, InBlocks}
 use Rattle.ldm_passing.specs.Takings.{Fills}

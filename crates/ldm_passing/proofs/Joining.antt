@@ -17,8 +17,8 @@ use Rattle.ldm_intake.specs.Course.{Comes, Leads}
 use Rattle.ldm_intake.specs.Receiving.{Receiving, is_wanted, may_push}
 use Rattle.ldm_intake.specs.Taken.{Arrival, Taken, taken_none, taken}
 use Rattle.ldm_intake.proofs.Courses.{leads-then_parts}
-use Rattle.ldm_upstream.specs.Asked.{Asked}
-use Rattle.ldm_upstream.specs.Opening.{class_answer_of}
+use Rattle.ldm_sender.specs.Asked.{Asked}
+use Rattle.ldm_sender.specs.Opening.{class_answer_of}
 use Rattle.ldm_upstream.specs.Turns.{messages_of_turns}
 use Rattle.ldm_upstream.specs.Feeding.{Feeding, begun, stands, last_messages, messages_of, codes_of, given_of}
 use Rattle.ldm_downstream.specs.Pieces.{arrivals, hand, joined}

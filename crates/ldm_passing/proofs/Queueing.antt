@@ -13,8 +13,8 @@ use Rattle.ldm_model.specs.Next.{next}
 use Rattle.ldm_model.specs.History.{after_entries, next_entry, IsLegalFrom}
 use Rattle.ldm_model.proofs.Appended.{after_entries-append, IsLegalFrom-append}
 use Rattle.ldm_intake.specs.Course.{entry_by}
-use Rattle.ldm_upstream.specs.declared.standing.Standing.{Standing}
-use Rattle.ldm_upstream.specs.Asked.{Asked}
+use Rattle.ldm_sender.specs.declared.standing.Standing.{Standing}
+use Rattle.ldm_sender.specs.Asked.{Asked}
 use Rattle.ldm_upstream.specs.Blocks.{blocks}
 use Rattle.ldm_upstream.specs.Turn.{Turn, Lost, Gave, Quiet, Alive, after_turn}
 use Rattle.ldm_upstream.specs.Turn as turn

@@ -14,7 +14,7 @@ use Rattle.ldm_intake.specs.declared.phase.Phase.TheVariants as phase
 use Rattle.ldm_intake.specs.Answered.{number_of_request}
 use Rattle.ldm_intake.specs.Asking.{asked_class, resuming}
 use Rattle.ldm_intake.specs.Opening.{requesting}
-use Rattle.ldm_upstream.specs.Asked.{Asked}
+use Rattle.ldm_sender.specs.Asked.{Asked}
 use Rattle.ldm_passing.specs.Codes.{Agree}
 use Rattle.ldm_passing.specs.Passing.{HasAsked}
 

@@ -13,9 +13,10 @@ use Rattle.ldm_relay.specs.declared.procedure.Procedure.TheVariants as procedure
 use Rattle.ldm_relay.specs.Sent.{Sent}
 use Rattle.ldm_relay.specs.Sent as sent
 use Rattle.ldm_relay.specs.Spelling.{no_authentication, call_header, accepted_header, reply_header, written}
-use Rattle.ldm_upstream.specs.declared.standing.Standing.{Standing}
+use Rattle.ldm_sender.specs.declared.standing.Standing.{Standing}
 use Rattle.ldm_upstream.specs.Blocks.{cut, count_blocks, blocks}
-use Rattle.ldm_upstream.specs.Turn.{Given, Turn, Lost, Gave, Quiet, Alive, later_call, announcement, block_messages, after_turn}
+use Rattle.ldm_upstream.specs.Turn.{Given, Turn, Lost, Gave, Quiet, Alive, announcement, block_messages, after_turn}
+use Rattle.ldm_sender.specs.Calls.{later_call}
 use Rattle.ldm_upstream.specs.Turn as turn
 use Rattle.ldm_upstream.specs.Turns.{after_turns, messages_of_turns, given_in_turns}
 use Rattle.ldm_upstream.specs.Feeding.{Last, GoesOn, Stopped, Unanswered, last_messages, last_given}

@@ -11,8 +11,8 @@ use Rattle.ldm_intake.specs.Answered.{number_of_request}
 use Rattle.ldm_intake.specs.Course.{Leads}
 use Rattle.ldm_intake.specs.Receiving.{Receiving}
 use Rattle.ldm_intake.specs.Taken.{Taken}
-use Rattle.ldm_upstream.specs.Asked.{Asked}
-use Rattle.ldm_upstream.specs.Opening.{Opened}
+use Rattle.ldm_sender.specs.Asked.{Asked}
+use Rattle.ldm_sender.specs.Opening.{Opened}
 use Rattle.ldm_upstream.specs.Turn.{Given}
 use Rattle.ldm_upstream.specs.Feeding.{Feeding, IsFeeding, Last, GoesOn, Stopped, Unanswered, bytes_of, codes_of, given_of}
 use Rattle.ldm_downstream.specs.declared.limits.TheConstants.{LONGEST_STREAM}

@@ -7,7 +7,7 @@ ghost use Rattle.ldm_model.specs.Product.{extent_of};
 ghost use Rattle.ldm_model.specs.State.{State};
 ghost use Rattle.ldm_model.specs.History.{after_entries, IsLegalFrom};
 ghost use Rattle.ldm_session.specs.Owed.{Code};
-ghost use Rattle.ldm_upstream.specs.Asked.{Asked};
+ghost use Rattle.ldm_sender.specs.Asked.{Asked};
 ghost use Rattle.ldm_upstream.specs.Turn.{Given};
 ghost use Rattle.ldm_upstream.specs.Feeding.{IsFeeding};
 ghost use Rattle.ldm_intake.specs.Answered.{number_of_request};
