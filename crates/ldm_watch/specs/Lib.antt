@@ -10,3 +10,4 @@ pub mod InsideStream
 pub mod Taking
 pub mod Turns
 pub mod Sessions
+pub mod Examples

@@ -2,6 +2,7 @@
 #![tactic(auto)]
 
 mod end;
+mod examples;
 mod limits;
 mod notices;
 mod reading;
@@ -12,6 +13,7 @@ mod stream;
 mod watching;
 
 pub use end::WatchEnd;
+pub use examples::worked_examples;
 pub use limits::{LONGEST_PIECE, LONGEST_STREAM};
 pub use session::watch;
 pub use step::Step;
