@@ -1,0 +1,4 @@
+pub mod Moments
+pub mod Tries
+pub mod Works
+pub mod Steps
