@@ -13,3 +13,4 @@ pub mod Joining
 pub mod Moments
 pub mod Queueing
 pub mod Setting
+pub mod Narrowing

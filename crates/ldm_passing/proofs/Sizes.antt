@@ -33,7 +33,7 @@ call_header-length : (xid : ℕ) (p : Procedure) → length (call_header xid p) 
 unfolding call_header
 call_header-length xid p = simp (length-append, length_unsigned, no_authentication-length)
 
-reply_header-length : (xid : ℕ) → length (reply_header xid) ≡ 24
+pub reply_header-length : (xid : ℕ) → length (reply_header xid) ≡ 24
 unfolding reply_header accepted_header
 reply_header-length xid = simp (length-append, length_unsigned, no_authentication-length)
 

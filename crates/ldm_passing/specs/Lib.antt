@@ -3,3 +3,5 @@ pub mod Takings
 pub mod Codes
 pub mod Passing
 pub mod Queue
+pub mod Narrowing
+pub mod Examples

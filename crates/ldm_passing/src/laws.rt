@@ -13,9 +13,12 @@ ghost use Rattle.ldm_upstream.specs.Feeding.{IsFeeding};
 ghost use Rattle.ldm_intake.specs.Answered.{number_of_request};
 ghost use Rattle.ldm_intake.specs.Asking.{asked_class};
 ghost use Rattle.ldm_intake.specs.Opening.{requesting};
+ghost use Rattle.ldm_intake.specs.declared.end.RecvEnd.TheVariants.{Ended};
 ghost use Rattle.ldm_downstream.specs.Pieces.{hand, joined};
+ghost use Rattle.ldm_downstream.specs.Received.{at_stream_end};
 ghost use Rattle.ldm_passing.specs.Codes.{Agree};
 ghost use Rattle.ldm_passing.specs.Handed.{handed};
+ghost use Rattle.ldm_passing.specs.Narrowing.{IsNarrowing, Narrows};
 ghost use Rattle.ldm_passing.specs.Passing.{CameAt, CarriesAll, HasAsked, IsAnswered, IsPassing, IsSound, Passing, PassesFirst, PassesWhole, record_at};
 ghost use Rattle.ldm_passing.specs.Queue.{passed_all, products_of};
 ghost use Rattle.ldm_passing.specs.Takings.{IsAt};
@@ -35,6 +38,9 @@ pub fn products_are_passed_on()
     // Behind them no record is begun.
     ensures edge { (p : Passing) → IsPassing p → CarriesAll p →
         hand (record_at p.at) p.pieces ≡ record_at (p.at + length (joined p.pieces)) }
+    // So a stream that ends there ends the receiving as it should.
+    ensures ends { (p : Passing) → IsPassing p → CarriesAll p → IsAnswered p.feeding.last →
+        at_stream_end (hand (record_at p.at) p.pieces) p.came_to.receiving ≡ Ended }
     // Where all pieces came at one moment, that is the moment of each insertion and of each commit.
     ensures at_once { (p : Passing) (now : ℕ) → IsPassing p → CameAt now p.pieces → All (λ entry. IsAt now entry.event) p.made }
 {
@@ -57,6 +63,17 @@ pub fn a_queue_is_passed_on()
         after_entries queue passes.made_is.first ≡ passed_all p.actor p.asked.max_hereis now (products_of passes.done) queue }
 {
     products_are_passed_on();
+}
+
+/// Where a feeder grants a narrower class, a receiver that asked once asks for that one. The feeding that then comes is what these
+/// laws are about, from that place of the stream on.
+pub fn a_narrower_class_is_asked_for()
+    ensures { (p : Passing) (class : ClassSpec) → IsNarrowing p class → Narrows p class }
+{
+    what_is_written_is_read();
+    records_are_read();
+    pieces_join();
+    pushes_read_the_stream();
 }
 
 /// How what these laws are about comes to be.

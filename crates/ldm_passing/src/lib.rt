@@ -1,6 +1,10 @@
 //! What a receiver takes of what a feeder owes: the law that joins the two ends of a feeding.
 #![tactic(auto)]
 
+mod examples;
 mod laws;
 
-pub use laws::{a_queue_is_passed_on, products_are_passed_on, the_setting_is_met};
+pub use examples::worked_examples;
+pub use laws::{
+    a_narrower_class_is_asked_for, a_queue_is_passed_on, products_are_passed_on, the_setting_is_met,
+};

@@ -1,7 +1,12 @@
+use Rattle.std.proofs.Common.{◌+◌, length, ap, ◌∙◌}
 use Rattle.std.proofs.lemmas.List.Elements.{All-from_recursion}
 use Rattle.ldm_model.specs.declared.event.Entry.{Entry}
+use Rattle.ldm_rpc.specs.Streams.{Position}
+use Rattle.ldm_intake.specs.Receiving.{Receiving}
+use Rattle.ldm_downstream.specs.Pieces.{joined}
+use Rattle.ldm_downstream.specs.Received.{at_stream_end}
 use Rattle.ldm_passing.specs.Handed.{handed}
-use Rattle.ldm_passing.specs.Passing.{Passing, IsPassing, moments_of}
+use Rattle.ldm_passing.specs.Passing.{Passing, IsPassing, moments_of, record_at}
 use Rattle.ldm_passing.specs.Takings.{IsAt}
 use Rattle.ldm_passing.proofs.Joining.{Joined, joins}
 use Rattle.ldm_passing.proofs.Moments.{passes-are, moments-at}
@@ -33,6 +38,12 @@ returns-clause-whole c = λ p passing. (by_laws c p passing).whole
 
 pub returns-clause-edge : goal.returns-clause-edge
 returns-clause-edge c = λ p passing. (by_laws c p passing).edge
+
+pub returns-clause-ends : goal.returns-clause-ends
+returns-clause-ends c = λ p passing bytes ended.
+    let all = by_laws c p passing in
+    ap (λ (q : Position). at_stream_end q p.came_to.receiving) (all.edge bytes)
+    ∙ ap (λ (s : Receiving). at_stream_end (record_at (p.at + length (joined p.pieces))) s) (all.whole bytes ended).stands
 
 pub returns-clause-at_once : goal.returns-clause-at_once
 returns-clause-at_once c = λ p now passing at.
