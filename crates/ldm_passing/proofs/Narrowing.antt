@@ -30,7 +30,7 @@ use Rattle.ldm_intake.specs.Record.{course_in, reply_course}
 use Rattle.ldm_intake.specs.Step.{Step, Goes, Bad, Declined}
 use Rattle.ldm_intake.specs.Taken.{Arrival, Taken, after_step, taken, taken_none}
 use Rattle.ldm_intake.proofs.Courses.{leads-then_parts}
-use Rattle.ldm_upstream.specs.Opening.{Answered, Reclassed, class_answer_of}
+use Rattle.ldm_sender.specs.Opening.{Answered, Reclassed, class_answer_of}
 use Rattle.ldm_upstream.specs.Turn.{Turn}
 use Rattle.ldm_upstream.specs.Turns.{after_turns, messages_of_turns}
 use Rattle.ldm_upstream.specs.Feeding.{Last, MayTurn, begun, last_messages, messages_of}

@@ -9,8 +9,8 @@ use Rattle.ldm_intake.specs.Answered.{number_of_request}
 use Rattle.ldm_intake.specs.Asking.{same_class}
 use Rattle.ldm_intake.specs.Course.{Leads}
 use Rattle.ldm_intake.specs.Receiving.{Receiving}
-use Rattle.ldm_upstream.specs.Asked.{Asked}
-use Rattle.ldm_upstream.specs.Opening.{Reclassed}
+use Rattle.ldm_sender.specs.Asked.{Asked}
+use Rattle.ldm_sender.specs.Opening.{Reclassed}
 use Rattle.ldm_upstream.specs.Feeding.{IsFeeding}
 use Rattle.ldm_downstream.specs.declared.limits.TheConstants.{LONGEST_STREAM}
 use Rattle.ldm_downstream.specs.Pieces.{hand, joined}
