@@ -1,8 +1,10 @@
-//! Cases of pqact.conf: the entries of a text, and what they do with a product.
+//! Cases of pqact.conf: the entries of a text, what they do with a product, and actions that are carried out.
 #![tactic(auto)]
 
 mod choice;
 mod entries;
+mod outputs;
+mod steps;
 
 use ldm_drive::{Trial, drive};
 use ldm_pqact_conf::Entries;
@@ -21,6 +23,9 @@ fn answer(kept: &mut Option<Entries>, trial: &mut Trial) {
         "found" => entries::found(kept, trial),
         "acts" => choice::acts(trial),
         "count" => choice::count(trial),
+        "outputs" => outputs::outputs(trial),
+        "every_store" => outputs::every(trial, false),
+        "every_launch" => outputs::every(trial, true),
         _ => trial.refuse("no such word"),
     }
 }
