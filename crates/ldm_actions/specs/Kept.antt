@@ -1,5 +1,5 @@
--- What is kept open or running, under names: the paths of files, the commands of programs. Each has the number that the store or the
--- launcher gave it, and the one that was used last comes first.
+-- What is kept open or running, under names: the paths of files, the commands of programs. Each has the number that the store or
+-- the launcher gave it, and the one that was used last comes first.
 use Rattle.std.specs.Prelude.{◌≡◌, ◌≢◌, ℕ, List, [], ◌∷◌, ◌++◌, Option, Some, None, bytes_eq, remove, slice_index_or}
 use Rattle.std.specs.Map.{lookup, remove_entry}
 

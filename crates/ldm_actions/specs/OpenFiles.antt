@@ -82,8 +82,8 @@ OpensWithRoom (Ok ok) path old new =
     FilesBecome ((path, old.store.next) ∷ with_room_open old.kept) (files_made path old.store.files) old new
 OpensWithRoom (Err failed) path old new = FilesFail old.store.files old new
 
--- What using the file of a path did: it is open, and was made where it was not there; or the store failed, before that; or there was
--- no memory, and nothing was done.
+-- What using the file of a path did: it is open, and was made where it was not there; or the store failed, before that; or there
+-- was no memory, and nothing was done.
 abbrev pub UsesFile : Begun → List ℕ → FileSide → FileSide → Type 0
 UsesFile begun.Ready path old new = FilesBecome (used path old.store.next old.kept) (files_made path old.store.files) old new
 UsesFile begun.StoreFault path old new = FilesFail old.store.files old new

@@ -118,8 +118,8 @@ closing_parts world = all_over_parts world.piped world.outside
 abbrev pub StartsProgram : Result ChildNo Failed → List (List ℕ) → Bool → LauncherRecord → LauncherRecord → Type 0
 StartsProgram result words piped old new = (told : List (String Global)) × (spelled told ≡ words) × StartsChild result told piped old new
 
--- What giving an action its program did: it runs, as the one that was written last; or the launcher failed; or there was no memory,
--- and nothing was done.
+-- What giving an action its program did: it runs, as the one that was written last; or the launcher failed; or there was no
+-- memory, and nothing was done.
 abbrev pub BeginsProgram : Begun → List (List ℕ) → ProgramSide → ProgramSide → Type 0
 BeginsProgram begun.Ready words old new = ProgramsBecome (by_program words) old new
 BeginsProgram begun.StoreFault words old new = ⊥

@@ -13,7 +13,9 @@ use ldm_outside::{Failed, FileNo, Store};
 // Shuts the file that was used longest ago, if there is one.
 fn shut_oldest<F: Store>(files: &mut Recent, store: &mut F) -> Result<(), Failed>
     requires { KeepsFiles (file_side files.old (F.tells store.old)) }
-    ensures { KeepsOr result (take (length files.old - 1) files.old) (file_side files.old (F.tells store.old)) (file_side files.new (F.tells store.new)) }
+    ensures { KeepsOr result (take (length files.old - 1) files.old)
+        (file_side files.old (F.tells store.old))
+        (file_side files.new (F.tells store.new)) }
 {
     match files.take_oldest() {
         Some(number) => store.shut(FileNo(number)),
@@ -24,7 +26,9 @@ fn shut_oldest<F: Store>(files: &mut Recent, store: &mut F) -> Result<(), Failed
 // Makes room for one more file.
 fn make_room<F: Store>(files: &mut Recent, store: &mut F) -> Result<(), Failed>
     requires { KeepsFiles (file_side files.old (F.tells store.old)) }
-    ensures { KeepsOr result (with_room_open files.old) (file_side files.old (F.tells store.old)) (file_side files.new (F.tells store.new)) }
+    ensures { KeepsOr result (with_room_open files.old)
+        (file_side files.old (F.tells store.old))
+        (file_side files.new (F.tells store.new)) }
 {
     if files.len() < MOST_OPEN {
         return Ok(());
@@ -37,7 +41,9 @@ fn open<F: Store>(files: &mut Recent, store: &mut F, path: String) -> Result<(),
     requires keeps { KeepsFiles (file_side files.old (F.tells store.old)) }
     requires unknown { number_under (string_bytes path) files.old ≡ None }
     requires room { length files.old < MOST_OPEN }
-    ensures { OpensNew result (string_bytes path) (file_side files.old (F.tells store.old)) (file_side files.new (F.tells store.new)) }
+    ensures { OpensNew result (string_bytes path)
+        (file_side files.old (F.tells store.old))
+        (file_side files.new (F.tells store.new)) }
 {
     let file = store.append_to(path.as_str())?;
     files.add(path, file.0);
@@ -48,7 +54,9 @@ fn open<F: Store>(files: &mut Recent, store: &mut F, path: String) -> Result<(),
 fn open_with_room<F: Store>(files: &mut Recent, store: &mut F, path: String) -> Result<(), Failed>
     requires keeps { KeepsFiles (file_side files.old (F.tells store.old)) }
     requires unknown { number_under (string_bytes path) files.old ≡ None }
-    ensures { OpensWithRoom result (string_bytes path) (file_side files.old (F.tells store.old)) (file_side files.new (F.tells store.new)) }
+    ensures { OpensWithRoom result (string_bytes path)
+        (file_side files.old (F.tells store.old))
+        (file_side files.new (F.tells store.new)) }
 {
     make_room(files, store)?;
     open(files, store, path)
@@ -88,7 +96,9 @@ pub(crate) fn begin<F: Store>(
     options: FileOptions,
 ) -> Begun
     requires { KeepsFiles (file_side files.old (F.tells store.old)) }
-    ensures { BeginsFile result options.overwrite path.now (file_side files.old (F.tells store.old)) (file_side files.new (F.tells store.new)) }
+    ensures { BeginsFile result options.overwrite path.now
+        (file_side files.old (F.tells store.old))
+        (file_side files.new (F.tells store.new)) }
 {
     match use_file(files, store, path) {
         Begun::Ready => {}
@@ -106,7 +116,9 @@ pub(crate) fn begin<F: Store>(
 // Shuts the file that was used last, if there is one.
 fn shut_newest<F: Store>(files: &mut Recent, store: &mut F) -> Result<(), Failed>
     requires { KeepsFiles (file_side files.old (F.tells store.old)) }
-    ensures { KeepsOr result (drop 1 files.old) (file_side files.old (F.tells store.old)) (file_side files.new (F.tells store.new)) }
+    ensures { KeepsOr result (drop 1 files.old)
+        (file_side files.old (F.tells store.old))
+        (file_side files.new (F.tells store.new)) }
 {
     match files.take_newest() {
         Some(number) => store.shut(FileNo(number)),
@@ -132,7 +144,9 @@ pub(crate) fn finish<F: Store>(
 ) -> Result<(), Failed>
     requires keeps { KeepsFiles (file_side files.old (F.tells store.old)) }
     requires some { 0 < length files.old }
-    ensures { KeepsOr result (if close then drop 1 files.old else files.old) (file_side files.old (F.tells store.old)) (file_side files.new (F.tells store.new)) }
+    ensures { KeepsOr result (if close then drop 1 files.old else files.old)
+        (file_side files.old (F.tells store.old))
+        (file_side files.new (F.tells store.new)) }
 {
     if flush {
         flush_newest(files, store)?;

@@ -59,7 +59,9 @@ impl Outputs {
         action: &Action,
     ) -> Begun
         requires { KeepsUnlessSpent (standing self.old (F.tells store.old) (L.tells launcher.old)) }
-        ensures begun { Begins result (action_of action.now) (standing self.old (F.tells store.old) (L.tells launcher.old)) (standing self.new (F.tells store.new) (L.tells launcher.new)) }
+        ensures begun { Begins result (action_of action.now)
+            (standing self.old (F.tells store.old) (L.tells launcher.old))
+            (standing self.new (F.tells store.new) (L.tells launcher.new)) }
         ensures keeps { KeepsUnlessSpent (standing self.new (F.tells store.new) (L.tells launcher.new)) }
         ensures in_hand { BeginsHand result self.new }
     {
@@ -92,7 +94,9 @@ impl Outputs {
     ) -> Done
         requires keeps { KeepsUnlessSpent (standing self.old (F.tells store.old) (L.tells launcher.old)) }
         requires in_hand { HasHand self.old }
-        ensures given { Gives result bytes.now (standing self.old (F.tells store.old) (L.tells launcher.old)) (standing self.new (F.tells store.new) (L.tells launcher.new)) }
+        ensures given { Gives result bytes.now
+            (standing self.old (F.tells store.old) (L.tells launcher.old))
+            (standing self.new (F.tells store.new) (L.tells launcher.new)) }
         ensures keeps { KeepsUnlessSpent (standing self.new (F.tells store.new) (L.tells launcher.new)) }
         ensures in_hand { HasHand self.new }
     {
@@ -117,7 +121,9 @@ impl Outputs {
     pub fn finish<F: Store, L: Launcher>(&mut self, store: &mut F, launcher: &mut L) -> Done
         requires keeps { KeepsUnlessSpent (standing self.old (F.tells store.old) (L.tells launcher.old)) }
         requires in_hand { HasHand self.old }
-        ensures finished { Finishes result (standing self.old (F.tells store.old) (L.tells launcher.old)) (standing self.new (F.tells store.new) (L.tells launcher.new)) }
+        ensures finished { Finishes result
+            (standing self.old (F.tells store.old) (L.tells launcher.old))
+            (standing self.new (F.tells store.new) (L.tells launcher.new)) }
         ensures keeps { KeepsUnlessSpent (standing self.new (F.tells store.new) (L.tells launcher.new)) }
     {
         if let Some(fault) = self.spent {
@@ -140,11 +146,13 @@ impl Outputs {
         }
     }
 
-    /// Shuts all files, and then shuts the input of each program and waits for it: the longest unused first. An action that is in hand
-    /// is forgotten, and what it wrote stands.
+    /// Shuts all files, and then shuts the input of each program and waits for it: the longest unused first. An action that is
+    /// in hand is forgotten, and what it wrote stands.
     pub fn close_all<F: Store, L: Launcher>(&mut self, store: &mut F, launcher: &mut L) -> Done
         requires { KeepsUnlessSpent (standing self.old (F.tells store.old) (L.tells launcher.old)) }
-        ensures closed { Closes result (standing self.old (F.tells store.old) (L.tells launcher.old)) (standing self.new (F.tells store.new) (L.tells launcher.new)) }
+        ensures closed { Closes result
+            (standing self.old (F.tells store.old) (L.tells launcher.old))
+            (standing self.new (F.tells store.new) (L.tells launcher.new)) }
         ensures keeps { KeepsUnlessSpent (standing self.new (F.tells store.new) (L.tells launcher.new)) }
     {
         if let Some(fault) = self.spent {

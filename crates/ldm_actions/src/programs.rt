@@ -26,7 +26,9 @@ fn end<L: Launcher>(launcher: &mut L, child: ChildNo) -> Result<(), Failed>
 // Ends the program that was written longest ago, if there is one.
 fn end_oldest<L: Launcher>(programs: &mut Recent, launcher: &mut L) -> Result<(), Failed>
     requires { KeepsPrograms (program_side programs.old (L.tells launcher.old)) }
-    ensures { ChangesOr result with_last_over last_parts (program_side programs.old (L.tells launcher.old)) (program_side programs.new (L.tells launcher.new)) }
+    ensures { ChangesOr result with_last_over last_parts
+        (program_side programs.old (L.tells launcher.old))
+        (program_side programs.new (L.tells launcher.new)) }
 {
     match programs.take_oldest() {
         Some(number) => end(launcher, ChildNo(number)),
@@ -37,7 +39,9 @@ fn end_oldest<L: Launcher>(programs: &mut Recent, launcher: &mut L) -> Result<()
 // Ends the program that was written last, if there is one.
 fn end_newest<L: Launcher>(programs: &mut Recent, launcher: &mut L) -> Result<(), Failed>
     requires { KeepsPrograms (program_side programs.old (L.tells launcher.old)) }
-    ensures { ChangesOr result with_first_over first_parts (program_side programs.old (L.tells launcher.old)) (program_side programs.new (L.tells launcher.new)) }
+    ensures { ChangesOr result with_first_over first_parts
+        (program_side programs.old (L.tells launcher.old))
+        (program_side programs.new (L.tells launcher.new)) }
 {
     match programs.take_newest() {
         Some(number) => end(launcher, ChildNo(number)),
@@ -48,7 +52,9 @@ fn end_newest<L: Launcher>(programs: &mut Recent, launcher: &mut L) -> Result<()
 // Makes room for one more program.
 fn make_room<L: Launcher>(programs: &mut Recent, launcher: &mut L) -> Result<(), Failed>
     requires { KeepsPrograms (program_side programs.old (L.tells launcher.old)) }
-    ensures { ChangesOr result with_room full_parts (program_side programs.old (L.tells launcher.old)) (program_side programs.new (L.tells launcher.new)) }
+    ensures { ChangesOr result with_room full_parts
+        (program_side programs.old (L.tells launcher.old))
+        (program_side programs.new (L.tells launcher.new)) }
 {
     if programs.len() < MOST_PIPED {
         return Ok(());
@@ -67,7 +73,9 @@ fn start<L: Launcher>(
     requires its_own { string_bytes command ≡ command_of program.now }
     requires unknown { number_under (string_bytes command) programs.old ≡ None }
     requires room { length programs.old < MOST_PIPED }
-    ensures { ChangesOr result (with_new program.now) start_parts (program_side programs.old (L.tells launcher.old)) (program_side programs.new (L.tells launcher.new)) }
+    ensures { ChangesOr result (with_new program.now) start_parts
+        (program_side programs.old (L.tells launcher.old))
+        (program_side programs.new (L.tells launcher.new)) }
 {
     let child = program.start(launcher, true)?;
     programs.add(command, child.0);
@@ -84,7 +92,9 @@ fn start_with_room<L: Launcher>(
     requires keeps { KeepsPrograms (program_side programs.old (L.tells launcher.old)) }
     requires its_own { string_bytes command ≡ command_of program.now }
     requires unknown { number_under (string_bytes command) programs.old ≡ None }
-    ensures { ChangesOr result (with_program program.now) room_parts (program_side programs.old (L.tells launcher.old)) (program_side programs.new (L.tells launcher.new)) }
+    ensures { ChangesOr result (with_program program.now) room_parts
+        (program_side programs.old (L.tells launcher.old))
+        (program_side programs.new (L.tells launcher.new)) }
 {
     make_room(programs, launcher)?;
     start(programs, launcher, program, command)
@@ -99,7 +109,9 @@ fn use_program<L: Launcher>(
 ) -> Result<(), Failed>
     requires keeps { KeepsPrograms (program_side programs.old (L.tells launcher.old)) }
     requires its_own { string_bytes command ≡ command_of program.now }
-    ensures { ChangesOr result (by_program program.now) (by_program_parts program.now) (program_side programs.old (L.tells launcher.old)) (program_side programs.new (L.tells launcher.new)) }
+    ensures { ChangesOr result (by_program program.now) (by_program_parts program.now)
+        (program_side programs.old (L.tells launcher.old))
+        (program_side programs.new (L.tells launcher.new)) }
 {
     match programs.raise(command.as_str()) {
         Some(_) => Ok(()),
@@ -114,7 +126,9 @@ pub(crate) fn begin<L: Launcher>(
     program: &Program,
 ) -> Begun
     requires { KeepsPrograms (program_side programs.old (L.tells launcher.old)) }
-    ensures { BeginsProgram result program.now (program_side programs.old (L.tells launcher.old)) (program_side programs.new (L.tells launcher.new)) }
+    ensures { BeginsProgram result program.now
+        (program_side programs.old (L.tells launcher.old))
+        (program_side programs.new (L.tells launcher.new)) }
 {
     let Ok(command) = program.command(programs.alloc()) else {
         return Begun::OutOfMemory;
@@ -132,7 +146,9 @@ pub(crate) fn finish<L: Launcher>(
     close: bool,
 ) -> Result<(), Failed>
     requires { KeepsPrograms (program_side programs.old (L.tells launcher.old)) }
-    ensures { ChangesOr result (finished_by Child close) (finish_parts_by Child close) (program_side programs.old (L.tells launcher.old)) (program_side programs.new (L.tells launcher.new)) }
+    ensures { ChangesOr result (finished_by Child close) (finish_parts_by Child close)
+        (program_side programs.old (L.tells launcher.old))
+        (program_side programs.new (L.tells launcher.new)) }
 {
     if close {
         return end_newest(programs, launcher);
@@ -143,7 +159,9 @@ pub(crate) fn finish<L: Launcher>(
 /// Ends all, from the one that was written longest ago to the one that was written last.
 pub(crate) fn close_all<L: Launcher>(programs: &mut Recent, launcher: &mut L) -> Result<(), Failed>
     requires { KeepsPrograms (program_side programs.old (L.tells launcher.old)) }
-    ensures { ChangesOr result closed closing_parts (program_side programs.old (L.tells launcher.old)) (program_side programs.new (L.tells launcher.new)) }
+    ensures { ChangesOr result closed closing_parts
+        (program_side programs.old (L.tells launcher.old))
+        (program_side programs.new (L.tells launcher.new)) }
 {
     while programs.len() > 0 {
         end_oldest(programs, launcher)?;

@@ -20,7 +20,9 @@ pub(crate) fn begin<F: Store, L: Launcher>(
     action: &Action,
 ) -> Begun
     requires { Keeps (kept_in files.old piped.old (F.tells store.old) (L.tells launcher.old)) }
-    ensures { BeginsKept result (action_of action.now) (kept_in files.old piped.old (F.tells store.old) (L.tells launcher.old)) (kept_in files.new piped.new (F.tells store.new) (L.tells launcher.new)) }
+    ensures { BeginsKept result (action_of action.now)
+        (kept_in files.old piped.old (F.tells store.old) (L.tells launcher.old))
+        (kept_in files.new piped.new (F.tells store.new) (L.tells launcher.new)) }
 {
     match action {
         Action::ToFile { path, options } => {
@@ -46,7 +48,9 @@ pub(crate) fn give<F: Store, L: Launcher>(
 ) -> Done
     requires keeps { Keeps (kept_in files.now piped.now (F.tells store.old) (L.tells launcher.old)) }
     requires hand { IsOfKept (seen_with files.now hand).target files.now piped.now }
-    ensures { GivesKept result (seen_with files.now hand) bytes.now (kept_in files.now piped.now (F.tells store.old) (L.tells launcher.old)) (kept_in files.now piped.now (F.tells store.new) (L.tells launcher.new)) }
+    ensures { GivesKept result (seen_with files.now hand) bytes.now
+        (kept_in files.now piped.now (F.tells store.old) (L.tells launcher.old))
+        (kept_in files.now piped.now (F.tells store.new) (L.tells launcher.new)) }
 {
     match hand.place {
         Place::Nowhere => Done::Ok,
@@ -71,7 +75,9 @@ pub(crate) fn finish<F: Store, L: Launcher>(
 ) -> Done
     requires keeps { Keeps (kept_in files.old piped.old (F.tells store.old) (L.tells launcher.old)) }
     requires hand { IsOfKept (seen_with files.old hand).target files.old piped.old }
-    ensures { FinishesKept result (seen_with files.old hand) (kept_in files.old piped.old (F.tells store.old) (L.tells launcher.old)) (kept_in files.new piped.new (F.tells store.new) (L.tells launcher.new)) }
+    ensures { FinishesKept result (seen_with files.old hand)
+        (kept_in files.old piped.old (F.tells store.old) (L.tells launcher.old))
+        (kept_in files.new piped.new (F.tells store.new) (L.tells launcher.new)) }
 {
     match hand.place {
         Place::Nowhere => Done::Ok,
@@ -94,7 +100,9 @@ pub(crate) fn close<F: Store, L: Launcher>(
     launcher: &mut L,
 ) -> Done
     requires { Keeps (kept_in files.old piped.old (F.tells store.old) (L.tells launcher.old)) }
-    ensures { ClosesKept result (kept_in files.old piped.old (F.tells store.old) (L.tells launcher.old)) (kept_in files.new piped.new (F.tells store.new) (L.tells launcher.new)) }
+    ensures { ClosesKept result
+        (kept_in files.old piped.old (F.tells store.old) (L.tells launcher.old))
+        (kept_in files.new piped.new (F.tells store.new) (L.tells launcher.new)) }
 {
     if let Err(Failed) = open_files::close_all(files, store) {
         return Done::StoreFault;
