@@ -34,10 +34,12 @@ pub fn worked_examples()
     ensures other_block { ¬ (TakesProduct 3 (500 ∷ []) (first way.InBlocks)
         (reserves (reply.Reserved 5 0) ∷ fills (65 ∷ 66 ∷ 67 ∷ []) ∷ commits 500 ∷ [])) }
     ensures begun { BeginsFirst 3 (first way.InBlocks ∷ []) (reserves (reply.Reserved 5 0) ∷ []) }
+    ensures not_begun { ¬ (BeginsFirst 3 (first way.Whole ∷ []) (inserts 500 (reply.Duplicate 0) ∷ [])) }
     // Replies agree as far as both go.
     ensures agree { Agree (code soon.Ok ∷ []) (code soon.Ok ∷ code soon.DontSend ∷ []) }
     ensures differ { ¬ (Agree (code soon.Ok ∷ []) (code soon.DontSend ∷ [])) }
     // A queue is passed on the product whole, or in blocks, and comes to the same.
     ensures queued { (passed_all 3 4 500 (sample.product ∷ []) (empty 168 10)).rows ≡ only_row }
+    ensures no_room { (passed_all 3 3 500 (sample.product ∷ []) (empty 40 10)).rows ≡ [] }
     ensures queued_in_blocks { (passed_all 3 3 500 (sample.product ∷ []) (empty 168 10)).rows ≡ only_row }
 {}

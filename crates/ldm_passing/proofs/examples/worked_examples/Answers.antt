@@ -48,3 +48,7 @@ returns-clause-queued c = refl
 pub returns-clause-queued_in_blocks : goal.returns-clause-queued_in_blocks
 unfolding reserve fill commit
 returns-clause-queued_in_blocks c = refl
+
+pub returns-clause-no_room : goal.returns-clause-no_room
+unfolding reserve
+returns-clause-no_room c = refl
