@@ -33,8 +33,8 @@ pub fn feed_case<H: Wait>(rt: &H, trial: &mut Trial) {
     tell_cursor(rt, trial, &shared, &mut pass);
 }
 
-// Opens so many cursors.
-fn open_all<H: Wait>(rt: &H, shared: &Shared, pass: &mut Pass, count: u64)
+/// Opens so many cursors.
+pub fn open_all<H: Wait>(rt: &H, shared: &Shared, pass: &mut Pass, count: u64)
     requires { IsPassOf shared.now pass.old }
     ensures { IsSamePass pass.old pass.new }
 {
@@ -92,8 +92,8 @@ fn feed_to<H: Wait>(
     tell_log(trial, log.written());
 }
 
-// The place of a cursor that is opened: 0, where the session closed its own; `-` where all are taken.
-fn tell_cursor<H: Wait>(rt: &H, trial: &mut Trial, shared: &Shared, pass: &mut Pass)
+/// Adds the place of a cursor that is opened: 0, where the session closed its own; `-` where all are taken.
+pub fn tell_cursor<H: Wait>(rt: &H, trial: &mut Trial, shared: &Shared, pass: &mut Pass)
     requires { IsPassOf shared.now pass.old }
 {
     trial.tell(" cursor ");

@@ -1,4 +1,4 @@
-//! Cases of sessions over links in memory: what a feeder sends and logs, and what a receiver takes, answers and logs.
+//! Cases of sessions over links in memory: what a feeder and one who tells of products send and log, and what a receiver takes, answers and logs.
 #![tactic(auto)]
 
 mod case;
@@ -7,6 +7,7 @@ mod feeding;
 mod gates;
 mod items;
 mod mutated;
+mod notices;
 mod outside;
 mod receiving;
 mod telling;
@@ -22,6 +23,7 @@ fn answer<H: Threads + Wait + Sync>(rt: &H, trial: &mut Trial) {
         "feed" => feeding::feed_case(rt, trial),
         "mutated" => mutated::mutated(rt, trial),
         "crowd" => crowd::crowd(rt, trial),
+        "notify" => notices::notify_case(rt, trial),
         "receive" => receiving::receive_case(rt, trial),
         _ => trial.refuse("no such word"),
     }
