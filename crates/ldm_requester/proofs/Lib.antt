@@ -1,2 +1,3 @@
 mod Holding
 mod Working
+mod Telling

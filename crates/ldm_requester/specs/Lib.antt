@@ -1,4 +1,6 @@
 pub mod Moments
 pub mod Tries
 pub mod Works
+pub mod Told
+pub mod Examples
 pub mod Steps

@@ -36,10 +36,13 @@ pub fn try_once<H: Wait, D: Door, I: Dial, E: Sink, C: Clock, G: Gate>(
     ensures none_out { (I.tells station.new.dial).links.out ≡ false }
     ensures door { station.new.door ≡ station.old.door }
     ensures gate { station.new.gate ≡ station.old.gate }
-    ensures counts { KeepsCounts (station_tells D.tells I.tells E.tells C.tells G.tells station.old) (station_tells D.tells I.tells E.tells C.tells G.tells station.new) }
+    ensures counts { KeepsCounts (station_tells D.tells I.tells E.tells C.tells G.tells station.old)
+        (station_tells D.tells I.tells E.tells C.tells G.tells station.new) }
     ensures tries { TriesOne result (request_view request.now)
-        (moment pass.old (station_tells D.tells I.tells E.tells C.tells G.tells station.old) (option_map (λ signature. signature.0) last.old))
-        (moment pass.new (station_tells D.tells I.tells E.tells C.tells G.tells station.new) (option_map (λ signature. signature.0) last.new)) }
+        (moment pass.old (station_tells D.tells I.tells E.tells C.tells G.tells station.old)
+        (option_map (λ signature. signature.0) last.old))
+        (moment pass.new (station_tells D.tells I.tells E.tells C.tells G.tells station.new)
+        (option_map (λ signature. signature.0) last.new)) }
 {
     match station.dial.connect(request.host.as_slice(), request.port) {
         Dialled::Linked(link) => hold_session(
@@ -70,10 +73,13 @@ fn hold_session<H: Wait, D: Door, I: Dial, E: Sink, C: Clock, G: Gate>(
     ensures none_out { (I.tells station.new.dial).links.out ≡ false }
     ensures door { station.new.door ≡ station.old.door }
     ensures gate { station.new.gate ≡ station.old.gate }
-    ensures counts { KeepsCounts (station_tells D.tells I.tells E.tells C.tells G.tells station.old) (station_tells D.tells I.tells E.tells C.tells G.tells station.new) }
+    ensures counts { KeepsCounts (station_tells D.tells I.tells E.tells C.tells G.tells station.old)
+        (station_tells D.tells I.tells E.tells C.tells G.tells station.new) }
     ensures holds { HoldsOne result (request_view request.now) (I.Link.tells link)
-        (moment pass.old (station_tells D.tells I.tells E.tells C.tells G.tells station.old) (option_map (λ signature. signature.0) last.old))
-        (moment pass.new (station_tells D.tells I.tells E.tells C.tells G.tells station.new) (option_map (λ signature. signature.0) last.new)) }
+        (moment pass.old (station_tells D.tells I.tells E.tells C.tells G.tells station.old)
+        (option_map (λ signature. signature.0) last.old))
+        (moment pass.new (station_tells D.tells I.tells E.tells C.tells G.tells station.new)
+        (option_map (λ signature. signature.0) last.new)) }
 {
     let received = receive(
         rt,

@@ -32,12 +32,13 @@ pub fn work_request<H: Wait, D: Door, I: Dial, E: Sink, C: Clock, G: Gate>(
     ensures kept { IsSamePass pass.old pass.new }
     ensures none_out { (I.tells station.new.dial).links.out ≡ false }
     ensures door { station.new.door ≡ station.old.door }
-    ensures counts { KeepsCounts (station_tells D.tells I.tells E.tells C.tells G.tells station.old) (station_tells D.tells I.tells E.tells C.tells G.tells station.new) }
+    ensures counts { KeepsCounts (station_tells D.tells I.tells E.tells C.tells G.tells station.old)
+        (station_tells D.tells I.tells E.tells C.tells G.tells station.new) }
     ensures sessions { (last : Option (List ℕ)) × Works result (request_view request.now)
         (moment pass.old (station_tells D.tells I.tells E.tells C.tells G.tells station.old) None)
         (moment pass.new (station_tells D.tells I.tells E.tells C.tells G.tells station.new) last) }
-    ensures causes { StopCause result pass.new
-        (station_tells D.tells I.tells E.tells C.tells G.tells station.old) (station_tells D.tells I.tells E.tells C.tells G.tells station.new) }
+    ensures causes { StopCause result pass.new (station_tells D.tells I.tells E.tells C.tells G.tells station.old)
+        (station_tells D.tells I.tells E.tells C.tells G.tells station.new) }
 {
     let mut last = None;
     for _ in rt.forever() {
