@@ -14,3 +14,4 @@ pub mod Moments
 pub mod Queueing
 pub mod Setting
 pub mod Narrowing
+pub mod Hearing

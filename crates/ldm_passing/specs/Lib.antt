@@ -5,3 +5,4 @@ pub mod Passing
 pub mod Queue
 pub mod Narrowing
 pub mod Examples
+pub mod Hearing

@@ -1,5 +1,5 @@
 //! What holds of all feedings that come to a receiver. These functions do nothing: their contracts are the laws.
-ghost use Rattle.std.specs.Prelude.{◌≡◌, ℕ, ◌+◌, ◌≤◌, ◌++◌, length, List, Option, None, All, false};
+ghost use Rattle.std.specs.Prelude.{◌≡◌, ℕ, ◌+◌, ◌≤◌, ◌++◌, length, List, Option, None, All, take, false};
 ghost use Rattle.ldm_types.specs.declared.class.ClassSpec.{ClassSpec};
 ghost use Rattle.ldm_types.specs.declared.limits.TheConstants.{LARGEST_ARENA};
 ghost use Rattle.ldm_types.specs.Info.{IsMetadata};
@@ -9,7 +9,7 @@ ghost use Rattle.ldm_model.specs.History.{after_entries, IsLegalFrom};
 ghost use Rattle.ldm_session.specs.Owed.{Code};
 ghost use Rattle.ldm_sender.specs.Asked.{Asked};
 ghost use Rattle.ldm_upstream.specs.Turn.{Given};
-ghost use Rattle.ldm_upstream.specs.Feeding.{IsFeeding};
+ghost use Rattle.ldm_upstream.specs.Feeding.{Feeding, IsFeeding, bytes_of, codes_of};
 ghost use Rattle.ldm_intake.specs.Answered.{number_of_request};
 ghost use Rattle.ldm_intake.specs.Asking.{asked_class};
 ghost use Rattle.ldm_intake.specs.Opening.{requesting};
@@ -18,8 +18,9 @@ ghost use Rattle.ldm_downstream.specs.Pieces.{hand, joined};
 ghost use Rattle.ldm_downstream.specs.Received.{at_stream_end};
 ghost use Rattle.ldm_passing.specs.Codes.{Agree};
 ghost use Rattle.ldm_passing.specs.Handed.{handed};
+ghost use Rattle.ldm_passing.specs.Hearing.{heard_so_far};
 ghost use Rattle.ldm_passing.specs.Narrowing.{IsNarrowing, Narrows};
-ghost use Rattle.ldm_passing.specs.Passing.{CameAt, CarriesAll, HasAsked, IsAnswered, IsPassing, IsSound, Passing, PassesFirst, PassesWhole, record_at};
+ghost use Rattle.ldm_passing.specs.Passing.{CameAt, CarriesAll, HasAsked, IsAnswered, IsGranted, IsPassing, IsSound, Passing, PassesFirst, PassesWhole, record_at};
 ghost use Rattle.ldm_passing.specs.Queue.{passed_all, products_of};
 ghost use Rattle.ldm_passing.specs.Takings.{IsAt};
 
@@ -75,6 +76,21 @@ pub fn a_narrower_class_is_asked_for()
     pieces_join();
     pushes_read_the_stream();
 }
+
+/// A feeding as far as its announcements were answered: at an end that no reply decided, a feeding is told with answers that nobody
+/// heard. Who knows how many were heard, and that no byte went behind the announcement that was not answered, goes on with this one.
+pub fn a_feeding_is_heard_so_far()
+    // It is a feeding as it is to be, and is granted where the other one is.
+    ensures feeding { (asked : Asked) (feeding : Feeding) (replies : ℕ) → IsFeeding asked feeding →
+        IsFeeding asked (heard_so_far replies feeding) }
+    ensures granted { (asked : Asked) (feeding : Feeding) (replies : ℕ) → IsGranted asked feeding →
+        IsGranted asked (heard_so_far replies feeding) }
+    // Its replies are those that were heard, and its bytes are the first ones.
+    ensures codes { (asked : Asked) (feeding : Feeding) (replies : ℕ) → IsFeeding asked feeding →
+        codes_of (heard_so_far replies feeding) ≡ take replies (codes_of feeding) }
+    ensures bytes { (asked : Asked) (feeding : Feeding) (replies : ℕ) → IsFeeding asked feeding →
+        (rest : List ℕ) × (bytes_of asked (heard_so_far replies feeding) ++ rest ≡ bytes_of asked feeding) }
+{}
 
 /// How what these laws are about comes to be.
 pub fn the_setting_is_met()

@@ -6,5 +6,6 @@ mod laws;
 
 pub use examples::worked_examples;
 pub use laws::{
-    a_narrower_class_is_asked_for, a_queue_is_passed_on, products_are_passed_on, the_setting_is_met,
+    a_feeding_is_heard_so_far, a_narrower_class_is_asked_for, a_queue_is_passed_on,
+    products_are_passed_on, the_setting_is_met,
 };
