@@ -4,6 +4,7 @@ use Rattle.ldm_model.specs.declared.event.Event.TheVariants.{Insert, Reserve, Fi
 use Rattle.ldm_model.specs.declared.event.Reply.{Reply}
 use Rattle.ldm_model.specs.declared.event.Reply.TheVariants as reply
 use Rattle.ldm_model.specs.declared.event.Entry.{Entry}
+use Rattle.ldm_model.specs.Product.{Product}
 use Rattle.ldm_model.specs.State.{Row}
 use Rattle.ldm_relay.specs.declared.message.SoonAnswer.{SoonAnswer}
 use Rattle.ldm_session.specs.Owed.{Code}
@@ -22,9 +23,11 @@ first way = product_of sample way
 abbrev pub other_signature : List ℕ
 other_signature = replicate 16 2
 
+abbrev pub other : Product
+other = record sample.product { info = record sample_info { signature = other_signature } }
+
 abbrev pub second : Way → Handed
-second way =
-    product_of (record sample { product = record sample.product { info = record sample_info { signature = other_signature } } }) way
+second way = product_of (record sample { product = other }) way
 
 -- calls, each with its reply
 abbrev pub inserts : ℕ → Reply → Entry

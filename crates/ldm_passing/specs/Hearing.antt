@@ -1,5 +1,5 @@
--- A feeding as far as its announcements were answered. At an end that no reply decided, a feeding is told with answers that nobody
--- heard.
+-- A feeding as far as its announcements were answered. At an end that no reply decided, a feeding is told with answers that
+-- nobody heard.
 use Rattle.std.specs.Prelude.{ℕ, zero, suc, List, [], ◌∷◌}
 use Rattle.ldm_upstream.specs.Turn.{Given, Handling, Passed, Whole, Declined, InBlocks, Turn, Lost, Gave, Quiet, Alive}
 use Rattle.ldm_upstream.specs.Feeding.{Last, Unanswered, Feeding}
@@ -22,7 +22,8 @@ abbrev pub handled_turn : ℕ → Given → Handling → (ℕ → Turns) → Tur
 handled_turn replies given Passed others = with_turn (Gave given Passed) (others replies)
 handled_turn replies given (Whole at) others = with_turn (Gave given (Whole at)) (others replies)
 handled_turn replies given (Declined at) others = announced_turn replies given at (Gave given (Declined at)) others
-handled_turn replies given (InBlocks at blocks_at) others = announced_turn replies given at (Gave given (InBlocks at blocks_at)) others
+handled_turn replies given (InBlocks at blocks_at) others =
+    announced_turn replies given at (Gave given (InBlocks at blocks_at)) others
 
 -- the turns up to the first announcement that was not answered, where so many replies were heard
 abbrev pub turns_heard : List Turn → Last → ℕ → Turns

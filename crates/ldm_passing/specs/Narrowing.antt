@@ -17,8 +17,8 @@ use Rattle.ldm_downstream.specs.Pieces.{hand, joined}
 use Rattle.ldm_downstream.specs.Received.{received}
 use Rattle.ldm_passing.specs.Passing.{CarriesAll, HasAsked, Passing, record_at}
 
--- The answer was that class, which is another one and has no pattern that means nothing. It came whole to a receiver that had asked
--- once.
+-- The answer was that class, which is another one and has no pattern that means nothing. It came whole to a receiver that had
+-- asked once.
 pub record IsNarrowing (p : Passing) (class : ClassSpec) : Type 0 where
   pub is : IsFeeding p.asked p.feeding
   pub answered : p.feeding.answered ≡ Reclassed class

@@ -66,8 +66,8 @@ pub fn a_queue_is_passed_on()
     products_are_passed_on();
 }
 
-/// Where a feeder grants a narrower class, a receiver that asked once asks for that one. The feeding that then comes is what these
-/// laws are about, from that place of the stream on.
+/// Where a feeder grants a narrower class, a receiver that asked once asks for that one. The feeding that then comes is what
+/// these laws are about, from that place of the stream on.
 pub fn a_narrower_class_is_asked_for()
     ensures { (p : Passing) (class : ClassSpec) → IsNarrowing p class → Narrows p class }
 {
@@ -77,8 +77,9 @@ pub fn a_narrower_class_is_asked_for()
     pushes_read_the_stream();
 }
 
-/// A feeding as far as its announcements were answered: at an end that no reply decided, a feeding is told with answers that nobody
-/// heard. Who knows how many were heard, and that no byte went behind the announcement that was not answered, goes on with this one.
+/// A feeding as far as its announcements were answered: at an end that no reply decided, a feeding is told with answers that
+/// nobody heard. Who knows how many were heard, and that no byte went behind the first announcement that was not answered, asks
+/// the other laws of this feeding.
 pub fn a_feeding_is_heard_so_far()
     // It is a feeding as it is to be, and is granted where the other one is.
     ensures feeding { (asked : Asked) (feeding : Feeding) (replies : ℕ) → IsFeeding asked feeding →
