@@ -1,18 +1,18 @@
 -- What the store does to the files that are kept open.
-use Rattle.std.proofs.Common.{◌≡◌, ◌≢◌, ◌∙◌, ℕ, zero, suc, ◌+◌, ◌-◌, ◌<◌, ◌≤◌, ◌⊎◌, inl, inr, Bool, true, false, cond, List, [], ◌∷◌, ◌++◌, length, take, drop, Option, Some, None, option_map, Result, Ok, Err, refl, sym, ap, subst, arith, length-append}
+use Rattle.std.proofs.Common.{◌≡◌, ◌≢◌, ◌∙◌, ℕ, ◌-◌, ◌<◌, Bool, true, false, cond, List, [], ◌∷◌, ◌++◌, length, take, drop, Option, Some, None, option_map, Result, Ok, Err, refl, sym, ap, subst, arith, length-append}
 use Rattle.std.specs.Prelude.{IsSome, IfSome, bytes_eq, nat_lt, not}
 use Rattle.std.specs.Map.{remove_entry}
 use Rattle.ldm_outside.specs.declared.fault.Failed.{Failed}
 use Rattle.ldm_outside.specs.Count.{Rose}
 use Rattle.ldm_outside.specs.Numbered.{without_number}
-use Rattle.ldm_outside.specs.Store.{File, ChangesFile, EmptiesFile, IsOpen, IsThere, ShutsFile, StoreFails, StoreRecord, bytes_under, path_of, with_changed, with_file, with_made, with_opened}
+use Rattle.ldm_outside.specs.Store.{File, ChangesFile, IsThere, ShutsFile, StoreRecord, bytes_under, path_of, with_changed, with_file, with_made, with_opened}
 use Rattle.ldm_outside.proofs.NumberLemmas.{at-with, at-with-others, at-without-others}
 use Rattle.ldm_outside.proofs.StoreLemmas.{IsOpen-before, IsOpen-changes, IsOpen-last, IsOpen-others}
 use Rattle.ldm_actions.specs.declared.limits.TheConstants.{MOST_OPEN}
-use Rattle.ldm_actions.specs.Kept.{AreApart, Differs, Each, IsNewest, number_under, raised, raised_by}
+use Rattle.ldm_actions.specs.Kept.{Differs, Each, IsNewest, number_under, raised, raised_by}
 use Rattle.ldm_actions.specs.OpenFiles.{FileSide, FilesBecome, FilesFail, IsOpenUnder, KeepsFiles, KeepsOr, OpensNew, OpensWithRoom, file_no, file_side, files_begun, files_made, used, used_by, with_room_open}
 use Rattle.ldm_actions.proofs.Commands.{one_less}
-use Rattle.ldm_actions.proofs.KeptLemmas.{Entry, apart_found, apart_front, apart_last, differs_under, each_both, each_found, each_front, each_last, each_then, not_under_front, take_front}
+use Rattle.ldm_actions.proofs.KeptLemmas.{Entry, apart_found, apart_front, apart_last, differs_under, each_both, each_found, each_front, each_then, not_under_front, take_front}
 
 module _ (old new : StoreRecord) where
   -- a file stays open where another is opened,

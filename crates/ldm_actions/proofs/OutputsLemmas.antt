@@ -1,6 +1,6 @@
 -- What a step of all that is kept is to outputs.
-use Rattle.std.proofs.Common.{◌≡◌, ◌∙◌, ℕ, Bool, List, [], ◌∷◌, Option, Some, None, option_map, refl, sym, ap, subst}
-use Rattle.std.specs.Prelude.{IsSome, string_bytes}
+use Rattle.std.proofs.Common.{◌≡◌, ◌∙◌, ℕ, List, ◌∷◌, Option, Some, None, refl, sym, ap, subst}
+use Rattle.std.specs.Prelude.{string_bytes}
 use Rattle.ldm_outside.specs.Launcher.{LauncherRecord}
 use Rattle.ldm_outside.specs.Store.{StoreRecord}
 use Rattle.ldm_actions.specs.declared.action.Action.{Action as Given}
@@ -9,13 +9,11 @@ use Rattle.ldm_actions.specs.declared.answers.Begun.{Begun}
 use Rattle.ldm_actions.specs.declared.answers.Begun.TheVariants as answer
 use Rattle.ldm_actions.specs.declared.answers.Fault.{Fault}
 use Rattle.ldm_actions.specs.declared.hand.Hand.{Hand}
-use Rattle.ldm_actions.specs.declared.hand.Place.{Place}
-use Rattle.ldm_actions.specs.declared.hand.Place.TheVariants as place
-use Rattle.ldm_actions.specs.Effects.{Action, File as FileTarget, begun, in_hand, piped_by, runs_under}
-use Rattle.ldm_actions.specs.Hands.{action_of, hand_of, hand_seen, newest_path, seen_with}
+use Rattle.ldm_actions.specs.Effects.{File as FileTarget, begun, in_hand, piped_by, runs_under}
+use Rattle.ldm_actions.specs.Hands.{action_of, hand_of, newest_path, seen_with}
 use Rattle.ldm_actions.specs.Kept.{IsNewest, number_under}
-use Rattle.ldm_actions.specs.OpenFiles.{used, used_by}
-use Rattle.ldm_actions.specs.Outputs.{Becomes, Begins, BeginsBy, BeginsHand, BeginsKept, HasHand, IsOfKept, Kept, KeepsUnlessSpent, OutputsView, files_after_begin, kept_in, outputs_view, standing, world_of}
+use Rattle.ldm_actions.specs.OpenFiles.{used_by}
+use Rattle.ldm_actions.specs.Outputs.{Begins, BeginsBy, BeginsHand, BeginsKept, HasHand, IsOfKept, Kept, KeepsUnlessSpent, OutputsView, kept_in, outputs_view, standing, world_of}
 use Rattle.ldm_actions.specs.World.{World, command_of}
 use Rattle.ldm_actions.proofs.KeptLemmas.{Entry}
 

@@ -1,22 +1,21 @@
 -- What the launcher does to the programs that run under PIPE.
-use Rattle.std.proofs.Common.{◌≡◌, ◌≢◌, ◌∙◌, ℕ, ◌+◌, ◌-◌, ◌<◌, ◌≤◌, ◌⊎◌, inl, inr, Bool, true, false, cond, List, [], ◌∷◌, ◌++◌, length, take, drop, Option, Some, None, option_map, Result, Ok, Err, refl, sym, ap, subst, arith, append_assoc, length-append, length-take}
-use Rattle.std.specs.Prelude.{bytes_eq, nat_lt, slice_get, String}
+use Rattle.std.proofs.Common.{◌≡◌, ◌≢◌, ◌∙◌, ℕ, ◌-◌, ◌<◌, ◌≤◌, ◌⊎◌, inl, inr, Bool, true, false, cond, List, [], ◌∷◌, ◌++◌, length, take, Option, Some, None, Result, Ok, Err, refl, sym, ap, subst, arith, append_assoc, length-append, length-take}
+use Rattle.std.specs.Prelude.{bytes_eq, nat_lt, String}
 use Rattle.std.specs.Map.{remove_entry}
 use Rattle.std.specs.declared.alloc.Global.{Global}
 use Rattle.std.proofs.lemmas.Bool.Decides.{nat_tests}
 use Rattle.ldm_outside.specs.Count.{Rose}
 use Rattle.ldm_outside.specs.declared.fault.Failed.{Failed}
-use Rattle.ldm_outside.specs.declared.launcher.ChildNo.{ChildNo}
 use Rattle.ldm_outside.specs.Launcher.{IsTaking, LauncherFails, LauncherRecord, spelled, with_started}
 use Rattle.ldm_outside.specs.Store.{File}
 use Rattle.ldm_outside.proofs.StoreLemmas.{IsTaking-before, IsTaking-last, IsTaking-others, IsTaking-waited}
 use Rattle.ldm_actions.specs.declared.limits.TheConstants.{MOST_PIPED}
-use Rattle.ldm_actions.specs.Effects.{all_over, closed, ended, last_of, piped_by, runs_under, with_first_over, with_new, with_room}
-use Rattle.ldm_actions.specs.Kept.{AreApart, Differs, Each, number_under, raised, raised_by}
+use Rattle.ldm_actions.specs.Effects.{all_over, closed, ended, last_of, piped_by, with_first_over, with_new, with_room}
+use Rattle.ldm_actions.specs.Kept.{Differs, number_under, raised, raised_by}
 use Rattle.ldm_actions.specs.Parts.{all_over_parts, over_parts, room_parts}
 use Rattle.ldm_actions.specs.Programs.{ChangesOr, EndsChild, IsOneOf, KeepsPrograms, ProgramSide, ProgramsBecome, ProgramsFail, by_program, closing_parts, first_parts, full_parts, last_parts, outside_with, program_side, start_parts, with_child_over, with_input_closed, with_last_over, with_program, world_with}
 use Rattle.ldm_actions.specs.World.{Outside, World, child_no, command_of, input_shut, over}
-use Rattle.ldm_actions.proofs.Commands.{few_with_room, one_less}
+use Rattle.ldm_actions.proofs.Commands.{one_less}
 use Rattle.ldm_actions.proofs.KeptLemmas.{Entry, apart_found, apart_front, apart_last, differs_under, each_both, each_found, each_front, each_then, last_is, not_under_front, take_front}
 
 module _ (old new : LauncherRecord) where

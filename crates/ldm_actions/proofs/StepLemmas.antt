@@ -1,26 +1,25 @@
 -- What a step of files, or of programs, is to all that is kept.
-use Rattle.std.proofs.Common.{◌≡◌, ◌≢◌, ◌∙◌, ℕ, ◌<◌, ◌⊎◌, inl, inr, Bool, true, false, cond, List, [], ◌∷◌, ◌++◌, drop, length, Option, Some, None, option_map, Result, Ok, Err, refl, sym, ap, subst, arith}
+use Rattle.std.proofs.Common.{◌≡◌, ◌≢◌, ◌∙◌, ℕ, inl, inr, Bool, true, false, cond, List, [], ◌∷◌, ◌++◌, drop, Option, Some, option_map, Ok, Err, refl, sym, ap, subst, arith}
 use Rattle.std.specs.Prelude.{slice_get, String}
 use Rattle.std.specs.declared.alloc.Global.{Global}
-use Rattle.ldm_outside.specs.Count.{Rose}
 use Rattle.ldm_outside.specs.declared.fault.Failed.{Failed}
-use Rattle.ldm_outside.specs.Launcher.{Child as ChildRecord, IsTaking, LauncherFails, LauncherRecord, spelled, with_started}
-use Rattle.ldm_outside.specs.Store.{File, StoreFails, StoreRecord, path_of, with_changed, with_file}
+use Rattle.ldm_outside.specs.Launcher.{Child as ChildRecord, IsTaking, LauncherRecord, spelled, with_started}
+use Rattle.ldm_outside.specs.Store.{File, StoreRecord, path_of, with_changed, with_file}
 use Rattle.ldm_outside.proofs.StoreLemmas.{IsTaking-before, IsTaking-detached, IsTaking-fed, IsTaking-waited}
 use Rattle.ldm_actions.specs.declared.answers.Begun.{Begun}
 use Rattle.ldm_actions.specs.declared.answers.Begun.TheVariants as answer
 use Rattle.ldm_actions.specs.declared.answers.Done.TheVariants as done
 use Rattle.ldm_actions.specs.declared.options.FileOptions.{FileOptions}
 use Rattle.ldm_actions.specs.declared.options.PipeOptions.{PipeOptions}
-use Rattle.ldm_actions.specs.Effects.{ToFile, ToProgram, Start, Nothing, InHand, Target, Nowhere, File as FileTarget, Child, begun, closed, executed, fed_to, finished, finished_by, given, opened}
+use Rattle.ldm_actions.specs.Effects.{ToFile, ToProgram, Start, Nothing, Nowhere, File as FileTarget, Child, begun, closed, executed, fed_to, finished, finished_by, given, opened}
 use Rattle.ldm_actions.specs.Hands.{newest_path}
 use Rattle.ldm_actions.specs.Kept.{Each, IsNewest}
-use Rattle.ldm_actions.specs.OpenFiles.{BeginsFile, FileSide, FilesBecome, FilesFail, IsOpenUnder, KeepsFiles, KeepsOr, file_no, file_side, files_begun, files_made, used}
-use Rattle.ldm_actions.specs.Outputs.{Becomes, BeginsKept, ClosesKept, FinishesKept, GivesKept, Kept, Keeps, LauncherStops, StoreStops, files_after_finish, kept_in, world_of}
-use Rattle.ldm_actions.specs.Parts.{IsGivenPart, begin_parts, finish_parts, finish_parts_by}
-use Rattle.ldm_actions.specs.Programs.{BeginsProgram, ChangesOr, Executes, IsOneOf, KeepsPrograms, ProgramSide, ProgramsBecome, ProgramsFail, closing_parts, outside_with, program_side, running_after, with_child_gone, with_child_over, with_executed, world_with}
+use Rattle.ldm_actions.specs.OpenFiles.{BeginsFile, FileSide, FilesBecome, FilesFail, IsOpenUnder, file_no, file_side, files_begun}
+use Rattle.ldm_actions.specs.Outputs.{Becomes, BeginsKept, ClosesKept, FinishesKept, GivesKept, Kept, Keeps, files_after_finish, kept_in, world_of}
+use Rattle.ldm_actions.specs.Parts.{begin_parts, finish_parts, finish_parts_by}
+use Rattle.ldm_actions.specs.Programs.{BeginsProgram, Executes, IsOneOf, ProgramSide, ProgramsBecome, ProgramsFail, closing_parts, outside_with, program_side, running_after, with_child_gone, with_child_over, with_executed, world_with}
 use Rattle.ldm_actions.specs.Strip.{kept}
-use Rattle.ldm_actions.specs.World.{Outside, World, child_no, fed, made, started}
+use Rattle.ldm_actions.specs.World.{Outside, child_no, made, started}
 use Rattle.ldm_actions.specs.Writing.{AppendsAll, FeedsAll, with_appended, with_given}
 use Rattle.ldm_actions.proofs.FileSteps.{keeps_changed}
 use Rattle.ldm_actions.proofs.KeptLemmas.{Entry, each_then}

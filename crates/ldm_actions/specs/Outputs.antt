@@ -1,5 +1,5 @@
 -- What an `Outputs` keeps, and what each call of it does.
-use Rattle.std.specs.Prelude.{◌≡◌, ℕ, Bool, true, false, List, [], ◌∷◌, drop, Option, Some, None, IsSome}
+use Rattle.std.specs.Prelude.{◌≡◌, ℕ, Bool, true, false, List, [], drop, Option, Some, None, IsSome}
 use Rattle.ldm_outside.specs.Count.{Rose}
 use Rattle.ldm_outside.specs.Launcher.{LauncherRecord}
 use Rattle.ldm_outside.specs.Store.{StoreRecord}

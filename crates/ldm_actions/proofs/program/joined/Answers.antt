@@ -1,4 +1,4 @@
-use Rattle.std.proofs.Common.{◌≡◌, ◌∙◌, ◌++◌, ◌+◌, ℕ, List, [], ◌∷◌, ap, arith, string_bytes, take}
+use Rattle.std.proofs.Common.{◌≡◌, ◌∙◌, ◌++◌, ℕ, List, [], ◌∷◌, ap, arith, string_bytes, take}
 use Rattle.ldm_outside.specs.Launcher.{spelled}
 use Rattle.ldm_actions.specs.World.{command_of}
 use Rattle.ldm_actions.proofs.JoinLemmas.{first_word, later_word}
