@@ -9,11 +9,12 @@ use Rattle.ldm_relay.specs.declared.message.SoonAnswer.TheVariants as soon
 use Rattle.ldm_relay.specs.Sent.{Sent}
 use Rattle.ldm_relay.specs.Sent as sent
 use Rattle.ldm_session.specs.Owed.{Code}
-use Rattle.ldm_upstream.specs.declared.standing.Standing.{Standing}
-use Rattle.ldm_upstream.specs.Asked.{Asked}
+use Rattle.ldm_sender.specs.declared.standing.Standing.{Standing}
+use Rattle.ldm_sender.specs.Asked.{Asked}
 use Rattle.ldm_upstream.specs.Blocks.{blocks}
-use Rattle.ldm_upstream.specs.Opening.{Answered, Denied, Reclassed, Busy, Opened, class_answer_of}
-use Rattle.ldm_upstream.specs.Turn.{Given, Passed, Whole, Declined, InBlocks, Turn, Lost, Gave, Quiet, Alive, after_turn, block_messages, later_call, turn_messages}
+use Rattle.ldm_sender.specs.Opening.{Answered, Denied, Reclassed, Busy, Opened, class_answer_of}
+use Rattle.ldm_upstream.specs.Turn.{Given, Passed, Whole, Declined, InBlocks, Turn, Lost, Gave, Quiet, Alive, after_turn, block_messages, turn_messages}
+use Rattle.ldm_sender.specs.Calls.{later_call}
 use Rattle.ldm_upstream.specs.Turns.{AreTurns, after_turns, codes_of_turns, given_in_turns, messages_of_turns}
 use Rattle.ldm_upstream.specs.Feeding.{Feeding, GoesOn, IsFeeding, IsLast, Last, MayTurn, begun, bytes_of, given_of, last_given, last_messages, messages_of}
 use Rattle.ldm_passing.specs.Hearing.{heard_so_far, turns_heard}
