@@ -30,6 +30,8 @@ pub struct Case {
     pub last: Option<Signature>,
     /// `max=`: the size of the largest product that is to come whole.
     pub max_hereis: u32,
+    /// `count=`: how many notices are asked for; 0 where they are not counted.
+    pub count: u64,
     /// `streams=`: streams that are changed, with `,` between two.
     pub streams: Vec<Vec<u8>>,
     /// `given=`: what the link gives; `pieces=`: the lengths of its pieces; `open=`: 1 where it does not end behind them, and
@@ -71,6 +73,7 @@ impl Case {
             },
             last: None,
             max_hereis: 16_384,
+            count: 0,
             streams: Vec::new(alloc),
             given: Vec::new(alloc),
             pieces: Vec::new(alloc),
@@ -137,6 +140,7 @@ impl Case {
             "from" => self.class.from = instant(trial, number),
             "to" => self.class.to = instant(trial, number),
             "sends" => self.sends = number,
+            "count" => self.count = number,
             "cursors" => self.cursors = number,
             "reserved" => self.reserved = number,
             "held" => self.held = number,

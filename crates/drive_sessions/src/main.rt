@@ -1,4 +1,6 @@
 //! Cases of sessions over links in memory: what a feeder and one who tells of products send and log, and what a receiver takes, answers and logs.
+//! Cases of sessions over links in memory: what a feeder sends and logs, what a receiver takes, answers and logs, and what one who watches
+//! sends and writes.
 #![tactic(auto)]
 
 mod case;
@@ -11,6 +13,7 @@ mod notices;
 mod outside;
 mod receiving;
 mod telling;
+mod watching;
 
 use ldm_drive::{Trial, drive};
 use std::io;
@@ -25,6 +28,7 @@ fn answer<H: Threads + Wait + Sync>(rt: &H, trial: &mut Trial) {
         "crowd" => crowd::crowd(rt, trial),
         "notify" => notices::notify_case(rt, trial),
         "receive" => receiving::receive_case(rt, trial),
+        "watch" => watching::watch_case(trial),
         _ => trial.refuse("no such word"),
     }
 }

@@ -84,13 +84,15 @@ pub fn tell_end(trial: &mut Trial, end: &RecvEnd) {
     }
 }
 
-fn tell_place(trial: &mut Trial, name: &str, at: u64) {
+/// Adds how a session ended at a place.
+pub fn tell_place(trial: &mut Trial, name: &str, at: u64) {
     trial.tell(name);
     trial.tell(" at ");
     trial.tell_number(at);
 }
 
-fn tell_answer(trial: &mut Trial, answer: &ClassAnswer) {
+/// Adds that the peer declined by that answer.
+pub fn tell_answer(trial: &mut Trial, answer: &ClassAnswer) {
     trial.tell("Refused ");
     trial.tell(match answer {
         ClassAnswer::Ok => "Ok",
