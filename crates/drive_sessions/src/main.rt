@@ -1,6 +1,8 @@
 //! Cases of sessions over links in memory: what a feeder and one who tells of products send and log, and what a receiver takes, answers and logs.
 //! Cases of sessions over links in memory: what a feeder sends and logs, what a receiver takes, answers and logs, and what one who watches
 //! sends and writes.
+//! Cases of sessions over links in memory: what a feeder sends and logs, what a receiver takes, answers and logs, and what a server
+//! responds to records.
 #![tactic(auto)]
 
 mod case;
@@ -12,6 +14,7 @@ mod mutated;
 mod notices;
 mod outside;
 mod receiving;
+mod responding;
 mod telling;
 mod watching;
 
@@ -29,6 +32,7 @@ fn answer<H: Threads + Wait + Sync>(rt: &H, trial: &mut Trial) {
         "notify" => notices::notify_case(rt, trial),
         "receive" => receiving::receive_case(rt, trial),
         "watch" => watching::watch_case(trial),
+        "respond" => responding::respond_case(rt, trial),
         _ => trial.refuse("no such word"),
     }
 }
