@@ -32,7 +32,6 @@ pub struct Case {
     pub max_hereis: u32,
     /// `count=`: how many notices are asked for; 0 where they are not counted.
     pub count: u64,
-    /// `streams=`: streams that are changed, with `,` between two.
     /// `streams=`: streams that are changed, or the contents of records, with `,` between two.
     pub streams: Vec<Vec<u8>>,
     /// `given=`: what the link gives; `pieces=`: the lengths of its pieces; `open=`: 1 where it does not end behind them, and

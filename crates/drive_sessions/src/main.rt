@@ -1,8 +1,5 @@
-//! Cases of sessions over links in memory: what a feeder and one who tells of products send and log, and what a receiver takes, answers and logs.
-//! Cases of sessions over links in memory: what a feeder sends and logs, what a receiver takes, answers and logs, and what one who watches
-//! sends and writes.
-//! Cases of sessions over links in memory: what a feeder sends and logs, what a receiver takes, answers and logs, and what a server
-//! responds to records.
+//! Cases of sessions over links in memory: what a feeder and one who tells of products send and log, what a receiver takes, answers and
+//! logs, what one who watches sends and writes, and what a server responds to records.
 #![tactic(auto)]
 
 mod case;
