@@ -1,15 +1,14 @@
 -- Responses that are given, by what was done.
-use Rattle.std.proofs.Common.{◌≡◌, ℕ, Bool, true, false, List, [], ◌∷◌, ◌++◌, Option, Some, None, Result, Ok, Err, refl, sym, ap, subst, inl, inr, append-nil}
+use Rattle.std.proofs.Common.{◌≡◌, ℕ, Bool, true, false, List, [], ◌∷◌, ◌++◌, Option, Some, None, Result, Ok, Err, refl, sym, ap, subst}
 use Rattle.std.specs.Prelude.{if◌then◌else◌, is_none}
 use Rattle.ldm_types.specs.declared.class.ClassSpec.{ClassSpec}
 use Rattle.ldm_class.specs.Classes.{bad_place}
 use Rattle.ldm_outside.specs.Clock.{ClockRecord}
 use Rattle.ldm_model.specs.declared.event.Event.TheVariants.{Stat}
 use Rattle.ldm_model.specs.declared.event.Reply.{Reply}
-use Rattle.ldm_model.specs.declared.event.Entry.{Entry}
 use Rattle.ldm_relay.specs.Sent.{Sent}
-use Rattle.ldm_shared.specs.Own.{own}
-use Rattle.ldm_shared.specs.Passes.{PassView, IsSamePass, Makes, Calls, Grows, entry_of}
+use Rattle.ldm_shared.proofs.Made.{calls_none, calls_some}
+use Rattle.ldm_shared.specs.Passes.{PassView, IsSamePass, Grows, entry_of}
 use Rattle.ldm_intake.specs.Course.{Course, Comes, Leads}
 use Rattle.ldm_intake.specs.Room.{records_of}
 use Rattle.ldm_respond.specs.declared.responded.Responded.{Responded}
@@ -19,13 +18,6 @@ use Rattle.ldm_respond.specs.Answering.{answering, stat_replies}
 use Rattle.ldm_respond.specs.Respond.{means_all}
 use Rattle.ldm_respond.specs.Response.{Response, Figures}
 use Rattle.ldm_respond.specs.Responds.{AsksClock, IsGiven, Responds, Standing, goes_on, stands}
-
-made_calls : {old new : PassView} {made : List Entry} → Makes old new made → Calls old new made
-made_calls makes = record { same = makes.same; adds = makes.adds; has_seen = inr makes.has_seen }
-
--- no call was made
-calls_none : (pass : PassView) → Calls pass pass []
-calls_none pass = record { same = refl; adds = record { begins = ([], append-nil pass.seen); own = sym (append-nil (own pass.actor pass.seen)) }; has_seen = inl refl }
 
 -- A response that is this one asks nothing of clock and queue, and these messages are owed.
 pub given_at_once : (pass : PassView) (clock : ClockRecord) (response one : Response) (next : Responded) (messages : List Sent) (out after : List ℕ)
@@ -68,7 +60,7 @@ figures_given pass behind clock xid reply messages out after grows says sends = 
   messages = messages;
   asks_clock = refl;
   leads = (refl, says);
-  calls = made_calls grows.makes;
+  calls = calls_some pass behind (entry_of pass Stat reply ∷ []) grows.makes;
   sends = sends;
 }
 

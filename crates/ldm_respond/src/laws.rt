@@ -16,13 +16,14 @@ ghost use Rattle.ldm_respond.specs.Respond.{respond};
 /// Whatever a record says, the rules decide what its host gets of the queue. It does nothing.
 pub fn rules_are_kept()
     // No product is inserted for which the ACCEPT verdict of the host is No.
-    ensures inserts { (rules : Rules) (host content : List ℕ) (now actor : ℕ) (made : List Entry) (time : ℕ) (info : Metadata) (body : List ℕ) →
-        Begins actor (answering (respond rules host content) now) made → Contains (events_of made) (Insert time info body) →
-        is_yes (verdict rules.accept host info) ≡ true }
+    ensures inserts { (rules : Rules) (host content : List ℕ) (now actor : ℕ) (made : List Entry)
+        (time : ℕ) (info : Metadata) (body : List ℕ) → Begins actor (answering (respond rules host content) now) made →
+        Contains (events_of made) (Insert time info body) → is_yes (verdict rules.accept host info) ≡ true }
     // The queue is asked for its figures only for a host that an ALLOW rule is about, and they go to no other.
     ensures asks_figures { (rules : Rules) (host content : List ℕ) (now actor : ℕ) (made : List Entry) →
-        Begins actor (answering (respond rules host content) now) made → Contains (events_of made) Stat → list_any (is_about host) rules.allow ≡ true }
-    ensures tells_figures { (rules : Rules) (host content : List ℕ) (now actor : ℕ) (made : List Entry) (messages : List Sent) (xid : ℕ) (stat : figures.Stat) →
-        Leads actor (answering (respond rules host content) now) made messages → Contains messages (sent.QstatReply xid (Some stat)) →
+        Begins actor (answering (respond rules host content) now) made → Contains (events_of made) Stat →
         list_any (is_about host) rules.allow ≡ true }
+    ensures tells_figures { (rules : Rules) (host content : List ℕ) (now actor : ℕ) (made : List Entry)
+        (messages : List Sent) (xid : ℕ) (stat : figures.Stat) → Leads actor (answering (respond rules host content) now) made messages →
+        Contains messages (sent.QstatReply xid (Some stat)) → list_any (is_about host) rules.allow ≡ true }
 {}
