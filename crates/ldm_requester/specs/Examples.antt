@@ -13,7 +13,8 @@ sample_product = replicate 16 1
 
 -- The host is not reached, then feeds a product, and then there is no memory for a session.
 abbrev pub sample_tries : List Try
-sample_tries = Unreached ∷ Session Ended None (Some sample_product) ∷ Session OutOfMemory (Some sample_product) (Some sample_product) ∷ []
+sample_tries =
+    Unreached ∷ Session Ended None (Some sample_product) ∷ Session OutOfMemory (Some sample_product) (Some sample_product) ∷ []
 
 -- the log lines of the sessions themselves
 abbrev pub sample_lines : List (List ℕ)

@@ -29,7 +29,8 @@ is_log_fault receiving.OutOfMemory = false
 abbrev pub Finishes : Option NodeStop → RecvEnd → List ℕ → SinkRecord → SinkRecord → Type 0
 Finishes None end host old new = Logs true (session_line host (end_of_receiving end)) old new × (stop_by end ≡ None)
 Finishes (Some LogFault) end host old new =
-    Logs false (session_line host (end_of_receiving end)) old new × (((end ≡ receiving.LogFault) × (new ≡ old)) ⊎ Rose old.faults new.faults)
+    Logs false (session_line host (end_of_receiving end)) old new
+    × (((end ≡ receiving.LogFault) × (new ≡ old)) ⊎ Rose old.faults new.faults)
 Finishes (Some Worn) end host old new = Logs true (session_line host (end_of_receiving end)) old new × (stop_by end ≡ Some Worn)
 Finishes (Some Done) end host old new = ⊥
 Finishes (Some NetFault) end host old new = ⊥
@@ -38,9 +39,11 @@ Finishes (Some OutOfMemory) end host old new = ⊥
 -- one session over a link that came, and whether the worker stops
 abbrev pub HoldsOne : Option NodeStop → RequestView → LinkRecord → Moment → Moment → Type 0
 HoldsOne None request came old new = (end : RecvEnd) × Holds true end request came old new × (stop_by end ≡ None)
-HoldsOne (Some LogFault) request came old new = (end : RecvEnd) × Holds false end request came old new × Rose old.station.log.faults new.station.log.faults
+HoldsOne (Some LogFault) request came old new =
+    (end : RecvEnd) × Holds false end request came old new × Rose old.station.log.faults new.station.log.faults
 HoldsOne (Some Worn) request came old new =
-    (end : RecvEnd) × Holds true end request came old new × (stop_by end ≡ Some Worn) × StopCause Worn new.pass old.station new.station
+    (end : RecvEnd) × Holds true end request came old new × (stop_by end ≡ Some Worn)
+    × StopCause Worn new.pass old.station new.station
 HoldsOne (Some Done) request came old new = ⊥
 HoldsOne (Some NetFault) request came old new = ⊥
 HoldsOne (Some OutOfMemory) request came old new = ⊥
@@ -48,9 +51,11 @@ HoldsOne (Some OutOfMemory) request came old new = ⊥
 -- one try, and whether the worker stops
 abbrev pub TriesOne : Option NodeStop → RequestView → Moment → Moment → Type 0
 TriesOne None request old new = (try : Try) × TriesOnce true request try old new × (stop_behind try ≡ None)
-TriesOne (Some LogFault) request old new = (try : Try) × TriesOnce false request try old new × Rose old.station.log.faults new.station.log.faults
+TriesOne (Some LogFault) request old new =
+    (try : Try) × TriesOnce false request try old new × Rose old.station.log.faults new.station.log.faults
 TriesOne (Some Worn) request old new =
-    (try : Try) × TriesOnce true request try old new × (stop_behind try ≡ Some Worn) × StopCause Worn new.pass old.station new.station
+    (try : Try) × TriesOnce true request try old new × (stop_behind try ≡ Some Worn)
+    × StopCause Worn new.pass old.station new.station
 TriesOne (Some Done) request old new = ⊥
 TriesOne (Some NetFault) request old new = ⊥
 TriesOne (Some OutOfMemory) request old new = ⊥

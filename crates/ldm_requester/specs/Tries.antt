@@ -20,8 +20,8 @@ use Rattle.ldm_worker_log.specs.Lines.{Logs, session_line, unreached_line}
 use Rattle.ldm_requester.specs.declared.limits.TheConstants.{MAX_HEREIS}
 use Rattle.ldm_requester.specs.Moments.{Moment, with_dial}
 
--- What a try came to: the dial failed; or there was a session, with its end, and the signature of the last product before it and behind
--- it, if there was one.
+-- What a try came to: the dial failed; or there was a session, with its end, and the signature of the last product before it and
+-- behind it, if there was one.
 pub data Try : Type 0 where
   Unreached : Try
   Session : (end : RecvEnd) (before behind : Option (List ℕ)) → Try
@@ -44,8 +44,8 @@ pub record Misses (whole : Bool) (request : RequestView) (old new : Moment) : Ty
   pub logged : Logs whole (unreached_line request.host) old.station.log new.station.log
   pub same : new ≡ record old { station = record old.station { dial = new.station.dial; log = new.station.log } }
 
--- Over a link that came the products of the request were received, behind the last one. The link was given back as it was left, and then
--- the log took the line: all of it, or a front.
+-- Over a link that came the products of the request were received, behind the last one. The link was given back as it was left, and
+-- then the log took the line: all of it, or a front, perhaps nothing.
 pub record Holds (whole : Bool) (end : RecvEnd) (request : RequestView) (came : LinkRecord) (old new : Moment) : Type 0 where
   pub left : LinkRecord
   pub log : SinkRecord
@@ -67,7 +67,8 @@ pub record Meets (whole : Bool) (end : RecvEnd) (request : RequestView) (old new
 -- One try, at the end of which the log took its line: all of it, or a front.
 abbrev pub TriesOnce : (whole : Bool) → RequestView → Try → Moment → Moment → Type 0
 TriesOnce whole request Unreached old new = Misses whole request old new
-TriesOnce whole request (Session end before behind) old new = Meets whole end request old new × (before ≡ old.last) × (behind ≡ new.last)
+TriesOnce whole request (Session end before behind) old new =
+    Meets whole end request old new × (before ≡ old.last) × (behind ≡ new.last)
 
 -- whether the end of a session is that of the worker
 abbrev pub stop_by : RecvEnd → Option NodeStop

@@ -30,8 +30,8 @@ abbrev pub AreTries : RequestView → List Try → Moment → Moment → Type 0
 AreTries request [] old new = new ≡ old
 AreTries request (try ∷ tries) old new = (mid : Moment) × TriesAndAsks On request try old mid × AreTries request tries mid new
 
--- The last try of a worker, and why it stops: the gate said to; or the log failed within its session or at its line; or the queue has
--- had all its calls.
+-- The last try of a worker, and why it stops: the gate said to; or the log failed within its session or at its line; or the queue
+-- has had all its calls.
 abbrev pub EndsBy : NodeStop → RequestView → Try → Moment → Moment → Type 0
 EndsBy Done request try old new = TriesAndAsks Stop request try old new
 EndsBy LogFault request try old new = TriesOnce false request try old new

@@ -5,7 +5,8 @@ ghost use Rattle.ldm_requester.specs.Told.{Follow, asked_by, log_of};
 
 /// Worked examples of what is told of tries.
 pub fn worked_examples()
-    ensures log { log_of sample_request sample_tries sample_lines ≡ codes "unreached h\nunwanted q\nsession h ended\nsession h outofmemory\n" }
+    ensures log { log_of sample_request sample_tries sample_lines
+        ≡ codes "unreached h\nunwanted q\nsession h ended\nsession h outofmemory\n" }
     ensures asked { length (asked_by sample_request sample_tries) ≡ 3 }
     ensures resumed { Follow None sample_tries }
 {}

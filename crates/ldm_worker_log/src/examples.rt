@@ -6,7 +6,8 @@ ghost use Rattle.ldm_worker_log.specs.Lines.{session_line, unreached_line};
 
 /// Worked examples of the lines.
 pub fn worked_examples()
-    ensures ended { session_line (codes "idd.example.org") (end_of_receiving receiving.Ended) ≡ codes "session idd.example.org ended\n" }
+    ensures ended { session_line (codes "idd.example.org") (end_of_receiving receiving.Ended)
+        ≡ codes "session idd.example.org ended\n" }
     // What an end carries is not told.
     ensures truncated { session_line (codes "h") (end_of_receiving (receiving.Truncated 9)) ≡ codes "session h truncated\n" }
     ensures out_of_memory { session_line (codes "h") (end_of_receiving receiving.OutOfMemory) ≡ codes "session h outofmemory\n" }
