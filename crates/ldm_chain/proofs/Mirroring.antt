@@ -11,6 +11,7 @@ use Rattle.ldm_outside.proofs.LinkLemmas.{bytes_passed-append, bytes_sent-more, 
 use Rattle.ldm_shared.specs.Passes.{SharedView, PassView, IsPassOf, IsSamePass}
 use Rattle.ldm_intake.specs.declared.end.RecvEnd.{RecvEnd}
 use Rattle.ldm_intake.specs.Opening.{request_of}
+use Rattle.ldm_intake.specs.Receiving.{Receiving}
 use Rattle.ldm_intake.specs.Room.{records_of}
 use Rattle.ldm_intake.specs.TakesRecord.{Standing, stands}
 use Rattle.ldm_downstream.specs.Pieces.{Piece, beginning, joined}
@@ -109,6 +110,13 @@ none_of (Some end) is = absurd (cc)
 pub of-same : (shared : SharedView) (old new : PassView) → IsPassOf shared old → IsSamePass old new → IsPassOf shared new
 of-same shared old new of same =
     subst (λ (p : PassView). IsPassOf shared p) (sym same) (record { queue = of.queue; arena = of.arena; slots = of.slots; passes = of.passes })
+
+-- a pass is the one that it was
+pub same-begun : (b : Beginning) (s : Receiving) (pass : PassView) → b.first ≡ at_first s pass → IsSamePass b.first.pass pass
+same-begun b s pass first = subst (λ (f : Standing). IsSamePass f.pass pass) (sym first) refl
+
+pub same-then : (old mid new : PassView) → IsSamePass old mid → IsSamePass mid new → IsSamePass old new
+same-then old mid new before later = later ∙ ap (λ (p : PassView). record p { seen = new.seen }) before
 
 pieces-more : (now : ℕ) (parts : List (List ℕ)) (part : List ℕ) → pieces_at now (parts ++ part ∷ []) ≡ pieces_at now parts ++ record { now = now; bytes = part } ∷ []
 pieces-more now [] part = refl

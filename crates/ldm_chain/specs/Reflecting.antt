@@ -3,7 +3,7 @@ use Rattle.std.specs.Prelude.{◌≡◌, ℕ, ◌≤◌, List, ◌++◌, length,
 use Rattle.ldm_rpc.specs.Streams.{Position}
 use Rattle.ldm_outside.specs.declared.link.Passed.{Passed}
 use Rattle.ldm_outside.specs.Link.{bytes_sent, bytes_given}
-use Rattle.ldm_shared.specs.Passes.{SharedView, PassView, IsPassOf}
+use Rattle.ldm_shared.specs.Passes.{SharedView, PassView, IsPassOf, IsSamePass}
 use Rattle.ldm_intake.specs.declared.end.RecvEnd.{RecvEnd}
 use Rattle.ldm_intake.specs.TakesRecord.{Standing, stands}
 use Rattle.ldm_downstream.specs.Pieces.{Piece, beginning, joined}
@@ -44,6 +44,7 @@ mirror_of passed ends faults closed read replies receiver pass = record {
 -- What a mirror keeps beside that: so many bytes of these replies were given, and this is how the receiver ended, if it did.
 pub record IsKept (b : Beginning) (shared : SharedView) (name now read : ℕ) (replies : List ℕ) (over : Option RecvEnd) (m : MirrorView) : Type 0 where
   pub of : IsPassOf shared m.pass
+  pub same : IsSamePass b.first.pass m.pass
   pub name_is : name ≡ b.name
   pub now_is : now ≡ b.now
   pub within : read ≤ length replies

@@ -4,7 +4,13 @@
 //! replies is what it gives.
 #![tactic(auto)]
 
+mod chaining;
+mod feeding;
 mod mirror;
+mod node;
+mod outside;
 mod told;
 
+pub use chaining::chain;
 pub use mirror::{Begun, Lent, Mirror, Returned};
+pub use node::{ChainEnd, ChainNode};

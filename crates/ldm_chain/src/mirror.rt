@@ -1,6 +1,6 @@
 //! A link that owns the receiver of the next queue.
 ghost use Rattle.std.specs.Prelude.{◌≡◌, ◌≤◌, ◌<◌, length, take, drop, min, is_some, true, vec_len};
-ghost use Rattle.ldm_shared.specs.Passes.{IsPassOf};
+ghost use Rattle.ldm_shared.specs.Passes.{IsPassOf, IsSamePass};
 ghost use Rattle.ldm_intake.specs.Opening.{request_of};
 ghost use Rattle.ldm_intake.specs.Room.{records_of};
 ghost use Rattle.ldm_downstream.specs.ReceiverView.{before_stream};
@@ -51,10 +51,10 @@ pub struct Returned<'a> {
 /// A send in whose push the receiver ends takes its piece; each later one fails. It is at its end where no reply waits. What is
 /// logged is forgotten.
 #[derive(Drop)]
-pub struct Mirror<'a, H, B: Begun> {
+pub struct Mirror<'a, 'p, H, B: Begun> {
     rt: &'a H,
     shared: &'a Shared,
-    pass: &'a mut Pass,
+    pass: &'p mut Pass,
     receiver: Receiver<'a>,
     now: Micros,
     // What the receiver replied, and how many bytes of it were received.
@@ -69,7 +69,7 @@ pub struct Mirror<'a, H, B: Begun> {
     of: PhantomData<B>,
 }
 
-impl<'a, H, B: Begun> Model for Mirror<'a, H, B> {
+impl<'a, 'p, H, B: Begun> Model for Mirror<'a, 'p, H, B> {
     ghost use Rattle.ldm_chain.specs.MirrorView.{MirrorView};
 
     ghost Value = { MirrorView };
@@ -82,7 +82,7 @@ impl<'a, H, B: Begun> Model for Mirror<'a, H, B> {
         (mirror_of m.told.passed m.ends m.faults m.closed m.read m.replies.items m.receiver m.pass.now) };
 }
 
-impl<'a, H, B: Begun> Mirror<'a, H, B> {
+impl<'a, 'p, H, B: Begun> Mirror<'a, 'p, H, B> {
     ghost use Rattle.std.specs.Prelude.{[], false};
     ghost use Rattle.ldm_chain.specs.MirrorView.{all_read};
     ghost use Rattle.ldm_chain.specs.Reflecting.{Reflects};
@@ -93,11 +93,11 @@ impl<'a, H, B: Begun> Mirror<'a, H, B> {
         rt: &'a H,
         alloc: Global,
         shared: &'a Shared,
-        lent: Lent<'a>,
+        lent: Lent<'p>,
         receiver: Receiver<'a>,
         request: Vec<u8>,
         now: Micros,
-    ) -> Mirror<'a, H, B>
+    ) -> Mirror<'a, 'p, H, B>
         requires of { IsPassOf shared.now lent.pass.now }
         requires before { receiver ≡ before_stream receiver.receiving false }
         requires asks { request.items ≡ records_of (request_of receiver.receiving) }
@@ -143,9 +143,10 @@ impl<'a, H, B: Begun> Mirror<'a, H, B> {
     }
 
     /// Takes it apart. What its receiver took and replied is what passed.
-    pub fn into_parts(self) -> Returned<'a>
+    pub fn into_parts(self) -> Returned<'p>
         ensures name { result.lent.pass.ghost_name ≡ B.begun.name }
         ensures pass { result.lent.pass.now ≡ self.entry.pass }
+        ensures same { IsSamePass B.begun.first.pass self.entry.pass }
         ensures end { result.end ≡ self.entry.receiver.end }
         ensures reflects { Reflects B.begun self.entry }
     {
@@ -157,7 +158,7 @@ impl<'a, H, B: Begun> Mirror<'a, H, B> {
     }
 }
 
-impl<'a, H: Wait, B: Begun> Link for Mirror<'a, H, B> {
+impl<'a, 'p, H: Wait, B: Begun> Link for Mirror<'a, 'p, H, B> {
     ghost use Rattle.std.specs.Prelude.{drop, true};
     ghost use Rattle.ldm_outside.specs.Link.{IsNotClosed, RecvGives, SendGives};
     ghost use Rattle.ldm_chain.specs.MirrorView.{RecvsFrom, SendsTo, told_by_mirror};

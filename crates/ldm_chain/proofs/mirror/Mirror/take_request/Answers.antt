@@ -10,6 +10,7 @@ invariant_of-self g c =
     let told = rw (take_rest, c.deref.ensures.value) at c.then-self-inside.ensures in
     record {
       of = i.of;
+      same = i.same;
       name_is = i.name_is;
       now_is = i.now_is;
       within = omega arith;

@@ -11,6 +11,7 @@ invariant_of-self-2 g c =
     let count = rw (take_rest, c.deref.ensures.value) at c.copy_front-n.ensures.count in
     record {
       of = i.of;
+      same = i.same;
       name_is = i.name_is;
       now_is = i.now_is;
       within = omega (arith, count, i.within, length-drop s.read s.replies.items);

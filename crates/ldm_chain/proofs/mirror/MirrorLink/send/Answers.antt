@@ -2,7 +2,7 @@ use Rattle.std.proofs.Common.{sym, ap, ◌∙◌, arith}
 use Rattle.ldm_chain.specs.Ending.{end_pushed}
 use Rattle.ldm_chain.specs.Reflecting.{mirror_of}
 use Rattle.ldm_chain.proofs.Pushed.{end_pushed-answer}
-use Rattle.ldm_chain.proofs.Mirroring.{none_of, of-same, sends}
+use Rattle.ldm_chain.proofs.Mirroring.{none_of, of-same, same-then, sends}
 use Rattle.ldm_chain.proofs.mirror.MirrorLink.send.Goals as goal
 
 pub invariant_of-self-2 : goal.invariant_of-self-2
@@ -17,6 +17,7 @@ invariant_of-self-2 g c =
     i.now_is c.then-self-inside.ensures p.ensures.pushes i.reflects in
     record {
       of = of-same s.shared.now s.pass.now p.new.pass i.of p.ensures.kept;
+      same = same-then g.B.Begun.begun.first.pass s.pass.now p.new.pass i.same p.ensures.kept;
       name_is = i.name_is;
       now_is = i.now_is;
       within = sent.within;

@@ -1,0 +1,284 @@
+//! Feeding a node of a chain from the one before it.
+ghost use Rattle.std.specs.Prelude.{◌≡◌, ◌≤◌, length, None, IfOk, IfNone, OnErr, false};
+ghost use Rattle.ldm_types.specs.declared.class.ClassSpec.{ClassSpec};
+ghost use Rattle.ldm_class.specs.Access.{reduce};
+ghost use Rattle.ldm_class.specs.Rules.{rules_for};
+ghost use Rattle.ldm_class.specs.declared.answers.Reduced.TheVariants as reduced;
+ghost use Rattle.ldm_session.specs.declared.gaps.TheConstants.{LONGEST_NAME};
+ghost use Rattle.ldm_shared.specs.Passes.{IsPassOf, IsSamePass};
+ghost use Rattle.ldm_intake.specs.Opening.{request_of};
+ghost use Rattle.ldm_intake.specs.Room.{records_of};
+ghost use Rattle.ldm_downstream.specs.ReceiverView.{before_stream};
+ghost use Rattle.ldm_downstream.specs.Receives.{at_first};
+ghost use Rattle.ldm_chain.specs.Linking.{Fed, FedAll, FedRest, Links, asked_by, asking};
+ghost use Rattle.ldm_chain.specs.MirrorView.{MirrorView};
+ghost use Rattle.ldm_chain.specs.Nodes.{IsNode, KeepsNode};
+
+use crate::mirror::{Begun, Lent, Mirror, Returned};
+use crate::node::{Break, ChainNode};
+use crate::outside::{StillClock, StopGate};
+use ldm_class::{Class, ClassFault, Policy, Reduced};
+use ldm_downstream::Receiver;
+use ldm_intake::RecvEnd;
+use ldm_outside::SureSink;
+use ldm_relay::Feedme;
+use ldm_shared::{Pass, Shared};
+use ldm_types::{ClassSpec, Micros, OutOfMemory};
+use ldm_upstream::{FeedEnd, feed};
+use std::alloc::Global;
+use std::marker::Brand;
+use std::sync::Wait;
+
+// Feeds a class over a mirror, as the answer to the call of that number.
+fn feed_over<H: Wait, B: Begun>(
+    rt: &H,
+    alloc: Global,
+    shared: &Shared,
+    pass: &mut Pass,
+    mirror: &mut Mirror<'_, '_, H, B>,
+    policy: &Policy,
+    host: &[u8],
+    xid: u32,
+    class: &Class,
+    max_hereis: u32,
+    now: Micros,
+) -> FeedEnd
+    requires of { IsPassOf shared.now pass.old }
+    requires name { length host.now ≤ LONGEST_NAME }
+    requires open { mirror.old.closed ≡ false }
+    ensures kept { IsSamePass pass.old pass.new }
+    ensures fed { Fed result (asked_by host.now policy.now xid class.now max_hereis) pass.old pass.new mirror.old mirror.new }
+{
+    let ask = Feedme {
+        xid,
+        class: class.spec().copy(),
+        max_hereis,
+    };
+    let mut log = SureSink;
+    let mut gate = StopGate { stops: 0 };
+    let mut clock = StillClock(now);
+    feed(
+        rt, alloc, shared, pass, mirror, &mut log, &mut gate, &mut clock, host, &ask, class, policy,
+    )
+}
+
+// How a feeding ends a chain, if it does.
+fn ended(end: FeedEnd) -> Option<Break>
+    ensures { IfNone result (end ≡ FeedEnd.Stopped) }
+{
+    match end {
+        FeedEnd::Stopped => None,
+        end => Some(Break::Feed(end)),
+    }
+}
+
+// What is left of a class of which a part is left.
+fn fewer_of(
+    alloc: Global,
+    policy: &Policy,
+    host: &[u8],
+    class: &Class,
+) -> Result<ClassSpec, OutOfMemory>
+    requires { (fewer : ClassSpec) × (reduce (rules_for false policy.now) host.now class.now ≡ reduced.Fewer fewer) }
+    ensures { IfOk result (λ fewer. reduce (rules_for false policy.now) host.now class.now ≡ reduced.Fewer fewer) }
+{
+    match policy.reduce(alloc, host, class.spec(), false)? {
+        Reduced::Fewer(fewer) => Ok(fewer),
+        Reduced::Same => unreachable!(),
+        Reduced::Nothing { .. } => unreachable!(),
+    }
+}
+
+// Builds the class that the receiver took over. It built the same one, so a pattern that means nothing has ended it before.
+fn build_fewer(alloc: Global, fewer: &ClassSpec) -> Result<Class, Break>
+    ensures { IfOk result (λ class. class ≡ fewer.now) }
+{
+    match Class::build(alloc, fewer) {
+        Ok(class) => Ok(class),
+        Err(ClassFault::BadPattern { .. }) => Err(Break::Receive(RecvEnd::BadFrame { at: 0 })),
+        Err(ClassFault::OutOfMemory) => Err(Break::OutOfMemory),
+    }
+}
+
+// Feeds what is left of the class. The receiver was told which part that is and asked for it: its request waits.
+fn feed_fewer<H: Wait, B: Begun>(
+    rt: &H,
+    alloc: Global,
+    shared: &Shared,
+    pass: &mut Pass,
+    mirror: &mut Mirror<'_, '_, H, B>,
+    policy: &Policy,
+    host: &[u8],
+    class: &Class,
+    max_hereis: u32,
+    now: Micros,
+) -> Option<Break>
+    requires of { IsPassOf shared.now pass.old }
+    requires name { length host.now ≤ LONGEST_NAME }
+    requires open { mirror.old.closed ≡ false }
+    requires left { (fewer : ClassSpec) × (reduce (rules_for false policy.now) host.now class.now ≡ reduced.Fewer fewer) }
+    ensures kept { IsSamePass pass.old pass.new }
+    ensures fed { IfNone result (FedRest (asked_by host.now policy.now 1 class.now max_hereis) pass.old pass.new mirror.old mirror.new) }
+{
+    let fewer = match fewer_of(alloc, policy, host, class) {
+        Ok(fewer) => fewer,
+        Err(_) => return Some(Break::OutOfMemory),
+    };
+    let built = match build_fewer(alloc, &fewer) {
+        Ok(built) => built,
+        Err(end) => return Some(end),
+    };
+    mirror.take_request();
+    let end = feed_over(
+        rt, alloc, shared, pass, mirror, policy, host, 2, &built, max_hereis, now,
+    );
+    ended(end)
+}
+
+// Feeds a class, or what is left of it.
+fn feed_class<H: Wait, B: Begun>(
+    rt: &H,
+    alloc: Global,
+    shared: &Shared,
+    pass: &mut Pass,
+    mirror: &mut Mirror<'_, '_, H, B>,
+    policy: &Policy,
+    host: &[u8],
+    class: &Class,
+    max_hereis: u32,
+    now: Micros,
+) -> Option<Break>
+    requires of { IsPassOf shared.now pass.old }
+    requires name { length host.now ≤ LONGEST_NAME }
+    requires open { mirror.old.closed ≡ false }
+    ensures kept { IsSamePass pass.old pass.new }
+    ensures fed { IfNone result (FedAll (asked_by host.now policy.now 1 class.now max_hereis) pass.old pass.new mirror.old mirror.new) }
+{
+    let end = feed_over(
+        rt, alloc, shared, pass, mirror, policy, host, 1, class, max_hereis, now,
+    );
+    let FeedEnd::Reclassed = end else {
+        return ended(end);
+    };
+    if mirror.is_over() {
+        return Some(Break::Feed(end));
+    }
+    feed_fewer(
+        rt, alloc, shared, pass, mirror, policy, host, class, max_hereis, now,
+    )
+}
+
+// How a node's feeding ends a chain, if it does: by the receiver, if that is over, else by the feeder.
+fn by_receiver(over: Option<RecvEnd>, end: Option<Break>) -> Option<Break>
+    ensures { IfNone result ((over ≡ None) × (end ≡ None)) }
+{
+    match over {
+        None => end,
+        Some(RecvEnd::OutOfMemory) => Some(Break::OutOfMemory),
+        Some(over) => Some(Break::Receive(over)),
+    }
+}
+
+// Feeds a receiver that has asked by a first request, over a mirror. Tells how that ends the chain, if it does.
+fn reflect<'a, 'p, H: Wait, B: Begun>(
+    rt: &'a H,
+    alloc: Global,
+    shared: &Shared,
+    pass: &mut Pass,
+    next: &'a Shared,
+    lent: Lent<'p>,
+    receiver: Receiver<'a>,
+    request: Vec<u8>,
+    policy: &Policy,
+    host: &[u8],
+    class: &Class,
+    max_hereis: u32,
+    now: Micros,
+    end: &mut Option<Break>,
+) -> Lent<'p>
+    requires of { IsPassOf shared.now pass.old }
+    requires next { IsPassOf next.now lent.pass.now }
+    requires name { length host.now ≤ LONGEST_NAME }
+    requires before { receiver ≡ before_stream (asking class.now max_hereis) false }
+    requires asks { request.items ≡ records_of (request_of (asking class.now max_hereis)) }
+    requires first { B.begun.first ≡ at_first (asking class.now max_hereis) lent.pass.now }
+    requires moment { B.begun.now ≡ now }
+    requires lender { B.begun.name ≡ lent.pass.ghost_name }
+    ensures kept { IsSamePass pass.old pass.new }
+    ensures lender { result.pass.ghost_name ≡ lent.entry.pass.ghost_name }
+    ensures next { IsSamePass lent.entry.pass.now result.pass.now }
+    ensures links { IfNone end.new (Links (asked_by host.now policy.now 1 class.now max_hereis) now pass.old pass.new lent.entry.pass.now result.pass.now) }
+{
+    let mut mirror = Mirror::<'a, 'p, H, B>::over(rt, alloc, next, lent, receiver, request, now);
+    mirror.take_request();
+    let fed = feed_class(
+        rt,
+        alloc,
+        shared,
+        pass,
+        &mut mirror,
+        policy,
+        host,
+        class,
+        max_hereis,
+        now,
+    );
+    let Returned { lent, end: over } = mirror.into_parts();
+    *end = by_receiver(over, fed);
+    lent
+}
+
+// A receiver that asks for a class, and the record of its request.
+fn asker(
+    alloc: Global,
+    class: &Class,
+    max_hereis: u32,
+) -> Result<(Receiver<'_>, Vec<u8>), OutOfMemory>
+    ensures { IfOk result (λ made. (made.0 ≡ before_stream (asking class.now max_hereis) false) × (made.1.items ≡ records_of (request_of (asking class.now max_hereis)))) }
+{
+    let mut receiver = Receiver::request(alloc, class, None, max_hereis)?;
+    let mut request = Vec::new(alloc);
+    receiver.begin(&mut request)?;
+    Ok((receiver, request))
+}
+
+/// Feeds a node from the one before it, at that moment. Answers how that ends the chain, if it does.
+pub(crate) fn feed_next<H: Wait>(
+    rt: &H,
+    alloc: Global,
+    from: &mut ChainNode,
+    to: &mut ChainNode,
+    policy: &Policy,
+    host: &[u8],
+    now: Micros,
+) -> Option<Break>
+    requires from { IsNode from.old }
+    requires to { IsNode to.old }
+    requires name { length host.now ≤ LONGEST_NAME }
+    ensures from { KeepsNode from.old from.new }
+    ensures to { KeepsNode to.old to.new }
+    ensures links { IfNone result (Links (asked_by host.now policy.now 1 to.old.class to.old.max_hereis) now from.old.pass from.new.pass to.old.pass to.new.pass) }
+{
+    let (receiver, request) = match asker(alloc, &to.class, to.max_hereis) {
+        Ok(asked) => asked,
+        Err(_) => return Some(Break::OutOfMemory),
+    };
+    let mut end = None;
+    reflect::<H, Brand>(
+        rt,
+        alloc,
+        &from.shared,
+        &mut from.pass,
+        &to.shared,
+        Lent { pass: &mut to.pass },
+        receiver,
+        request,
+        policy,
+        host,
+        &to.class,
+        to.max_hereis,
+        now,
+        &mut end,
+    );
+    end
+}
