@@ -8,9 +8,9 @@ use Rattle.ldm_shared.specs.Passes.{PassView}
 use Rattle.ldm_intake.specs.Opening.{requesting, request_of}
 use Rattle.ldm_intake.specs.Receiving.{Receiving}
 use Rattle.ldm_intake.specs.Room.{records_of}
-use Rattle.ldm_upstream.specs.declared.end.FeedEnd.{FeedEnd}
-use Rattle.ldm_upstream.specs.declared.end.FeedEnd.TheVariants.{Stopped, Reclassed}
-use Rattle.ldm_upstream.specs.Asked.{Asked}
+use Rattle.ldm_sender.specs.declared.end.SendEnd.{SendEnd}
+use Rattle.ldm_sender.specs.declared.end.SendEnd.TheVariants.{Stopped, Reclassed}
+use Rattle.ldm_sender.specs.Asked.{Asked}
 use Rattle.ldm_upstream.specs.Feeds.{Feeds}
 use Rattle.ldm_downstream.specs.Receives.{at_first}
 use Rattle.ldm_downstream.specs.ReceiverView.{before_stream}
@@ -28,7 +28,7 @@ abbrev pub asked_by : List ℕ → Rules → ℕ → ClassSpec → ℕ → Asked
 asked_by host rules xid class max_hereis = record { host = host; rules = rules_for false rules; xid = xid; class = class; max_hereis = max_hereis }
 
 -- A feeding over a mirror ended so.
-pub record Fed (why : FeedEnd) (asked : Asked) (old new : PassView) (before after : MirrorView) : Type 0 where
+pub record Fed (why : SendEnd) (asked : Asked) (old new : PassView) (before after : MirrorView) : Type 0 where
   pub stops : ℕ
   pub feeds : Feeds why asked old new (outside before 0) (outside after stops)
 
