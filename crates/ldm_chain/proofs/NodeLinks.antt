@@ -1,8 +1,8 @@
 -- Nodes of a chain that are fed one after another.
-use Rattle.std.proofs.Common.{◌≡◌, ◌≤◌, ℕ, ◌+◌, List, [], ◌∷◌, length, refl, ap, sym, subst, ◌∙◌, arith}
+use Rattle.std.proofs.Common.{◌≡◌, ℕ, ◌+◌, List, [], ◌∷◌, length, refl, ap, sym, subst, ◌∙◌, arith}
 use Rattle.ldm_class.specs.Rules.{Rules}
 use Rattle.ldm_outside.specs.Clock.{ClockRecord, Answers}
-use Rattle.ldm_shared.specs.Passes.{PassView, IsPassOf, IsSamePass}
+use Rattle.ldm_shared.specs.Passes.{PassView, IsPassOf}
 use Rattle.ldm_session.specs.Exchange.{AnsweredAll}
 use Rattle.ldm_session.proofs.CallerLemmas.{AnsweredAll-nothing, AnsweredAll-one, AnsweredAll-then}
 use Rattle.ldm_chain.specs.declared.node.ChainNode.{ChainNode}
@@ -12,7 +12,7 @@ use Rattle.ldm_chain.specs.declared.node.Break.{Break}
 use Rattle.ldm_chain.specs.declared.node.Break.TheVariants as broken
 use Rattle.ldm_chain.specs.Ending.{end_by}
 use Rattle.ldm_chain.specs.Linking.{Links, asked_by, host_name}
-use Rattle.ldm_chain.specs.Nodes.{AreNodes, IsNode, KeepsNode, KeepsNodes, LinksAll, LinksEach}
+use Rattle.ldm_chain.specs.Nodes.{AreNodes, IsNode, KeepsNode, KeepsNodes, LinksEach}
 use Rattle.ldm_chain.proofs.Mirroring.{of-same, same-then}
 
 -- ---- nodes

@@ -1,15 +1,15 @@
 -- A receiver that went over some pieces is pushed one more.
-use Rattle.std.proofs.Common.{◌≡◌, List, [], ◌∷◌, ℕ, ◌++◌, Option, Some, None, refl, ap, sym, subst, ◌∙◌, append_assoc}
+use Rattle.std.proofs.Common.{◌≡◌, List, [], ◌∷◌, ℕ, ◌++◌, Option, Some, None, refl}
 use Rattle.ldm_intake.specs.declared.end.RecvEnd.{RecvEnd}
 use Rattle.ldm_intake.specs.declared.end.RecvEnd.TheVariants.{Ended, Truncated, BadFrame, Refused, LinkFault, LogFault, StreamLimit, Worn, OutOfMemory}
 use Rattle.ldm_intake.specs.TakesRecord.{Standing}
 use Rattle.ldm_rpc.specs.Streams.{Position}
 use Rattle.ldm_downstream.specs.Pieces.{Piece, beginning}
-use Rattle.ldm_downstream.specs.Pushing.{Continues, Ends, Pushes, answer_of}
+use Rattle.ldm_downstream.specs.Pushing.{Continues, Pushes, answer_of}
 use Rattle.ldm_downstream.proofs.PieceEnds.{continues-then, whole-then, early-then, worn-then}
 use Rattle.ldm_chain.specs.Reflecting.{Went}
 use Rattle.ldm_chain.specs.Ending.{end_pushed}
-use Rattle.ldm_chain.proofs.Reframing.{Moves, framed, behind, continues-moves, whole-moves, early-moves, worn-moves}
+use Rattle.ldm_chain.proofs.Reframing.{Moves, continues-moves, whole-moves, early-moves, worn-moves}
 
 module _ (out notes : List ℕ) where
   pub pushes-moves : (end : Option RecvEnd) (piece : Piece) (p q : Position) (x c : Standing) → Pushes end piece p q x c → Moves out notes (Pushes end piece p q) x c

@@ -1,5 +1,5 @@
 -- What becomes of a receiving is the same whatever was owed and logged before.
-use Rattle.std.proofs.Common.{◌≡◌, List, ℕ, ◌++◌, Option, Some, None, refl, ap, sym, ◌∙◌, append_assoc}
+use Rattle.std.proofs.Common.{◌≡◌, List, ℕ, ◌++◌, Option, Some, None, refl, ap, ◌∙◌}
 use Rattle.ldm_intake.specs.declared.end.RecvEnd.{RecvEnd}
 use Rattle.ldm_intake.specs.Course.{Course}
 use Rattle.ldm_intake.specs.Notes.{note_lines}

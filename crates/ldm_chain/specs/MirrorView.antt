@@ -1,5 +1,5 @@
 -- What contracts see of a mirror, and what one call of it does.
-use Rattle.std.specs.Prelude.{◌≡◌, ℕ, Bool, List, [], length, take, drop, min, Option, Some, None, IsSome}
+use Rattle.std.specs.Prelude.{◌≡◌, ℕ, Bool, List, [], length, take, drop, min, Some, None, IsSome}
 use Rattle.ldm_outside.specs.declared.io.Got.{Got}
 use Rattle.ldm_outside.specs.declared.io.Got.TheVariants.{Bytes, End, Failed}
 use Rattle.ldm_outside.specs.declared.io.Put.{Put}

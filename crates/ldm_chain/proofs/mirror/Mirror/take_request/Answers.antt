@@ -1,4 +1,4 @@
-use Rattle.std.proofs.Common.{sym, ap, arith}
+use Rattle.std.proofs.Common.{arith}
 use Rattle.std.proofs.lemmas.List.{take_rest}
 use Rattle.ldm_chain.proofs.Mirroring.{reads-all}
 use Rattle.ldm_chain.proofs.mirror.Mirror.take_request.Goals as goal

@@ -1,4 +1,4 @@
-use Rattle.std.proofs.Common.{sym, ap, arith, ℕ, length-drop}
+use Rattle.std.proofs.Common.{arith, length-drop}
 use Rattle.std.proofs.lemmas.List.{take_rest}
 use Rattle.ldm_chain.proofs.Mirroring.{reads-front}
 use Rattle.ldm_chain.proofs.mirror.MirrorLink.recv.Goals as goal
