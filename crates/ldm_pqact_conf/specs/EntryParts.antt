@@ -1,7 +1,8 @@
 -- What contracts see of the types of this crate.
-use Rattle.std.specs.Prelude.{ℕ, Bool, false, List, Option, Some, None}
+use Rattle.std.specs.Prelude.{◌≡◌, ℕ, Bool, true, false, List, length, Option, Some, None}
 use Rattle.std.specs.Option.{option_map}
 use Rattle.ldm_pattern.specs.Patterns.{found}
+use Rattle.ldm_pqact_conf.specs.Actions.{takes}
 use Rattle.ldm_pqact_conf.specs.Entries.{EntryView}
 use Rattle.ldm_pqact_conf.specs.Kept.{Reading}
 use Rattle.ldm_pqact_conf.specs.declared.reader.Reader.TheInside.{Inside as Reader}
@@ -16,6 +17,10 @@ entry_view entry = record {
   options = entry.options;
   words = entry.words.items;
 }
+
+-- an entry has as many words as its action takes
+abbrev pub TakesItsWords : Inside → Type 0
+TakesItsWords entry = takes entry.action (length entry.words.items) ≡ true
 
 -- whether the pattern of an entry is found in an ident: that of an `_ELSE_` entry is found in none
 abbrev pub found_by : Option (List ℕ) → List ℕ → Bool

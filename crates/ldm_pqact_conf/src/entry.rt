@@ -1,6 +1,7 @@
 //! Entries that are read.
-ghost use Rattle.std.specs.Prelude.{◌≡◌, IfOk, is_none};
+ghost use Rattle.std.specs.Prelude.{◌≡◌, IfOk, is_none, length, true};
 ghost use Rattle.std.specs.Option.{option_copied, option_map};
+ghost use Rattle.ldm_pqact_conf.specs.Actions.{takes};
 ghost use Rattle.ldm_pqact_conf.specs.EntryParts.{found_by};
 
 use crate::action::ActionKind;
@@ -28,9 +29,11 @@ impl Model for Entry {
 
     ghost Value = { EntryView };
 
-    ghost use Rattle.ldm_pqact_conf.specs.EntryParts.{entry_view};
+    ghost use Rattle.ldm_pqact_conf.specs.EntryParts.{entry_view, TakesItsWords};
 
     ghost view = { entry_view };
+
+    ghost invariant = { TakesItsWords };
 }
 
 impl Entry {
@@ -86,9 +89,10 @@ impl Entry {
         self.options
     }
 
-    /// The words behind its options: the path, or the program and its arguments.
+    /// The words behind its options: the path, or the program and its arguments. There are as many as the action takes.
     pub fn words(&self) -> &[Word]
-        ensures { result.now ≡ self.now.words }
+        ensures words { result.now ≡ self.now.words }
+        ensures as_many { takes self.now.action (length self.now.words) ≡ true }
     {
         self.words.as_slice()
     }
