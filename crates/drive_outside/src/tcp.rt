@@ -16,6 +16,7 @@ use std::time::Duration;
 // Limits that a test can wait for.
 fn short() -> Timeouts {
     Timeouts {
+        connect: Duration::from_millis(100),
         silent: Duration::from_millis(100),
         stalled: Duration::from_millis(100),
     }
@@ -208,6 +209,42 @@ fn halves(rt: HostRuntime, trial: &mut Trial) {
     tell_put(trial, link.send(b"ab"));
 }
 
+// Whether a dial connects: the link is given back.
+fn connects<I: Dial>(dial: &mut I, port: u16) -> bool
+    requires { (I.tells dial.old).links.out ≡ false }
+    ensures { (I.tells dial.new).links.out ≡ false }
+{
+    match dial.connect(b"127.0.0.1", port) {
+        Dialled::Linked(link) => {
+            dial.give_back(link);
+            true
+        }
+        Dialled::Failed => false,
+    }
+}
+
+// Whether a dial fails at a door that lets nobody in: the system lets some peers wait there, and answers no others.
+fn fails_unanswered<I: Dial>(dial: &mut I, port: u16) -> bool
+    requires { (I.tells dial.old).links.out ≡ false }
+    ensures { (I.tells dial.new).links.out ≡ false }
+{
+    for _ in 0..1_000 {
+        if !connects(dial, port) {
+            return true;
+        }
+    }
+    false
+}
+
+// A door that lets nobody in.
+fn unanswered(rt: HostRuntime, trial: &mut Trial) {
+    let Some(mut both) = door_and_dial(rt, short()) else {
+        return trial.refuse("the system failed");
+    };
+    let failed = fails_unanswered(&mut both.dial, both.port);
+    tell_word(trial, if failed { "failed" } else { "linked" });
+}
+
 // A port that nobody listens on.
 fn free_port(rt: HostRuntime) -> Option<u16> {
     let listener = TcpListener::bind(&rt, (Ipv4Addr::LOCALHOST, 0)).ok()?;
@@ -291,13 +328,15 @@ fn call(rt: HostRuntime, trial: &mut Trial) {
     }
 }
 
-/// `tcp talk`, `tcp reset`, `tcp wait`, `tcp half`, `tcp stations`, `tcp sessions COUNT`, `tcp visit PORT`, `tcp call HOST PORT`.
+/// `tcp talk`, `tcp reset`, `tcp wait`, `tcp half`, `tcp unanswered`, `tcp stations`, `tcp sessions COUNT`, `tcp visit PORT`,
+/// `tcp call HOST PORT`.
 pub fn tcp(rt: HostRuntime, trial: &mut Trial) {
     match trial.word() {
         "talk" => talks(rt, trial),
         "reset" => resets(rt, trial),
         "wait" => waits(rt, trial),
         "half" => halves(rt, trial),
+        "unanswered" => unanswered(rt, trial),
         "stations" => stations(rt, trial),
         "sessions" => sessions(rt, trial),
         "visit" => visit(rt, trial),

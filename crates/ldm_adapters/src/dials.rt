@@ -1,20 +1,20 @@
 //! Dials over TCP.
-ghost use Rattle.std.specs.Prelude.{◌≡◌};
+ghost use Rattle.std.specs.Prelude.{◌≡◌, IfSome};
 ghost use Rattle.ldm_outside.specs.Count.{Rose};
 ghost use Rattle.ldm_outside.specs.Dial.{IsNewDial};
-ghost use Rattle.ldm_adapters.specs.Told.{told_by_dial};
+ghost use Rattle.ldm_outside.specs.Link.{IsFresh};
+ghost use Rattle.ldm_adapters.specs.Told.{told_by_dial, told_by_link};
 
 use crate::lending::RealLending;
 use crate::links::{RealLink, Timeouts};
 use ldm_outside::{Dial, Dialled};
-use std::io::{self, ErrorKind};
-use std::net::TcpStream;
+use std::net::{TcpStream, ToSocketAddrs};
 use std::rt::HostRuntime;
 use std::str;
 
 /// A dial over TCP. It tells nothing of whom it was asked for.
 ///
-/// A host is an address, or a name that the system looks up; its addresses are tried in turn.
+/// A host is an address, or a name that the system looks up; its addresses are tried in turn, each within a limit of time.
 #[derive(Drop)]
 pub struct RealDial {
     rt: HostRuntime,
@@ -24,7 +24,7 @@ pub struct RealDial {
 }
 
 impl RealDial {
-    /// A dial of this system, whose links wait no longer than this.
+    /// A dial of this system, which and whose links wait no longer than this.
     pub fn new(rt: HostRuntime, timeouts: Timeouts) -> RealDial
         ensures { IsNewDial (told_by_dial result) }
     {
@@ -44,9 +44,17 @@ impl RealDial {
     }
 }
 
-fn connect(rt: HostRuntime, host: &[u8], port: u16) -> io::Result<TcpStream> {
-    let host = str::from_utf8(host).map_err(|_| io::Error::from(ErrorKind::InvalidInput))?;
-    TcpStream::connect(&rt, (host, port))
+// A link to the first address of the host that answers in time.
+fn connect(rt: HostRuntime, host: &[u8], port: u16, timeouts: Timeouts) -> Option<RealLink>
+    ensures { IfSome result (λ link. IsFresh (told_by_link link)) }
+{
+    let host = str::from_utf8(host).ok()?;
+    for address in (host, port).to_socket_addrs(&rt).ok()? {
+        if let Ok(stream) = TcpStream::connect_timeout(&rt, &address, timeouts.connect) {
+            return RealLink::new(stream, timeouts).ok();
+        }
+    }
+    None
 }
 
 impl Dial for RealDial {
@@ -55,12 +63,12 @@ impl Dial for RealDial {
     ghost tells = { told_by_dial };
 
     fn connect(&mut self, host: &[u8], port: u16) -> Dialled<RealLink> {
-        match connect(self.rt, host, port) {
-            Ok(stream) => {
+        match connect(self.rt, host, port, self.timeouts) {
+            Some(link) => {
                 self.links.hand_out();
-                Dialled::Linked(RealLink::new(stream, self.timeouts))
+                Dialled::Linked(link)
             }
-            Err(_) => {
+            None => {
                 self.fail();
                 Dialled::Failed
             }

@@ -1,7 +1,8 @@
 //! Doors over TCP.
-ghost use Rattle.std.specs.Prelude.{◌≡◌};
+ghost use Rattle.std.specs.Prelude.{◌≡◌, IfSome};
 ghost use Rattle.ldm_outside.specs.Door.{IsNewDoor};
-ghost use Rattle.ldm_adapters.specs.Told.{told_by_door};
+ghost use Rattle.ldm_outside.specs.Link.{IsFresh};
+ghost use Rattle.ldm_adapters.specs.Told.{told_by_door, told_by_link};
 
 use crate::lending::RealLending;
 use crate::links::{RealLink, Timeouts};
@@ -87,10 +88,15 @@ fn is_passing(kind: ErrorKind) -> bool {
     matches!(kind, ErrorKind::Interrupted | ErrorKind::ConnectionAborted)
 }
 
-// The next peer, with the text of its address.
-fn next_peer(listener: &TcpListener) -> Option<(ArrayVec<u8, LONGEST_HOST>, TcpStream)> {
+// A link to the next peer, with the text of its address.
+fn next_peer(
+    listener: &TcpListener,
+    timeouts: Timeouts,
+) -> Option<(ArrayVec<u8, LONGEST_HOST>, RealLink)>
+    ensures { IfSome result (λ peer. IsFresh (told_by_link peer.1)) }
+{
     let (stream, address) = accept_peer(listener).ok()?;
-    Some((host_of(address)?, stream))
+    Some((host_of(address)?, RealLink::new(stream, timeouts).ok()?))
 }
 
 impl Door for RealDoor {
@@ -99,11 +105,10 @@ impl Door for RealDoor {
     ghost tells = { told_by_door };
 
     fn accept(&mut self) -> Came<RealLink> {
-        match next_peer(&self.listener) {
-            Some((host, stream)) => {
+        match next_peer(&self.listener, self.timeouts) {
+            Some((host, link)) => {
                 self.peers = self.peers.saturating_add(1);
                 self.links.hand_out();
-                let link = RealLink::new(stream, self.timeouts);
                 Came::Peer { host, link }
             }
             None => {

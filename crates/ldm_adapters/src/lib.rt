@@ -25,6 +25,6 @@ pub use doors::RealDoor;
 pub use files::RealStore;
 pub use gate::{IDLE_MILLISECONDS, RealGate};
 pub use lending::RealLending;
-pub use links::{RealLink, SILENT_SECONDS, STALLED_SECONDS, Timeouts};
+pub use links::{CONNECT_SECONDS, RealLink, SILENT_SECONDS, STALLED_SECONDS, Timeouts};
 pub use net::{RealNet, RealStation};
 pub use streams::{RealSink, RealSource};

@@ -2,8 +2,12 @@
 
 use crate::streams::{read_once, write_once};
 use ldm_outside::{Got, Link, Put};
+use std::io;
 use std::net::{Shutdown, TcpStream};
 use std::time::Duration;
+
+/// How long a dial waits for one address of a host to answer, in seconds.
+pub const CONNECT_SECONDS: u64 = 10;
 
 /// How long a link waits for bytes of its peer, in seconds.
 pub const SILENT_SECONDS: u64 = 120;
@@ -11,9 +15,12 @@ pub const SILENT_SECONDS: u64 = 120;
 /// How long a link waits for its peer to take bytes, in seconds.
 pub const STALLED_SECONDS: u64 = 120;
 
-/// How long a link waits for its peer: a call that waited so long has failed.
+/// How long a dial and a link wait for a peer: a call that waited so long has failed. Each is above 0; where one is 0, no link
+/// is made.
 #[derive(Clone, Copy, Debug)]
 pub struct Timeouts {
+    /// For one address of a host to answer.
+    pub connect: Duration,
     /// For bytes of the peer.
     pub silent: Duration,
     /// For the peer to take bytes.
@@ -21,9 +28,10 @@ pub struct Timeouts {
 }
 
 impl Timeouts {
-    /// [`SILENT_SECONDS`] and [`STALLED_SECONDS`].
+    /// [`CONNECT_SECONDS`], [`SILENT_SECONDS`] and [`STALLED_SECONDS`].
     pub fn new() -> Timeouts {
         Timeouts {
+            connect: Duration::from_secs(CONNECT_SECONDS),
             silent: Duration::from_secs(SILENT_SECONDS),
             stalled: Duration::from_secs(STALLED_SECONDS),
         }
@@ -43,23 +51,23 @@ pub struct RealLink {
 }
 
 impl RealLink {
-    ghost use Rattle.std.specs.Prelude.{◌≡◌, false, nat_lt};
+    ghost use Rattle.std.specs.Prelude.{◌≡◌, nat_lt, IfOk};
+    ghost use Rattle.ldm_outside.specs.Link.{IsFresh};
+    ghost use Rattle.ldm_adapters.specs.Told.{told_by_link};
 
-    /// A link of the stream, which sends each piece at once and waits no longer than this, where the system can.
-    pub(crate) fn new(stream: TcpStream, timeouts: Timeouts) -> RealLink
-        ensures ends { result.ends ≡ 0 }
-        ensures faults { result.faults ≡ 0 }
-        ensures open { result.closed ≡ false }
+    /// A link of the stream, which waits no longer than this, and sends each piece at once where the system can.
+    pub(crate) fn new(stream: TcpStream, timeouts: Timeouts) -> io::Result<RealLink>
+        ensures { IfOk result (λ link. IsFresh (told_by_link link)) }
     {
+        stream.set_read_timeout(Some(timeouts.silent))?;
+        stream.set_write_timeout(Some(timeouts.stalled))?;
         let _ = stream.set_nodelay(true);
-        let _ = stream.set_read_timeout(Some(timeouts.silent));
-        let _ = stream.set_write_timeout(Some(timeouts.stalled));
-        RealLink {
+        Ok(RealLink {
             stream,
             ends: 0,
             faults: 0,
             closed: false,
-        }
+        })
     }
 
     // Whether it ended, and whether it failed.

@@ -1,0 +1,6 @@
+-- No link is out.
+use Rattle.std.proofs.Common.{◌≡◌, false}
+use Rattle.drive_outside.proofs.tcp.fails_unanswered.Given as goal
+
+abbrev pub invariant-loop : goal.invariant-loop
+invariant-loop g l = (g.I.Dial.tells l.dial).links.out ≡ false
