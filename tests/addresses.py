@@ -3,15 +3,18 @@
 
 The library cannot bind the calling end of a link, so a case there sees a peer at 127.0.0.1 alone, which is the address of the
 door too. Here a peer comes from 127.0.0.2, and where the machine has IPv6, one comes from ::1 and one is called there. The peers
-come to the listener that a net makes, so that one which listened on one family alone is told. The program that the gate has built
-of drive_outside answers the cases `tcp visit` and `tcp call`.
+come to the listener that a net makes, so that one which listened on one family alone is told. A host of two addresses is called,
+of which one answers. A program that was stopped while it waits for bytes waits on. A net listens at once at a port where one before
+it ended its links first. The program that the gate has built of drive_outside answers the cases `tcp visit` and `tcp call`.
 
 Called as: addresses.py"""
 
 import pathlib
+import signal
 import socket
 import subprocess
 import sys
+import tempfile
 import time
 
 PROGRAM = pathlib.Path(__file__).resolve().parent.parent / "crates/drive_outside/out/drive_outside"
@@ -19,10 +22,16 @@ PROGRAM = pathlib.Path(__file__).resolve().parent.parent / "crates/drive_outside
 # How long a peer is waited for, in seconds.
 PATIENCE = 20
 
+# How long a program is given to come to its next call of the system, in seconds.
+PAUSE = 0.3
 
-def start(case):
+# Runs a program that sees another list of hosts.
+WITH_HOSTS = ["unshare", "-rm", "sh", "-c", 'mount --bind "$0" /etc/hosts && exec "$@"']
+
+
+def start(case, before=()):
     pipes = {"stdin": subprocess.PIPE, "stdout": subprocess.PIPE, "text": True}
-    program = subprocess.Popen([PROGRAM], **pipes)
+    program = subprocess.Popen([*before, PROGRAM], **pipes)
     program.stdin.write(case + "\n")
     program.stdin.close()
     program.stdin = None
@@ -54,28 +63,75 @@ def connect(program, target, port, source):
     return None
 
 
-def visit(target, source):
-    """What the program tells of a peer at that address."""
-    port = free_port()
+def no_delay(_program):
+    pass
+
+
+def stop_and_go_on(program):
+    time.sleep(PAUSE)
+    program.send_signal(signal.SIGSTOP)
+    time.sleep(PAUSE)
+    program.send_signal(signal.SIGCONT)
+    time.sleep(PAUSE)
+
+
+def visit(target, source, port, delay=no_delay):
+    """What the program tells of a peer at that address, which sends once it was delayed."""
     program = start(f"tcp visit {port}")
     peer = connect(program, target, port, source)
     if peer is None:
         program.kill()
         return answer_of(program)
     with peer:
+        delay(program)
         peer.sendall(b"hello")
         return answer_of(program)
 
 
-def call(host):
-    """What the program tells of a call of that address, with what came there and from where."""
-    with socket.create_server((host, 0), family=socket.AF_INET6) as listener:
+def is_held(port):
+    """Whether the system refuses the port to a listener that does not ask for its reuse."""
+    with socket.socket(socket.AF_INET6 if has_ipv6() else socket.AF_INET) as listener:
+        try:
+            listener.bind(("", port))
+            return False
+        except OSError:
+            return True
+
+
+def restart():
+    """What two programs tell that listen at one port, one after the other. The first ends its link before the peer does, so
+    that the system holds the port; whether it does is told between the two."""
+    port = free_port()
+    first = visit("127.0.0.1", "127.0.0.1", port)
+    return first, is_held(port), visit("127.0.0.1", "127.0.0.1", port)
+
+
+def call(host, at, family, before=()):
+    """What the program tells of a call of that host, with what came to one of its addresses and from where."""
+    with socket.create_server((at, 0), family=family) as listener:
         listener.settimeout(PATIENCE)
-        program = start(f"tcp call {host} {listener.getsockname()[1]}")
-        peer, address = listener.accept()
+        program = start(f"tcp call {host} {listener.getsockname()[1]}", before)
+        try:
+            peer, address = listener.accept()
+        except TimeoutError:
+            return answer_of(program), b"", "nobody"
         with peer:
             peer.settimeout(PATIENCE)
             return answer_of(program), peer.recv(8), address[0]
+
+
+def calls_of_two_addresses():
+    """Calls of a host of two addresses of which one answers, the one and then the other; None where a program cannot be shown
+    another list of hosts."""
+    with tempfile.NamedTemporaryFile("w") as hosts:
+        hosts.write("127.0.0.2 two-addresses\n127.0.0.1 two-addresses\n")
+        hosts.flush()
+        before = [*WITH_HOSTS, hosts.name]
+        try:
+            subprocess.run([*before, "true"], check=True, stderr=subprocess.DEVNULL)
+        except (OSError, subprocess.CalledProcessError):
+            return None
+        return [call("two-addresses", at, socket.AF_INET, before)[:2] for at in ("127.0.0.1", "127.0.0.2")]
 
 
 def has_ipv6():
@@ -89,12 +145,19 @@ def has_ipv6():
 
 def main():
     tried = [
-        ("a peer from 127.0.0.2", visit("127.0.0.1", "127.0.0.2"), "127.0.0.2 5"),
+        ("a peer from 127.0.0.2", visit("127.0.0.1", "127.0.0.2", free_port()), "127.0.0.2 5"),
+        ("a program that was stopped", visit("127.0.0.1", "127.0.0.1", free_port(), stop_and_go_on), "127.0.0.1 5"),
+        ("a port that was just used", restart(), ("127.0.0.1 5", True, "127.0.0.1 5")),
     ]
+    calls = calls_of_two_addresses()
+    if calls is None:
+        print("no other list of hosts for a program: a host of two addresses is not tried", file=sys.stderr)
+    else:
+        tried.append(("calls of two addresses", calls, [("5", b"hello")] * 2))
     if has_ipv6():
         tried += [
-            ("a peer from ::1", visit("::1", "::1"), "::1 5"),
-            ("a call of ::1", call("::1"), ("5", b"hello", "::1")),
+            ("a peer from ::1", visit("::1", "::1", free_port()), "::1 5"),
+            ("a call of ::1", call("::1", "::1", socket.AF_INET6), ("5", b"hello", "::1")),
         ]
     else:
         print("no IPv6 on this machine: links over it are not tried", file=sys.stderr)
