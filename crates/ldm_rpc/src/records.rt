@@ -15,7 +15,10 @@ use std::marker::Model;
 
 /// The largest buffer that is kept from one record to the next, in bytes. A larger one is given back, so that one large
 /// record does not keep its memory for the rest of a session.
-pub const LARGEST_KEPT: usize = 262_144;
+///
+/// A buffer grows by doubling, so a content of up to 2 MiB comes to less than 4 MiB: records with products of 1 MiB take
+/// memory once, and not for each record anew.
+pub const LARGEST_KEPT: usize = 4_194_304;
 
 /// A reader of records (RFC 5531, section 11), to which a stream is given in pieces of any size.
 ///
