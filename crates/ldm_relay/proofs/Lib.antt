@@ -13,3 +13,4 @@ pub mod Room
 pub mod Records
 pub mod Sized
 pub mod Bodies
+pub mod FeedCalls

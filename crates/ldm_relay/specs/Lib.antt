@@ -13,3 +13,4 @@ pub mod Appends
 pub mod Fits
 pub mod Bodies
 pub mod Owed
+pub mod FeedCalls

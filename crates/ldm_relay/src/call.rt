@@ -1,24 +1,19 @@
 //! Reading calls.
 ghost use Rattle.std.specs.Prelude.{◌≡◌, ◌≤◌, length, IfOk};
 ghost use Rattle.ldm_relay.specs.MessageView.{sent_of};
-ghost use Rattle.ldm_relay.specs.Calls.{call_in, feedme_in, hiya_in, product_in, hereis_in, put_in, comingsoon_in, blkdata_in, notifyme_in, notification_in};
-ghost use Rattle.ldm_xdr.specs.Fields.{fixed_in};
+ghost use Rattle.ldm_relay.specs.Calls.{call_in, feedme_in, hiya_in, put_in, notifyme_in, notification_in};
 ghost use Rattle.ldm_xdr.specs.FieldReads.{Gives};
 ghost use Rattle.ldm_relay.specs.Writable.{IsSized, IsWritable};
 ghost use Rattle.ldm_relay.specs.Fits.{Fits};
-ghost use Rattle.ldm_xdr.specs.Spelling.{Fits as InfoFits};
 ghost use Rattle.ldm_relay.specs.declared.message.TheConstants.{LARGEST_CONTENT};
 ghost use Rattle.ldm_relay.specs.Reading.{Answers, whole, call_of};
 
 use crate::class::read_class;
 use crate::fault::RelayFault;
-use crate::header::read_call_header;
-use crate::message::{
-    Blkdata, Comingsoon, Feedme, Hereis, Hiya, Isalive, LARGEST_BLOCK, Message, Notification,
-    Notifyme, Put, Qstat,
-};
-use crate::procedure::{PROGRAM, Procedure, VERSION};
-use ldm_types::{Info, Signature};
+use crate::feed::{Product, read_blkdata, read_comingsoon, read_hereis, read_product};
+use crate::header::{called, read_call_header};
+use crate::message::{Feedme, Hiya, Isalive, Message, Notification, Notifyme, Put, Qstat};
+use crate::procedure::Procedure;
 use ldm_xdr::Fields;
 
 /// The call that is the whole content of a record. It borrows the bytes that it carries. It takes no memory.
@@ -41,19 +36,7 @@ pub fn read_call(bytes: &[u8]) -> Result<Message<'_>, RelayFault>
             });
         }
     };
-    if header.program != PROGRAM || header.version != VERSION {
-        return Err(RelayFault::WrongProgram {
-            xid: header.xid,
-            program: header.program,
-            version: header.version,
-        });
-    }
-    let Some(procedure) = Procedure::of_number(header.procedure) else {
-        return Err(RelayFault::WrongProcedure {
-            xid: header.xid,
-            procedure: header.procedure,
-        });
-    };
+    let procedure = called(header)?;
     match read_rest(procedure, header.xid, fields) {
         Ok(message) => Ok(message),
         Err(left) => Err(RelayFault::BadMessage {
@@ -85,11 +68,11 @@ fn read_body<'a>(
     ensures fits { IfOk result (λ m. Fits (sent_of m)) }
 {
     match procedure {
-        Procedure::Hereis => read_hereis(xid, fields),
+        Procedure::Hereis => Ok(Message::Hereis(read_hereis(xid, fields)?)),
         Procedure::Feedme => read_feedme(xid, fields),
         Procedure::Hiya => read_hiya(xid, fields),
-        Procedure::Comingsoon => read_comingsoon(xid, fields),
-        Procedure::Blkdata => read_blkdata(xid, fields),
+        Procedure::Comingsoon => Ok(Message::Comingsoon(read_comingsoon(xid, fields)?)),
+        Procedure::Blkdata => Ok(Message::Blkdata(read_blkdata(xid, fields)?)),
         Procedure::Isalive => Ok(Message::Isalive(Isalive { xid })),
         Procedure::Qstat => Ok(Message::Qstat(Qstat { xid })),
         Procedure::Put => read_put(xid, fields),
@@ -121,31 +104,6 @@ fn read_hiya<'a>(xid: u32, fields: &mut Fields<'a>) -> Result<Message<'a>, usize
     Ok(Message::Hiya(Hiya { xid, class }))
 }
 
-struct Product<'a> {
-    info: Info,
-    body: &'a [u8],
-}
-
-#[tactic(auto, unfolding(crate::specs::Calls::product_in))]
-fn read_product<'a>(fields: &mut Fields<'a>) -> Result<Product<'a>, usize>
-    ensures read { Gives (λ product. (product.info, product.body.now)) result (product_in fields.old) fields.new }
-    ensures sized { IfOk result (λ product. length product.body.now ≡ product.info.size) }
-    ensures fits { IfOk result (λ product. InfoFits product.info) }
-{
-    let info = fields.info()?;
-    let body = fields.fixed(info.size())?;
-    Ok(Product { info, body })
-}
-
-#[tactic(auto, unfolding(crate::specs::Calls::hereis_in))]
-fn read_hereis<'a>(xid: u32, fields: &mut Fields<'a>) -> Result<Message<'a>, usize>
-    ensures read { Gives sent_of result (hereis_in xid fields.old) fields.new }
-    ensures fits { IfOk result (λ m. Fits (sent_of m)) }
-{
-    let Product { info, body } = read_product(fields)?;
-    Ok(Message::Hereis(Hereis { xid, info, body }))
-}
-
 #[tactic(auto, unfolding(crate::specs::Calls::put_in))]
 fn read_put<'a>(xid: u32, fields: &mut Fields<'a>) -> Result<Message<'a>, usize>
     ensures read { Gives sent_of result (put_in xid fields.old) fields.new }
@@ -153,36 +111,6 @@ fn read_put<'a>(xid: u32, fields: &mut Fields<'a>) -> Result<Message<'a>, usize>
 {
     let Product { info, body } = read_product(fields)?;
     Ok(Message::Put(Put { xid, info, body }))
-}
-
-#[tactic(auto, unfolding(crate::specs::Calls::comingsoon_in))]
-fn read_comingsoon<'a>(xid: u32, fields: &mut Fields<'a>) -> Result<Message<'a>, usize>
-    ensures read { Gives sent_of result (comingsoon_in xid fields.old) fields.new }
-    ensures fits { IfOk result (λ m. Fits (sent_of m)) }
-{
-    let info = fields.info()?;
-    let block_size = fields.unsigned()?;
-    Ok(Message::Comingsoon(Comingsoon {
-        xid,
-        info,
-        block_size,
-    }))
-}
-
-#[tactic(auto, unfolding(crate::specs::Calls::blkdata_in))]
-fn read_blkdata<'a>(xid: u32, fields: &mut Fields<'a>) -> Result<Message<'a>, usize>
-    ensures read { Gives sent_of result (blkdata_in xid fields.old) fields.new }
-    ensures fits { IfOk result (λ m. Fits (sent_of m)) }
-{
-    let signature = read_signature(fields)?;
-    let number = fields.unsigned()?;
-    let block = fields.opaque(LARGEST_BLOCK as u32)?;
-    Ok(Message::Blkdata(Blkdata {
-        xid,
-        signature,
-        number,
-        block,
-    }))
 }
 
 #[tactic(auto, unfolding(crate::specs::Calls::notifyme_in))]
@@ -201,13 +129,4 @@ fn read_notification<'a>(xid: u32, fields: &mut Fields<'a>) -> Result<Message<'a
 {
     let info = fields.info()?;
     Ok(Message::Notification(Notification { xid, info }))
-}
-
-fn read_signature(fields: &mut Fields) -> Result<Signature, usize>
-    ensures { Gives (λ signature. signature.0) result (fixed_in 16 fields.old) fields.new }
-{
-    let bytes = fields.fixed(16)?;
-    let mut signature = [0; 16];
-    signature.copy_from_slice(bytes);
-    Ok(Signature(signature))
 }

@@ -1,8 +1,11 @@
 //! What stands before the body of a call and before the result of a reply (RFC 5531, section 9).
 ghost use Rattle.std.specs.Prelude.{◌≡◌, MatchResult, Ok, Err};
 ghost use Rattle.ldm_relay.specs.Headers.{authentication_in, call_header_in, reply_header_in};
+ghost use Rattle.ldm_relay.specs.Reading.{called};
 ghost use Rattle.ldm_xdr.specs.FieldReads.{Gives};
 
+use crate::fault::RelayFault;
+use crate::procedure::{PROGRAM, Procedure, VERSION};
 use ldm_xdr::Fields;
 
 // The two types of messages.
@@ -55,6 +58,26 @@ pub(crate) fn read_call_header(fields: &mut Fields) -> Result<CallHeader, usize>
         version,
         procedure,
     })
+}
+
+/// The procedure that a header names.
+pub(crate) fn called(header: CallHeader) -> Result<Procedure, RelayFault>
+    ensures { result ≡ called header }
+{
+    if header.program != PROGRAM || header.version != VERSION {
+        return Err(RelayFault::WrongProgram {
+            xid: header.xid,
+            program: header.program,
+            version: header.version,
+        });
+    }
+    match Procedure::of_number(header.procedure) {
+        Some(procedure) => Ok(procedure),
+        None => Err(RelayFault::WrongProcedure {
+            xid: header.xid,
+            procedure: header.procedure,
+        }),
+    }
 }
 
 /// Reads the header of a reply up to its accept status, which is left: the number of the call that is answered.

@@ -9,6 +9,7 @@ mod body;
 mod call;
 mod class;
 mod fault;
+mod feed;
 mod header;
 mod laws;
 mod length;
@@ -22,6 +23,7 @@ mod write;
 pub use body::{BodyPlace, CallWithBody, write_head, write_with_room};
 pub use call::read_call;
 pub use fault::RelayFault;
+pub use feed::{FeedCall, read_feed_call};
 pub use laws::{
     a_refusal_is_no_result, credentials_are_passed_over, what_is_read_is_written,
     what_is_written_is_read,

@@ -8,6 +8,6 @@ pub returns-in-Ok-read_rest-clause-writable : goal.returns-in-Ok-read_rest-claus
 returns-in-Ok-read_rest-clause-writable c =
     λ within. (
       fits_sized (sent_of c.in-Ok-read_rest.message) c.in-Ok-read_rest.ensures.fits,
-      short_behind c.args.bytes.now (c.in-Ok.header, c.read_call_header.new.fields) c.in-Some.procedure (sent_of c.in-Ok-read_rest.message)
+      short_behind c.args.bytes.now (c.in-Ok.header, c.read_call_header.new.fields) c.in_ok-procedure.procedure (sent_of c.in-Ok-read_rest.message)
           (λ i. omega (arith, c.type_inv.bytes i)) (rw c.of-fields.ensures at c.in-Ok.ensures) c.in-Ok-read_rest.ensures.read within,
     )
