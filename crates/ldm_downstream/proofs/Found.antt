@@ -1,8 +1,8 @@
 -- A record that was found, by what taking it came to.
-use Rattle.std.proofs.Common.{◌≡◌, ℕ, Bool, true, false, List, [], ◌∷◌, ◌++◌, Option, Some, None, inl, refl, ap, sym, subst, ◌∙◌}
+use Rattle.std.proofs.Common.{◌≡◌, ℕ, Bool, true, false, List, [], ◌∷◌, ◌++◌, Option, Some, None, inl, inr, refl, ap, sym, subst, ◌∙◌}
 use Rattle.std.proofs.lemmas.List.{append-nil}
 use Rattle.ldm_rpc.specs.declared.fault.RpcFault.{RpcFault}
-use Rattle.ldm_rpc.specs.declared.fault.RpcFault.TheVariants.{TooLong as too_long}
+use Rattle.ldm_rpc.specs.declared.fault.RpcFault.TheVariants.{TooLong as too_long, OutOfMemory as out_of_memory}
 use Rattle.ldm_rpc.specs.declared.stage.Stage.TheVariants.{Faulty}
 use Rattle.ldm_rpc.specs.Reading.{Reading, after, is_faulty, is_faulty_at, is_whole, is_whole_at, next_of, whole_of}
 use Rattle.ldm_rpc.specs.Streams.{Position, given}
@@ -19,11 +19,14 @@ use Rattle.ldm_intake.specs.Record.{record_course}
 use Rattle.ldm_intake.specs.Room.{records_of}
 use Rattle.ldm_intake.specs.Step.{Step, Goes, Bad, Declined}
 use Rattle.ldm_intake.specs.Taken.{Arrival, taken_none, taken}
-use Rattle.ldm_intake.specs.TakesRecord.{Standing, GoesOn, RunsOut}
+use Rattle.ldm_intake.specs.declared.record_end.MessageEnd.{MessageEnd}
+use Rattle.ldm_intake.specs.declared.record_end.MessageEnd.TheVariants as message_end
+use Rattle.ldm_intake.specs.TakesRecord.{Standing, GoesOn, RunsOut, TakesRecord}
+use Rattle.ldm_intake.specs.Turning.{record_end_of}
 use Rattle.ldm_intake.proofs.TakenRecords.{stepped, leads-one}
 use Rattle.ldm_downstream.specs.Pieces.{arrived}
 use Rattle.ldm_downstream.specs.Taking.{Takes, BreaksOff}
-use Rattle.ldm_downstream.specs.Turns.{TakesAll, StopsBy, TooLong, Cuts, found, first_of, behind}
+use Rattle.ldm_downstream.specs.Turns.{TakesAll, StopsBy, TooLong, Cuts, Finds, found, first_of, behind, end_of_fault, end_of_message}
 use Rattle.ldm_downstream.proofs.Followed.{takes-none, breaks-here}
 
 -- what one record came to
@@ -90,6 +93,14 @@ quiet xs old new same = subst (λ (s : Standing). BreaksOff xs old s) (sym same)
 pub found-memory : (now at : ℕ) (content : List ℕ) (old new : Standing) → new ≡ old → StopsBy OutOfMemory (found now at (Some content)) old new
 found-memory now at content old new same = quiet (found now at (Some content)) old new same
 
+-- a message of a feed that was found
+pub found-message : (now at : ℕ) (content : List ℕ) (by : MessageEnd) (end : Option RecvEnd) (old new : Standing) → end ≡ None
+    → TakesRecord (record_end_of by) (record_course old.receiving now content) old new → Finds (end_of_message end by at) now at (Some content) old new
+found-message now at content message_end.Goes end old new none takes = rw none (found-goes now at content old new takes)
+found-message now at content message_end.Bad end old new none takes = found-bad now at content old new takes.0 takes.1
+found-message now at content message_end.Worn end old new none takes = found-worn now at content old new takes
+found-message now at content message_end.OutOfMemory end old new none takes = found-memory now at content old new takes
+
 -- ---- the first record in some bytes
 
 found-of : (now begins : ℕ) (r : Reading) (b : Bool) → is_whole r ≡ b → found now begins (whole_of r) ≡ arrived now (given begins r)
@@ -112,11 +123,17 @@ first-too_long now p bytes fault old faulty =
       end_is = rw not refl;
     }
 
-pub first-fault : (now : ℕ) (p : Position) (bytes : List ℕ) (new : Reading) (fault : RpcFault) (place : ℕ) → fault ≡ too_long place → IsFaultOf p.reading bytes new fault
-    → (old : Standing) → Cuts (BadFrame p.begins) (first_of now p bytes) (behind p bytes) old old
-first-fault now p bytes new fault place fault_is is old =
-    let there = subst (λ (f : RpcFault). IsFaultOf p.reading bytes new f) fault_is is in
-    inl (first-too_long now p bytes (too_long place) old (ap (λ (s : Reading). s.stage) (sym there.0) ∙ there.1))
+-- Bytes begin a record that is too long, or for which there is no memory.
+pub first-faulty : (now : ℕ) (p : Position) (bytes : List ℕ) (new : Reading) (fault : RpcFault) → IsFaultOf p.reading bytes new fault
+    → (old : Standing) → Cuts (end_of_fault fault p.begins) (first_of now p bytes) (behind p bytes) old old
+first-faulty now p bytes new (too_long place) is old =
+    inl (first-too_long now p bytes (too_long place) old (ap (λ (s : Reading). s.stage) (sym is.0) ∙ is.1))
+first-faulty now p bytes new out_of_memory is old = inr (quiet (first_of now p bytes) old old refl)
+
+-- what taking the record came to ended it
+pub first-ends : (now : ℕ) (p : Position) (bytes : List ℕ) (end : RecvEnd) (old new : Standing)
+    → Finds (Some end) now p.begins (whole_of (after p.reading bytes)) old new → Cuts end (first_of now p bytes) (behind p bytes) old new
+first-ends now p bytes end old new finds = inr (subst (λ (xs : List Arrival). StopsBy end xs old new) (found-first now p bytes) finds)
 
 -- `next` leaves no complete record
 next-ready_of : (r : Reading) (b : Bool) → is_whole r ≡ b → is_whole (next_of r) ≡ false

@@ -1,5 +1,6 @@
 -- The records in some bytes, taken one after another.
-use Rattle.std.proofs.Common.{◌≡◌, ℕ, ◌+◌, ◌-◌, true, false, List, [], ◌++◌, length, take, drop, Some, None, inl, inr, refl, ap, sym, ◌∙◌, arith}
+use Rattle.std.proofs.Common.{◌≡◌, ℕ, ◌+◌, ◌-◌, true, false, List, [], ◌++◌, length, take, drop, Option, Some, None, inl, inr, refl, ap, sym, ◌∙◌, arith}
+use Rattle.std.specs.Prelude.{is_some}
 use Rattle.std.proofs.lemmas.Bool.{false≢true}
 use Rattle.std.proofs.lemmas.List.{append-nil, length-drop, take_all}
 use Rattle.ldm_rpc.specs.declared.fault.RpcFault.{RpcFault}
@@ -15,7 +16,7 @@ use Rattle.ldm_intake.specs.Taken.{Arrival, taken_none, taken}
 use Rattle.ldm_intake.specs.TakesRecord.{Standing}
 use Rattle.ldm_downstream.specs.Pieces.{arrived}
 use Rattle.ldm_downstream.specs.Taking.{Takes, BreaksOff}
-use Rattle.ldm_downstream.specs.Turns.{TakesAll, StopsBy, TooLong, Cuts, first_of, behind, TakesFirst, TakesBytes}
+use Rattle.ldm_downstream.specs.Turns.{TakesAll, StopsBy, TooLong, Cuts, first_of, behind, TakesFirst, TakesBytes, Turns, Runs, turned}
 use Rattle.ldm_downstream.proofs.Arrivals.{arrived-append}
 use Rattle.ldm_downstream.proofs.Followed.{takes-then, takes-same, takes-none, takes-ended, breaks-more, breaks-then, breaks-same}
 use Rattle.ldm_downstream.proofs.Found.{next-ready, next-sound}
@@ -132,3 +133,14 @@ module _ (now : ℕ) (p : Position) (bytes : List ℕ) (old : Standing) (q : Pos
     | inl cut ↦ (let faulty = stage_of_fault r r.stage refl cut.faulty in inl (cut-too_long faulty.0 end new faulty.1 cut))
     | inr stops ↦ inr (stops-all end new stops)
   ]
+
+  -- the first record of the rest ended it
+  pub ends-all : (n : ℕ) (t : Position) (new : Standing) (end : Option RecvEnd) (last : Position) → is_some end ≡ true → Turns (turned n end) now rest q t cur new
+      → Runs end now bytes p last old new
+  ends-all n t new None last some turns = absurd (false≢true some)
+  ends-all n t new (Some end) last some turns = cuts-all end new turns
+
+-- no end was written
+pub none_written : (end : Option RecvEnd) → is_some end ≡ false → end ≡ None
+none_written None none = refl
+none_written (Some end) none = absurd (false≢true (sym none))

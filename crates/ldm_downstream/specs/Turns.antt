@@ -3,6 +3,10 @@ use Rattle.std.specs.Prelude.{◌≡◌, ◌⊎◌, ℕ, ◌+◌, ◌<◌, ◌�
 use Rattle.ldm_rpc.specs.Reading.{after, bytes_taken, is_faulty}
 use Rattle.ldm_rpc.specs.Streams.{Position, forgets, given, records_in, in_hand}
 use Rattle.ldm_shared.specs.declared.steps.TheConstants.{MOST_TURNS}
+use Rattle.ldm_rpc.specs.declared.fault.RpcFault.{RpcFault}
+use Rattle.ldm_rpc.specs.declared.fault.RpcFault.TheVariants as rpc_fault
+use Rattle.ldm_intake.specs.declared.record_end.MessageEnd.{MessageEnd}
+use Rattle.ldm_intake.specs.declared.record_end.MessageEnd.TheVariants as message_end
 use Rattle.ldm_intake.specs.declared.end.RecvEnd.{RecvEnd}
 use Rattle.ldm_intake.specs.declared.end.RecvEnd.TheVariants.{Ended, Truncated, BadFrame, Refused, LinkFault, LogFault, StreamLimit, Worn, OutOfMemory}
 use Rattle.ldm_intake.specs.Taken.{Arrival, taken, taken_none}
@@ -85,6 +89,11 @@ pub record TakesFirst (now : ℕ) (bytes : List ℕ) (n : ℕ) (p q : Position) 
   pub reads : Reads p bytes n q
   pub takes : TakesAll (first_of now p bytes) old new
 
+-- how many bytes were taken, or the end that was written
+abbrev pub turned : ℕ → Option RecvEnd → Result ℕ RecvEnd
+turned n None = Ok n
+turned n (Some end) = Err end
+
 abbrev pub Turns : Result ℕ RecvEnd → ℕ → List ℕ → Position → Position → Standing → Standing → Type 0
 Turns (Ok n) now bytes p q old new = TakesFirst now bytes n p q old new
 Turns (Err end) now bytes p q old new = Cuts end (first_of now p bytes) (behind p bytes) old new
@@ -108,3 +117,14 @@ pub record TakesPiece (piece : Piece) (p q : Position) (old new : Standing) : Ty
 abbrev pub Passes : Option RecvEnd → Piece → Position → Position → Standing → Standing → Type 0
 Passes None piece p q old new = TakesPiece piece p q old new
 Passes (Some end) piece p q old new = Stops end (arrivals p (piece ∷ [])) (hand p (piece ∷ [])) old new
+
+-- how a record that begins there ends a receiving: one that is too long or for which there is no memory, or a message of a feed
+abbrev pub end_of_fault : RpcFault → ℕ → RecvEnd
+end_of_fault (rpc_fault.TooLong place) at = BadFrame at
+end_of_fault rpc_fault.OutOfMemory at = OutOfMemory
+
+abbrev pub end_of_message : Option RecvEnd → MessageEnd → ℕ → Option RecvEnd
+end_of_message end message_end.Goes at = end
+end_of_message end message_end.Bad at = Some (BadFrame at)
+end_of_message end message_end.Worn at = Some Worn
+end_of_message end message_end.OutOfMemory at = Some OutOfMemory

@@ -1,19 +1,21 @@
 //! What takes the bytes of a stream: its records, one after another.
-ghost use Rattle.std.specs.Prelude.{◌≡◌, ◌≤◌, ◌<◌, ◌+◌, ◌∷◌, [], ℕ, true, false, IfOk, IfNone, IfSome, MatchOption, OnOk, OnErr, None, Some, length};
+ghost use Rattle.std.specs.Prelude.{◌≡◌, ◌≤◌, ◌<◌, ◌+◌, ◌∷◌, [], ℕ, true, false, IfOk, IfNone, IfSome, MatchOption, OnOk, OnErr, None, Some, List, length};
 ghost use Rattle.std.specs.Option.{option_copied, option_map};
 ghost use Rattle.ldm_rpc.specs.Reading.{is_faulty};
 ghost use Rattle.ldm_rpc.specs.Streams.{Position};
-ghost use Rattle.ldm_shared.specs.Passes.{IsPassOf, IsSamePass};
+ghost use Rattle.ldm_shared.specs.Passes.{IsPassOf, IsSamePass, PassView};
+ghost use Rattle.ldm_intake.specs.Settled.{is_feeding};
+ghost use Rattle.ldm_intake.specs.TakesRecord.{stands};
 ghost use Rattle.ldm_downstream.specs.declared.limits.TheConstants.{LONGEST_STREAM};
 ghost use Rattle.ldm_downstream.specs.Pieces.{beginning};
 ghost use Rattle.ldm_downstream.specs.Received.{GoesOnAt, at_stream_end};
 ghost use Rattle.ldm_downstream.specs.Pushing.{ClosesIf, Pushes, is_worn};
 ghost use Rattle.ldm_downstream.specs.ReceiverView.{moment};
-ghost use Rattle.ldm_downstream.specs.Turns.{Finds, Turns, Runs, Passes};
+ghost use Rattle.ldm_downstream.specs.Turns.{Finds, Turns, Runs, Passes, end_of_fault, end_of_message, turned};
 
 use crate::ends::is_worn;
 use crate::limits::LONGEST_STREAM;
-use ldm_intake::{Intake, RecordEnd, RecvEnd};
+use ldm_intake::{Intake, MessageEnd, RecordEnd, RecvEnd};
 use ldm_relay::LARGEST_RECORD;
 use ldm_rpc::{Records, RpcFault};
 use ldm_shared::{Pass, Shared, Turn};
@@ -166,18 +168,20 @@ impl<'a> Stream<'a> {
     {
         // What is kept is known here.
         let _ = &self.intake;
+        let mut end = None;
         let mut rest = bytes;
         while !rest.is_empty() {
-            match self.take_first(shared, rt, pass, rest, now, out, notes) {
-                Ok(count) => rest = &rest[count..],
-                Err(end) => return Some(end),
+            let count = self.take_first(shared, rt, pass, rest, now, out, notes, &mut end);
+            if end.is_some() {
+                return end;
             }
+            rest = &rest[count..];
         }
         None
     }
 
     // Takes the record that these bytes complete first, or all of them where they complete none, and answers how many bytes that
-    // are.
+    // are. Where that ends the receiving, the end is written: it has room for a class, which is not to be moved for each record.
     fn take_first<H: Wait>(
         &mut self,
         shared: &Shared,
@@ -187,23 +191,27 @@ impl<'a> Stream<'a> {
         now: Micros,
         out: &mut Vec<u8>,
         notes: &mut Vec<u8>,
-    ) -> Result<usize, RecvEnd>
+        end: &mut Option<RecvEnd>,
+    ) -> usize
         requires of { IsPassOf shared.now pass.old }
         requires some { 0 < length bytes.now }
         requires room { self.old.hand.came + length bytes.now ≤ LONGEST_STREAM }
+        requires going { end.old ≡ None }
         ensures kept { IsSamePass pass.old pass.new }
-        ensures turns { Turns result now bytes.now self.old.hand self.new.hand
+        ensures turns { Turns (turned result end.new) now bytes.now self.old.hand self.new.hand
             (moment self.old.receiving pass.old out.old notes.old) (moment self.new.receiving pass.new out.new notes.new) }
     {
         let count = match self.records.push(bytes) {
             Ok(count) => count,
-            Err(RpcFault::TooLong { .. }) => return Err(RecvEnd::BadFrame { at: self.begins }),
-            Err(RpcFault::OutOfMemory) => return Err(RecvEnd::OutOfMemory),
+            Err(fault) => {
+                end_by_fault(end, fault, self.begins);
+                return 0;
+            }
         };
         self.came += count as u64;
         let content = self.records.whole();
         let is_whole = content.is_some();
-        let end = take_content(
+        take_content(
             &mut self.intake,
             shared,
             rt,
@@ -213,19 +221,21 @@ impl<'a> Stream<'a> {
             now,
             out,
             notes,
+            end,
         );
         self.records.next();
-        if let Some(end) = end {
-            return Err(end);
+        match end {
+            Some(_) => return count,
+            None => {}
         }
         if is_whole {
             self.begins = self.came;
         }
-        Ok(count)
+        count
     }
 }
 
-// Takes the content of a record that begins there, if there is one. Answers how that ends the receiving, if it does.
+// Takes the content of a record that begins there, if there is one. Where that ends the receiving, the end is written.
 fn take_content<H: Wait>(
     intake: &mut Intake<'_>,
     shared: &Shared,
@@ -236,16 +246,72 @@ fn take_content<H: Wait>(
     now: Micros,
     out: &mut Vec<u8>,
     notes: &mut Vec<u8>,
-) -> Option<RecvEnd>
-    requires { IsPassOf shared.now pass.old }
+    end: &mut Option<RecvEnd>,
+)
+    requires of { IsPassOf shared.now pass.old }
+    requires going { end.old ≡ None }
     ensures kept { IsSamePass pass.old pass.new }
-    ensures finds { Finds result now at (option_copied content.entry) (moment intake.old pass.old out.old notes.old) (moment intake.new pass.new out.new notes.new) }
+    ensures finds { Finds end.new now at (option_copied content.entry) (moment intake.old pass.old out.old notes.old) (moment intake.new pass.new out.new notes.new) }
 {
-    match intake.take_record(shared, rt, pass, content?, now, out, notes) {
+    let Some(content) = content else {
+        return;
+    };
+    if intake.is_feeding() {
+        match intake.take_message(shared, rt, pass, content, now, out, notes) {
+            MessageEnd::Goes => {}
+            by => end_by_message(end, by, at),
+        }
+    } else {
+        take_answer(intake, content, at, out, end);
+    }
+}
+
+// What has a class in place stands in functions of its own, so that nothing on the path of a feed's record has room for one.
+
+#[cold]
+#[inline(never)]
+fn end_by_fault(end: &mut Option<RecvEnd>, fault: RpcFault, at: u64)
+    ensures { end.new ≡ Some (end_of_fault fault at) }
+{
+    *end = Some(match fault {
+        RpcFault::TooLong { .. } => RecvEnd::BadFrame { at },
+        RpcFault::OutOfMemory => RecvEnd::OutOfMemory,
+    });
+}
+
+// Where a message that begins there goes on, the end stays as it is.
+#[cold]
+#[inline(never)]
+fn end_by_message(end: &mut Option<RecvEnd>, by: MessageEnd, at: u64)
+    ensures { end.new ≡ end_of_message end.old by at }
+{
+    match by {
+        MessageEnd::Goes => {}
+        MessageEnd::Bad => *end = Some(RecvEnd::BadFrame { at }),
+        MessageEnd::Worn => *end = Some(RecvEnd::Worn),
+        MessageEnd::OutOfMemory => *end = Some(RecvEnd::OutOfMemory),
+    }
+}
+
+// Takes the record of a reply to a request that begins there. Where that ends the receiving, the end is written.
+#[cold]
+#[inline(never)]
+fn take_answer(
+    intake: &mut Intake<'_>,
+    content: &[u8],
+    at: u64,
+    out: &mut Vec<u8>,
+    end: &mut Option<RecvEnd>,
+)
+    requires { is_feeding intake.old.phase ≡ false }
+    ensures { (now : ℕ) (pass : PassView) (notes : List ℕ) → Finds end.new now at (Some content.now)
+        (stands intake.old pass out.old.items notes) (stands intake.new pass out.new.items notes) }
+{
+    *end = match intake.take_answer(content, out) {
         RecordEnd::Goes => None,
         RecordEnd::Bad => Some(RecvEnd::BadFrame { at }),
         RecordEnd::Declined(answer) => Some(RecvEnd::Refused { answer }),
         RecordEnd::Worn => Some(RecvEnd::Worn),
         RecordEnd::OutOfMemory => Some(RecvEnd::OutOfMemory),
-    }
+    };
 }

@@ -6,3 +6,4 @@ pub mod Filling
 pub mod QuietEnds
 pub mod Replying
 pub mod TakenRecords
+pub mod FeedCourses

@@ -11,7 +11,6 @@ pub mod Products
 pub mod Record
 pub mod Taken
 pub mod Room
-pub mod Lawful
 pub mod TakesRecord
 pub mod Turning
 pub mod Settled

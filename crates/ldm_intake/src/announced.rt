@@ -9,12 +9,12 @@ ghost use Rattle.ldm_intake.specs.Products.{comingsoon, comingsoon_wanted, reser
 ghost use Rattle.ldm_intake.specs.Receiving.{with_last};
 ghost use Rattle.ldm_intake.specs.Room.{HasNoteRoom, HasReplyRoom, records_of};
 ghost use Rattle.ldm_intake.specs.TakesRecord.{TakesRecord, stands};
-ghost use Rattle.ldm_intake.specs.Turning.{end_of_turn};
+ghost use Rattle.ldm_intake.specs.Turning.{end_of_turn, record_end_of};
 
 use crate::intake::Intake;
 use crate::notes::{note_commit, note_reserve, put_unwanted};
 use crate::phase::Pending;
-use crate::record_end::{RecordEnd, end_of};
+use crate::record_end::{MessageEnd, end_of};
 use crate::replies::put_soon;
 use crate::room::{note_room, reply_room};
 use ldm_model::{ReserveNo, ReserveReply};
@@ -34,25 +34,25 @@ impl Intake<'_> {
         now: Micros,
         out: &mut Vec<u8>,
         notes: &mut Vec<u8>,
-    ) -> RecordEnd
+    ) -> MessageEnd
         requires { IsPassOf shared.now pass.old }
-        ensures { TakesRecord result (comingsoon self.old now soon.now.xid soon.now.info soon.now.block_size)
+        ensures { TakesRecord (record_end_of result) (comingsoon self.old now soon.now.xid soon.now.info soon.now.block_size)
             (stands self.old pass.old out.old.items notes.old.items) (stands self.new pass.new out.new.items notes.new.items) }
     {
         if !self.is_idle() || soon.block_size as usize != LARGEST_BLOCK {
-            return RecordEnd::Bad;
+            return MessageEnd::Bad;
         }
         if note_room(notes).is_err() || reply_room(out).is_err() {
-            return RecordEnd::OutOfMemory;
+            return MessageEnd::OutOfMemory;
         }
         match self.wants(&soon.info) {
             Ok(true) => end_of(self.reserve(shared, rt, pass, soon, now, out, notes)),
             Ok(false) => {
                 put_unwanted(notes, &soon.info);
                 self.decline(soon, out);
-                RecordEnd::Goes
+                MessageEnd::Goes
             }
-            Err(_) => RecordEnd::OutOfMemory,
+            Err(_) => MessageEnd::OutOfMemory,
         }
     }
 

@@ -1,9 +1,10 @@
 //! The reply to a FEEDME.
-ghost use Rattle.std.specs.Prelude.{◌≡◌, ℕ, List};
+ghost use Rattle.std.specs.Prelude.{◌≡◌, ℕ, List, false};
 ghost use Rattle.ldm_shared.specs.Passes.{PassView};
 ghost use Rattle.ldm_intake.specs.Answered.{number_of_request, answered, by_answer, reclassed, asks_again};
 ghost use Rattle.ldm_intake.specs.Course.{Comes};
-ghost use Rattle.ldm_intake.specs.Record.{reply_course};
+ghost use Rattle.ldm_intake.specs.Record.{record_course, reply_course};
+ghost use Rattle.ldm_intake.specs.Settled.{is_feeding};
 ghost use Rattle.ldm_intake.specs.TakesRecord.{TakesRecord, stands};
 ghost use Rattle.ldm_relay.specs.declared.procedure.Procedure.TheVariants as procedure;
 ghost use Rattle.ldm_relay.specs.Procedure.{number_of};
@@ -27,8 +28,21 @@ pub(crate) fn number_of_request(again: bool) -> u32
 
 // None of these calls the queue or logs: what they do is the same whatever the pass has seen and whatever stands in the log.
 impl Intake<'_> {
+    /// Takes one record while the reply to a request is owed: asks for a narrower class where one is offered, by a message that it
+    /// appends to `out`. It makes no call of the queue, and logs nothing.
+    pub fn take_answer(&mut self, content: &[u8], out: &mut Vec<u8>) -> RecordEnd
+        requires { is_feeding self.old.phase ≡ false }
+        ensures took { (now : ℕ) (pass : PassView) (notes : List ℕ) → TakesRecord result (record_course self.old now content.now)
+            (stands self.old pass out.old.items notes) (stands self.new pass out.new.items notes) }
+    {
+        match self.request_owed() {
+            Some((class, again)) => self.take_reply(content, &class, again, out),
+            None => unreachable!(),
+        }
+    }
+
     // Takes the record of a reply to the FEEDME that asked for the class.
-    pub(crate) fn take_reply(
+    fn take_reply(
         &mut self,
         content: &[u8],
         asked: &ClassSpec,

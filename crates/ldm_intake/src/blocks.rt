@@ -5,12 +5,12 @@ ghost use Rattle.ldm_intake.specs.Products.{blkdata, commits, fills};
 ghost use Rattle.ldm_intake.specs.Receiving.{left_of};
 ghost use Rattle.ldm_intake.specs.Room.{HasNoteRoom};
 ghost use Rattle.ldm_intake.specs.TakesRecord.{TakesRecord, stands};
-ghost use Rattle.ldm_intake.specs.Turning.{end_of_turn};
+ghost use Rattle.ldm_intake.specs.Turning.{end_of_turn, record_end_of};
 
 use crate::intake::Intake;
 use crate::notes::note_commit;
 use crate::phase::Pending;
-use crate::record_end::{RecordEnd, end_of};
+use crate::record_end::{MessageEnd, end_of};
 use crate::room::note_room;
 use ldm_relay::Blkdata;
 use ldm_shared::{Pass, Shared, Turn, calls_made};
@@ -27,19 +27,19 @@ impl Intake<'_> {
         part: &Blkdata,
         now: Micros,
         notes: &mut Vec<u8>,
-    ) -> RecordEnd
+    ) -> MessageEnd
         requires { IsPassOf shared.now pass.old }
-        ensures { (out : List ℕ) → TakesRecord result (blkdata self.old now part.now.signature.0 part.now.number part.now.block.now)
+        ensures { (out : List ℕ) → TakesRecord (record_end_of result) (blkdata self.old now part.now.signature.0 part.now.number part.now.block.now)
             (stands self.old pass.old out notes.old.items) (stands self.new pass.new out notes.new.items) }
     {
         let Some(pending) = self.awaited() else {
-            return RecordEnd::Bad;
+            return MessageEnd::Bad;
         };
         if !pending.is_next(part) {
-            return RecordEnd::Bad;
+            return MessageEnd::Bad;
         }
         if note_room(notes).is_err() {
-            return RecordEnd::OutOfMemory;
+            return MessageEnd::OutOfMemory;
         }
         end_of(self.fill(shared, rt, pass, pending, part.block, now, notes))
     }

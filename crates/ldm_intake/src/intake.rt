@@ -2,10 +2,8 @@
 ghost use Rattle.std.specs.Prelude.{◌≡◌, ◌++◌, IfOk, OnOk, OnErr};
 ghost use Rattle.std.specs.Option.{option_map};
 ghost use Rattle.ldm_intake.specs.Opening.{requesting, accepting, request_of};
-ghost use Rattle.ldm_intake.specs.Record.{record_course};
 ghost use Rattle.ldm_intake.specs.Room.{records_of};
-ghost use Rattle.ldm_intake.specs.Settled.{is_settled};
-ghost use Rattle.ldm_intake.specs.TakesRecord.{TakesRecord, stands};
+ghost use Rattle.ldm_intake.specs.Settled.{is_feeding, is_settled};
 ghost use Rattle.ldm_intake.specs.Turning.{HasClosed, HasKept};
 ghost use Rattle.ldm_shared.specs.Passes.{IsPassOf, IsSamePass};
 ghost use Rattle.ldm_shared.specs.Turns.{IfDone, IfWorn};
@@ -13,7 +11,6 @@ ghost use Rattle.ldm_shared.specs.Turns.{IfDone, IfWorn};
 use crate::answered::number_of_request;
 use crate::asking::asked_class;
 use crate::phase::{Pending, Phase};
-use crate::record_end::RecordEnd;
 use crate::replies::put_feedme;
 use crate::wanting::Wanted;
 use ldm_class::{Class, Policy};
@@ -24,7 +21,8 @@ use std::marker::Model;
 use std::sync::Wait;
 
 /// Takes the records of a stream into a queue, one after another: what is asked of the queue, what the peer is owed and what is
-/// logged is that of `record_course`.
+/// logged is that of `record_course`. The reply to a request, which may have a class, is taken by `take_answer`, and each message of
+/// the feed by `take_message`.
 #[derive(Drop)]
 pub struct Intake<'a> {
     pub(crate) alloc: Global,
@@ -99,11 +97,19 @@ impl<'a> Intake<'a> {
         self.last
     }
 
+    /// Whether the feed has begun: no reply to a request is owed. Then `take_message` takes the next record, and else
+    /// `take_answer`.
+    pub fn is_feeding(&self) -> bool
+        ensures { result ≡ is_feeding self.now.phase }
+    {
+        matches!(self.phase, Phase::Feeding)
+    }
+
     /// Whether no product is pending and no reply to a request is owed.
     pub fn is_settled(&self) -> bool
         ensures { result ≡ is_settled self.now }
     {
-        self.pending.is_none() && matches!(self.phase, Phase::Feeding)
+        self.pending.is_none() && self.is_feeding()
     }
 
     /// Appends the record of the FEEDME whose reply is owed, where one is.
@@ -116,31 +122,6 @@ impl<'a> Intake<'a> {
                 put_feedme(out, number_of_request(*again), class, self.max_hereis)
             }
             Phase::Feeding => Ok(()),
-        }
-    }
-
-    /// Takes one record, which was complete at the moment `now`: asks the queue what `record_course` says, and appends the
-    /// messages that the peer is owed to `out`, and the log lines to `notes`.
-    ///
-    /// Memory is taken before the queue is called, so what it answered is never lost.
-    pub fn take_record<H: Wait>(
-        &mut self,
-        shared: &Shared,
-        rt: &H,
-        pass: &mut Pass,
-        content: &[u8],
-        now: Micros,
-        out: &mut Vec<u8>,
-        notes: &mut Vec<u8>,
-    ) -> RecordEnd
-        requires { IsPassOf shared.now pass.old }
-        ensures kept { IsSamePass pass.old pass.new }
-        ensures took { TakesRecord result (record_course self.old now content.now)
-            (stands self.old pass.old out.old.items notes.old.items) (stands self.new pass.new out.new.items notes.new.items) }
-    {
-        match self.request_owed() {
-            Some((class, again)) => self.take_reply(content, &class, again, out),
-            None => self.take_message(shared, rt, pass, content, now, out, notes),
         }
     }
 

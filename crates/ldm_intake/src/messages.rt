@@ -1,26 +1,29 @@
 //! The messages of a feed.
-ghost use Rattle.std.specs.Prelude.{◌≡◌, ℕ, List, length};
-ghost use Rattle.ldm_shared.specs.Passes.{IsPassOf};
-ghost use Rattle.ldm_relay.specs.Reading.{call_of};
+ghost use Rattle.std.specs.Prelude.{◌≡◌, ℕ, List, true, length};
+ghost use Rattle.ldm_shared.specs.Passes.{IsPassOf, IsSamePass};
 ghost use Rattle.ldm_intake.specs.Products.{hereis, hereis_wanted};
-ghost use Rattle.ldm_intake.specs.Record.{call_course};
+ghost use Rattle.ldm_intake.specs.Record.{record_course};
 ghost use Rattle.ldm_intake.specs.Room.{HasNoteRoom};
+ghost use Rattle.ldm_intake.specs.Settled.{is_feeding};
 ghost use Rattle.ldm_intake.specs.TakesRecord.{TakesRecord, stands};
-ghost use Rattle.ldm_intake.specs.Turning.{end_of_turn};
+ghost use Rattle.ldm_intake.specs.Turning.{end_of_turn, record_end_of};
 
 use crate::intake::Intake;
 use crate::notes::{note_insert, put_unwanted};
-use crate::reading::{Lawful, read_lawful};
-use crate::record_end::{RecordEnd, end_of};
+use crate::record_end::{MessageEnd, end_of};
 use crate::room::note_room;
-use ldm_relay::Hereis;
+use ldm_relay::{FeedCall, Hereis, read_feed_call};
 use ldm_shared::{Pass, Shared, Turn};
 use ldm_types::Micros;
 use std::sync::Wait;
 
 impl Intake<'_> {
-    // Takes the record of a message of the feed.
-    pub(crate) fn take_message<H: Wait>(
+    /// Takes one record of a feed that has begun, which was complete at the moment `now`: asks the queue what `record_course` says,
+    /// and appends the messages that the peer is owed to `out`, and the log lines to `notes`.
+    ///
+    /// Memory is taken before the queue is called, so what it answered is never lost.
+    #[tactic(auto, using(crate::proofs::FeedCourses::takes_call, crate::proofs::FeedCourses::takes_other))]
+    pub fn take_message<H: Wait>(
         &mut self,
         shared: &Shared,
         rt: &H,
@@ -29,19 +32,21 @@ impl Intake<'_> {
         now: Micros,
         out: &mut Vec<u8>,
         notes: &mut Vec<u8>,
-    ) -> RecordEnd
-        requires { IsPassOf shared.now pass.old }
-        ensures { TakesRecord result (call_course self.old now (call_of content.now))
+    ) -> MessageEnd
+        requires of { IsPassOf shared.now pass.old }
+        requires feeding { is_feeding self.old.phase ≡ true }
+        ensures kept { IsSamePass pass.old pass.new }
+        ensures took { TakesRecord (record_end_of result) (record_course self.old now content.now)
             (stands self.old pass.old out.old.items notes.old.items) (stands self.new pass.new out.new.items notes.new.items) }
     {
-        match read_lawful(content) {
-            Some(Lawful::Hereis(product)) => self.hereis(shared, rt, pass, &product, now, notes),
-            Some(Lawful::Comingsoon(soon)) => {
+        match read_feed_call(content) {
+            Some(FeedCall::Hereis(product)) => self.hereis(shared, rt, pass, &product, now, notes),
+            Some(FeedCall::Comingsoon(soon)) => {
                 self.comingsoon(shared, rt, pass, &soon, now, out, notes)
             }
-            Some(Lawful::Blkdata(part)) => self.blkdata(shared, rt, pass, &part, now, notes),
-            Some(Lawful::Isalive) => RecordEnd::Goes,
-            None => RecordEnd::Bad,
+            Some(FeedCall::Blkdata(part)) => self.blkdata(shared, rt, pass, &part, now, notes),
+            Some(FeedCall::Isalive(_)) => MessageEnd::Goes,
+            None => MessageEnd::Bad,
         }
     }
 
@@ -54,26 +59,26 @@ impl Intake<'_> {
         product: &Hereis,
         now: Micros,
         notes: &mut Vec<u8>,
-    ) -> RecordEnd
+    ) -> MessageEnd
         requires of { IsPassOf shared.now pass.old }
         requires sized { length product.now.body.now ≡ product.now.info.size }
-        ensures { (out : List ℕ) → TakesRecord result (hereis self.old now product.now.info product.now.body.now)
+        ensures { (out : List ℕ) → TakesRecord (record_end_of result) (hereis self.old now product.now.info product.now.body.now)
             (stands self.old pass.old out notes.old.items) (stands self.new pass.new out notes.new.items) }
     {
         if !self.is_idle() {
-            return RecordEnd::Bad;
+            return MessageEnd::Bad;
         }
         if note_room(notes).is_err() {
-            return RecordEnd::OutOfMemory;
+            return MessageEnd::OutOfMemory;
         }
         match self.wants(&product.info) {
             Ok(true) => end_of(self.insert(shared, rt, pass, product, now, notes)),
             Ok(false) => {
                 put_unwanted(notes, &product.info);
                 self.pass_by(&product.info);
-                RecordEnd::Goes
+                MessageEnd::Goes
             }
-            Err(_) => RecordEnd::OutOfMemory,
+            Err(_) => MessageEnd::OutOfMemory,
         }
     }
 

@@ -1,6 +1,6 @@
 //! How the taking of one record ends.
 ghost use Rattle.std.specs.Prelude.{◌≡◌};
-ghost use Rattle.ldm_intake.specs.Turning.{end_of_turn};
+ghost use Rattle.ldm_intake.specs.Turning.{end_of_turn, record_end_of};
 
 use ldm_relay::ClassAnswer;
 use ldm_shared::Turn;
@@ -20,12 +20,21 @@ pub enum RecordEnd {
     OutOfMemory,
 }
 
-// How a record ends whose calls came to that.
-pub(crate) fn end_of(turn: Turn<()>) -> RecordEnd
-    ensures { result ≡ end_of_turn turn }
+/// How the taking of one message of a feed ends: as that of a record, and never by a decline, so it has no class in place.
+#[derive(Clone, Copy, Debug)]
+pub enum MessageEnd {
+    Goes,
+    Bad,
+    Worn,
+    OutOfMemory,
+}
+
+// How a message ends whose calls came to that.
+pub(crate) fn end_of(turn: Turn<()>) -> MessageEnd
+    ensures { record_end_of result ≡ end_of_turn turn }
 {
     match turn {
-        Turn::Done(()) => RecordEnd::Goes,
-        Turn::Worn { .. } => RecordEnd::Worn,
+        Turn::Done(()) => MessageEnd::Goes,
+        Turn::Worn { .. } => MessageEnd::Worn,
     }
 }

@@ -1,38 +1,24 @@
 use Rattle.ldm_downstream.specs.ReceiverView.{moment}
 use Rattle.ldm_downstream.proofs.Followed.{takes-none}
-use Rattle.ldm_downstream.proofs.Found.{found-goes, found-bad, found-declined, found-worn, found-memory}
+use Rattle.ldm_downstream.proofs.Found.{found-goes, found-message}
 use Rattle.ldm_downstream.proofs.stream.take_content.Goals as goal
 
-pub returns-in_err-content-clause-finds : goal.returns-in_err-content-clause-finds
-returns-in_err-content-clause-finds g c =
-    rw (c.from_residual.ensures, c.in_err-content.was) (takes-none (moment c.args.intake.now c.args.pass.now c.args.out.now c.args.notes.now))
+pub returns-in_default-clause-finds : goal.returns-in_default-clause-finds
+returns-in_default-clause-finds g c =
+    rw (c.in_default.is, c.requires.going) (takes-none (moment c.args.intake.now c.args.pass.now c.args.out.now c.args.notes.now))
 
 pub returns-in-Goes-clause-finds : goal.returns-in-Goes-clause-finds
 returns-in-Goes-clause-finds g c =
-    rw c.in_ok-content.was
-    (found-goes c.args.now c.args.at c.in_ok-content.field-0.now (moment c.args.intake.now c.args.pass.now c.args.out.now c.args.notes.now)
-    (moment c.take_record.new.self c.take_record.new.pass c.take_record.new.out c.take_record.new.notes) c.in-Goes.ensures.took)
+    rw (c.in-Some.is, c.requires.going)
+    (found-goes c.args.now c.args.at c.in-Some.content.now (moment c.args.intake.now c.args.pass.now c.args.out.now c.args.notes.now)
+    (moment c.take_message.new.self c.take_message.new.pass c.take_message.new.out c.take_message.new.notes) c.in-Goes.ensures.took)
 
-pub returns-in-Bad-clause-finds : goal.returns-in-Bad-clause-finds
-returns-in-Bad-clause-finds g c =
-    rw c.in_ok-content.was
-    (found-bad c.args.now c.args.at c.in_ok-content.field-0.now (moment c.args.intake.now c.args.pass.now c.args.out.now c.args.notes.now)
-    (moment c.take_record.new.self c.take_record.new.pass c.take_record.new.out c.take_record.new.notes) c.in-Bad.ensures.took.0 c.in-Bad.ensures.took.1)
-
-pub returns-in-Declined-clause-finds : goal.returns-in-Declined-clause-finds
-returns-in-Declined-clause-finds g c =
-    rw c.in_ok-content.was
-    (found-declined c.args.now c.args.at c.in_ok-content.field-0.now c.in-Declined.answer (moment c.args.intake.now c.args.pass.now c.args.out.now c.args.notes.now)
-    (moment c.take_record.new.self c.take_record.new.pass c.take_record.new.out c.take_record.new.notes) c.in-Declined.ensures.took.0 c.in-Declined.ensures.took.1)
-
-pub returns-in-Worn-clause-finds : goal.returns-in-Worn-clause-finds
-returns-in-Worn-clause-finds g c =
-    rw c.in_ok-content.was
-    (found-worn c.args.now c.args.at c.in_ok-content.field-0.now (moment c.args.intake.now c.args.pass.now c.args.out.now c.args.notes.now)
-    (moment c.take_record.new.self c.take_record.new.pass c.take_record.new.out c.take_record.new.notes) c.in-Worn.ensures.took)
-
-pub returns-in-OutOfMemory-clause-finds : goal.returns-in-OutOfMemory-clause-finds
-returns-in-OutOfMemory-clause-finds g c =
-    rw c.in_ok-content.was
-    (found-memory c.args.now c.args.at c.in_ok-content.field-0.now (moment c.args.intake.now c.args.pass.now c.args.out.now c.args.notes.now)
-    (moment c.take_record.new.self c.take_record.new.pass c.take_record.new.out c.take_record.new.notes) c.in-OutOfMemory.ensures.took)
+pub returns-in_default-take_message : goal.returns-in_default-take_message
+returns-in_default-take_message g c = record {
+  kept = c.take_message.ensures.kept;
+  finds = rw (c.in-Some.is, c.end_by_message.ensures)
+      (found-message c.args.now c.args.at c.in-Some.content.now c.take_message.result c.args.end.now
+      (moment c.args.intake.now c.args.pass.now c.args.out.now c.args.notes.now)
+      (moment c.take_message.new.self c.take_message.new.pass c.take_message.new.out c.take_message.new.notes) c.requires.going
+      c.take_message.ensures.took);
+}
