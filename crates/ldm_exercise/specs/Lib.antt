@@ -1,0 +1,14 @@
+pub mod Draws
+pub mod OrderView
+pub mod Orders
+pub mod Playing
+pub mod Counts
+pub mod Summary
+pub mod TallyView
+pub mod Kept
+pub mod Ending
+pub mod Statuses
+pub mod Run
+pub mod Law
+pub mod Complete
+pub mod Examples
