@@ -3,6 +3,7 @@ use Rattle.std.specs.Prelude.{◌≡◌, Option, Some, None}
 use Rattle.ldm_status.specs.World.{WorldRecord}
 use Rattle.ldm_play.specs.Law.{ObeysPlayLaw}
 use Rattle.ldm_crowd_command.specs.Law.{ObeysCrowdLaw}
+use Rattle.ldm_exercise.specs.Law.{ObeysExerciseLaw}
 use Rattle.ldm_commands.specs.declared.command.Command.{Command}
 use Rattle.ldm_commands.specs.declared.command.Command.TheVariants as command
 
@@ -13,3 +14,4 @@ RunObeysLaw None old new = new.sink ≡ old.sink
 RunObeysLaw (Some (command.NotBuilt what)) old new = new.sink ≡ old.sink
 RunObeysLaw (Some (command.Play arena slots)) old new = ObeysPlayLaw (record { arena = arena; slots = slots }) old new
 RunObeysLaw (Some (command.Crowd arena slots workers)) old new = ObeysCrowdLaw (record { arena = arena; slots = slots; workers = workers }) old new
+RunObeysLaw (Some (command.Exercise number count)) old new = ObeysExerciseLaw number count old new

@@ -5,6 +5,7 @@ use Rattle.ldm_status.specs.declared.status.Status.TheVariants as status
 use Rattle.ldm_status.specs.Status.{Reports}
 use Rattle.ldm_play.specs.Run.{Plays}
 use Rattle.ldm_crowd_command.specs.Run.{CrowdRuns}
+use Rattle.ldm_exercise.specs.Run.{Exercises}
 use Rattle.ldm_commands.specs.declared.command.Command.{Command}
 use Rattle.ldm_commands.specs.declared.command.Command.TheVariants as command
 use Rattle.ldm_commands.specs.Unbuilt.{unbuilt_text}
@@ -17,3 +18,4 @@ RunEnds None code old new = IsUntouched old new × Reports status.Usage code old
 RunEnds (Some (command.NotBuilt what)) code old new = IsUntouched old new × Reports (status.NotBuilt (unbuilt_text what)) code old.log new.log
 RunEnds (Some (command.Play arena slots)) code old new = Plays (record { arena = arena; slots = slots }) code old new
 RunEnds (Some (command.Crowd arena slots workers)) code old new = CrowdRuns (record { arena = arena; slots = slots; workers = workers }) code old new
+RunEnds (Some (command.Exercise number count)) code old new = Exercises number count code old new

@@ -7,7 +7,6 @@ use Rattle.ldm_commands.specs.declared.unbuilt.Unbuilt.TheVariants as unbuilt
 -- the first word that asks for it
 abbrev pub unbuilt_text : Unbuilt → List ℕ
 unbuilt_text unbuilt.Chain = codes "chain"
-unbuilt_text unbuilt.Exercise = codes "exercise"
 unbuilt_text unbuilt.Node = codes "node"
 unbuilt_text unbuilt.Pqact = codes "pqact"
 unbuilt_text unbuilt.Pqinsert = codes "pqinsert"
@@ -15,7 +14,7 @@ unbuilt_text unbuilt.Pqcat = codes "pqcat"
 unbuilt_text unbuilt.Pqmon = codes "pqmon"
 
 abbrev pub all_unbuilt : List Unbuilt
-all_unbuilt = unbuilt.Chain ∷ unbuilt.Exercise ∷ unbuilt.Node ∷ unbuilt.Pqact ∷ unbuilt.Pqinsert ∷ unbuilt.Pqcat ∷ unbuilt.Pqmon ∷ []
+all_unbuilt = unbuilt.Chain ∷ unbuilt.Node ∷ unbuilt.Pqact ∷ unbuilt.Pqinsert ∷ unbuilt.Pqcat ∷ unbuilt.Pqmon ∷ []
 
 abbrev pub has_text : List ℕ → Unbuilt → Bool
 has_text text what = bytes_eq (unbuilt_text what) text

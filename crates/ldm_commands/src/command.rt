@@ -1,9 +1,10 @@
 //! The words of the program as a command.
-ghost use Rattle.std.specs.Prelude.{◌≡◌, map, option_map, string_bytes};
-ghost use Rattle.ldm_commands.specs.Command.{command_of, crowd_of, play_of};
+ghost use Rattle.std.specs.Prelude.{◌≡◌, map, option_map, string_bytes, IfSome};
+ghost use Rattle.ldm_commands.specs.Command.{command_of, crowd_of, exercise_of, play_of, IsWithin};
 ghost use Rattle.ldm_commands.specs.Unbuilt.{unbuilt_of_text};
 
 use crate::unbuilt::Unbuilt;
+use ldm_exercise::MOST_DRAWN;
 use ldm_script::read_number;
 
 /// What the words of the program ask for.
@@ -20,13 +21,19 @@ pub enum Command {
         slots: u32,
         workers: u32,
     },
+    /// `exercise NUMBER COUNT`: to play so many orders that are drawn from a number, and sum the answers up.
+    Exercise {
+        number: u64,
+        count: u32,
+    },
     /// Something that is not built yet, whatever stands behind its word.
     NotBuilt(Unbuilt),
 }
 
 /// Reads the words behind the program's name. `None` exactly where they are no form of a command.
 pub fn read_command(words: &[String]) -> Option<Command>
-    ensures { result ≡ command_of (map string_bytes words.now) }
+    ensures read { result ≡ command_of (map string_bytes words.now) }
+    ensures within { IfSome result IsWithin }
 {
     let [first, others @ ..] = words else {
         return None;
@@ -36,6 +43,8 @@ pub fn read_command(words: &[String]) -> Option<Command>
         read_play(others)
     } else if word == b"crowd".as_slice() {
         read_crowd(others)
+    } else if word == b"exercise".as_slice() {
+        read_exercise(others)
     } else {
         read_unbuilt(word)
     }
@@ -43,14 +52,16 @@ pub fn read_command(words: &[String]) -> Option<Command>
 
 // Reads the word of a command that is not built yet.
 fn read_unbuilt(word: &[u8]) -> Option<Command>
-    ensures { result ≡ option_map (λ what. Command.NotBuilt what) (unbuilt_of_text word.now) }
+    ensures read { result ≡ option_map (λ what. Command.NotBuilt what) (unbuilt_of_text word.now) }
+    ensures within { IfSome result IsWithin }
 {
     Some(Command::NotBuilt(Unbuilt::of_text(word)?))
 }
 
 // Reads the words behind `play`.
 fn read_play(words: &[String]) -> Option<Command>
-    ensures { result ≡ play_of (map string_bytes words.now) }
+    ensures read { result ≡ play_of (map string_bytes words.now) }
+    ensures within { IfSome result IsWithin }
 {
     let [arena, slots] = words else {
         return None;
@@ -65,7 +76,8 @@ fn read_play(words: &[String]) -> Option<Command>
 
 // Reads the words behind `crowd`.
 fn read_crowd(words: &[String]) -> Option<Command>
-    ensures { result ≡ crowd_of (map string_bytes words.now) }
+    ensures read { result ≡ crowd_of (map string_bytes words.now) }
+    ensures within { IfSome result IsWithin }
 {
     let [arena, slots, workers] = words else {
         return None;
@@ -77,5 +89,21 @@ fn read_crowd(words: &[String]) -> Option<Command>
         arena,
         slots: slots as u32,
         workers: workers as u32,
+    })
+}
+
+// Reads the words behind `exercise`.
+fn read_exercise(words: &[String]) -> Option<Command>
+    ensures read { result ≡ exercise_of (map string_bytes words.now) }
+    ensures within { IfSome result IsWithin }
+{
+    let [number, count] = words else {
+        return None;
+    };
+    let number = read_number(number.as_bytes(), u64::MAX)?;
+    let count = read_number(count.as_bytes(), u64::from(MOST_DRAWN))?;
+    Some(Command::Exercise {
+        number,
+        count: count as u32,
     })
 }

@@ -12,6 +12,7 @@ ghost use Rattle.ldm_commands.specs.Unbuilt.{unbuilt_text};
 use crate::command::{Command, read_command};
 use crate::unbuilt::Unbuilt;
 use ldm_crowd_command::crowd;
+use ldm_exercise::exercise;
 use ldm_outside::{Sink, Source};
 use ldm_play::play;
 use ldm_status::{Status, Word, World};
@@ -45,6 +46,7 @@ pub fn run_ldm<H: Threads + Wait + Sync, S: Source, K: Sink, E: Sink>(
                 workers,
             },
         ) => crowd(rt, alloc, arena, slots, workers, world),
+        Some(Command::Exercise { number, count }) => exercise(alloc, number, count, world),
         Some(Command::NotBuilt(what)) => report_unbuilt(what, &mut world.log),
         None => Status::Usage.report(&mut world.log),
     }

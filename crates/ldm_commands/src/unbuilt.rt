@@ -5,7 +5,6 @@ ghost use Rattle.std.specs.Prelude.{◌≡◌, ◌≤◌, length};
 #[derive(Clone, Copy, Debug, PartialEq, Eq)]
 pub enum Unbuilt {
     Chain,
-    Exercise,
     Node,
     Pqact,
     Pqinsert,
@@ -16,9 +15,8 @@ pub enum Unbuilt {
 impl Unbuilt {
     ghost use Rattle.ldm_commands.specs.Unbuilt.{unbuilt_text, unbuilt_of_text};
 
-    const ALL: [Unbuilt; 7] = [
+    const ALL: [Unbuilt; 6] = [
         Unbuilt::Chain,
-        Unbuilt::Exercise,
         Unbuilt::Node,
         Unbuilt::Pqact,
         Unbuilt::Pqinsert,
@@ -33,7 +31,6 @@ impl Unbuilt {
     {
         match self {
             Unbuilt::Chain => b"chain",
-            Unbuilt::Exercise => b"exercise",
             Unbuilt::Node => b"node",
             Unbuilt::Pqact => b"pqact",
             Unbuilt::Pqinsert => b"pqinsert",
