@@ -8,3 +8,4 @@ pub mod Words
 pub mod Choices
 pub mod Nearer
 pub mod ElseEntries
+pub mod DaysAsked

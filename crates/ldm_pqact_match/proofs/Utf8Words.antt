@@ -1,9 +1,10 @@
 -- Which word is the first that is no UTF-8.
-use Rattle.std.proofs.Common.{◌≡◌, ℕ, Bool, true, false, not, List, [], ◌∷◌, ◌++◌, length, Some, None, IsUtf8, refl, sym, ◌∙◌, arith, length-append, append-nil}
+use Rattle.std.proofs.Common.{◌≡◌, ℕ, Bool, true, false, not, List, [], ◌∷◌, ◌++◌, length, map, Some, None, IsUtf8, refl, sym, ap, ◌∙◌, arith, length-append, append-nil, append_assoc}
 use Rattle.std.specs.Prelude.{nat_lt, position, ◌&&◌}
 use Rattle.std.specs.List.{list_all, position_or_len}
 use Rattle.std.specs.Str.{is_utf8}
 use Rattle.std.proofs.lemmas.Bool.Decides.{nat_tests}
+use Rattle.std.proofs.lemmas.List.{map-append}
 use Rattle.std.proofs.lemmas.List.Folds.{list_all-append}
 use Rattle.std.proofs.lemmas.Str.{IsUtf8-from_is_utf8}
 
@@ -57,3 +58,11 @@ none_left (word ∷ words) e = absurd (omega arith)
 -- where no word is left, those that stand are all
 pub all_taken : (words rest all : List (List ℕ)) → words ++ rest ≡ all → length rest ≡ 0 → all ≡ words
 all_taken words rest all e none = sym e ∙ rw (none_left rest none) (append-nil words)
+
+-- one word more was taken, which is that text
+pub taken : {A : Type 0} (f : A → List ℕ) (words new : List A) (word : A) (text : List ℕ) (rest all : List (List ℕ)) → new ≡ words ++ word ∷ [] →
+    f word ≡ text → map f words ++ text ∷ rest ≡ all → list_all is_utf8 (map f words) ≡ true → is_utf8 text ≡ true →
+    (map f new ++ rest ≡ all) × (list_all is_utf8 (map f new) ≡ true)
+taken f words new word text rest all pushed same so_far good is =
+    let now : map f new ≡ map f words ++ text ∷ [] = ap (map f) pushed ∙ map-append f words (word ∷ []) ∙ rw same refl in
+    rw now (append_assoc (map f words) (text ∷ []) rest ∙ so_far, one_more (map f words) text good is)

@@ -61,3 +61,22 @@ pub word_split : (words : List (List ℕ)) (place : ℕ) (word : List ℕ) → p
 word_split words place word inside is =
     let next : suc place ≡ place + 1 = omega arith in
     drop-cons words place word inside ∙ rw (next, ← is) refl
+
+abbrev IsAsMany : ℕ → Result (List (List ℕ)) ℕ → Type 0
+IsAsMany count (Ok texts) = length texts ≡ count
+IsAsMany count (Err group) = Unit {0}
+
+one_in_front : (count : ℕ) (first : Result (List ℕ) ℕ) (later : Result (List (List ℕ)) ℕ) → IsAsMany count later →
+    IsAsMany (suc count) (in_front (λ text later. text ∷ later) first later)
+one_in_front count (Err group) later few = tt
+one_in_front count (Ok first) (Err group) few = tt
+one_in_front count (Ok first) (Ok later) few = ap suc few
+
+all_in_front : (meanings : Meanings) (words : List (List ℕ)) → IsAsMany (length words) (words_text meanings words)
+unfolding words_text
+all_in_front meanings [] = refl
+all_in_front meanings (word ∷ words) = one_in_front (length words) (word_text meanings word) (words_text meanings words) (all_in_front meanings words)
+
+-- words become as many words
+pub as_many : (meanings : Meanings) (words texts : List (List ℕ)) → words_text meanings words ≡ Ok texts → length texts ≡ length words
+as_many meanings words texts e = rw e at (all_in_front meanings words)

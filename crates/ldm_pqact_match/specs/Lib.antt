@@ -7,3 +7,4 @@ pub mod ActionView
 pub mod Views
 pub mod Reading
 pub mod Choosing
+pub mod Days

@@ -1,46 +1,28 @@
 //! Actions whose words are substituted.
-ghost use Rattle.std.specs.Prelude.{◌≡◌};
+ghost use Rattle.std.specs.Prelude.{◌≡◌, true, length, map, string_bytes};
+ghost use Rattle.ldm_pqact_conf.specs.Actions.{takes};
 
 use ldm_pqact_conf::{ActionKind, Options};
 use std::marker::Model;
 
-/// A word of an action, in which each form is substituted. Contracts see its bytes, which are UTF-8.
-#[derive(Drop)]
-pub struct ActionWord {
-    pub(crate) text: String,
-}
-
-impl Model for ActionWord {
-    ghost use Rattle.std.specs.Prelude.{ℕ, List, string_bytes};
-
-    ghost Value = { List ℕ };
-
-    ghost view = { λ word. string_bytes word.text };
-}
-
-impl ActionWord {
-    /// Its text.
-    pub fn as_str(&self) -> &str
-        ensures { result.now ≡ self.now }
-    {
-        self.text.as_str()
-    }
-}
-
-/// What is done with a product. Contracts see its kind, its options and its words, each word a list of bytes.
+/// What is done with a product. Contracts see its kind, its options and its words, each word a list of bytes. It has as many words
+/// as its kind takes.
 #[derive(Drop)]
 pub struct Action {
     pub(crate) kind: ActionKind,
     pub(crate) options: Options,
-    pub(crate) words: Vec<ActionWord>,
+    // In each word every form is substituted.
+    pub(crate) words: Vec<String>,
 }
 
 impl Model for Action {
-    ghost use Rattle.ldm_pqact_match.specs.ActionView.{ActionView, action_view};
+    ghost use Rattle.ldm_pqact_match.specs.ActionView.{ActionView, action_view, TakesItsWords};
 
     ghost Value = { ActionView };
 
     ghost view = { action_view };
+
+    ghost invariant = { TakesItsWords };
 }
 
 impl Action {
@@ -58,10 +40,19 @@ impl Action {
         self.options
     }
 
-    /// The path, or the program and its arguments.
-    pub fn words(&self) -> &[ActionWord]
-        ensures { result.now ≡ self.now.words }
+    /// The path, or the program and its arguments. There are as many words as its kind takes.
+    pub fn words(&self) -> &[String]
+        ensures words { map string_bytes result.now ≡ self.now.words }
+        ensures as_many { takes self.now.kind (length result.now) ≡ true }
     {
         self.words.as_slice()
+    }
+
+    /// The same words, for who keeps them.
+    pub fn into_words(self) -> Vec<String>
+        ensures words { map string_bytes result.items ≡ self.words }
+        ensures as_many { takes self.kind (length result.items) ≡ true }
+    {
+        self.words
     }
 }

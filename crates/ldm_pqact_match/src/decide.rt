@@ -1,5 +1,6 @@
 //! What an entry that acts does.
-ghost use Rattle.std.specs.Prelude.{◌≡◌, IfOk, Ok};
+ghost use Rattle.std.specs.Prelude.{◌≡◌, IfOk, Ok, length, true};
+ghost use Rattle.ldm_pqact_conf.specs.Actions.{takes};
 ghost use Rattle.ldm_pqact_match.specs.Choice.{decision_by};
 ghost use Rattle.ldm_pqact_match.specs.Substitution.{words_text};
 ghost use Rattle.ldm_pqact_match.specs.Views.{meanings_of};
@@ -26,8 +27,9 @@ pub fn decide(alloc: Global, entry: &Entry, sources: &Sources<'_>) -> Result<Dec
     }
 }
 
-// What an entry does whose words became these texts.
+// What an entry does whose words became these texts, as many as its action takes.
 fn with_texts(alloc: Global, entry: &Entry, texts: Vec<Text>) -> Result<Decision, OutOfMemory>
+    requires { takes entry.now.action (length texts.items) ≡ true }
     ensures { IfOk result (λ decision. decision ≡ decision_by entry.now (Ok texts.items)) }
 {
     let mut words = Vec::new(alloc);

@@ -7,12 +7,14 @@ mod chosen;
 mod day;
 mod decide;
 mod forms;
+mod law;
 mod matching;
 mod moment;
 mod sources;
 mod substitute;
 mod text;
 
-pub use action::{Action, ActionWord};
+pub use action::Action;
 pub use choice::choose;
 pub use chosen::{Chosen, Decision};
+pub use law::{no_date_is_no_day, worked_examples_of_days};

@@ -1,9 +1,8 @@
 //! What a word becomes.
-ghost use Rattle.std.specs.Prelude.{◌≡◌, ◌∷◌, ◌++◌, [], IfOk, decimal, MatchOption, IfSome, true, false};
+ghost use Rattle.std.specs.Prelude.{◌≡◌, ◌∷◌, ◌++◌, [], IfOk, decimal, MatchOption, IfSome, true, false, string_bytes};
 ghost use Rattle.std.specs.Str.{is_utf8};
 ghost use Rattle.ldm_pqact_match.specs.Substitution.{last_digits};
 
-use crate::action::ActionWord;
 use itoa::Buffer;
 use ldm_types::OutOfMemory;
 use std::alloc::Global;
@@ -64,12 +63,12 @@ impl Text {
     }
 
     /// The word of an action that it is, if it is UTF-8.
-    pub fn into_word(self) -> Option<ActionWord>
-        ensures value { MatchOption result (is_utf8 self ≡ false) (λ word. word ≡ self) }
+    pub fn into_word(self) -> Option<String>
+        ensures value { MatchOption result (is_utf8 self ≡ false) (λ word. string_bytes word ≡ self) }
         ensures text { IfSome result (λ _. is_utf8 self ≡ true) }
     {
         match String::from_utf8(self.bytes) {
-            Ok(text) => Some(ActionWord { text }),
+            Ok(text) => Some(text),
             Err(_) => None,
         }
     }
