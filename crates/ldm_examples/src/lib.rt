@@ -11,6 +11,7 @@ pub mod conf;
 pub mod crowd;
 pub mod crowd_command;
 pub mod cursor;
+pub mod exercise;
 pub mod feedtype;
 pub mod freelist;
 pub mod outside;
