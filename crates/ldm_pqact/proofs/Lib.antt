@@ -1,0 +1,9 @@
+pub mod Carrying
+pub mod Using
+pub mod Acts
+pub mod Giving
+pub mod Reading
+pub mod Finishing
+pub mod Handled
+pub mod Coursing
+pub mod NoteLines

@@ -1,0 +1,10 @@
+use Rattle.ldm_actions.specs.Outputs.{standing}
+use Rattle.ldm_pqact.specs.Acting.{sight_of}
+use Rattle.ldm_pqact.proofs.Coursing.{KeepsCourse}
+use Rattle.ldm_pqact.proofs.pending.turns.Given as goal
+
+abbrev pub invariant-loop : goal.invariant-loop
+invariant-loop g l =
+    KeepsCourse l.entries l.reader.k
+    (sight_of l.initial.pass (standing l.initial.outputs (g.F.Store.tells l.initial.store) (g.L.Launcher.tells l.initial.launcher)) (g.E.Sink.tells l.initial.log))
+    (sight_of l.pass (standing l.outputs (g.F.Store.tells l.store) (g.L.Launcher.tells l.launcher)) (g.E.Sink.tells l.log))

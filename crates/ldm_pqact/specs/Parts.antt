@@ -1,0 +1,17 @@
+-- What contracts see of a `Pqact`.
+use Rattle.std.specs.Prelude.{◌≡◌, List, length}
+use Rattle.ldm_pqact_conf.specs.Entries.{EntryView}
+use Rattle.ldm_actions.specs.Outputs.{OutputsView}
+use Rattle.ldm_pqact.specs.declared.pqact.Pqact.TheInside.{Inside}
+use Rattle.ldm_pqact.specs.declared.limits.TheConstants.{LARGEST_PIECE}
+
+pub record PqactView : Type 0 where
+  pub entries : List EntryView
+  pub outputs : OutputsView
+
+abbrev pub pqact_view : Inside → PqactView
+pqact_view it = record { entries = it.entries; outputs = it.outputs }
+
+-- a piece of a body finds room
+abbrev pub HasRoom : Inside → Type 0
+HasRoom it = length it.buffer.items ≡ LARGEST_PIECE

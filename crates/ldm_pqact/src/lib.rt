@@ -1,0 +1,21 @@
+//! Acting on products: what the entries of a pqact.conf choose for each product of a queue is done.
+//!
+//! [`Pqact`] keeps the entries and the outputs. [`Pqact::pending`] acts on every product of a cursor up to the end of the queue. What
+//! that comes to, at each of its ends, is `ActsOn` in `specs/Acting.antt`.
+#![tactic(auto)]
+
+mod body;
+mod carry;
+mod effect;
+mod end;
+mod handle;
+mod limits;
+mod notes;
+mod pending;
+mod pqact;
+mod turn;
+
+pub use effect::output_of;
+pub use end::ActEnd;
+pub use limits::LARGEST_PIECE;
+pub use pqact::Pqact;

@@ -1,0 +1,112 @@
+//! Entries of a pqact.conf, and the outputs that they write to.
+ghost use Rattle.std.specs.Prelude.{◌≡◌, IfOk, None};
+ghost use Rattle.ldm_shared.specs.Passes.{IsPassOf, IsSamePass};
+ghost use Rattle.ldm_reader.specs.Reader.{HasCursor};
+ghost use Rattle.ldm_actions.specs.Outputs.{Closes, KeepsOfAny, KeepsUnlessSpent, no_outputs, standing};
+ghost use Rattle.ldm_pqact.specs.Acting.{ActsOn, sight_of};
+
+use crate::end::ActEnd;
+use crate::limits::LARGEST_PIECE;
+use crate::pending::turns;
+use ldm_actions::{Done, Outputs};
+use ldm_outside::{Launcher, Sink, Store};
+use ldm_pqact_conf::Entries;
+use ldm_reader::Reader;
+use ldm_shared::{Pass, Shared};
+use ldm_types::OutOfMemory;
+use std::alloc::Global;
+use std::marker::Model;
+use std::sync::Wait;
+
+/// Acts on products by the entries of a pqact.conf. Its outputs stay open and running from one call to the next.
+///
+/// Each call has to be lent the store and the launcher that all calls before were lent, and nobody else may shut what is kept there.
+/// After a fault of the store or the launcher the outputs are spent: they touch nothing more, and the first action that comes to them
+/// answers that fault again.
+#[derive(Drop)]
+pub struct Pqact {
+    alloc: Global,
+    pub(crate) entries: Entries,
+    pub(crate) outputs: Outputs,
+    // A piece of a body, as it is read.
+    pub(crate) buffer: Vec<u8>,
+}
+
+impl Model for Pqact {
+    ghost use Rattle.ldm_pqact.specs.Parts.{HasRoom, PqactView, pqact_view};
+
+    ghost Value = { PqactView };
+
+    ghost view = { pqact_view };
+
+    ghost invariant = { HasRoom };
+}
+
+impl Pqact {
+    /// Acts by these entries. Nothing is open or running yet.
+    pub fn create(alloc: Global, entries: Entries) -> Result<Pqact, OutOfMemory>
+        ensures entries { IfOk result (λ made. made.entries ≡ entries) }
+        ensures outputs { IfOk result (λ made. made.outputs ≡ no_outputs) }
+        ensures keeps { IfOk result (λ made. KeepsOfAny made.outputs) }
+    {
+        let mut buffer = Vec::new(alloc);
+        buffer.resize(LARGEST_PIECE, 0)?;
+        Ok(Pqact {
+            alloc,
+            entries,
+            outputs: Outputs::create(alloc)?,
+            buffer,
+        })
+    }
+
+    /// Acts on every product of the cursor up to the end of the queue, and then answers [`ActEnd::Stopped`]. The cursor holds nothing.
+    ///
+    /// An entry that acts and does nothing is a line of the log: `nodate IDENT GROUP` where it asks for the date of a group that is no
+    /// day, `nottext IDENT WORD` where a word is no UTF-8. A loss is the line `gap pqact COUNT FIRST LAST`.
+    pub fn pending<H: Wait, F: Store, L: Launcher, E: Sink>(
+        &mut self,
+        shared: &Shared,
+        rt: &H,
+        pass: &mut Pass,
+        reader: &Reader,
+        store: &mut F,
+        launcher: &mut L,
+        log: &mut E,
+    ) -> ActEnd
+        requires of { IsPassOf shared.now pass.old }
+        requires cursor { HasCursor pass.old reader.now.k None }
+        requires keeps { KeepsUnlessSpent (standing self.old.outputs (F.tells store.old) (L.tells launcher.old)) }
+        ensures kept { IsSamePass pass.old pass.new }
+        ensures entries { self.new.entries ≡ self.old.entries }
+        ensures keeps { KeepsUnlessSpent (standing self.new.outputs (F.tells store.new) (L.tells launcher.new)) }
+        ensures acts { ActsOn result self.old.entries reader.now.k
+            (sight_of pass.old (standing self.old.outputs (F.tells store.old) (L.tells launcher.old)) (E.tells log.old))
+            (sight_of pass.new (standing self.new.outputs (F.tells store.new) (L.tells launcher.new)) (E.tells log.new)) }
+    {
+        turns(
+            self.alloc,
+            shared,
+            rt,
+            pass,
+            reader,
+            &self.entries,
+            self.buffer.as_mut_slice(),
+            &mut self.outputs,
+            store,
+            launcher,
+            log,
+        )
+    }
+
+    /// Shuts all files, and then shuts the input of each program and waits for it: the longest unused first.
+    pub fn close<F: Store, L: Launcher>(&mut self, store: &mut F, launcher: &mut L) -> Done
+        requires { KeepsUnlessSpent (standing self.old.outputs (F.tells store.old) (L.tells launcher.old)) }
+        ensures entries { self.new.entries ≡ self.old.entries }
+        ensures closed { Closes result
+            (standing self.old.outputs (F.tells store.old) (L.tells launcher.old))
+            (standing self.new.outputs (F.tells store.new) (L.tells launcher.new)) }
+        ensures keeps { KeepsUnlessSpent (standing self.new.outputs (F.tells store.new) (L.tells launcher.new)) }
+    {
+        self.outputs.close_all(store, launcher)
+    }
+}
