@@ -35,7 +35,7 @@ use Rattle.ldm_passing.proofs.Pieces.{StreamLaws}
 use Rattle.ldm_passing.proofs.Sizes.{IsShortMessage, short-reply, short-messages}
 use Rattle.ldm_passing.proofs.Arriving.{arrives}
 
-small-request : (again : Bool) → number_of_request again < 2 ^ 32
+pub small-request : (again : Bool) → number_of_request again < 2 ^ 32
 small-request true = omega arith
 small-request false = omega arith
 

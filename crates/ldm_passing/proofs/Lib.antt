@@ -10,6 +10,8 @@ pub mod Pieces
 pub mod Sizes
 pub mod Arriving
 pub mod Joining
+pub mod Calling
+pub mod Saying
 pub mod Moments
 pub mod Queueing
 pub mod Setting

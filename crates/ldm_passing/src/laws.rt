@@ -6,21 +6,24 @@ ghost use Rattle.ldm_types.specs.Info.{IsMetadata};
 ghost use Rattle.ldm_model.specs.Product.{extent_of};
 ghost use Rattle.ldm_model.specs.State.{State};
 ghost use Rattle.ldm_model.specs.History.{after_entries, IsLegalFrom};
-ghost use Rattle.ldm_session.specs.Owed.{Code};
+ghost use Rattle.ldm_rpc.specs.Streams.{Placed};
+ghost use Rattle.ldm_session.specs.Owed.{Code, Said};
 ghost use Rattle.ldm_sender.specs.Asked.{Asked};
 ghost use Rattle.ldm_upstream.specs.Turn.{Given};
 ghost use Rattle.ldm_upstream.specs.Feeding.{Feeding, IsFeeding, bytes_of, codes_of};
 ghost use Rattle.ldm_intake.specs.Answered.{number_of_request};
 ghost use Rattle.ldm_intake.specs.Asking.{asked_class};
+ghost use Rattle.ldm_intake.specs.Course.{Leads};
 ghost use Rattle.ldm_intake.specs.Opening.{requesting};
+ghost use Rattle.ldm_intake.specs.Room.{records_of};
 ghost use Rattle.ldm_intake.specs.declared.end.RecvEnd.TheVariants.{Ended};
 ghost use Rattle.ldm_downstream.specs.Pieces.{hand, joined};
-ghost use Rattle.ldm_downstream.specs.Received.{at_stream_end};
-ghost use Rattle.ldm_passing.specs.Codes.{Agree};
+ghost use Rattle.ldm_downstream.specs.Received.{at_stream_end, received};
+ghost use Rattle.ldm_passing.specs.Codes.{Agree, soon_codes};
 ghost use Rattle.ldm_passing.specs.Handed.{handed};
 ghost use Rattle.ldm_passing.specs.Hearing.{heard_so_far};
 ghost use Rattle.ldm_passing.specs.Narrowing.{IsNarrowing, Narrows};
-ghost use Rattle.ldm_passing.specs.Passing.{CameAt, CarriesAll, HasAsked, IsAnswered, IsGranted, IsPassing, IsSound, Passing, PassesFirst, PassesWhole, record_at};
+ghost use Rattle.ldm_passing.specs.Passing.{CameAt, Carries, CarriesAll, HasAsked, IsAnswered, IsGranted, IsPassing, IsSound, Passing, PassesFirst, PassesWhole, record_at};
 ghost use Rattle.ldm_passing.specs.Queue.{passed_all, products_of};
 ghost use Rattle.ldm_passing.specs.Takings.{IsAt};
 
@@ -102,6 +105,16 @@ pub fn the_setting_is_met()
     // A product that an arena can have is sound.
     ensures sound { (given : Given) → IsMetadata given.product.info → length given.product.body ≡ given.product.info.size →
         extent_of given.product.info ≤ LARGEST_ARENA → IsSound given }
+    // A feeder that read replies in the first bytes of those that the receiver replied heard what agrees with all of them.
+    ensures read { (p : Passing) (given more : List ℕ) (behind : List Placed) → IsGranted p.asked p.feeding → HasAsked p.asked p.begins →
+        Carries p → Leads p.actor (received p.begins (record_at p.at) p.pieces) p.made p.came_to →
+        Said given (codes_of p.feeding) behind → given ++ more ≡ records_of p.came_to.replies →
+        Agree (codes_of p.feeding) (soon_codes p.came_to.replies) }
     // A feeder that heard the first replies heard what agrees with all of them.
     ensures heard { (codes behind replies : List Code) → codes ++ behind ≡ replies → Agree codes replies }
-{}
+{
+    what_is_written_is_read();
+    records_are_read();
+    pieces_join();
+    pushes_read_the_stream();
+}
