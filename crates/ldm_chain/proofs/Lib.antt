@@ -3,3 +3,11 @@ pub mod Reframing
 pub mod Pushed
 pub mod Mirroring
 pub mod NodeLinks
+pub mod UsedLaws
+pub mod Moment
+pub mod Products
+pub mod Took
+pub mod FedWhole
+pub mod Narrower
+pub mod Linked
+pub mod NodeQueues

@@ -39,7 +39,7 @@ bytes_given-sent : (bytes : List ℕ) (passed : List Passed) → bytes_given (th
 bytes_given-sent bytes passed =
     bytes_passed-append way.Given passed (passed_all way.Sent bytes) ∙ ap (λ (x : List ℕ). bytes_given passed ++ x) (none_given bytes) ∙ append-nil (bytes_given passed)
 
-bytes_sent-given : (bytes : List ℕ) (passed : List Passed) → bytes_sent (then_all way.Given bytes passed) ≡ bytes_sent passed
+pub bytes_sent-given : (bytes : List ℕ) (passed : List Passed) → bytes_sent (then_all way.Given bytes passed) ≡ bytes_sent passed
 bytes_sent-given bytes passed =
     bytes_passed-append way.Sent passed (passed_all way.Given bytes) ∙ ap (λ (x : List ℕ). bytes_sent passed ++ x) (none_sent bytes) ∙ append-nil (bytes_sent passed)
 

@@ -6,3 +6,4 @@ pub mod Ending
 pub mod Outside
 pub mod Linking
 pub mod Nodes
+pub mod Queues

@@ -1,9 +1,12 @@
 -- How a node of a chain is fed from the one before it.
-use Rattle.std.specs.Prelude.{◌≡◌, ◌⊎◌, ℕ, ◌+◌, false, List, [], ◌∷◌, ◌++◌, codes, None}
+use Rattle.std.specs.Prelude.{◌≡◌, ◌⊎◌, ◌≤◌, ℕ, ◌+◌, false, List, [], ◌∷◌, ◌++◌, codes, None}
 use Rattle.ldm_types.specs.declared.class.ClassSpec.{ClassSpec}
+use Rattle.ldm_types.specs.declared.limits.TheConstants.{LARGEST_ARENA}
 use Rattle.ldm_class.specs.Access.{reduce}
+use Rattle.ldm_class.specs.Classes.{bad_place}
 use Rattle.ldm_class.specs.Rules.{Rules, rules_for}
 use Rattle.ldm_class.specs.declared.answers.Reduced.TheVariants as reduced
+use Rattle.ldm_relay.specs.Fits.{ClassFits}
 use Rattle.ldm_shared.specs.Passes.{PassView}
 use Rattle.ldm_intake.specs.Opening.{requesting, request_of}
 use Rattle.ldm_intake.specs.Receiving.{Receiving}
@@ -36,19 +39,23 @@ pub record Fed (why : SendEnd) (asked : Asked) (old new : PassView) (before afte
 pub record FedRest (asked : Asked) (old new : PassView) (before after : MirrorView) : Type 0 where
   pub fewer : ClassSpec
   pub left : reduce asked.rules asked.host asked.class ≡ reduced.Fewer fewer
+  -- it can be written, and each of its patterns means something
+  pub fits : ClassFits fewer
+  pub meant : bad_place fewer.specs.items ≡ None
   pub fed : Fed Stopped (record asked { xid = 2; class = fewer }) old new (all_read before) after
 
 -- A part of the class is left to the host. It is told so, asks for that part, and is fed it.
-pub record FedFewer (asked : Asked) (old new : PassView) (before after : MirrorView) : Type 0 where
+pub record FedFewer (b : Beginning) (asked : Asked) (old new : PassView) (before after : MirrorView) : Type 0 where
   pub mid : PassView
   pub told : MirrorView
   pub first : Fed Reclassed asked old mid before told
   pub goes_on : told.receiver.end ≡ None
+  pub so_far : Reflects b told
   pub rest : FedRest asked mid new told after
 
 -- all was fed: the class, or what is left of it
-abbrev pub FedAll : Asked → (old new : PassView) → (before after : MirrorView) → Type 0
-FedAll asked old new before after = Fed Stopped asked old new before after ⊎ FedFewer asked old new before after
+abbrev pub FedAll : Beginning → Asked → (old new : PassView) → (before after : MirrorView) → Type 0
+FedAll b asked old new before after = Fed Stopped asked old new before after ⊎ FedFewer b asked old new before after
 
 -- a receiving that requests a class from its beginning on
 abbrev pub asking : ClassSpec → ℕ → Receiving
@@ -72,8 +79,10 @@ pub record Links (asked : Asked) (now : ℕ) (old new before after : PassView) :
   pub b : Beginning
   pub first : b.first ≡ at_first (asking asked.class asked.max_hereis) before
   pub moment : b.now ≡ now
+  -- its products are no larger than an arena
+  pub small : old.arena ≤ LARGEST_ARENA
   pub end : MirrorView
-  pub fed : FedAll asked old new (request_read (asking asked.class asked.max_hereis) before) end
+  pub fed : FedAll b asked old new (request_read (asking asked.class asked.max_hereis) before) end
   pub reflects : Reflects b end
   pub goes_on : end.receiver.end ≡ None
   pub pass_is : end.pass ≡ after

@@ -3,8 +3,10 @@ ghost use Rattle.std.specs.Prelude.{◌≡◌, ◌≤◌, ◌<◌, ◌+◌, ℕ,
 ghost use Rattle.ldm_session.specs.Exchange.{AnsweredAll};
 ghost use Rattle.ldm_chain.specs.Linking.{host_name};
 ghost use Rattle.ldm_chain.specs.Nodes.{AreNodes, IsNode, KeepsNode, KeepsNodes, LinksAll, LinksEach};
+ghost use Rattle.ldm_chain.specs.Queues.{IsChain, QueuesAll};
 
 use crate::feeding::feed_next;
+use crate::laws::a_link_passes_on;
 use crate::node::{ChainEnd, ChainNode, end_by};
 use ldm_class::Policy;
 use ldm_outside::Clock;
@@ -60,11 +62,15 @@ pub fn chain<H: Wait, C: Clock>(
     policy: &Policy,
 ) -> ChainEnd
     requires nodes { AreNodes nodes.old }
+    requires chain { IsChain nodes.old }
     requires few { length nodes.old ≤ 8 }
     ensures kept { KeepsNodes nodes.old nodes.new }
     ensures done { result ≡ ChainEnd.Done → (instants : List ℕ) × AnsweredAll instants (C.tells clock.old) (C.tells clock.new)
         × LinksAll 1 policy.now nodes.old nodes.new instants }
+    ensures queues { result ≡ ChainEnd.Done → (instants : List ℕ) × AnsweredAll instants (C.tells clock.old) (C.tells clock.new)
+        × QueuesAll 1 policy.now nodes.old nodes.new instants }
 {
+    a_link_passes_on();
     let Some((first, others)) = nodes.split_first_mut() else {
         return ChainEnd::Done;
     };

@@ -2,6 +2,7 @@
 ghost use Rattle.std.specs.Prelude.{◌≡◌, ◌≤◌, length, None, IfOk, IfNone, OnErr, false};
 ghost use Rattle.ldm_types.specs.declared.class.ClassSpec.{ClassSpec};
 ghost use Rattle.ldm_class.specs.Access.{reduce};
+ghost use Rattle.ldm_class.specs.Classes.{bad_place};
 ghost use Rattle.ldm_class.specs.Rules.{rules_for};
 ghost use Rattle.ldm_class.specs.declared.answers.Reduced.TheVariants as reduced;
 ghost use Rattle.ldm_session.specs.declared.gaps.TheConstants.{LONGEST_NAME};
@@ -17,6 +18,7 @@ ghost use Rattle.ldm_chain.specs.Nodes.{IsNode, KeepsNode};
 use crate::mirror::{Begun, Lent, Mirror, Returned};
 use crate::node::{Break, ChainNode};
 use crate::outside::{StillClock, StopGate};
+use crate::writable::class_fits;
 use ldm_class::{Class, ClassFault, Policy, Reduced};
 use ldm_downstream::Receiver;
 use ldm_intake::RecvEnd;
@@ -91,7 +93,7 @@ fn fewer_of(
 
 // Builds the class that the receiver took over. It built the same one, so a pattern that means nothing has ended it before.
 fn build_fewer(alloc: Global, fewer: &ClassSpec) -> Result<Class, Break>
-    ensures { IfOk result (λ class. class ≡ fewer.now) }
+    ensures { IfOk result (λ class. (class ≡ fewer.now) × (bad_place fewer.now.specs.items ≡ None)) }
 {
     match Class::build(alloc, fewer) {
         Ok(class) => Ok(class),
@@ -128,6 +130,7 @@ fn feed_fewer<H: Wait, B: Begun>(
         Ok(built) => built,
         Err(end) => return Some(end),
     };
+    class_fits(&fewer);
     mirror.take_request();
     let end = feed_over(
         rt, alloc, shared, pass, mirror, policy, host, 2, &built, max_hereis, now,
@@ -152,7 +155,7 @@ fn feed_class<H: Wait, B: Begun>(
     requires name { length host.now ≤ LONGEST_NAME }
     requires open { mirror.old.closed ≡ false }
     ensures kept { IsSamePass pass.old pass.new }
-    ensures fed { IfNone result (FedAll (asked_by host.now policy.now 1 class.now max_hereis) pass.old pass.new mirror.old mirror.new) }
+    ensures fed { IfNone result (FedAll B.begun (asked_by host.now policy.now 1 class.now max_hereis) pass.old pass.new mirror.old mirror.new) }
 {
     let end = feed_over(
         rt, alloc, shared, pass, mirror, policy, host, 1, class, max_hereis, now,
@@ -209,6 +212,8 @@ fn reflect<'a, 'p, H: Wait, B: Begun>(
     ensures next { IsSamePass lent.entry.pass.now result.pass.now }
     ensures links { IfNone end.new (Links (asked_by host.now policy.now 1 class.now max_hereis) now pass.old pass.new lent.entry.pass.now result.pass.now) }
 {
+    // The bound of the arena is known then.
+    let _arena = shared.arena();
     let mut mirror = Mirror::<'a, 'p, H, B>::over(rt, alloc, next, lent, receiver, request, now);
     mirror.take_request();
     let fed = feed_class(

@@ -6,11 +6,14 @@
 
 mod chaining;
 mod feeding;
+mod laws;
 mod mirror;
 mod node;
 mod outside;
 mod told;
+mod writable;
 
 pub use chaining::chain;
+pub use laws::a_link_passes_on;
 pub use mirror::{Begun, Lent, Mirror, Returned};
 pub use node::{ChainEnd, ChainNode};

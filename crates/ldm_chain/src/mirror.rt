@@ -135,9 +135,10 @@ impl<'a, 'p, H, B: Begun> Mirror<'a, 'p, H, B> {
         self.read = 0;
     }
 
-    /// Whether the receiver is over.
+    /// Whether the receiver is over. What it took and replied so far is what passed.
     pub fn is_over(&self) -> bool
-        ensures { result ≡ is_some self.entry.now.receiver.end }
+        ensures over { result ≡ is_some self.entry.now.receiver.end }
+        ensures reflects { Reflects B.begun self.entry.now }
     {
         self.over.is_some()
     }

@@ -8,4 +8,4 @@ mod Beginning
 mod Whole
 mod Offering
 mod Feeding
-mod OnePass
+pub mod OnePass

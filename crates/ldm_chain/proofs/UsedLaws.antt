@@ -1,0 +1,56 @@
+-- The laws that lead from the calls of a link to the states of its queues.
+use Rattle.std.proofs.Common.{◌≡◌, ℕ, ◌≤◌, List, ◌++◌, length, Some, None}
+use Rattle.std.specs.Prelude.{true, slice_get}
+use Rattle.ldm_types.specs.declared.class.ClassSpec.{ClassSpec}
+use Rattle.ldm_types.specs.declared.limits.TheConstants.{LARGEST_ARENA}
+use Rattle.ldm_types.specs.Info.{IsMetadata}
+use Rattle.ldm_model.specs.declared.event.Entry.{Entry}
+use Rattle.ldm_model.specs.Product.{Product, extent_of}
+use Rattle.ldm_model.specs.State.{Row, State}
+use Rattle.ldm_model.specs.History.{after, after_entries, IsAdmitted, IsLegal, IsLegalFrom}
+use Rattle.ldm_class.specs.Classes.{resumed}
+use Rattle.ldm_rpc.specs.Streams.{Placed}
+use Rattle.ldm_outside.specs.Session.{SessionRecord}
+use Rattle.ldm_shared.specs.Passes.{PassView, Makes}
+use Rattle.ldm_session.specs.Owed.{Said}
+use Rattle.ldm_intake.specs.Course.{Leads}
+use Rattle.ldm_intake.specs.Room.{records_of}
+use Rattle.ldm_reader.specs.Staying.{HasRow}
+use Rattle.ldm_sender.specs.declared.end.SendEnd.{SendEnd}
+use Rattle.ldm_sender.specs.declared.end.SendEnd.TheVariants as end
+use Rattle.ldm_sender.specs.Acts.{is_whole}
+use Rattle.ldm_sender.specs.Asked.{Asked}
+use Rattle.ldm_upstream.specs.Turn.{Given}
+use Rattle.ldm_upstream.specs.Feeding.{codes_of}
+use Rattle.ldm_upstream.specs.Feeds.{Feeds}
+use Rattle.ldm_downstream.specs.Received.{received}
+use Rattle.ldm_passing.specs.Codes.{Agree, soon_codes}
+use Rattle.ldm_passing.specs.Handed.{handed}
+use Rattle.ldm_passing.specs.Narrowing.{IsNarrowing, Narrows}
+use Rattle.ldm_passing.specs.Passing.{CameAt, Carries, CarriesAll, HasAsked, IsAnswered, IsGranted, IsPassing, IsSound, Passing, record_at}
+use Rattle.ldm_passing.specs.Queue.{passed_all, products_of}
+use Rattle.ldm_sole_reader.specs.Alone.{due_rows, offered_of}
+use Rattle.ldm_sole_reader.specs.OnePass.{IsOnlyPass, state_of}
+
+pub record Laws : Type 0 where
+  -- of products that pass
+  pub read : (p : Passing) (given more : List ℕ) (behind : List Placed) → IsGranted p.asked p.feeding → HasAsked p.asked p.begins → Carries p
+      → Leads p.actor (received p.begins (record_at p.at) p.pieces) p.made p.came_to → Said given (codes_of p.feeding) behind → given ++ more ≡ records_of p.came_to.replies
+      → Agree (codes_of p.feeding) (soon_codes p.came_to.replies)
+  pub sound : (given : Given) → IsMetadata given.product.info → length given.product.body ≡ given.product.info.size → extent_of given.product.info ≤ LARGEST_ARENA → IsSound given
+  pub passed : (p : Passing) (now : ℕ) (queue : State) → IsPassing p → CarriesAll p → IsAnswered p.feeding.last → CameAt now p.pieces → IsLegalFrom queue p.made
+      → after_entries queue p.made ≡ passed_all p.actor p.asked.max_hereis now (products_of (handed p.feeding)) queue
+  pub narrows : (p : Passing) (class : ClassSpec) → IsNarrowing p class → Narrows p class
+  -- of a feeding by the only pass of a queue
+  pub offered : (asked : Asked) (old new : PassView) (before after : SessionRecord) → (feeds : Feeds end.Stopped asked old new before after) → IsOnlyPass old
+      → asked.class.from ≡ 0 → resumed asked.class.specs.items ≡ None → offered_of feeds.feeding ≡ due_rows asked (state_of old)
+  pub unchanged : (why : SendEnd) (asked : Asked) (old new : PassView) (before after : SessionRecord) → Feeds why asked old new before after → IsOnlyPass old
+      → is_whole why ≡ true → state_of new ≡ state_of old
+  pub goes_on : (old new : PassView) (made : List Entry) → Makes old new made → old.passes ≡ 1 → old.actor ≡ 0 → new.seen ≡ old.seen ++ made
+  -- of the products of a queue
+  pub admitted : (arena slots : ℕ) (history : List Entry) → IsLegal arena slots history → (n : ℕ) (row : Row) → slice_get (after arena slots history).rows n ≡ Some row
+      → IsAdmitted history n row.product row.time
+  pub sized : (arena slots : ℕ) (history : List Entry) → IsLegal arena slots history → (n : ℕ) (product : Product) (time : ℕ)
+      → HasRow n product time (after arena slots history) → length product.body ≡ product.info.size
+  pub fits : (arena slots : ℕ) (history : List Entry) → IsLegal arena slots history → (n : ℕ) (product : Product) (time : ℕ)
+      → HasRow n product time (after arena slots history) → extent_of product.info ≤ arena

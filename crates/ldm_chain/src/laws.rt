@@ -1,0 +1,35 @@
+//! What a link of a chain leaves. The function does nothing: its contract is the law.
+ghost use Rattle.std.specs.Prelude.{◌≡◌, ℕ};
+ghost use Rattle.ldm_shared.specs.Passes.{PassView};
+ghost use Rattle.ldm_sender.specs.Asked.{Asked};
+ghost use Rattle.ldm_sole_reader.specs.OnePass.{IsOnlyPass, state_of};
+ghost use Rattle.ldm_chain.specs.Linking.{Links};
+ghost use Rattle.ldm_chain.specs.Queues.{IsForAllTimes, fed_from};
+
+use ldm_model::products_were_admitted;
+use ldm_passing::{a_narrower_class_is_asked_for, a_queue_is_passed_on, the_setting_is_met};
+use ldm_reader::products_stay;
+use ldm_shared::one_pass;
+use ldm_sole_reader::one_pass_is_fed_all;
+
+/// What a node leaves that was fed from the one before it, whole, where each of the two queues has one pass.
+pub fn a_link_passes_on()
+    // Its queue is what the products of the node before make of it that are due under the class as the rules leave it.
+    ensures queue { (asked : Asked) (now : ℕ) (old new before after : PassView) → Links asked now old new before after → asked.xid ≡ 1 →
+        IsOnlyPass old → IsOnlyPass before → IsForAllTimes asked.class →
+        state_of after ≡ fed_from (state_of old) asked now (state_of before) }
+    // The queue of the node before is as it was.
+    ensures unchanged { (asked : Asked) (now : ℕ) (old new before after : PassView) → Links asked now old new before after → asked.xid ≡ 1 →
+        IsOnlyPass old → IsOnlyPass before → IsForAllTimes asked.class → state_of new ≡ state_of old }
+    // Its pass is still the only one of its queue.
+    ensures only { (asked : Asked) (now : ℕ) (old new before after : PassView) → Links asked now old new before after → asked.xid ≡ 1 →
+        IsOnlyPass old → IsOnlyPass before → IsForAllTimes asked.class → IsOnlyPass after }
+{
+    the_setting_is_met();
+    a_queue_is_passed_on();
+    a_narrower_class_is_asked_for();
+    one_pass_is_fed_all();
+    one_pass();
+    products_were_admitted();
+    products_stay();
+}
