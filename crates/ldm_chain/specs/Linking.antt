@@ -33,7 +33,7 @@ asked_by host rules xid class max_hereis = record { host = host; rules = rules_f
 -- A feeding over a mirror ended so.
 pub record Fed (why : SendEnd) (asked : Asked) (old new : PassView) (before after : MirrorView) : Type 0 where
   pub stops : ℕ
-  pub feeds : Feeds why asked old new (outside before 0) (outside after stops)
+  pub feeds : Feeds why asked [] old new (outside before 0) (outside after stops)
 
 -- What is left of the class is asked for by a second request, and is fed.
 pub record FedRest (asked : Asked) (old new : PassView) (before after : MirrorView) : Type 0 where

@@ -32,10 +32,11 @@ AreReplies-push (first ∷ codes) (record_first ∷ records) code placed each is
 
 -- ---- before a look
 
--- Nothing came.
-pub hears_nothing : (replies : Replies) → replies.records ≡ (hand_given []).reading → replies.begins ≡ 0 → replies.came ≡ 0 → replies.waiting ≡ [] → Heard [] [] replies
+-- Nothing was looked at.
+pub hears_nothing : (ahead : List ℕ) (replies : Replies) → replies.records ≡ (hand_given []).reading → replies.begins ≡ 0 → replies.came ≡ 0 → replies.waiting ≡ ahead
+    → Heard ahead [] replies
 unfolding records_in in_hand
-hears_nothing replies reading begins came waiting = record {
+hears_nothing ahead replies reading begins came waiting = record {
   seen = [];
   all = sym waiting;
   each = tt;

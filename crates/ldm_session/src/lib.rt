@@ -6,10 +6,12 @@
 mod gaps;
 mod gathering;
 mod idle;
+mod limits;
 mod replies;
 mod waiting;
 
 pub use gaps::{LONGEST_NAME, write_gap};
 pub use gathering::{GATHERED, room_to_gather, send_gathered, send_where_full};
 pub use idle::{LONGEST_SILENCE, is_silent_since};
+pub use limits::LONGEST_STREAM;
 pub use replies::{NoReply, Replies};

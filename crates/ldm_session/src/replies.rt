@@ -32,7 +32,8 @@ pub enum NoReply {
 
 /// A reader of the replies to announcements (COMINGSOON), which are heard one at a time.
 ///
-/// It takes all its memory at once, but for the content of the record in hand, which has at most [`LARGEST_REPLY`] bytes.
+/// It takes all its memory at once, but for the content of the record in hand, which has at most [`LARGEST_REPLY`] bytes: 4,096 bytes,
+/// or as many as the link gave ahead.
 /// After a [`NoReply`] it is of no more use.
 #[derive(Drop)]
 pub struct Replies {
@@ -48,15 +49,15 @@ impl Replies {
     ghost use Rattle.ldm_session.specs.Looking.{IsOwn, Pushes, Reads, Receives};
     ghost use Rattle.ldm_session.specs.Owed.{Code};
 
-    /// A reader of a link that gave nothing yet, with its memory.
-    pub fn create(alloc: Global) -> Result<Replies, OutOfMemory>
-        ensures heard { IfOk result (λ replies. Heard [] [] replies) }
+    /// A reader of a link that gave these bytes, and nothing else yet. It begins before the first of them.
+    pub fn create(alloc: Global, ahead: &[u8]) -> Result<Replies, OutOfMemory>
+        ensures heard { IfOk result (λ replies. Heard ahead.now [] replies) }
     {
         Ok(Replies {
             records: Records::create(alloc, LARGEST_REPLY),
             begins: 0,
             came: 0,
-            waiting: Waiting::create(alloc)?,
+            waiting: Waiting::create(alloc, ahead)?,
         })
     }
 

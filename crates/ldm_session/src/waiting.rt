@@ -8,10 +8,10 @@ use ldm_types::OutOfMemory;
 use std::alloc::Global;
 use std::marker::Model;
 
-// The most bytes that are received at once.
+// The most bytes that are received at once, where no more came ahead.
 const LARGEST_PIECE: usize = 4_096;
 
-// A fixed buffer with the bytes of one piece that nobody looked at yet. Contracts see these.
+// A fixed buffer with bytes that nobody looked at yet: those of one piece, or those that came ahead. Contracts see these.
 #[derive(Drop)]
 pub(crate) struct Waiting {
     buffer: Vec<u8>,
@@ -30,14 +30,18 @@ impl Model for Waiting {
 }
 
 impl Waiting {
-    // Takes the memory of the buffer.
-    pub(crate) fn create(alloc: Global) -> Result<Waiting, OutOfMemory>
-        ensures { IfOk result (λ waiting. waiting ≡ []) }
+    // Takes the memory of the buffer, in which these bytes wait.
+    pub(crate) fn create(alloc: Global, ahead: &[u8]) -> Result<Waiting, OutOfMemory>
+        ensures { IfOk result (λ waiting. waiting ≡ ahead.now) }
     {
+        let room = ahead.len().max(LARGEST_PIECE);
+        let mut buffer = Vec::with_capacity(alloc, room)?;
+        buffer.extend_from_slice(ahead)?;
+        buffer.resize(room, 0)?;
         Ok(Waiting {
-            buffer: vec![in alloc; 0u8; LARGEST_PIECE]?,
+            buffer,
             from: 0,
-            to: 0,
+            to: ahead.len(),
         })
     }
 

@@ -54,7 +54,7 @@ called-whole : (part whole : List Entry) (b : Bool) → b ≡ true → IsPart b 
 called-whole part whole true is h = h
 called-whole part whole false is h = absurd (false≢true is)
 
-module _ (why : SendEnd) (asked : Asked) (old new : PassView) (before after' : SessionRecord) (feeds : Feeds why asked old new before after') (only : IsOnlyPass old) (whole : is_whole why ≡ true) where
+module _ (why : SendEnd) (asked : Asked) (ahead : List ℕ) (old new : PassView) (before after' : SessionRecord) (feeds : Feeds why asked ahead old new before after') (only : IsOnlyPass old) (whole : is_whole why ≡ true) where
   -- what was made with the pass
   fed-made : feeds.called ++ closing_of old.actor why feeds.feeding.answered ≡ whole_entries old.actor asked feeds.feeding
   fed-made = λ i. called-whole feeds.called (entries_of old.actor asked feeds.feeding) (is_whole why) whole feeds.called_part i
@@ -64,6 +64,6 @@ module _ (why : SendEnd) (asked : Asked) (old new : PassView) (before after' : S
   fed-makes = subst (Makes old new) fed-made (seen-by old new (feeds.called ++ closing_of old.actor why feeds.feeding.answered) only.has_seen feeds.made)
 
 -- an end by the gate comes behind the end of the queue
-pub fed-opened : (asked : Asked) (old new : PassView) (before after' : SessionRecord) (feeds : Feeds end.Stopped asked old new before after')
+pub fed-opened : (asked : Asked) (ahead : List ℕ) (old new : PassView) (before after' : SessionRecord) (feeds : Feeds end.Stopped asked ahead old new before after')
     → (missed : Bool) × (k : ℕ) × (feeds.feeding.answered ≡ Opened missed k)
-fed-opened asked old new before after' feeds = opened-of feeds.feeding.answered feeds.feeding.turns feeds.feeding.last feeds.last.0 feeds.is_feeding.opened feeds.last.1
+fed-opened asked ahead old new before after' feeds = opened-of feeds.feeding.answered feeds.feeding.turns feeds.feeding.last feeds.last.0 feeds.is_feeding.opened feeds.last.1

@@ -53,11 +53,11 @@ feeding_is actor k asked feeding place =
 
 -- the cursor was opened, the peer was told so, and turns were made until they ended
 pub turns_fed : (why : SendEnd) (asked : Asked) (missed : Bool) (k at : ℕ) (first pass : PassView) (link mid_link : LinkRecord) (clock mid_clock : ClockRecord) (mid_out : List ℕ) (log : SinkRecord)
-    (gate : GateRecord) (new : Situation) (replies : Replies) → IsNotClosed link → IsAnswerTo asked (Opened missed k) → Makes first pass (opening_entries first.actor asked (Opened missed k))
+    (gate : GateRecord) (new : Situation) (replies : Replies) (ahead : List ℕ) → IsNotClosed link → IsAnswerTo asked (Opened missed k) → Makes first pass (opening_entries first.actor asked (Opened missed k))
     → Does [] (moment_of pass link clock []) (moment_of pass mid_link mid_clock mid_out) (answer_deed asked.xid (class_answer_of (Opened missed k)) at)
-    → EndsTurns why asked k (record { next = 1; sent_at = at }) (situation_of (moment_of pass mid_link mid_clock mid_out) log gate) new replies → Heard [] [] replies
-    → HasFed why asked (Opened missed k) (situation_of (moment_of first link clock []) log gate) new
-turns_fed why asked missed k at first pass link mid_link clock mid_clock mid_out log gate new replies unclosed answer makes answers turns heard =
+    → EndsTurns why asked k (record { next = 1; sent_at = at }) (situation_of (moment_of pass mid_link mid_clock mid_out) log gate) new replies → Heard ahead [] replies
+    → HasFed why asked ahead (Opened missed k) (situation_of (moment_of first link clock []) log gate) new
+turns_fed why asked missed k at first pass link mid_link clock mid_clock mid_out log gate new replies ahead unclosed answer makes answers turns heard =
     let answered = Opened missed k in
     let feeding : Feeding = record { answered = answered; answered_at = at; turns = turns.turns; last = turns.last } in
     let old = situation_of (moment_of first link clock []) log gate in
@@ -77,7 +77,7 @@ turns_fed why asked missed k at first pass link mid_link clock mid_clock mid_out
       rows = turns.rows;
       codes = turns.codes;
       codes_part = turns.codes_part;
-      says = turns.heard [] [] heard;
+      says = turns.heard ahead [] heard;
       last = turns.last_of_end;
       cause = end_of_turns why answered old mid new begins.does.link refl refl turns.cause;
     }
@@ -95,20 +95,20 @@ may_turn (Busy missed) = (refl, refl)
 may_turn (Opened missed k) = tt
 
 -- no reply came
-pub nothing_said : Said [] [] (records_given [])
-nothing_said = record { replies = []; records_are = refl; each = tt }
+pub nothing_said : (given : List ℕ) → Said given [] (records_given given)
+nothing_said given = record { replies = []; records_are = refl; each = tt }
 
-cut_says : (why : SendEnd) (next : ℕ) → IsCut why → SaysLast why next [] []
-cut_says end.Stopped next cut = absurd cut
-cut_says end.Reclassed next cut = absurd cut
-cut_says (end.Denied rule) next cut = absurd cut
-cut_says (end.PeerEnd place) next cut = absurd cut
-cut_says end.LinkFault next cut = record { behind = records_given []; said = nothing_said; is_behind = tt }
-cut_says end.LogFault next cut = absurd cut
-cut_says (end.BadReply place) next cut = absurd cut
-cut_says end.AllBusy next cut = absurd cut
-cut_says end.Worn next cut = record { behind = records_given []; said = nothing_said; is_behind = tt }
-cut_says end.OutOfMemory next cut = record { behind = records_given []; said = nothing_said; is_behind = tt }
+cut_says : (why : SendEnd) (next : ℕ) (given : List ℕ) → IsCut why → SaysLast why next given []
+cut_says end.Stopped next given cut = absurd cut
+cut_says end.Reclassed next given cut = absurd cut
+cut_says (end.Denied rule) next given cut = absurd cut
+cut_says (end.PeerEnd place) next given cut = absurd cut
+cut_says end.LinkFault next given cut = record { behind = records_given given; said = nothing_said given; is_behind = tt }
+cut_says end.LogFault next given cut = absurd cut
+cut_says (end.BadReply place) next given cut = absurd cut
+cut_says end.AllBusy next given cut = absurd cut
+cut_says end.Worn next given cut = record { behind = records_given given; said = nothing_said given; is_behind = tt }
+cut_says end.OutOfMemory next given cut = record { behind = records_given given; said = nothing_said given; is_behind = tt }
 
 cut_last : (why : SendEnd) → IsCut why → IsLastOf why GoesOn
 cut_last end.Stopped cut = absurd cut
@@ -123,12 +123,12 @@ cut_last end.Worn cut = tt
 cut_last end.OutOfMemory cut = tt
 
 -- the answer broke off
-pub answer_broke_fed : (why : SendEnd) (asked : Asked) (answered : Answered) (at : ℕ) (first pass : PassView) (link link' : LinkRecord) (clock clock' : ClockRecord) (out' : List ℕ) (log : SinkRecord)
+pub answer_broke_fed : (why : SendEnd) (asked : Asked) (ahead : List ℕ) (answered : Answered) (at : ℕ) (first pass : PassView) (link link' : LinkRecord) (clock clock' : ClockRecord) (out' : List ℕ) (log : SinkRecord)
     (gate : GateRecord) → IsNotClosed link → IsAnswerTo asked answered → Calls first pass (opening_entries first.actor asked answered)
     → Breaks [] (moment_of pass link clock []) (moment_of pass link' clock' out') (answer_deed asked.xid (class_answer_of answered) at)
     → StopsSending why (moment_of pass link clock []) (moment_of pass link' clock' out')
-    → HasFed why asked answered (situation_of (moment_of first link clock []) log gate) (situation_of (moment_of pass link' clock' out') log gate)
-answer_broke_fed why asked answered at first pass link link' clock clock' out' log gate unclosed answer calls breaks stops =
+    → HasFed why asked ahead answered (situation_of (moment_of first link clock []) log gate) (situation_of (moment_of pass link' clock' out') log gate)
+answer_broke_fed why asked ahead answered at first pass link link' clock clock' out' log gate unclosed answer calls breaks stops =
     let feeding = answer_only answered at in
     let old = situation_of (moment_of first link clock []) log gate in
     let new = situation_of (moment_of pass link' clock' out') log gate in
@@ -151,7 +151,7 @@ answer_broke_fed why asked answered at first pass link link' clock clock' out' l
       rows = λ k d within. absurd (omega arith);
       codes = [];
       codes_part = subst R (sym part) ([], refl);
-      says = cut_says why (stands feeding).next broke.cut;
+      says = cut_says why (stands feeding).next (ahead ++ []) broke.cut;
       last = cut_last why broke.cut;
       cause = broke.cause;
     }

@@ -1,5 +1,6 @@
--- What a call that feeds comes to, at each of its ends: the feeding that it made, or a front of it.
-use Rattle.std.specs.Prelude.{◌≡◌, ℕ, List, ◌++◌}
+-- What a call that feeds comes to, at each of its ends: the feeding that it made, or a front of it. `ahead` are the bytes that the link
+-- gave before the call and that nobody looked at; the replies stand in them and in what the link gives then.
+use Rattle.std.specs.Prelude.{◌≡◌, ℕ, List, [], ◌++◌}
 use Rattle.ldm_model.specs.declared.event.Entry.{Entry}
 use Rattle.ldm_outside.specs.declared.gate.Go.{Go}
 use Rattle.ldm_outside.specs.Session.{SessionRecord}
@@ -8,6 +9,7 @@ use Rattle.ldm_session.specs.Exchange.{Exchanged, AnsweredAll, IdledAll}
 use Rattle.ldm_session.specs.Gaps.{gap_log}
 use Rattle.ldm_session.specs.Owed.{Code}
 use Rattle.ldm_sender.specs.declared.end.SendEnd.{SendEnd}
+use Rattle.ldm_sender.specs.declared.end.SendEnd.TheVariants as end
 use Rattle.ldm_sender.specs.Asked.{Asked}
 use Rattle.ldm_sender.specs.Opening.{Answered}
 use Rattle.ldm_sender.specs.Does.{IsPart}
@@ -17,8 +19,15 @@ use Rattle.ldm_upstream.specs.Feeding.{Feeding, IsFeeding, stands, entries_of, b
 use Rattle.ldm_upstream.specs.Heard.{SaysLast}
 use Rattle.ldm_upstream.specs.Course.{IsLastOf, AreRows}
 
+-- at an end before the first turn nothing was heard of the peer
+abbrev pub HearsNone : SendEnd → List ℕ → Type 0
+HearsNone end.Reclassed given = given ≡ []
+HearsNone (end.Denied rule) given = given ≡ []
+HearsNone end.AllBusy given = given ≡ []
+HearsNone _ given = Unit {0}
+
 -- A feeding was made up to an end: all of it where the end is a whole one, and else of each part a front.
-pub record Feeds (why : SendEnd) (asked : Asked) (old new : PassView) (before after : SessionRecord) : Type 0 where
+pub record Feeds (why : SendEnd) (asked : Asked) (ahead : List ℕ) (old new : PassView) (before after : SessionRecord) : Type 0 where
   pub feeding : Feeding
   pub is_feeding : IsFeeding asked feeding
   -- the calls on the queue, and the one that closes the cursor
@@ -32,11 +41,12 @@ pub record Feeds (why : SendEnd) (asked : Asked) (old new : PassView) (before af
   pub sent_part : IsPart (is_whole why) sent (bytes_of asked feeding)
   pub given : List ℕ
   pub exchanged : Exchanged before.link sent given after.link
+  pub unheard : HearsNone why given
   pub left : IsLeft why after.link
-  -- the replies, which are the first records that the link gave
+  -- the replies, which are the first records in what came ahead and what the link gave
   pub codes : List Code
   pub codes_part : IsPart (is_whole why) codes (codes_of feeding)
-  pub says : SaysLast why (stands feeding).next given codes
+  pub says : SaysLast why (stands feeding).next (ahead ++ given) codes
   -- the clock, the gate and the log
   pub instants : List ℕ
   pub instants_part : IsPart (is_whole why) instants (instants_of feeding)
@@ -59,7 +69,7 @@ feeding_act actor asked feeding = record {
 }
 
 -- A feeding was made up to an end, and its cursor is not closed yet.
-pub record HasFed (why : SendEnd) (asked : Asked) (answered : Answered) (old new : Situation) : Type 0 where
+pub record HasFed (why : SendEnd) (asked : Asked) (ahead : List ℕ) (answered : Answered) (old new : Situation) : Type 0 where
   pub feeding : Feeding
   pub is_answered : feeding.answered ≡ answered
   pub is_feeding : IsFeeding asked feeding
@@ -69,6 +79,6 @@ pub record HasFed (why : SendEnd) (asked : Asked) (answered : Answered) (old new
   pub rows : AreRows new.moment.pass (given_of feeding)
   pub codes : List Code
   pub codes_part : IsPart (is_whole why) codes (codes_of feeding)
-  pub says : SaysLast why (stands feeding).next came codes
+  pub says : SaysLast why (stands feeding).next (ahead ++ came) codes
   pub last : IsLastOf why feeding.last
   pub cause : IsEndOf why feeding.answered new.moment.pass (session_of old) (session_of new)

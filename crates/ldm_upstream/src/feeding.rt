@@ -1,5 +1,5 @@
 //! The call that feeds.
-ghost use Rattle.std.specs.Prelude.{◌≡◌, ◌≤◌, length, Bool, false, None, []};
+ghost use Rattle.std.specs.Prelude.{◌≡◌, ◌≤◌, length, Bool, false, None, [], List, ℕ};
 ghost use Rattle.ldm_outside.specs.Link.{IsNotClosed};
 ghost use Rattle.ldm_outside.specs.Session.{session_tells, KeepsFaults};
 ghost use Rattle.ldm_shared.specs.Passes.{IsPassOf, IsSamePass, PassView, Makes};
@@ -51,10 +51,10 @@ fn feed_turns<H: Wait, K: Link, E: Sink, C: Clock, G: Gate>(
     requires not_closed { IsNotClosed (K.tells link.old) }
     ensures kept { IsSamePass pass.old pass.new }
     ensures still_open { IsNotClosed (K.tells link.new) }
-    ensures fed { (asked : Asked) (missed : Bool) (first : PassView) → IsAskedOf asked class.old rules.old → asked.max_hereis ≡ ask.now.max_hereis → asked.xid ≡ ask.now.xid
+    ensures fed { (asked : Asked) (missed : Bool) (first : PassView) (ahead : List ℕ) → IsAskedOf asked class.old rules.old → asked.max_hereis ≡ ask.now.max_hereis → asked.xid ≡ ask.now.xid
         → IsAnswerTo asked (Opened missed reader.now.k) → Makes first pass.old (opening_entries first.actor asked (Opened missed reader.now.k)) → out.old.items ≡ []
-        → Heard [] [] replies.old
-        → HasFed result asked (Opened missed reader.now.k)
+        → Heard ahead [] replies.old
+        → HasFed result asked ahead (Opened missed reader.now.k)
         (situation_of (moment_of first (K.tells link.old) (C.tells clock.old) []) (E.tells log.old) (G.tells gate.old))
         (situation_of (moment_of pass.new (K.tells link.new) (C.tells clock.new) out.new.items) (E.tells log.new) (G.tells gate.new)) }
     ensures cursor { KeepsCursor result pass.new reader.now.k }
@@ -109,10 +109,10 @@ fn feed_cursor<H: Wait, K: Link, E: Sink, C: Clock, G: Gate>(
     requires name { length rules.old.host ≤ LONGEST_NAME }
     requires not_closed { IsNotClosed (K.tells link.old) }
     ensures kept { IsSamePass pass.old pass.new }
-    ensures fed { (asked : Asked) (missed : Bool) (first : PassView) → IsAskedOf asked class.old rules.old → asked.max_hereis ≡ ask.now.max_hereis → asked.xid ≡ ask.now.xid
+    ensures fed { (asked : Asked) (missed : Bool) (first : PassView) (ahead : List ℕ) → IsAskedOf asked class.old rules.old → asked.max_hereis ≡ ask.now.max_hereis → asked.xid ≡ ask.now.xid
         → IsAnswerTo asked (Opened missed reader.k) → Makes first pass.old (opening_entries first.actor asked (Opened missed reader.k)) → out.old.items ≡ []
-        → Heard [] [] replies.old
-        → Feeds result asked first pass.new (session_tells K.tells E.tells C.tells G.tells link.old log.old clock.old gate.old)
+        → Heard ahead [] replies.old
+        → Feeds result asked ahead first pass.new (session_tells K.tells E.tells C.tells G.tells link.old log.old clock.old gate.old)
         (session_tells K.tells E.tells C.tells G.tells link.new log.new clock.new gate.new)
         × KeepsFaults (session_tells K.tells E.tells C.tells G.tells link.old log.old clock.old gate.old)
         (session_tells K.tells E.tells C.tells G.tells link.new log.new clock.new gate.new) }
@@ -147,6 +147,7 @@ fn feed_class<H: Wait, K: Link, E: Sink, G: Gate, C: Clock>(
     ask: &Feedme,
     class: &Class,
     policy: &Policy,
+    ahead: &[u8],
 ) -> SendEnd
     requires of { IsPassOf shared.now pass.old }
     requires built { class.now ≡ ask.now.class }
@@ -154,7 +155,7 @@ fn feed_class<H: Wait, K: Link, E: Sink, G: Gate, C: Clock>(
     requires not_closed { IsNotClosed (K.tells link.old) }
     requires same { reduce (rules_for false policy.now) host.now ask.now.class ≡ reduced.Same }
     ensures kept { IsSamePass pass.old pass.new }
-    ensures fed { Feeds result (asked_of host.now policy.now ask.now) pass.old pass.new
+    ensures fed { Feeds result (asked_of host.now policy.now ask.now) ahead.now pass.old pass.new
         (session_tells K.tells E.tells C.tells G.tells link.old log.old clock.old gate.old) (session_tells K.tells E.tells C.tells G.tells link.new log.new clock.new gate.new)
         × KeepsFaults (session_tells K.tells E.tells C.tells G.tells link.old log.old clock.old gate.old)
         (session_tells K.tells E.tells C.tells G.tells link.new log.new clock.new gate.new) }
@@ -168,7 +169,7 @@ fn feed_class<H: Wait, K: Link, E: Sink, G: Gate, C: Clock>(
     let Ok(mut rules) = policy.for_host(alloc, host, false) else {
         return SendEnd::OutOfMemory;
     };
-    let Ok(mut replies) = Replies::create(alloc) else {
+    let Ok(mut replies) = Replies::create(alloc, ahead) else {
         return SendEnd::OutOfMemory;
     };
     match open_for(rt, shared, pass, class) {
@@ -198,7 +199,56 @@ fn feed_class<H: Wait, K: Link, E: Sink, G: Gate, C: Clock>(
 /// Answers a peer's FEEDME and feeds its connection: each product that is due goes out, in the order of the queue, until the gate says
 /// to stop or something ends it. Losses are log lines.
 ///
+/// The link may have given bytes that nobody looked at, with the request or behind it: these are `ahead`, and the first that are heard
+/// of the peer. Places count from the first of them.
+///
 /// The cursor that was opened is closed at every end but `FeedEnd::Worn`, and the link at `FeedEnd::Stopped` alone.
+pub fn feed_behind<H: Wait, K: Link, E: Sink, G: Gate, C: Clock>(
+    rt: &H,
+    alloc: Global,
+    shared: &Shared,
+    pass: &mut Pass,
+    link: &mut K,
+    log: &mut E,
+    gate: &mut G,
+    clock: &mut C,
+    host: &[u8],
+    ask: &Feedme,
+    class: &Class,
+    policy: &Policy,
+    ahead: &[u8],
+) -> SendEnd
+    requires of { IsPassOf shared.now pass.old }
+    requires built { class.now ≡ ask.now.class }
+    requires name { length host.now ≤ LONGEST_NAME }
+    requires not_closed { IsNotClosed (K.tells link.old) }
+    ensures kept { IsSamePass pass.old pass.new }
+    ensures counts { KeepsFaults (session_tells K.tells E.tells C.tells G.tells link.old log.old clock.old gate.old)
+        (session_tells K.tells E.tells C.tells G.tells link.new log.new clock.new gate.new) }
+    ensures fed { Feeds result (asked_of host.now policy.now ask.now) ahead.now pass.old pass.new
+        (session_tells K.tells E.tells C.tells G.tells link.old log.old clock.old gate.old) (session_tells K.tells E.tells C.tells G.tells link.new log.new clock.new gate.new) }
+{
+    match policy.reduce(alloc, host, class.spec(), false) {
+        Ok(Reduced::Same) => feed_class(
+            rt, alloc, shared, pass, link, log, gate, clock, host, ask, class, policy, ahead,
+        ),
+        Ok(Reduced::Fewer(fewer)) => {
+            match decline(alloc, ask.xid, ClassAnswer::Reclass(fewer), link, clock) {
+                Ok(()) => SendEnd::Reclassed,
+                Err(end) => end,
+            }
+        }
+        Ok(Reduced::Nothing { rule }) => {
+            match decline(alloc, ask.xid, ClassAnswer::Denied, link, clock) {
+                Ok(()) => SendEnd::Denied { rule },
+                Err(end) => end,
+            }
+        }
+        Err(_) => SendEnd::OutOfMemory,
+    }
+}
+
+/// [`feed_behind`], where the link gave nothing that nobody looked at.
 pub fn feed<H: Wait, K: Link, E: Sink, G: Gate, C: Clock>(
     rt: &H,
     alloc: Global,
@@ -220,25 +270,22 @@ pub fn feed<H: Wait, K: Link, E: Sink, G: Gate, C: Clock>(
     ensures kept { IsSamePass pass.old pass.new }
     ensures counts { KeepsFaults (session_tells K.tells E.tells C.tells G.tells link.old log.old clock.old gate.old)
         (session_tells K.tells E.tells C.tells G.tells link.new log.new clock.new gate.new) }
-    ensures fed { Feeds result (asked_of host.now policy.now ask.now) pass.old pass.new
+    ensures fed { Feeds result (asked_of host.now policy.now ask.now) [] pass.old pass.new
         (session_tells K.tells E.tells C.tells G.tells link.old log.old clock.old gate.old) (session_tells K.tells E.tells C.tells G.tells link.new log.new clock.new gate.new) }
 {
-    match policy.reduce(alloc, host, class.spec(), false) {
-        Ok(Reduced::Same) => feed_class(
-            rt, alloc, shared, pass, link, log, gate, clock, host, ask, class, policy,
-        ),
-        Ok(Reduced::Fewer(fewer)) => {
-            match decline(alloc, ask.xid, ClassAnswer::Reclass(fewer), link, clock) {
-                Ok(()) => SendEnd::Reclassed,
-                Err(end) => end,
-            }
-        }
-        Ok(Reduced::Nothing { rule }) => {
-            match decline(alloc, ask.xid, ClassAnswer::Denied, link, clock) {
-                Ok(()) => SendEnd::Denied { rule },
-                Err(end) => end,
-            }
-        }
-        Err(_) => SendEnd::OutOfMemory,
-    }
+    feed_behind(
+        rt,
+        alloc,
+        shared,
+        pass,
+        link,
+        log,
+        gate,
+        clock,
+        host,
+        ask,
+        class,
+        policy,
+        &[],
+    )
 }

@@ -1,6 +1,6 @@
 //! The feeder: the end of a session that was asked for products, and feeds them.
 //!
-//! [`feed`] answers a request and feeds a connection. What a feeding is stands in `specs/`, as plain data: see `Feeding`; and what the
+//! [`feed`] answers a request and feeds a connection; [`feed_behind`] does where bytes came already behind the request. What a feeding is stands in `specs/`, as plain data: see `Feeding`; and what the
 //! call says at each of its ends: see `Feeds`. [`is_due`] tells which products are due, [`feeds_of`] and [`start_at`] where the cursor
 //! begins.
 #![tactic(auto)]
@@ -16,5 +16,5 @@ mod offer;
 mod one_turn;
 
 pub use examples::worked_examples;
-pub use feeding::feed;
+pub use feeding::{feed, feed_behind};
 pub use ldm_sender::{SendEnd as FeedEnd, feeds_of, is_due, start_at};

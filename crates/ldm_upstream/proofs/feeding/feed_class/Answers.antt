@@ -10,16 +10,16 @@ use Rattle.ldm_sender.proofs.Emptied.{does_from_empty, breaks_from_empty}
 use Rattle.ldm_upstream.proofs.feeding.feed_class.Goals as goal
 
 pub returns-in_default-clause-fed : goal.returns-in_default-clause-fed
-returns-in_default-clause-fed g c = unfed _ _ _ _ _ _ (short _ _ _ _ _ _ c.requires.not_closed)
+returns-in_default-clause-fed g c = unfed _ _ _ _ _ _ _ (short _ _ _ _ _ _ c.requires.not_closed)
 
 pub returns-in_default-matcher-clause-fed : goal.returns-in_default-matcher-clause-fed
-returns-in_default-matcher-clause-fed g c = unfed _ _ _ _ _ _ (short _ _ _ _ _ _ c.requires.not_closed)
+returns-in_default-matcher-clause-fed g c = unfed _ _ _ _ _ _ _ (short _ _ _ _ _ _ c.requires.not_closed)
 
 pub returns-in_default-for_host-clause-fed : goal.returns-in_default-for_host-clause-fed
-returns-in_default-for_host-clause-fed g c = unfed _ _ _ _ _ _ (short _ _ _ _ _ _ c.requires.not_closed)
+returns-in_default-for_host-clause-fed g c = unfed _ _ _ _ _ _ _ (short _ _ _ _ _ _ c.requires.not_closed)
 
 pub returns-in_default-create-clause-fed : goal.returns-in_default-create-clause-fed
-returns-in_default-create-clause-fed g c = unfed _ _ _ _ _ _ (short _ _ _ _ _ _ c.requires.not_closed)
+returns-in_default-create-clause-fed g c = unfed _ _ _ _ _ _ _ (short _ _ _ _ _ _ c.requires.not_closed)
 
 pub feed_cursor-requires-clause-cursor : goal.feed_cursor-requires-clause-cursor
 feed_cursor-requires-clause-cursor g c =
@@ -32,7 +32,7 @@ returns-in-Done-Some-clause-fed g c =
     let at = rw c.in-Done-Some.field-0-is at c.in-Done-Some.ensures in
     let opened = at.opens asked (sym c.requires.built) in
     let rules = c.in-Ok-for_host.ensures in
-    c.feed_cursor.ensures.fed asked opened.missed c.args.pass.now
+    c.feed_cursor.ensures.fed asked opened.missed c.args.pass.now c.args.ahead.now
     (record {
       class_is = sym (c.in-Ok-matcher.ensures ∙ c.requires.built);
       rules_are = sym (ap (λ (x : HostRules). x.rules) rules);
@@ -46,7 +46,7 @@ returns-in-Ok-answer_class-clause-fed g c =
     let at = rw c.in-Done-None.field-0-is at c.in-Done-None.ensures in
     let found = at.opens asked (sym c.requires.built) in
     let is = c.in-Ok-answer_class.ensures in
-    unfed _ asked _ _ _ _
+    unfed _ asked _ _ _ _ _
     (busy asked c.args.pass.now c.open_for.new.pass _ _ _ _ _ _ c.requires.not_closed c.requires.same found
     (c.in-Ok-answer_class.field-0, does_from_empty _ _ _ _ _ _ _ _ c.in-Ok.ensures.empty is.empty (is.answers c.open_for.new.pass)))
 
@@ -56,11 +56,11 @@ returns-in-Done-None-clause-fed g c =
     let at = rw c.in-Done-None.field-0-is at c.in-Done-None.ensures in
     let found = at.opens asked (sym c.requires.built) in
     let is = c.in-Err.ensures.answers c.open_for.new.pass in
-    unfed _ asked _ _ _ _
+    unfed _ asked _ _ _ _ _
     (answer_breaks c.in-Err.end asked (Busy found.missed) c.args.pass.now c.open_for.new.pass _ _ _ _ _ _ c.requires.not_closed (c.requires.same, found.may_miss) (λ actor. refl)
     (calls_some _ _ _ found.makes) (breaks_from_empty c.in-Err.end asked.xid class_answer.Busy _ _ _ _ _ _ _ c.in-Ok.ensures.empty is))
 
 pub returns-clause-fed : goal.returns-clause-fed
 returns-clause-fed g c =
     let asked = asked_of c.args.host.now c.args.policy.now c.args.ask.now in
-    unfed _ asked _ _ _ _ (worn_first asked c.args.pass.now c.open_for.new.pass _ _ _ _ c.requires.not_closed c.requires.same (c.in-Worn.ensures.opens asked (sym c.requires.built)))
+    unfed _ asked _ _ _ _ _ (worn_first asked c.args.pass.now c.open_for.new.pass _ _ _ _ c.requires.not_closed c.requires.same (c.in-Worn.ensures.opens asked (sym c.requires.built)))

@@ -3,15 +3,36 @@ use Rattle.ldm_outside.specs.Link.{LinkRecord}
 use Rattle.ldm_outside.specs.Session.{SessionRecord, KeepsFaults}
 use Rattle.ldm_shared.specs.Passes.{PassView}
 use Rattle.ldm_shared.proofs.Made.{calls_none}
+use Rattle.ldm_sender.specs.declared.end.SendEnd.{SendEnd}
 use Rattle.ldm_sender.specs.declared.end.SendEnd.TheVariants as end
 use Rattle.ldm_sender.specs.Acts.{situation_of}
 use Rattle.ldm_sender.specs.Does.{moment_of}
 use Rattle.ldm_sender.specs.Opening.{Answered, Opened}
-use Rattle.ldm_upstream.specs.Feeds.{Feeds}
+use Rattle.ldm_upstream.specs.Feeds.{Feeds, HasFed}
 use Rattle.ldm_sender.specs.Ending.{IsEndOf, session_of}
 use Rattle.ldm_sender.proofs.Settling.{begins, cause_moves, closing_calls, left_closed, left_open}
 use Rattle.ldm_upstream.proofs.Closing.{feeds, worn_at_close}
 use Rattle.ldm_upstream.proofs.feeding.feed_cursor.Goals as goal
+
+pub returns-in-Worn-clause-fed : goal.returns-in-Worn-clause-fed
+returns-in-Worn-clause-fed g c = λ asked missed first ahead asked_is most xid answer makes empty heard.
+    let k = c.args.reader.k in
+    let pass = c.feed_turns-end.new.pass in
+    let link0 = g.K.Link.tells c.args.link.now in
+    let clock0 = g.C.Clock.tells c.args.clock.now in
+    let log0 = g.E.Sink.tells c.args.log.now in
+    let gate0 = g.G.Gate.tells c.args.gate.now in
+    let link = g.K.Link.tells c.feed_turns-end.new.link in
+    let clock = g.C.Clock.tells c.feed_turns-end.new.clock in
+    let log = g.E.Sink.tells c.feed_turns-end.new.log in
+    let gate = g.G.Gate.tells c.feed_turns-end.new.gate in
+    let new = situation_of (moment_of pass link clock c.feed_turns-end.new.out.items) log gate in
+    let before = session_of (begins first link0 clock0 log0 gate0) in
+    let P : SendEnd → Type 0 = λ why. HasFed why asked ahead (Opened missed k) (begins first link0 clock0 log0 gate0) new in
+    let Q : SendEnd → Type 0 = λ why. Feeds why asked ahead first pass before (session_of new) × KeepsFaults before (session_of new) in
+    let fed = subst P c.in-Worn.is (c.feed_turns-end.ensures.fed asked missed first ahead asked_is most xid answer makes empty heard) in
+    subst Q (sym c.in-Worn.is)
+    (feeds end.Worn asked ahead missed k first link0 clock0 log0 gate0 new pass link.closed c.products_stay.ensures.stays fed (calls_none pass) c.feed_turns-end.ensures.still_open fed.cause)
 
 pub returns-in-Worn-close : goal.returns-in-Worn-close
 returns-in-Worn-close g c =
@@ -33,10 +54,10 @@ returns-in-Worn-close g c =
     let new = situation_of (moment_of pass link clock out) log gate in
     record {
       kept = c.in-Worn-close.ensures.kept ∙ ap (λ (p : PassView). record p { seen = final.seen }) c.feed_turns-end.ensures.kept;
-      fed = λ asked missed first asked_is most xid answer makes empty heard.
-          let fed = worn_at_close why asked (Opened missed k) (begins first link0 clock0 log0 gate0) pass final link clock out log gate c.in-Worn-close.turns law
-          (c.feed_turns-end.ensures.fed asked missed first asked_is most xid answer makes empty heard) c.in-Worn-close.ensures.worn in
-          feeds end.Worn asked (Opened missed k) first link0 clock0 log0 gate0 (situation_of (moment_of final link clock out) log gate) final link.closed law fed (calls_none final)
+      fed = λ asked missed first ahead asked_is most xid answer makes empty heard.
+          let fed = worn_at_close why asked ahead (Opened missed k) (begins first link0 clock0 log0 gate0) pass final link clock out log gate c.in-Worn-close.turns law
+          (c.feed_turns-end.ensures.fed asked missed first ahead asked_is most xid answer makes empty heard) c.in-Worn-close.ensures.worn in
+          feeds end.Worn asked ahead missed k first link0 clock0 log0 gate0 (situation_of (moment_of final link clock out) log gate) final link.closed law fed (calls_none final)
           c.feed_turns-end.ensures.still_open (c.in-Worn-close.ensures.worn.long ∙ c.in-Worn-close.ensures.worn.turns_are);
     }
 
@@ -60,13 +81,13 @@ returns-in-Stopped g c =
     let new = situation_of (moment_of pass link clock out) log gate in
     record {
       kept = c.in_default-close.ensures.kept ∙ ap (λ (p : PassView). record p { seen = final.seen }) c.feed_turns-end.ensures.kept;
-      fed = λ asked missed first asked_is most xid answer makes empty heard.
-          let fed = c.feed_turns-end.ensures.fed asked missed first asked_is most xid answer makes empty heard in
+      fed = λ asked missed first ahead asked_is most xid answer makes empty heard.
+          let fed = c.feed_turns-end.ensures.fed asked missed first ahead asked_is most xid answer makes empty heard in
           let before = session_of (begins first link0 clock0 log0 gate0) in
           let P : LinkRecord → Type 0 = λ l.
-          let then : SessionRecord = record { link = l; log = log; clock = clock; gate = gate } in Feeds why asked first final before then × KeepsFaults before then in
+          let then : SessionRecord = record { link = l; log = log; clock = clock; gate = gate } in Feeds why asked ahead first final before then × KeepsFaults before then in
           subst P (sym c.close-in-Stopped.ensures)
-          (feeds why asked (Opened missed k) first link0 clock0 log0 gate0 new final true law fed
+          (feeds why asked ahead missed k first link0 clock0 log0 gate0 new final true law fed
           (closing_calls why first pass final missed k c.in_default.not-Worn (ap (λ (p : PassView). p.actor) c.feed_turns-end.ensures.kept ∙ ap (λ (p : PassView). p.actor) makes.same) c.in_default-close.ensures.done) (left_closed why link c.in-Stopped.is)
           (subst (λ (a : Answered). IsEndOf why a final before (session_of new)) fed.is_answered (cause_moves why fed.feeding.answered pass final before (session_of new) c.in_default.not-Worn fed.cause)));
     }
@@ -91,10 +112,10 @@ returns-in_default-end g c =
     let new = situation_of (moment_of pass link clock out) log gate in
     record {
       kept = c.in_default-close.ensures.kept ∙ ap (λ (p : PassView). record p { seen = final.seen }) c.feed_turns-end.ensures.kept;
-      fed = λ asked missed first asked_is most xid answer makes empty heard.
-          let fed = c.feed_turns-end.ensures.fed asked missed first asked_is most xid answer makes empty heard in
+      fed = λ asked missed first ahead asked_is most xid answer makes empty heard.
+          let fed = c.feed_turns-end.ensures.fed asked missed first ahead asked_is most xid answer makes empty heard in
           let before = session_of (begins first link0 clock0 log0 gate0) in
-          feeds why asked (Opened missed k) first link0 clock0 log0 gate0 new final link.closed law fed
+          feeds why asked ahead missed k first link0 clock0 log0 gate0 new final link.closed law fed
           (closing_calls why first pass final missed k c.in_default.not-Worn (ap (λ (p : PassView). p.actor) c.feed_turns-end.ensures.kept ∙ ap (λ (p : PassView). p.actor) makes.same) c.in_default-close.ensures.done)
           (left_open why link c.in_default-end.not-Stopped c.feed_turns-end.ensures.still_open)
           (subst (λ (a : Answered). IsEndOf why a final before (session_of new)) fed.is_answered (cause_moves why fed.feeding.answered pass final before (session_of new) c.in_default.not-Worn fed.cause));

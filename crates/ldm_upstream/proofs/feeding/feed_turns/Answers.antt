@@ -11,7 +11,7 @@ use Rattle.ldm_upstream.proofs.Fed.{turns_fed, answer_broke_fed}
 use Rattle.ldm_upstream.proofs.feeding.feed_turns.Goals as goal
 
 pub returns-clause-fed : goal.returns-clause-fed
-returns-clause-fed g c = λ asked missed first asked_is most xid answer makes empty heard.
+returns-clause-fed g c = λ asked missed first ahead asked_is most xid answer makes empty heard.
     let tells = g.K.Link.tells in
     let clock_tells = g.C.Clock.tells in
     let pass = c.args.pass.now in
@@ -35,7 +35,7 @@ returns-clause-fed g c = λ asked missed first asked_is most xid answer makes em
     let answers = subst (λ (x : ℕ). Does [] (moment_of pass link clock []) mid (answer_deed x class_answer.Ok at)) (sym xid)
     (subst (λ (o : List ℕ). Does [] (moment_of pass link clock o) mid (answer_deed c.args.ask.now.xid class_answer.Ok at)) empty (c.in-Ok.ensures.answers pass)) in
     turns_fed why asked missed k at first pass link mid_link clock mid_clock mid_out log gate
-    (situation_of (moment_of last_pass last_link last_clock last_out) last_log last_gate) c.args.replies.now c.requires.not_closed answer makes answers
+    (situation_of (moment_of last_pass last_link last_clock last_out) last_log last_gate) c.args.replies.now ahead c.requires.not_closed answer makes answers
     (c.turns.ensures.turns asked asked_is most) heard
 
 pub returns-clause-cursor : goal.returns-clause-cursor
@@ -50,7 +50,7 @@ returns-clause-cursor g c =
     (c.turns.ensures.turns asked (record { class_is = refl; rules_are = refl; host_is = refl }) refl).cursor
 
 pub returns-in-Err-clause-fed : goal.returns-in-Err-clause-fed
-returns-in-Err-clause-fed g c = λ asked missed first asked_is most xid answer makes empty heard.
+returns-in-Err-clause-fed g c = λ asked missed first ahead asked_is most xid answer makes empty heard.
     let tells = g.K.Link.tells in
     let clock_tells = g.C.Clock.tells in
     let pass = c.args.pass.now in
@@ -61,5 +61,5 @@ returns-in-Err-clause-fed g c = λ asked missed first asked_is most xid answer m
     let breaks = subst (λ (x : ℕ). Breaks [] (moment_of pass link clock []) new (answer_deed x class_answer.Ok answers.0)) (sym xid)
     (subst (λ (o : List ℕ). Breaks [] (moment_of pass link clock o) new (answer_deed c.args.ask.now.xid class_answer.Ok answers.0)) empty answers.1) in
     let stops = subst (λ (o : List ℕ). StopsSending c.in-Err.end (moment_of pass link clock o) new) empty answers.2 in
-    answer_broke_fed c.in-Err.end asked (Opened missed c.args.reader.now.k) answers.0 first pass link (tells c.answer_class.new.link) clock (clock_tells c.answer_class.new.clock)
+    answer_broke_fed c.in-Err.end asked ahead (Opened missed c.args.reader.now.k) answers.0 first pass link (tells c.answer_class.new.link) clock (clock_tells c.answer_class.new.clock)
     c.answer_class.new.out.items (g.E.Sink.tells c.args.log.now) (g.G.Gate.tells c.args.gate.now) c.requires.not_closed answer (calls_some first pass _ makes) breaks stops
