@@ -1,5 +1,5 @@
 -- A stream that is accepted is received to its end.
-use Rattle.std.proofs.Common.{◌≡◌, ℕ, ◌-◌, ◌≤◌, leb, Bool, true, false, List, [], ◌∷◌, ◌++◌, Option, Some, None, IfSome, refl, ap, sym, subst, ◌∙◌, arith}
+use Rattle.std.proofs.Common.{◌≡◌, ℕ, ◌-◌, ◌≤◌, leb, Bool, true, false, List, [], ◌∷◌, ◌++◌, Option, Some, None, IfSome, refl, ap, sym, subst, ◌∙◌, append_assoc, arith}
 use Rattle.std.specs.Option.{option_map}
 use Rattle.std.proofs.lemmas.List.{append-nil}
 use Rattle.std.proofs.lemmas.List.Concat.{flat_map-append}
@@ -24,12 +24,12 @@ use Rattle.ldm_intake.specs.Taken.{Arrival, Taken, taken_none, taken}
 use Rattle.ldm_intake.specs.TakesRecord.{Standing}
 use Rattle.ldm_intake.proofs.Courses.{leads-then_comes, leads-then_parts}
 use Rattle.ldm_intake.proofs.TakenRecords.{leads-ended}
-use Rattle.ldm_downstream.specs.declared.limits.TheConstants.{LONGEST_STREAM}
+use Rattle.ldm_session.specs.declared.limits.TheConstants.{LONGEST_STREAM}
 use Rattle.ldm_downstream.specs.Pieces.{Piece, arrived, arrivals, beginning, hand, joined, within}
 use Rattle.ldm_downstream.specs.Taking.{GivesUp}
 use Rattle.ldm_downstream.specs.Received.{at_stream_end, end_behind, end_by_bytes, is_edge, received, with_hand}
 use Rattle.ldm_downstream.specs.Pushing.{EndsWhole}
-use Rattle.ldm_downstream.specs.Receives.{EndsStream, HasEnded, Receives, ReceivesAll, at_first}
+use Rattle.ldm_downstream.specs.Receives.{EndsStream, HasEnded, Passed, Receives, ReceivesAll, at_first}
 use Rattle.ldm_downstream.specs.Complete.{AcceptsBy, AcceptsReplied, Completes, IsComplete}
 use Rattle.ldm_downstream.proofs.Arrivals.{arrivals-append, arrivals-one, hand-append, hand-one}
 
@@ -159,20 +159,35 @@ rest_of pieces stream (Some rest) given = record { rest = rest; left_is = refl; 
 no_end : (t : Taken) (end : RecvEnd) → t.end ≡ Some end → t.end ≡ None → ⊥
 no_end t end some none = let same : Some end ≡ None = sym some ∙ none in cc same
 
-module _ (s : Receiving) (old new : PassView) (before after : SessionRecord) (stream : List ℕ) (left : before.link.left ≡ Some stream)
-    (accepts : AcceptsReplied s stream old new) where
+-- the bytes that came ahead and those that were left are those of the pieces, and those that are left still
+left_behind : (ahead given all rest : List ℕ) (old new : Option (List ℕ)) → all ≡ ahead ++ given → old ≡ option_map (λ (bytes : List ℕ). given ++ bytes) new → old ≡ Some rest
+    → Some (ahead ++ rest) ≡ option_map (λ (bytes : List ℕ). all ++ bytes) new
+left_behind ahead given all rest old None all_is left had = let none : None ≡ Some rest = sym left ∙ had in absurd (cc none)
+left_behind ahead given all rest old (Some bytes) all_is left had =
+    let same : Some (given ++ bytes) ≡ Some rest = sym left ∙ had in
+    let rest_is : given ++ bytes ≡ rest = cc same in
+    ap (λ (xs : List ℕ). Some xs)
+    (ap (λ (xs : List ℕ). ahead ++ xs) (sym rest_is) ∙ sym (append_assoc ahead given bytes) ∙ ap (λ (xs : List ℕ). xs ++ bytes) (sym all_is))
+
+module _ (s : Receiving) (ahead : List ℕ) (old new : PassView) (before after : SessionRecord) (behind : List ℕ) (had : before.link.left ≡ Some behind)
+    (accepts : AcceptsReplied s (ahead ++ behind) old new) where
+  was_given : (pieces : List Piece) (sent lines : List ℕ) → Passed ahead pieces sent lines before after
+      → Some (ahead ++ behind) ≡ option_map (λ (rest : List ℕ). joined pieces ++ rest) after.link.left
+  was_given pieces sent lines passed =
+      left_behind ahead passed.given (joined pieces) behind before.link.left after.link.left passed.all passed.exchanged.left had
+
   -- all that was called until the end, and what an end gives up
   accepts_by : (between at_end : Standing) (made : List Entry) → Calls old between.pass made → GivesUp between at_end → at_end.pass ≡ new
-      → AcceptsBy old.actor made s stream
+      → AcceptsBy old.actor made s (ahead ++ behind)
   accepts_by between at_end made calls gives pass_is =
       accepts made gives.closes.made (subst (λ (pass : PassView). Calls old pass (made ++ gives.closes.made)) pass_is
       (calls_trans old between.pass at_end.pass made gives.closes.made calls gives.closes.calls))
 
   not_whole : (end : RecvEnd) (pieces : List Piece) (at_end : Standing) → EndsWhole end pieces beginning (at_first s old) at_end → at_end.pass ≡ new
-      → before.link.left ≡ option_map (λ (rest : List ℕ). joined pieces ++ rest) after.link.left → ⊥
+      → Some (ahead ++ behind) ≡ option_map (λ (rest : List ℕ). joined pieces ++ rest) after.link.left → ⊥
   not_whole end pieces at_end whole pass_is given =
       let takes = whole.takes in
-      let front = rest_of pieces stream after.link.left (sym left ∙ given) in
+      let front = rest_of pieces (ahead ++ behind) after.link.left given in
       let piece : Piece = record { now = 0; bytes = front.rest } in
       let longer = ended-more old.actor s beginning pieces piece takes.made takes.to end takes.leads takes.end_is in
       let fine = accepts_by whole.between at_end takes.made takes.calls whole.gives_up pass_is (pieces ++ piece ∷ []) longer.to
@@ -180,35 +195,35 @@ module _ (s : Receiving) (old new : PassView) (before after : SessionRecord) (st
       no_end longer.to end longer.end_is fine.0
 
   not_truncated : (at : ℕ) (pieces : List Piece) (at_end : Standing) → EndsStream (Truncated at) pieces beginning (at_first s old) at_end → at_end.pass ≡ new
-      → before.link.left ≡ option_map (λ (rest : List ℕ). joined pieces ++ rest) after.link.left → HasEnded before after → ⊥
+      → Some (ahead ++ behind) ≡ option_map (λ (rest : List ℕ). joined pieces ++ rest) after.link.left → HasEnded before after → ⊥
   not_truncated at pieces at_end ends pass_is given ended =
       let takes = ends.takes in
-      let front = rest_of pieces stream after.link.left (sym left ∙ given) in
+      let front = rest_of pieces (ahead ++ behind) after.link.left given in
       let none : front.rest ≡ [] = subst (λ (o : Option (List ℕ)). IfSome o (λ (rest : List ℕ). rest ≡ [])) front.left_is ended.1 in
-      let all : joined pieces ≡ stream = sym (append-nil (joined pieces)) ∙ ap (λ (xs : List ℕ). joined pieces ++ xs) (sym none) ∙ front.all in
+      let all : joined pieces ≡ ahead ++ behind = sym (append-nil (joined pieces)) ∙ ap (λ (xs : List ℕ). joined pieces ++ xs) (sym none) ∙ front.all in
       let fine = accepts_by ends.between at_end takes.made takes.calls ends.gives_up pass_is pieces takes.to all takes.leads in
       let edge : is_edge (hand beginning pieces) ends.between.receiving ≡ true = ap (is_edge (hand beginning pieces)) takes.receiving ∙ fine.1 in
       let is : at_stream_end (hand beginning pieces) ends.between.receiving ≡ Ended = rw edge refl in
       let same : Truncated at ≡ Ended = ends.end_is ∙ is in
       cc same
 
-  completes_by : (end : RecvEnd) (at_end : Standing) → Receives end beginning (at_first s old) at_end before after → at_end.pass ≡ new
+  completes_by : (end : RecvEnd) (at_end : Standing) → Receives end ahead beginning (at_first s old) at_end before after → at_end.pass ≡ new
       → ¬ Rose before.link.faults after.link.faults → ¬ Rose before.log.faults after.log.faults → IsComplete end
   completes_by Ended at_end receives pass_is link log = tt
   completes_by Worn at_end receives pass_is link log = tt
   completes_by OutOfMemory at_end receives pass_is link log = tt
   completes_by (Truncated at) at_end receives pass_is link log =
-      not_truncated at receives.pieces at_end receives.comes pass_is receives.passed.exchanged.left receives.cause
+      not_truncated at receives.pieces at_end receives.comes pass_is (was_given receives.pieces receives.sent receives.lines receives.passed) receives.cause
   completes_by (BadFrame at) at_end receives pass_is link log =
-      not_whole (BadFrame at) receives.pieces at_end receives.comes pass_is receives.passed.exchanged.left
+      not_whole (BadFrame at) receives.pieces at_end receives.comes pass_is (was_given receives.pieces receives.sent receives.lines receives.passed)
   completes_by (Refused answer) at_end receives pass_is link log =
-      not_whole (Refused answer) receives.pieces at_end receives.comes pass_is receives.passed.exchanged.left
+      not_whole (Refused answer) receives.pieces at_end receives.comes pass_is (was_given receives.pieces receives.sent receives.lines receives.passed)
   completes_by StreamLimit at_end receives pass_is link log =
-      not_whole StreamLimit receives.pieces at_end receives.comes pass_is receives.passed.exchanged.left
+      not_whole StreamLimit receives.pieces at_end receives.comes pass_is (was_given receives.pieces receives.sent receives.lines receives.passed)
   completes_by LinkFault at_end receives pass_is link log = link receives.cause
   completes_by LogFault at_end receives pass_is link log = log receives.cause
 
-pub completes : (end : RecvEnd) (last : Option (List ℕ)) (s : Receiving) (old new : PassView) (before after : SessionRecord)
-    → ReceivesAll end last s old new before after → Completes end s old new before after
-completes end last s old new before after all stream left accepts link log =
-    completes_by s old new before after stream left accepts end all.at_end all.receives all.pass_is link log
+pub completes : (end : RecvEnd) (last : Option (List ℕ)) (s : Receiving) (ahead : List ℕ) (old new : PassView) (before after : SessionRecord)
+    → ReceivesAll end last s ahead old new before after → Completes end s ahead old new before after
+completes end last s ahead old new before after all rest left accepts link log =
+    completes_by s ahead old new before after rest left accepts end all.at_end all.receives all.pass_is link log

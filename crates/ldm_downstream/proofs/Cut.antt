@@ -5,7 +5,7 @@ use Rattle.ldm_rpc.specs.Reading.{after_byte}
 use Rattle.ldm_rpc.specs.Streams.{Position, Placed, forgets, records_in, in_hand}
 use Rattle.ldm_rpc.proofs.Joined.{records-append, in_hand-append}
 use Rattle.ldm_intake.specs.Taken.{Arrival}
-use Rattle.ldm_downstream.specs.declared.limits.TheConstants.{LONGEST_STREAM}
+use Rattle.ldm_session.specs.declared.limits.TheConstants.{LONGEST_STREAM}
 use Rattle.ldm_downstream.specs.Pieces.{Piece, joined, within, arrived, arrivals, hand}
 use Rattle.ldm_downstream.specs.Untimed.{untimed}
 

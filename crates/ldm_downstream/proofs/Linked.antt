@@ -5,7 +5,7 @@ use Rattle.std.proofs.lemmas.List.Concat.{flat_map-append}
 use Rattle.std.specs.Option.{option_map}
 use Rattle.ldm_rpc.specs.Streams.{Position}
 use Rattle.ldm_outside.proofs.CallerLemmas.{Rose-later}
-use Rattle.ldm_outside.specs.Clock.{ClockRecord, Answers}
+use Rattle.ldm_outside.specs.Clock.{ClockRecord}
 use Rattle.ldm_outside.specs.Io.{SinkRecord, Takes as TakesBytes}
 use Rattle.ldm_outside.specs.Session.{SessionRecord, KeepsFaults}
 use Rattle.ldm_shared.specs.Passes.{PassView}
@@ -16,7 +16,7 @@ use Rattle.ldm_intake.specs.declared.end.RecvEnd.TheVariants.{Ended, Truncated, 
 use Rattle.ldm_intake.specs.TakesRecord.{Standing}
 use Rattle.ldm_downstream.specs.Pieces.{Piece, joined}
 use Rattle.ldm_downstream.specs.Receives.{Passed, IsPart, Cause, Receives, is_whole_end}
-use Rattle.ldm_downstream.specs.Sessions.{Advances, Writes, HasGiven}
+use Rattle.ldm_downstream.specs.Sessions.{Advances, Writes, HasCome}
 use Rattle.ldm_downstream.proofs.Ending.{in_front_of, anew, comes-anew, continues-anew}
 
 -- ---- lines
@@ -50,14 +50,16 @@ unfolding moments
 moments-append [] second = refl
 moments-append (piece ∷ first) second = ap (λ (others : List ℕ). piece.now ∷ others) (moments-append first second)
 
-pub Passed-then : (first second : List Piece) (sent more lines others : List ℕ) (old mid new : SessionRecord) → Passed first sent lines old mid → Passed second more others mid new
-    → Passed (first ++ second) (sent ++ more) (lines ++ others) old new
+pub Passed-then : (ahead : List ℕ) (first second : List Piece) (sent more lines others : List ℕ) (old mid new : SessionRecord) → Passed ahead first sent lines old mid
+    → Passed [] second more others mid new → Passed ahead (first ++ second) (sent ++ more) (lines ++ others) old new
 unfolding moments
-Passed-then first second sent more lines others old mid new one other =
+Passed-then ahead first second sent more lines others old mid new one other =
     let P : List ℕ → Type 0 = λ instants. AnsweredAll instants old.clock new.clock in
     record {
-      exchanged = Exchanged-same old.link new.link (sent ++ more) (joined first ++ joined second) (sent ++ more) (joined (first ++ second)) refl (sym (joined-append first second))
-          (Exchanged-then old.link mid.link new.link sent (joined first) more (joined second) one.exchanged other.exchanged);
+      given = one.given ++ other.given;
+      all = joined-append first second ∙ ap (λ (x : List ℕ). x ++ joined second) one.all ∙ ap (λ (x : List ℕ). (ahead ++ one.given) ++ x) other.all
+          ∙ append_assoc ahead one.given other.given;
+      exchanged = Exchanged-then old.link mid.link new.link sent one.given more other.given one.exchanged other.exchanged;
       moments = subst P (sym (moments-append first second))
           (AnsweredAll-then (moments first) (moments second) old.clock mid.clock new.clock one.moments other.moments);
       logged = TakesBytes-then lines others old.log mid.log new.log one.logged other.logged;
@@ -65,26 +67,30 @@ Passed-then first second sent more lines others old mid new one other =
 
 -- nothing passed, but counts may have risen
 pub Passed-nothing : (old new : SessionRecord) → new.link.passed ≡ old.link.passed → new.link.left ≡ old.link.left → new.clock ≡ old.clock → new.log.written ≡ old.log.written
-    → Passed [] [] [] old new
+    → Passed [] [] [] [] old new
 Passed-nothing old new passed left clock written =
     let P : ClockRecord → Type 0 = λ c. AnsweredAll [] old.clock c in
     record {
+      given = [];
+      all = refl;
       exchanged = Exchanged-nothing old.link new.link passed left;
       moments = subst P (sym clock) (AnsweredAll-nothing old.clock);
       logged = TakesBytes-nothing old.log new.log written;
     }
 
--- one piece was given at a moment, and then bytes were sent and lines written
-pub Passed-piece : (piece : Piece) (sent lines : List ℕ) (begins before after : SessionRecord) → HasGiven piece.bytes begins before
-    → Answers piece.now before.clock after.clock → Writes sent lines before.link after.link before.log after.log → Passed (piece ∷ []) sent lines begins after
-Passed-piece piece sent lines begins before after given answered writes =
-    let P : ClockRecord → Type 0 = λ c. AnsweredAll (piece.now ∷ []) c after.clock in
+-- one piece came, and then bytes were sent and lines written
+pub Passed-piece : (ahead : List ℕ) (piece : Piece) (sent lines : List ℕ) (begins before after : SessionRecord) → HasCome ahead piece begins before
+    → after.clock ≡ before.clock → Writes sent lines before.link after.link before.log after.log → Passed ahead (piece ∷ []) sent lines begins after
+Passed-piece ahead piece sent lines begins before after come clock writes =
+    let P : ClockRecord → Type 0 = λ c. AnsweredAll (piece.now ∷ []) begins.clock c in
     let Q : SinkRecord → Type 0 = λ s. TakesBytes s lines after.log in
     record {
-      exchanged = Exchanged-same begins.link after.link ([] ++ sent) (piece.bytes ++ []) sent (joined (piece ∷ [])) refl refl
-          (Exchanged-then begins.link before.link after.link [] piece.bytes sent [] given.exchanged writes.exchanged);
-      moments = subst P given.clock answered;
-      logged = subst Q given.log writes.logged;
+      given = come.given;
+      all = append-nil piece.bytes ∙ come.all;
+      exchanged = Exchanged-same begins.link after.link ([] ++ sent) (come.given ++ []) sent come.given refl (append-nil come.given)
+          (Exchanged-then begins.link before.link after.link [] come.given sent [] come.exchanged writes.exchanged);
+      moments = subst P (sym clock) come.moment;
+      logged = subst Q come.log writes.logged;
     }
 
 -- ---- parts and causes
@@ -107,21 +113,21 @@ Cause-later Worn pass old mid new kept cause = cause
 
 -- ---- one piece after another
 
-pub Advances-then : (p q r : Position) (a b c : Standing) (old mid new : SessionRecord) → Advances p q a b old mid → Advances q r (anew b) c mid new → Advances p r a (in_front_of b c) old new
-Advances-then p q r a b c old mid new before later = record {
+pub Advances-then : (ahead : List ℕ) (p q r : Position) (a b c : Standing) (old mid new : SessionRecord) → Advances ahead p q a b old mid → Advances [] q r (anew b) c mid new → Advances ahead p r a (in_front_of b c) old new
+Advances-then ahead p q r a b c old mid new before later = record {
   pieces = before.pieces ++ later.pieces;
   continues = continues-anew p q before.pieces later.pieces a b before.continues r c later.continues;
-  passed = Passed-then before.pieces later.pieces b.out c.out b.notes c.notes old mid new before.passed later.passed;
+  passed = Passed-then ahead before.pieces later.pieces b.out c.out b.notes c.notes old mid new before.passed later.passed;
 }
 
-pub Receives-then : (end : RecvEnd) (p q : Position) (a b c : Standing) (old mid new : SessionRecord) → Advances p q a b old mid → KeepsFaults old mid
-    → Receives end q (anew b) c mid new → Receives end p a (in_front_of b c) old new
-Receives-then end p q a b c old mid new before kept later = record {
+pub Receives-then : (end : RecvEnd) (ahead : List ℕ) (p q : Position) (a b c : Standing) (old mid new : SessionRecord) → Advances ahead p q a b old mid → KeepsFaults old mid
+    → Receives end [] q (anew b) c mid new → Receives end ahead p a (in_front_of b c) old new
+Receives-then end ahead p q a b c old mid new before kept later = record {
   pieces = before.pieces ++ later.pieces;
   comes = comes-anew p q before.pieces later.pieces a b before.continues end c later.comes;
   sent = b.out ++ later.sent;
   lines = b.notes ++ later.lines;
-  passed = Passed-then before.pieces later.pieces b.out later.sent b.notes later.lines old mid new before.passed later.passed;
+  passed = Passed-then ahead before.pieces later.pieces b.out later.sent b.notes later.lines old mid new before.passed later.passed;
   sent_is = IsPart-behind (is_whole_end end) b.out later.sent c.out later.sent_is;
   lines_are = IsPart-behind (is_whole_end end) b.notes later.lines c.notes later.lines_are;
   cause = Cause-later end c.pass old mid new kept later.cause;

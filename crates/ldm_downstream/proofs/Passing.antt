@@ -11,7 +11,7 @@ use Rattle.ldm_intake.specs.Receiving.{Receiving}
 use Rattle.ldm_intake.specs.Taken.{taken, taken_none}
 use Rattle.ldm_intake.specs.TakesRecord.{Standing}
 use Rattle.ldm_intake.specs.Turning.{HasClosed, HasKept}
-use Rattle.ldm_downstream.specs.declared.limits.TheConstants.{LONGEST_STREAM}
+use Rattle.ldm_session.specs.declared.limits.TheConstants.{LONGEST_STREAM}
 use Rattle.ldm_downstream.specs.Pieces.{Piece, within, arrived, arrivals, hand}
 use Rattle.ldm_downstream.specs.ReceiverView.{ReceiverView}
 use Rattle.ldm_downstream.specs.Received.{at_stream_end, end_by_bytes}

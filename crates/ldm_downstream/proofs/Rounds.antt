@@ -42,17 +42,17 @@ front-none xs = record { rest = xs; is = refl }
 
 -- ---- all was written
 
-pub round-written : (end : Option RecvEnd) (piece : Piece) (p : Position) (receiver : ReceiverView) (pass : PassView) (a b : Standing) (old new : SessionRecord)
-    → receiver.end ≡ end → b.receiving ≡ receiver.receiving → b.pass ≡ pass → Pushes end piece p receiver.hand a b → Passed (piece ∷ []) b.out b.notes old new
-    → Rounds end receiver pass p a old new
-round-written None piece p receiver pass a b old new live receiving pass_is pushes passed = record {
+pub round-written : (end : Option RecvEnd) (ahead : List ℕ) (piece : Piece) (p : Position) (receiver : ReceiverView) (pass : PassView) (a b : Standing) (old new : SessionRecord)
+    → receiver.end ≡ end → b.receiving ≡ receiver.receiving → b.pass ≡ pass → Pushes end piece p receiver.hand a b → Passed ahead (piece ∷ []) b.out b.notes old new
+    → Rounds end ahead receiver pass p a old new
+round-written None ahead piece p receiver pass a b old new live receiving pass_is pushes passed = record {
   at = b;
   advances = record { pieces = piece ∷ []; continues = pushes; passed = passed };
   receiving = receiving;
   pass_is = pass_is;
   live = live;
 }
-round-written (Some end) piece p receiver pass a b old new live receiving pass_is pushes passed = record {
+round-written (Some end) ahead piece p receiver pass a b old new live receiving pass_is pushes passed = record {
   at_end = b;
   receives = record {
     pieces = piece ∷ [];
@@ -82,9 +82,9 @@ link_fault = record { early = λ pieces p a b early. early; part = refl; not_wor
 pub log_fault : IsFault LogFault
 log_fault = record { early = λ pieces p a b early. early; part = refl; not_worn = refl }
 
-module _ (pieces : List Piece) (p : Position) (a : Standing) (sent lines : List ℕ) (old new : SessionRecord) (passed : Passed pieces sent lines old new) where
+module _ (ahead : List ℕ) (pieces : List Piece) (p : Position) (a : Standing) (sent lines : List ℕ) (old new : SessionRecord) (passed : Passed ahead pieces sent lines old new) where
   receives-front : (end : RecvEnd) (c : Standing) → is_whole_end end ≡ false → Comes end pieces p a c → IsFront sent c.out → IsFront lines c.notes → Cause end c.pass old new
-      → Receives end p a c old new
+      → Receives end ahead p a c old new
   receives-front end c part comes front_out front_lines cause = record {
     pieces = pieces;
     comes = comes;
@@ -99,7 +99,7 @@ module _ (pieces : List Piece) (p : Position) (a : Standing) (sent lines : List 
   module _ (b : Standing) (front_out : IsFront sent b.out) (front_lines : IsFront lines b.notes) (fault : RecvEnd) (is : IsFault fault) where
     -- where the receiving went on
     pub failed-live : (q : Position) (result : RecvEnd) (s : Receiving) (pass : PassView) → Continues pieces p q a b
-        → ClosesIf (is_worn fault) fault result b.receiving s b.pass pass → Cause fault pass old new → Receives result p a (closed_at b s pass) old new
+        → ClosesIf (is_worn fault) fault result b.receiving s b.pass pass → Cause fault pass old new → Receives result ahead p a (closed_at b s pass) old new
     failed-live q result s pass continues closes cause =
         let c = closed_at b s pass in
         let not : ClosesIf false fault result b.receiving s b.pass pass = subst (λ (w : Bool). ClosesIf w fault result b.receiving s b.pass pass) is.not_worn closes in
@@ -112,7 +112,7 @@ module _ (pieces : List Piece) (p : Position) (a : Standing) (sent lines : List 
         ]
 
     -- where the bytes ended it before
-    pub failed-over : (end : RecvEnd) → Ends end pieces p a b → Cause fault b.pass old new → Receives (if is_worn end then Worn else fault) p a b old new
+    pub failed-over : (end : RecvEnd) → Ends end pieces p a b → Cause fault b.pass old new → Receives (if is_worn end then Worn else fault) ahead p a b old new
     failed-over (BadFrame at) ends cause = receives-front fault b is.part (is.early pieces p a b (early-whole (BadFrame at) pieces p a b ends)) front_out front_lines cause
     failed-over (Refused answer) ends cause = receives-front fault b is.part (is.early pieces p a b (early-whole (Refused answer) pieces p a b ends)) front_out front_lines cause
     failed-over StreamLimit ends cause = receives-front fault b is.part (is.early pieces p a b (early-whole StreamLimit pieces p a b ends)) front_out front_lines cause
@@ -124,24 +124,24 @@ module _ (pieces : List Piece) (p : Position) (a : Standing) (sent lines : List 
     failed-over LogFault ends cause = absurd ends
 
 -- a fault behind a piece
-pub round-failed : (end : Option RecvEnd) (fault result : RecvEnd) (piece : Piece) (p : Position) (a b : Standing) (was is_now : ReceiverView) (pass : PassView)
-    (sent lines : List ℕ) (old new : SessionRecord) → IsFault fault → Passed (piece ∷ []) sent lines old new → IsFront sent b.out → IsFront lines b.notes
+pub round-failed : (end : Option RecvEnd) (fault result : RecvEnd) (ahead : List ℕ) (piece : Piece) (p : Position) (a b : Standing) (was is_now : ReceiverView) (pass : PassView)
+    (sent lines : List ℕ) (old new : SessionRecord) → IsFault fault → Passed ahead (piece ∷ []) sent lines old new → IsFront sent b.out → IsFront lines b.notes
     → b.receiving ≡ was.receiving → Pushes end piece p was.hand a b → FailsAt end fault result was is_now b.pass pass → Cause fault pass old new
-    → RunsOut result is_now pass p a old new
-round-failed None fault result piece p a b was is_now pass sent lines old new is passed front_out front_lines receiving pushes fails cause =
+    → RunsOut result ahead is_now pass p a old new
+round-failed None fault result ahead piece p a b was is_now pass sent lines old new is passed front_out front_lines receiving pushes fails cause =
     let closes = subst (λ (r : Receiving). ClosesIf (is_worn fault) fault result r is_now.receiving b.pass pass) (sym receiving) fails.closes in
     record {
       at_end = closed_at b is_now.receiving pass;
-      receives = failed-live (piece ∷ []) p a sent lines old new passed b front_out front_lines fault is was.hand result is_now.receiving pass pushes closes cause;
+      receives = failed-live ahead (piece ∷ []) p a sent lines old new passed b front_out front_lines fault is was.hand result is_now.receiving pass pushes closes cause;
       receiving = refl;
       pass_is = refl;
     }
-round-failed (Some end) fault result piece p a b was is_now pass sent lines old new is passed front_out front_lines receiving pushes fails cause =
+round-failed (Some end) fault result ahead piece p a b was is_now pass sent lines old new is passed front_out front_lines receiving pushes fails cause =
     let same : b.pass ≡ pass = sym fails.2 in
     record {
       at_end = b;
-      receives = subst (λ (e : RecvEnd). Receives e p a b old new) (sym fails.0)
-          (failed-over (piece ∷ []) p a sent lines old new passed b front_out front_lines fault is end pushes (subst (λ (v : PassView). Cause fault v old new) (sym same) cause));
+      receives = subst (λ (e : RecvEnd). Receives e ahead p a b old new) (sym fails.0)
+          (failed-over ahead (piece ∷ []) p a sent lines old new passed b front_out front_lines fault is end pushes (subst (λ (v : PassView). Cause fault v old new) (sym same) cause));
       receiving = receiving ∙ sym (ap (λ (v : ReceiverView). v.receiving) fails.1);
       pass_is = same;
     }
@@ -157,7 +157,7 @@ cause-edge p s pass old new false edge ended = rw edge ended
 pub round-ended : (p : Position) (a : Standing) (result : RecvEnd) (is_now : ReceiverView) (pass : PassView) (old new : SessionRecord) → Continues [] p p a a
     → a.out ≡ [] → a.notes ≡ []
     → ClosesIf (is_worn (at_stream_end p a.receiving)) (at_stream_end p a.receiving) result a.receiving is_now.receiving a.pass pass
-    → Passed [] [] [] old new → HasEnded old new → RunsOut result is_now pass p a old new
+    → Passed [] [] [] [] old new → HasEnded old new → RunsOut result [] is_now pass p a old new
 round-ended p a result is_now pass old new continues no_out no_notes closes passed ended =
     let end = at_stream_end p a.receiving in
     let not : ClosesIf false end result a.receiving is_now.receiving a.pass pass =
@@ -184,42 +184,42 @@ round-ended p a result is_now pass old new continues no_out no_notes closes pass
 
 -- the link failed before a piece came, or what was to be sent before the first one was not sent
 pub round-unfed : (p : Position) (a : Standing) (fault result : RecvEnd) (was is_now : ReceiverView) (pass : PassView) (sent lines : List ℕ) (old new : SessionRecord)
-    → IsFault fault → Continues [] p was.hand a a → was.end ≡ None → a.receiving ≡ was.receiving → Passed [] sent lines old new → IsFront sent a.out → IsFront lines a.notes
-    → FailsAt was.end fault result was is_now a.pass pass → Cause fault pass old new → RunsOut result is_now pass p a old new
+    → IsFault fault → Continues [] p was.hand a a → was.end ≡ None → a.receiving ≡ was.receiving → Passed [] [] sent lines old new → IsFront sent a.out → IsFront lines a.notes
+    → FailsAt was.end fault result was is_now a.pass pass → Cause fault pass old new → RunsOut result [] is_now pass p a old new
 round-unfed p a fault result was is_now pass sent lines old new is continues live receiving passed front_out front_lines fails cause =
     let finishes = subst (λ (e : Option RecvEnd). FailsAt e fault result was is_now a.pass pass) live fails in
     let closes = subst (λ (r : Receiving). ClosesIf (is_worn fault) fault result r is_now.receiving a.pass pass) (sym receiving) finishes.closes in
     record {
       at_end = closed_at a is_now.receiving pass;
-      receives = failed-live [] p a sent lines old new passed a front_out front_lines fault is was.hand result is_now.receiving pass continues closes cause;
+      receives = failed-live [] [] p a sent lines old new passed a front_out front_lines fault is was.hand result is_now.receiving pass continues closes cause;
       receiving = refl;
       pass_is = refl;
     }
 
 -- ---- one turn, and then another one
 
-pub rounds-then : (end : Option RecvEnd) (p : Position) (a : Standing) (receiver later : ReceiverView) (pass after : PassView) (old mid new : SessionRecord)
-    → RunsOn receiver pass p a old mid → KeepsFaults old mid → Rounds end later after receiver.hand (settled receiver.receiving pass) mid new → Rounds end later after p a old new
-rounds-then None p a receiver later pass after old mid new before kept rounds =
+pub rounds-then : (end : Option RecvEnd) (ahead : List ℕ) (p : Position) (a : Standing) (receiver later : ReceiverView) (pass after : PassView) (old mid new : SessionRecord)
+    → RunsOn ahead receiver pass p a old mid → KeepsFaults old mid → Rounds end [] later after receiver.hand (settled receiver.receiving pass) mid new → Rounds end ahead later after p a old new
+rounds-then None ahead p a receiver later pass after old mid new before kept rounds =
     let b = before.at in
     let there : settled receiver.receiving pass ≡ anew b =
     ap (λ (r : Receiving). settled r pass) (sym before.receiving) ∙ ap (λ (v : PassView). settled b.receiving v) (sym before.pass_is) in
     record {
       at = in_front_of b rounds.at;
-      advances = Advances-then p receiver.hand later.hand a b rounds.at old mid new before.advances
-          (subst (λ (v : Standing). Advances receiver.hand later.hand v rounds.at mid new) there rounds.advances);
+      advances = Advances-then ahead p receiver.hand later.hand a b rounds.at old mid new before.advances
+          (subst (λ (v : Standing). Advances [] receiver.hand later.hand v rounds.at mid new) there rounds.advances);
       receiving = rounds.receiving;
       pass_is = rounds.pass_is;
       live = rounds.live;
     }
-rounds-then (Some end) p a receiver later pass after old mid new before kept rounds =
+rounds-then (Some end) ahead p a receiver later pass after old mid new before kept rounds =
     let b = before.at in
     let there : settled receiver.receiving pass ≡ anew b =
     ap (λ (r : Receiving). settled r pass) (sym before.receiving) ∙ ap (λ (v : PassView). settled b.receiving v) (sym before.pass_is) in
     record {
       at_end = in_front_of b rounds.at_end;
-      receives = Receives-then end p receiver.hand a b rounds.at_end old mid new before.advances kept
-          (subst (λ (v : Standing). Receives end receiver.hand v rounds.at_end mid new) there rounds.receives);
+      receives = Receives-then end ahead p receiver.hand a b rounds.at_end old mid new before.advances kept
+          (subst (λ (v : Standing). Receives end [] receiver.hand v rounds.at_end mid new) there rounds.receives);
       receiving = rounds.receiving;
       pass_is = rounds.pass_is;
     }

@@ -1,15 +1,16 @@
 -- The turns of receiving over a link, by what their calls ensure.
 use Rattle.std.proofs.Common.{◌≡◌, ℕ, ◌≤◌, List, [], ◌++◌, length, take, Option, Some, None, refl, ap, sym, subst, ◌∙◌, arith}
 use Rattle.std.specs.Prelude.{IfSome}
-use Rattle.std.proofs.lemmas.List.{take-take, take-append-le}
+use Rattle.std.proofs.lemmas.List.{append-nil, take-take, take-append-le}
 use Rattle.ldm_rpc.specs.Streams.{Position}
 use Rattle.ldm_outside.specs.declared.io.Got.TheVariants.{Bytes, End, Failed}
 use Rattle.ldm_outside.specs.Clock.{ClockRecord, Answers}
+use Rattle.ldm_outside.specs.Gate.{GateRecord}
 use Rattle.ldm_outside.specs.Io.{SinkRecord}
 use Rattle.ldm_outside.specs.Link.{LinkRecord, RecvGives}
 use Rattle.ldm_outside.specs.Session.{SessionRecord, KeepsFaults}
 use Rattle.ldm_shared.specs.Passes.{PassView, IsSamePass}
-use Rattle.ldm_session.proofs.CallerLemmas.{Exchanged-gave, AnsweredAll-nothing}
+use Rattle.ldm_session.proofs.CallerLemmas.{Exchanged-gave, Exchanged-nothing, AnsweredAll-nothing}
 use Rattle.ldm_session.specs.Exchange.{AnsweredAll}
 use Rattle.ldm_intake.specs.declared.end.RecvEnd.{RecvEnd}
 use Rattle.ldm_intake.specs.declared.end.RecvEnd.TheVariants.{Ended, Truncated, BadFrame, Refused, LinkFault, LogFault, StreamLimit, Worn, OutOfMemory}
@@ -22,7 +23,7 @@ use Rattle.ldm_downstream.specs.ReceiverView.{ReceiverView}
 use Rattle.ldm_downstream.specs.Received.{GoesOnAt, at_stream_end, end_by_bytes}
 use Rattle.ldm_downstream.specs.Pushing.{Continues, Pushes, PushesAt, FailsAt, Finishes}
 use Rattle.ldm_downstream.specs.Receives.{Passed, at_first}
-use Rattle.ldm_downstream.specs.Sessions.{HasGiven, Writes, WritesAt, Rounds, RunsOn, RunsOut, settled}
+use Rattle.ldm_downstream.specs.Sessions.{HasCome, Writes, WritesAt, Rounds, RunsOn, RunsOut, settled}
 use Rattle.ldm_downstream.proofs.Ending.{continues-none}
 use Rattle.ldm_downstream.proofs.Linked.{Passed-piece, Passed-nothing}
 use Rattle.ldm_downstream.proofs.Rounds.{front-all, front-none, link_fault, log_fault, round-written, round-ended, round-unfed}
@@ -35,47 +36,60 @@ live-pushes : (end : Option RecvEnd) (piece : Piece) (old new : ReceiverView) (a
 live-pushes None piece old new a b live pushes = pushes.0
 live-pushes (Some end) piece old new a b live pushes = absurd (cc live)
 
-module _ (now : ℕ) (bytes all : List ℕ) (old mid was : ReceiverView) (pass between : PassView) (out notes out2 notes2 : List ℕ) (begins before later : SessionRecord)
-    (same : bytes ≡ all) (live : old.end ≡ None) (no_out : out ≡ []) (no_notes : notes ≡ [])
+module _ (now : ℕ) (bytes : List ℕ) (old mid was : ReceiverView) (pass between : PassView) (out notes out2 notes2 ahead : List ℕ) (begins before later : SessionRecord)
+    (live : old.end ≡ None) (no_out : out ≡ []) (no_notes : notes ≡ [])
     (pushed : PushesAt old.end (record { now = now; bytes = bytes }) old mid (stands old.receiving pass out notes) (stands mid.receiving between out2 notes2))
-    (kept : was ≡ mid) (given : HasGiven all begins before) (answered : Answers now before.clock later.clock) where
+    (kept : was ≡ mid) (come : HasCome ahead (record { now = now; bytes = bytes }) begins before) (clock : later.clock ≡ before.clock) where
   piece-of : Piece
-  piece-of = record { now = now; bytes = all }
+  piece-of = record { now = now; bytes = bytes }
 
   here : Pushes was.end piece-of old.hand was.hand (settled old.receiving pass) (stands was.receiving between out2 notes2)
   unfolding piece-of
   here =
-      let P : ReceiverView → Type 0 = λ r. Pushes r.end (record { now = now; bytes = all }) old.hand r.hand (settled old.receiving pass) (stands r.receiving between out2 notes2) in
+      let P : ReceiverView → Type 0 = λ r. Pushes r.end (record { now = now; bytes = bytes }) old.hand r.hand (settled old.receiving pass) (stands r.receiving between out2 notes2) in
       let first = live-pushes old.end (record { now = now; bytes = bytes }) old mid (stands old.receiving pass out notes) (stands mid.receiving between out2 notes2) live pushed in
-      let second = subst (λ (b : List ℕ). Pushes mid.end (record { now = now; bytes = b }) old.hand mid.hand (stands old.receiving pass out notes) (stands mid.receiving between out2 notes2)) same first in
-      let third = subst (λ (a : Standing). Pushes mid.end (record { now = now; bytes = all }) old.hand mid.hand a (stands mid.receiving between out2 notes2))
-      (settled-at old.receiving pass out notes no_out no_notes) second in
-      subst P (sym kept) third
+      let second = subst (λ (a : Standing). Pushes mid.end (record { now = now; bytes = bytes }) old.hand mid.hand a (stands mid.receiving between out2 notes2))
+      (settled-at old.receiving pass out notes no_out no_notes) first in
+      subst P (sym kept) second
 
   pub take-failed : (fault result : RecvEnd) (is_now : ReceiverView) (after : PassView) → WritesAt (Some fault) out2 notes2 before.link later.link before.log later.log
-      → FailsAt was.end fault result was is_now between after → RunsOut result is_now after old.hand (settled old.receiving pass) begins later
+      → FailsAt was.end fault result was is_now between after → RunsOut result ahead is_now after old.hand (settled old.receiving pass) begins later
   unfolding piece-of
   take-failed fault result is_now after writes fails =
-      failed-round fault was.end result piece-of old.hand (settled old.receiving pass) (stands was.receiving between out2 notes2) was is_now after begins before later
-      given answered writes refl here fails
+      failed-round fault was.end result ahead piece-of old.hand (settled old.receiving pass) (stands was.receiving between out2 notes2) was is_now after begins before later
+      come clock writes refl here fails
 
   pub take-written : (result : Option RecvEnd) → result ≡ was.end → Writes out2 notes2 before.link later.link before.log later.log
-      → Rounds result was between old.hand (settled old.receiving pass) begins later
+      → Rounds result ahead was between old.hand (settled old.receiving pass) begins later
   unfolding piece-of
   take-written result is writes =
-      round-written result piece-of old.hand was between (settled old.receiving pass) (stands was.receiving between out2 notes2) begins later (sym is) refl refl
+      round-written result ahead piece-of old.hand was between (settled old.receiving pass) (stands was.receiving between out2 notes2) begins later (sym is) refl refl
       (subst (λ (e : Option RecvEnd). Pushes e piece-of old.hand was.hand (settled old.receiving pass) (stands was.receiving between out2 notes2)) (sym is) here)
-      (Passed-piece piece-of out2 notes2 begins before later given answered writes)
+      (Passed-piece ahead piece-of out2 notes2 begins before later come clock writes)
 
 -- ---- what the link gave
 
-pub gave-given : (n : ℕ) (into : List ℕ) (old new : SessionRecord) → RecvGives (Bytes n) into old.link new.link → new.log ≡ old.log → new.clock ≡ old.clock
-    → HasGiven (take n into) old new
-gave-given n into old new gives log clock = record {
+pub piece-came : (n : ℕ) (into : List ℕ) (now : ℕ) (old new : SessionRecord) → RecvGives (Bytes n) into old.link new.link → new.log ≡ old.log → Answers now old.clock new.clock
+    → HasCome [] (record { now = now; bytes = take n into }) old new
+piece-came n into now old new gives log answered = record {
+  given = take n into;
+  all = refl;
   exchanged = Exchanged-gave old.link new.link (take n into) gives.2;
   faults = ap (λ (l : LinkRecord). l.faults) gives.2.1;
   log = log;
-  clock = clock;
+  moment = answered;
+}
+
+-- all of a piece came ahead
+pub all-ahead : (bytes : List ℕ) (now : ℕ) (old new : SessionRecord) → new.link ≡ old.link → new.log ≡ old.log → Answers now old.clock new.clock
+    → HasCome bytes (record { now = now; bytes = bytes }) old new
+all-ahead bytes now old new link log answered = record {
+  given = [];
+  all = sym (append-nil bytes);
+  exchanged = Exchanged-nothing old.link new.link (ap (λ (l : LinkRecord). l.passed) link) (ap (λ (l : LinkRecord). l.left) link);
+  faults = ap (λ (l : LinkRecord). l.faults) link;
+  log = log;
+  moment = answered;
 }
 
 -- what came stands at the front of the buffer
@@ -89,7 +103,7 @@ live-at p end a live goes = continues-none p a (subst (λ (e : Option RecvEnd). 
 pub turn-ended : (into : List ℕ) (result : RecvEnd) (receiver is_now : ReceiverView) (pass after : PassView) (old new : SessionRecord) → RecvGives End into old.link new.link
     → new.log ≡ old.log → new.clock ≡ old.clock → receiver.end ≡ None → GoesOnAt receiver.end receiver.hand
     → Finishes (at_stream_end receiver.hand receiver.receiving) result receiver is_now pass after
-    → RunsOut result is_now after receiver.hand (settled receiver.receiving pass) old new
+    → RunsOut result [] is_now after receiver.hand (settled receiver.receiving pass) old new
 turn-ended into result receiver is_now pass after old new gives log clock live goes finishes =
     let left : new.link.left ≡ old.link.left = ap (λ (l : LinkRecord). l.left) gives.2 in
     let a = settled receiver.receiving pass in
@@ -101,7 +115,7 @@ turn-ended into result receiver is_now pass after old new gives log clock live g
 pub turn-failed : (into : List ℕ) (result : RecvEnd) (receiver is_now : ReceiverView) (pass after : PassView) (old new : SessionRecord) → RecvGives Failed into old.link new.link
     → new.log ≡ old.log → new.clock ≡ old.clock → receiver.end ≡ None → GoesOnAt receiver.end receiver.hand
     → FailsAt receiver.end LinkFault result receiver is_now pass after
-    → RunsOut result is_now after receiver.hand (settled receiver.receiving pass) old new
+    → RunsOut result [] is_now after receiver.hand (settled receiver.receiving pass) old new
 turn-failed into result receiver is_now pass after old new gives log clock live goes fails =
     let a = settled receiver.receiving pass in
     round-unfed receiver.hand a LinkFault result receiver is_now after [] [] old new link_fault (live-at receiver.hand receiver.end a live goes) live refl
@@ -110,15 +124,15 @@ turn-failed into result receiver is_now pass after old new gives log clock live 
 
 -- ---- the request
 
-Passed-written : (sent lines : List ℕ) (old new : SessionRecord) → Writes sent lines old.link new.link old.log new.log → new.clock ≡ old.clock → Passed [] sent lines old new
+Passed-written : (sent lines : List ℕ) (old new : SessionRecord) → Writes sent lines old.link new.link old.log new.log → new.clock ≡ old.clock → Passed [] [] sent lines old new
 Passed-written sent lines old new writes clock =
     let P : ClockRecord → Type 0 = λ c. AnsweredAll [] old.clock c in
-    record { exchanged = writes.exchanged; moments = subst P (sym clock) (AnsweredAll-nothing old.clock); logged = writes.logged }
+    record { given = []; all = refl; exchanged = writes.exchanged; moments = subst P (sym clock) (AnsweredAll-nothing old.clock); logged = writes.logged }
 
 -- it was not sent
 pub request-failed : (fault result : RecvEnd) (a : Standing) (was is_now : ReceiverView) (pass after : PassView) (old new : SessionRecord)
     → WritesAt (Some fault) a.out a.notes old.link new.link old.log new.log → new.clock ≡ old.clock → was.end ≡ None → GoesOnAt was.end was.hand → a.receiving ≡ was.receiving → a.pass ≡ pass
-    → FailsAt was.end fault result was is_now pass after → RunsOut result is_now after was.hand a old new
+    → FailsAt was.end fault result was is_now pass after → RunsOut result [] is_now after was.hand a old new
 request-failed LinkFault result a was is_now pass after old new writes clock live goes receiving pass_is fails =
     round-unfed was.hand a LinkFault result was is_now after writes.sent [] old new link_fault (live-at was.hand was.end a live goes) live receiving
     (Passed-written writes.sent [] old new writes.writes clock) writes.front (front-none a.notes)
@@ -137,7 +151,7 @@ request-failed OutOfMemory result a was is_now pass after old new writes clock l
 
 -- it was sent
 pub request-sent : (a : Standing) (receiver : ReceiverView) (pass : PassView) (old new : SessionRecord) → Writes a.out a.notes old.link new.link old.log new.log → new.clock ≡ old.clock
-    → receiver.end ≡ None → end_by_bytes receiver.hand ≡ None → a.receiving ≡ receiver.receiving → a.pass ≡ pass → RunsOn receiver pass receiver.hand a old new
+    → receiver.end ≡ None → end_by_bytes receiver.hand ≡ None → a.receiving ≡ receiver.receiving → a.pass ≡ pass → RunsOn [] receiver pass receiver.hand a old new
 request-sent a receiver pass old new writes clock live goes receiving pass_is = record {
   at = a;
   advances = record { pieces = []; continues = continues-none receiver.hand a goes; passed = Passed-written a.out a.notes old new writes clock };
@@ -158,24 +172,24 @@ run-at first pass out notes owed no_notes =
 pub run-failed : (fault result : RecvEnd) (first was is_now : ReceiverView) (pass after : PassView) (out notes : List ℕ) (old new : SessionRecord)
     → was ≡ first → first.hand ≡ beginning → first.end ≡ None → out ≡ records_of (request_of first.receiving) → notes ≡ []
     → WritesAt (Some fault) out notes old.link new.link old.log new.log → new.clock ≡ old.clock → GoesOnAt was.end was.hand → FailsAt was.end fault result was is_now pass after
-    → RunsOut result is_now after beginning (at_first first.receiving pass) old new
+    → RunsOut result [] is_now after beginning (at_first first.receiving pass) old new
 run-failed fault result first was is_now pass after out notes old new same begins live owed no_notes writes clock goes fails =
     let there = request-failed fault result (stands first.receiving pass out notes) was is_now pass after old new writes clock
     (ap (λ (r : ReceiverView). r.end) same ∙ live) goes (sym (ap (λ (r : ReceiverView). r.receiving) same)) refl fails in
-    let P : Position → Type 0 = λ p. RunsOut result is_now after p (stands first.receiving pass out notes) old new in
-    let Q : Standing → Type 0 = λ a. RunsOut result is_now after beginning a old new in
+    let P : Position → Type 0 = λ p. RunsOut result [] is_now after p (stands first.receiving pass out notes) old new in
+    let Q : Standing → Type 0 = λ a. RunsOut result [] is_now after beginning a old new in
     subst Q (run-at first pass out notes owed no_notes) (subst P (ap (λ (r : ReceiverView). r.hand) same ∙ begins) there)
 
 -- the request was sent
 pub run-sent : (first was : ReceiverView) (pass : PassView) (out notes : List ℕ) (old new : SessionRecord) → was ≡ first → first.hand ≡ beginning → first.end ≡ None
     → out ≡ records_of (request_of first.receiving) → notes ≡ [] → Writes out notes old.link new.link old.log new.log → new.clock ≡ old.clock
-    → RunsOn was pass beginning (at_first first.receiving pass) old new
+    → RunsOn [] was pass beginning (at_first first.receiving pass) old new
 run-sent first was pass out notes old new same begins live owed no_notes writes clock =
     let hand_is : was.hand ≡ beginning = ap (λ (r : ReceiverView). r.hand) same ∙ begins in
     let there = request-sent (stands first.receiving pass out notes) was pass old new writes clock (ap (λ (r : ReceiverView). r.end) same ∙ live)
     (ap end_by_bytes hand_is) (sym (ap (λ (r : ReceiverView). r.receiving) same)) refl in
-    let P : Position → Type 0 = λ p. RunsOn was pass p (stands first.receiving pass out notes) old new in
-    let Q : Standing → Type 0 = λ a. RunsOn was pass beginning a old new in
+    let P : Position → Type 0 = λ p. RunsOn [] was pass p (stands first.receiving pass out notes) old new in
+    let Q : Standing → Type 0 = λ a. RunsOn [] was pass beginning a old new in
     subst Q (run-at first pass out notes owed no_notes) (subst P hand_is there)
 
 pub kept-then : (old mid new : SessionRecord) → KeepsFaults old mid → KeepsFaults mid new → KeepsFaults old new
@@ -184,6 +198,23 @@ kept-then old mid new one other = record {
   ends = (let a = one.ends in let b = other.ends in omega arith);
   log = (let a = one.log in let b = other.log in omega arith);
   stops = (let a = one.stops in let b = other.stops in omega arith);
+}
+
+-- no count fell
+pub kept-by : (old new : SessionRecord) → old.link.faults ≤ new.link.faults → new.link.ends ≡ old.link.ends → old.log.faults ≤ new.log.faults → old.gate ≡ new.gate → KeepsFaults old new
+kept-by old new link ends log gate = record {
+  link = link;
+  ends = omega (arith, ends);
+  log = log;
+  stops = let stops : old.gate.stops ≡ new.gate.stops = ap (λ (g : GateRecord). g.stops) gate in omega (arith, stops);
+}
+
+pub kept-none : (old new : SessionRecord) → new.link ≡ old.link → new.log ≡ old.log → new.gate ≡ old.gate → KeepsFaults old new
+kept-none old new link log gate = record {
+  link = let same : new.link.faults ≡ old.link.faults = ap (λ (l : LinkRecord). l.faults) link in omega (arith, same);
+  ends = let same : new.link.ends ≡ old.link.ends = ap (λ (l : LinkRecord). l.ends) link in omega (arith, same);
+  log = let same : new.log.faults ≡ old.log.faults = ap (λ (s : SinkRecord). s.faults) log in omega (arith, same);
+  stops = let same : new.gate.stops ≡ old.gate.stops = ap (λ (g : GateRecord). g.stops) gate in omega (arith, same);
 }
 
 pub same-then : (old mid new : PassView) → IsSamePass old mid → IsSamePass mid new → IsSamePass old new

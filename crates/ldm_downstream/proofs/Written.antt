@@ -4,7 +4,6 @@ use Rattle.std.specs.Prelude.{Result, Ok, Err, is_err}
 use Rattle.ldm_rpc.specs.Streams.{Position}
 use Rattle.ldm_outside.specs.declared.io.SinkFailed.{SinkFailed}
 use Rattle.ldm_outside.specs.declared.link.LinkFailed.{LinkFailed}
-use Rattle.ldm_outside.specs.Clock.{Answers}
 use Rattle.ldm_outside.specs.Count.{Rose}
 use Rattle.ldm_outside.specs.Io.{SinkRecord, WritesAll}
 use Rattle.ldm_outside.specs.Link.{LinkRecord, SendsAll, Sent}
@@ -17,7 +16,7 @@ use Rattle.ldm_intake.specs.TakesRecord.{Standing}
 use Rattle.ldm_downstream.specs.Pieces.{Piece}
 use Rattle.ldm_downstream.specs.ReceiverView.{ReceiverView}
 use Rattle.ldm_downstream.specs.Pushing.{Pushes, FailsAt}
-use Rattle.ldm_downstream.specs.Sessions.{HasGiven, Writes, WritesAt, FailsToSend, FailsToLog, RunsOut}
+use Rattle.ldm_downstream.specs.Sessions.{HasCome, Writes, WritesAt, FailsToSend, FailsToLog, RunsOut}
 use Rattle.ldm_downstream.proofs.Linked.{Passed-piece, TakesBytes-nothing}
 use Rattle.ldm_downstream.proofs.Rounds.{front-all, front-none, link_fault, log_fault, round-failed}
 
@@ -55,22 +54,22 @@ writes-all (Err why) notes out old new log after went sent writes = absurd (cc w
 -- ---- a fault
 
 -- behind a piece
-pub failed-round : (fault : RecvEnd) (end : Option RecvEnd) (result : RecvEnd) (piece : Piece) (p : Position) (a b : Standing) (was is_now : ReceiverView) (pass : PassView)
-    (begins before after : SessionRecord) → HasGiven piece.bytes begins before → Answers piece.now before.clock after.clock
+pub failed-round : (fault : RecvEnd) (end : Option RecvEnd) (result : RecvEnd) (ahead : List ℕ) (piece : Piece) (p : Position) (a b : Standing) (was is_now : ReceiverView) (pass : PassView)
+    (begins before after : SessionRecord) → HasCome ahead piece begins before → after.clock ≡ before.clock
     → WritesAt (Some fault) b.out b.notes before.link after.link before.log after.log → b.receiving ≡ was.receiving
-    → Pushes end piece p was.hand a b → FailsAt end fault result was is_now b.pass pass → RunsOut result is_now pass p a begins after
-failed-round LinkFault end result piece p a b was is_now pass begins before after given answered writes receiving pushes fails =
-    round-failed end LinkFault result piece p a b was is_now pass writes.sent [] begins after link_fault
-    (Passed-piece piece writes.sent [] begins before after given answered writes.writes) writes.front (front-none b.notes) receiving pushes fails
-    (subst (λ (n : ℕ). Rose n after.link.faults) given.faults writes.rose)
-failed-round LogFault end result piece p a b was is_now pass begins before after given answered writes receiving pushes fails =
-    round-failed end LogFault result piece p a b was is_now pass b.out writes.lines begins after log_fault
-    (Passed-piece piece b.out writes.lines begins before after given answered writes.writes) (front-all b.out) writes.front receiving pushes fails
-    (subst (λ (s : SinkRecord). Rose s.faults after.log.faults) given.log writes.rose)
-failed-round Ended end result piece p a b was is_now pass begins before after given answered writes receiving pushes fails = absurd writes
-failed-round (Truncated at) end result piece p a b was is_now pass begins before after given answered writes receiving pushes fails = absurd writes
-failed-round (BadFrame at) end result piece p a b was is_now pass begins before after given answered writes receiving pushes fails = absurd writes
-failed-round (Refused answer) end result piece p a b was is_now pass begins before after given answered writes receiving pushes fails = absurd writes
-failed-round StreamLimit end result piece p a b was is_now pass begins before after given answered writes receiving pushes fails = absurd writes
-failed-round Worn end result piece p a b was is_now pass begins before after given answered writes receiving pushes fails = absurd writes
-failed-round OutOfMemory end result piece p a b was is_now pass begins before after given answered writes receiving pushes fails = absurd writes
+    → Pushes end piece p was.hand a b → FailsAt end fault result was is_now b.pass pass → RunsOut result ahead is_now pass p a begins after
+failed-round LinkFault end result ahead piece p a b was is_now pass begins before after come clock writes receiving pushes fails =
+    round-failed end LinkFault result ahead piece p a b was is_now pass writes.sent [] begins after link_fault
+    (Passed-piece ahead piece writes.sent [] begins before after come clock writes.writes) writes.front (front-none b.notes) receiving pushes fails
+    (subst (λ (n : ℕ). Rose n after.link.faults) come.faults writes.rose)
+failed-round LogFault end result ahead piece p a b was is_now pass begins before after come clock writes receiving pushes fails =
+    round-failed end LogFault result ahead piece p a b was is_now pass b.out writes.lines begins after log_fault
+    (Passed-piece ahead piece b.out writes.lines begins before after come clock writes.writes) (front-all b.out) writes.front receiving pushes fails
+    (subst (λ (s : SinkRecord). Rose s.faults after.log.faults) come.log writes.rose)
+failed-round Ended end result ahead piece p a b was is_now pass begins before after come clock writes receiving pushes fails = absurd writes
+failed-round (Truncated at) end result ahead piece p a b was is_now pass begins before after come clock writes receiving pushes fails = absurd writes
+failed-round (BadFrame at) end result ahead piece p a b was is_now pass begins before after come clock writes receiving pushes fails = absurd writes
+failed-round (Refused answer) end result ahead piece p a b was is_now pass begins before after come clock writes receiving pushes fails = absurd writes
+failed-round StreamLimit end result ahead piece p a b was is_now pass begins before after come clock writes receiving pushes fails = absurd writes
+failed-round Worn end result ahead piece p a b was is_now pass begins before after come clock writes receiving pushes fails = absurd writes
+failed-round OutOfMemory end result ahead piece p a b was is_now pass begins before after come clock writes receiving pushes fails = absurd writes

@@ -39,8 +39,9 @@ IsComplete LinkFault = ⊥
 IsComplete LogFault = ⊥
 IsComplete StreamLimit = ⊥
 
--- Where the link had a stream left that is accepted, and neither link nor log failed, a receiving that ended so is complete.
-abbrev pub Completes : RecvEnd → Receiving → (old new : PassView) → (before after : SessionRecord) → Type 0
-Completes end s old new before after =
-    (stream : List ℕ) → before.link.left ≡ Some stream → AcceptsReplied s stream old new →
+-- Where the bytes that came ahead and those that the link had left are a stream that is accepted, and neither link nor log failed, a
+-- receiving that ended so is complete.
+abbrev pub Completes : RecvEnd → Receiving → (ahead : List ℕ) → (old new : PassView) → (before after : SessionRecord) → Type 0
+Completes end s ahead old new before after =
+    (rest : List ℕ) → before.link.left ≡ Some rest → AcceptsReplied s (ahead ++ rest) old new →
     ¬ Rose before.link.faults after.link.faults → ¬ Rose before.log.faults after.log.faults → IsComplete end

@@ -4,7 +4,7 @@ use Rattle.std.specs.List.{flat_map}
 use Rattle.ldm_relay.specs.declared.message.TheConstants.{LARGEST_RECORD}
 use Rattle.ldm_rpc.specs.Streams.{Position, Placed, at_start, records_in, in_hand}
 use Rattle.ldm_intake.specs.Taken.{Arrival}
-use Rattle.ldm_downstream.specs.declared.limits.TheConstants.{LONGEST_STREAM}
+use Rattle.ldm_session.specs.declared.limits.TheConstants.{LONGEST_STREAM}
 
 -- A piece of a stream: the moment at which it came, and its bytes.
 pub record Piece : Type 0 where

@@ -8,7 +8,7 @@ use Rattle.ldm_intake.specs.Course.{Course, Comes, then}
 use Rattle.ldm_intake.specs.Receiving.{Receiving}
 use Rattle.ldm_intake.specs.Settled.{is_settled}
 use Rattle.ldm_intake.specs.Taken.{Taken, taken_none, taken}
-use Rattle.ldm_downstream.specs.declared.limits.TheConstants.{LONGEST_STREAM}
+use Rattle.ldm_session.specs.declared.limits.TheConstants.{LONGEST_STREAM}
 use Rattle.ldm_downstream.specs.Pieces.{Piece, arrivals, hand}
 
 -- How the bytes behind the last whole record end a receiving: they begin a record that is too long, which is refused, or the stream has

@@ -70,31 +70,35 @@ Cause LogFault pass old new = Rose old.log.faults new.log.faults
 Cause OutOfMemory pass old new = Unit {0}
 Cause Worn pass old new = length pass.seen ≡ MOST_TURNS
 
--- What passed with the outside while these pieces came: the bytes that were sent and those of the log, and the clock's answers.
-pub record Passed (pieces : List Piece) (sent lines : List ℕ) (old new : SessionRecord) : Type 0 where
-  pub exchanged : Exchanged old.link sent (joined pieces) new.link
+-- What passed with the outside while these pieces came: the bytes that were sent and those of the log, and the clock's answers. The pieces
+-- have the bytes that came ahead, and behind them those that the link gave.
+pub record Passed (ahead : List ℕ) (pieces : List Piece) (sent lines : List ℕ) (old new : SessionRecord) : Type 0 where
+  pub given : List ℕ
+  pub all : joined pieces ≡ ahead ++ given
+  pub exchanged : Exchanged old.link sent given new.link
   pub moments : AnsweredAll (map (λ (piece : Piece). piece.now) pieces) old.clock new.clock
   pub logged : TakesBytes old.log lines new.log
 
 -- A receiving goes on from a place in the stream to its end. Where it then stands are all bytes that the peer was owed since then, and all
 -- log lines: these were sent and written, or a front of them.
-pub record Receives (end : RecvEnd) (p : Position) (old new : Standing) (before after : SessionRecord) : Type 0 where
+pub record Receives (end : RecvEnd) (ahead : List ℕ) (p : Position) (old new : Standing) (before after : SessionRecord) : Type 0 where
   pub pieces : List Piece
   pub comes : Comes end pieces p old new
   pub sent : List ℕ
   pub lines : List ℕ
-  pub passed : Passed pieces sent lines before after
+  pub passed : Passed ahead pieces sent lines before after
   pub sent_is : IsPart (is_whole_end end) sent new.out
   pub lines_are : IsPart (is_whole_end end) lines new.notes
   pub cause : Cause end new.pass before after
 
--- before the first piece: the request is owed to the peer
+-- before the first piece: the request is owed to the peer, where there is one
 abbrev pub at_first : Receiving → PassView → Standing
 at_first s pass = record { receiving = s; pass = pass; out = records_of (request_of s); notes = [] }
 
--- A receiving that began with that request, from its beginning to its end.
-pub record ReceivesAll (end : RecvEnd) (last : Option (List ℕ)) (s : Receiving) (old new : PassView) (before after : SessionRecord) : Type 0 where
+-- A receiving from its beginning, with the request that is owed then, to its end. `ahead` are the first bytes of its stream: those that came
+-- before it began, and that nobody looked at.
+pub record ReceivesAll (end : RecvEnd) (last : Option (List ℕ)) (s : Receiving) (ahead : List ℕ) (old new : PassView) (before after : SessionRecord) : Type 0 where
   pub at_end : Standing
-  pub receives : Receives end beginning (at_first s old) at_end before after
+  pub receives : Receives end ahead beginning (at_first s old) at_end before after
   pub pass_is : at_end.pass ≡ new
   pub last_is : last ≡ at_end.receiving.last

@@ -1,10 +1,11 @@
 -- What receiving over a link keeps between two pieces.
-use Rattle.std.specs.Prelude.{◌≡◌, ℕ, ◌<◌, List, [], ◌++◌, Option, Some, None}
+use Rattle.std.specs.Prelude.{◌≡◌, ℕ, List, [], ◌++◌, Option, Some, None}
 use Rattle.ldm_rpc.specs.Streams.{Position}
+use Rattle.ldm_outside.specs.Clock.{Answers, ClockRecord}
 use Rattle.ldm_outside.specs.Count.{Rose}
 use Rattle.ldm_outside.specs.Io.{SinkRecord, Takes as TakesBytes}
 use Rattle.ldm_outside.specs.Link.{LinkRecord}
-use Rattle.ldm_outside.specs.Session.{SessionRecord}
+use Rattle.ldm_outside.specs.Session.{SessionRecord, no_gate}
 use Rattle.ldm_shared.specs.Passes.{PassView}
 use Rattle.ldm_session.specs.Exchange.{Exchanged}
 use Rattle.ldm_intake.specs.declared.end.RecvEnd.{RecvEnd}
@@ -15,6 +16,10 @@ use Rattle.ldm_downstream.specs.Pieces.{Piece}
 use Rattle.ldm_downstream.specs.Pushing.{Continues}
 use Rattle.ldm_downstream.specs.ReceiverView.{ReceiverView}
 use Rattle.ldm_downstream.specs.Receives.{Passed, Receives}
+
+-- the outside of a receiving, by what its parts tell
+abbrev pub outside_of : LinkRecord → SinkRecord → ClockRecord → SessionRecord
+outside_of link log clock = record { link = link; log = log; clock = clock; gate = no_gate }
 
 -- Bytes that the peer is owed were sent, and log lines were written.
 pub record Writes (sent lines : List ℕ) (link new_link : LinkRecord) (log new_log : SinkRecord) : Type 0 where
@@ -47,43 +52,45 @@ WritesAt (Some LogFault) out notes link new_link log new_log = FailsToLog out no
 WritesAt (Some _) out notes link new_link log new_log = ⊥
 
 -- A receiving went on over some pieces: all that the peer was owed was sent, and all lines were written.
-pub record Advances (p q : Position) (old new : Standing) (before after : SessionRecord) : Type 0 where
+pub record Advances (ahead : List ℕ) (p q : Position) (old new : Standing) (before after : SessionRecord) : Type 0 where
   pub pieces : List Piece
   pub continues : Continues pieces p q old new
-  pub passed : Passed pieces new.out new.notes before after
+  pub passed : Passed ahead pieces new.out new.notes before after
 
--- since then the link gave these bytes, and nothing else happened
-pub record HasGiven (bytes : List ℕ) (begins now : SessionRecord) : Type 0 where
-  pub exchanged : Exchanged begins.link [] bytes now.link
+-- Since then a piece came, and nothing else happened: it has the bytes that came ahead, and behind them those that the link gave, and the
+-- clock answered its moment.
+pub record HasCome (ahead : List ℕ) (piece : Piece) (begins now : SessionRecord) : Type 0 where
+  pub given : List ℕ
+  pub all : piece.bytes ≡ ahead ++ given
+  pub exchanged : Exchanged begins.link [] given now.link
   pub faults : now.link.faults ≡ begins.link.faults
   pub log : now.log ≡ begins.log
-  pub clock : now.clock ≡ begins.clock
+  pub moment : Answers piece.now begins.clock now.clock
 
 -- before a piece: all that was owed was sent
 abbrev pub settled : Receiving → PassView → Standing
 settled s pass = stands s pass [] []
 
 -- it goes on
-pub record RunsOn (receiver : ReceiverView) (pass : PassView) (p : Position) (old : Standing) (before after : SessionRecord) : Type 0 where
+pub record RunsOn (ahead : List ℕ) (receiver : ReceiverView) (pass : PassView) (p : Position) (old : Standing) (before after : SessionRecord) : Type 0 where
   pub at : Standing
-  pub advances : Advances p receiver.hand old at before after
+  pub advances : Advances ahead p receiver.hand old at before after
   pub receiving : at.receiving ≡ receiver.receiving
   pub pass_is : at.pass ≡ pass
   pub live : receiver.end ≡ None
 
 -- it ended so
-pub record RunsOut (end : RecvEnd) (receiver : ReceiverView) (pass : PassView) (p : Position) (old : Standing) (before after : SessionRecord) : Type 0 where
+pub record RunsOut (end : RecvEnd) (ahead : List ℕ) (receiver : ReceiverView) (pass : PassView) (p : Position) (old : Standing) (before after : SessionRecord) : Type 0 where
   pub at_end : Standing
-  pub receives : Receives end p old at_end before after
+  pub receives : Receives end ahead p old at_end before after
   pub receiving : at_end.receiving ≡ receiver.receiving
   pub pass_is : at_end.pass ≡ pass
 
-abbrev pub Rounds : Option RecvEnd → ReceiverView → PassView → Position → Standing → SessionRecord → SessionRecord → Type 0
-Rounds None receiver pass p old before after = RunsOn receiver pass p old before after
-Rounds (Some end) receiver pass p old before after = RunsOut end receiver pass p old before after
+abbrev pub Rounds : Option RecvEnd → (ahead : List ℕ) → ReceiverView → PassView → Position → Standing → SessionRecord → SessionRecord → Type 0
+Rounds None ahead receiver pass p old before after = RunsOn ahead receiver pass p old before after
+Rounds (Some end) ahead receiver pass p old before after = RunsOut end ahead receiver pass p old before after
 
--- nothing is owed and nothing is to be logged, and there is room for a piece
-pub record IsReady (out notes : List ℕ) (room : ℕ) : Type 0 where
+-- nothing is owed and nothing is to be logged
+pub record IsReady (out notes : List ℕ) : Type 0 where
   pub no_out : out ≡ []
   pub no_notes : notes ≡ []
-  pub some : 0 < room

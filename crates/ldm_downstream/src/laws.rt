@@ -1,7 +1,7 @@
 //! What holds of all receivings. These functions do nothing: their contracts are the laws.
 ghost use Rattle.std.specs.Prelude.{◌≡◌, ◌≤◌, ℕ, List, Option, length};
 ghost use Rattle.ldm_rpc.specs.Streams.{records_in, in_hand};
-ghost use Rattle.ldm_downstream.specs.declared.limits.TheConstants.{LONGEST_STREAM};
+ghost use Rattle.ldm_session.specs.declared.limits.TheConstants.{LONGEST_STREAM};
 ghost use Rattle.ldm_downstream.specs.Pieces.{Piece, arrivals, beginning, hand, joined};
 ghost use Rattle.ldm_downstream.specs.Untimed.{untimed};
 ghost use Rattle.ldm_outside.specs.Session.{SessionRecord};
@@ -13,8 +13,8 @@ ghost use Rattle.ldm_downstream.specs.Receives.{ReceivesAll};
 
 /// A stream that is accepted is received to its end, unless the queue can have no call more, the memory ends, or a fault came.
 pub fn accepted_streams_are_received()
-    ensures complete { (end : RecvEnd) (last : Option (List ℕ)) (s : Receiving) (old new : PassView) (before after : SessionRecord) →
-        ReceivesAll end last s old new before after → Completes end s old new before after }
+    ensures complete { (end : RecvEnd) (last : Option (List ℕ)) (s : Receiving) (ahead : List ℕ) (old new : PassView)
+        (before after : SessionRecord) → ReceivesAll end last s ahead old new before after → Completes end s ahead old new before after }
     // A stream that is accepted whatever the queue replies is accepted with what it replied.
     ensures whatever { (s : Receiving) (stream : List ℕ) (old new : PassView) → Accepts s stream → AcceptsReplied s stream old new }
 {}

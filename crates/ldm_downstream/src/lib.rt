@@ -7,8 +7,9 @@ mod limits;
 mod receiver;
 mod session;
 mod stream;
+mod taker;
 
 pub use laws::{accepted_streams_are_received, pieces_make_no_difference};
-pub use limits::{LONGEST_PIECE, LONGEST_STREAM};
+pub use limits::LONGEST_PIECE;
 pub use receiver::{Pushed, Receiver};
-pub use session::{Received, receive};
+pub use session::{Received, receive, receive_pushed};

@@ -1,26 +1,27 @@
 //! Receiving over a link.
-ghost use Rattle.std.specs.Prelude.{◌≡◌, ◌<◌, ◌≤◌, [], ℕ, true, false, IfOk, IfNone, IfSome, None, Some, length, take};
+ghost use Rattle.std.specs.Prelude.{◌≡◌, ◌<◌, ◌≤◌, [], ℕ, List, true, false, IfOk, IfNone, None, length};
 ghost use Rattle.std.specs.Option.{option_map};
 ghost use Rattle.std.specs.Vec.{vec_len};
 ghost use Rattle.ldm_outside.specs.Link.{IsNotClosed};
 ghost use Rattle.ldm_outside.specs.Session.{SessionRecord, KeepsFaults, ungated_tells};
+ghost use Rattle.ldm_rpc.specs.Streams.{Position};
 ghost use Rattle.ldm_shared.specs.Passes.{IsPassOf, IsSamePass};
-ghost use Rattle.ldm_intake.specs.Opening.{requesting};
+ghost use Rattle.ldm_intake.specs.Opening.{accepting, request_of, requesting};
+ghost use Rattle.ldm_intake.specs.Room.{records_of};
+ghost use Rattle.ldm_intake.specs.TakesRecord.{Standing};
 ghost use Rattle.ldm_downstream.specs.Complete.{Completes};
 ghost use Rattle.ldm_downstream.specs.Pieces.{beginning};
 ghost use Rattle.ldm_downstream.specs.Receives.{ReceivesAll, at_first};
 ghost use Rattle.ldm_downstream.specs.ReceiverView.{before_stream};
-ghost use Rattle.ldm_downstream.specs.Sessions.{HasGiven, IsReady, Rounds, RunsOut, WritesAt, settled};
-ghost use Rattle.ldm_intake.specs.Opening.{request_of};
-ghost use Rattle.ldm_intake.specs.Room.{records_of};
+ghost use Rattle.ldm_downstream.specs.Sessions.{HasCome, IsReady, Rounds, RunsOn, RunsOut, settled};
 
 use crate::limits::LONGEST_PIECE;
-use crate::receiver::{Pushed, Receiver};
-use ldm_class::Class;
+use crate::taker::Taker;
+use ldm_class::{Class, Policy};
 use ldm_intake::RecvEnd;
-use ldm_outside::{Clock, Got, Link, Sink, send_all, write_all};
+use ldm_outside::{Clock, Got, Link, Sink};
 use ldm_shared::{Pass, Shared};
-use ldm_types::{OutOfMemory, Signature};
+use ldm_types::{Micros, OutOfMemory, Signature};
 use std::alloc::Global;
 use std::sync::Wait;
 
@@ -52,17 +53,17 @@ pub fn receive<H: Wait, K: Link, E: Sink, C: Clock>(
     ensures still_open { IsNotClosed (K.tells link.new) }
     ensures counts { KeepsFaults (ungated_tells K.tells E.tells C.tells link.old log.old clock.old) (ungated_tells K.tells E.tells C.tells link.new log.new clock.new) }
     ensures receives { ReceivesAll result.end (option_map (λ signature. signature.0) result.last)
-        (requesting class.now (option_map (λ signature. signature.0) last) max_hereis) pass.old pass.new
+        (requesting class.now (option_map (λ signature. signature.0) last) max_hereis) [] pass.old pass.new
         (ungated_tells K.tells E.tells C.tells link.old log.old clock.old) (ungated_tells K.tells E.tells C.tells link.new log.new clock.new) }
-    ensures completes { Completes result.end (requesting class.now (option_map (λ signature. signature.0) last) max_hereis) pass.old pass.new
+    ensures completes { Completes result.end (requesting class.now (option_map (λ signature. signature.0) last) max_hereis) [] pass.old pass.new
         (ungated_tells K.tells E.tells C.tells link.old log.old clock.old) (ungated_tells K.tells E.tells C.tells link.new log.new clock.new) }
 {
-    match Session::open(alloc, class, last, max_hereis) {
+    match Session::request(alloc, class, last, max_hereis) {
         Ok(mut session) => {
-            let end = session.run(rt, shared, pass, link, log, clock);
+            let end = session.run_asking(rt, shared, pass, link, log, clock);
             Received {
                 end,
-                last: session.receiver.last(),
+                last: session.taker.receiver.last(),
             }
         }
         Err(OutOfMemory) => Received {
@@ -72,39 +73,196 @@ pub fn receive<H: Wait, K: Link, E: Sink, C: Clock>(
     }
 }
 
-// A receiver, and its memory for a piece, for what the peer is owed and for log lines.
+/// Receives what a host pushes, whose offer of a class was accepted, until the end of the stream, or until something ends it: those
+/// products that the ACCEPT rules let it push.
+///
+/// The link may have given bytes that nobody looked at, with the offer or behind it: these are `ahead`. They are the first piece, where
+/// there are some, and places count from the first of them.
+pub fn receive_pushed<H: Wait, K: Link, E: Sink, C: Clock>(
+    rt: &H,
+    alloc: Global,
+    shared: &Shared,
+    pass: &mut Pass,
+    link: &mut K,
+    log: &mut E,
+    clock: &mut C,
+    host: &[u8],
+    class: &Class,
+    policy: &Policy,
+    ahead: &[u8],
+) -> Received
+    requires of { IsPassOf shared.now pass.old }
+    requires not_closed { IsNotClosed (K.tells link.old) }
+    ensures kept { IsSamePass pass.old pass.new }
+    ensures still_open { IsNotClosed (K.tells link.new) }
+    ensures counts { KeepsFaults (ungated_tells K.tells E.tells C.tells link.old log.old clock.old) (ungated_tells K.tells E.tells C.tells link.new log.new clock.new) }
+    ensures receives { ReceivesAll result.end (option_map (λ signature. signature.0) result.last) (accepting class.now policy.now host.now) ahead.now pass.old pass.new
+        (ungated_tells K.tells E.tells C.tells link.old log.old clock.old) (ungated_tells K.tells E.tells C.tells link.new log.new clock.new) }
+    ensures completes { Completes result.end (accepting class.now policy.now host.now) ahead.now pass.old pass.new
+        (ungated_tells K.tells E.tells C.tells link.old log.old clock.old) (ungated_tells K.tells E.tells C.tells link.new log.new clock.new) }
+{
+    if ahead.is_empty() {
+        match Session::accept(alloc, class, policy, host) {
+            Ok(mut session) => {
+                let end = session.run(rt, shared, pass, link, log, clock);
+                Received {
+                    end,
+                    last: session.taker.receiver.last(),
+                }
+            }
+            Err(OutOfMemory) => Received {
+                end: RecvEnd::OutOfMemory,
+                last: None,
+            },
+        }
+    } else {
+        receive_behind(
+            rt, alloc, shared, pass, link, log, clock, host, class, policy, ahead,
+        )
+    }
+}
+
+// The same, where bytes are there already: their moment does not wait for memory.
+fn receive_behind<H: Wait, K: Link, E: Sink, C: Clock>(
+    rt: &H,
+    alloc: Global,
+    shared: &Shared,
+    pass: &mut Pass,
+    link: &mut K,
+    log: &mut E,
+    clock: &mut C,
+    host: &[u8],
+    class: &Class,
+    policy: &Policy,
+    ahead: &[u8],
+) -> Received
+    requires of { IsPassOf shared.now pass.old }
+    requires not_closed { IsNotClosed (K.tells link.old) }
+    ensures kept { IsSamePass pass.old pass.new }
+    ensures still_open { IsNotClosed (K.tells link.new) }
+    ensures counts { KeepsFaults (ungated_tells K.tells E.tells C.tells link.old log.old clock.old) (ungated_tells K.tells E.tells C.tells link.new log.new clock.new) }
+    ensures receives { ReceivesAll result.end (option_map (λ signature. signature.0) result.last) (accepting class.now policy.now host.now) ahead.now pass.old pass.new
+        (ungated_tells K.tells E.tells C.tells link.old log.old clock.old) (ungated_tells K.tells E.tells C.tells link.new log.new clock.new) }
+{
+    let now = clock.now();
+    match Session::accept(alloc, class, policy, host) {
+        Ok(mut session) => {
+            let end = session.run_behind(rt, shared, pass, link, log, clock, ahead, now);
+            Received {
+                end,
+                last: session.taker.receiver.last(),
+            }
+        }
+        Err(OutOfMemory) => Received {
+            end: RecvEnd::OutOfMemory,
+            last: None,
+        },
+    }
+}
+
+// What takes pieces, and the memory for one.
 #[derive(Drop)]
 struct Session<'a> {
-    receiver: Receiver<'a>,
+    taker: Taker<'a>,
     piece: Vec<u8>,
-    out: Vec<u8>,
-    notes: Vec<u8>,
 }
 
 impl<'a> Session<'a> {
-    // Before the request is sent.
-    fn open(
+    // Before the request for a class is sent.
+    fn request(
         alloc: Global,
         class: &'a Class,
         last: Option<Signature>,
         max_hereis: u32,
     ) -> Result<Session<'a>, OutOfMemory>
-        ensures receiver { IfOk result (λ session. session.receiver ≡ before_stream (requesting class.now (option_map (λ signature. signature.0) last) max_hereis) false) }
-        ensures owed { IfOk result (λ session. session.out.items ≡ records_of (request_of (requesting class.now (option_map (λ signature. signature.0) last) max_hereis))) }
-        ensures no_notes { IfOk result (λ session. session.notes.items ≡ []) }
+        ensures receiver { IfOk result (λ session. session.taker.receiver ≡ before_stream (requesting class.now (option_map (λ signature. signature.0) last) max_hereis) false) }
+        ensures owed { IfOk result (λ session. session.taker.out.items ≡ records_of (request_of (requesting class.now (option_map (λ signature. signature.0) last) max_hereis))) }
+        ensures no_notes { IfOk result (λ session. session.taker.notes.items ≡ []) }
         ensures room { IfOk result (λ session. 0 < vec_len session.piece) }
     {
-        let mut receiver = Receiver::request(alloc, class, last, max_hereis)?;
-        let mut out = Vec::new(alloc);
-        receiver.begin(&mut out)?;
         Ok(Session {
-            receiver,
+            taker: Taker::request(alloc, class, last, max_hereis)?,
             piece: vec![in alloc; 0u8; LONGEST_PIECE]?,
-            out,
-            notes: Vec::new(alloc),
         })
     }
 
+    // Before what a host pushes.
+    fn accept(
+        alloc: Global,
+        class: &'a Class,
+        policy: &'a Policy,
+        host: &[u8],
+    ) -> Result<Session<'a>, OutOfMemory>
+        ensures receiver { IfOk result (λ session. session.taker.receiver ≡ before_stream (accepting class.now policy.now host.now) false) }
+        ensures ready { IfOk result (λ session. IsReady session.taker.out.items session.taker.notes.items) }
+        ensures room { IfOk result (λ session. 0 < vec_len session.piece) }
+    {
+        Ok(Session {
+            taker: Taker::accept(alloc, class, policy, host)?,
+            piece: vec![in alloc; 0u8; LONGEST_PIECE]?,
+        })
+    }
+
+    // Sends the request, and receives until it ends.
+    fn run_asking<H: Wait, K: Link, E: Sink, C: Clock>(
+        &mut self,
+        rt: &H,
+        shared: &Shared,
+        pass: &mut Pass,
+        link: &mut K,
+        log: &mut E,
+        clock: &mut C,
+    ) -> RecvEnd
+        requires of { IsPassOf shared.now pass.old }
+        requires not_closed { IsNotClosed (K.tells link.old) }
+        requires begins { (self.old.taker.receiver.hand ≡ beginning) × (self.old.taker.receiver.end ≡ None) }
+        requires owed { self.old.taker.out.items ≡ records_of (request_of self.old.taker.receiver.receiving) }
+        requires no_notes { self.old.taker.notes.items ≡ [] }
+        requires room { 0 < vec_len self.old.piece }
+        ensures kept { IsSamePass pass.old pass.new }
+        ensures still_open { IsNotClosed (K.tells link.new) }
+        ensures counts { KeepsFaults (ungated_tells K.tells E.tells C.tells link.old log.old clock.old) (ungated_tells K.tells E.tells C.tells link.new log.new clock.new) }
+        ensures runs_out { RunsOut result [] self.new.taker.receiver pass.new beginning (at_first self.old.taker.receiver.receiving pass.old)
+            (ungated_tells K.tells E.tells C.tells link.old log.old clock.old) (ungated_tells K.tells E.tells C.tells link.new log.new clock.new) }
+    {
+        match self.taker.ask(rt, shared, pass, link, log) {
+            Some(end) => end,
+            None => self.run(rt, shared, pass, link, log, clock),
+        }
+    }
+
+    // Takes the first piece, which came at that moment, and receives until it ends.
+    fn run_behind<H: Wait, K: Link, E: Sink, C: Clock>(
+        &mut self,
+        rt: &H,
+        shared: &Shared,
+        pass: &mut Pass,
+        link: &mut K,
+        log: &mut E,
+        clock: &mut C,
+        first: &[u8],
+        now: Micros,
+    ) -> RecvEnd
+        requires of { IsPassOf shared.now pass.old }
+        requires not_closed { IsNotClosed (K.tells link.old) }
+        requires live { self.old.taker.receiver.end ≡ None }
+        requires ready { IsReady self.old.taker.out.items self.old.taker.notes.items }
+        requires room { 0 < vec_len self.old.piece }
+        ensures kept { IsSamePass pass.old pass.new }
+        ensures still_open { IsNotClosed (K.tells link.new) }
+        ensures counts { KeepsFaults (ungated_tells K.tells E.tells C.tells link.old log.old clock.old) (ungated_tells K.tells E.tells C.tells link.new log.new clock.new) }
+        ensures runs_out { (ahead : List ℕ) (begins : SessionRecord) → HasCome ahead (record { now = now; bytes = first.now }) begins (ungated_tells K.tells E.tells C.tells link.old log.old clock.old)
+            → KeepsFaults begins (ungated_tells K.tells E.tells C.tells link.old log.old clock.old)
+            → RunsOut result ahead self.new.taker.receiver pass.new self.old.taker.receiver.hand (settled self.old.taker.receiver.receiving pass.old) begins
+            (ungated_tells K.tells E.tells C.tells link.new log.new clock.new) }
+    {
+        match self.taker.take(rt, shared, pass, link, log, first, now) {
+            Some(end) => end,
+            None => self.run(rt, shared, pass, link, log, clock),
+        }
+    }
+
+    // Receives until it ends. It goes on from anywhere.
     fn run<H: Wait, K: Link, E: Sink, C: Clock>(
         &mut self,
         rt: &H,
@@ -116,19 +274,17 @@ impl<'a> Session<'a> {
     ) -> RecvEnd
         requires of { IsPassOf shared.now pass.old }
         requires not_closed { IsNotClosed (K.tells link.old) }
-        requires begins { (self.old.receiver.hand ≡ beginning) × (self.old.receiver.end ≡ None) }
-        requires owed { self.old.out.items ≡ records_of (request_of self.old.receiver.receiving) }
-        requires no_notes { self.old.notes.items ≡ [] }
+        requires live { self.old.taker.receiver.end ≡ None }
+        requires ready { IsReady self.old.taker.out.items self.old.taker.notes.items }
         requires room { 0 < vec_len self.old.piece }
         ensures kept { IsSamePass pass.old pass.new }
         ensures still_open { IsNotClosed (K.tells link.new) }
         ensures counts { KeepsFaults (ungated_tells K.tells E.tells C.tells link.old log.old clock.old) (ungated_tells K.tells E.tells C.tells link.new log.new clock.new) }
-        ensures runs_out { RunsOut result self.new.receiver pass.new beginning (at_first self.old.receiver.receiving pass.old) (ungated_tells K.tells E.tells C.tells link.old log.old clock.old) (ungated_tells K.tells E.tells C.tells link.new log.new clock.new) }
+        ensures runs_out { (ahead : List ℕ) (p : Position) (first : Standing) (begins : SessionRecord)
+            → RunsOn ahead self.old.taker.receiver pass.old p first begins (ungated_tells K.tells E.tells C.tells link.old log.old clock.old)
+            → KeepsFaults begins (ungated_tells K.tells E.tells C.tells link.old log.old clock.old)
+            → RunsOut result ahead self.new.taker.receiver pass.new p first begins (ungated_tells K.tells E.tells C.tells link.new log.new clock.new) }
     {
-        match self.write(link, log) {
-            Some(fault) => return self.receiver.fail(shared, rt, pass, fault),
-            None => {}
-        }
         for _ in rt.forever() {
             match self.turn(rt, shared, pass, link, log, clock) {
                 Some(end) => return end,
@@ -150,71 +306,25 @@ impl<'a> Session<'a> {
     ) -> Option<RecvEnd>
         requires of { IsPassOf shared.now pass.old }
         requires not_closed { IsNotClosed (K.tells link.old) }
-        requires live { self.old.receiver.end ≡ None }
-        requires ready { IsReady self.old.out.items self.old.notes.items (vec_len self.old.piece) }
+        requires live { self.old.taker.receiver.end ≡ None }
+        requires ready { IsReady self.old.taker.out.items self.old.taker.notes.items }
+        requires room { 0 < vec_len self.old.piece }
         ensures kept { IsSamePass pass.old pass.new }
         ensures still_open { IsNotClosed (K.tells link.new) }
         ensures counts { KeepsFaults (ungated_tells K.tells E.tells C.tells link.old log.old clock.old) (ungated_tells K.tells E.tells C.tells link.new log.new clock.new) }
-        ensures ready { IfNone result (IsReady self.new.out.items self.new.notes.items (vec_len self.new.piece)) }
-        ensures rounds { Rounds result self.new.receiver pass.new self.old.receiver.hand (settled self.old.receiver.receiving pass.old) (ungated_tells K.tells E.tells C.tells link.old log.old clock.old) (ungated_tells K.tells E.tells C.tells link.new log.new clock.new) }
+        ensures ready { IfNone result (IsReady self.new.taker.out.items self.new.taker.notes.items) }
+        ensures room { 0 < vec_len self.new.piece }
+        ensures rounds { Rounds result [] self.new.taker.receiver pass.new self.old.taker.receiver.hand (settled self.old.taker.receiver.receiving pass.old)
+            (ungated_tells K.tells E.tells C.tells link.old log.old clock.old) (ungated_tells K.tells E.tells C.tells link.new log.new clock.new) }
     {
         match link.recv(self.piece.as_mut_slice()) {
-            Got::Bytes(count) => self.take(rt, shared, pass, link, log, clock, count),
-            Got::End => Some(self.receiver.close(shared, rt, pass)),
-            Got::Failed => Some(self.receiver.fail(shared, rt, pass, RecvEnd::LinkFault)),
+            Got::Bytes(count) => {
+                let now = clock.now();
+                let piece = &self.piece[..count];
+                self.taker.take(rt, shared, pass, link, log, piece, now)
+            }
+            Got::End => Some(self.taker.receiver.close(shared, rt, pass)),
+            Got::Failed => Some(self.taker.receiver.fail(shared, rt, pass, RecvEnd::LinkFault)),
         }
-    }
-
-    // Takes a piece of so many bytes.
-    fn take<H: Wait, K: Link, E: Sink, C: Clock>(
-        &mut self,
-        rt: &H,
-        shared: &Shared,
-        pass: &mut Pass,
-        link: &mut K,
-        log: &mut E,
-        clock: &mut C,
-        count: usize,
-    ) -> Option<RecvEnd>
-        requires of { IsPassOf shared.now pass.old }
-        requires not_closed { IsNotClosed (K.tells link.old) }
-        requires live { self.old.receiver.end ≡ None }
-        requires ready { IsReady self.old.out.items self.old.notes.items (vec_len self.old.piece) }
-        requires count { count ≤ vec_len self.old.piece }
-        ensures kept { IsSamePass pass.old pass.new }
-        ensures still_open { IsNotClosed (K.tells link.new) }
-        ensures counts { KeepsFaults (ungated_tells K.tells E.tells C.tells link.old log.old clock.old) (ungated_tells K.tells E.tells C.tells link.new log.new clock.new) }
-        ensures ready { IfNone result (IsReady self.new.out.items self.new.notes.items (vec_len self.new.piece)) }
-        ensures takes { (begins : SessionRecord) → HasGiven (take count self.old.piece.items) begins (ungated_tells K.tells E.tells C.tells link.old log.old clock.old) →
-            Rounds result self.new.receiver pass.new self.old.receiver.hand (settled self.old.receiver.receiving pass.old) begins (ungated_tells K.tells E.tells C.tells link.new log.new clock.new) }
-    {
-        let now = clock.now();
-        let piece = &self.piece[..count];
-        self.receiver.push(shared, rt, pass, piece, now, &mut self.out, &mut self.notes);
-        match self.write(link, log) {
-            Some(fault) => Some(self.receiver.fail(shared, rt, pass, fault)),
-            None => self.receiver.over(),
-        }
-    }
-
-    // Sends what the peer is owed, and writes the log lines.
-    fn write<K: Link, E: Sink>(&mut self, link: &mut K, log: &mut E) -> Option<RecvEnd>
-        requires { IsNotClosed (K.tells link.old) }
-        ensures writes { WritesAt result self.old.out.items self.old.notes.items (K.tells link.old) (K.tells link.new) (E.tells log.old) (E.tells log.new) }
-        ensures empty { IfNone result ((self.new.out.items ≡ []) × (self.new.notes.items ≡ [])) }
-        ensures same { (self.new.receiver ≡ self.old.receiver) × (vec_len self.new.piece ≡ vec_len self.old.piece) }
-        ensures faults_kept { ((K.tells link.old).faults ≤ (K.tells link.new).faults) × ((E.tells log.old).faults ≤ (E.tells log.new).faults) }
-        ensures ends_kept { (K.tells link.new).ends ≡ (K.tells link.old).ends }
-        ensures still_open { IsNotClosed (K.tells link.new) }
-    {
-        if send_all(link, self.out.as_slice()).is_err() {
-            return Some(RecvEnd::LinkFault);
-        }
-        self.out.clear();
-        if write_all(log, self.notes.as_slice()).is_err() {
-            return Some(RecvEnd::LogFault);
-        }
-        self.notes.clear();
-        None
     }
 }

@@ -3,10 +3,10 @@ ghost use Rattle.std.specs.Prelude.{◌≡◌, ◌≤◌, ◌<◌, ◌+◌, ◌�
 ghost use Rattle.std.specs.Option.{option_copied, option_map};
 ghost use Rattle.ldm_rpc.specs.Reading.{is_faulty};
 ghost use Rattle.ldm_rpc.specs.Streams.{Position};
+ghost use Rattle.ldm_session.specs.declared.limits.TheConstants.{LONGEST_STREAM};
 ghost use Rattle.ldm_shared.specs.Passes.{IsPassOf, IsSamePass, PassView};
 ghost use Rattle.ldm_intake.specs.Settled.{is_feeding};
 ghost use Rattle.ldm_intake.specs.TakesRecord.{stands};
-ghost use Rattle.ldm_downstream.specs.declared.limits.TheConstants.{LONGEST_STREAM};
 ghost use Rattle.ldm_downstream.specs.Pieces.{beginning};
 ghost use Rattle.ldm_downstream.specs.Received.{GoesOnAt, at_stream_end};
 ghost use Rattle.ldm_downstream.specs.Pushing.{ClosesIf, Pushes, is_worn};
@@ -14,10 +14,10 @@ ghost use Rattle.ldm_downstream.specs.ReceiverView.{moment};
 ghost use Rattle.ldm_downstream.specs.Turns.{Finds, Turns, Runs, Passes, end_of_fault, end_of_message, turned};
 
 use crate::ends::is_worn;
-use crate::limits::LONGEST_STREAM;
 use ldm_intake::{Intake, MessageEnd, RecordEnd, RecvEnd};
 use ldm_relay::LARGEST_RECORD;
 use ldm_rpc::{Records, RpcFault};
+use ldm_session::LONGEST_STREAM;
 use ldm_shared::{Pass, Shared, Turn};
 use ldm_types::{Micros, OutOfMemory, Signature};
 use std::alloc::Global;

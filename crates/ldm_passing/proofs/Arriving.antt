@@ -12,7 +12,7 @@ use Rattle.ldm_relay.specs.declared.message.TheConstants.{LARGEST_RECORD}
 use Rattle.ldm_relay.specs.Sent.{Sent}
 use Rattle.ldm_relay.specs.Spelling.{written, record_of, in_one}
 use Rattle.ldm_intake.specs.Taken.{Arrival}
-use Rattle.ldm_downstream.specs.declared.limits.TheConstants.{LONGEST_STREAM}
+use Rattle.ldm_session.specs.declared.limits.TheConstants.{LONGEST_STREAM}
 use Rattle.ldm_downstream.specs.Pieces.{Piece, within, arrived, arrivals, hand, joined}
 use Rattle.ldm_downstream.specs.Received.{end_by_bytes}
 use Rattle.ldm_downstream.specs.Untimed.{untimed}

@@ -12,7 +12,7 @@ use Rattle.ldm_intake.specs.Receiving.{Receiving}
 use Rattle.ldm_sender.specs.Asked.{Asked}
 use Rattle.ldm_sender.specs.Opening.{Reclassed}
 use Rattle.ldm_upstream.specs.Feeding.{IsFeeding}
-use Rattle.ldm_downstream.specs.declared.limits.TheConstants.{LONGEST_STREAM}
+use Rattle.ldm_session.specs.declared.limits.TheConstants.{LONGEST_STREAM}
 use Rattle.ldm_downstream.specs.Pieces.{hand, joined}
 use Rattle.ldm_downstream.specs.Received.{received}
 use Rattle.ldm_passing.specs.Passing.{CarriesAll, HasAsked, Passing, record_at}

@@ -15,7 +15,7 @@ use Rattle.ldm_sender.specs.Asked.{Asked}
 use Rattle.ldm_sender.specs.Opening.{Opened}
 use Rattle.ldm_upstream.specs.Turn.{Given}
 use Rattle.ldm_upstream.specs.Feeding.{Feeding, IsFeeding, Last, GoesOn, Stopped, Unanswered, bytes_of, codes_of, given_of}
-use Rattle.ldm_downstream.specs.declared.limits.TheConstants.{LONGEST_STREAM}
+use Rattle.ldm_session.specs.declared.limits.TheConstants.{LONGEST_STREAM}
 use Rattle.ldm_downstream.specs.Pieces.{Piece, joined}
 use Rattle.ldm_downstream.specs.Received.{received}
 use Rattle.ldm_passing.specs.Codes.{Agree, soon_codes}

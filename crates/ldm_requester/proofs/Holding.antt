@@ -1,5 +1,5 @@
 -- One session, and one try, by what their calls promise.
-use Rattle.std.proofs.Common.{◌≡◌, ◌≤◌, ◌⊎◌, Option, Some, None, length, inl, inr, refl, sym, subst}
+use Rattle.std.proofs.Common.{◌≡◌, ◌≤◌, ◌⊎◌, [], Option, Some, None, length, inl, inr, refl, sym, subst}
 use Rattle.ldm_outside.specs.declared.dial.Dialled.TheVariants.{Linked}
 use Rattle.ldm_outside.specs.Count.{Rose}
 use Rattle.ldm_outside.specs.Dial.{DialRecord, ConnectGives, DialTakesBack}
@@ -42,8 +42,8 @@ log-rose end pass before after log cause kept (inl session) =
 log-rose end pass before after log cause kept (inr rose) = Rose-later before.log.faults after.log.faults log.faults kept rose
 
 pub holds-one : (stop : Option NodeStop) (end : RecvEnd) (request : RequestView) (came left : LinkRecord) (log : SinkRecord) (old new : Moment)
-    → ReceivesAll end new.last (asking request old.last) old.pass new.pass (outside came old.station.log old.station.clock) (outside left log new.station.clock)
-    → Completes end (asking request old.last) old.pass new.pass (outside came old.station.log old.station.clock) (outside left log new.station.clock)
+    → ReceivesAll end new.last (asking request old.last) [] old.pass new.pass (outside came old.station.log old.station.clock) (outside left log new.station.clock)
+    → Completes end (asking request old.last) [] old.pass new.pass (outside came old.station.log old.station.clock) (outside left log new.station.clock)
     → old.station.log.faults ≤ log.faults
     → DialTakesBack left old.station.dial new.station.dial
     → Finishes stop end request.host log new.station.log

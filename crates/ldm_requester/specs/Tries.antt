@@ -1,5 +1,5 @@
 -- Tries: a host is dialled, and where a link comes, a session is held over it.
-use Rattle.std.specs.Prelude.{◌≡◌, ℕ, Bool, List, Option, Some, None}
+use Rattle.std.specs.Prelude.{◌≡◌, ℕ, Bool, List, [], Option, Some, None}
 use Rattle.ldm_outside.specs.declared.dial.Dialled.TheVariants.{Linked, Failed}
 use Rattle.ldm_outside.specs.Clock.{ClockRecord}
 use Rattle.ldm_outside.specs.Dial.{Asked, DialRecord, ConnectGives, DialTakesBack}
@@ -49,9 +49,9 @@ pub record Misses (whole : Bool) (request : RequestView) (old new : Moment) : Ty
 pub record Holds (whole : Bool) (end : RecvEnd) (request : RequestView) (came : LinkRecord) (old new : Moment) : Type 0 where
   pub left : LinkRecord
   pub log : SinkRecord
-  pub receives : ReceivesAll end new.last (asking request old.last) old.pass new.pass
+  pub receives : ReceivesAll end new.last (asking request old.last) [] old.pass new.pass
       (outside came old.station.log old.station.clock) (outside left log new.station.clock)
-  pub completes : Completes end (asking request old.last) old.pass new.pass
+  pub completes : Completes end (asking request old.last) [] old.pass new.pass
       (outside came old.station.log old.station.clock) (outside left log new.station.clock)
   pub given_back : DialTakesBack left old.station.dial new.station.dial
   pub logged : Logs whole (session_line request.host (end_of_receiving end)) log new.station.log

@@ -1,5 +1,5 @@
 use Rattle.std.proofs.Common.{◌≤◌, ◌+◌, arith, length}
-use Rattle.ldm_downstream.specs.declared.limits.TheConstants.{LONGEST_STREAM}
+use Rattle.ldm_session.specs.declared.limits.TheConstants.{LONGEST_STREAM}
 use Rattle.ldm_downstream.specs.Pieces.{beginning, joined}
 use Rattle.ldm_downstream.proofs.Cut.{cut-records, cut-hand}
 use Rattle.ldm_downstream.proofs.laws.pieces_make_no_difference.Goals as goal

@@ -10,11 +10,11 @@ use Rattle.ldm_downstream.proofs.session.receive.Goals as goal
 
 pub returns-in-Ok-clause-receives : goal.returns-in-Ok-clause-receives
 returns-in-Ok-clause-receives g c =
-    all-received _ _ c.in-Ok.session.receiver c.run-end.new.self.receiver _ _ _ _ _
-    (ap (λ (r : ReceiverView). r.receiving) c.in-Ok.ensures.receiver) c.last.ensures c.run-end.ensures.runs_out
+    all-received _ _ c.in-Ok.session.taker.receiver c.run_asking-end.new.self.taker.receiver _ _ _ _ _ _
+    (ap (λ (r : ReceiverView). r.receiving) c.in-Ok.ensures.receiver) c.last.ensures c.run_asking-end.ensures.runs_out
 
 pub returns-in-Ok-clause-completes : goal.returns-in-Ok-clause-completes
-returns-in-Ok-clause-completes g c = completes _ _ _ _ _ _ _ (returns-in-Ok-clause-receives g c)
+returns-in-Ok-clause-completes g c = completes _ _ _ _ _ _ _ _ (returns-in-Ok-clause-receives g c)
 
 pub returns-in-Err-clause-receives : goal.returns-in-Err-clause-receives
 returns-in-Err-clause-receives g c =

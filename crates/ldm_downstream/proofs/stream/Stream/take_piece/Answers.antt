@@ -1,6 +1,6 @@
 use Rattle.std.proofs.Common.{◌≡◌, ◌-◌, take, leb, ap, sym, ◌∙◌}
 use Rattle.std.proofs.lemmas.Bool.{false≢true}
-use Rattle.ldm_downstream.specs.declared.limits.TheConstants.{LONGEST_STREAM}
+use Rattle.ldm_session.specs.declared.limits.TheConstants.{LONGEST_STREAM}
 use Rattle.ldm_downstream.specs.Pieces.{Piece}
 use Rattle.ldm_downstream.specs.ReceiverView.{StreamView, moment}
 use Rattle.ldm_downstream.proofs.Passing.{taken-within, pieces-limit, piece-passes, below-limit}

@@ -1,6 +1,6 @@
 use Rattle.std.proofs.Common.{sym, ◌∙◌}
 use Rattle.ldm_downstream.proofs.Written.{sends-failed, sends-all, writes-failed, writes-all}
-use Rattle.ldm_downstream.proofs.session.Session.write.Goals as goal
+use Rattle.ldm_downstream.proofs.taker.Taker.write.Goals as goal
 
 pub returns-then-is_err-clause-writes : goal.returns-then-is_err-clause-writes
 returns-then-is_err-clause-writes g c =
