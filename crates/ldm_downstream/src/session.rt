@@ -324,7 +324,11 @@ impl<'a> Session<'a> {
                 self.taker.take(rt, shared, pass, link, log, piece, now)
             }
             Got::End => Some(self.taker.receiver.close(shared, rt, pass)),
-            Got::Failed => Some(self.taker.receiver.fail(shared, rt, pass, RecvEnd::LinkFault)),
+            Got::Failed => Some(
+                self.taker
+                    .receiver
+                    .fail(shared, rt, pass, RecvEnd::LinkFault),
+            ),
         }
     }
 }
