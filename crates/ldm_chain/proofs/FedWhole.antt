@@ -23,7 +23,7 @@ use Rattle.ldm_upstream.specs.Turn.{Given}
 use Rattle.ldm_upstream.specs.Feeding.{Last, bytes_of, given_of}
 use Rattle.ldm_upstream.specs.Feeding as feeding
 use Rattle.ldm_upstream.specs.Feeds.{Feeds}
-use Rattle.ldm_downstream.specs.declared.limits.TheConstants.{LONGEST_STREAM}
+use Rattle.ldm_session.specs.declared.limits.TheConstants.{LONGEST_STREAM}
 use Rattle.ldm_downstream.specs.Pieces.{joined}
 use Rattle.ldm_downstream.specs.Received.{received}
 use Rattle.ldm_passing.specs.Passing.{Carries, HasAsked, IsAnswered, IsGranted, IsPassing, Passing, record_at}
@@ -52,7 +52,7 @@ pub record TookAll (asked : Asked) (sent given : List ℕ) (now actor : ℕ) (ma
 stopped-answered : (last : Last) (end : ℕ) → last ≡ feeding.Stopped end → IsAnswered last
 stopped-answered last end is = subst IsAnswered (sym is) tt
 
-module _ (laws : Laws) (asked : Asked) (old new : PassView) (before after' : SessionRecord) (feeds : Feeds Stopped asked old new before after') (only : IsOnlyPass old)
+module _ (laws : Laws) (asked : Asked) (old new : PassView) (before after' : SessionRecord) (feeds : Feeds Stopped asked [] old new before after') (only : IsOnlyPass old)
     (small : old.arena ≤ LARGEST_ARENA) (from : asked.class.from ≡ 0) (names : resumed asked.class.specs.items ≡ None)
     (now actor : ℕ) (made : List Entry) (all : TookAll asked feeds.sent feeds.given now actor made) where
   abbrev passing : Passing
@@ -68,11 +68,11 @@ module _ (laws : Laws) (asked : Asked) (old new : PassView) (before after' : Ses
   }
 
   makes : Makes old new (whole_entries old.actor asked feeds.feeding)
-  makes = fed-makes Stopped asked old new before after' feeds only refl
+  makes = fed-makes Stopped asked [] old new before after' feeds only refl
 
   granted : IsGranted asked feeds.feeding
   granted =
-      let opened = fed-opened asked old new before after' feeds in
+      let opened = fed-opened asked [] old new before after' feeds in
       let small_too : new.arena ≤ LARGEST_ARENA = subst (λ (n : ℕ). n ≤ LARGEST_ARENA) (sym (ap (λ (p : PassView). p.arena) makes.same)) small in
       record {
         is = feeds.is_feeding;
@@ -106,7 +106,7 @@ module _ (laws : Laws) (asked : Asked) (old new : PassView) (before after' : Ses
       laws.passed passing now queue is-passing carries-all (stopped-answered feeds.feeding.last feeds.last.0 feeds.last.1) (all-at now all.parts) legal
       ∙ ap (λ (ps : List Product). passed_all actor asked.max_hereis now ps queue)
       (handed-offered feeds.feeding.turns feeds.feeding.last
-      ∙ ap (map (λ (given : Given). given.product)) (laws.offered asked old new before after' feeds only from names))
+      ∙ ap (map (λ (given : Given). given.product)) (laws.offered asked [] old new before after' feeds only from names))
 
 -- ---- calls of the only pass of a queue
 

@@ -36,7 +36,7 @@ use Rattle.ldm_sender.specs.Asked.{Asked}
 use Rattle.ldm_sender.specs.Opening.{Answered, IsAnswerTo}
 use Rattle.ldm_sender.specs.Opening as answered
 use Rattle.ldm_upstream.specs.Feeds.{Feeds}
-use Rattle.ldm_downstream.specs.declared.limits.TheConstants.{LONGEST_STREAM}
+use Rattle.ldm_session.specs.declared.limits.TheConstants.{LONGEST_STREAM}
 use Rattle.ldm_downstream.specs.Pieces.{Piece, arrivals, beginning, hand, joined}
 use Rattle.ldm_downstream.specs.Received.{end_behind, received, with_hand}
 use Rattle.ldm_downstream.proofs.Arrivals.{arrivals-append}
@@ -332,10 +332,10 @@ module _ (laws : Laws) (asked : Asked) (now : ℕ) (old new before after' : Pass
   by-whole : Fed Stopped asked old new (request_read (asking asked.class asked.max_hereis) before) links.end → Leaves asked now old new before after'
   by-whole fed =
       let feeds = fed.feeds in
-      let opened = fed-opened asked old new _ _ feeds in
+      let opened = fed-opened asked [] old new _ _ feeds in
       let all : reduce asked.rules asked.host asked.class ≡ reduced.Same = (subst (IsAnswerTo asked) opened.2 feeds.is_feeding.answered).0 in
       let names = same-names feeds_left rule_left asked.class asks all in
-      with-end (laws.unchanged Stopped asked old new _ _ feeds only refl)
+      with-end (laws.unchanged Stopped asked [] old new _ _ feeds only refl)
       (queue-by asked (state_of old) (ap (λ (r : Reduced). left_to r asked) all) refl refl
       (fed-queue laws asked old new _ _ feeds only links.small asks.from names now before.actor end-took.made
       (took-whole laws asked now before number old new links.end fed end-took) (state_of before) legal))
@@ -346,11 +346,11 @@ module _ (laws : Laws) (asked : Asked) (now : ℕ) (old new before after' : Pass
       let fewer = rest.fewer in
       let narrower : Asked = record asked { xid = 2; class = fewer } in
       let t = took links.b (asking asked.class asked.max_hereis) before now part.told part.so_far links.first links.moment part.goes_on in
-      let same = laws.unchanged Reclassed asked old part.mid _ _ part.first.feeds only refl in
+      let same = laws.unchanged Reclassed asked [] old part.mid _ _ part.first.feeds only refl in
       let mid_only = still-only laws old part.mid _ only part.first.feeds.made in
       let mid_small : part.mid.arena ≤ LARGEST_ARENA =
       subst (λ (n : ℕ). n ≤ LARGEST_ARENA) (sym (ap (λ (p : PassView). p.arena) part.first.feeds.made.same)) links.small in
-      with-end (laws.unchanged Stopped narrower part.mid new _ _ rest.fed.feeds mid_only refl ∙ same)
+      with-end (laws.unchanged Stopped narrower [] part.mid new _ _ rest.fed.feeds mid_only refl ∙ same)
       (queue-by narrower (state_of part.mid) (ap (λ (r : Reduced). left_to r asked) rest.left) same refl
       (fed-queue laws narrower part.mid new _ _ rest.fed.feeds mid_only mid_small (fewer-from feeds_left rule_left asked.class asks fewer rest.left)
       (fewer-names feeds_left rule_left asked.class asks fewer rest.left) now before.actor end-took.made

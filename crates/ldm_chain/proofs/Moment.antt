@@ -11,7 +11,7 @@ use Rattle.ldm_intake.specs.declared.end.RecvEnd.TheVariants.{BadFrame, StreamLi
 use Rattle.ldm_intake.specs.Course.{Course, Comes, then}
 use Rattle.ldm_intake.specs.Receiving.{Receiving}
 use Rattle.ldm_intake.specs.Taken.{Arrival, Taken, taken, taken_none}
-use Rattle.ldm_downstream.specs.declared.limits.TheConstants.{LONGEST_STREAM}
+use Rattle.ldm_session.specs.declared.limits.TheConstants.{LONGEST_STREAM}
 use Rattle.ldm_downstream.specs.Pieces.{Piece, arrivals, arrived, hand, joined, within}
 use Rattle.ldm_downstream.specs.Received.{end_by_bytes, received, with_hand}
 use Rattle.ldm_downstream.specs.Untimed.{untimed}

@@ -16,7 +16,7 @@ use Rattle.ldm_intake.specs.Receiving.{Receiving}
 use Rattle.ldm_intake.specs.Room.{records_of}
 use Rattle.ldm_intake.specs.Taken.{Taken}
 use Rattle.ldm_intake.specs.TakesRecord.{Standing, stands}
-use Rattle.ldm_downstream.specs.declared.limits.TheConstants.{LONGEST_STREAM}
+use Rattle.ldm_session.specs.declared.limits.TheConstants.{LONGEST_STREAM}
 use Rattle.ldm_downstream.specs.Pieces.{beginning, joined}
 use Rattle.ldm_downstream.specs.Pushing.{Continues}
 use Rattle.ldm_downstream.specs.Received.{received}

@@ -42,9 +42,9 @@ pub record Laws : Type 0 where
       → after_entries queue p.made ≡ passed_all p.actor p.asked.max_hereis now (products_of (handed p.feeding)) queue
   pub narrows : (p : Passing) (class : ClassSpec) → IsNarrowing p class → Narrows p class
   -- of a feeding by the only pass of a queue
-  pub offered : (asked : Asked) (old new : PassView) (before after : SessionRecord) → (feeds : Feeds end.Stopped asked old new before after) → IsOnlyPass old
+  pub offered : (asked : Asked) (ahead : List ℕ) (old new : PassView) (before after : SessionRecord) → (feeds : Feeds end.Stopped asked ahead old new before after) → IsOnlyPass old
       → asked.class.from ≡ 0 → resumed asked.class.specs.items ≡ None → offered_of feeds.feeding ≡ due_rows asked (state_of old)
-  pub unchanged : (why : SendEnd) (asked : Asked) (old new : PassView) (before after : SessionRecord) → Feeds why asked old new before after → IsOnlyPass old
+  pub unchanged : (why : SendEnd) (asked : Asked) (ahead : List ℕ) (old new : PassView) (before after : SessionRecord) → Feeds why asked ahead old new before after → IsOnlyPass old
       → is_whole why ≡ true → state_of new ≡ state_of old
   pub goes_on : (old new : PassView) (made : List Entry) → Makes old new made → old.passes ≡ 1 → old.actor ≡ 0 → new.seen ≡ old.seen ++ made
   -- of the products of a queue
