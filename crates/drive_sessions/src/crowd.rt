@@ -2,9 +2,9 @@
 ghost use Rattle.std.specs.Prelude.{◌<◌};
 ghost use Rattle.ldm_shared.specs.Passes.{AreAllOf, IsPassOf, IsSamePass};
 
-use crate::case::Case;
 use ldm_class::{Class, Policy};
 use ldm_drive::Trial;
+use ldm_drive_sessions::Case;
 use ldm_outside::{Gate, Go, LinkScript, MemClock, MemLink, MemSink, Way};
 use ldm_relay::{Feedme, Message, read_call};
 use ldm_shared::{CreateFault, Pass, Shared};

@@ -1,19 +1,16 @@
 //! What a feeder sends and logs.
-ghost use Rattle.ldm_shared.specs.Passes.{IsPassOf, IsSamePass};
+ghost use Rattle.ldm_shared.specs.Passes.{IsPassOf};
 
-use crate::case::Case;
-use crate::gates::BusyGate;
-use crate::items::insert_all;
-use crate::outside::{clock_of, link_of, log_of, policy_of, queue_of};
-use crate::telling::{tell_log, tell_sent};
 use ldm_class::{Class, Policy};
 use ldm_drive::Trial;
 use ldm_drive_outside::copied;
-use ldm_model::{OpenReply, Start};
+use ldm_drive_sessions::{
+    BusyGate, Case, clock_of, insert_all, link_of, log_of, open_all, policy_of, queue_of,
+    tell_cursor, tell_log, tell_sent,
+};
 use ldm_relay::Feedme;
 use ldm_session::LONGEST_NAME;
-use ldm_shared::{Pass, Shared, Turn};
-use ldm_types::Feed;
+use ldm_shared::{Pass, Shared};
 use ldm_upstream::feed;
 use std::sync::Wait;
 
@@ -31,16 +28,6 @@ pub fn feed_case<H: Wait>(rt: &H, trial: &mut Trial) {
     open_all(rt, &shared, &mut pass, case.cursors);
     feed_to(rt, trial, &case, &policy, &shared, &mut pass, other);
     tell_cursor(rt, trial, &shared, &mut pass);
-}
-
-/// Opens so many cursors.
-pub fn open_all<H: Wait>(rt: &H, shared: &Shared, pass: &mut Pass, count: u64)
-    requires { IsPassOf shared.now pass.old }
-    ensures { IsSamePass pass.old pass.new }
-{
-    for _ in 0..count {
-        let _ = shared.open_cursor(rt, pass, Feed(1), Start::Oldest);
-    }
 }
 
 fn feed_to<H: Wait>(
@@ -90,18 +77,4 @@ fn feed_to<H: Wait>(
     trial.tell(if link.is_closed() { " closed" } else { " open" });
     tell_sent(trial, &link);
     tell_log(trial, log.written());
-}
-
-/// Adds the place of a cursor that is opened: 0, where the session closed its own; `-` where all are taken.
-pub fn tell_cursor<H: Wait>(rt: &H, trial: &mut Trial, shared: &Shared, pass: &mut Pass)
-    requires { IsPassOf shared.now pass.old }
-{
-    trial.tell(" cursor ");
-    let Turn::Done(reply) = shared.open_cursor(rt, pass, Feed(1), Start::Oldest) else {
-        return trial.refuse("no turn");
-    };
-    match reply {
-        OpenReply::Opened { k } => trial.tell_number(u64::from(k.get())),
-        OpenReply::AllBusy | OpenReply::NotQueued => trial.tell("-"),
-    }
 }

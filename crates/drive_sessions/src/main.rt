@@ -1,19 +1,10 @@
-//! Cases of sessions over links in memory: what a feeder and one who tells of products send and log, what a receiver takes, answers and
-//! logs, what one who watches sends and writes, and what a server responds to records.
+//! Cases of sessions over links in memory: what a feeder sends and logs, and what a receiver takes, answers and logs.
 #![tactic(auto)]
 
-mod case;
 mod crowd;
 mod feeding;
-mod gates;
-mod items;
 mod mutated;
-mod notices;
-mod outside;
 mod receiving;
-mod responding;
-mod telling;
-mod watching;
 
 use ldm_drive::{Trial, drive};
 use std::io;
@@ -26,10 +17,7 @@ fn answer<H: Threads + Wait + Sync>(rt: &H, trial: &mut Trial) {
         "feed" => feeding::feed_case(rt, trial),
         "mutated" => mutated::mutated(rt, trial),
         "crowd" => crowd::crowd(rt, trial),
-        "notify" => notices::notify_case(rt, trial),
         "receive" => receiving::receive_case(rt, trial),
-        "watch" => watching::watch_case(trial),
-        "respond" => responding::respond_case(rt, trial),
         _ => trial.refuse("no such word"),
     }
 }

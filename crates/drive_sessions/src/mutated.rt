@@ -1,14 +1,11 @@
 //! Streams in which bytes were changed, cut off or added.
 ghost use Rattle.ldm_shared.specs.Passes.{IsPassOf, IsSamePass};
 
-use crate::case::Case;
-use crate::items::tell_queue;
-use crate::outside::queue_of;
 use crate::receiving::{tell_end, tell_last};
-use crate::telling::{tell_bytes, tell_log};
 use ldm_class::Class;
 use ldm_downstream::Receiver;
 use ldm_drive::Trial;
+use ldm_drive_sessions::{Case, queue_of, tell_bytes, tell_log, tell_queue};
 use ldm_shared::{Pass, Shared};
 use ldm_signature::sign;
 use ldm_types::{Micros, Signature};

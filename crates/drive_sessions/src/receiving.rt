@@ -1,15 +1,14 @@
 //! What a receiver takes, answers and logs.
 ghost use Rattle.ldm_shared.specs.Passes.{IsPassOf};
 
-use crate::case::Case;
-use crate::items::{hold_some, insert_all, reserve_all, tell_queue};
-use crate::outside::{clock_of, link_of, log_of, queue_of};
-use crate::telling::{tell_bytes, tell_log, tell_sent};
 use ldm_class::Class;
 use ldm_downstream::{Received, receive};
 use ldm_drive::Trial;
+use ldm_drive_sessions::{
+    Case, clock_of, hold_some, insert_all, link_of, log_of, queue_of, reserve_all, tell_answer,
+    tell_bytes, tell_log, tell_place, tell_queue, tell_sent,
+};
 use ldm_intake::RecvEnd;
-use ldm_relay::ClassAnswer;
 use ldm_shared::{Pass, Shared};
 use ldm_types::Signature;
 use std::sync::Wait;
@@ -82,23 +81,4 @@ pub fn tell_end(trial: &mut Trial, end: &RecvEnd) {
         RecvEnd::Worn => trial.tell("Worn"),
         RecvEnd::OutOfMemory => trial.tell("OutOfMemory"),
     }
-}
-
-/// Adds how a session ended at a place.
-pub fn tell_place(trial: &mut Trial, name: &str, at: u64) {
-    trial.tell(name);
-    trial.tell(" at ");
-    trial.tell_number(at);
-}
-
-/// Adds that the peer declined by that answer.
-pub fn tell_answer(trial: &mut Trial, answer: &ClassAnswer) {
-    trial.tell("Refused ");
-    trial.tell(match answer {
-        ClassAnswer::Ok => "Ok",
-        ClassAnswer::Reclass(_) => "Reclass",
-        ClassAnswer::Denied => "Denied",
-        ClassAnswer::BadPattern => "BadPattern",
-        ClassAnswer::Busy => "Busy",
-    });
 }

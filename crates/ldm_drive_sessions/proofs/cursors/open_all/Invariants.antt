@@ -1,5 +1,5 @@
 use Rattle.ldm_shared.specs.Passes.{IsSamePass}
-use Rattle.drive_sessions.proofs.items.hold_some.Given as goal
+use Rattle.ldm_drive_sessions.proofs.cursors.open_all.Given as goal
 
 abbrev pub invariant-loop : goal.invariant-loop
 invariant-loop g l = IsSamePass l.initial.pass l.pass

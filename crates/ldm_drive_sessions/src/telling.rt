@@ -2,6 +2,7 @@
 
 use ldm_drive::Trial;
 use ldm_outside::{MemLink, Way};
+use ldm_relay::ClassAnswer;
 
 // So many equal bytes in a row are told as a count and one byte.
 const LONG_RUN: u64 = 8;
@@ -83,4 +84,23 @@ pub fn tell_sent(trial: &mut Trial, link: &MemLink) {
 pub fn tell_log(trial: &mut Trial, log: &[u8]) {
     trial.tell(" log ");
     trial.tell_shown(log);
+}
+
+/// Adds how a session ended at a place.
+pub fn tell_place(trial: &mut Trial, name: &str, at: u64) {
+    trial.tell(name);
+    trial.tell(" at ");
+    trial.tell_number(at);
+}
+
+/// Adds that the peer declined by that answer.
+pub fn tell_answer(trial: &mut Trial, answer: &ClassAnswer) {
+    trial.tell("Refused ");
+    trial.tell(match answer {
+        ClassAnswer::Ok => "Ok",
+        ClassAnswer::Reclass(_) => "Reclass",
+        ClassAnswer::Denied => "Denied",
+        ClassAnswer::BadPattern => "BadPattern",
+        ClassAnswer::Busy => "Busy",
+    });
 }

@@ -2,12 +2,9 @@
 ghost use Rattle.std.specs.Prelude.{◌<◌};
 ghost use Rattle.std.specs.Option.{ForSome};
 
-use crate::case::Case;
-use crate::outside::{link_of, log_of};
-use crate::receiving::{tell_answer, tell_place};
-use crate::telling::tell_sent;
 use ldm_class::Class;
 use ldm_drive::Trial;
+use ldm_drive_sessions::{Case, link_of, log_of, tell_answer, tell_place, tell_sent};
 use ldm_watch::{WatchEnd, watch};
 
 /// `watch NAME=VALUE ..`: one asks to be told of the products of a class. Tells its end, what it sent, and the lines that it wrote.

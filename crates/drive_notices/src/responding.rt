@@ -1,12 +1,12 @@
 //! What a server responds to records.
 ghost use Rattle.ldm_shared.specs.Passes.{IsPassOf, IsSamePass};
 
-use crate::case::Case;
-use crate::items::{hold_some, insert_all, reserve_all, tell_queue};
-use crate::outside::{clock_of, policy_of, queue_of};
-use crate::telling::tell_bytes;
 use ldm_class::Policy;
 use ldm_drive::Trial;
+use ldm_drive_sessions::{
+    Case, clock_of, hold_some, insert_all, policy_of, queue_of, reserve_all, tell_bytes,
+    tell_queue,
+};
 use ldm_respond::{RespondFault, Responded, respond};
 use ldm_shared::{Pass, Shared};
 use std::sync::Wait;

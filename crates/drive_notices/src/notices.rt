@@ -1,22 +1,21 @@
 //! What one who tells of products sends and logs.
 ghost use Rattle.ldm_shared.specs.Passes.{IsPassOf};
 
-use crate::case::Case;
-use crate::feeding::{open_all, tell_cursor};
-use crate::gates::BusyGate;
-use crate::items::insert_all;
-use crate::outside::{clock_of, link_of, log_of, policy_of, queue_of};
-use crate::telling::{tell_log, tell_sent};
 use ldm_class::{Class, Policy};
 use ldm_drive::Trial;
 use ldm_drive_outside::copied;
+use ldm_drive_sessions::{
+    BusyGate, Case, clock_of, insert_all, link_of, log_of, open_all, policy_of, queue_of,
+    tell_cursor, tell_log, tell_sent,
+};
 use ldm_notify::notify;
 use ldm_relay::Notifyme;
 use ldm_session::LONGEST_NAME;
 use ldm_shared::{Pass, Shared};
 use std::sync::Wait;
 
-/// `notify NAME=VALUE ..`: a request for notices is answered as call 1, and products are told of. Tells what `feed` does.
+/// `notify NAME=VALUE ..`: a request for notices is answered as call 1, and products are told of. Tells its end, whether
+/// the link is closed, what was sent and logged, and the place that a cursor gets which is opened then.
 pub fn notify_case<H: Wait>(rt: &H, trial: &mut Trial) {
     let case = Case::of(trial);
     let Some(policy) = policy_of(trial.alloc(), &case) else {

@@ -1,0 +1,25 @@
+//! Cases of sessions over links in memory: what one who tells of products sends and logs, what one who watches sends and writes, and
+//! what a server responds to records.
+#![tactic(auto)]
+
+mod notices;
+mod responding;
+mod watching;
+
+use ldm_drive::{Trial, drive};
+use std::io;
+use std::sync::Wait;
+
+// What the session that a case names comes to.
+fn answer<H: Wait>(rt: &H, trial: &mut Trial) {
+    match trial.word() {
+        "notify" => notices::notify_case(rt, trial),
+        "watch" => watching::watch_case(trial),
+        "respond" => responding::respond_case(rt, trial),
+        _ => trial.refuse("no such word"),
+    }
+}
+
+fn main(rt: HostRuntime) -> io::Result<()> {
+    drive(&rt, |trial| answer(&rt, trial))
+}
