@@ -1,4 +1,4 @@
-//! Tests of what threads do on one queue: the shared queue, its workers, and the players of a crowd.
+//! Tests of what threads do on one queue: the shared queue, and the players of a crowd.
 //!
 //! They stand in a crate of their own, so that no crate is proved a second time for its tests.
 #![tactic(auto)]
@@ -7,5 +7,3 @@
 mod crowd;
 #[cfg(test)]
 mod shared;
-#[cfg(test)]
-mod workers;

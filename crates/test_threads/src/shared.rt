@@ -2,11 +2,12 @@ ghost use Rattle.std.specs.Prelude.{◌≡◌, [], IfOk};
 ghost use Rattle.ldm_shared.specs.Passes.{IsPassOf};
 
 mod threads;
+mod told;
 mod worker;
 
 use ldm_book::Book;
-use ldm_model::{InsertReply, LookReply, Stat};
-use ldm_shared::{CreateFault, Pass, Shared, Turn};
+use ldm_model::{InsertReply, LookReply};
+use ldm_shared::{Pass, Shared, Turn};
 use ldm_types::{Feed, Info, Micros, Signature};
 use std::process::Abort;
 use std::test::*;
@@ -18,19 +19,28 @@ fn product(now: Micros, signature: Signature) -> Result<Info, Fail>
     Ok(Info::new(now, signature, b"h", Feed(2), 1, b"p", 4)?)
 }
 
-#[test]
-fn sizes_have_limits(rt: HostRuntime) {
-    let alloc = rt.alloc();
-    for (arena, slots, passes, wanted) in [
-        (65, 0, 0, CreateFault::BadArena { arena: 65 }),
-        (64, 0, 0, CreateFault::BadSlots { slots: 0 }),
-        (64, 1, 0, CreateFault::BadPasses { passes: 0 }),
-        (64, 1, 65, CreateFault::BadPasses { passes: 65 }),
-    ] {
-        assert!(rt; Shared::create(alloc, arena, slots, passes).err() == Some(wanted));
+// Whether the first product was admitted at that time.
+fn is_first(put: Turn<InsertReply>, now: Micros) -> bool {
+    let Turn::Done(reply) = put else {
+        return false;
+    };
+    match reply {
+        InsertReply::Admitted { n, time, evicted } => {
+            n == 0 && time.get() == now.get() && evicted == 0
+        }
+        _ => false,
     }
-    let fits = Shared::create(alloc, 64, 1, 64).map(|made| (made.0.arena(), made.1.len()));
-    assert!(rt; fits == Ok((64, 64)));
+}
+
+// Whether the first product was found, and that time.
+fn is_found(found: Turn<LookReply>, now: Micros) -> bool {
+    let Turn::Done(reply) = found else {
+        return false;
+    };
+    match reply {
+        LookReply::Queued { n, time } => n == 0 && time.get() == now.get(),
+        LookReply::Absent => false,
+    }
 }
 
 #[test]
@@ -42,28 +52,14 @@ fn one_pass_sees_what_another_did(rt: HostRuntime) -> Result<(), Fail> {
     let mut second = passes.pop().ok_or("a pass")?;
     let mut first = passes.pop().ok_or("a pass")?;
     let put = shared.insert(&rt, &mut first, now, &info, b"AAAA");
-    assert!(rt;
-        put == Turn::Done(InsertReply::Admitted {
-            n: 0,
-            time: now,
-            evicted: 0
-        })
-    );
+    assert!(rt; is_first(put, now));
     shared.meet(&mut first, &mut second);
     let found = shared.look(&rt, &mut second, &signature);
-    assert!(rt; found == Turn::Done(LookReply::Queued { n: 0, time: now }));
-    assert!(rt; found.map(|reply| reply == LookReply::Absent) == Turn::Done(false));
+    assert!(rt; is_found(found, now));
     let (mut book, last) = end_of_two(shared, passes, first, second)?;
     let stat = book.stat(last.actor());
-    assert!(rt;
-        stat == Stat {
-            admitted: 1,
-            queued: 1,
-            held: 0,
-            used: 56,
-            largest_free: 112
-        }
-    );
+    assert!(rt; stat.admitted == 1 && stat.queued == 1 && stat.held == 0);
+    assert!(rt; stat.used == 56 && stat.largest_free == 112);
     Ok(())
 }
 

@@ -2,11 +2,12 @@
 ghost use Rattle.std.specs.Prelude.{◌≡◌, ◌<◌, ◌≤◌};
 ghost use Rattle.ldm_shared.specs.Passes.{AreAllOf, IsPassOf, IsSamePass};
 
-use super::worker::{Told, Worker};
+use super::told::{Named, Told};
+use super::worker::Worker;
 use ldm_model::Stat;
 use ldm_shared::{Pass, Shared};
 use ldm_types::Micros;
-use std::alloc::{AllocError, Global};
+use std::alloc::Global;
 use std::process::Abort;
 use std::sync::{Mutex, Wait};
 use std::test::*;
@@ -50,21 +51,20 @@ const PLANS: [Plan; 3] = [
 fn threads_have_one_history(rt: HostRuntime) -> Result<(), Fail> {
     for plan in PLANS {
         let (stat, all) = run(&rt, rt.alloc(), &plan)?;
-        assert_eq!(rt; all.len(), THREADS);
-        let mut gone = 0u64;
-        for told in &all {
-            gone = gone.saturating_add(told.gone);
-        }
-        assert_eq!(rt; stat.queued.saturating_add(gone), stat.admitted);
-        assert_eq!(rt; stat.held, 0);
-        let admitted = admitted(&rt, rt.alloc(), stat.admitted, &all)?;
-        expect_named(&rt, &admitted, &all);
+        assert!(rt; all.len() == THREADS);
+        assert!(rt; are_right(&all));
+        assert!(rt; is_counted(&stat, &all));
+        let admitted = admitted(rt.alloc(), stat.admitted, &all).ok_or(
+            "the first numbers, each once",
+        )?;
+        assert!(rt; times_rise(&admitted));
+        assert!(rt; are_named(&admitted, &all));
     }
     Ok(())
 }
 
 // How the queue is in the end, and what each thread was told.
-fn run<R: Threads + Wait + Abort + Sync>(
+fn run<R: Threads + Wait + Sync>(
     rt: &R,
     alloc: Global,
     plan: &Plan,
@@ -77,7 +77,7 @@ fn run<R: Threads + Wait + Abort + Sync>(
 }
 
 // Each pass makes its calls in a thread of its own.
-fn call_in_threads<R: Threads + Wait + Abort + Sync>(
+fn call_in_threads<R: Threads + Wait + Sync>(
     rt: &R,
     alloc: Global,
     shared: &Shared,
@@ -96,7 +96,7 @@ fn call_in_threads<R: Threads + Wait + Abort + Sync>(
             requires { IsPassOf shared.now pass.old }
             ensures { IsSamePass pass.old pass.new }
         {
-            if let Ok(told) = calls(rt, alloc, shared, pass, i as u64, plan) {
+            if let Some(told) = calls(rt, alloc, shared, pass, i as u64, plan) {
                 // where memory is short, the thread is missed in the end
                 let _ = all.lock(rt).push(told);
             }
@@ -104,62 +104,101 @@ fn call_in_threads<R: Threads + Wait + Abort + Sync>(
     );
 }
 
-fn calls<R: Wait + Abort>(
+fn calls<R: Wait>(
     rt: &R,
     alloc: Global,
     shared: &Shared,
     pass: &mut Pass,
     seed: u64,
     plan: &Plan,
-) -> Result<Told, AllocError>
+) -> Option<Told>
     requires { IsPassOf shared.now pass.old }
     ensures { IsSamePass pass.old pass.new }
 {
-    let mut worker = Worker::new(alloc, seed, plan.largest);
+    let mut worker = Worker::new(alloc, seed, plan.largest)?;
     for _ in 0..plan.calls {
-        worker.call(rt, shared, pass)?;
+        worker.call(rt, shared, pass);
     }
     worker.close(rt, shared, pass);
-    Ok(worker.into_told())
+    Some(worker.into_told())
 }
 
-// The byte and the time of each admitted product, in the order of their numbers: these are the first ones, each once, and the
-// times rise.
-fn admitted<R: Abort>(
-    rt: &R,
-    alloc: Global,
-    count: u64,
-    all: &[Told],
-) -> Result<Vec<Option<(u8, Micros)>>, AllocError> {
-    let mut admitted = vec![in alloc; None; count as usize]?;
+// Whether each thread was told what it may be told.
+fn are_right(all: &[Told]) -> bool {
     for told in all {
-        for product in &told.admitted {
-            let place = admitted
-                .get_mut(product.n as usize)
-                .expect(rt, "numbers are below how many products were admitted");
-            assert!(rt; place.is_none(), "two products have number {}", product.n);
-            *place = Some((product.byte, product.time));
+        if told.is_wrong {
+            return false;
         }
     }
-    let mut least = 0;
-    for place in &admitted {
-        let (_, time) = place.expect(rt, "each number is one of a product");
-        assert!(rt; time.get() >= least, "times rise");
-        least = time.get() + 1;
-    }
-    Ok(admitted)
+    true
 }
 
-// Each product that a reply names was admitted, with that signature and at that time.
-fn expect_named<R: Abort>(rt: &R, admitted: &[Option<(u8, Micros)>], all: &[Told]) {
+// Whether the products that are queued and those that are gone are all that were admitted, and none is held.
+fn is_counted(stat: &Stat, all: &[Told]) -> bool {
+    let mut gone = 0u64;
+    for told in all {
+        gone = gone.saturating_add(told.gone);
+    }
+    stat.held == 0 && stat.queued.saturating_add(gone) == stat.admitted
+}
+
+// A product that was admitted: its byte and its time.
+type Place = Option<(u8, Micros)>;
+
+// The byte and the time of each admitted product, in the order of their numbers, where these are the first ones, each once.
+fn admitted(alloc: Global, count: u64, all: &[Told]) -> Option<Vec<Place>> {
+    let mut admitted = vec![in alloc; None; count as usize].ok()?;
+    for told in all {
+        note(admitted.as_mut_slice(), told)?;
+    }
+    Some(admitted)
+}
+
+// Notes the products that a thread inserted.
+fn note(admitted: &mut [Place], told: &Told) -> Option<()> {
+    for product in &told.admitted {
+        let place = admitted.get_mut(product.n as usize)?;
+        if place.is_some() {
+            return None;
+        }
+        *place = Some((product.byte, product.time));
+    }
+    Some(())
+}
+
+// Whether each number is one of a product, and the times rise.
+fn times_rise(admitted: &[Place]) -> bool {
+    let mut least = 0u64;
+    for place in admitted {
+        let Some((_, time)) = place else {
+            return false;
+        };
+        if time.get() < least {
+            return false;
+        }
+        least = time.get().saturating_add(1);
+    }
+    true
+}
+
+// Whether each product that a reply names was admitted, with that signature and at that time.
+fn are_named(admitted: &[Place], all: &[Told]) -> bool {
     for told in all {
         for named in &told.named {
-            let place = admitted
-                .get(named.n as usize)
-                .expect(rt, "a product that was admitted");
-            let (byte, time) = place.expect(rt, "a product that was admitted");
-            assert_eq!(rt; named.byte, byte);
-            assert!(rt; named.time.is_none_or(|at| at == time));
+            if !is_one(admitted, named) {
+                return false;
+            }
         }
+    }
+    true
+}
+
+fn is_one(admitted: &[Place], named: &Named) -> bool {
+    match admitted.get(named.n as usize) {
+        Some(Some((byte, time))) => match named.time {
+            Some(at) => *byte == named.byte && time.get() == at.get(),
+            None => *byte == named.byte,
+        },
+        _ => false,
     }
 }
