@@ -13,13 +13,13 @@ use Rattle.ldm_sender.specs.Opening.{Answered}
 use Rattle.ldm_sender.specs.Does.{IsPart}
 use Rattle.ldm_sender.specs.Acts.{Situation, Act, Logged, EndsAct, IsAllSent, is_whole}
 use Rattle.ldm_sender.specs.Ending.{IsEndOf, IsLeft, closing_of, session_of}
-use Rattle.ldm_notify.specs.declared.end.NoteEnd.{NoteEnd}
-use Rattle.ldm_notify.specs.declared.end.NoteEnd.TheVariants as note
+use Rattle.ldm_notify.specs.declared.end.NotifyEnd.{NotifyEnd}
+use Rattle.ldm_notify.specs.declared.end.NotifyEnd.TheVariants as note
 use Rattle.ldm_notify.specs.Notifying.{Notifying, IsNotifying, entries_of, bytes_of, instants_of, goes_of, rows_of}
 use Rattle.ldm_notify.specs.Course.{AreRows, IsLastOf}
 
 -- the same end, as one of any sending end
-abbrev pub send_end : NoteEnd → SendEnd
+abbrev pub send_end : NotifyEnd → SendEnd
 send_end note.Stopped = end.Stopped
 send_end note.Reclassed = end.Reclassed
 send_end (note.Denied rule) = end.Denied rule
@@ -62,7 +62,7 @@ pub record NotifiesTo (why : SendEnd) (asked : Asked) (old new : PassView) (befo
   pub last : IsLastOf why notifying.last
   pub cause : IsEndOf why notifying.answered new before after
 
-abbrev pub Notifies : NoteEnd → Asked → (old new : PassView) → (before after : SessionRecord) → Type 0
+abbrev pub Notifies : NotifyEnd → Asked → (old new : PassView) → (before after : SessionRecord) → Type 0
 Notifies why asked old new before after = NotifiesTo (send_end why) asked old new before after
 
 -- ---- its parts

@@ -6,7 +6,7 @@ use ldm_sender::SendEnd;
 
 /// How a session of notices ends.
 #[derive(Clone, Copy, Debug, PartialEq, Eq)]
-pub enum NoteEnd {
+pub enum NotifyEnd {
     /// The cursor came to the end of the queue, and the gate said to stop. The link is closed.
     Stopped,
     /// A part of the class is left to the host, and it was told which.
@@ -29,19 +29,19 @@ pub enum NoteEnd {
 }
 
 // The end of a session that awaits no reply.
-pub(crate) fn note_end(end: SendEnd) -> NoteEnd
+pub(crate) fn notify_end(end: SendEnd) -> NotifyEnd
     requires { AwaitsNone end }
     ensures { send_end result ≡ end }
 {
     match end {
-        SendEnd::Stopped => NoteEnd::Stopped,
-        SendEnd::Reclassed => NoteEnd::Reclassed,
-        SendEnd::Denied { rule } => NoteEnd::Denied { rule },
-        SendEnd::LinkFault => NoteEnd::LinkFault,
-        SendEnd::LogFault => NoteEnd::LogFault,
-        SendEnd::AllBusy => NoteEnd::AllBusy,
-        SendEnd::Worn => NoteEnd::Worn,
-        SendEnd::OutOfMemory => NoteEnd::OutOfMemory,
+        SendEnd::Stopped => NotifyEnd::Stopped,
+        SendEnd::Reclassed => NotifyEnd::Reclassed,
+        SendEnd::Denied { rule } => NotifyEnd::Denied { rule },
+        SendEnd::LinkFault => NotifyEnd::LinkFault,
+        SendEnd::LogFault => NotifyEnd::LogFault,
+        SendEnd::AllBusy => NotifyEnd::AllBusy,
+        SendEnd::Worn => NotifyEnd::Worn,
+        SendEnd::OutOfMemory => NotifyEnd::OutOfMemory,
         SendEnd::PeerEnd { .. } | SendEnd::BadReply { .. } => unreachable!(),
     }
 }

@@ -12,6 +12,6 @@ mod notice;
 mod notifying;
 mod one_turn;
 
-pub use end::NoteEnd;
+pub use end::NotifyEnd;
 pub use examples::worked_examples;
 pub use notifying::notify;

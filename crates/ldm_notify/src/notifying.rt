@@ -17,7 +17,7 @@ ghost use Rattle.ldm_notify.specs.Notifying.{asked_of};
 ghost use Rattle.ldm_notify.specs.Notifies.{HasNotified, Notifies, NotifiesTo};
 
 use crate::course::turns;
-use crate::end::{NoteEnd, note_end};
+use crate::end::{NotifyEnd, notify_end};
 use ldm_class::{Class, ClassMatcher, HostPolicy, Policy, Reduced};
 use ldm_outside::{Clock, Gate, Link, Sink};
 use ldm_reader::{Reader, products_stay};
@@ -233,7 +233,7 @@ fn notify_asked<H: Wait, K: Link, E: Sink, G: Gate, C: Clock>(
 /// Answers a peer's NOTIFYME and tells it of products: a notice of each product that is due goes out, in the order of the queue, until
 /// the gate says to stop or something ends it. Losses are log lines.
 ///
-/// The cursor that was opened is closed at every end but [`NoteEnd::Worn`], and the link at [`NoteEnd::Stopped`] alone.
+/// The cursor that was opened is closed at every end but [`NotifyEnd::Worn`], and the link at [`NotifyEnd::Stopped`] alone.
 pub fn notify<H: Wait, K: Link, E: Sink, G: Gate, C: Clock>(
     rt: &H,
     alloc: Global,
@@ -247,7 +247,7 @@ pub fn notify<H: Wait, K: Link, E: Sink, G: Gate, C: Clock>(
     ask: &Notifyme,
     class: &Class,
     policy: &Policy,
-) -> NoteEnd
+) -> NotifyEnd
     requires of { IsPassOf shared.now pass.old }
     requires built { class.now ≡ ask.now.class }
     requires name { length host.now ≤ LONGEST_NAME }
@@ -258,7 +258,7 @@ pub fn notify<H: Wait, K: Link, E: Sink, G: Gate, C: Clock>(
     ensures notified { Notifies result (asked_of host.now policy.now ask.now) pass.old pass.new
         (session_tells K.tells E.tells C.tells G.tells link.old log.old clock.old gate.old) (session_tells K.tells E.tells C.tells G.tells link.new log.new clock.new gate.new) }
 {
-    note_end(notify_asked(
+    notify_end(notify_asked(
         rt, alloc, shared, pass, link, log, gate, clock, host, ask, class, policy,
     ))
 }

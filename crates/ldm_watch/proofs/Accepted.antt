@@ -17,7 +17,7 @@ use Rattle.ldm_rpc.proofs.Joined.{records-append, in_hand-append}
 use Rattle.ldm_rpc.proofs.Pushed.{after_end}
 use Rattle.ldm_watch.specs.declared.end.WatchEnd.{WatchEnd}
 use Rattle.ldm_watch.specs.declared.end.WatchEnd.TheVariants.{Ended, Counted, Truncated, BadFrame, Refused, LinkFault, SinkFault, StreamLimit, OutOfMemory}
-use Rattle.ldm_watch.specs.declared.limits.TheConstants.{LONGEST_STREAM}
+use Rattle.ldm_session.specs.declared.limits.TheConstants.{LONGEST_STREAM}
 use Rattle.ldm_watch.specs.Complete.{Accepts, Completes, IsComplete}
 use Rattle.ldm_watch.specs.Outside.{WatchRecord}
 use Rattle.ldm_watch.specs.Told.{at_stream_end, beginning, end_behind, end_by_bytes, hand, is_edge, told, within}

@@ -9,7 +9,7 @@ use Rattle.ldm_rpc.specs.Streams.{Position, Placed, forgets, records_in, in_hand
 use Rattle.ldm_rpc.proofs.Joined.{records-append, in_hand-append}
 use Rattle.ldm_watch.specs.declared.end.WatchEnd.{WatchEnd}
 use Rattle.ldm_watch.specs.declared.end.WatchEnd.TheVariants.{BadFrame, StreamLimit}
-use Rattle.ldm_watch.specs.declared.limits.TheConstants.{LONGEST_STREAM}
+use Rattle.ldm_session.specs.declared.limits.TheConstants.{LONGEST_STREAM}
 use Rattle.ldm_watch.specs.Told.{beginning, end_behind, end_by_bytes, hand, told, with_hand, within}
 use Rattle.ldm_watch.specs.Watched.{Watched, opening, watched}
 use Rattle.ldm_watch.proofs.Taken.{watched-append, watched-none}

@@ -6,7 +6,7 @@ use Rattle.ldm_rpc.specs.Reading.{is_faulty}
 use Rattle.ldm_rpc.specs.Streams.{Position, Placed, records_in, in_hand}
 use Rattle.ldm_watch.specs.declared.end.WatchEnd.{WatchEnd}
 use Rattle.ldm_watch.specs.declared.end.WatchEnd.TheVariants.{BadFrame, StreamLimit}
-use Rattle.ldm_watch.specs.declared.limits.TheConstants.{LONGEST_STREAM}
+use Rattle.ldm_session.specs.declared.limits.TheConstants.{LONGEST_STREAM}
 use Rattle.ldm_watch.specs.declared.stop.Stop.{Stop}
 use Rattle.ldm_watch.specs.declared.stop.Stop.TheVariants.{Over, OutOfMemory}
 use Rattle.ldm_watch.specs.Taking.{Standing, StopsBy, Takes, TakesAll}

@@ -15,7 +15,7 @@ use Rattle.ldm_session.proofs.CallerLemmas.{Exchanged-gave, Exchanged-nothing, E
 use Rattle.ldm_intake.specs.Room.{records_of}
 use Rattle.ldm_watch.specs.declared.end.WatchEnd.{WatchEnd}
 use Rattle.ldm_watch.specs.declared.end.WatchEnd.TheVariants.{Ended, Counted, Truncated, BadFrame, Refused, LinkFault, SinkFault, StreamLimit, OutOfMemory}
-use Rattle.ldm_watch.specs.declared.limits.TheConstants.{LONGEST_STREAM}
+use Rattle.ldm_session.specs.declared.limits.TheConstants.{LONGEST_STREAM}
 use Rattle.ldm_watch.specs.declared.watching.Phase.{Phase}
 use Rattle.ldm_watch.specs.declared.watching.Phase.TheVariants.{Asked}
 use Rattle.ldm_watch.specs.declared.watching.Watching.{Watching}

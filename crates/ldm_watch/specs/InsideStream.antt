@@ -1,7 +1,7 @@
 -- What reads a stream keeps.
 use Rattle.std.specs.Prelude.{◌≡◌, ◌≤◌, false}
 use Rattle.ldm_rpc.specs.Reading.{is_whole}
-use Rattle.ldm_watch.specs.declared.limits.TheConstants.{LONGEST_STREAM}
+use Rattle.ldm_session.specs.declared.limits.TheConstants.{LONGEST_STREAM}
 use Rattle.ldm_watch.specs.declared.stream.Stream.TheInside.{Inside}
 use Rattle.ldm_watch.specs.StreamView.{StreamView}
 

@@ -6,7 +6,7 @@ use Rattle.ldm_rpc.specs.Reading.{is_faulty, is_pending}
 use Rattle.ldm_rpc.specs.Streams.{Position, at_start, records_in, in_hand}
 use Rattle.ldm_watch.specs.declared.end.WatchEnd.{WatchEnd}
 use Rattle.ldm_watch.specs.declared.end.WatchEnd.TheVariants.{Ended, Truncated, BadFrame, StreamLimit}
-use Rattle.ldm_watch.specs.declared.limits.TheConstants.{LONGEST_STREAM}
+use Rattle.ldm_session.specs.declared.limits.TheConstants.{LONGEST_STREAM}
 use Rattle.ldm_watch.specs.declared.watching.Phase.{Phase}
 use Rattle.ldm_watch.specs.declared.watching.Phase.TheVariants.{Asked, Told}
 use Rattle.ldm_watch.specs.Watched.{Watched, opening, watched}

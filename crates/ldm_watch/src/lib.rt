@@ -14,7 +14,7 @@ mod watching;
 
 pub use end::WatchEnd;
 pub use examples::worked_examples;
-pub use limits::{LONGEST_PIECE, LONGEST_STREAM};
+pub use limits::LONGEST_PIECE;
 pub use session::watch;
 pub use step::Step;
 pub use watching::{Phase, Watching};

@@ -1,7 +1,4 @@
 //! Limits.
 
-/// The most bytes that are taken of a stream.
-pub const LONGEST_STREAM: u64 = 281_474_976_710_656;
-
 /// The most bytes that are received at once.
 pub const LONGEST_PIECE: usize = 65_536;

@@ -15,13 +15,14 @@ ghost use Rattle.ldm_watch.specs.Told.{beginning};
 ghost use Rattle.ldm_watch.specs.Watches.{Watches};
 
 use crate::end::WatchEnd;
-use crate::limits::{LONGEST_PIECE, LONGEST_STREAM};
+use crate::limits::LONGEST_PIECE;
 use crate::notices::put_notifyme;
 use crate::stop::Stop;
 use crate::stream::Stream;
 use crate::watching::{Phase, Watching, number_of_request};
 use ldm_class::Class;
 use ldm_outside::{Got, Link, Sink, send_all, write_all};
+use ldm_session::LONGEST_STREAM;
 use ldm_types::OutOfMemory;
 use std::alloc::Global;
 

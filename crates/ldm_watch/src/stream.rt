@@ -3,17 +3,17 @@ ghost use Rattle.std.specs.Prelude.{◌≡◌, ◌≤◌, ◌<◌, ◌+◌, ◌�
 ghost use Rattle.std.specs.Option.{option_copied};
 ghost use Rattle.ldm_rpc.specs.Reading.{is_faulty};
 ghost use Rattle.ldm_rpc.specs.Streams.{Position};
-ghost use Rattle.ldm_watch.specs.declared.limits.TheConstants.{LONGEST_STREAM};
+ghost use Rattle.ldm_session.specs.declared.limits.TheConstants.{LONGEST_STREAM};
 ghost use Rattle.ldm_watch.specs.Taking.{Finds, standing};
 ghost use Rattle.ldm_watch.specs.Told.{at_stream_end, beginning};
 ghost use Rattle.ldm_watch.specs.Turns.{Turns, Runs, Passes};
 
 use crate::end::WatchEnd;
-use crate::limits::LONGEST_STREAM;
 use crate::stop::Stop;
 use crate::watching::{Phase, Watching};
 use ldm_relay::LARGEST_RECORD;
 use ldm_rpc::{Records, RpcFault};
+use ldm_session::LONGEST_STREAM;
 use std::alloc::Global;
 use std::marker::Model;
 

@@ -6,8 +6,8 @@ use Rattle.ldm_notify.specs.Notifies.{NotifiesTo}
 use Rattle.ldm_notify.proofs.Unnoted.{awaits_none}
 use Rattle.ldm_notify.proofs.notifying.notify.Goals as goal
 
-pub note_end-requires : goal.note_end-requires
-note_end-requires g c = awaits_none c.notify_asked.result _ _ _ _ _ c.notify_asked.ensures.notified.0
+pub notify_end-requires : goal.notify_end-requires
+notify_end-requires g c = awaits_none c.notify_asked.result _ _ _ _ _ c.notify_asked.ensures.notified.0
 
 pub returns-clause-counts : goal.returns-clause-counts
 returns-clause-counts g c = c.notify_asked.ensures.notified.1
@@ -17,4 +17,4 @@ returns-clause-notified g c =
     let asked = asked_of c.args.host.now c.args.policy.now c.args.ask.now in
     let before = session_tells g.K.Link.tells g.E.Sink.tells g.C.Clock.tells g.G.Gate.tells c.args.link.now c.args.log.now c.args.clock.now c.args.gate.now in
     let after = session_tells g.K.Link.tells g.E.Sink.tells g.C.Clock.tells g.G.Gate.tells c.notify_asked.new.link c.notify_asked.new.log c.notify_asked.new.clock c.notify_asked.new.gate in
-    subst (λ (why : SendEnd). NotifiesTo why asked c.args.pass.now c.notify_asked.new.pass before after) (sym c.note_end.ensures) c.notify_asked.ensures.notified.0
+    subst (λ (why : SendEnd). NotifiesTo why asked c.args.pass.now c.notify_asked.new.pass before after) (sym c.notify_end.ensures) c.notify_asked.ensures.notified.0

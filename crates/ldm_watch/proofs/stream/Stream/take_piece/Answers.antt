@@ -1,6 +1,6 @@
 use Rattle.std.proofs.Common.{◌≡◌, ◌-◌, take, leb, ap, sym, ◌∙◌}
 use Rattle.std.proofs.lemmas.Bool.{false≢true}
-use Rattle.ldm_watch.specs.declared.limits.TheConstants.{LONGEST_STREAM}
+use Rattle.ldm_session.specs.declared.limits.TheConstants.{LONGEST_STREAM}
 use Rattle.ldm_watch.specs.StreamView.{StreamView}
 use Rattle.ldm_watch.specs.Taking.{standing}
 use Rattle.ldm_watch.proofs.Pieces.{taken-within, pieces-limit, piece-passes, below-limit}
