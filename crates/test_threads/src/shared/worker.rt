@@ -232,14 +232,17 @@ impl Worker {
         let Some(info) = info_of(now, byte, size) else {
             return self.told.expect(false);
         };
-        match shared.reserve(rt, pass, &info) {
-            Turn::Done(ReserveReply::Reserved { r, evicted }) => {
+        let Turn::Done(reply) = shared.reserve(rt, pass, &info) else {
+            return self.told.expect(false);
+        };
+        match reply {
+            ReserveReply::Reserved { r, evicted } => {
                 self.told.lose(evicted);
                 self.fill(rt, shared, pass, r, byte, size);
                 self.end_reservation(rt, shared, pass, r, byte, now);
             }
-            Turn::Done(ReserveReply::Duplicate { n }) => self.told.name(n, byte, None),
-            Turn::Done(ReserveReply::Locked { held }) => self.told.expect(held > 0),
+            ReserveReply::Duplicate { n } => self.told.name(n, byte, None),
+            ReserveReply::Locked { held } => self.told.expect(held > 0),
             _ => self.told.expect(false),
         }
     }
@@ -342,8 +345,11 @@ impl Worker {
     }
 
     fn opened(&mut self, feed: Feed, next: u64, turn: Turn<OpenReply>) {
-        match turn {
-            Turn::Done(OpenReply::Opened { k }) => {
+        let Turn::Done(reply) = turn else {
+            return self.told.expect(false);
+        };
+        match reply {
+            OpenReply::Opened { k } => {
                 self.place = k;
                 self.reader = Some(Reader {
                     feed,
@@ -352,7 +358,7 @@ impl Worker {
                     next,
                 });
             }
-            Turn::Done(OpenReply::NotQueued) => {}
+            OpenReply::NotQueued => {}
             _ => self.told.expect(false),
         }
     }
