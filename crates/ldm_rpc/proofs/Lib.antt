@@ -2,6 +2,7 @@ pub mod Steps
 pub mod Pushed
 pub mod Joined
 pub mod Spelled
+pub mod Single
 pub mod Once
 pub mod Contents
 pub mod Found

@@ -1,5 +1,5 @@
 -- Which bytes are which record on a stream (RFC 5531, section 11).
-use Rattle.std.specs.Prelude.{ℕ, ◌+◌, ◌<◌, ◌≤◌, List, ◌++◌, length, Bool, true, false, if◌then◌else◌, All}
+use Rattle.std.specs.Prelude.{◌≡◌, ℕ, ◌+◌, ◌<◌, ◌≤◌, List, [], ◌++◌, length, Bool, true, false, if◌then◌else◌, All}
 use Rattle.std.specs.List.{flat_map}
 use Rattle.std.specs.Int.{w32, to_be_bytes}
 use Rattle.ldm_rpc.specs.declared.stage.TheConstants.{LAST_FRAGMENT}
@@ -32,6 +32,10 @@ spelling r = fragments r.before ++ fragment true r.last
 abbrev pub content : Record → List ℕ
 content r = joined r.before ++ r.last
 
+-- a record of one fragment
+abbrev pub single : List ℕ → Record
+single bytes = record { before = []; last = bytes }
+
 -- what 31 bits can tell the length of
 abbrev pub IsShort : List ℕ → Type 0
 IsShort bytes = length bytes < LAST_FRAGMENT
@@ -41,3 +45,9 @@ pub record Fits (limit : ℕ) (r : Record) : Type 0 where
   pub before : All IsShort r.before
   pub last : IsShort r.last
   pub within : length (content r) ≤ limit
+
+-- bytes that begin with a record of one fragment, which is within the limit and has this content
+pub record BeginsSingle (limit : ℕ) (bytes content : List ℕ) : Type 0 where
+  pub rest : List ℕ
+  pub spelled : bytes ≡ spelling (single content) ++ rest
+  pub fits : Fits limit (single content)

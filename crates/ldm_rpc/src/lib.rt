@@ -6,11 +6,13 @@
 #![tactic(auto)]
 
 mod fault;
+mod in_place;
 mod laws;
 mod records;
 mod stage;
 
 pub use fault::RpcFault;
+pub use in_place::InPlace;
 pub use laws::{
     no_record_begins_another, pending_from_the_first_byte, pieces_join, pushes_read_the_stream,
     records_are_read, too_long_at_the_header, what_is_read_is_spelled,

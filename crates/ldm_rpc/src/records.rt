@@ -1,14 +1,16 @@
 //! The records of a stream that comes in pieces.
-ghost use Rattle.std.specs.Prelude.{◌≡◌, ◌^◌, ◌≤◌, ◌<◌, IfOk, IfErr, IfSome, OnErr, Err, length, true, false, []};
+ghost use Rattle.std.specs.Prelude.{◌≡◌, ◌^◌, ◌≤◌, ◌<◌, ℕ, IfOk, IfErr, IfNone, IfSome, OnErr, Err, List, Some, length, true, false, []};
 ghost use Rattle.std.specs.Vec.{vec_capacity};
 ghost use Rattle.ldm_rpc.specs.declared.records.TheConstants.{LARGEST_KEPT};
 ghost use Rattle.std.specs.Option.{option_copied};
 ghost use Rattle.ldm_rpc.specs.declared.fault.RpcFault.{RpcFault};
 ghost use Rattle.ldm_rpc.specs.declared.stage.Stage.TheVariants.{Faulty};
 ghost use Rattle.ldm_rpc.specs.Reading.{after, after_byte, after_header, begun, bytes_taken, is_faulty, is_open, is_pending, is_whole, next_of, whole_of};
+ghost use Rattle.ldm_rpc.specs.Spelling.{BeginsSingle};
 ghost use Rattle.ldm_rpc.specs.Taking.{IsFaultOf, TakesFront, answer_at};
 
 use crate::fault::RpcFault;
+use crate::in_place::{HEADER, InPlace, single_in};
 use crate::stage::{LAST_FRAGMENT, Stage, stage_before};
 use std::alloc::{AllocError, Global};
 use std::marker::Model;
@@ -104,6 +106,30 @@ impl Records {
         }
     }
 
+    /// The record of one fragment that lies whole at the front of a piece, where the reader is before the first byte of a
+    /// record. `None` exactly where the reader is elsewhere, or the piece begins with no such record that is within the
+    /// limit.
+    ///
+    /// It takes no memory and copies nothing. Before the next record the reader stands as it stands now: the caller goes on
+    /// behind the bytes that this one takes, and neither pushes them nor calls [`Records::next`].
+    pub fn whole_in<'a>(&self, piece: &'a [u8]) -> Option<InPlace<'a>>
+        ensures content { IfSome result (λ found. whole_of (after self.now piece.now) ≡ Some found.content.now) }
+        ensures taken { IfSome result (λ found. (found.taken ≡ bytes_taken self.now piece.now) × (found.taken ≤ length piece.now) × (0 < found.taken)) }
+        ensures stays { IfSome result (λ found. next_of (after self.now piece.now) ≡ self.now) }
+        ensures within { IfSome result (λ found. length found.content.now ≤ self.now.limit) }
+        ensures begins { IfSome result (λ found. BeginsSingle self.now.limit piece.now found.content.now) }
+        ensures none { IfNone result (self.now ≡ begun self.now.limit → (content : List ℕ) → ¬ BeginsSingle self.now.limit piece.now content) }
+    {
+        if !self.is_begun() {
+            return None;
+        }
+        let content = single_in(piece, self.limit)?;
+        Some(InPlace {
+            content,
+            taken: HEADER + content.len(),
+        })
+    }
+
     /// Whether a record or a fragment header was begun and is not complete. After a fault it is so.
     pub fn pending(&self) -> bool
         ensures { result ≡ is_pending self.now }
@@ -123,6 +149,19 @@ impl Records {
         match self.stage {
             Stage::Faulty(fault) => Err(fault),
             _ => Ok(taken),
+        }
+    }
+
+    // Whether it is before the first byte of a record.
+    fn is_begun(&self) -> bool
+        ensures is { result ≡ true → self.now ≡ begun self.now.limit }
+        ensures is_not { result ≡ false → ¬ (self.now ≡ begun self.now.limit) }
+    {
+        match self.stage {
+            Stage::Header { came, .. } => {
+                came == 0 && self.next_header_at == 0 && self.content.is_empty()
+            }
+            _ => false,
         }
     }
 
