@@ -22,7 +22,6 @@ use Rattle.ldm_intake.specs.Taken.{Arrival, taken_none, taken}
 use Rattle.ldm_intake.specs.declared.record_end.MessageEnd.{MessageEnd}
 use Rattle.ldm_intake.specs.declared.record_end.MessageEnd.TheVariants as message_end
 use Rattle.ldm_intake.specs.TakesRecord.{Standing, GoesOn, RunsOut, TakesRecord}
-use Rattle.ldm_intake.specs.Turning.{record_end_of}
 use Rattle.ldm_intake.proofs.TakenRecords.{stepped, leads-one}
 use Rattle.ldm_downstream.specs.Pieces.{arrived}
 use Rattle.ldm_downstream.specs.Taking.{Takes, BreaksOff}
@@ -95,7 +94,7 @@ found-memory now at content old new same = quiet (found now at (Some content)) o
 
 -- a message of a feed that was found
 pub found-message : (now at : ℕ) (content : List ℕ) (by : MessageEnd) (end : Option RecvEnd) (old new : Standing) → end ≡ None
-    → TakesRecord (record_end_of by) (record_course old.receiving now content) old new → Finds (end_of_message end by at) now at (Some content) old new
+    → TakesRecord by (record_course old.receiving now content) old new → Finds (end_of_message end by at) now at (Some content) old new
 found-message now at content message_end.Goes end old new none takes = rw none (found-goes now at content old new takes)
 found-message now at content message_end.Bad end old new none takes = found-bad now at content old new takes.0 takes.1
 found-message now at content message_end.Worn end old new none takes = found-worn now at content old new takes

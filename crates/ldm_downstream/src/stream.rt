@@ -14,7 +14,7 @@ ghost use Rattle.ldm_downstream.specs.ReceiverView.{moment};
 ghost use Rattle.ldm_downstream.specs.Turns.{Finds, Turns, Runs, Passes, end_of_fault, end_of_message, turned};
 
 use crate::ends::is_worn;
-use ldm_intake::{Intake, MessageEnd, RecordEnd, RecvEnd};
+use ldm_intake::{AnswerEnd, Intake, MessageEnd, RecvEnd};
 use ldm_relay::LARGEST_RECORD;
 use ldm_rpc::{Records, RpcFault};
 use ldm_session::LONGEST_STREAM;
@@ -308,10 +308,9 @@ fn take_answer(
         (stands intake.old pass out.old.items notes) (stands intake.new pass out.new.items notes) }
 {
     *end = match intake.take_answer(content, out) {
-        RecordEnd::Goes => None,
-        RecordEnd::Bad => Some(RecvEnd::BadFrame { at }),
-        RecordEnd::Declined(answer) => Some(RecvEnd::Refused { answer }),
-        RecordEnd::Worn => Some(RecvEnd::Worn),
-        RecordEnd::OutOfMemory => Some(RecvEnd::OutOfMemory),
+        AnswerEnd::Goes => None,
+        AnswerEnd::Bad => Some(RecvEnd::BadFrame { at }),
+        AnswerEnd::Declined(answer) => Some(RecvEnd::Refused { answer }),
+        AnswerEnd::OutOfMemory => Some(RecvEnd::OutOfMemory),
     };
 }

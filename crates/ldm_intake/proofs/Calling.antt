@@ -9,7 +9,7 @@ use Rattle.ldm_shared.specs.Own.{own}
 use Rattle.ldm_shared.specs.Passes.{PassView, IsSamePass, Makes, Calls, Grows, entry_of}
 use Rattle.ldm_shared.specs.declared.turn.Turn.{Turn}
 use Rattle.ldm_shared.specs.declared.turn.Turn.TheVariants.{Done, Worn}
-use Rattle.ldm_intake.specs.declared.record_end.RecordEnd.TheVariants as record_end
+use Rattle.ldm_intake.specs.declared.record_end.MessageEnd.TheVariants as message_end
 use Rattle.ldm_intake.specs.Course.{Course, Comes, Asks, Leads, Begins}
 use Rattle.ldm_intake.specs.Notes.{Note, note_lines}
 use Rattle.ldm_intake.specs.Receiving.{Receiving}
@@ -57,7 +57,7 @@ module _ (old new s : Receiving) (replies : List Sent) (notes : List Note) (out 
     (is : new ≡ s) (sends : after ≡ out ++ records_of replies) (logs : told ≡ log ++ note_lines notes) where
   -- one call is all, and the receiving goes on
   pub goes_by_one : (event : Event) (on : Reply → Course Step) (reply : Reply) (pass behind : PassView) → Grows pass behind event reply
-      → on reply ≡ Comes (Goes s replies notes) → TakesRecord record_end.Goes (Asks event on) (stands old pass out log) (stands new behind after told)
+      → on reply ≡ Comes (Goes s replies notes) → TakesRecord message_end.Goes (Asks event on) (stands old pass out log) (stands new behind after told)
   goes_by_one event on reply pass behind grows comes = record {
     made = entry_of pass event reply ∷ [];
     replies = replies;
@@ -70,7 +70,7 @@ module _ (old new s : Receiving) (replies : List Sent) (notes : List Note) (out 
 
   -- no call, and the receiving goes on
   pub goes_by_none : (course : Course Step) (pass : PassView) → course ≡ Comes (Goes s replies notes)
-      → TakesRecord record_end.Goes course (stands old pass out log) (stands new pass after told)
+      → TakesRecord message_end.Goes course (stands old pass out log) (stands new pass after told)
   goes_by_none course pass comes = record {
     made = [];
     replies = replies;

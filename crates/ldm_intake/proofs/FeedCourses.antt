@@ -11,15 +11,12 @@ use Rattle.ldm_intake.specs.declared.phase.Phase.TheVariants.{Asked, Feeding}
 use Rattle.ldm_shared.specs.Passes.{IsSamePass}
 use Rattle.ldm_intake.specs.declared.record_end.MessageEnd.{MessageEnd}
 use Rattle.ldm_intake.specs.declared.record_end.MessageEnd.TheVariants as message_end
-use Rattle.ldm_intake.specs.declared.record_end.RecordEnd.{RecordEnd}
-use Rattle.ldm_intake.specs.declared.record_end.RecordEnd.TheVariants as record_end
 use Rattle.ldm_intake.specs.Course.{Course, Comes}
 use Rattle.ldm_intake.specs.Receiving.{Receiving}
 use Rattle.ldm_intake.specs.Record.{call_course, course_in, record_course}
 use Rattle.ldm_intake.specs.Settled.{is_feeding}
 use Rattle.ldm_intake.specs.Step.{Step, Bad}
 use Rattle.ldm_intake.specs.TakesRecord.{Standing, TakesRecord}
-use Rattle.ldm_intake.specs.Turning.{record_end_of}
 
 feeding_in : (phase : Phase) (s : Receiving) (now : ℕ) (content : List ℕ) → is_feeding phase ≡ true
     → course_in phase s now content ≡ call_course s now (call_of content)
@@ -55,17 +52,17 @@ other_is_bad s now (Ok (sent.Refused xid why)) other = refl
 
 module _ (s : Receiving) (now : ℕ) (content : List ℕ) (feeds : is_feeding s.phase ≡ true) where
   -- a record of a call is taken as the call
-  pub takes_call : (end : RecordEnd) (m : Sent) (old new : Standing) → call_of content ≡ Ok m
+  pub takes_call : (end : MessageEnd) (m : Sent) (old new : Standing) → call_of content ≡ Ok m
       → TakesRecord end (call_course s now (Ok m)) old new → TakesRecord end (record_course s now content) old new
   takes_call end m old new read takes =
       subst (λ (c : Course Step). TakesRecord end c old new) (sym (feeding s now content feeds ∙ ap (call_course s now) read)) takes
 
-  pub takes_other : (old : Standing) → IsNoFeedCall (call_of content) → TakesRecord record_end.Bad (record_course s now content) old old
+  pub takes_other : (old : Standing) → IsNoFeedCall (call_of content) → TakesRecord message_end.Bad (record_course s now content) old old
   takes_other old other =
-      subst (λ (c : Course Step). TakesRecord record_end.Bad c old old) (sym (feeding s now content feeds ∙ other_is_bad s now (call_of content) other)) (refl, refl)
+      subst (λ (c : Course Step). TakesRecord message_end.Bad c old old) (sym (feeding s now content feeds ∙ other_is_bad s now (call_of content) other)) (refl, refl)
 
 -- however a message ends, the pass is the same one
-pub takes_same : (end : MessageEnd) (c : Course Step) (old new : Standing) → TakesRecord (record_end_of end) c old new → IsSamePass old.pass new.pass
+pub takes_same : (end : MessageEnd) (c : Course Step) (old new : Standing) → TakesRecord end c old new → IsSamePass old.pass new.pass
 takes_same message_end.Goes c old new takes = takes.calls.same
 takes_same message_end.Bad c old new takes = subst (λ (s : Standing). IsSamePass old.pass s.pass) (sym takes.1) refl
 takes_same message_end.Worn c old new takes = takes.calls.same

@@ -4,8 +4,10 @@ use Rattle.ldm_model.specs.declared.event.Entry.{Entry}
 use Rattle.ldm_relay.specs.Sent.{Sent}
 use Rattle.ldm_shared.specs.Passes.{PassView, Calls}
 use Rattle.ldm_shared.specs.declared.steps.TheConstants.{MOST_TURNS}
-use Rattle.ldm_intake.specs.declared.record_end.RecordEnd.{RecordEnd}
-use Rattle.ldm_intake.specs.declared.record_end.RecordEnd.TheVariants as record_end
+use Rattle.ldm_intake.specs.declared.record_end.AnswerEnd.{AnswerEnd}
+use Rattle.ldm_intake.specs.declared.record_end.AnswerEnd.TheVariants as answer_end
+use Rattle.ldm_intake.specs.declared.record_end.MessageEnd.{MessageEnd}
+use Rattle.ldm_intake.specs.declared.record_end.MessageEnd.TheVariants as message_end
 use Rattle.ldm_intake.specs.Course.{Course, Leads, Begins}
 use Rattle.ldm_intake.specs.Notes.{Note, note_lines}
 use Rattle.ldm_intake.specs.Receiving.{Receiving}
@@ -40,10 +42,16 @@ pub record RunsOut (course : Course Step) (old new : Standing) : Type 0 where
   pub worn : length new.pass.seen ≡ MOST_TURNS
   pub same : new ≡ record old { pass = new.pass }
 
--- A record that is refused, or that declines, makes no call, and it changes nothing. Nor does want of memory.
-abbrev pub TakesRecord : RecordEnd → Course Step → Standing → Standing → Type 0
-TakesRecord record_end.Goes course old new = GoesOn course old new
-TakesRecord record_end.Bad course old new = Leads old.pass.actor course [] Bad × (new ≡ old)
-TakesRecord (record_end.Declined answer) course old new = Leads old.pass.actor course [] (Declined answer) × (new ≡ old)
-TakesRecord record_end.Worn course old new = RunsOut course old new
-TakesRecord record_end.OutOfMemory course old new = new ≡ old
+-- A message of a feed. One that is refused makes no call, and it changes nothing. Nor does want of memory.
+abbrev pub TakesRecord : MessageEnd → Course Step → Standing → Standing → Type 0
+TakesRecord message_end.Goes course old new = GoesOn course old new
+TakesRecord message_end.Bad course old new = Leads old.pass.actor course [] Bad × (new ≡ old)
+TakesRecord message_end.Worn course old new = RunsOut course old new
+TakesRecord message_end.OutOfMemory course old new = new ≡ old
+
+-- The reply to a request. One that is refused, or that declines, makes no call, and it changes nothing. Nor does want of memory.
+abbrev pub TakesAnswer : AnswerEnd → Course Step → Standing → Standing → Type 0
+TakesAnswer answer_end.Goes course old new = GoesOn course old new
+TakesAnswer answer_end.Bad course old new = Leads old.pass.actor course [] Bad × (new ≡ old)
+TakesAnswer (answer_end.Declined answer) course old new = Leads old.pass.actor course [] (Declined answer) × (new ≡ old)
+TakesAnswer answer_end.OutOfMemory course old new = new ≡ old

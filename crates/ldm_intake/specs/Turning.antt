@@ -7,23 +7,14 @@ use Rattle.ldm_shared.specs.declared.turn.Turn.{Turn}
 use Rattle.ldm_shared.specs.declared.turn.Turn.TheVariants.{Done, Worn}
 use Rattle.ldm_intake.specs.declared.record_end.MessageEnd.{MessageEnd}
 use Rattle.ldm_intake.specs.declared.record_end.MessageEnd.TheVariants as message_end
-use Rattle.ldm_intake.specs.declared.record_end.RecordEnd.{RecordEnd}
-use Rattle.ldm_intake.specs.declared.record_end.RecordEnd.TheVariants as record_end
 use Rattle.ldm_intake.specs.Course.{Leads}
 use Rattle.ldm_intake.specs.Receiving.{Receiving}
 use Rattle.ldm_intake.specs.Taken.{closing, taken_none}
 
--- how a record ends that is a message of a feed
-abbrev pub record_end_of : MessageEnd → RecordEnd
-record_end_of message_end.Goes = record_end.Goes
-record_end_of message_end.Bad = record_end.Bad
-record_end_of message_end.Worn = record_end.Worn
-record_end_of message_end.OutOfMemory = record_end.OutOfMemory
-
--- how a record ends whose calls came to that
-abbrev pub end_of_turn : {R : Type 0} → Turn R → RecordEnd
-end_of_turn (Done reply) = record_end.Goes
-end_of_turn (Worn turns) = record_end.Worn
+-- how a message of a feed ends whose calls came to that
+abbrev pub end_of_turn : {R : Type 0} → Turn R → MessageEnd
+end_of_turn (Done reply) = message_end.Goes
+end_of_turn (Worn turns) = message_end.Worn
 
 -- What gives up the reservation that is open was asked of the queue with the pass, and was answered.
 pub record HasClosed (old new : Receiving) (pass after : PassView) : Type 0 where

@@ -9,7 +9,7 @@ ghost use Rattle.ldm_intake.specs.Products.{comingsoon, comingsoon_wanted, reser
 ghost use Rattle.ldm_intake.specs.Receiving.{with_last};
 ghost use Rattle.ldm_intake.specs.Room.{HasNoteRoom, HasReplyRoom, records_of};
 ghost use Rattle.ldm_intake.specs.TakesRecord.{TakesRecord, stands};
-ghost use Rattle.ldm_intake.specs.Turning.{end_of_turn, record_end_of};
+ghost use Rattle.ldm_intake.specs.Turning.{end_of_turn};
 
 use crate::intake::Intake;
 use crate::notes::{note_commit, note_reserve, put_unwanted};
@@ -36,7 +36,7 @@ impl Intake<'_> {
         notes: &mut Vec<u8>,
     ) -> MessageEnd
         requires { IsPassOf shared.now pass.old }
-        ensures { TakesRecord (record_end_of result) (comingsoon self.old now soon.now.xid soon.now.info soon.now.block_size)
+        ensures { TakesRecord result (comingsoon self.old now soon.now.xid soon.now.info soon.now.block_size)
             (stands self.old pass.old out.old.items notes.old.items) (stands self.new pass.new out.new.items notes.new.items) }
     {
         if !self.is_idle() || soon.block_size as usize != LARGEST_BLOCK {

@@ -5,7 +5,7 @@ ghost use Rattle.ldm_intake.specs.Answered.{number_of_request, answered, by_answ
 ghost use Rattle.ldm_intake.specs.Course.{Comes};
 ghost use Rattle.ldm_intake.specs.Record.{record_course, reply_course};
 ghost use Rattle.ldm_intake.specs.Settled.{is_feeding};
-ghost use Rattle.ldm_intake.specs.TakesRecord.{TakesRecord, stands};
+ghost use Rattle.ldm_intake.specs.TakesRecord.{TakesAnswer, stands};
 ghost use Rattle.ldm_relay.specs.declared.procedure.Procedure.TheVariants as procedure;
 ghost use Rattle.ldm_relay.specs.Procedure.{number_of};
 ghost use Rattle.ldm_relay.specs.Reading.{reply_of};
@@ -13,7 +13,7 @@ ghost use Rattle.ldm_relay.specs.Reading.{reply_of};
 use crate::asking::is_same_class;
 use crate::intake::Intake;
 use crate::reading::read_answer;
-use crate::record_end::RecordEnd;
+use crate::record_end::AnswerEnd;
 use crate::replies::put_feedme;
 use ldm_class::{Class, ClassFault};
 use ldm_relay::ClassAnswer;
@@ -30,9 +30,9 @@ pub(crate) fn number_of_request(again: bool) -> u32
 impl Intake<'_> {
     /// Takes one record while the reply to a request is owed: asks for a narrower class where one is offered, by a message that it
     /// appends to `out`. It makes no call of the queue, and logs nothing.
-    pub fn take_answer(&mut self, content: &[u8], out: &mut Vec<u8>) -> RecordEnd
+    pub fn take_answer(&mut self, content: &[u8], out: &mut Vec<u8>) -> AnswerEnd
         requires { is_feeding self.old.phase ≡ false }
-        ensures took { (now : ℕ) (pass : PassView) (notes : List ℕ) → TakesRecord result (record_course self.old now content.now)
+        ensures took { (now : ℕ) (pass : PassView) (notes : List ℕ) → TakesAnswer result (record_course self.old now content.now)
             (stands self.old pass out.old.items notes) (stands self.new pass out.new.items notes) }
     {
         match self.request_owed() {
@@ -48,8 +48,8 @@ impl Intake<'_> {
         asked: &ClassSpec,
         again: bool,
         out: &mut Vec<u8>,
-    ) -> RecordEnd
-        ensures { (pass : PassView) (notes : List ℕ) → TakesRecord result (reply_course self.old asked.now again (reply_of (number_of procedure.Feedme) content.now))
+    ) -> AnswerEnd
+        ensures { (pass : PassView) (notes : List ℕ) → TakesAnswer result (reply_course self.old asked.now again (reply_of (number_of procedure.Feedme) content.now))
             (stands self.old pass out.old.items notes) (stands self.new pass out.new.items notes) }
     {
         match read_answer(content) {
@@ -57,10 +57,10 @@ impl Intake<'_> {
                 if reply.xid == number_of_request(again) {
                     self.answered(asked, again, reply.answer, out)
                 } else {
-                    RecordEnd::Bad
+                    AnswerEnd::Bad
                 }
             }
-            None => RecordEnd::Bad,
+            None => AnswerEnd::Bad,
         }
     }
 
@@ -71,17 +71,17 @@ impl Intake<'_> {
         again: bool,
         answer: ClassAnswer,
         out: &mut Vec<u8>,
-    ) -> RecordEnd
-        ensures { (pass : PassView) (notes : List ℕ) → TakesRecord result (Comes (by_answer self.old asked.now again answer))
+    ) -> AnswerEnd
+        ensures { (pass : PassView) (notes : List ℕ) → TakesAnswer result (Comes (by_answer self.old asked.now again answer))
             (stands self.old pass out.old.items notes) (stands self.new pass out.new.items notes) }
     {
         match answer {
             ClassAnswer::Ok => {
                 self.feed();
-                RecordEnd::Goes
+                AnswerEnd::Goes
             }
             ClassAnswer::Reclass(class) => self.reclassed(asked, again, class, out),
-            other => RecordEnd::Declined(other),
+            other => AnswerEnd::Declined(other),
         }
     }
 
@@ -92,32 +92,32 @@ impl Intake<'_> {
         again: bool,
         class: ClassSpec,
         out: &mut Vec<u8>,
-    ) -> RecordEnd
-        ensures { (pass : PassView) (notes : List ℕ) → TakesRecord result (Comes (reclassed self.old asked.now again class))
+    ) -> AnswerEnd
+        ensures { (pass : PassView) (notes : List ℕ) → TakesAnswer result (Comes (reclassed self.old asked.now again class))
             (stands self.old pass out.old.items notes) (stands self.new pass out.new.items notes) }
     {
         if again || is_same_class(&class, asked) {
-            RecordEnd::Declined(ClassAnswer::Reclass(class))
+            AnswerEnd::Declined(ClassAnswer::Reclass(class))
         } else {
             self.ask_again(&class, out)
         }
     }
 
     // Asks for a narrower class, and puts it in force.
-    fn ask_again(&mut self, class: &ClassSpec, out: &mut Vec<u8>) -> RecordEnd
-        ensures { (pass : PassView) (notes : List ℕ) → TakesRecord result (Comes (asks_again self.old class.now))
+    fn ask_again(&mut self, class: &ClassSpec, out: &mut Vec<u8>) -> AnswerEnd
+        ensures { (pass : PassView) (notes : List ℕ) → TakesAnswer result (Comes (asks_again self.old class.now))
             (stands self.old pass out.old.items notes) (stands self.new pass out.new.items notes) }
     {
         match Class::build(self.alloc, class) {
             Ok(built) => {
                 if put_feedme(out, number_of_request(true), class, self.max_hereis).is_err() {
-                    return RecordEnd::OutOfMemory;
+                    return AnswerEnd::OutOfMemory;
                 }
                 self.narrow(built);
-                RecordEnd::Goes
+                AnswerEnd::Goes
             }
-            Err(ClassFault::BadPattern { .. }) => RecordEnd::Bad,
-            Err(ClassFault::OutOfMemory) => RecordEnd::OutOfMemory,
+            Err(ClassFault::BadPattern { .. }) => AnswerEnd::Bad,
+            Err(ClassFault::OutOfMemory) => AnswerEnd::OutOfMemory,
         }
     }
 }

@@ -5,7 +5,7 @@ ghost use Rattle.ldm_intake.specs.Products.{blkdata, commits, fills};
 ghost use Rattle.ldm_intake.specs.Receiving.{left_of};
 ghost use Rattle.ldm_intake.specs.Room.{HasNoteRoom};
 ghost use Rattle.ldm_intake.specs.TakesRecord.{TakesRecord, stands};
-ghost use Rattle.ldm_intake.specs.Turning.{end_of_turn, record_end_of};
+ghost use Rattle.ldm_intake.specs.Turning.{end_of_turn};
 
 use crate::intake::Intake;
 use crate::notes::note_commit;
@@ -29,7 +29,7 @@ impl Intake<'_> {
         notes: &mut Vec<u8>,
     ) -> MessageEnd
         requires { IsPassOf shared.now pass.old }
-        ensures { (out : List ℕ) → TakesRecord (record_end_of result) (blkdata self.old now part.now.signature.0 part.now.number part.now.block.now)
+        ensures { (out : List ℕ) → TakesRecord result (blkdata self.old now part.now.signature.0 part.now.number part.now.block.now)
             (stands self.old pass.old out notes.old.items) (stands self.new pass.new out notes.new.items) }
     {
         let Some(pending) = self.awaited() else {

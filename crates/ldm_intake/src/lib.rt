@@ -25,6 +25,6 @@ pub use intake::Intake;
 pub use notes::{LONGEST_NOTE, note_commit, note_insert, note_reserve, put_refused, put_unwanted};
 pub use phase::{Pending, Phase};
 pub use reading::read_answer;
-pub use record_end::{MessageEnd, RecordEnd};
+pub use record_end::{AnswerEnd, MessageEnd};
 pub use replies::{SOON_REPLY, put_feedme, put_soon};
 pub use wanting::Wanted;

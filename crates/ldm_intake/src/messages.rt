@@ -6,7 +6,7 @@ ghost use Rattle.ldm_intake.specs.Record.{record_course};
 ghost use Rattle.ldm_intake.specs.Room.{HasNoteRoom};
 ghost use Rattle.ldm_intake.specs.Settled.{is_feeding};
 ghost use Rattle.ldm_intake.specs.TakesRecord.{TakesRecord, stands};
-ghost use Rattle.ldm_intake.specs.Turning.{end_of_turn, record_end_of};
+ghost use Rattle.ldm_intake.specs.Turning.{end_of_turn};
 
 use crate::intake::Intake;
 use crate::notes::{note_insert, put_unwanted};
@@ -36,7 +36,7 @@ impl Intake<'_> {
         requires of { IsPassOf shared.now pass.old }
         requires feeding { is_feeding self.old.phase ≡ true }
         ensures kept { IsSamePass pass.old pass.new }
-        ensures took { TakesRecord (record_end_of result) (record_course self.old now content.now)
+        ensures took { TakesRecord result (record_course self.old now content.now)
             (stands self.old pass.old out.old.items notes.old.items) (stands self.new pass.new out.new.items notes.new.items) }
     {
         match read_feed_call(content) {
@@ -62,7 +62,7 @@ impl Intake<'_> {
     ) -> MessageEnd
         requires of { IsPassOf shared.now pass.old }
         requires sized { length product.now.body.now ≡ product.now.info.size }
-        ensures { (out : List ℕ) → TakesRecord (record_end_of result) (hereis self.old now product.now.info product.now.body.now)
+        ensures { (out : List ℕ) → TakesRecord result (hereis self.old now product.now.info product.now.body.now)
             (stands self.old pass.old out notes.old.items) (stands self.new pass.new out notes.new.items) }
     {
         if !self.is_idle() {

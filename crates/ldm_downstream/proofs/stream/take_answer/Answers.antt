@@ -1,5 +1,5 @@
 use Rattle.ldm_intake.specs.TakesRecord.{stands}
-use Rattle.ldm_downstream.proofs.Found.{found-goes, found-bad, found-declined, found-worn, found-memory}
+use Rattle.ldm_downstream.proofs.Found.{found-goes, found-bad, found-declined, found-memory}
 use Rattle.ldm_downstream.proofs.stream.take_answer.Goals as goal
 
 pub returns-in-Goes : goal.returns-in-Goes
@@ -16,11 +16,6 @@ pub returns-in-Declined : goal.returns-in-Declined
 returns-in-Declined c = λ now pass notes.
     found-declined now c.args.at c.args.content.now c.in-Declined.answer (stands c.args.intake.now pass c.args.out.now.items notes)
     (stands c.take_answer.new.self pass c.take_answer.new.out.items notes) (c.in-Declined.ensures.took now pass notes).0 (c.in-Declined.ensures.took now pass notes).1
-
-pub returns-in-Worn : goal.returns-in-Worn
-returns-in-Worn c = λ now pass notes.
-    found-worn now c.args.at c.args.content.now (stands c.args.intake.now pass c.args.out.now.items notes)
-    (stands c.take_answer.new.self pass c.take_answer.new.out.items notes) (c.in-Worn.ensures.took now pass notes)
 
 pub returns-in-OutOfMemory : goal.returns-in-OutOfMemory
 returns-in-OutOfMemory c = λ now pass notes.
