@@ -1,10 +1,10 @@
 -- A record that was found, by what taking it came to.
-use Rattle.std.proofs.Common.{◌≡◌, ℕ, Bool, true, false, List, [], ◌∷◌, ◌++◌, Option, Some, None, inl, inr, refl, ap, sym, subst, ◌∙◌}
+use Rattle.std.proofs.Common.{◌≡◌, ℕ, ◌+◌, ◌<◌, ◌≤◌, length, Bool, true, false, List, [], ◌∷◌, ◌++◌, Option, Some, None, inl, inr, refl, ap, sym, subst, ◌∙◌}
 use Rattle.std.proofs.lemmas.List.{append-nil}
 use Rattle.ldm_rpc.specs.declared.fault.RpcFault.{RpcFault}
 use Rattle.ldm_rpc.specs.declared.fault.RpcFault.TheVariants.{TooLong as too_long, OutOfMemory as out_of_memory}
 use Rattle.ldm_rpc.specs.declared.stage.Stage.TheVariants.{Faulty}
-use Rattle.ldm_rpc.specs.Reading.{Reading, after, is_faulty, is_faulty_at, is_whole, is_whole_at, next_of, whole_of}
+use Rattle.ldm_rpc.specs.Reading.{Reading, after, begun, bytes_taken, is_faulty, is_faulty_at, is_whole, is_whole_at, next_of, whole_of}
 use Rattle.ldm_rpc.specs.Streams.{Position, given}
 use Rattle.ldm_rpc.specs.Taking.{IsFaultOf}
 use Rattle.ldm_model.specs.declared.event.Entry.{Entry}
@@ -25,7 +25,7 @@ use Rattle.ldm_intake.specs.TakesRecord.{Standing, GoesOn, RunsOut, TakesRecord}
 use Rattle.ldm_intake.proofs.TakenRecords.{stepped, leads-one}
 use Rattle.ldm_downstream.specs.Pieces.{arrived}
 use Rattle.ldm_downstream.specs.Taking.{Takes, BreaksOff}
-use Rattle.ldm_downstream.specs.Turns.{TakesAll, StopsBy, TooLong, Cuts, Finds, found, first_of, behind, end_of_fault, end_of_message}
+use Rattle.ldm_downstream.specs.Turns.{Reads, TakesAll, Turns, StopsBy, TooLong, Cuts, Finds, found, first_of, behind, turned, end_of_fault, end_of_message}
 use Rattle.ldm_downstream.proofs.Followed.{takes-none, breaks-here}
 
 -- what one record came to
@@ -148,3 +148,48 @@ next-sound_of r false not sound = rw not sound
 
 pub next-sound : (r : Reading) → is_faulty r ≡ false → is_faulty (next_of r) ≡ false
 next-sound r sound = next-sound_of r (is_whole r) refl sound
+
+-- ---- a record that lies whole in the bytes
+
+pub record LiesIn (p : Position) (bytes content : List ℕ) (n : ℕ) : Type 0 where
+  pub whole : whole_of (after p.reading bytes) ≡ Some content
+  pub count : n ≡ bytes_taken p.reading bytes
+  pub most : n ≤ length bytes
+  pub some : 0 < n
+  pub stays : next_of (after p.reading bytes) ≡ p.reading
+
+no_content : (content : List ℕ) → None ≡ Some content → ⊥
+no_content content e = cc
+
+has_content : (r : Reading) (b : Bool) (content : List ℕ) → is_whole r ≡ b → whole_of r ≡ Some content → is_whole r ≡ true
+has_content r true content whole is = whole
+has_content r false content not is =
+    let none : whole_of r ≡ None = rw not refl in
+    absurd (no_content content (sym none ∙ is))
+
+-- where a reader stands behind it
+abbrev pub passed-in_place : Position → ℕ → Position
+passed-in_place p n = record { reading = p.reading; begins = p.came + n; came = p.came + n }
+
+reads-in_place : (p : Position) (bytes content : List ℕ) (n : ℕ) → LiesIn p bytes content n → Reads p bytes n (passed-in_place p n)
+reads-in_place p bytes content n lies =
+    let r = after p.reading bytes in
+    let whole : is_whole r ≡ true = has_content r (is_whole r) content refl lies.whole in
+    let next : next_of r ≡ begun r.limit = rw whole refl in
+    let begins : p.reading ≡ begun r.limit = sym lies.stays ∙ next in
+    record {
+      count = lies.count;
+      some = lies.some;
+      most = lies.most;
+      hand_is = ap (λ (s : Reading). record { reading = s; begins = p.came + n; came = p.came + n }) begins ∙ rw (whole, lies.count) refl;
+      sound = ap is_faulty begins;
+    }
+
+-- what taking it came to
+pub first-in_place : (now : ℕ) (p : Position) (bytes content : List ℕ) (n : ℕ) (end : Option RecvEnd) (old new : Standing) → LiesIn p bytes content n
+    → Finds end now p.begins (Some content) old new → Turns (turned n end) now bytes p (passed-in_place p n) old new
+first-in_place now p bytes content n None old new lies finds =
+    let same : found now p.begins (Some content) ≡ first_of now p bytes = ap (found now p.begins) (sym lies.whole) ∙ found-first now p bytes in
+    record { reads = reads-in_place p bytes content n lies; takes = subst (λ (xs : List Arrival). TakesAll xs old new) same finds }
+first-in_place now p bytes content n (Some end) old new lies finds =
+    first-ends now p bytes end old new (subst (λ (o : Option (List ℕ)). Finds (Some end) now p.begins o old new) (sym lies.whole) finds)

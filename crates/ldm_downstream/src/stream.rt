@@ -181,8 +181,51 @@ impl<'a> Stream<'a> {
     }
 
     // Takes the record that these bytes complete first, or all of them where they complete none, and answers how many bytes that
-    // are. Where that ends the receiving, the end is written: it has room for a class, which is not to be moved for each record.
+    // are. A record that lies whole in the bytes is read where it lies. Where that ends the receiving, the end is written: it has
+    // room for a class, which is not to be moved for each record.
     fn take_first<H: Wait>(
+        &mut self,
+        shared: &Shared,
+        rt: &H,
+        pass: &mut Pass,
+        bytes: &[u8],
+        now: Micros,
+        out: &mut Vec<u8>,
+        notes: &mut Vec<u8>,
+        end: &mut Option<RecvEnd>,
+    ) -> usize
+        requires of { IsPassOf shared.now pass.old }
+        requires some { 0 < length bytes.now }
+        requires room { self.old.hand.came + length bytes.now ≤ LONGEST_STREAM }
+        requires going { end.old ≡ None }
+        ensures kept { IsSamePass pass.old pass.new }
+        ensures turns { Turns (turned result end.new) now bytes.now self.old.hand self.new.hand
+            (moment self.old.receiving pass.old out.old notes.old) (moment self.new.receiving pass.new out.new notes.new) }
+    {
+        let Some(found) = self.records.whole_in(bytes) else {
+            return self.take_pushed(shared, rt, pass, bytes, now, out, notes, end);
+        };
+        let content = Some(found.content);
+        take_content(
+            &mut self.intake,
+            shared,
+            rt,
+            pass,
+            content,
+            self.begins,
+            now,
+            out,
+            notes,
+            end,
+        );
+        let count = found.taken;
+        self.came += count as u64;
+        self.begins = self.came;
+        count
+    }
+
+    // The same, of a record that is joined in a buffer: one of more than one fragment, or that does not lie whole in these bytes.
+    fn take_pushed<H: Wait>(
         &mut self,
         shared: &Shared,
         rt: &H,
