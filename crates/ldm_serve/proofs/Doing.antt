@@ -71,7 +71,7 @@ module _ (client : Client) where
   are-append [] ys first second = second
   are-append (x ∷ xs) ys first second = (first.0, are-append xs ys first.1 second)
 
-  does-then : (xs ys : List Step) (a b c : Standing) → Does client xs a b → Does client ys b c → Does client (xs ++ ys) a c
+  pub does-then : (xs ys : List Step) (a b c : Standing) → Does client xs a b → Does client ys b c → Does client (xs ++ ys) a c
   does-then xs ys a b c first second = record {
     by = first.by;
     are = are-append xs ys first.are second.are;

@@ -2,3 +2,14 @@ pub mod Doing
 pub mod Contents
 pub mod First
 pub mod Running
+pub mod Outliving
+pub mod Reaching
+pub mod Turning
+pub mod Coming
+pub mod Narrowing
+pub mod Asking
+pub mod HandingIn
+pub mod Pushed
+pub mod Calling
+pub mod Telling
+pub mod Keeping

@@ -1,13 +1,15 @@
 -- The records in some bytes, answered one after another.
-use Rattle.std.proofs.Common.{◌≡◌, ℕ, ◌+◌, ◌-◌, ◌≤◌, true, false, List, [], ◌∷◌, ◌++◌, length, take, drop, refl, ap, sym, subst, ◌∙◌, arith}
-use Rattle.std.proofs.lemmas.Bool.{false≢true}
-use Rattle.std.proofs.lemmas.List.{drop-drop, length-drop, take_all}
+use Rattle.std.proofs.Common.{◌≡◌, ℕ, suc, ◌+◌, ◌-◌, ◌≤◌, Bool, true, false, List, [], ◌∷◌, ◌++◌, length, take, drop, refl, ap, sym, subst, ◌∙◌, arith, inl, inr, append_assoc, append-nil, length-append}
+use Rattle.std.proofs.lemmas.Bool.{cases_Bool, false≢true}
+use Rattle.std.proofs.lemmas.List.{drop-drop, drop_all, length-drop, length-take-le, take-append-drop, take_all}
 use Rattle.ldm_rpc.specs.declared.fault.RpcFault.{RpcFault}
 use Rattle.ldm_rpc.specs.declared.stage.Stage.{Stage}
 use Rattle.ldm_rpc.specs.declared.stage.Stage.TheVariants.{Header, Fragment, Whole, Faulty}
-use Rattle.ldm_rpc.specs.Reading.{Reading, after, bytes_taken, is_faulty, is_faulty_at, is_whole, next_of}
+use Rattle.ldm_rpc.specs.Reading.{Reading, after, after_byte, bytes_taken, is_faulty, is_faulty_at, is_open, is_pending, is_whole, next_of}
 use Rattle.ldm_rpc.specs.Streams.{Position, Placed, forgets, given, records_in, in_hand}
-use Rattle.ldm_rpc.proofs.Joined.{pushed}
+use Rattle.ldm_rpc.proofs.Joined.{after-taken, given_none, in_hand-append, pushed, records-append}
+use Rattle.ldm_rpc.proofs.Pushed.{taken_at_end}
+use Rattle.ldm_rpc.proofs.Steps.{taken_open}
 use Rattle.ldm_rpc.proofs.CallerLemmas.{IsReading, reads_none, reads_more, reads_all, reads_fault}
 use Rattle.ldm_shared.specs.Passes.{PassView}
 use Rattle.ldm_respond.specs.declared.responded.Responded.{Responded}
@@ -27,6 +29,48 @@ stage_of_fault s (Fragment left last) is faulty = absurd (false≢true (sym (nex
 stage_of_fault s Whole is faulty = absurd (false≢true (sym (next-sound s (ap is_faulty_at is)) ∙ faulty))
 stage_of_fault s (Faulty fault) is faulty = (fault, is)
 
+-- ---- the bytes that a push takes
+
+first-taken : (s : Reading) (byte : ℕ) (bytes : List ℕ) (k : ℕ) → is_open s ≡ true → k ≡ bytes_taken (after_byte s byte) bytes → bytes_taken (after_byte s byte) (take k bytes) ≡ k
+    → bytes_taken s (take (bytes_taken s (byte ∷ bytes)) (byte ∷ bytes)) ≡ bytes_taken s (byte ∷ bytes)
+first-taken s byte bytes k unended k_is more =
+    let count : bytes_taken s (byte ∷ bytes) ≡ suc k = taken_open s byte bytes unended ∙ omega (arith, k_is) in
+    let again : bytes_taken s (byte ∷ take k bytes) ≡ suc k = taken_open s byte (take k bytes) unended ∙ omega (arith, more) in
+    ap (λ (n : ℕ). bytes_taken s (take n (byte ∷ bytes))) count ∙ again ∙ sym count
+
+taken-taken : (s : Reading) (bytes : List ℕ) → bytes_taken s (take (bytes_taken s bytes) bytes) ≡ bytes_taken s bytes
+unfolding bytes_taken
+taken-taken s [] = refl
+taken-taken s (byte ∷ bytes) =
+    elim (cases_Bool (is_open s)) [
+      | inl unended ↦ first-taken s byte bytes (bytes_taken (after_byte s byte) bytes) unended refl (taken-taken (after_byte s byte) bytes)
+      | inr ended ↦ ap (λ (n : ℕ). bytes_taken s (take n (byte ∷ bytes))) (taken_at_end s (byte ∷ bytes) ended) ∙ sym (taken_at_end s (byte ∷ bytes) ended)
+    ]
+
+-- they complete just the record that the push completes, and the reader is behind them
+reads-done : (p : Position) (bytes : List ℕ) (n : ℕ) (t : Position) → is_whole p.reading ≡ false → Reads p bytes n t
+    → (records_in p (take n bytes) ≡ given p.begins (after p.reading bytes)) × (t ≡ in_hand p (take n bytes))
+unfolding records_in in_hand
+reads-done p bytes n t ready reads =
+    let front = take n bytes in
+    let r = after p.reading bytes in
+    let front_is : after p.reading front ≡ r = ap (λ (k : ℕ). after p.reading (take k bytes)) reads.count ∙ after-taken p.reading bytes in
+    let taken : bytes_taken p.reading front ≡ n = ap (λ (k : ℕ). bytes_taken p.reading (take k bytes)) reads.count ∙ taken-taken p.reading bytes ∙ sym reads.count in
+    let none : drop (bytes_taken p.reading front) front ≡ [] = ap (λ (k : ℕ). drop k front) taken ∙ drop_all n front (omega (arith, length-take-le n bytes reads.most)) in
+    let is = pushed p front ready in
+    let there : t ≡ forgets p.begins (p.came + n) r = reads.hand_is ∙ ap (λ (k : ℕ). forgets p.begins (p.came + k) r) (sym reads.count) in (
+      is.records ∙ rw (none, front_is) (append-nil (given p.begins r)),
+      there ∙ sym (is.in_hand ∙ rw (none, front_is, taken) refl),
+    )
+
+-- a record that comes out is complete, and none is begun behind it
+whole-given : (begins : ℕ) (r : Reading) (placed : Placed) (b : Bool) → is_whole r ≡ b → given begins r ≡ placed ∷ [] → b ≡ true
+whole-given begins r placed true is given_is = refl
+whole-given begins r placed false is given_is = let none : [] ≡ placed ∷ [] = sym (given_none begins r is) ∙ given_is in absurd (cc none)
+
+edge-whole : (r : Reading) → is_whole r ≡ true → is_pending (next_of r) ≡ false
+edge-whole r whole = rw whole refl
+
 -- How far a loop over bytes has come: it is at q, with a rest of them, and answered what came out so far.
 pub record IsRunning (client : Client) (p : Position) (bytes : List ℕ) (old : Standing) (q : Position) (rest : List ℕ) (cur : Standing) : Type 0 where
   pub out : List Placed
@@ -36,9 +80,14 @@ pub record IsRunning (client : Client) (p : Position) (bytes : List ℕ) (old : 
   pub room : q.came + length rest ≡ p.came + length bytes
   pub began : p.came ≤ q.came
   pub rest_is : rest ≡ drop (q.came - p.came) bytes
+  pub done : List ℕ
+  pub all : done ++ rest ≡ bytes
+  pub out_is : out ≡ records_in p done
+  pub hand_is : q ≡ in_hand p done
 
 pub runs-none : (client : Client) (p : Position) (bytes : List ℕ) (old : Standing) → old.pass.actor ≡ client.actor → is_whole p.reading ≡ false → is_faulty p.reading ≡ false
     → IsRunning client p bytes old p bytes old
+unfolding records_in in_hand
 runs-none client p bytes old by ready sound = record {
   out = [];
   reading = reads_none p bytes [] ready;
@@ -47,6 +96,10 @@ runs-none client p bytes old by ready sound = record {
   room = refl;
   began = omega arith;
   rest_is = let none : p.came - p.came ≡ 0 = omega arith in ap (λ (n : ℕ). drop n bytes) (sym none);
+  done = [];
+  all = refl;
+  out_is = refl;
+  hand_is = refl;
 }
 
 -- the actor calls for the client all along
@@ -63,6 +116,9 @@ module _ (client : Client) (p : Position) (bytes : List ℕ) (old : Standing) (q
     came : t.came ≡ q.came + n
     rest_is : left ≡ drop (t.came - p.came) bytes
     room : t.came + length left ≡ q.came + length rest
+    all : (so_far.done ++ take n rest) ++ left ≡ bytes
+    records : so_far.out ++ given q.begins r ≡ records_in p (so_far.done ++ take n rest)
+    behind_is : t ≡ in_hand p (so_far.done ++ take n rest)
 
   goes-behind : (n : ℕ) (t : Position) (left : List ℕ) → Reads q rest n t → left ≡ drop n rest → IsBehind n t left
   unfolding r
@@ -70,11 +126,18 @@ module _ (client : Client) (p : Position) (bytes : List ℕ) (old : Standing) (q
       let hand_is : t ≡ forgets q.begins (q.came + n) r = reads.hand_is ∙ ap (λ (k : ℕ). forgets q.begins (q.came + k) r) (sym reads.count) in
       let came : t.came ≡ q.came + n = ap (λ (v : Position). v.came) hand_is in
       let count : (q.came - p.came) + n ≡ t.came - p.came = omega (arith, came, so_far.began) in
+      let read = reads-done q rest n t so_far.reading.ready reads in
       record {
         hand_is = hand_is;
         came = came;
         rest_is = left_is ∙ ap (drop n) so_far.rest_is ∙ drop-drop n (q.came - p.came) bytes ∙ ap (λ (k : ℕ). drop k bytes) count;
         room = ap (λ (xs : List ℕ). t.came + length xs) left_is ∙ omega (arith, came, length-drop n rest, reads.most);
+        all = append_assoc so_far.done (take n rest) left
+            ∙ ap (λ (xs : List ℕ). so_far.done ++ xs) (ap (λ (xs : List ℕ). take n rest ++ xs) left_is ∙ take-append-drop n rest) ∙ so_far.all;
+        records = ap (λ (xs : List Placed). xs ++ given q.begins r) so_far.out_is
+            ∙ ap (λ (xs : List Placed). records_in p so_far.done ++ xs) (sym read.0 ∙ ap (λ (v : Position). records_in v (take n rest)) so_far.hand_is)
+            ∙ sym (records-append p so_far.done (take n rest));
+        behind_is = read.1 ∙ ap (λ (v : Position). in_hand v (take n rest)) so_far.hand_is ∙ sym (in_hand-append p so_far.done (take n rest));
       }
 
   -- one record more, or the front of one
@@ -94,6 +157,10 @@ module _ (client : Client) (p : Position) (bytes : List ℕ) (old : Standing) (q
         room = there.room ∙ so_far.room;
         began = let came = there.came in omega (arith, came, so_far.began);
         rest_is = there.rest_is;
+        done = so_far.done ++ take n rest;
+        all = there.all;
+        out_is = there.records;
+        hand_is = there.behind_is;
       }
 
   -- no bytes are left
@@ -116,25 +183,27 @@ module _ (client : Client) (p : Position) (bytes : List ℕ) (old : Standing) (q
 
   -- the session does not outlive the first record of the rest
   pub over-all : (next : Responded) (at n : ℕ) (t : Position) (new : Standing) → TurnsOver client next at q rest n t cur new → IsOver client next at p bytes t old new
-  unfolding r others
+  unfolding r
   over-all next at n t new over =
       let left = drop n rest in
       let there = goes-behind n t left over.reads refl in
-      let left_is : drop (bytes_taken q.reading rest) rest ≡ left = ap (λ (k : ℕ). drop k rest) (sym over.reads.count) in
-      let behind_are : others ≡ records_in t left = ap (λ (v : Position). records_in v (drop (bytes_taken q.reading rest) rest)) (sym over.reads.hand_is) ∙ ap (records_in t) left_is in
-      let in_hand_is : in_hand t left ≡ in_hand q rest =
-      ap (in_hand t) (sym left_is) ∙ ap (λ (v : Position). in_hand v (drop (bytes_taken q.reading rest) rest)) over.reads.hand_is ∙ sym (pushed q rest so_far.reading.ready).in_hand in
+      let first : given q.begins r ≡ over.placed ∷ [] = over.first in
+      let whole : is_whole r ≡ true = whole-given q.begins r over.placed (is_whole r) refl first in
       record {
         front = so_far.out;
         last = over.placed;
+        taken = so_far.done ++ take n rest;
         rest = left;
         between = cur;
         answers = so_far.answers;
         ends = over.ends;
         at_is = over.at_is;
-        records = ap (λ (xs : List Placed). so_far.out ++ over.placed ∷ xs) (sym behind_are) ∙ ap (λ (xs : List Placed). so_far.out ++ (xs ++ others)) (sym over.first) ∙ all_are;
-        hand_is = in_hand_is ∙ so_far.reading.in_hand_is;
+        all = there.all;
+        some = omega (arith, length-append so_far.done (take n rest), length-take-le n rest over.reads.most, over.reads.some);
+        records = ap (λ (xs : List Placed). so_far.out ++ xs) (sym first) ∙ there.records;
+        hand_is = there.behind_is;
         rest_is = there.rest_is;
+        edge = ap (λ (v : Position). is_pending v.reading) there.hand_is ∙ edge-whole r whole;
         sound = over.reads.sound;
       }
 

@@ -3,3 +3,9 @@ pub mod ServingView
 pub mod Turns
 pub mod Contents
 pub mod Served
+pub mod Outlived
+pub mod Connection
+pub mod Becoming
+pub mod Serve
+pub mod Rounds
+pub mod Kept

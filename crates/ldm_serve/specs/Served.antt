@@ -1,6 +1,6 @@
 -- What a server does with the bytes of a connection.
-use Rattle.std.specs.Prelude.{◌≡◌, ℕ, ◌-◌, true, false, List, ◌∷◌, ◌++◌, drop}
-use Rattle.ldm_rpc.specs.Reading.{is_faulty}
+use Rattle.std.specs.Prelude.{◌≡◌, ℕ, ◌-◌, ◌<◌, true, false, List, [], ◌∷◌, ◌++◌, length, drop}
+use Rattle.ldm_rpc.specs.Reading.{is_faulty, is_pending}
 use Rattle.ldm_rpc.specs.Streams.{Position, Placed, records_in, in_hand}
 use Rattle.ldm_respond.specs.declared.responded.Responded.{Responded}
 use Rattle.ldm_respond.specs.Responds.{Standing}
@@ -19,14 +19,19 @@ pub record GoesOn (client : Client) (p : Position) (bytes : List ℕ) (q : Posit
 pub record IsOver (client : Client) (next : Responded) (at : ℕ) (p : Position) (bytes : List ℕ) (q : Position) (old new : Standing) : Type 0 where
   pub front : List Placed
   pub last : Placed
+  pub taken : List ℕ
   pub rest : List ℕ
   pub between : Standing
   pub answers : AnswersAll client front old between
   pub ends : EndsWith client next last between new
   pub at_is : at ≡ last.at
-  pub records : front ++ last ∷ records_in q rest ≡ records_in p bytes
-  pub hand_is : in_hand q rest ≡ in_hand p bytes
+  pub all : taken ++ rest ≡ bytes
+  pub some : 0 < length taken
+  pub records : front ++ last ∷ [] ≡ records_in p taken
+  pub hand_is : q ≡ in_hand p taken
   pub rest_is : rest ≡ drop (q.came - p.came) bytes
+  -- no record is begun
+  pub edge : is_pending q.reading ≡ false
   pub sound : is_faulty q.reading ≡ false
 
 -- All records that the bytes complete were answered, and the one that begins behind them is too long.

@@ -1,0 +1,93 @@
+-- What the rules keep from a host on a whole connection: what it may hand in, and what it may be told.
+use Rattle.std.specs.Prelude.{◌≡◌, ℕ, true, List, [], ◌∷◌, ◌++◌}
+use Rattle.std.specs.List.{Contains}
+use Rattle.ldm_types.specs.Info.{Metadata}
+use Rattle.ldm_class.specs.Access.{is_yes, verdict}
+use Rattle.ldm_model.specs.declared.event.Event.{Event}
+use Rattle.ldm_model.specs.declared.event.Event.TheVariants.{Insert, Reserve, Commit}
+use Rattle.ldm_model.specs.declared.event.Reply.TheVariants.{Reserved}
+use Rattle.ldm_model.specs.declared.event.Entry.{Entry}
+use Rattle.ldm_outside.specs.Link.{LinkRecord}
+use Rattle.ldm_relay.specs.Sent.{Sent}
+use Rattle.ldm_relay.specs.Sent as sent
+use Rattle.ldm_session.specs.Exchange.{Exchanged}
+use Rattle.ldm_intake.specs.Course.{entry_by}
+use Rattle.ldm_intake.specs.Room.{records_of}
+use Rattle.ldm_serve.specs.Steps.{Client}
+
+-- ---- what a host hands in
+
+-- the ACCEPT rules let the host hand in the product
+abbrev pub MayHandIn : Client → Metadata → Type 0
+MayHandIn client info = is_yes (verdict client.rules.accept client.host info) ≡ true
+
+-- One of these calls reserved that region, for a product that the host may hand in.
+pub record WasReserved (client : Client) (calls : List Entry) (r : ℕ) : Type 0 where
+  pub info : Metadata
+  pub evicted : ℕ
+  pub made : Contains calls (entry_by client.actor (Reserve info) (Reserved r evicted))
+  pub may : MayHandIn client info
+
+-- A call that is made behind these puts nothing into the queue but a product that the host may hand in: at once, or by a region that is
+-- reserved for it and becomes that product.
+abbrev pub PutsIn : Client → (before : List Entry) → Event → Type 0
+PutsIn client before (Insert now info body) = MayHandIn client info
+PutsIn client before (Reserve info) = MayHandIn client info
+PutsIn client before (Commit r now) = WasReserved client before r
+PutsIn client before _ = Unit {0}
+
+-- each of these calls, one behind the other
+abbrev pub AllPutIn : Client → (before calls : List Entry) → Type 0
+AllPutIn client before [] = Unit {0}
+AllPutIn client before (call ∷ calls) = PutsIn client before call.event × AllPutIn client (before ++ call ∷ []) calls
+
+-- ---- what a host is told
+
+-- the ALLOW rules let the host have the product
+abbrev pub MayHave : Client → Metadata → Type 0
+MayHave client info = is_yes (verdict client.rules.allow client.host info) ≡ true
+
+-- One of these messages announced a product with that signature, which the host may have.
+pub record WasAnnounced (client : Client) (messages : List Sent) (signature : List ℕ) : Type 0 where
+  pub xid : ℕ
+  pub info : Metadata
+  pub block_size : ℕ
+  pub announced : Contains messages (sent.Comingsoon xid info block_size)
+  pub same : info.signature ≡ signature
+  pub may : MayHave client info
+
+-- A message that goes out behind these has nothing of a product but of one that the host may have: it is whole, it is announced, it is
+-- told of, or it is a block of one that was announced.
+abbrev pub Tells : Client → (before : List Sent) → Sent → Type 0
+Tells client before (sent.Hereis xid info body) = MayHave client info
+Tells client before (sent.Comingsoon xid info block_size) = MayHave client info
+Tells client before (sent.Notification xid info) = MayHave client info
+Tells client before (sent.Blkdata xid signature number block) = WasAnnounced client before signature
+Tells client before _ = Unit {0}
+
+-- each of these messages, one behind the other
+abbrev pub AllTell : Client → (before messages : List Sent) → Type 0
+AllTell client before [] = Unit {0}
+AllTell client before (message ∷ messages) = Tells client before message × AllTell client (before ++ message ∷ []) messages
+
+-- A link was sent the records of messages, or a front of them, and these have nothing of a product but of those that the host may have.
+pub record SendsOnly (client : Client) (old new : LinkRecord) : Type 0 where
+  pub messages : List Sent
+  pub tell : AllTell client [] messages
+  pub sent : List ℕ
+  pub rest : List ℕ
+  pub front : sent ++ rest ≡ records_of messages
+  pub given : List ℕ
+  pub exchanged : Exchanged old sent given new
+
+-- a message that has nothing of any product
+abbrev pub TellsNone : Sent → Type 0
+TellsNone (sent.Hereis xid info body) = ⊥
+TellsNone (sent.Comingsoon xid info block_size) = ⊥
+TellsNone (sent.Notification xid info) = ⊥
+TellsNone (sent.Blkdata xid signature number block) = ⊥
+TellsNone _ = Unit {0}
+
+abbrev pub AllTellNone : List Sent → Type 0
+AllTellNone [] = Unit {0}
+AllTellNone (message ∷ messages) = TellsNone message × AllTellNone messages
