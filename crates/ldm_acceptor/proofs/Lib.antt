@@ -1,0 +1,5 @@
+mod Serving
+mod Owning
+mod Holding
+mod Working
+mod Telling
