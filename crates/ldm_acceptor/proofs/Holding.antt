@@ -1,5 +1,5 @@
 -- One session, and one visit, by what their calls promise.
-use Rattle.std.proofs.Common.{◌≡◌, ◌≤◌, ◌⊎◌, ℕ, List, Option, Some, None, inl, inr, refl, sym, subst, ap, ◌∙◌}
+use Rattle.std.proofs.Common.{◌≡◌, ◌≤◌, ℕ, List, Option, Some, None, inl, inr, sym, subst, ap}
 use Rattle.ldm_class.specs.Rules.{Rules}
 use Rattle.ldm_outside.specs.Count.{Rose}
 use Rattle.ldm_outside.specs.Door.{DoorRecord, AcceptGives, DoorTakesBack}
@@ -12,10 +12,9 @@ use Rattle.ldm_serve.specs.Serve.{ServesAll}
 use Rattle.ldm_serve.specs.Steps.{Client}
 use Rattle.ldm_worker_log.specs.declared.stop.NodeStop.{NodeStop}
 use Rattle.ldm_worker_log.specs.declared.stop.NodeStop.TheVariants.{Done, NetFault, LogFault, Worn, OutOfMemory}
-use Rattle.ldm_acceptor.specs.Ends.{stop_by}
 use Rattle.ldm_acceptor.specs.Moments.{Moment, with_door}
-use Rattle.ldm_acceptor.specs.Visits.{Admits, client_of, outside, peer_of, visit_of}
-use Rattle.ldm_acceptor.specs.Works.{Ending, FailsAt, LastVisit}
+use Rattle.ldm_acceptor.specs.Visits.{client_of, outside, peer_of, visit_of}
+use Rattle.ldm_acceptor.specs.Works.{FailsAt, LastVisit}
 use Rattle.ldm_acceptor.specs.Steps.{AdmitsOne, Finishes, HoldsOne}
 use Rattle.ldm_acceptor.proofs.Serving.{serves-log_failed, serves-stopped, serves-worn}
 

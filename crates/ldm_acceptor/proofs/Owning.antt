@@ -1,5 +1,5 @@
 -- The log lines that a session writes itself.
-use Rattle.std.proofs.Common.{◌≡◌, ◌⊎◌, ℕ, Bool, true, false, List, [], ◌++◌, Option, inl, inr, refl, sym, ap, ◌∙◌, subst}
+use Rattle.std.proofs.Common.{◌≡◌, ◌⊎◌, ℕ, List, [], ◌++◌, inl, inr, refl, sym, ap, ◌∙◌, subst}
 use Rattle.std.specs.Option.{option_map}
 use Rattle.ldm_outside.specs.Io.{SinkRecord, Takes}
 use Rattle.ldm_outside.proofs.CallerLemmas.{Takes-nothing}

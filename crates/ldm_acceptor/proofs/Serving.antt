@@ -1,5 +1,5 @@
 -- What stands besides where a session that was served stops the worker.
-use Rattle.std.proofs.Common.{◌≡◌, ◌≤◌, ◌⊎◌, ℕ, List, ◌++◌, Option, Some, None, length, inl, inr, refl, sym, subst, ap, ◌∙◌}
+use Rattle.std.proofs.Common.{◌≡◌, ℕ, List, ◌++◌, Some, length, refl, subst}
 use Rattle.std.specs.Option.{option_map}
 use Rattle.ldm_outside.specs.Count.{Rose}
 use Rattle.ldm_outside.specs.Gate.{GateRecord}
@@ -10,7 +10,7 @@ use Rattle.ldm_shared.specs.declared.steps.TheConstants.{MOST_TURNS}
 use Rattle.ldm_shared.specs.Passes.{PassView}
 use Rattle.ldm_intake.specs.declared.end.RecvEnd.{RecvEnd}
 use Rattle.ldm_intake.specs.declared.end.RecvEnd.TheVariants as receiving
-use Rattle.ldm_downstream.specs.Receives.{Cause, ReceivesAll}
+use Rattle.ldm_downstream.specs.Receives.{Cause}
 use Rattle.ldm_sender.specs.declared.end.SendEnd.{SendEnd}
 use Rattle.ldm_sender.specs.declared.end.SendEnd.TheVariants as sending
 use Rattle.ldm_sender.specs.Asked.{Asked, asked_of}
@@ -29,7 +29,6 @@ use Rattle.ldm_serve.specs.Becoming.{IsFed, IsNotified, IsReceived, ungated}
 use Rattle.ldm_serve.specs.Connection.{Moment}
 use Rattle.ldm_serve.specs.Serve.{ServesAll}
 use Rattle.ldm_serve.specs.Steps.{Client, response_of}
-use Rattle.ldm_worker_log.specs.declared.stop.NodeStop.{NodeStop}
 use Rattle.ldm_worker_log.specs.declared.stop.NodeStop.TheVariants.{Done, LogFault, Worn}
 use Rattle.ldm_acceptor.specs.Ends.{stop_by, stop_of_receiving, stop_of_sending}
 

@@ -1,15 +1,14 @@
 -- What is told of visits.
-use Rattle.std.proofs.Common.{◌≡◌, ◌⊎◌, ◌+◌, ℕ, Bool, true, false, Option, Some, None, List, [], ◌∷◌, ◌++◌, length, suc, inl, inr, refl, sym, subst, ap, ◌∙◌, append_assoc, length-append, zero-add, arith}
+use Rattle.std.proofs.Common.{◌≡◌, ◌+◌, ℕ, Bool, true, false, Option, Some, None, List, [], ◌∷◌, ◌++◌, length, suc, inl, inr, refl, sym, subst, ap, ◌∙◌, append_assoc, length-append, zero-add, arith}
 use Rattle.std.proofs.lemmas.List.{append-nil}
 use Rattle.std.specs.Prelude.{option_and_then}
 use Rattle.std.specs.Option.{option_map}
 use Rattle.ldm_class.specs.Rules.{Rules}
-use Rattle.ldm_intake.specs.declared.end.RecvEnd.TheVariants as receiving
 use Rattle.ldm_outside.specs.declared.door.Came.TheVariants.{Closed, Failed}
 use Rattle.ldm_outside.specs.declared.link.Passed.{Passed}
 use Rattle.ldm_outside.specs.Door.{DoorRecord}
 use Rattle.ldm_outside.specs.Io.{SinkRecord, Takes}
-use Rattle.ldm_outside.specs.Lending.{LendingRecord, LinkBack, link_back}
+use Rattle.ldm_outside.specs.Lending.{LinkBack, link_back}
 use Rattle.ldm_outside.specs.Link.{LinkRecord}
 use Rattle.ldm_outside.specs.Told.{TellsMore}
 use Rattle.ldm_outside.proofs.CallerLemmas.{Takes-nothing, Takes-then}

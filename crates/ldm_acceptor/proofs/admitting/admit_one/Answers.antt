@@ -1,9 +1,7 @@
-use Rattle.std.proofs.Common.{ℕ, List, refl, subst}
+use Rattle.std.proofs.Common.{ℕ, List, subst}
 use Rattle.ldm_outside.specs.Station.{station_tells}
-use Rattle.ldm_worker_log.specs.declared.stop.NodeStop.TheVariants.{Done}
-use Rattle.ldm_acceptor.specs.Moments.{Moment, moment, with_door}
+use Rattle.ldm_acceptor.specs.Moments.{moment, with_door}
 use Rattle.ldm_acceptor.specs.Steps.{HoldsOne}
-use Rattle.ldm_acceptor.specs.Works.{ClosedDoor, FailedDoor}
 use Rattle.ldm_acceptor.proofs.Holding.{admits-one}
 use Rattle.ldm_acceptor.proofs.admitting.admit_one.Goals as goal
 
