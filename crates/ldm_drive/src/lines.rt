@@ -15,14 +15,12 @@ pub fn drive<R: Input + Print + AllocGlobal, F: FnMut(&mut Trial)>(
     let alloc = rt.alloc();
     for line in BufReader::new(alloc, rt.reader())?.lines(alloc) {
         let line = line?;
-        if line.is_empty() || line.starts_with('#') {
-            println!(rt; "{line}")?;
-            continue;
-        }
         let mut trial = Trial::of(alloc, &line);
-        answer(&mut trial);
-        if !trial.is_done() {
-            trial.refuse("words are left");
+        if trial.is_case() {
+            answer(&mut trial);
+            trial.end();
+        } else {
+            trial.copy_line();
         }
         let told = trial.answer();
         println!(rt; "{told}")?;

@@ -32,6 +32,24 @@ impl<'a> Trial<'a> {
         self.alloc
     }
 
+    // Whether the line is neither empty nor a comment.
+    pub(crate) fn is_case(&self) -> bool {
+        !self.rest.is_empty() && !self.rest.starts_with('#')
+    }
+
+    // Adds all that is left of the line.
+    pub(crate) fn copy_line(&mut self) {
+        let rest = self.rest();
+        self.tell(rest);
+    }
+
+    // Refuses the case where words are left.
+    pub(crate) fn end(&mut self) {
+        if !self.is_done() {
+            self.refuse("words are left");
+        }
+    }
+
     /// Whether all words were taken.
     pub fn is_done(&self) -> bool {
         self.rest.is_empty()
