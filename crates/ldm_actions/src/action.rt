@@ -4,7 +4,7 @@ use crate::options::{FileOptions, PipeOptions};
 use crate::program::Program;
 
 /// An action on a product.
-#[derive(Debug, Drop)]
+#[derive(Drop)]
 pub enum Action {
     /// FILE and STDIOFILE: the body goes to the end of a file.
     ToFile {

@@ -5,7 +5,7 @@ ghost use Rattle.ldm_actions.specs.Hands.{hand_of};
 use crate::action::Action;
 
 /// Where the bytes of the action in hand go.
-#[derive(Clone, Copy, Debug, PartialEq, Eq)]
+#[derive(Clone, Copy, PartialEq, Eq)]
 pub(crate) enum Place {
     Nowhere,
     /// To the file that was used last.
@@ -15,7 +15,7 @@ pub(crate) enum Place {
 }
 
 /// The action in hand.
-#[derive(Clone, Copy, Debug, PartialEq, Eq)]
+#[derive(Clone, Copy, PartialEq, Eq)]
 pub(crate) struct Hand {
     pub(crate) place: Place,
     pub(crate) strip: bool,

@@ -19,7 +19,7 @@ use std::marker::Model;
 /// An action is begun by [`begin`](Outputs::begin), is given the body by [`piece`](Outputs::piece), and is finished by
 /// [`finish`](Outputs::finish). Each call has to be lent the store and the launcher that all calls before were lent, and nobody
 /// else may shut what is kept there. After a fault it is spent: each call answers that fault again and touches nothing.
-#[derive(Debug, Drop)]
+#[derive(Drop)]
 pub struct Outputs {
     files: Recent,
     piped: Recent,

@@ -9,7 +9,7 @@ use std::alloc::{AllocError, Global};
 use std::marker::Model;
 
 /// A program and what it is told: at least one word, of which the first names the program. Contracts see each word as its bytes.
-#[derive(Debug, Drop)]
+#[derive(Drop)]
 pub struct Program {
     words: Vec<String>,
 }

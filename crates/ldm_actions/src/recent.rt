@@ -9,7 +9,7 @@ use std::marker::Model;
 pub(crate) const ROOM: usize = 32;
 
 // A thing that is kept under a name, by its number.
-#[derive(Debug, Drop)]
+#[derive(Drop)]
 struct Entry {
     name: String,
     number: usize,
@@ -57,7 +57,7 @@ fn move_to_front(entries: &mut Vec<Entry>, at: usize) -> usize
 }
 
 /// Numbers under names: contracts see a list of pairs, the one that was used last first.
-#[derive(Debug, Drop)]
+#[derive(Drop)]
 pub(crate) struct Recent {
     entries: Vec<Entry>,
 }

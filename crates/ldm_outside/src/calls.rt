@@ -5,7 +5,7 @@ use std::marker::Model;
 
 /// The calls of an object so far, the numbers of those that fail, how much a call moves at most, and how often the
 /// object failed.
-#[derive(Debug, Drop)]
+#[derive(Drop)]
 pub(crate) struct Calls {
     made: u64,
     failing: Vec<u64>,

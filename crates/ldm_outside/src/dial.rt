@@ -5,7 +5,7 @@ ghost use Rattle.ldm_outside.specs.Dial.{DialRecord};
 use crate::link::Link;
 
 /// What a dial connected.
-#[derive(Debug, Drop)]
+#[derive(Drop)]
 pub enum Dialled<L> {
     /// A link, which was not used yet.
     Linked(L),

@@ -9,7 +9,7 @@ use arrayvec::ArrayVec;
 pub const LONGEST_HOST: usize = 64;
 
 /// Who came to a door.
-#[derive(Debug, Drop)]
+#[derive(Drop)]
 pub enum Came<L> {
     /// A peer, from a host of that name or address.
     Peer {

@@ -7,7 +7,7 @@ use ldm_types::Micros;
 use std::marker::Model;
 
 /// A clock that answers the instants of a list, and then the last again each time.
-#[derive(Debug, Drop)]
+#[derive(Drop)]
 pub struct MemClock {
     instants: Vec<Micros>,
     calls: u64,

@@ -12,7 +12,7 @@ use std::collections::VecDeque;
 use std::marker::Model;
 
 /// Whom a dial was asked for.
-#[derive(Debug, Drop)]
+#[derive(Drop)]
 pub struct DialCall {
     /// The host.
     pub host: Vec<u8>,
@@ -24,7 +24,7 @@ pub struct DialCall {
 /// `connect` are numbered from 1, and those of the numbers in a list fail and connect none.
 ///
 /// It keeps whom it was asked for and the links that were given back. Without memory for these a call fails too.
-#[derive(Debug, Drop)]
+#[derive(Drop)]
 pub struct MemDial {
     scripts: VecDeque<LinkScript>,
     asked: Vec<DialCall>,

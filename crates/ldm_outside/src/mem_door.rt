@@ -13,7 +13,7 @@ use std::collections::VecDeque;
 use std::marker::Model;
 
 /// A peer that comes to a door in memory.
-#[derive(Debug, Drop)]
+#[derive(Drop)]
 pub struct MemPeer {
     /// Its host.
     pub host: ArrayVec<u8, LONGEST_HOST>,
@@ -25,7 +25,7 @@ pub struct MemPeer {
 /// from 1, and those of the numbers in a list fail.
 ///
 /// It keeps which hosts came and the links that were given back. Without memory for these a call fails too.
-#[derive(Debug, Drop)]
+#[derive(Drop)]
 pub struct MemDoor {
     waiting: VecDeque<MemPeer>,
     hosts: Vec<Vec<u8>>,

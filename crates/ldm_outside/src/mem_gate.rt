@@ -12,7 +12,7 @@ use std::marker::Model;
 /// together, from 1, and exactly those of the numbers in a list are answered [`Go::Stop`].
 ///
 /// Without memory for what it is to keep of a call, before and after it, it stops too.
-#[derive(Debug, Drop)]
+#[derive(Drop)]
 pub struct MemGate {
     // Behind a call that was let pass there is room for one more.
     told: Vec<GateCall>,

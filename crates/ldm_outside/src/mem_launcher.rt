@@ -14,7 +14,7 @@ use std::collections::BTreeMap;
 use std::marker::Model;
 
 /// A child that a launcher in memory started: no program runs.
-#[derive(Debug, Drop)]
+#[derive(Drop)]
 pub struct MemChild {
     words: Vec<String>,
     piped: bool,
@@ -95,7 +95,7 @@ impl MemChild {
 }
 
 // What is known of a child that was neither waited for nor detached.
-#[derive(Debug, Drop)]
+#[derive(Drop)]
 struct MemRunning {
     words: Vec<String>,
     piped: bool,
@@ -148,7 +148,7 @@ fn copied(alloc: Global, words: &[String]) -> Result<Vec<String>, AllocError>
 }
 
 // The children that run, under their numbers, and all that were started.
-#[derive(Debug, Drop)]
+#[derive(Drop)]
 struct Started {
     now: BTreeMap<usize, MemRunning>,
     ever: Vec<MemChild>,
@@ -198,7 +198,7 @@ fn shut_input(running: &mut BTreeMap<usize, MemRunning>, child: ChildNo)
 ///
 /// A write to a child that is not piped fails, and so does a call without memory for what it is to keep. A write takes as
 /// much of the piece as the limit allows.
-#[derive(Debug, Drop)]
+#[derive(Drop)]
 pub struct MemLauncher {
     started: Started,
     statuses: Vec<u32>,

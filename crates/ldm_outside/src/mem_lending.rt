@@ -10,7 +10,7 @@ use std::collections::VecDeque;
 use std::marker::Model;
 
 /// The links that were given back, and whether one is out. A link needs no memory to be given back.
-#[derive(Debug, Drop)]
+#[derive(Drop)]
 pub(crate) struct Lending {
     back: Vec<MemLink>,
     out: bool,

@@ -11,7 +11,7 @@ use std::collections::VecDeque;
 use std::marker::Model;
 
 /// What a link in memory is to do. Its calls of `recv` and `send` are numbered together, from 1.
-#[derive(Debug, Drop)]
+#[derive(Drop)]
 pub struct LinkScript {
     /// All bytes that it gives.
     pub bytes: Vec<u8>,
@@ -29,7 +29,7 @@ pub struct LinkScript {
 /// A link that does as its script says, and keeps what passed.
 ///
 /// Without memory for what it is to keep, a call fails too.
-#[derive(Debug, Drop)]
+#[derive(Drop)]
 pub struct MemLink {
     bytes: Vec<u8>,
     at: usize,

@@ -20,7 +20,7 @@ use std::marker::Model;
 pub type MemStation = Station<MemDoor, MemDial, MemSink, MemClock, MemGate>;
 
 /// What a station in memory is to do.
-#[derive(Debug, Drop)]
+#[derive(Drop)]
 pub struct StationScript {
     /// The peers that its door lets in.
     pub peers: Vec<MemPeer>,
@@ -53,7 +53,7 @@ pub struct StationsCall {
 /// and `stations` are numbered together, from 1.
 ///
 /// The port and the number of idle calls change nothing of the stations: their scripts say what they do.
-#[derive(Debug, Drop)]
+#[derive(Drop)]
 pub struct MemNet {
     dial: MemDial,
     ready: VecDeque<StationScript>,

@@ -14,7 +14,7 @@ use std::collections::BTreeMap;
 use std::marker::Model;
 
 /// A file in memory.
-#[derive(Debug, Drop)]
+#[derive(Drop)]
 pub struct MemFile {
     path: String,
     bytes: Vec<u8>,
@@ -102,7 +102,7 @@ fn empty(files: &mut Vec<MemFile>, path: &str)
 }
 
 // The path of a file.
-#[derive(Debug, Drop)]
+#[derive(Drop)]
 pub struct MemPath {
     text: String,
 }
@@ -133,7 +133,7 @@ impl MemPath {
 }
 
 // The files that are open, under their numbers, and the paths of all that were opened.
-#[derive(Debug, Drop)]
+#[derive(Drop)]
 struct Opened {
     now: BTreeMap<usize, MemPath>,
     ever: Vec<MemPath>,
@@ -220,7 +220,7 @@ fn read(alloc: Global, files: &[MemFile], path: &str, limit: u64) -> FileRead
 ///
 /// Reading a file that it has not fails, and so does a call without memory for what it is to keep. A write takes as much
 /// of the piece as the limit allows. Where two files are under one path the first counts.
-#[derive(Debug, Drop)]
+#[derive(Drop)]
 pub struct MemStore {
     files: Vec<MemFile>,
     opened: Opened,

@@ -11,7 +11,7 @@ use std::marker::Model;
 ///
 /// A call that does not fail gives as many bytes as are left, as fit the buffer and as the limit allows, and
 /// leaves the rest of the buffer as it was.
-#[derive(Debug, Drop)]
+#[derive(Drop)]
 pub struct MemSource {
     bytes: Vec<u8>,
     at: usize,
@@ -112,7 +112,7 @@ pub(crate) fn copy_front(bytes: &[u8], most: usize, into: &mut [u8]) -> usize
 ///
 /// Without memory for what it is to keep, a call fails too. A call that does not fail takes as much of the piece as
 /// the limit allows.
-#[derive(Debug, Drop)]
+#[derive(Drop)]
 pub struct MemSink {
     written: Vec<u8>,
     calls: Calls,

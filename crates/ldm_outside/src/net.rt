@@ -9,7 +9,7 @@ use crate::gate::Gate;
 use crate::io::Sink;
 
 /// The outside of one worker.
-#[derive(Debug, Drop)]
+#[derive(Drop)]
 pub struct Station<D, I, E, C, G> {
     /// Where its peers come in: a [`Door`].
     pub door: D,
@@ -24,7 +24,7 @@ pub struct Station<D, I, E, C, G> {
 }
 
 /// What a net handed out.
-#[derive(Debug, Drop)]
+#[derive(Drop)]
 pub enum Manned<S> {
     /// As many stations as were asked for, all of them new.
     Stations(Vec<S>),

@@ -6,7 +6,7 @@ use crate::gate::{Gate, Go};
 use ldm_types::Actor;
 
 /// A gate that never stops, and lets no time pass.
-#[derive(Clone, Copy, Debug)]
+#[derive(Clone, Copy)]
 pub struct OpenGate;
 
 impl Gate for OpenGate {

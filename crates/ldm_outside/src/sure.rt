@@ -8,7 +8,7 @@ use std::marker::Model;
 /// A source over bytes in memory that never fails.
 ///
 /// A call gives as many bytes as are left and as fit the buffer, and leaves the rest of the buffer as it was.
-#[derive(Debug, Drop)]
+#[derive(Drop)]
 pub struct SureSource {
     bytes: Vec<u8>,
     at: usize,
@@ -62,7 +62,7 @@ impl Source for SureSource {
 }
 
 /// A sink that takes every piece, keeps none and tells nothing.
-#[derive(Clone, Copy, Debug)]
+#[derive(Clone, Copy)]
 pub struct SureSink;
 
 impl Sink for SureSink {

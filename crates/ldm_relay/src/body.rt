@@ -16,7 +16,7 @@ use ldm_rpc::LAST_FRAGMENT;
 use ldm_types::{Info, OutOfMemory, Signature};
 
 /// A call that carries bytes, without these: who writes it says how many there will be, and has them later.
-#[derive(Clone, Copy, Debug)]
+#[derive(Clone, Copy)]
 pub enum CallWithBody<'a> {
     /// A [`Hereis`](crate::Hereis) with a body of `info.size()` bytes.
     Hereis {

@@ -21,7 +21,7 @@ use ldm_xdr::Fields;
 ///
 /// A [`Message`](crate::Message) has room for a class, some 8,700 bytes, and this has not: who takes a feed does not move such
 /// room for each record.
-#[derive(Debug, Drop)]
+#[derive(Drop)]
 pub enum FeedCall<'a> {
     Hereis(Hereis<'a>),
     Comingsoon(Comingsoon),

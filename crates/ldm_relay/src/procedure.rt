@@ -68,7 +68,7 @@ impl Procedure {
 }
 
 /// A procedure that has a reply.
-#[derive(Clone, Copy, Debug, PartialEq, Eq)]
+#[derive(Clone, Copy, PartialEq, Eq)]
 pub(crate) enum Answered {
     Feedme,
     Hiya,
