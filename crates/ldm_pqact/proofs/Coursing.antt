@@ -26,7 +26,7 @@ use Rattle.ldm_pqact.proofs.Using.{uses_step, uses_worn}
 
 -- ---- the same, put otherwise
 
-does_same : (k : ℕ) (xs ys : List Reply) (ds es : List Deed) (ls ms : List ℕ) (a b : Sight) → xs ≡ ys → ds ≡ es → ls ≡ ms → Does k xs ds ls a b → Does k ys es ms a b
+pub does_same : (k : ℕ) (xs ys : List Reply) (ds es : List Deed) (ls ms : List ℕ) (a b : Sight) → xs ≡ ys → ds ≡ es → ls ≡ ms → Does k xs ds ls a b → Does k ys es ms a b
 does_same k xs ys ds es ls ms a b x d l does =
     subst (λ (o : List Reply). Does k o es ms a b) x
     (subst (λ (o : List Deed). Does k xs o ms a b) d (subst (λ (o : List ℕ). Does k xs ds o a b) l does))
@@ -39,7 +39,7 @@ breaks_same why k xs ys ds es ls ms a b x d l does =
 
 -- ---- rows stay
 
-rows_stay : (law : RowsStay) (old new : PassView) (made : List Entry) (givens : List Given) → Calls old new made → AreRows old givens → AreRows new givens
+pub rows_stay : (law : RowsStay) (old new : PassView) (made : List Entry) (givens : List Given) → Calls old new made → AreRows old givens → AreRows new givens
 rows_stay law old new made [] calls are = tt
 rows_stay law old new made (given ∷ givens) calls are =
     (HasRowIn-stays law old new made given.n given.product given.time calls are.0, rows_stay law old new made givens calls are.1)
@@ -48,7 +48,7 @@ rows-append : (pass : PassView) (first second : List Given) → AreRows pass fir
 rows-append pass [] second one two = two
 rows-append pass (given ∷ first) second one two = (one.0, rows-append pass first second one.1 two)
 
-rows_then : (law : RowsStay) (old new : PassView) (made : List Entry) (first second : List Turn) → Calls old new made → AreRows old (flat_map products_in first)
+pub rows_then : (law : RowsStay) (old new : PassView) (made : List Entry) (first second : List Turn) → Calls old new made → AreRows old (flat_map products_in first)
     → AreRows new (flat_map products_in second) → AreRows new (flat_map products_in (first ++ second))
 rows_then law old new made first second calls one two =
     subst (AreRows new) (sym (flat_map-append products_in first second))
@@ -75,7 +75,7 @@ answers_then why at first second =
     ∙ ap (λ (x : List Reply). x ++ last_answer why at) (sym (map-append turn_reply first second))
 
 -- what was called at an end
-called_at : (why : ActEnd) (k : ℕ) (xs : List Reply) (ds : List Deed) (ls : List ℕ) (a b : Sight) → EndsSo why k xs ds ls a b → Uses k a.pass b.pass xs
+pub called_at : (why : ActEnd) (k : ℕ) (xs : List Reply) (ds : List Deed) (ls : List ℕ) (a b : Sight) → EndsSo why k xs ds ls a b → Uses k a.pass b.pass xs
 called_at end.Stopped k xs ds ls a b ends = ends.0.uses
 called_at end.StoreFault k xs ds ls a b ends = ends.uses
 called_at end.LaunchFault k xs ds ls a b ends = ends.uses
@@ -88,7 +88,7 @@ module _ (k : ℕ) (xs ys zs : List Reply) (ds es fs : List Deed) (ls ms ns : Li
   broke_then : (why : ActEnd) → Breaks why k ys es ms b c → Breaks why k zs fs ns a c
   broke_then why two = breaks_same why k _ zs _ fs _ ns a c x d l (breaks_then why k xs ys ds es ls ms a b c one two)
 
-  ends_then : (why : ActEnd) → EndsSo why k ys es ms b c → EndsSo why k zs fs ns a c
+  pub ends_then : (why : ActEnd) → EndsSo why k ys es ms b c → EndsSo why k zs fs ns a c
   ends_then end.Stopped ends = (does_same k _ zs _ fs _ ns a c x d l (does_then k xs ys ds es ls ms a b c one ends.0), ends.1)
   ends_then end.StoreFault ends = broke_then end.StoreFault ends
   ends_then end.LaunchFault ends = broke_then end.LaunchFault ends

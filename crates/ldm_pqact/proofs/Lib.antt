@@ -7,3 +7,5 @@ pub mod Finishing
 pub mod Handled
 pub mod Coursing
 pub mod NoteLines
+pub mod Stretches
+pub mod Closing

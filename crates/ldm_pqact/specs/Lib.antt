@@ -6,3 +6,5 @@ pub mod Carried
 pub mod Acting
 pub mod Handling
 pub mod Parts
+pub mod Course
+pub mod Acted

@@ -4,6 +4,7 @@
 //! that comes to, at each of its ends, is `ActsOn` in `specs/Acting.antt`.
 #![tactic(auto)]
 
+mod acting;
 mod body;
 mod carry;
 mod effect;
@@ -15,7 +16,8 @@ mod pending;
 mod pqact;
 mod turn;
 
+pub use acting::act;
 pub use effect::output_of;
 pub use end::ActEnd;
-pub use limits::LARGEST_PIECE;
+pub use limits::{EVERY_FEEDTYPE, LARGEST_PIECE};
 pub use pqact::Pqact;

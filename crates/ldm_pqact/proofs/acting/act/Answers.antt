@@ -1,0 +1,6 @@
+use Rattle.ldm_pqact.proofs.Closing.{counts_opened}
+use Rattle.ldm_pqact.proofs.acting.act.Goals as goal
+
+pub returns-in-Done-Opened-clause-counts : goal.returns-in-Done-Opened-clause-counts
+returns-in-Done-Opened-clause-counts g c =
+    let at = rw c.in-Done-Opened.field-0-is at c.in-Done-Opened.ensures in counts_opened _ _ _ _ (c.act_by.ensures.acts c.args.pass.now at.done)

@@ -1,0 +1,142 @@
+//! Acting on the products of a queue, until the gate says to stop.
+ghost use Rattle.std.specs.Prelude.{◌≡◌, None};
+ghost use Rattle.ldm_model.specs.declared.event.Reply.TheVariants as reply;
+ghost use Rattle.ldm_shared.specs.Passes.{Grows, IsPassOf, IsSamePass, PassView};
+ghost use Rattle.ldm_reader.specs.Reader.{HasCursor};
+ghost use Rattle.ldm_actions.specs.Outputs.{KeepsUnlessSpent, no_outputs, standing};
+ghost use Rattle.ldm_pqact.specs.Acted.{Acts, ActsOpened, KeepsCounts, end_after, opening, situation_of};
+ghost use Rattle.ldm_pqact.specs.Acting.{sight_of};
+ghost use Rattle.ldm_pqact.specs.Course.{Follows};
+
+use crate::end::ActEnd;
+use crate::limits::EVERY_FEEDTYPE;
+use crate::pqact::Pqact;
+use ldm_actions::Done;
+use ldm_model::Start;
+use ldm_outside::{Gate, Go, Launcher, Sink, Store};
+use ldm_pqact_conf::Entries;
+use ldm_reader::{Opening, Reader, products_stay};
+use ldm_shared::{Pass, Shared, Turn};
+use ldm_types::Feed;
+use std::alloc::Global;
+use std::sync::Wait;
+
+// Acts on every product up to the end of the queue, and again, until the gate says to stop there.
+fn follow<H: Wait, F: Store, L: Launcher, E: Sink, G: Gate>(
+    rt: &H,
+    shared: &Shared,
+    pass: &mut Pass,
+    reader: &Reader,
+    pqact: &mut Pqact,
+    store: &mut F,
+    launcher: &mut L,
+    log: &mut E,
+    gate: &mut G,
+) -> ActEnd
+    requires of { IsPassOf shared.now pass.old }
+    requires cursor { HasCursor pass.old reader.now.k None }
+    requires keeps { KeepsUnlessSpent (standing pqact.old.outputs (F.tells store.old) (L.tells launcher.old)) }
+    ensures kept { IsSamePass pass.old pass.new }
+    ensures keeps { KeepsUnlessSpent (standing pqact.new.outputs (F.tells store.new) (L.tells launcher.new)) }
+    ensures follows { Follows result pqact.old.entries reader.now.k
+        (sight_of pass.old (standing pqact.old.outputs (F.tells store.old) (L.tells launcher.old)) (E.tells log.old))
+        (sight_of pass.new (standing pqact.new.outputs (F.tells store.new) (L.tells launcher.new)) (E.tells log.new))
+        (G.tells gate.old) (G.tells gate.new) }
+{
+    products_stay();
+    for _ in rt.forever() {
+        match pqact.pending(shared, rt, pass, reader, store, launcher, log) {
+            ActEnd::Stopped => match gate.idle() {
+                Go::On => {}
+                Go::Stop => return ActEnd::Stopped,
+            },
+            end => return end,
+        }
+    }
+    unreachable!()
+}
+
+// How it ends, by how acting on products ended and what the closing of the outputs answered.
+fn end_after(ended: ActEnd, answer: Done) -> ActEnd
+    ensures { result ≡ end_after ended answer }
+{
+    match ended {
+        ActEnd::Stopped => match answer {
+            Done::Ok => ActEnd::Stopped,
+            Done::StoreFault => ActEnd::StoreFault,
+            Done::LaunchFault => ActEnd::LaunchFault,
+        },
+        ended => ended,
+    }
+}
+
+// Acts on the products of a cursor that was opened, and closes outputs and cursor.
+fn act_by<H: Wait, F: Store, L: Launcher, E: Sink, G: Gate>(
+    rt: &H,
+    shared: &Shared,
+    pass: &mut Pass,
+    reader: Reader,
+    pqact: &mut Pqact,
+    store: &mut F,
+    launcher: &mut L,
+    log: &mut E,
+    gate: &mut G,
+) -> ActEnd
+    requires of { IsPassOf shared.now pass.old }
+    requires cursor { HasCursor pass.old reader.k None }
+    requires outputs { pqact.old.outputs ≡ no_outputs }
+    requires keeps { KeepsUnlessSpent (standing pqact.old.outputs (F.tells store.old) (L.tells launcher.old)) }
+    ensures acts { (first : PassView) → Grows first pass.old opening (reply.Opened reader.k) → ActsOpened result pqact.old.entries
+        (situation_of first (F.tells store.old) (L.tells launcher.old) (E.tells log.old) (G.tells gate.old))
+        (situation_of pass.new (F.tells store.new) (L.tells launcher.new) (E.tells log.new) (G.tells gate.new)) }
+{
+    products_stay();
+    let ended = follow(rt, shared, pass, &reader, pqact, store, launcher, log, gate);
+    let answer = pqact.close(store, launcher);
+    if let ActEnd::Worn = ended {
+        return ActEnd::Worn;
+    }
+    match reader.close(shared, rt, pass) {
+        Turn::Done(()) => end_after(ended, answer),
+        Turn::Worn { .. } => ActEnd::Worn,
+    }
+}
+
+/// Opens a cursor for all feedtypes at the oldest product, and acts on every product up to the end of the queue. There it asks the
+/// gate: where this says to go on, it acts on what came meanwhile, and where it says to stop, that is the end. Then it shuts all files,
+/// shuts the input of each program and waits for it, and closes the cursor.
+///
+/// Outputs are closed at every end at which they are not spent, and the cursor at every end but [`ActEnd::Worn`]. Where the actions
+/// ended well and a call of the store or the launcher failed when outputs were closed, that fault is the end.
+pub fn act<H: Wait, F: Store, L: Launcher, E: Sink, G: Gate>(
+    rt: &H,
+    alloc: Global,
+    shared: &Shared,
+    pass: &mut Pass,
+    store: &mut F,
+    launcher: &mut L,
+    log: &mut E,
+    gate: &mut G,
+    entries: Entries,
+) -> ActEnd
+    requires of { IsPassOf shared.now pass.old }
+    ensures kept { IsSamePass pass.old pass.new }
+    ensures counts { KeepsCounts
+        (situation_of pass.old (F.tells store.old) (L.tells launcher.old) (E.tells log.old) (G.tells gate.old))
+        (situation_of pass.new (F.tells store.new) (L.tells launcher.new) (E.tells log.new) (G.tells gate.new)) }
+    ensures acts { Acts result entries
+        (situation_of pass.old (F.tells store.old) (L.tells launcher.old) (E.tells log.old) (G.tells gate.old))
+        (situation_of pass.new (F.tells store.new) (L.tells launcher.new) (E.tells log.new) (G.tells gate.new)) }
+{
+    let Ok(mut pqact) = Pqact::create(alloc, entries) else {
+        return ActEnd::OutOfMemory;
+    };
+    match Reader::open(shared, rt, pass, Feed(EVERY_FEEDTYPE), Start::Oldest) {
+        Turn::Done(Opening::Opened(reader)) => act_by(
+            rt, shared, pass, reader, &mut pqact, store, launcher, log, gate,
+        ),
+        Turn::Done(Opening::AllBusy) => ActEnd::AllBusy,
+        Turn::Done(Opening::NotQueued) => unreachable!(),
+        Turn::Worn { .. } => ActEnd::Worn,
+    }
+}
