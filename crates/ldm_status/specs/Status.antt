@@ -11,30 +11,40 @@ abbrev pub code_of : Status → ℕ
 code_of status.Done = 0
 code_of status.Usage = 64
 code_of (status.BadLine line column) = 65
+code_of (status.BadFrame at) = 65
 code_of status.StreamLimit = 66
 code_of (status.RefusedArena arena) = 67
 code_of (status.RefusedSlots slots) = 67
 code_of (status.RefusedPasses passes) = 67
 code_of (status.NotBuilt word) = 68
+code_of status.NetFault = 69
 code_of status.NoMemory = 71
+code_of status.StoreFault = 72
 code_of status.SourceFault = 74
 code_of status.SinkFault = 75
 code_of status.Worn = 77
+code_of status.Denied = 78
+code_of status.Refused = 79
 
 -- the log line, with its newline: nothing where all went well
 abbrev pub log_line : Status → List ℕ
 log_line status.Done = []
 log_line status.Usage = codes "ldm: usage\n"
 log_line (status.BadLine line column) = codes "ldm: bad line " ++ decimal line ++ codes " column " ++ decimal column ++ 10 ∷ []
+log_line (status.BadFrame at) = codes "ldm: bad frame at " ++ decimal at ++ 10 ∷ []
 log_line status.StreamLimit = codes "ldm: stream limit\n"
 log_line (status.RefusedArena arena) = codes "ldm: refused arena " ++ decimal arena ++ 10 ∷ []
 log_line (status.RefusedSlots slots) = codes "ldm: refused slots " ++ decimal slots ++ 10 ∷ []
 log_line (status.RefusedPasses passes) = codes "ldm: refused passes " ++ decimal passes ++ 10 ∷ []
 log_line (status.NotBuilt word) = codes "ldm: not built " ++ word ++ 10 ∷ []
+log_line status.NetFault = codes "ldm: net fault\n"
 log_line status.NoMemory = codes "ldm: no memory\n"
+log_line status.StoreFault = codes "ldm: store fault\n"
 log_line status.SourceFault = codes "ldm: source fault\n"
 log_line status.SinkFault = codes "ldm: sink fault\n"
 log_line status.Worn = codes "ldm: worn\n"
+log_line status.Denied = codes "ldm: denied\n"
+log_line status.Refused = codes "ldm: refused\n"
 
 -- The number that ends the program, and what the log took: the status and its line; or 76, where the log failed,
 -- and a front of the line.

@@ -21,6 +21,8 @@ pub enum Status {
     Usage,
     /// A line of a script is outside the grammar: its number, from 1, and the column of its first fault.
     BadLine { line: u64, column: u32 },
+    /// A peer's stream ended before an owed reply, after `at` bytes; or the record that begins at byte `at` of it is not lawful there.
+    BadFrame { at: u64 },
     /// As many bytes of a script were taken as are too many.
     StreamLimit,
     /// No queue has an arena of so many bytes.
@@ -31,14 +33,22 @@ pub enum Status {
     RefusedPasses(u32),
     /// The words ask for a command that is not built yet: its word.
     NotBuilt(Word),
+    /// No connection was made, or one failed.
+    NetFault,
     /// There is no memory.
     NoMemory,
+    /// A file could not be read or written.
+    StoreFault,
     /// The source failed.
     SourceFault,
     /// The sink failed.
     SinkFault,
     /// The queue has had all the calls that it can have.
     Worn,
+    /// A peer declined the request.
+    Denied,
+    /// A queue did not admit each product, and there was no other fault.
+    Refused,
 }
 
 /// The status where the log line of another status could not be written.
@@ -54,14 +64,18 @@ impl Status {
         match self {
             Status::Done => 0,
             Status::Usage => 64,
-            Status::BadLine { .. } => 65,
+            Status::BadLine { .. } | Status::BadFrame { .. } => 65,
             Status::StreamLimit => 66,
             Status::RefusedArena(_) | Status::RefusedSlots(_) | Status::RefusedPasses(_) => 67,
             Status::NotBuilt(_) => 68,
+            Status::NetFault => 69,
             Status::NoMemory => 71,
+            Status::StoreFault => 72,
             Status::SourceFault => 74,
             Status::SinkFault => 75,
             Status::Worn => 77,
+            Status::Denied => 78,
+            Status::Refused => 79,
         }
     }
 
@@ -78,6 +92,11 @@ impl Status {
                 put_number(out, *line);
                 put(out, b" column ");
                 put_number(out, u64::from(*column));
+                put(out, b"\n");
+            }
+            Status::BadFrame { at } => {
+                put(out, b"ldm: bad frame at ");
+                put_number(out, *at);
                 put(out, b"\n");
             }
             Status::StreamLimit => put(out, b"ldm: stream limit\n"),
@@ -101,10 +120,14 @@ impl Status {
                 put(out, word.as_slice());
                 put(out, b"\n");
             }
+            Status::NetFault => put(out, b"ldm: net fault\n"),
             Status::NoMemory => put(out, b"ldm: no memory\n"),
+            Status::StoreFault => put(out, b"ldm: store fault\n"),
             Status::SourceFault => put(out, b"ldm: source fault\n"),
             Status::SinkFault => put(out, b"ldm: sink fault\n"),
             Status::Worn => put(out, b"ldm: worn\n"),
+            Status::Denied => put(out, b"ldm: denied\n"),
+            Status::Refused => put(out, b"ldm: refused\n"),
         }
     }
 
