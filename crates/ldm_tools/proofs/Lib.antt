@@ -1,0 +1,7 @@
+mod Heard
+mod Looked
+mod Replied
+mod Completed
+mod Linked
+mod Sending
+mod Answered
