@@ -1,0 +1,53 @@
+-- What a node does.
+use Rattle.std.specs.Prelude.{◌≡◌, ℕ, ◌+◌, ◌<◌, ◌⊎◌, List, [], length, slice_index_or, Option}
+use Rattle.ldm_outside.specs.declared.net.Manned.{Manned}
+use Rattle.ldm_outside.specs.declared.net.Manned.TheVariants as manned
+use Rattle.ldm_outside.specs.Dial.{DialRecord}
+use Rattle.ldm_outside.specs.Net.{StationsGive}
+use Rattle.ldm_outside.specs.Station.{StationRecord}
+use Rattle.ldm_shared.specs.Passes.{SharedView, PassView, HasAllOf, new_pass}
+use Rattle.ldm_worker_log.specs.declared.stop.NodeStop.{NodeStop}
+use Rattle.ldm_worker_log.specs.declared.stop.NodeStop.TheVariants.{Done, NetFault, OutOfMemory}
+use Rattle.ldm_node.specs.Roles.{Plan}
+use Rattle.ldm_node.specs.Stops.{first_stop}
+use Rattle.ldm_node.specs.Workers.{Runs}
+
+-- What a node leaves: the pass that has seen all calls, its stations, and why it ended.
+pub record Outcome (S : Type 0) : Type 0 where
+  pub pass : PassView
+  pub stations : List S
+  pub end : NodeStop
+
+-- The worker of each station did what its role says, each with the pass of its actor, from the station as it was handed out to that which
+-- is left. Nobody made a call with the pass behind theirs. The end is why the first of them stopped that was not done.
+pub record AllRun {S : Type 0} (tells : S → StationRecord) (plan : Plan) (shared : SharedView) (given : List S) (left : Outcome S) : Type 0 where
+  pub stops : List NodeStop
+  pub count_stops : length stops ≡ length given
+  pub count : length left.stations ≡ length given
+  pub each : (actor : ℕ) (d : S) → actor < length given
+      → Runs plan shared left.pass actor (slice_index_or stops actor Done) (tells (slice_index_or given actor d)) (tells (slice_index_or left.stations actor d))
+  pub rests : HasAllOf left.pass (new_pass shared (length given))
+  pub end : left.end ≡ first_stop stops
+
+-- No worker began: the stations are as they were handed out, and no call was made.
+pub record NoneBegan {S : Type 0} (given : List S) (stop : NodeStop) (left : Outcome S) : Type 0 where
+  pub stations : left.stations ≡ given
+  pub unseen : left.pass.seen ≡ []
+  pub end : left.end ≡ stop
+
+module _ {S : Type 0} (tells : S → StationRecord) where
+  -- what came of these stations: all workers worked, or there was no memory for them
+  abbrev pub Staffs : Plan → SharedView → List S → Outcome S → Type 0
+  Staffs plan shared given left = AllRun tells plan shared given left ⊎ NoneBegan given OutOfMemory left
+
+  -- by what the net gave
+  abbrev pub Answers : Manned S → Plan → SharedView → Outcome S → Type 0
+  Answers (manned.Stations given) plan shared left = Staffs plan shared given.items left
+  Answers manned.Failed plan shared left = NoneBegan [] NetFault left
+  Answers manned.OutOfMemory plan shared left = NoneBegan [] OutOfMemory left
+
+-- The net was asked once, for a station for each worker, and what it gave is what the node worked with.
+pub record Mans {S : Type 0} (tells : S → StationRecord) (plan : Plan) (idles : Option ℕ) (shared : SharedView) (old new : DialRecord) (left : Outcome S) : Type 0 where
+  pub given : Manned S
+  pub gives : StationsGive tells given (plan.workers + length plan.requests) idles old new
+  pub answers : Answers tells given plan shared left

@@ -1,0 +1,94 @@
+//! What each worker of a node does.
+ghost use Rattle.std.specs.Prelude.{◌≡◌, ◌∷◌};
+ghost use Rattle.ldm_outside.specs.Station.{station_tells};
+ghost use Rattle.ldm_shared.specs.Passes.{IsPassOf, IsSamePass};
+ghost use Rattle.ldm_conf.specs.Confs.{conf_view};
+ghost use Rattle.ldm_node.specs.Roles.{plan_of, role_of};
+ghost use Rattle.ldm_node.specs.Workers.{HasCause, NoneOut, WorksAs};
+
+use crate::post::Post;
+use ldm_acceptor::work_door;
+use ldm_conf::Conf;
+use ldm_outside::{Clock, Dial, Door, Gate, Sink, Station};
+use ldm_requester::work_request;
+use ldm_shared::{Pass, Shared};
+use ldm_worker_log::NodeStop;
+use ldm_workers::Work;
+use std::alloc::Global;
+use std::sync::Wait;
+
+/// The work of a node: each worker does what the role of its pass's actor says.
+#[derive(Clone, Copy)]
+pub(crate) struct Staffing<'a> {
+    pub(crate) alloc: Global,
+    pub(crate) conf: &'a Conf,
+    pub(crate) workers: u32,
+    pub(crate) sessions: u32,
+}
+
+impl<'a, D: Door, I: Dial, E: Sink, C: Clock, G: Gate> Work<Post<Station<D, I, E, C, G>>>
+    for Staffing<'a> {
+    ghost use Rattle.ldm_outside.specs.Station.{station_tells};
+    ghost use Rattle.ldm_shared.specs.Passes.{IsPassOf, IsSamePass};
+    ghost use Rattle.ldm_conf.specs.Confs.{conf_view};
+    ghost use Rattle.ldm_node.specs.Roles.{plan_of};
+    ghost use Rattle.ldm_node.specs.Posts.{MayBegin, PostWorks};
+
+    ghost begins = { λ _ _ post. MayBegin (station_tells D.tells I.tells E.tells C.tells G.tells) post };
+
+    ghost works = { λ work old_pass old new_pass new. PostWorks (station_tells D.tells I.tells E.tells C.tells G.tells)
+        (plan_of (conf_view work.conf.now) work.workers work.sessions) old_pass old new_pass new };
+
+    fn work<H: Wait>(
+        &self,
+        rt: &H,
+        shared: &Shared,
+        pass: &mut Pass,
+        own: &mut Post<Station<D, I, E, C, G>>,
+    ) {
+        own.stop = match &mut own.station {
+            Some(station) => self.man(rt, shared, pass, station),
+            None => NodeStop::Done,
+        };
+    }
+}
+
+impl<'a> Staffing<'a> {
+    // Does with a station what the role of the pass's actor says, and answers why it stopped.
+    fn man<H: Wait, D: Door, I: Dial, E: Sink, C: Clock, G: Gate>(
+        &self,
+        rt: &H,
+        shared: &Shared,
+        pass: &mut Pass,
+        station: &mut Station<D, I, E, C, G>,
+    ) -> NodeStop
+        requires of { IsPassOf shared.now pass.old }
+        requires none_out { NoneOut (station_tells D.tells I.tells E.tells C.tells G.tells station.old) }
+        ensures same { IsSamePass pass.old pass.new }
+        ensures works { let plan = plan_of (conf_view self.now.conf.now) self.now.workers self.now.sessions in
+            WorksAs plan (role_of plan pass.old.actor) result
+            pass.old (station_tells D.tells I.tells E.tells C.tells G.tells station.old)
+            pass.new (station_tells D.tells I.tells E.tells C.tells G.tells station.new) }
+        ensures causes { let plan = plan_of (conf_view self.now.conf.now) self.now.workers self.now.sessions in
+            HasCause plan (role_of plan pass.old.actor) result pass.new
+            (station_tells D.tells I.tells E.tells C.tells G.tells station.old)
+            (station_tells D.tells I.tells E.tells C.tells G.tells station.new) }
+    {
+        let actor = pass.actor().get();
+        if actor < self.workers {
+            return work_door(
+                rt,
+                self.alloc,
+                shared,
+                pass,
+                station,
+                self.conf,
+                self.sessions,
+            );
+        }
+        match self.conf.requests.get((actor - self.workers) as usize) {
+            Some(request) => work_request(rt, self.alloc, shared, pass, station, request),
+            None => NodeStop::Done,
+        }
+    }
+}
