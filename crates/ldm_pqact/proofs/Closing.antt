@@ -1,11 +1,10 @@
 -- The end of `act`: what is closed, and why it ended.
-use Rattle.std.proofs.Common.{◌≡◌, ◌∙◌, ◌⊎◌, ℕ, ◌≤◌, List, [], ◌∷◌, ◌++◌, inl, inr, length, map, Option, Some, None, refl, sym, ap, subst, append-nil, arith}
+use Rattle.std.proofs.Common.{◌≡◌, ◌∙◌, ℕ, ◌≤◌, List, [], ◌∷◌, ◌++◌, inl, inr, length, map, Option, Some, None, refl, sym, ap, subst, arith}
 use Rattle.std.proofs.lemmas.Bool.{cases_lt}
 use Rattle.std.specs.List.{flat_map}
 use Rattle.ldm_model.specs.declared.event.Event.TheVariants as event
 use Rattle.ldm_model.specs.declared.event.Reply.{Reply}
 use Rattle.ldm_model.specs.declared.event.Reply.TheVariants as reply
-use Rattle.ldm_model.specs.declared.event.Entry.{Entry}
 use Rattle.ldm_outside.specs.declared.gate.Go.{Go}
 use Rattle.ldm_outside.specs.declared.gate.Go.TheVariants as go
 use Rattle.ldm_outside.specs.Count.{Rose}
@@ -15,7 +14,7 @@ use Rattle.ldm_outside.specs.Launcher.{LauncherRecord}
 use Rattle.ldm_outside.specs.Store.{StoreRecord}
 use Rattle.ldm_outside.proofs.CallerLemmas.{Rose-later}
 use Rattle.ldm_shared.specs.declared.steps.TheConstants.{MOST_TURNS}
-use Rattle.ldm_shared.specs.Passes.{PassView, Calls, Grows, IsSamePass}
+use Rattle.ldm_shared.specs.Passes.{PassView, Calls, Grows}
 use Rattle.ldm_shared.proofs.Made.{calls_some, calls_trans}
 use Rattle.ldm_reader.specs.Reader.{HasCursor}
 use Rattle.ldm_session.specs.Exchange.{IdledAll}
@@ -25,16 +24,16 @@ use Rattle.ldm_actions.specs.declared.answers.Done.{Done}
 use Rattle.ldm_actions.specs.declared.answers.Done.TheVariants as done
 use Rattle.ldm_actions.specs.declared.answers.Fault.{Fault}
 use Rattle.ldm_actions.specs.declared.answers.Fault.TheVariants as fault
-use Rattle.ldm_actions.specs.Effects.{Action, closed, effects}
+use Rattle.ldm_actions.specs.Effects.{closed}
 use Rattle.ldm_actions.specs.Outputs.{Closes, ClosesBy, OutputsView, Standing, no_outputs, standing}
 use Rattle.ldm_actions.specs.World.{World}
 use Rattle.ldm_pqact.specs.declared.end.ActEnd.{ActEnd}
 use Rattle.ldm_pqact.specs.declared.end.ActEnd.TheVariants as end
-use Rattle.ldm_pqact.specs.Acted.{ActCause, Acts, ActsOnNone, ActsOpened, CarriesAndCloses, IsEndAfter, KeepsCounts, LogsBy, Situation, StandsAt, UsesOpened, closing_calls, end_after, opening, opening_call, situation_of}
+use Rattle.ldm_pqact.specs.Acted.{ActCause, ActsOpened, IsEndAfter, KeepsCounts, LogsBy, Situation, StandsAt, UsesOpened, closing_calls, end_after, opening, opening_call, situation_of}
 use Rattle.ldm_pqact.specs.Acting.{CauseOf, EndsSo, KeepsCursor, LogCount, Sight, sight_of}
-use Rattle.ldm_pqact.specs.Carried.{BreaksOff, Carries, Faulted, LauncherCount, Stands, StoreCount, world_in}
-use Rattle.ldm_pqact.specs.Course.{Course, Follows, Stretch, goes_of, last_go, replies_of, turns_of}
-use Rattle.ldm_pqact.specs.Turns.{Turn, deeds_of, lines_of, products_in}
+use Rattle.ldm_pqact.specs.Carried.{Carries, Faulted, LauncherCount, StoreCount}
+use Rattle.ldm_pqact.specs.Course.{Follows, Stretch, goes_of, turns_of}
+use Rattle.ldm_pqact.specs.Turns.{deeds_of, products_in}
 use Rattle.ldm_pqact.specs.Uses.{Uses}
 use Rattle.ldm_pqact.proofs.Carrying.{Deed}
 use Rattle.ldm_pqact.proofs.Coursing.{rows_stay}

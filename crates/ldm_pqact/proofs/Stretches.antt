@@ -15,7 +15,7 @@ use Rattle.ldm_actions.specs.Outputs.{KeepsUnlessSpent}
 use Rattle.ldm_pqact.specs.declared.end.ActEnd.{ActEnd}
 use Rattle.ldm_pqact.specs.declared.end.ActEnd.TheVariants as end
 use Rattle.ldm_pqact.specs.Acting.{ActsOn, Does, Sight, last_answer}
-use Rattle.ldm_pqact.specs.Course.{Follows, Stretch, goes_of, last_go, stretch_replies, turns_in}
+use Rattle.ldm_pqact.specs.Course.{Follows, Stretch, last_go, stretch_replies, turns_in}
 use Rattle.ldm_pqact.specs.Turns.{Turn, deeds_of, lines_of, products_in, turn_deeds, turn_lines, turn_reply}
 use Rattle.ldm_pqact.specs.Uses.{AreRows}
 use Rattle.ldm_pqact.proofs.Acts.{does_none, does_then}

@@ -1,4 +1,4 @@
-use Rattle.std.proofs.Common.{◌∙◌, refl, subst}
+use Rattle.std.proofs.Common.{◌∙◌, refl}
 use Rattle.ldm_outside.specs.declared.gate.Go.TheVariants as go
 use Rattle.ldm_session.proofs.CallerLemmas.{IdledAll-one}
 use Rattle.ldm_sender.proofs.Steps.{same_then}
