@@ -48,9 +48,9 @@ rose_le old new (inr still) = omega (arith, still.0, still.1)
 rose_before : (old mid new : ℕ) → Rose old mid → mid ≤ new → Rose old new
 rose_before old mid new (inl rose) later = inl (omega arith)
 rose_before old mid new (inr still) later = elim (cases_lt mid new) [
-    inl lt ↦ inl (omega (arith, still.0, still.1))
+  | inl lt ↦ inl (omega (arith, still.0, still.1))
   | inr ge ↦ inr (still.0, omega (arith, still.1))
-  ]
+]
 
 faulted_le : (why : Fault) (count count' : ℕ) (old new : Standing) → (new ≡ old → count' ≡ count) → Faulted why count count' old new → count ≤ count'
 faulted_le why count count' old new same (inl rose) = rose_le count count' rose
