@@ -1,9 +1,10 @@
-//! Cases of sessions over links in memory: what one who tells of products sends and logs, what one who watches sends and writes, and
-//! what a server responds to records.
+//! Cases of sessions over links in memory: what one who tells of products sends and logs, what one who watches sends and writes, what
+//! a server responds to records, and what it does with a connection.
 #![tactic(auto)]
 
 mod notices;
 mod responding;
+mod serving;
 mod watching;
 
 use ldm_drive::{Trial, drive};
@@ -16,6 +17,7 @@ fn answer<H: Wait>(rt: &H, trial: &mut Trial) {
         "notify" => notices::notify_case(rt, trial),
         "watch" => watching::watch_case(trial),
         "respond" => responding::respond_case(rt, trial),
+        "serve" => serving::serve_case(rt, trial),
         _ => trial.refuse("no such word"),
     }
 }

@@ -4,7 +4,7 @@ ghost use Rattle.ldm_shared.specs.Passes.{IsPassOf};
 
 use crate::case::Case;
 use ldm_class::Policy;
-use ldm_conf::read_conf;
+use ldm_conf::{Conf, read_conf};
 use ldm_drive::Trial;
 use ldm_drive_outside::copied;
 use ldm_outside::{LinkScript, MemClock, MemLink, MemSink, MemStore};
@@ -21,10 +21,15 @@ pub fn queue_of(alloc: Global, case: &Case) -> Option<(Shared, Pass, Pass)>
     Some((shared, pass, other))
 }
 
+/// Its ldmd.conf.
+pub fn conf_of(alloc: Global, case: &Case) -> Option<Conf> {
+    let mut store = MemStore::new(alloc, Vec::new(alloc), Vec::new(alloc));
+    read_conf(alloc, &case.conf, &mut store).ok()
+}
+
 /// The rules of access of its ldmd.conf.
 pub fn policy_of(alloc: Global, case: &Case) -> Option<Policy> {
-    let mut store = MemStore::new(alloc, Vec::new(alloc), Vec::new(alloc));
-    let conf = read_conf(alloc, &case.conf, &mut store).ok()?;
+    let conf = conf_of(alloc, case)?;
     Some(conf.policy)
 }
 
