@@ -127,7 +127,8 @@ fn take_steps(
     }
 }
 
-fn tell_files(trial: &mut Trial, files: &[MemFile]) {
+/// Adds all files.
+pub fn tell_files(trial: &mut Trial, files: &[MemFile]) {
     trial.tell("files");
     for file in files {
         trial.tell(" ");
@@ -137,7 +138,8 @@ fn tell_files(trial: &mut Trial, files: &[MemFile]) {
     }
 }
 
-fn tell_children(trial: &mut Trial, launcher: &MemLauncher) {
+/// Adds all children, with what they were given.
+pub fn tell_children(trial: &mut Trial, launcher: &MemLauncher) {
     trial.tell(" children");
     for child in launcher.children() {
         trial.tell(" ");

@@ -18,7 +18,7 @@ pub struct Item {
 }
 
 /// The products of a word, with `;` between two, each `TIME/BYTE/FEED/IDENT/BODY`: the time of its insertion, which is its
-/// arrival too; the byte that its signature repeats, as a number; feedtypes; ident; and body. Its origin is `h`, and its
+/// arrival too; the byte that its signature repeats, as a number; feedtypes; ident, which is text; and body. Its origin is `h`, and its
 /// sequence number 1.
 pub fn items_in(trial: &mut Trial, word: &str) -> Vec<Item> {
     let mut items = Vec::new(trial.alloc());
@@ -44,7 +44,8 @@ fn item_in(trial: &mut Trial, part: &str) -> Option<Item> {
     let byte = byte.parse::<u8>().ok()?;
     let feed = read_feed(feed.as_bytes()).ok()?;
     let body = trial.bytes_in(body);
-    let info = info_of(time, byte, feed, ident.as_bytes(), &body)?;
+    let ident = trial.text_in(ident);
+    let info = info_of(time, byte, feed, &ident, &body)?;
     Some(Item { time, info, body })
 }
 
