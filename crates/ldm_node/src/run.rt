@@ -2,12 +2,14 @@
 ghost use Rattle.std.specs.Prelude.{◌≡◌, ◌+◌, ◌<◌, [], length, map, OnOk, OnErr};
 ghost use Rattle.std.specs.List.{All, range_with_len};
 ghost use Rattle.std.specs.Vec.{vec_len};
+ghost use denote.Param.Send.{IsSync};
 ghost use Rattle.ldm_outside.specs.Station.{station_tells};
 ghost use Rattle.ldm_model.specs.History.{after};
 ghost use Rattle.ldm_model.specs.Law.{ObeysLaw};
 ghost use Rattle.ldm_book.specs.Stands.{StandsFor};
 ghost use Rattle.ldm_shared.specs.Passes.{IsLast, new_pass};
 ghost use Rattle.ldm_conf.specs.Confs.{conf_view};
+ghost use Rattle.ldm_conf.specs.contracts.conf.Conf as Configuration;
 ghost use Rattle.ldm_node.specs.Roles.{plan_of};
 ghost use Rattle.ldm_node.specs.Node.{Mans, Staffs};
 ghost use Rattle.ldm_node.specs.Workers.{NoneOut};
@@ -34,6 +36,9 @@ use std::thread::Threads;
 ///
 /// The passes are all that the queue was made with, and no call was made with them. All memory for the workers is taken before the
 /// first begins. Where no thread can be made they work one after another.
+///
+/// The workers share the configuration, so its type has to be one that threads may share. That is a fact of the type, and its caller
+/// shows it.
 pub fn node<H: Threads + Wait + Sync, N: Net>(
     rt: &H,
     alloc: Global,
@@ -48,6 +53,7 @@ where
     <N::StationDial as Dial>::Link: Send,
     requires passes { passes.items ≡ map (new_pass shared) (range_with_len 0 shared.passes) }
     requires count { shared.passes ≡ options.now.workers + length conf.requests.items + 1 }
+    requires shareable { IsSync Configuration.the_row }
     ensures last { IsLast shared result.pass }
     ensures stands { StandsFor result.book (after shared.arena shared.slots result.pass.seen) }
     ensures law { ObeysLaw shared.arena shared.slots result.pass.seen }
@@ -112,6 +118,7 @@ where
     I::Link: Send,
     requires passes { passes.items ≡ map (new_pass shared) (range_with_len 0 shared.passes) }
     requires count { vec_len stations + 1 ≡ shared.passes }
+    requires shareable { IsSync Configuration.the_row }
     requires none_out { All (λ station. NoneOut (station_tells D.tells I.tells E.tells C.tells G.tells station)) stations.items }
     ensures last { IsLast shared result.pass }
     ensures stands { StandsFor result.book (after shared.arena shared.slots result.pass.seen) }

@@ -55,4 +55,4 @@ returns-clause-staffs g c =
     c.take_back-first.ensures.stations c.take_back-first.ensures.first c.end_of.ensures.worked c.end_of.ensures.none_began
 
 pub run_workers-book-requires-sync-W : goal.run_workers-book-requires-sync-W
-run_workers-book-requires-sync-W g c κs within = search (param_sync, arg_sync, Staffing-sync)
+run_workers-book-requires-sync-W g c κs within = search (param_sync, arg_sync, Staffing-sync c.requires.shareable)
