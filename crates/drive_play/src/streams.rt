@@ -1,9 +1,10 @@
 //! How the streams of a run behave, and what a run leaves.
+ghost use Rattle.std.specs.Prelude.{◌≡◌, false};
 
-use ldm_commands::run_ldm;
+use ldm_commands::{World, run_ldm};
 use ldm_drive::Trial;
-use ldm_outside::{MemSink, MemSource};
-use ldm_status::World;
+use ldm_outside::{MemClock, MemDial, MemLauncher, MemNet, MemSink, MemSource, MemStore};
+use ldm_status::Streams;
 use std::alloc::{AllocError, Global};
 use std::str::from_utf8;
 use std::sync::Wait;
@@ -90,12 +91,12 @@ impl Plans {
         Some(Plans { source, sink, log })
     }
 
-    fn world(
+    fn streams(
         self,
         alloc: Global,
         script: &[u8],
-    ) -> Result<World<MemSource, MemSink, MemSink>, AllocError> {
-        Ok(World {
+    ) -> Result<Streams<MemSource, MemSink, MemSink>, AllocError> {
+        Ok(Streams {
             source: self.source.source(alloc, script)?,
             sink: self.sink.sink(alloc)?,
             log: self.log.sink(alloc)?,
@@ -110,16 +111,30 @@ impl Plans {
         words: &[String],
         script: &[u8],
     ) -> Option<Outcome> {
-        let mut world = self.world(alloc, script).ok()?;
+        let mut world = World {
+            streams: self.streams(alloc, script).ok()?,
+            clock: MemClock::new(Vec::new(alloc)),
+            store: MemStore::new(alloc, Vec::new(alloc), Vec::new(alloc)),
+            launcher: MemLauncher::new(alloc, Vec::new(alloc), Vec::new(alloc)),
+            net: net_of_nobody(alloc),
+        };
         let status = run_ldm(rt, alloc, words, &mut world);
-        let written = world.sink.written().to_vec(alloc).ok()?;
-        let log = world.log.written().to_vec(alloc).ok()?;
+        let written = world.streams.sink.written().to_vec(alloc).ok()?;
+        let log = world.streams.log.written().to_vec(alloc).ok()?;
         Some(Outcome {
             status,
             written,
             log,
         })
     }
+}
+
+// A net that reaches nobody and has no stations.
+fn net_of_nobody(alloc: Global) -> MemNet
+    ensures { result.dial.links.out ≡ false }
+{
+    let dial = MemDial::new(alloc, Vec::new(alloc), Vec::new(alloc));
+    MemNet::new(alloc, dial, Vec::new(alloc))
 }
 
 // Text without the newlines at its end.

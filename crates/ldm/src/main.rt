@@ -1,12 +1,12 @@
-//! `ldm`: a node that relays data products.
+//! `ldm`: a node that relays data products, and its tools.
 //!
 //! [`run_ldm`] does what the words of the program ask for, and its contract says how that ends. Here are only the real
-//! streams, and the words.
+//! world, and the words.
 #![tactic(auto)]
 
-use ldm_adapters::{RealSink, RealSource};
-use ldm_commands::run_ldm;
-use ldm_status::{Status, World};
+use ldm_adapters::{RealClock, RealLauncher, RealNet, RealSink, RealSource, RealStore};
+use ldm_commands::{World, run_ldm};
+use ldm_status::{Status, Streams};
 use std::env;
 use std::io::{self, ErrorKind};
 use std::process::ExitCode;
@@ -20,17 +20,23 @@ fn words(rt: &HostRuntime) -> io::Result<Vec<String>> {
 
 fn main(rt: HostRuntime) -> ExitCode {
     let mut world = World {
-        source: RealSource::new(rt.stdin()),
-        sink: RealSink::new(rt.stdout()),
-        log: RealSink::new(rt.stderr()),
+        streams: Streams {
+            source: RealSource::new(rt.stdin()),
+            sink: RealSink::new(rt.stdout()),
+            log: RealSink::new(rt.stderr()),
+        },
+        clock: RealClock::new(rt),
+        store: RealStore::new(rt),
+        launcher: RealLauncher::new(rt),
+        net: RealNet::new(rt),
     };
     let code = match words(&rt) {
         Ok(words) => run_ldm(&rt, rt.alloc(), &words, &mut world),
         Err(error) if error.kind() == ErrorKind::OutOfMemory => {
-            Status::NoMemory.report(&mut world.log)
+            Status::NoMemory.report(&mut world.streams.log)
         }
         // a word that is not text is no form of a command
-        Err(_) => Status::Usage.report(&mut world.log),
+        Err(_) => Status::Usage.report(&mut world.streams.log),
     };
     ExitCode::from(code)
 }

@@ -1,7 +1,8 @@
 //! The net over TCP.
 ghost use Rattle.std.specs.Prelude.{◌≡◌, [], All, IfOk, vec_len};
+ghost use Rattle.ldm_outside.specs.Dial.{IsNewDial};
 ghost use Rattle.ldm_outside.specs.Station.{IsNew};
-ghost use Rattle.ldm_adapters.specs.Told.{told_by_station};
+ghost use Rattle.ldm_adapters.specs.Told.{told_by_dial, told_by_station};
 
 use crate::clock::RealClock;
 use crate::dials::RealDial;
@@ -77,6 +78,7 @@ impl RealNet {
     /// The net of this system, which keeps no station.
     pub fn new(rt: HostRuntime) -> RealNet
         ensures kept { result.kept.items ≡ [] }
+        ensures dial { IsNewDial (told_by_dial result.dial) }
     {
         RealNet::with_timeouts(rt, Timeouts::new())
     }
@@ -84,6 +86,7 @@ impl RealNet {
     /// The same, with links that wait no longer than this.
     pub fn with_timeouts(rt: HostRuntime, timeouts: Timeouts) -> RealNet
         ensures kept { result.kept.items ≡ [] }
+        ensures dial { IsNewDial (told_by_dial result.dial) }
     {
         RealNet {
             dial: RealDial::new(rt, timeouts),

@@ -1,53 +1,92 @@
 -- The words of the program: which command they ask for.
-use Rattle.std.specs.Prelude.{ℕ, ◌≤◌, ◌-◌, ◌^◌, List, [], ◌∷◌, codes, bytes_eq, Option, Some, None, option_map, if◌then◌else◌}
+use Rattle.std.specs.Prelude.{ℕ, ◌-◌, ◌^◌, ◌||◌, Bool, false, List, [], ◌∷◌, codes, bytes_eq, Option, Some, None, option_map, if◌then◌else◌}
+use Rattle.ldm_conf.specs.Addresses.{Address}
 use Rattle.ldm_script.specs.Number.{number_up_to}
-use Rattle.ldm_commands.specs.declared.command.Command.{Command}
-use Rattle.ldm_commands.specs.declared.command.Command.TheVariants as command
-use Rattle.ldm_commands.specs.Unbuilt.{unbuilt_of_text}
+use Rattle.ldm_words.specs.Forms.{ActForm, ChainForm, InsertForm, NodeForm, ReceivingForm, act_form, chain_form, insert_form, node_form, pqmon_form, receiving_form}
+
+-- What the words of the program ask for.
+pub data Form : Type 0 where
+  -- to play a script over a queue whose arena has so many bytes, and which has so many slots
+  Play : (arena slots : ℕ) → Form
+  -- to play a script over such a queue, each actor's lines on one of so many workers
+  Crowd : (arena slots workers : ℕ) → Form
+  -- to play so many orders that are drawn from a number, and sum the answers up
+  Exercise : (number count : ℕ) → Form
+  -- to feed a chain of queues from a script
+  Chain : (chain : ChainForm) → Form
+  -- to run a node
+  Node : (node : NodeForm) → Form
+  -- to act on the products of a node
+  Pqact : (act : ActForm) → Form
+  -- to put files into the queue of a node
+  Pqinsert : (insert : InsertForm) → Form
+  -- to write the bodies of the products of a node
+  Pqcat : (receiving : ReceivingForm) → Form
+  -- to write a line for each product of a node
+  Notifyme : (receiving : ReceivingForm) → Form
+  -- to write the figures of a node's queue
+  Pqmon : (peer : Address) → Form
 
 -- a play, where both numbers could be read
-abbrev pub play_with : Option ℕ → Option ℕ → Option Command
-play_with (Some arena) (Some slots) = Some (command.Play arena slots)
+abbrev pub play_with : Option ℕ → Option ℕ → Option Form
+play_with (Some arena) (Some slots) = Some (Play arena slots)
 play_with _ _ = None
 
 -- `ARENA SLOTS`, behind `play`: a number of eight bytes and one of four
-abbrev pub play_of : List (List ℕ) → Option Command
+abbrev pub play_of : List (List ℕ) → Option Form
 play_of (arena ∷ slots ∷ []) = play_with (number_up_to (2 ^ 64 - 1) arena) (number_up_to (2 ^ 32 - 1) slots)
 play_of _ = None
 
 -- a crowd, where all three numbers could be read
-abbrev pub crowd_with : Option ℕ → Option ℕ → Option ℕ → Option Command
-crowd_with (Some arena) (Some slots) (Some workers) = Some (command.Crowd arena slots workers)
+abbrev pub crowd_with : Option ℕ → Option ℕ → Option ℕ → Option Form
+crowd_with (Some arena) (Some slots) (Some workers) = Some (Crowd arena slots workers)
 crowd_with _ _ _ = None
 
 -- `ARENA SLOTS WORKERS`, behind `crowd`: a number of eight bytes and two of four
-abbrev pub crowd_of : List (List ℕ) → Option Command
+abbrev pub crowd_of : List (List ℕ) → Option Form
 crowd_of (arena ∷ slots ∷ workers ∷ []) =
     crowd_with (number_up_to (2 ^ 64 - 1) arena) (number_up_to (2 ^ 32 - 1) slots) (number_up_to (2 ^ 32 - 1) workers)
 crowd_of _ = None
 
 -- an exercise, where both numbers could be read
-abbrev pub exercise_with : Option ℕ → Option ℕ → Option Command
-exercise_with (Some number) (Some count) = Some (command.Exercise number count)
+abbrev pub exercise_with : Option ℕ → Option ℕ → Option Form
+exercise_with (Some number) (Some count) = Some (Exercise number count)
 exercise_with _ _ = None
 
 -- `NUMBER COUNT`, behind `exercise`: a number of eight bytes and one up to a million
-abbrev pub exercise_of : List (List ℕ) → Option Command
+abbrev pub exercise_of : List (List ℕ) → Option Form
 exercise_of (number ∷ count ∷ []) = exercise_with (number_up_to (2 ^ 64 - 1) number) (number_up_to 1000000 count)
 exercise_of _ = None
 
--- the numbers of a command are ones with which it can be called
-abbrev pub IsWithin : Command → Type 0
-IsWithin (command.Exercise number count) = count ≤ 1000000
-IsWithin _ = Unit {0}
+-- The command of a first word that has options, with the words behind it.
+abbrev pub with_options : List ℕ → List (List ℕ) → Option Form
+with_options first others =
+    if bytes_eq first (codes "node") then option_map Node (node_form others)
+    else if bytes_eq first (codes "pqact") then option_map Pqact (act_form others)
+    else if bytes_eq first (codes "pqinsert") then option_map Pqinsert (insert_form others)
+    else if bytes_eq first (codes "pqcat") then option_map Pqcat (receiving_form others)
+    else if bytes_eq first (codes "notifyme") then option_map Notifyme (receiving_form others)
+    else if bytes_eq first (codes "pqmon") then option_map Pqmon (pqmon_form others)
+    else None
+
+-- whether a first word is that of a command with options
+abbrev pub has_options : List ℕ → Bool
+has_options first =
+    bytes_eq first (codes "node") || (bytes_eq first (codes "pqact") || (bytes_eq first (codes "pqinsert") || (bytes_eq first (codes "pqcat")
+    || (bytes_eq first (codes "notifyme") || bytes_eq first (codes "pqmon")))))
+
+-- whether reading words takes memory, by their first one: those of a chain and those of a command with options
+abbrev pub take_memory : List (List ℕ) → Bool
+take_memory [] = false
+take_memory (first ∷ others) = bytes_eq first (codes "chain") || has_options first
 
 -- The command that the words of the program are, its own name apart: the first word says which, in the case in
--- which it is spelled here, and the words behind it have the form that the command has. Behind the word of a command
--- that is not built yet anything may stand.
-abbrev pub command_of : List (List ℕ) → Option Command
+-- which it is spelled here, and the words behind it have the form that the command has.
+abbrev pub command_of : List (List ℕ) → Option Form
 command_of [] = None
 command_of (first ∷ others) =
     if bytes_eq first (codes "play") then play_of others
     else if bytes_eq first (codes "crowd") then crowd_of others
     else if bytes_eq first (codes "exercise") then exercise_of others
-    else option_map (λ what. command.NotBuilt what) (unbuilt_of_text first)
+    else if bytes_eq first (codes "chain") then option_map Chain (chain_form others)
+    else with_options first others

@@ -1,5 +1,8 @@
-pub mod Unbuilt
 pub mod Command
+pub mod World
+pub mod Views
+pub mod Lent
 pub mod Run
 pub mod Law
 pub mod Complete
+pub mod Doing

@@ -1,21 +1,54 @@
 -- How the program ends, by what its words ask for.
-use Rattle.std.specs.Prelude.{ℕ, Option, Some, None}
-use Rattle.ldm_status.specs.World.{WorldRecord, IsUntouched}
+use Rattle.std.specs.Prelude.{◌≡◌, ◌⊎◌, ℕ, Bool, true, Option, Some, None}
+use Rattle.ldm_status.specs.Streams.{IsUntouched}
 use Rattle.ldm_status.specs.declared.status.Status.TheVariants as status
 use Rattle.ldm_status.specs.Status.{Reports}
 use Rattle.ldm_play.specs.Run.{Plays}
+use Rattle.ldm_chain_command.specs.Run.{RunsChain}
 use Rattle.ldm_crowd_command.specs.Run.{CrowdRuns}
 use Rattle.ldm_exercise.specs.Run.{Exercises}
-use Rattle.ldm_commands.specs.declared.command.Command.{Command}
-use Rattle.ldm_commands.specs.declared.command.Command.TheVariants as command
-use Rattle.ldm_commands.specs.Unbuilt.{unbuilt_text}
+use Rattle.ldm_node_command.specs.Run.{NodeRuns}
+use Rattle.ldm_node_command.specs.Told.{TellsCommands}
+use Rattle.ldm_notifyme.specs.Notifyme.{Notifies}
+use Rattle.ldm_pqact_command.specs.PqactRuns.{Pqacts}
+use Rattle.ldm_pqcat.specs.Cats.{Cats}
+use Rattle.ldm_pqinsert.specs.Inserts.{Inserts}
+use Rattle.ldm_tools.specs.Mon.{Mons}
+use Rattle.ldm_commands.specs.Command.{Form}
+use Rattle.ldm_commands.specs.Command as form
+use Rattle.ldm_commands.specs.Lent.{act_of, asked_of, cat_of, chain_of, insert_of, inserting_of, mon_of, node_of, order_by, setup_of, wanted_of, work_of}
+use Rattle.ldm_commands.specs.World.{OnlyStreams, Tells, WorldView, streams_of, with_act, with_cat, with_chain, with_net, with_node, with_put}
 
--- What was asked for, the number that the program ends with, and what was read and written until then.
-abbrev pub RunEnds : Option Command → ℕ → WorldRecord → WorldRecord → Type 0
--- the words are no form of a command
-RunEnds None code old new = IsUntouched old new × Reports status.Usage code old.log new.log
--- the command is not built yet
-RunEnds (Some (command.NotBuilt what)) code old new = IsUntouched old new × Reports (status.NotBuilt (unbuilt_text what)) code old.log new.log
-RunEnds (Some (command.Play arena slots)) code old new = Plays (record { arena = arena; slots = slots }) code old new
-RunEnds (Some (command.Crowd arena slots workers)) code old new = CrowdRuns (record { arena = arena; slots = slots; workers = workers }) code old new
-RunEnds (Some (command.Exercise number count)) code old new = Exercises number count code old new
+module _ {K F L T : Type 0} (tells : Tells K F L T) where
+  -- Nothing was done, but for what the log took.
+  abbrev pub IsIdle : WorldView K F L T → WorldView K F L T → Type 0
+  IsIdle old new = IsUntouched (streams_of tells old) (streams_of tells new) × OnlyStreams old new
+
+  -- There was no memory to read the words, which takes some, and nothing was done.
+  abbrev pub LacksMemory : Bool → ℕ → WorldView K F L T → WorldView K F L T → Type 0
+  LacksMemory takes_memory code old new = (takes_memory ≡ true) × IsIdle old new × Reports status.NoMemory code old.log new.log
+
+  -- What a command does, the number that the program ends with, and what is changed until then. What a command is not lent stays as it is.
+  abbrev pub Does : Form → ℕ → WorldView K F L T → WorldView K F L T → Type 0
+  Does (form.Play arena slots) code old new =
+      Plays (record { arena = arena; slots = slots }) code (streams_of tells old) (streams_of tells new) × OnlyStreams old new
+  Does (form.Crowd arena slots workers) code old new =
+      CrowdRuns (record { arena = arena; slots = slots; workers = workers }) code (streams_of tells old) (streams_of tells new) × OnlyStreams old new
+  Does (form.Exercise number count) code old new = Exercises number count code (streams_of tells old) (streams_of tells new) × OnlyStreams old new
+  Does (form.Chain chain) code old new = RunsChain (work_of chain) code (chain_of tells old) (chain_of tells new) × (new ≡ with_chain new old)
+  Does (form.Node node) code old new =
+      NodeRuns tells.station (setup_of node) code (node_of tells old) (node_of tells new)
+      × TellsCommands (setup_of node) code (node_of tells old) (node_of tells new) × (new ≡ with_node new old)
+  Does (form.Pqact act) code old new =
+      Pqacts tells.store tells.launcher code (order_by act) act.conf (act_of old) (act_of new) × (new ≡ with_act new old)
+  Does (form.Pqinsert insert) code old new = Inserts code (inserting_of insert) (insert_of tells old) (insert_of tells new) × (new ≡ with_put new old)
+  Does (form.Pqcat receiving) code old new =
+      Cats tells.sink code (asked_of receiving.peer) receiving.class receiving.count (cat_of old) (cat_of new) × (new ≡ with_cat new old)
+  Does (form.Notifyme receiving) code old new = Notifies code (wanted_of receiving) (mon_of tells old) (mon_of tells new) × (new ≡ with_net new old)
+  Does (form.Pqmon peer) code old new = Mons code (asked_of peer) (mon_of tells old) (mon_of tells new) × (new ≡ with_net new old)
+
+  -- What was asked for, whether reading its words takes memory, the number that the program ends with, and what is changed until then.
+  abbrev pub RunEnds : Option Form → Bool → ℕ → WorldView K F L T → WorldView K F L T → Type 0
+  -- the words are no form of a command
+  RunEnds None takes_memory code old new = (IsIdle old new × Reports status.Usage code old.log new.log) ⊎ LacksMemory takes_memory code old new
+  RunEnds (Some form) takes_memory code old new = Does form code old new ⊎ LacksMemory takes_memory code old new

@@ -1,15 +1,21 @@
 //! The words of the program as a command.
-ghost use Rattle.std.specs.Prelude.{◌≡◌, map, option_map, string_bytes, IfSome};
-ghost use Rattle.ldm_commands.specs.Command.{command_of, crowd_of, exercise_of, play_of, IsWithin};
-ghost use Rattle.ldm_commands.specs.Unbuilt.{unbuilt_of_text};
+ghost use Rattle.std.specs.Prelude.{◌≡◌, true, IfSome, MatchOption, MatchResult, None, Some, map, string_bytes};
+ghost use Rattle.ldm_commands.specs.Command.{command_of, crowd_of, exercise_of, has_options, take_memory, play_of, with_options};
+ghost use Rattle.ldm_commands.specs.Doing.{IsUnread};
+ghost use Rattle.ldm_commands.specs.Views.{IsWithin, form_of};
 
-use crate::unbuilt::Unbuilt;
+use ldm_conf::Address;
 use ldm_exercise::MOST_DRAWN;
 use ldm_script::read_number;
+use ldm_words::{
+    ActWords, ChainWords, InsertWords, NodeWords, ReceivingWords, WordsFault, read_chain,
+    read_node, read_pqact, read_pqinsert, read_pqmon, read_receiving,
+};
+use std::alloc::Global;
 
 /// What the words of the program ask for.
-#[derive(Clone, Copy, Debug, PartialEq, Eq)]
-pub enum Command {
+#[derive(Drop)]
+pub enum Command<'a> {
     /// `play ARENA SLOTS`: to play a script over a queue whose arena has so many bytes, and which has so many slots.
     Play {
         arena: u64,
@@ -26,42 +32,75 @@ pub enum Command {
         number: u64,
         count: u32,
     },
-    /// Something that is not built yet, whatever stands behind its word.
-    NotBuilt(Unbuilt),
+    /// `chain ..`: to feed a chain of queues from a script.
+    Chain(ChainWords<'a>),
+    /// `node ..`: to run a node.
+    Node(NodeWords<'a>),
+    /// `pqact ..`: to act on the products of a node.
+    Pqact(ActWords<'a>),
+    /// `pqinsert ..`: to put files into the queue of a node.
+    Pqinsert(InsertWords<'a>),
+    /// `pqcat ..`: to write the bodies of the products of a node.
+    Pqcat(ReceivingWords),
+    /// `notifyme ..`: to write a line for each product of a node.
+    Notifyme(ReceivingWords),
+    /// `pqmon ..`: to write the figures of a node's queue.
+    Pqmon(Address),
 }
 
-/// Reads the words behind the program's name. `None` exactly where they are no form of a command.
-pub fn read_command(words: &[String]) -> Option<Command>
-    ensures read { result ≡ command_of (map string_bytes words.now) }
-    ensures within { IfSome result IsWithin }
+/// Reads the words behind the program's name. [`WordsFault::Usage`] comes exactly where they are no form of a command, and
+/// [`WordsFault::OutOfMemory`] only at the words of a chain and of a command that has options.
+pub fn read_command<'a>(alloc: Global, words: &'a [String]) -> Result<Command<'a>, WordsFault>
+    ensures { let said = map string_bytes words.entry.now in let form = command_of said in
+        MatchResult result (λ command. (form ≡ Some (form_of command)) × IsWithin (form_of command)) (IsUnread form (take_memory said)) }
 {
     let [first, others @ ..] = words else {
-        return None;
+        return Err(WordsFault::Usage);
     };
     let word = first.as_bytes();
     if word == b"play".as_slice() {
-        read_play(others)
+        read_play(others).ok_or(WordsFault::Usage)
     } else if word == b"crowd".as_slice() {
-        read_crowd(others)
+        read_crowd(others).ok_or(WordsFault::Usage)
     } else if word == b"exercise".as_slice() {
-        read_exercise(others)
+        read_exercise(others).ok_or(WordsFault::Usage)
+    } else if word == b"chain".as_slice() {
+        Ok(Command::Chain(read_chain(alloc, others)?))
     } else {
-        read_unbuilt(word)
+        read_with_options(alloc, word, others)
     }
 }
 
-// Reads the word of a command that is not built yet.
-fn read_unbuilt(word: &[u8]) -> Option<Command>
-    ensures read { result ≡ option_map (λ what. Command.NotBuilt what) (unbuilt_of_text word.now) }
-    ensures within { IfSome result IsWithin }
+// Reads the words behind that of a command with options.
+fn read_with_options<'a>(
+    alloc: Global,
+    word: &[u8],
+    words: &'a [String],
+) -> Result<Command<'a>, WordsFault>
+    ensures { let form = with_options word.now (map string_bytes words.entry.now) in
+        MatchResult result (λ command. (form ≡ Some (form_of command)) × IsWithin (form_of command)) (IsUnread form (has_options word.now)) }
 {
-    Some(Command::NotBuilt(Unbuilt::of_text(word)?))
+    if word == b"node".as_slice() {
+        Ok(Command::Node(read_node(alloc, words)?))
+    } else if word == b"pqact".as_slice() {
+        Ok(Command::Pqact(read_pqact(alloc, words)?))
+    } else if word == b"pqinsert".as_slice() {
+        Ok(Command::Pqinsert(read_pqinsert(alloc, words)?))
+    } else if word == b"pqcat".as_slice() {
+        Ok(Command::Pqcat(read_receiving(alloc, words)?))
+    } else if word == b"notifyme".as_slice() {
+        Ok(Command::Notifyme(read_receiving(alloc, words)?))
+    } else if word == b"pqmon".as_slice() {
+        Ok(Command::Pqmon(read_pqmon(alloc, words)?))
+    } else {
+        Err(WordsFault::Usage)
+    }
 }
 
 // Reads the words behind `play`.
-fn read_play(words: &[String]) -> Option<Command>
-    ensures read { result ≡ play_of (map string_bytes words.now) }
-    ensures within { IfSome result IsWithin }
+fn read_play<'a>(words: &[String]) -> Option<Command<'a>>
+    ensures { let form = play_of (map string_bytes words.now) in
+        MatchOption result (form ≡ None) (λ command. (form ≡ Some (form_of command)) × IsWithin (form_of command)) }
 {
     let [arena, slots] = words else {
         return None;
@@ -75,9 +114,9 @@ fn read_play(words: &[String]) -> Option<Command>
 }
 
 // Reads the words behind `crowd`.
-fn read_crowd(words: &[String]) -> Option<Command>
-    ensures read { result ≡ crowd_of (map string_bytes words.now) }
-    ensures within { IfSome result IsWithin }
+fn read_crowd<'a>(words: &[String]) -> Option<Command<'a>>
+    ensures { let form = crowd_of (map string_bytes words.now) in
+        MatchOption result (form ≡ None) (λ command. (form ≡ Some (form_of command)) × IsWithin (form_of command)) }
 {
     let [arena, slots, workers] = words else {
         return None;
@@ -93,9 +132,9 @@ fn read_crowd(words: &[String]) -> Option<Command>
 }
 
 // Reads the words behind `exercise`.
-fn read_exercise(words: &[String]) -> Option<Command>
-    ensures read { result ≡ exercise_of (map string_bytes words.now) }
-    ensures within { IfSome result IsWithin }
+fn read_exercise<'a>(words: &[String]) -> Option<Command<'a>>
+    ensures { let form = exercise_of (map string_bytes words.now) in
+        MatchOption result (form ≡ None) (λ command. (form ≡ Some (form_of command)) × IsWithin (form_of command)) }
 {
     let [number, count] = words else {
         return None;

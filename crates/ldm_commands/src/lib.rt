@@ -4,8 +4,12 @@
 //! cases on the words.
 #![tactic(auto)]
 
+mod chain;
 mod command;
+mod node;
 mod run;
-mod unbuilt;
+mod tools;
+mod world;
 
 pub use run::run_ldm;
+pub use world::World;

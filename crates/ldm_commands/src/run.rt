@@ -1,61 +1,100 @@
 //! The top call: does what the words of the program ask for.
-ghost use Rattle.std.specs.Prelude.{◌≤◌, map, string_bytes};
-ghost use Rattle.ldm_status.specs.World.{KeepsFaults, world_tells};
-ghost use Rattle.ldm_status.specs.declared.status.Status.TheVariants as status;
-ghost use Rattle.ldm_status.specs.Status.{Reports};
-ghost use Rattle.ldm_commands.specs.Command.{command_of};
+ghost use Rattle.std.specs.Prelude.{◌≡◌, false, map, string_bytes};
+ghost use Rattle.ldm_outside.specs.Station.{station_tells};
+ghost use Rattle.ldm_commands.specs.Command.{command_of, take_memory};
 ghost use Rattle.ldm_commands.specs.Complete.{RunCompletes};
-ghost use Rattle.ldm_commands.specs.Run.{RunEnds};
+ghost use Rattle.ldm_commands.specs.Doing.{Done};
 ghost use Rattle.ldm_commands.specs.Law.{RunObeysLaw};
-ghost use Rattle.ldm_commands.specs.Unbuilt.{unbuilt_text};
+ghost use Rattle.ldm_commands.specs.Run.{RunEnds};
+ghost use Rattle.ldm_commands.specs.Views.{IsWithin, form_of};
+ghost use Rattle.ldm_commands.specs.World.{KeepsAllFaults, tells_of, world_view};
 
+use crate::chain::feed_chain;
 use crate::command::{Command, read_command};
-use crate::unbuilt::Unbuilt;
+use crate::node::run_words;
+use crate::tools::{act_on_products, put_files, tell_figures, tell_products, write_bodies};
+use crate::world::World;
 use ldm_crowd_command::crowd;
 use ldm_exercise::exercise;
-use ldm_outside::{Sink, Source};
+use ldm_outside::{Clock, Dial, Door, Launcher, Net, Sink, Source, Store};
 use ldm_play::play;
-use ldm_status::{Status, Word, World};
+use ldm_status::Status;
+use ldm_words::WordsFault;
 use std::alloc::Global;
 use std::sync::Wait;
 use std::thread::Threads;
 
-/// Does what the words ask for, the program's name apart, and answers the number that the program ends with. A crowd alone
-/// starts threads and waits.
+/// Does what the words ask for, the program's name apart, and answers the number that the program ends with. A crowd and a node
+/// start threads and wait.
 ///
-/// The clause `ends` gives each status its cause, and what was read and written then: see `RunEnds`. The clause `law` says
-/// that what is written are answers of a history that obeys the law of the queue: see `RunObeysLaw`, and `IsLawful` of
-/// `ldm_calls` for the law. The clause `completes` says when all is read and answered: see `RunCompletes`.
-pub fn run_ldm<H: Threads + Wait + Sync, S: Source, K: Sink, E: Sink>(
-    rt: &H,
-    alloc: Global,
-    words: &[String],
-    world: &mut World<S, K, E>,
-) -> u8
-    ensures ends { RunEnds (command_of (map string_bytes words.now)) result (world_tells S.tells K.tells E.tells world.old) (world_tells S.tells K.tells E.tells world.new) }
-    ensures law { RunObeysLaw (command_of (map string_bytes words.now)) (world_tells S.tells K.tells E.tells world.old) (world_tells S.tells K.tells E.tells world.new) }
-    ensures completes { RunCompletes (command_of (map string_bytes words.now)) result (world_tells S.tells K.tells E.tells world.old) (world_tells S.tells K.tells E.tells world.new) }
-    ensures faults_kept { KeepsFaults (world_tells S.tells K.tells E.tells world.old) (world_tells S.tells K.tells E.tells world.new) }
+/// The clause `ends` gives each status its cause, and what was read, written, sent, started and kept then: see `RunEnds`. The clause `law`
+/// says that what a command writes of its own queue are answers of a history that obeys the law of the queue: see `RunObeysLaw`. The clause
+/// `completes` says when all is read and answered: see `RunCompletes`.
+pub fn run_ldm<
+    H: Threads + Wait + Sync,
+    S: Source,
+    K: Sink,
+    E: Sink,
+    C: Clock,
+    F: Store,
+    L: Launcher,
+    N: Net,
+>(rt: &H, alloc: Global, words: &[String], world: &mut World<S, K, E, C, F, L, N>) -> u8
+where
+    <N::StationDoor as Door>::Link: Send,
+    <N::StationDial as Dial>::Link: Send,
+    requires none_out { (N.tells world.old.net).links.out ≡ false }
+    ensures ends { let tells = tells_of K.tells F.tells L.tells (station_tells N.StationDoor.tells N.StationDial.tells N.StationLog.tells N.StationClock.tells N.StationGate.tells) in
+        RunEnds tells (command_of (map string_bytes words.now)) (take_memory (map string_bytes words.now)) result (world_view S.tells E.tells C.tells N.tells N.kept world.old) (world_view S.tells E.tells C.tells N.tells N.kept world.new) }
+    ensures law { let tells = tells_of K.tells F.tells L.tells (station_tells N.StationDoor.tells N.StationDial.tells N.StationLog.tells N.StationClock.tells N.StationGate.tells) in
+        RunObeysLaw tells (command_of (map string_bytes words.now)) (world_view S.tells E.tells C.tells N.tells N.kept world.old) (world_view S.tells E.tells C.tells N.tells N.kept world.new) }
+    ensures completes { let tells = tells_of K.tells F.tells L.tells (station_tells N.StationDoor.tells N.StationDial.tells N.StationLog.tells N.StationClock.tells N.StationGate.tells) in
+        RunCompletes tells (command_of (map string_bytes words.now)) result (world_view S.tells E.tells C.tells N.tells N.kept world.old) (world_view S.tells E.tells C.tells N.tells N.kept world.new) }
+    ensures faults_kept { let tells = tells_of K.tells F.tells L.tells (station_tells N.StationDoor.tells N.StationDial.tells N.StationLog.tells N.StationClock.tells N.StationGate.tells) in
+        KeepsAllFaults tells (world_view S.tells E.tells C.tells N.tells N.kept world.old) (world_view S.tells E.tells C.tells N.tells N.kept world.new) }
 {
-    match read_command(words) {
-        Some(Command::Play { arena, slots }) => play(alloc, arena, slots, world),
-        Some(
-            Command::Crowd {
-                arena,
-                slots,
-                workers,
-            },
-        ) => crowd(rt, alloc, arena, slots, workers, world),
-        Some(Command::Exercise { number, count }) => exercise(alloc, number, count, world),
-        Some(Command::NotBuilt(what)) => report_unbuilt(what, &mut world.log),
-        None => Status::Usage.report(&mut world.log),
+    match read_command(alloc, words) {
+        Ok(command) => run(rt, alloc, command, world),
+        Err(WordsFault::Usage) => Status::Usage.report(&mut world.streams.log),
+        Err(WordsFault::OutOfMemory) => Status::NoMemory.report(&mut world.streams.log),
     }
 }
 
-// Tells that a command is not built yet.
-fn report_unbuilt<E: Sink>(what: Unbuilt, log: &mut E) -> u8
-    ensures reports { Reports (status.NotBuilt (unbuilt_text what)) result (E.tells log.old) (E.tells log.new) }
-    ensures faults_kept { (E.tells log.old).faults ≤ (E.tells log.new).faults }
+// Does a command.
+fn run<
+    H: Threads + Wait + Sync,
+    S: Source,
+    K: Sink,
+    E: Sink,
+    C: Clock,
+    F: Store,
+    L: Launcher,
+    N: Net,
+>(rt: &H, alloc: Global, command: Command<'_>, world: &mut World<S, K, E, C, F, L, N>) -> u8
+where
+    <N::StationDoor as Door>::Link: Send,
+    <N::StationDial as Dial>::Link: Send,
+    requires none_out { (N.tells world.old.net).links.out ≡ false }
+    requires within { IsWithin (form_of command) }
+    ensures { let tells = tells_of K.tells F.tells L.tells (station_tells N.StationDoor.tells N.StationDial.tells N.StationLog.tells N.StationClock.tells N.StationGate.tells) in
+        Done tells (form_of command.entry) result (world_view S.tells E.tells C.tells N.tells N.kept world.old) (world_view S.tells E.tells C.tells N.tells N.kept world.new) }
 {
-    Status::NotBuilt(Word::new(what.text())).report(log)
+    match command {
+        Command::Play { arena, slots } => play(alloc, arena, slots, &mut world.streams),
+        Command::Crowd {
+            arena,
+            slots,
+            workers,
+        } => crowd(rt, alloc, arena, slots, workers, &mut world.streams),
+        Command::Exercise { number, count } => {
+            exercise(alloc, number, count, &mut world.streams)
+        }
+        Command::Chain(words) => feed_chain(rt, alloc, words, world),
+        Command::Node(words) => run_words(rt, alloc, &words, world),
+        Command::Pqact(words) => act_on_products(rt, alloc, &words, world),
+        Command::Pqinsert(words) => put_files(alloc, &words, world),
+        Command::Pqcat(words) => write_bodies(rt, alloc, &words, world),
+        Command::Notifyme(words) => tell_products(alloc, &words, world),
+        Command::Pqmon(peer) => tell_figures(alloc, &peer, world),
+    }
 }

@@ -1,7 +1,7 @@
 -- A crowd that nothing hinders writes all its answers: for `CrowdCompletes`.
 use Rattle.std.proofs.Common.{◌≡◌, ℕ, ◌<◌, ◌⊎◌, List, ◌++◌, length, Some, Ok, Err, Result, inl, inr, refl, sym, ap, ◌∙◌, arith, length-append}
 use Rattle.ldm_outside.specs.Io.{Gives}
-use Rattle.ldm_status.specs.World.{WorldRecord}
+use Rattle.ldm_status.specs.Streams.{StreamsRecord}
 use Rattle.ldm_status.proofs.SourceLemmas.{parts, whole_at_end}
 use Rattle.ldm_shared.specs.declared.fault.CreateFault.TheVariants as fault
 use Rattle.ldm_crowd.specs.Script.{script_of}
@@ -17,7 +17,7 @@ use Rattle.ldm_status.specs.Status.{code_of, Reports}
 use Rattle.ldm_crowd_command.specs.Statuses.{status_of_crowd, status_of_crowd_stop}
 use Rattle.ldm_crowd_command.specs.Complete.{CrowdUnhindered}
 
-module _ (size : CrowdSize) (old new : WorldRecord) (free : CrowdUnhindered size old new) where
+module _ (size : CrowdSize) (old new : StreamsRecord) (free : CrowdUnhindered size old new) where
   part : (taken : List ℕ) → Gives old.source taken new.source → (rest : List ℕ) × (new.source.left ≡ Some rest) × (free.text ≡ taken ++ rest)
   part taken gives = parts free.text taken old.source new.source free.told gives
 

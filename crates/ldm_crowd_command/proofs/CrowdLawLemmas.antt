@@ -1,13 +1,13 @@
 -- What a crowd writes obeys the law of the queue: for `ObeysCrowdLaw`.
 use Rattle.std.proofs.Common.{[], Result, Ok, Err, inl, inr}
 use Rattle.std.proofs.lemmas.List.{append-nil}
-use Rattle.ldm_status.specs.World.{WorldRecord}
+use Rattle.ldm_status.specs.Streams.{StreamsRecord}
 use Rattle.ldm_crowd_command.specs.declared.crowd_command.CrowdFault.{CrowdFault}
 use Rattle.ldm_crowd_command.specs.declared.crowd_command.CrowdFault.TheVariants as stop
 use Rattle.ldm_crowd_command.specs.CrowdEnding.{CrowdSize, CrowdStops, CrowdEnds}
 use Rattle.ldm_crowd_command.specs.Law.{ObeysCrowdLaw}
 
-module _ (size : CrowdSize) (old new : WorldRecord) where
+module _ (size : CrowdSize) (old new : StreamsRecord) where
   stops : (why : CrowdFault) → CrowdStops why size old new → ObeysCrowdLaw size old new
   stops (stop.NotMade fault) (is, untouched) = inl untouched.sink
   stops (stop.ScriptFault why) stopped = inl stopped.2

@@ -4,12 +4,12 @@ use Rattle.ldm_outside.specs.Count.{Rose}
 use Rattle.ldm_script.specs.Order.{Asked}
 use Rattle.ldm_crowd.specs.Script.{script_of}
 use Rattle.ldm_crowd.specs.declared.orders.TheConstants.{MOST_SCRIPT}
-use Rattle.ldm_status.specs.World.{WorldRecord}
+use Rattle.ldm_status.specs.Streams.{StreamsRecord}
 use Rattle.ldm_crowd_command.specs.CrowdEnding.{CrowdSize, IsGoodSize}
 
 -- Nothing hinders a crowd: the queue can be made; the source tells a script of fewer bytes than are too many, each line of
 -- which is in the grammar and of an actor that has a worker; and neither the source, the sink nor the log failed.
-pub record CrowdUnhindered (size : CrowdSize) (old new : WorldRecord) : Type 0 where
+pub record CrowdUnhindered (size : CrowdSize) (old new : StreamsRecord) : Type 0 where
   pub good_size : IsGoodSize size
   pub text : List ℕ
   pub told : old.source.left ≡ Some text
@@ -22,5 +22,5 @@ pub record CrowdUnhindered (size : CrowdSize) (old new : WorldRecord) : Type 0 w
 
 -- A crowd that nothing hinders ends with 0, with 71 for want of memory, or with 77 once the queue had all the calls that it
 -- can have.
-abbrev pub CrowdCompletes : CrowdSize → ℕ → WorldRecord → WorldRecord → Type 0
+abbrev pub CrowdCompletes : CrowdSize → ℕ → StreamsRecord → StreamsRecord → Type 0
 CrowdCompletes size code old new = CrowdUnhindered size old new → (code ≡ 0) ⊎ ((code ≡ 71) ⊎ (code ≡ 77))

@@ -2,7 +2,7 @@
 use Rattle.std.specs.Prelude.{◌≡◌, ℕ, List, length, Result, Ok, Err}
 use Rattle.ldm_outside.specs.Count.{Rose}
 use Rattle.ldm_outside.specs.Io.{SourceRecord, Takes, WritesFront}
-use Rattle.ldm_status.specs.World.{WorldRecord, IsUntouched}
+use Rattle.ldm_status.specs.Streams.{StreamsRecord, IsUntouched}
 use Rattle.ldm_model.specs.declared.event.Entry.{Entry}
 use Rattle.ldm_model.specs.History.{IsLegal}
 use Rattle.ldm_script.specs.Order.{Asked}
@@ -75,7 +75,7 @@ pub record LeavesUnplayed (why : PlayFault) (size : CrowdSize) (old new : Source
   pub unplayed : IsUnplayed why size text
 
 -- Why a crowd stopped, and what was read and written then.
-abbrev pub CrowdStops : CrowdFault → CrowdSize → WorldRecord → WorldRecord → Type 0
+abbrev pub CrowdStops : CrowdFault → CrowdSize → StreamsRecord → StreamsRecord → Type 0
 -- there is no such queue or no memory for it, and nothing was read or written
 CrowdStops (stop.NotMade fault) size old new = IsFaultOf size.arena size.slots size.workers fault × IsUntouched old new
 -- the script was not taken whole, and nothing was written
@@ -87,7 +87,7 @@ CrowdStops stop.SinkFault size old new =
     (answers : List ℕ) × PlaysWhole size answers old.source new.source × Rose old.sink.faults new.sink.faults × WritesFront old.sink answers new.sink
 
 -- How a crowd of that size ends.
-abbrev pub CrowdEnds : Result (Unit {0}) CrowdFault → CrowdSize → WorldRecord → WorldRecord → Type 0
+abbrev pub CrowdEnds : Result (Unit {0}) CrowdFault → CrowdSize → StreamsRecord → StreamsRecord → Type 0
 -- the script was played, and all answers are written
 CrowdEnds (Ok done) size old new = (answers : List ℕ) × PlaysWhole size answers old.source new.source × Takes old.sink answers new.sink
 CrowdEnds (Err why) size old new = CrowdStops why size old new

@@ -5,7 +5,7 @@ use Rattle.ldm_outside.specs.Io.{SourceRecord, Gives}
 use Rattle.ldm_crowd.specs.declared.orders.TheConstants.{MOST_SCRIPT}
 use Rattle.ldm_crowd_command.specs.declared.whole_script.ScriptFault.{ScriptFault}
 use Rattle.ldm_crowd_command.specs.declared.whole_script.ScriptFault.TheVariants as untaken
-use Rattle.ldm_status.specs.World.{AtEnd}
+use Rattle.ldm_status.specs.Streams.{AtEnd}
 
 -- A script was taken whole: the source told its end behind it, and it has fewer bytes than are too many.
 pub record TakesWhole (text : List ℕ) (old new : SourceRecord) : Type 0 where

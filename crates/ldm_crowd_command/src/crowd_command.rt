@@ -2,7 +2,7 @@
 ghost use Rattle.std.specs.Prelude.{◌≡◌, ◌≤◌, ◌++◌, length, map, IfOk, IfErr};
 ghost use Rattle.std.specs.List.{concat, range_with_len};
 ghost use Rattle.ldm_outside.specs.Io.{SinkRecord, WritesAll};
-ghost use Rattle.ldm_status.specs.World.{WorldRecord, KeepsFaults, world_tells};
+ghost use Rattle.ldm_status.specs.Streams.{StreamsRecord, KeepsFaults, streams_tells};
 ghost use Rattle.ldm_model.specs.State.{State};
 ghost use Rattle.ldm_model.specs.Stat.{stat as stat_of};
 ghost use Rattle.ldm_book.specs.Stands.{StandsFor};
@@ -24,7 +24,7 @@ use ldm_crowd::{CrowdEnd, Orders, OrdersFault};
 use ldm_outside::{OpenGate, Sink, SinkFailed, Source, write_all};
 use ldm_script::{Answer, Text, write_answer};
 use ldm_shared::{CreateFault, Pass, Shared};
-use ldm_status::World;
+use ldm_status::Streams;
 use ldm_types::Actor;
 use std::alloc::{AllocError, Global};
 use std::sync::Wait;
@@ -202,8 +202,8 @@ fn run_crowd<H: Threads + Wait + Sync, S: Source, K: Sink>(
     sink: &mut K,
 ) -> Result<(), CrowdFault>
     ensures ends { (log_before log_after : SinkRecord) →
-        let old : WorldRecord = record { source = S.tells source.old; sink = K.tells sink.old; log = log_before } in
-        let new : WorldRecord = record { source = S.tells source.new; sink = K.tells sink.new; log = log_after } in
+        let old : StreamsRecord = record { source = S.tells source.old; sink = K.tells sink.old; log = log_before } in
+        let new : StreamsRecord = record { source = S.tells source.new; sink = K.tells sink.new; log = log_after } in
         CrowdEnds result (record { arena = arena; slots = slots; workers = workers }) old new }
     ensures source_faults_kept { (S.tells source.old).faults ≤ (S.tells source.new).faults }
     ensures sink_faults_kept { (K.tells sink.old).faults ≤ (K.tells sink.new).faults }
@@ -229,13 +229,13 @@ pub fn crowd<H: Threads + Wait + Sync, S: Source, K: Sink, E: Sink>(
     arena: u64,
     slots: u32,
     workers: u32,
-    world: &mut World<S, K, E>,
+    streams: &mut Streams<S, K, E>,
 ) -> u8
-    ensures ends { CrowdRuns (record { arena = arena; slots = slots; workers = workers }) result (world_tells S.tells K.tells E.tells world.old) (world_tells S.tells K.tells E.tells world.new) }
-    ensures law { ObeysCrowdLaw (record { arena = arena; slots = slots; workers = workers }) (world_tells S.tells K.tells E.tells world.old) (world_tells S.tells K.tells E.tells world.new) }
+    ensures ends { CrowdRuns (record { arena = arena; slots = slots; workers = workers }) result (streams_tells S.tells K.tells E.tells streams.old) (streams_tells S.tells K.tells E.tells streams.new) }
+    ensures law { ObeysCrowdLaw (record { arena = arena; slots = slots; workers = workers }) (streams_tells S.tells K.tells E.tells streams.old) (streams_tells S.tells K.tells E.tells streams.new) }
     ensures completes { CrowdCompletes (record { arena = arena; slots = slots; workers = workers }) result
-        (world_tells S.tells K.tells E.tells world.old) (world_tells S.tells K.tells E.tells world.new) }
-    ensures faults_kept { KeepsFaults (world_tells S.tells K.tells E.tells world.old) (world_tells S.tells K.tells E.tells world.new) }
+        (streams_tells S.tells K.tells E.tells streams.old) (streams_tells S.tells K.tells E.tells streams.new) }
+    ensures faults_kept { KeepsFaults (streams_tells S.tells K.tells E.tells streams.old) (streams_tells S.tells K.tells E.tells streams.new) }
 {
     let ending = run_crowd(
         rt,
@@ -243,8 +243,8 @@ pub fn crowd<H: Threads + Wait + Sync, S: Source, K: Sink, E: Sink>(
         arena,
         slots,
         workers,
-        &mut world.source,
-        &mut world.sink,
+        &mut streams.source,
+        &mut streams.sink,
     );
-    status_of(ending).report(&mut world.log)
+    status_of(ending).report(&mut streams.log)
 }

@@ -1,6 +1,6 @@
 //! The command `crowd`: a script, played by as many workers as actors.
 //!
-//! [`crowd`] takes the script of its world whole, has `ldm_crowd` play it on a shared queue, and writes the answers. Its
+//! [`crowd`] takes the script of its streams whole, has `ldm_crowd` play it on a shared queue, and writes the answers. Its
 //! contract says how that ends.
 #![tactic(auto)]
 

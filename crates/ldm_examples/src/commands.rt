@@ -1,17 +1,28 @@
 //! The example of ldm_commands.
 
-use ldm_commands::run_ldm;
-use ldm_outside::{MemSink, MemSource};
-use ldm_status::World;
+use ldm_commands::{World, run_ldm};
+use ldm_outside::{MemClock, MemDial, MemLauncher, MemNet, MemSink, MemSource, MemStore};
+use ldm_status::Streams;
 use std::alloc::Global;
 use std::sync::Wait;
 use std::thread::Threads;
 
-pub fn empty_script<H: Threads + Wait + Sync>(rt: &H, alloc: Global, words: &[String]) -> u8 {
+/// Does what the words ask for, over an empty script, in a world without files, programs and other nodes.
+pub fn run_alone<H: Threads + Wait + Sync>(rt: &H, alloc: Global, words: &[String]) -> u8 {
     let mut world = World {
-        source: MemSource::new(Vec::new(alloc), Vec::new(alloc)),
-        sink: MemSink::new(alloc, Vec::new(alloc)),
-        log: MemSink::new(alloc, Vec::new(alloc)),
+        streams: Streams {
+            source: MemSource::new(Vec::new(alloc), Vec::new(alloc)),
+            sink: MemSink::new(alloc, Vec::new(alloc)),
+            log: MemSink::new(alloc, Vec::new(alloc)),
+        },
+        clock: MemClock::new(Vec::new(alloc)),
+        store: MemStore::new(alloc, Vec::new(alloc), Vec::new(alloc)),
+        launcher: MemLauncher::new(alloc, Vec::new(alloc), Vec::new(alloc)),
+        net: MemNet::new(
+            alloc,
+            MemDial::new(alloc, Vec::new(alloc), Vec::new(alloc)),
+            Vec::new(alloc),
+        ),
     };
     run_ldm(rt, alloc, words, &mut world)
 }

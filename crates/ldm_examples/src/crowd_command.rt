@@ -2,17 +2,17 @@
 
 use ldm_crowd_command::crowd;
 use ldm_outside::{MemSink, MemSource};
-use ldm_status::World;
+use ldm_status::Streams;
 use std::alloc::Global;
 use std::sync::Wait;
 use std::thread::Threads;
 
 /// Plays an empty script of two actors.
 pub fn empty_script<H: Threads + Wait + Sync>(rt: &H, alloc: Global) -> u8 {
-    let mut world = World {
+    let mut streams = Streams {
         source: MemSource::new(Vec::new(alloc), Vec::new(alloc)),
         sink: MemSink::new(alloc, Vec::new(alloc)),
         log: MemSink::new(alloc, Vec::new(alloc)),
     };
-    crowd(rt, alloc, 168, 10, 2, &mut world)
+    crowd(rt, alloc, 168, 10, 2, &mut streams)
 }

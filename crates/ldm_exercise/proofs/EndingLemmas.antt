@@ -4,7 +4,7 @@ use Rattle.std.proofs.lemmas.List.{append-nil}
 use Rattle.ldm_model.specs.History.{IsLegal}
 use Rattle.ldm_model.specs.declared.event.Entry.{Entry}
 use Rattle.ldm_calls.specs.Lawful.{IsLawful}
-use Rattle.ldm_status.specs.World.{WorldRecord}
+use Rattle.ldm_status.specs.Streams.{StreamsRecord}
 use Rattle.ldm_status.specs.Status.{Reports}
 use Rattle.ldm_exercise.specs.declared.exercise_command.ExerciseFault.{ExerciseFault}
 use Rattle.ldm_exercise.specs.declared.exercise_command.ExerciseFault.TheVariants as fault
@@ -15,7 +15,7 @@ use Rattle.ldm_exercise.specs.Playing.{arena, slots, exercised}
 use Rattle.ldm_exercise.specs.Statuses.{status_of_exercise}
 use Rattle.ldm_exercise.specs.Summary.{summary}
 
-module _ (number count : ℕ) (old new : WorldRecord) where
+module _ (number count : ℕ) (old new : StreamsRecord) where
   pub completes : (ending : Result (Unit {0}) ExerciseFault) (code : ℕ) → ExerciseEnds ending number count old.sink new.sink
       → Reports (status_of_exercise ending) code old.log new.log → ExerciseCompletes code old new
   completes (Ok done) code ends (inl told) = λ sink_works log_works. inl told.0

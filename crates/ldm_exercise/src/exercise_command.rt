@@ -2,7 +2,7 @@
 ghost use Rattle.std.specs.Prelude.{◌≡◌, ◌≤◌};
 ghost use Rattle.ldm_model.specs.History.{IsLegal};
 ghost use Rattle.ldm_outside.specs.Io.{SourceRecord};
-ghost use Rattle.ldm_status.specs.World.{KeepsFaults, world_tells};
+ghost use Rattle.ldm_status.specs.Streams.{KeepsFaults, streams_tells};
 ghost use Rattle.ldm_exercise.specs.Complete.{ExerciseCompletes};
 ghost use Rattle.ldm_exercise.specs.Ending.{ExerciseEnds, IfPlayed};
 ghost use Rattle.ldm_exercise.specs.Law.{ObeysExerciseLaw};
@@ -15,7 +15,7 @@ use crate::statuses::status_of;
 use crate::summary::summary_for;
 use ldm_calls::histories_are_lawful;
 use ldm_outside::{Sink, SinkFailed, write_all};
-use ldm_status::World;
+use ldm_status::Streams;
 use ldm_types::OutOfMemory;
 use std::alloc::Global;
 
@@ -71,15 +71,15 @@ pub fn exercise<S, K: Sink, E: Sink>(
     alloc: Global,
     number: u64,
     count: u32,
-    world: &mut World<S, K, E>,
+    streams: &mut Streams<S, K, E>,
 ) -> u8
     requires { count ≤ MOST_DRAWN }
-    ensures ends { (source : S → SourceRecord) → Exercises number count result (world_tells source K.tells E.tells world.old) (world_tells source K.tells E.tells world.new) }
-    ensures law { (source : S → SourceRecord) → ObeysExerciseLaw number count (world_tells source K.tells E.tells world.old) (world_tells source K.tells E.tells world.new) }
-    ensures completes { (source : S → SourceRecord) → ExerciseCompletes result (world_tells source K.tells E.tells world.old) (world_tells source K.tells E.tells world.new) }
-    ensures faults_kept { (source : S → SourceRecord) → KeepsFaults (world_tells source K.tells E.tells world.old) (world_tells source K.tells E.tells world.new) }
+    ensures ends { (source : S → SourceRecord) → Exercises number count result (streams_tells source K.tells E.tells streams.old) (streams_tells source K.tells E.tells streams.new) }
+    ensures law { (source : S → SourceRecord) → ObeysExerciseLaw number count (streams_tells source K.tells E.tells streams.old) (streams_tells source K.tells E.tells streams.new) }
+    ensures completes { (source : S → SourceRecord) → ExerciseCompletes result (streams_tells source K.tells E.tells streams.old) (streams_tells source K.tells E.tells streams.new) }
+    ensures faults_kept { (source : S → SourceRecord) → KeepsFaults (streams_tells source K.tells E.tells streams.old) (streams_tells source K.tells E.tells streams.new) }
 {
     histories_are_lawful();
-    let ending = run_exercise(alloc, number, count, &mut world.sink);
-    status_of(ending).report(&mut world.log)
+    let ending = run_exercise(alloc, number, count, &mut streams.sink);
+    status_of(ending).report(&mut streams.log)
 }

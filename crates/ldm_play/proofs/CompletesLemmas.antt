@@ -4,7 +4,7 @@ use Rattle.std.proofs.lemmas.Bool.{cases_lt}
 use Rattle.std.proofs.lemmas.List.{append-nil}
 use Rattle.std.proofs.lemmas.Option.{none-some}
 use Rattle.ldm_outside.specs.Io.{Gives}
-use Rattle.ldm_status.specs.World.{WorldRecord, AtEnd}
+use Rattle.ldm_status.specs.Streams.{StreamsRecord, AtEnd}
 use Rattle.ldm_status.proofs.SourceLemmas.{parts, whole_at_end}
 use Rattle.ldm_script.specs.Resolve.{Playing, new_play}
 use Rattle.ldm_book.specs.declared.fault.CreateFault.{CreateFault}
@@ -90,7 +90,7 @@ known_on p script rest on = elim (cases_lt LONGEST_LINE (length (cut script).unf
       ∙ before_on (whole_lines script) 1 p before.0 (sym (ap (λ (ls : List (List ℕ)). (play 1 p ls).stop) before.1) ∙ on)
 ]
 
-module _ (size : Size) (old new : WorldRecord) (free : Unhindered size old new) where
+module _ (size : Size) (old new : StreamsRecord) (free : Unhindered size old new) where
   part : (taken : List ℕ) → Gives old.source taken new.source → (rest : List ℕ) × (new.source.left ≡ Some rest) × (free.script ≡ taken ++ rest)
   part taken gives = parts free.script taken old.source new.source free.told gives
 

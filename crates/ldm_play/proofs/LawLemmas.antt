@@ -7,7 +7,7 @@ use Rattle.ldm_outside.specs.Count.{Rose}
 use Rattle.ldm_outside.specs.Io.{SinkRecord, Gives, Takes, WritesFront}
 use Rattle.ldm_model.specs.declared.event.Entry.{Entry}
 use Rattle.ldm_model.specs.History.{IsLegal}
-use Rattle.ldm_status.specs.World.{WorldRecord}
+use Rattle.ldm_status.specs.Streams.{StreamsRecord}
 use Rattle.ldm_book.specs.declared.fault.CreateFault.{CreateFault}
 use Rattle.ldm_script.specs.Lines.{cut, whole_lines, lines_of, last_line}
 use Rattle.ldm_script.specs.Resolve.{new_play}
@@ -42,7 +42,7 @@ known_within false script =
     let last = too_long_within unfinished long refl in
     (last.0, append_assoc (whole_lines script) (cond long (unfinished ∷ []) []) last.0 ∙ ap (λ (ls : List (List ℕ)). whole_lines script ++ ls) last.1)
 
-module _ (lawful : (arena slots : ℕ) (history : List Entry) → IsLegal arena slots history → IsLawful arena slots history) (size : Size) (old new : WorldRecord) where
+module _ (lawful : (arena slots : ℕ) (history : List Entry) → IsLegal arena slots history → IsLawful arena slots history) (size : Size) (old new : StreamsRecord) where
   module _ (script : List ℕ) (taken : Gives old.source script new.source) where
     writes : (lines rest : List (List ℕ)) → lines ++ rest ≡ lines_of script → StaysLegal (new_play size.arena size.slots) (played_on size lines).playing
         → WritesFront old.sink (played_on size lines).text new.sink → (¬ (Rose old.sink.faults new.sink.faults) → Takes old.sink (played_on size lines).text new.sink) → WritesLawful size old new

@@ -4,14 +4,14 @@ use Rattle.ldm_outside.specs.Count.{Rose}
 use Rattle.ldm_script.specs.Lines.{lines_of}
 use Rattle.ldm_script.specs.Resolve.{new_play}
 use Rattle.ldm_book.specs.Limits.{IsGoodArena, IsGoodSlots}
-use Rattle.ldm_status.specs.World.{WorldRecord}
+use Rattle.ldm_status.specs.Streams.{StreamsRecord}
 use Rattle.ldm_play.specs.declared.play_command.TheConstants.{SCRIPT_LIMIT}
 use Rattle.ldm_play.specs.Play.{play}
 use Rattle.ldm_play.specs.Ending.{Size}
 
 -- Nothing hinders a play: the queue can be made; the source tells a script of fewer bytes than are too many, each
 -- line of which is in the grammar; and neither the source, the sink nor the log failed.
-pub record Unhindered (size : Size) (old new : WorldRecord) : Type 0 where
+pub record Unhindered (size : Size) (old new : StreamsRecord) : Type 0 where
   pub good_arena : IsGoodArena size.arena
   pub good_slots : IsGoodSlots size.slots
   pub script : List ℕ
@@ -23,5 +23,5 @@ pub record Unhindered (size : Size) (old new : WorldRecord) : Type 0 where
   pub log_works : ¬ (Rose old.log.faults new.log.faults)
 
 -- A play that nothing hinders ends with 0, or with 71 for want of memory.
-abbrev pub Completes : Size → ℕ → WorldRecord → WorldRecord → Type 0
+abbrev pub Completes : Size → ℕ → StreamsRecord → StreamsRecord → Type 0
 Completes size code old new = Unhindered size old new → (code ≡ 0) ⊎ (code ≡ 71)

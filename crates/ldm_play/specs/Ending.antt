@@ -2,7 +2,7 @@
 use Rattle.std.specs.Prelude.{◌≡◌, ℕ, ◌<◌, ◌≤◌, Bool, true, false, List, ◌++◌, length, Some, None, Result, Ok, Err}
 use Rattle.ldm_outside.specs.Count.{Rose}
 use Rattle.ldm_outside.specs.Io.{SinkRecord, Gives, Takes, WritesFront}
-use Rattle.ldm_status.specs.World.{WorldRecord, IsUntouched, AtEnd}
+use Rattle.ldm_status.specs.Streams.{StreamsRecord, IsUntouched, AtEnd}
 use Rattle.ldm_script.specs.Resolve.{Playing, new_play}
 use Rattle.ldm_book.specs.Limits.{IsGoodArena, IsGoodSlots, IsFaultOf}
 use Rattle.ldm_book.specs.declared.fault.CreateFault.{CreateFault}
@@ -44,7 +44,7 @@ StopsAt (stop.BadLine line column) p lines old new =
 StopsAt stop.SinkFault p lines old new = Rose old.faults new.faults × WritesFront old (play 1 p lines).text new × WritesFirst p lines old new
 
 -- What playing a script leaves, by the bytes that were taken.
-abbrev pub ScriptEnds : ScriptEnd → Playing → List ℕ → WorldRecord → WorldRecord → Type 0
+abbrev pub ScriptEnds : ScriptEnd → Playing → List ℕ → StreamsRecord → StreamsRecord → Type 0
 -- the script was read to its end, and all its lines are answered
 ScriptEnds script_end.Done p script old new =
     (length script < SCRIPT_LIMIT) × AtEnd old.source new.source × ((play 1 p (known_lines true script)).stop ≡ None) × Takes old.sink (play 1 p (known_lines true script)).text new.sink
@@ -59,14 +59,14 @@ ScriptEnds (script_end.Stopped why) p script old new =
     (ended : Bool) × (ended ≡ true → AtEnd old.source new.source) × StopsAt why p (known_lines ended script) old.sink new.sink
 
 -- a script was taken from the source, at most as many bytes as are too many, and its play ended so
-pub record PlaysScript (ending : ScriptEnd) (p : Playing) (old new : WorldRecord) : Type 0 where
+pub record PlaysScript (ending : ScriptEnd) (p : Playing) (old new : StreamsRecord) : Type 0 where
   pub script : List ℕ
   pub taken : Gives old.source script new.source
   pub limit : length script ≤ SCRIPT_LIMIT
   pub ends : ScriptEnds ending p script old new
 
 -- How a play with a queue of that size ends.
-abbrev pub PlayEnds : Result ScriptEnd CreateFault → Size → WorldRecord → WorldRecord → Type 0
+abbrev pub PlayEnds : Result ScriptEnd CreateFault → Size → StreamsRecord → StreamsRecord → Type 0
 -- the queue was made, and a script was played on it
 PlayEnds (Ok ending) size old new = IsGoodArena size.arena × IsGoodSlots size.slots × PlaysScript ending (new_play size.arena size.slots) old new
 -- there is no such queue or no memory, and nothing was read or written

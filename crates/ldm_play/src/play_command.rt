@@ -1,7 +1,7 @@
 //! `ldm play`: a script, played on a queue.
 ghost use Rattle.std.specs.Prelude.{◌≡◌, ◌+◌, ◌^◌, ◌<◌, ◌≤◌, ◌++◌, ℕ, List, length, OnOk, Result};
 ghost use Rattle.ldm_outside.specs.Io.{SinkRecord};
-ghost use Rattle.ldm_status.specs.World.{WorldRecord, KeepsFaults, world_tells};
+ghost use Rattle.ldm_status.specs.Streams.{StreamsRecord, KeepsFaults, streams_tells};
 ghost use Rattle.ldm_script.specs.Resolve.{Playing};
 ghost use Rattle.ldm_play.specs.Play.{play_line};
 ghost use Rattle.ldm_play.specs.PlayerView.{StandsForPlay};
@@ -19,7 +19,7 @@ use ldm_book::{Book, CreateFault};
 use ldm_calls::histories_are_lawful;
 use ldm_outside::{Got, Sink, Source};
 use ldm_script::LONGEST_LINE;
-use ldm_status::{PIECE, World};
+use ldm_status::{PIECE, Streams};
 use memchr::memchr;
 use std::alloc::Global;
 
@@ -135,8 +135,8 @@ fn play_script<S: Source, K: Sink>(
     requires room { 0 < length piece.old }
     requires fresh { pending.old ≡ fresh_line 1 }
     ensures plays { (p : Playing) (log_before log_after : SinkRecord) → StandsForPlay player.old p →
-        let old : WorldRecord = record { source = S.tells source.old; sink = K.tells sink.old; log = log_before } in
-        let new : WorldRecord = record { source = S.tells source.new; sink = K.tells sink.new; log = log_after } in
+        let old : StreamsRecord = record { source = S.tells source.old; sink = K.tells sink.old; log = log_before } in
+        let new : StreamsRecord = record { source = S.tells source.new; sink = K.tells sink.new; log = log_after } in
         PlaysScript result p old new }
     ensures source_faults_kept { (S.tells source.old).faults ≤ (S.tells source.new).faults }
     ensures sink_faults_kept { (K.tells sink.old).faults ≤ (K.tells sink.new).faults }
@@ -173,8 +173,8 @@ fn play_new<S: Source, K: Sink>(
     sink: &mut K,
 ) -> Result<ScriptEnd, CreateFault>
     ensures ends { (log_before log_after : SinkRecord) →
-        let old : WorldRecord = record { source = S.tells source.old; sink = K.tells sink.old; log = log_before } in
-        let new : WorldRecord = record { source = S.tells source.new; sink = K.tells sink.new; log = log_after } in
+        let old : StreamsRecord = record { source = S.tells source.old; sink = K.tells sink.old; log = log_before } in
+        let new : StreamsRecord = record { source = S.tells source.new; sink = K.tells sink.new; log = log_after } in
         PlayEnds result (record { arena = arena; slots = slots }) old new }
     ensures source_faults_kept { (S.tells source.old).faults ≤ (S.tells source.new).faults }
     ensures sink_faults_kept { (K.tells sink.old).faults ≤ (K.tells sink.new).faults }
@@ -197,14 +197,14 @@ pub fn play<S: Source, K: Sink, E: Sink>(
     alloc: Global,
     arena: u64,
     slots: u32,
-    world: &mut World<S, K, E>,
+    streams: &mut Streams<S, K, E>,
 ) -> u8
-    ensures ends { Plays (record { arena = arena; slots = slots }) result (world_tells S.tells K.tells E.tells world.old) (world_tells S.tells K.tells E.tells world.new) }
-    ensures law { ObeysPlayLaw (record { arena = arena; slots = slots }) (world_tells S.tells K.tells E.tells world.old) (world_tells S.tells K.tells E.tells world.new) }
-    ensures completes { Completes (record { arena = arena; slots = slots }) result (world_tells S.tells K.tells E.tells world.old) (world_tells S.tells K.tells E.tells world.new) }
-    ensures faults_kept { KeepsFaults (world_tells S.tells K.tells E.tells world.old) (world_tells S.tells K.tells E.tells world.new) }
+    ensures ends { Plays (record { arena = arena; slots = slots }) result (streams_tells S.tells K.tells E.tells streams.old) (streams_tells S.tells K.tells E.tells streams.new) }
+    ensures law { ObeysPlayLaw (record { arena = arena; slots = slots }) (streams_tells S.tells K.tells E.tells streams.old) (streams_tells S.tells K.tells E.tells streams.new) }
+    ensures completes { Completes (record { arena = arena; slots = slots }) result (streams_tells S.tells K.tells E.tells streams.old) (streams_tells S.tells K.tells E.tells streams.new) }
+    ensures faults_kept { KeepsFaults (streams_tells S.tells K.tells E.tells streams.old) (streams_tells S.tells K.tells E.tells streams.new) }
 {
     histories_are_lawful();
-    let ending = play_new(alloc, arena, slots, &mut world.source, &mut world.sink);
-    status_of(ending).report(&mut world.log)
+    let ending = play_new(alloc, arena, slots, &mut streams.source, &mut streams.sink);
+    status_of(ending).report(&mut streams.log)
 }

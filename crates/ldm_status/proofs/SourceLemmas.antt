@@ -4,7 +4,7 @@ use Rattle.std.specs.Option.{option_map}
 use Rattle.std.proofs.lemmas.List.{append-nil}
 use Rattle.std.proofs.lemmas.Option.{none-some, same_Some}
 use Rattle.ldm_outside.specs.Io.{SourceRecord, Gives}
-use Rattle.ldm_status.specs.World.{AtEnd}
+use Rattle.ldm_status.specs.Streams.{AtEnd}
 
 -- bytes in front of others that are left, if any are told
 abbrev before_rest : List ℕ → Option (List ℕ) → Option (List ℕ)

@@ -1,13 +1,14 @@
 //! How the program ends: statuses with their log lines.
-ghost use Rattle.std.specs.Prelude.{◌≡◌, ◌≤◌};
+ghost use Rattle.std.specs.Prelude.{◌≡◌, ◌≤◌, []};
+ghost use Rattle.ldm_status.specs.Status.{log_line};
+ghost use Rattle.ldm_status.specs.declared.status.Status.TheVariants as status;
 
-use crate::word::Word;
 use arrayvec::ArrayVec;
 use ldm_outside::{Sink, SinkFailed, write_all};
 use ldm_script::{put, put_number};
 
-// The most bytes of a log line, with its newline.
-const LONGEST_LOG_LINE: usize = 64;
+// Room for a log line with its newline, where each number may take 20 digits.
+const LONGEST_LOG_LINE: usize = 96;
 
 // A log line, with room for the longest.
 type LogLine = ArrayVec<u8, LONGEST_LOG_LINE>;
@@ -23,7 +24,12 @@ pub enum Status {
     BadLine { line: u64, column: u32 },
     /// A peer's stream ended before an owed reply, after `at` bytes; or the record that begins at byte `at` of it is not lawful there.
     BadFrame { at: u64 },
-    /// As many bytes of a script were taken as are too many.
+    /// A line of an ldmd.conf is faulty, or the file is too long: the number of the file, from 0, that of the line in it, and the number of the
+    /// kind of fault.
+    BadConf { file: u32, line: u32, kind: u32 },
+    /// An entry of a pqact.conf is faulty, or the file is too long: its first line, and the number of the kind of fault.
+    BadPqact { line: u32, kind: u32 },
+    /// As many bytes of a script or of a stream were taken as are too many.
     StreamLimit,
     /// No queue has an arena of so many bytes.
     RefusedArena(u64),
@@ -31,14 +37,14 @@ pub enum Status {
     RefusedSlots(u32),
     /// No queue of many threads has so many passes.
     RefusedPasses(u32),
-    /// The words ask for a command that is not built yet: its word.
-    NotBuilt(Word),
     /// No connection was made, or one failed.
     NetFault,
     /// There is no memory.
     NoMemory,
     /// A file could not be read or written.
     StoreFault,
+    /// A program could not be started, written to or waited for.
+    ChildFault,
     /// The source failed.
     SourceFault,
     /// The sink failed.
@@ -64,13 +70,16 @@ impl Status {
         match self {
             Status::Done => 0,
             Status::Usage => 64,
-            Status::BadLine { .. } | Status::BadFrame { .. } => 65,
+            Status::BadLine { .. }
+            | Status::BadFrame { .. }
+            | Status::BadConf { .. }
+            | Status::BadPqact { .. } => 65,
             Status::StreamLimit => 66,
             Status::RefusedArena(_) | Status::RefusedSlots(_) | Status::RefusedPasses(_) => 67,
-            Status::NotBuilt(_) => 68,
             Status::NetFault => 69,
             Status::NoMemory => 71,
             Status::StoreFault => 72,
+            Status::ChildFault => 73,
             Status::SourceFault => 74,
             Status::SinkFault => 75,
             Status::Worn => 77,
@@ -99,6 +108,8 @@ impl Status {
                 put_number(out, *at);
                 put(out, b"\n");
             }
+            Status::BadConf { file, line, kind } => put_bad_conf(out, *file, *line, *kind),
+            Status::BadPqact { line, kind } => put_bad_pqact(out, *line, *kind),
             Status::StreamLimit => put(out, b"ldm: stream limit\n"),
             Status::RefusedArena(arena) => {
                 put(out, b"ldm: refused arena ");
@@ -115,14 +126,10 @@ impl Status {
                 put_number(out, u64::from(*passes));
                 put(out, b"\n");
             }
-            Status::NotBuilt(word) => {
-                put(out, b"ldm: not built ");
-                put(out, word.as_slice());
-                put(out, b"\n");
-            }
             Status::NetFault => put(out, b"ldm: net fault\n"),
             Status::NoMemory => put(out, b"ldm: no memory\n"),
             Status::StoreFault => put(out, b"ldm: store fault\n"),
+            Status::ChildFault => put(out, b"ldm: child fault\n"),
             Status::SourceFault => put(out, b"ldm: source fault\n"),
             Status::SinkFault => put(out, b"ldm: sink fault\n"),
             Status::Worn => put(out, b"ldm: worn\n"),
@@ -144,4 +151,30 @@ impl Status {
             Err(SinkFailed) => LOG_FAULT,
         }
     }
+}
+
+// Writes the line of a fault of an ldmd.conf.
+fn put_bad_conf(out: &mut LogLine, file: u32, line: u32, kind: u32)
+    requires { out.old.items ≡ [] }
+    ensures { out.new.items ≡ log_line (status.BadConf file line kind) }
+{
+    put(out, b"ldm: bad conf file ");
+    put_number(out, u64::from(file));
+    put(out, b" line ");
+    put_number(out, u64::from(line));
+    put(out, b" kind ");
+    put_number(out, u64::from(kind));
+    put(out, b"\n");
+}
+
+// Writes the line of a fault of a pqact.conf.
+fn put_bad_pqact(out: &mut LogLine, line: u32, kind: u32)
+    requires { out.old.items ≡ [] }
+    ensures { out.new.items ≡ log_line (status.BadPqact line kind) }
+{
+    put(out, b"ldm: bad pqact line ");
+    put_number(out, u64::from(line));
+    put(out, b" kind ");
+    put_number(out, u64::from(kind));
+    put(out, b"\n");
 }

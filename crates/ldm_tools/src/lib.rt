@@ -12,3 +12,4 @@ mod waiting;
 pub use mon::{MonFault, pqmon};
 pub use no_reply::NoReply;
 pub use puts::Puts;
+pub use statuses::status_of_no_reply;

@@ -7,7 +7,7 @@ use crate::no_reply::NoReply;
 use ldm_status::Status;
 
 /// The status where a reply was not heard.
-pub(crate) fn status_of_no_reply(why: NoReply) -> Status
+pub fn status_of_no_reply(why: NoReply) -> Status
     ensures { result ≡ status_of_no_reply why }
 {
     match why {

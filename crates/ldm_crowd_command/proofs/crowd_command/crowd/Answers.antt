@@ -1,5 +1,5 @@
 use Rattle.std.proofs.Common.{subst}
-use Rattle.ldm_status.specs.World.{WorldRecord}
+use Rattle.ldm_status.specs.Streams.{StreamsRecord}
 use Rattle.ldm_status.specs.declared.status.Status.{Status}
 use Rattle.ldm_status.specs.Status.{Reports}
 use Rattle.ldm_crowd_command.proofs.CrowdCompletesLemmas.{crowd_completes}
@@ -8,15 +8,15 @@ use Rattle.ldm_crowd_command.proofs.crowd_command.crowd.Goals as goal
 
 pub returns-clause-completes : goal.returns-clause-completes
 returns-clause-completes g c = λ free.
-    let world = c.args.world.now in
-    let old : WorldRecord = record { source = g.S.Source.tells world.source; sink = g.K.Sink.tells world.sink; log = g.E.Sink.tells world.log } in
-    let new : WorldRecord = record { source = g.S.Source.tells c.run_crowd-ending.new.source; sink = g.K.Sink.tells c.run_crowd-ending.new.sink; log = g.E.Sink.tells c.report.new.log } in
+    let streams = c.args.streams.now in
+    let old : StreamsRecord = record { source = g.S.Source.tells streams.source; sink = g.K.Sink.tells streams.sink; log = g.E.Sink.tells streams.log } in
+    let new : StreamsRecord = record { source = g.S.Source.tells c.run_crowd-ending.new.source; sink = g.K.Sink.tells c.run_crowd-ending.new.sink; log = g.E.Sink.tells c.report.new.log } in
     crowd_completes (record { arena = c.args.arena; slots = c.args.slots; workers = c.args.workers }) old new free c.run_crowd-ending.result c.report.result (c.run_crowd-ending.ensures.ends old.log new.log)
     (subst (λ (e : Status). Reports e c.report.result old.log new.log) c.status_of.ensures c.report.ensures.reports)
 
 pub returns-clause-law : goal.returns-clause-law
 returns-clause-law g c =
-    let world = c.args.world.now in
-    let old : WorldRecord = record { source = g.S.Source.tells world.source; sink = g.K.Sink.tells world.sink; log = g.E.Sink.tells world.log } in
-    let new : WorldRecord = record { source = g.S.Source.tells c.run_crowd-ending.new.source; sink = g.K.Sink.tells c.run_crowd-ending.new.sink; log = g.E.Sink.tells c.report.new.log } in
+    let streams = c.args.streams.now in
+    let old : StreamsRecord = record { source = g.S.Source.tells streams.source; sink = g.K.Sink.tells streams.sink; log = g.E.Sink.tells streams.log } in
+    let new : StreamsRecord = record { source = g.S.Source.tells c.run_crowd-ending.new.source; sink = g.K.Sink.tells c.run_crowd-ending.new.sink; log = g.E.Sink.tells c.report.new.log } in
     crowd_obeys (record { arena = c.args.arena; slots = c.args.slots; workers = c.args.workers }) old new c.run_crowd-ending.result (c.run_crowd-ending.ensures.ends old.log new.log)

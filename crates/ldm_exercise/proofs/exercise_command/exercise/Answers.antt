@@ -1,5 +1,5 @@
 use Rattle.std.proofs.Common.{refl, subst}
-use Rattle.ldm_status.specs.World.{WorldRecord}
+use Rattle.ldm_status.specs.Streams.{StreamsRecord}
 use Rattle.ldm_status.specs.declared.status.Status.{Status}
 use Rattle.ldm_status.specs.Status.{Reports}
 use Rattle.ldm_exercise.proofs.EndingLemmas.{completes, obeys}
@@ -9,21 +9,21 @@ pub returns-clause-ends : goal.returns-clause-ends
 returns-clause-ends g c = λ source. record {
   ending = c.run_exercise-ending.result;
   ends = c.run_exercise-ending.ensures.ends;
-  reports = subst (λ (e : Status). Reports e c.report.result (g.E.Sink.tells c.args.world.now.log) (g.E.Sink.tells c.report.new.log)) c.status_of.ensures c.report.ensures.reports;
+  reports = subst (λ (e : Status). Reports e c.report.result (g.E.Sink.tells c.args.streams.now.log) (g.E.Sink.tells c.report.new.log)) c.status_of.ensures c.report.ensures.reports;
   source = refl;
 }
 
 pub returns-clause-completes : goal.returns-clause-completes
 returns-clause-completes g c = λ source.
-    let world = c.args.world.now in
-    let old : WorldRecord = record { source = source world.source; sink = g.K.Sink.tells world.sink; log = g.E.Sink.tells world.log } in
-    let new : WorldRecord = record { source = source world.source; sink = g.K.Sink.tells c.run_exercise-ending.new.sink; log = g.E.Sink.tells c.report.new.log } in
+    let streams = c.args.streams.now in
+    let old : StreamsRecord = record { source = source streams.source; sink = g.K.Sink.tells streams.sink; log = g.E.Sink.tells streams.log } in
+    let new : StreamsRecord = record { source = source streams.source; sink = g.K.Sink.tells c.run_exercise-ending.new.sink; log = g.E.Sink.tells c.report.new.log } in
     completes c.args.number c.args.count old new c.run_exercise-ending.result c.report.result c.run_exercise-ending.ensures.ends
     (subst (λ (e : Status). Reports e c.report.result old.log new.log) c.status_of.ensures c.report.ensures.reports)
 
 pub returns-clause-law : goal.returns-clause-law
 returns-clause-law g c = λ source.
-    let world = c.args.world.now in
-    let old : WorldRecord = record { source = source world.source; sink = g.K.Sink.tells world.sink; log = g.E.Sink.tells world.log } in
-    let new : WorldRecord = record { source = source world.source; sink = g.K.Sink.tells c.run_exercise-ending.new.sink; log = g.E.Sink.tells c.report.new.log } in
+    let streams = c.args.streams.now in
+    let old : StreamsRecord = record { source = source streams.source; sink = g.K.Sink.tells streams.sink; log = g.E.Sink.tells streams.log } in
+    let new : StreamsRecord = record { source = source streams.source; sink = g.K.Sink.tells c.run_exercise-ending.new.sink; log = g.E.Sink.tells c.report.new.log } in
     obeys c.args.number c.args.count old new c.histories_are_lawful.ensures refl c.run_exercise-ending.result c.run_exercise-ending.ensures.ends c.run_exercise-ending.ensures.legal

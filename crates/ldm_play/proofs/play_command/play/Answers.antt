@@ -1,5 +1,5 @@
 use Rattle.std.proofs.Common.{subst}
-use Rattle.ldm_status.specs.World.{WorldRecord}
+use Rattle.ldm_status.specs.Streams.{StreamsRecord}
 use Rattle.ldm_status.specs.declared.status.Status.{Status}
 use Rattle.ldm_status.specs.Status.{Reports}
 use Rattle.ldm_play.proofs.CompletesLemmas.{completes}
@@ -8,15 +8,15 @@ use Rattle.ldm_play.proofs.play_command.play.Goals as goal
 
 pub returns-clause-completes : goal.returns-clause-completes
 returns-clause-completes g c = λ free.
-    let world = c.args.world.now in
-    let old : WorldRecord = record { source = g.S.Source.tells world.source; sink = g.K.Sink.tells world.sink; log = g.E.Sink.tells world.log } in
-    let new : WorldRecord = record { source = g.S.Source.tells c.play_new-ending.new.source; sink = g.K.Sink.tells c.play_new-ending.new.sink; log = g.E.Sink.tells c.report.new.log } in
+    let streams = c.args.streams.now in
+    let old : StreamsRecord = record { source = g.S.Source.tells streams.source; sink = g.K.Sink.tells streams.sink; log = g.E.Sink.tells streams.log } in
+    let new : StreamsRecord = record { source = g.S.Source.tells c.play_new-ending.new.source; sink = g.K.Sink.tells c.play_new-ending.new.sink; log = g.E.Sink.tells c.report.new.log } in
     completes (record { arena = c.args.arena; slots = c.args.slots }) old new free c.play_new-ending.result c.report.result (c.play_new-ending.ensures.ends old.log new.log)
     (subst (λ (e : Status). Reports e c.report.result old.log new.log) c.status_of.ensures c.report.ensures.reports)
 
 pub returns-clause-law : goal.returns-clause-law
 returns-clause-law g c =
-    let world = c.args.world.now in
-    let old : WorldRecord = record { source = g.S.Source.tells world.source; sink = g.K.Sink.tells world.sink; log = g.E.Sink.tells world.log } in
-    let new : WorldRecord = record { source = g.S.Source.tells c.play_new-ending.new.source; sink = g.K.Sink.tells c.play_new-ending.new.sink; log = g.E.Sink.tells c.report.new.log } in
+    let streams = c.args.streams.now in
+    let old : StreamsRecord = record { source = g.S.Source.tells streams.source; sink = g.K.Sink.tells streams.sink; log = g.E.Sink.tells streams.log } in
+    let new : StreamsRecord = record { source = g.S.Source.tells c.play_new-ending.new.source; sink = g.K.Sink.tells c.play_new-ending.new.sink; log = g.E.Sink.tells c.report.new.log } in
     obeys c.histories_are_lawful.ensures (record { arena = c.args.arena; slots = c.args.slots }) old new c.play_new-ending.result (c.play_new-ending.ensures.ends old.log new.log)

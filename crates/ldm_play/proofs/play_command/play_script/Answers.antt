@@ -1,5 +1,5 @@
 use Rattle.std.proofs.Common.{◌∙◌, [], ◌++◌, ap, take, refl, arith, length-append, length-take}
-use Rattle.ldm_status.specs.World.{WorldRecord}
+use Rattle.ldm_status.specs.Streams.{StreamsRecord}
 use Rattle.ldm_outside.proofs.CallerLemmas.{Gives-nothing, Gives-same, Gives-then, Rose-later}
 use Rattle.ldm_play.specs.PendingView.{PendingView}
 use Rattle.ldm_play.proofs.GoesOnLemmas.{GoesOn-nothing, answers_known_lines}
@@ -22,8 +22,8 @@ returns-in-Err-clause-plays g c = λ p log_before log_after stands.
     let n = c.in-Bytes.n in
     let piece = take n c.read.new.into in
     let given = c.in-Bytes.ensures.given in
-    let before : WorldRecord = record { source = g.S.Source.tells c.args.source.now; sink = g.K.Sink.tells c.args.sink.now; log = log_before } in
-    let after : WorldRecord = record { source = g.S.Source.tells c.read.new.self; sink = g.K.Sink.tells c.play_piece.new.sink; log = log_after } in
+    let before : StreamsRecord = record { source = g.S.Source.tells c.args.source.now; sink = g.K.Sink.tells c.args.sink.now; log = log_before } in
+    let after : StreamsRecord = record { source = g.S.Source.tells c.read.new.self; sink = g.K.Sink.tells c.play_piece.new.sink; log = log_after } in
     record {
       script = so_far.0 ++ piece;
       taken = Gives-then (g.S.Source.tells c.args.source.now) (g.S.Source.tells c.loop-taken.source) (g.S.Source.tells c.read.new.self) so_far.0 piece so_far.2 given.2;

@@ -1,0 +1,6 @@
+pub mod ChainLawLemmas
+pub mod ChainCompletesLemmas
+pub mod NodeLemmas
+pub mod TextLemmas
+pub mod FeedLemmas
+pub mod RanLemmas

@@ -1,0 +1,11 @@
+pub mod Faults
+pub mod Work
+pub mod Policy
+pub mod Queues
+pub mod Ending
+pub mod Statuses
+pub mod Run
+pub mod Law
+pub mod Complete
+pub mod Nodes
+pub mod Texts

@@ -1,0 +1,3 @@
+pub mod ConfFiles
+pub mod PqactFiles
+pub mod Texts

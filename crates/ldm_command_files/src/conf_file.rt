@@ -1,0 +1,90 @@
+//! An ldmd.conf under its path.
+ghost use Rattle.std.specs.Prelude.{◌≡◌, ◌≤◌, length};
+ghost use Rattle.ldm_conf.specs.Causes.{first_too_long};
+ghost use Rattle.ldm_command_files.specs.ConfFiles.{CompletesConf, TakesConf, status_of_conf};
+ghost use Rattle.ldm_command_files.specs.Texts.{ReadsText, not_taken};
+
+use ldm_conf::{Conf, ConfFault, ConfKind, read_conf};
+use ldm_outside::{FileRead, Store};
+use ldm_status::Status;
+use ldm_text::LONGEST_CONFIGURATION;
+use std::alloc::Global;
+
+/// Why no configuration was taken.
+#[derive(Clone, Copy, Debug, PartialEq, Eq)]
+pub enum ConfNotTaken {
+    /// The first faulty line, of any kind but `Store` and `OutOfMemory`. A first file above
+    /// [`LONGEST_CONFIGURATION`](ldm_text::LONGEST_CONFIGURATION) bytes is `Long` at file 0, line 0.
+    Bad(ConfFault),
+    /// The file, or one that it includes, could not be read, and the store's count of faults rose.
+    Store,
+    /// There is no memory.
+    OutOfMemory,
+}
+
+/// The configuration that the file under the path means, with the files of the store that it includes.
+///
+/// The store is as before, but for the count of faults that rose with `Store`, or the count of long files that rose with `Long`. Where the
+/// store tells its files, each answer but want of memory is that of these files, unless the store failed: see `CompletesConf`.
+pub fn take_conf<F: Store>(alloc: Global, store: &mut F, path: &str) -> Result<Conf, ConfNotTaken>
+    ensures takes { TakesConf result path.now (F.tells store.old) (F.tells store.new) }
+    ensures completes { CompletesConf result path.now (F.tells store.old) (F.tells store.new) }
+    ensures faults_kept { (F.tells store.old).faults ≤ (F.tells store.new).faults }
+    ensures long_kept { (F.tells store.old).long ≤ (F.tells store.new).long }
+    ensures paths_kept { (F.tells store.new).paths ≡ (F.tells store.old).paths }
+{
+    match store.read_file(alloc, path, LONGEST_CONFIGURATION as u64) {
+        FileRead::Bytes(bytes) => read_text(alloc, store, bytes.as_slice()),
+        FileRead::TooLong => Err(ConfNotTaken::Bad(first_too_long())),
+        FileRead::Failed => Err(ConfNotTaken::Store),
+        FileRead::OutOfMemory => Err(ConfNotTaken::OutOfMemory),
+    }
+}
+
+// The configuration that the bytes of a file mean.
+fn read_text<F: Store>(alloc: Global, store: &mut F, bytes: &[u8]) -> Result<Conf, ConfNotTaken>
+    requires { length bytes.now ≤ LONGEST_CONFIGURATION }
+    ensures reads { ReadsText result bytes.now (F.tells store.old) (F.tells store.new) }
+{
+    match read_conf(alloc, bytes, store) {
+        Ok(conf) => Ok(conf),
+        Err(fault) => Err(not_taken(fault)),
+    }
+}
+
+// Why no configuration was taken, by the fault of the lines.
+fn not_taken(fault: ConfFault) -> ConfNotTaken
+    ensures { result ≡ not_taken fault }
+{
+    match fault.kind {
+        ConfKind::Store => ConfNotTaken::Store,
+        ConfKind::OutOfMemory => ConfNotTaken::OutOfMemory,
+        _ => ConfNotTaken::Bad(fault),
+    }
+}
+
+// The fault of a first file that is too long.
+fn first_too_long() -> ConfFault
+    ensures { result ≡ first_too_long }
+{
+    ConfFault {
+        file: 0,
+        line: 0,
+        kind: ConfKind::Long,
+    }
+}
+
+/// The status of a command that took no configuration.
+pub fn status_of_conf(why: ConfNotTaken) -> Status
+    ensures { result ≡ status_of_conf why }
+{
+    match why {
+        ConfNotTaken::Bad(fault) => Status::BadConf {
+            file: fault.file,
+            line: fault.line,
+            kind: u32::from(fault.kind.number()),
+        },
+        ConfNotTaken::Store => Status::StoreFault,
+        ConfNotTaken::OutOfMemory => Status::NoMemory,
+    }
+}

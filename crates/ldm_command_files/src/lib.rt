@@ -1,0 +1,8 @@
+//! The configuration files that a command of the program reads, each under its path in a store.
+#![tactic(auto)]
+
+mod conf_file;
+mod pqact_file;
+
+pub use conf_file::{ConfNotTaken, status_of_conf, take_conf};
+pub use pqact_file::{EntriesNotTaken, status_of_entries, take_entries};

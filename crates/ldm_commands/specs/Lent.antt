@@ -1,0 +1,86 @@
+-- What each command is told by the form of its words, and what it is lent of a world.
+use Rattle.ldm_outside.specs.Dial.{Asked}
+use Rattle.ldm_conf.specs.Addresses.{Address}
+use Rattle.ldm_chain_command.specs.Work.{ChainOutside, ChainWork}
+use Rattle.ldm_node_command.specs.Outside as node_command
+use Rattle.ldm_node_command.specs.Setup.{Setup}
+use Rattle.ldm_notifyme.specs.Notifyme.{Wanted}
+use Rattle.ldm_pqact_command.specs.PqactRuns.{Order, PqactLent, pqact_lent}
+use Rattle.ldm_pqcat.specs.Cats.{CatLent, cat_lent}
+use Rattle.ldm_pqinsert.specs.Inserting.{Inserting}
+use Rattle.ldm_pqinsert.specs.Inserts.{InsertRecord}
+use Rattle.ldm_tools.specs.Mon.{MonRecord}
+use Rattle.ldm_words.specs.Forms.{ActForm, ChainForm, InsertForm, NodeForm, ReceivingForm}
+use Rattle.ldm_commands.specs.World.{Tells, WorldView, streams_of}
+
+-- ---- what it is told
+
+abbrev pub asked_of : Address → Asked
+asked_of peer = record { host = peer.host; port = peer.port }
+
+abbrev pub wanted_of : ReceivingForm → Wanted
+wanted_of receiving = record { peer = asked_of receiving.peer; class = receiving.class; count = receiving.count }
+
+abbrev pub inserting_of : InsertForm → Inserting
+inserting_of insert = record {
+  peer = asked_of insert.peer;
+  feed = insert.feed;
+  origin = insert.origin;
+  ident = insert.ident;
+  sign_ident = insert.sign_ident;
+  files = insert.files;
+}
+
+abbrev pub work_of : ChainForm → ChainWork
+work_of chain = record {
+  arena = chain.arena;
+  slots = chain.slots;
+  max_hereis = chain.max_hereis;
+  conf = chain.conf;
+  classes = chain.classes;
+}
+
+abbrev pub order_by : ActForm → Order
+order_by act = record { peer = asked_of act.peer; class = act.class; count = act.count }
+
+abbrev pub setup_of : NodeForm → Setup
+setup_of node = record {
+  arena = node.arena;
+  slots = node.slots;
+  workers = node.workers;
+  sessions = node.sessions;
+  idles = node.idles;
+  path = node.conf;
+}
+
+-- ---- what it is lent
+
+module _ {K F L T : Type 0} where
+  abbrev pub cat_of : WorldView K F L T → CatLent K
+  cat_of world = cat_lent world.net world.sink world.log world.clock
+
+  abbrev pub act_of : WorldView K F L T → PqactLent F L
+  act_of world = pqact_lent world.net world.store world.launcher world.log world.clock
+
+module _ {K F L T : Type 0} (tells : Tells K F L T) where
+  abbrev pub chain_of : WorldView K F L T → ChainOutside
+  chain_of world = record { streams = streams_of tells world; clock = world.clock; store = tells.store world.store }
+
+  abbrev pub mon_of : WorldView K F L T → MonRecord
+  mon_of world = record { net = world.net; sink = tells.sink world.sink; log = world.log }
+
+  abbrev pub insert_of : WorldView K F L T → InsertRecord
+  insert_of world = record {
+    outside = record { store = tells.store world.store; net = world.net; sink = tells.sink world.sink; clock = world.clock };
+    log = world.log;
+  }
+
+  abbrev pub node_of : WorldView K F L T → node_command.Outside T
+  node_of world = record {
+    sink = tells.sink world.sink;
+    log = world.log;
+    store = tells.store world.store;
+    launcher = tells.launcher world.launcher;
+    net = world.net;
+    kept = world.kept;
+  }

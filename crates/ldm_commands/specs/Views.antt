@@ -1,0 +1,25 @@
+-- What a `Command` of the code stands for.
+use Rattle.std.specs.Prelude.{◌≤◌}
+use Rattle.ldm_conf.specs.AddressViews.{address_view}
+use Rattle.ldm_words.specs.Views.{act_view, chain_view, insert_view, node_view, receiving_view}
+use Rattle.ldm_commands.specs.declared.command.Command.{Command}
+use Rattle.ldm_commands.specs.declared.command.Command.TheVariants as command
+use Rattle.ldm_commands.specs.Command.{Form}
+use Rattle.ldm_commands.specs.Command as form
+
+abbrev pub form_of : Command → Form
+form_of (command.Play arena slots) = form.Play arena slots
+form_of (command.Crowd arena slots workers) = form.Crowd arena slots workers
+form_of (command.Exercise number count) = form.Exercise number count
+form_of (command.Chain words) = form.Chain (chain_view words)
+form_of (command.Node words) = form.Node (node_view words)
+form_of (command.Pqact words) = form.Pqact (act_view words)
+form_of (command.Pqinsert words) = form.Pqinsert (insert_view words)
+form_of (command.Pqcat words) = form.Pqcat (receiving_view words)
+form_of (command.Notifyme words) = form.Notifyme (receiving_view words)
+form_of (command.Pqmon peer) = form.Pqmon (address_view peer)
+
+-- what is said by a form is what its command can be called with
+abbrev pub IsWithin : Form → Type 0
+IsWithin (form.Exercise number count) = count ≤ 1000000
+IsWithin _ = Unit {0}

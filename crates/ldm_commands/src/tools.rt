@@ -1,0 +1,152 @@
+//! The tools that ask a node over a link.
+ghost use Rattle.std.specs.Prelude.{◌≡◌, false};
+ghost use Rattle.ldm_conf.specs.AddressViews.{address_view};
+ghost use Rattle.ldm_outside.specs.Station.{station_tells};
+ghost use Rattle.ldm_words.specs.Views.{act_view, insert_view, receiving_view};
+ghost use Rattle.ldm_commands.specs.Command as form;
+ghost use Rattle.ldm_commands.specs.Doing.{Done};
+ghost use Rattle.ldm_commands.specs.World.{tells_of, world_view};
+
+use crate::world::World;
+use ldm_conf::Address;
+use ldm_notifyme::notifyme;
+use ldm_outside::{Clock, Launcher, Net, Sink, Source, Store};
+use ldm_pqact_command::pqact;
+use ldm_pqcat::pqcat;
+use ldm_pqinsert::{Insertion, pqinsert};
+use ldm_tools::pqmon;
+use ldm_words::{ActWords, InsertWords, ReceivingWords};
+use std::alloc::Global;
+use std::sync::Wait;
+
+/// Writes the figures of a node's queue.
+pub(crate) fn tell_figures<S: Source, K: Sink, E: Sink, C: Clock, F: Store, L: Launcher, N: Net>(
+    alloc: Global,
+    peer: &Address,
+    world: &mut World<S, K, E, C, F, L, N>,
+) -> u8
+    requires { (N.tells world.old.net).links.out ≡ false }
+    ensures { let tells = tells_of K.tells F.tells L.tells (station_tells N.StationDoor.tells N.StationDial.tells N.StationLog.tells N.StationClock.tells N.StationGate.tells) in
+        Done tells (form.Pqmon (address_view peer.now)) result (world_view S.tells E.tells C.tells N.tells N.kept world.old) (world_view S.tells E.tells C.tells N.tells N.kept world.new) }
+{
+    pqmon(
+        alloc,
+        &mut world.net,
+        &mut world.streams.sink,
+        &mut world.streams.log,
+        peer.host.as_slice(),
+        peer.port,
+    )
+}
+
+/// Acts on the products of a node.
+pub(crate) fn act_on_products<
+    H: Wait,
+    S: Source,
+    K: Sink,
+    E: Sink,
+    C: Clock,
+    F: Store,
+    L: Launcher,
+    N: Net,
+>(rt: &H, alloc: Global, words: &ActWords<'_>, world: &mut World<S, K, E, C, F, L, N>) -> u8
+    requires { (N.tells world.old.net).links.out ≡ false }
+    ensures { let tells = tells_of K.tells F.tells L.tells (station_tells N.StationDoor.tells N.StationDial.tells N.StationLog.tells N.StationClock.tells N.StationGate.tells) in
+        Done tells (form.Pqact (act_view words.now)) result (world_view S.tells E.tells C.tells N.tells N.kept world.old) (world_view S.tells E.tells C.tells N.tells N.kept world.new) }
+{
+    pqact(
+        rt,
+        alloc,
+        &mut world.net,
+        &mut world.store,
+        &mut world.launcher,
+        &mut world.streams.log,
+        &mut world.clock,
+        words.peer.host.as_slice(),
+        words.peer.port,
+        &words.class,
+        words.count,
+        words.conf,
+    )
+}
+
+/// Writes the bodies of the products of a node.
+pub(crate) fn write_bodies<
+    H: Wait,
+    S: Source,
+    K: Sink,
+    E: Sink,
+    C: Clock,
+    F: Store,
+    L: Launcher,
+    N: Net,
+>(rt: &H, alloc: Global, words: &ReceivingWords, world: &mut World<S, K, E, C, F, L, N>) -> u8
+    requires { (N.tells world.old.net).links.out ≡ false }
+    ensures { let tells = tells_of K.tells F.tells L.tells (station_tells N.StationDoor.tells N.StationDial.tells N.StationLog.tells N.StationClock.tells N.StationGate.tells) in
+        Done tells (form.Pqcat (receiving_view words.now)) result (world_view S.tells E.tells C.tells N.tells N.kept world.old) (world_view S.tells E.tells C.tells N.tells N.kept world.new) }
+{
+    pqcat(
+        rt,
+        alloc,
+        &mut world.net,
+        &mut world.streams.sink,
+        &mut world.streams.log,
+        &mut world.clock,
+        words.peer.host.as_slice(),
+        words.peer.port,
+        &words.class,
+        words.count,
+    )
+}
+
+/// Writes a line for each product of a node.
+pub(crate) fn tell_products<S: Source, K: Sink, E: Sink, C: Clock, F: Store, L: Launcher, N: Net>(
+    alloc: Global,
+    words: &ReceivingWords,
+    world: &mut World<S, K, E, C, F, L, N>,
+) -> u8
+    requires { (N.tells world.old.net).links.out ≡ false }
+    ensures { let tells = tells_of K.tells F.tells L.tells (station_tells N.StationDoor.tells N.StationDial.tells N.StationLog.tells N.StationClock.tells N.StationGate.tells) in
+        Done tells (form.Notifyme (receiving_view words.now)) result (world_view S.tells E.tells C.tells N.tells N.kept world.old) (world_view S.tells E.tells C.tells N.tells N.kept world.new) }
+{
+    notifyme(
+        alloc,
+        &mut world.net,
+        &mut world.streams.sink,
+        &mut world.streams.log,
+        words.peer.host.as_slice(),
+        words.peer.port,
+        &words.class,
+        words.count,
+    )
+}
+
+/// Puts files into the queue of a node.
+pub(crate) fn put_files<S: Source, K: Sink, E: Sink, C: Clock, F: Store, L: Launcher, N: Net>(
+    alloc: Global,
+    words: &InsertWords<'_>,
+    world: &mut World<S, K, E, C, F, L, N>,
+) -> u8
+    requires { (N.tells world.old.net).links.out ≡ false }
+    ensures { let tells = tells_of K.tells F.tells L.tells (station_tells N.StationDoor.tells N.StationDial.tells N.StationLog.tells N.StationClock.tells N.StationGate.tells) in
+        Done tells (form.Pqinsert (insert_view words.now)) result (world_view S.tells E.tells C.tells N.tells N.kept world.old) (world_view S.tells E.tells C.tells N.tells N.kept world.new) }
+{
+    let insertion = Insertion {
+        host: words.peer.host.as_slice(),
+        port: words.peer.port,
+        feed: words.feed,
+        ident: words.ident,
+        origin: words.origin,
+        sign_ident: words.sign_ident,
+        files: words.files.as_slice(),
+    };
+    pqinsert(
+        alloc,
+        &mut world.store,
+        &mut world.net,
+        &mut world.streams.sink,
+        &mut world.streams.log,
+        &mut world.clock,
+        &insertion,
+    )
+}

@@ -1,0 +1,18 @@
+//! Everything outside the program.
+
+use ldm_status::Streams;
+
+/// What the program is lent: the streams of every command, and what only some commands use.
+#[derive(Drop)]
+pub struct World<S, K, E, C, F, L, N> {
+    /// Where input comes from, and where output and log lines go.
+    pub streams: Streams<S, K, E>,
+    /// The time: a [`Clock`](ldm_outside::Clock).
+    pub clock: C,
+    /// Files: a [`Store`](ldm_outside::Store).
+    pub store: F,
+    /// Programs: a [`Launcher`](ldm_outside::Launcher).
+    pub launcher: L,
+    /// Other nodes, and the stations of this one: a [`Net`](ldm_outside::Net).
+    pub net: N,
+}

@@ -1,0 +1,10 @@
+//! The example of ldm_words.
+
+use ldm_words::{WordsFault, read_pqmon};
+use std::alloc::Global;
+
+/// The port of the node that words ask.
+pub fn port_asked(alloc: Global, words: &[String]) -> Result<u16, WordsFault> {
+    let peer = read_pqmon(alloc, words)?;
+    Ok(peer.port)
+}

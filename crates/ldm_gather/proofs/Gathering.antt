@@ -1,0 +1,25 @@
+-- A gathering, piece by piece, to its end.
+use Rattle.std.proofs.Common.{◌∙◌, List, [], ◌∷◌, ◌++◌, refl, ap, subst, arith}
+use Rattle.ldm_shared.specs.Passes.{PassView, IsSamePass}
+use Rattle.ldm_downstream.specs.Pieces.{Piece}
+use Rattle.ldm_gather.specs.declared.end.Handled.{Handled}
+use Rattle.ldm_gather.specs.Gathering.{GoesOn, Steps}
+use Rattle.ldm_gather.specs.Scene.{KeepsCounts, Lent, Moment, Scene}
+
+pub same-then : (old mid new : PassView) → IsSamePass old mid → IsSamePass mid new → IsSamePass old new
+same-then old mid new first second = second ∙ ap (λ (pass : PassView). record pass { seen = new.seen }) first
+
+-- no count fell, twice
+pub counts-then : {W A B : Type 0} (a b c : Lent W A B) → KeepsCounts a b → KeepsCounts b c → KeepsCounts a c
+counts-then a b c first second = record {
+  link = omega (arith, first.link, second.link);
+  ends = omega (arith, first.ends, second.ends);
+  log = omega (arith, first.log, second.log);
+}
+
+module _ {W A B : Type 0} (handles : Handled → Scene W A B → Scene W A B → Type 0) where
+  -- one piece more
+  pub goes_on-then : (pieces : List Piece) (piece : Piece) (old mid new : Moment W A B) → GoesOn handles pieces old mid → Steps handles piece mid new
+      → GoesOn handles (pieces ++ piece ∷ []) old new
+  goes_on-then [] piece old mid new goes steps = (new, subst (λ (m : Moment W A B). Steps handles piece m new) goes steps, refl)
+  goes_on-then (first ∷ pieces) piece old mid new goes steps = (goes.0, goes.1, goes_on-then pieces piece goes.0 mid new goes.2 steps)

@@ -1,0 +1,7 @@
+pub mod Cursors
+mod Turning
+mod Gathering
+mod Ending
+mod Caused
+mod Lasting
+mod Completing

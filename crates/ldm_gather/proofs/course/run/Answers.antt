@@ -1,0 +1,46 @@
+use Rattle.std.proofs.Common.{◌∙◌, [], ◌∷◌, ◌++◌, ap}
+use Rattle.ldm_gather.specs.Scene.{Moment, lent_of, moment_of, scene_of}
+use Rattle.ldm_gather.proofs.Gathering.{counts-then, goes_on-then, same-then}
+use Rattle.ldm_gather.proofs.course.run.Goals as goal
+
+pub loop-preserved : goal.loop-preserved
+loop-preserved g c =
+    let lent = lent_of (scene_of c.args.handler.now c.args.first.now c.args.second.now c.args.pass.now (g.E.Sink.tells c.args.log.now)) (g.K.Link.tells c.args.link.now) (g.C.Clock.tells c.args.clock.now) in
+    let mid = lent_of (scene_of c.loop.handler c.loop.first c.loop.second c.loop.pass (g.E.Sink.tells c.loop.log)) (g.K.Link.tells c.loop.link) (g.C.Clock.tells c.loop.clock) in
+    let new = lent_of (scene_of c.turn.new.handler c.turn.new.first c.turn.new.second c.turn.new.pass (g.E.Sink.tells c.turn.new.log)) (g.K.Link.tells c.turn.new.link) (g.C.Clock.tells c.turn.new.clock) in
+    let goes = c.loop.invariant.goes in
+    let step = c.in-On.ensures.turns in
+    record {
+      goes = (
+        goes.0 ++ step.0 ∷ [],
+        goes_on-then g.W.Handler.handles goes.0 step.0 (moment_of c.args.receiver.now lent) (moment_of c.loop.receiver mid) (moment_of c.turn.new.receiver new) goes.1 step.1,
+      );
+      counts = counts-then lent mid new c.loop.invariant.counts c.in-On.ensures.counts;
+      same = same-then c.args.pass.now c.loop.pass c.turn.new.pass c.loop.invariant.same c.in-On.ensures.kept;
+      not_closed = c.in-On.ensures.still_open;
+      live = step.1.live;
+      ready = c.in-On.ensures.ready;
+      room = c.in-On.ensures.room;
+      has_cursor = c.in-On.ensures.still_has_cursor;
+      may = c.in-On.ensures.may_again;
+    }
+
+pub returns-in-AtEnd-clause-runs : goal.returns-in-AtEnd-clause-runs
+returns-in-AtEnd-clause-runs g c = record {
+  pieces = c.loop.invariant.goes.0;
+  last = moment_of c.loop.receiver (lent_of (scene_of c.loop.handler c.loop.first c.loop.second c.loop.pass (g.E.Sink.tells c.loop.log)) (g.K.Link.tells c.loop.link) (g.C.Clock.tells c.loop.clock));
+  goes_on = c.loop.invariant.goes.1;
+  is_at_end = c.in-AtEnd.ensures.turns;
+}
+
+pub returns-in-Over-clause-runs : goal.returns-in-Over-clause-runs
+returns-in-Over-clause-runs g c = record {
+  pieces = c.loop.invariant.goes.0;
+  last = moment_of c.loop.receiver (lent_of (scene_of c.loop.handler c.loop.first c.loop.second c.loop.pass (g.E.Sink.tells c.loop.log)) (g.K.Link.tells c.loop.link) (g.C.Clock.tells c.loop.clock));
+  goes_on = c.loop.invariant.goes.1;
+  ends = c.in-Over.ensures.turns;
+}
+
+pub returns-in-AtEnd-clause-live : goal.returns-in-AtEnd-clause-live
+returns-in-AtEnd-clause-live g c =
+    ap (λ (m : Moment g.row.W.Denot g.row.A.Denot g.row.B.Denot). m.receiver.end) c.in-AtEnd.ensures.turns.others ∙ c.loop.invariant.live

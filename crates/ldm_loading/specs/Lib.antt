@@ -1,0 +1,4 @@
+pub mod WholeScript
+pub mod Script
+pub mod Putting
+pub mod Steps

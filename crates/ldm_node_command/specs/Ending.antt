@@ -1,0 +1,49 @@
+-- How the command `node` ends, its log apart.
+use Rattle.std.specs.Prelude.{◌≡◌, ℕ, List, Some, Result, Ok, Err}
+use Rattle.ldm_outside.specs.Count.{Rose}
+use Rattle.ldm_outside.specs.Station.{StationRecord}
+use Rattle.ldm_outside.specs.Store.{File, StoreRecord}
+use Rattle.ldm_conf.specs.Confs.{ConfView}
+use Rattle.ldm_conf.specs.Reading.{Read}
+use Rattle.ldm_shared.specs.Limits.{IsFaultOf}
+use Rattle.ldm_command_files.specs.declared.conf_file.ConfNotTaken.{ConfNotTaken}
+use Rattle.ldm_command_files.specs.ConfFiles.{CompletesConf, FileReadsTo, TakesConf}
+use Rattle.ldm_node_command.specs.declared.ending.NodeFault.{NodeFault}
+use Rattle.ldm_node_command.specs.declared.ending.NodeFault.TheVariants.{NotTaken, NotMade, NotStarted}
+use Rattle.ldm_node_command.specs.declared.ending.Ran.{Ran}
+use Rattle.ldm_node_command.specs.Commands.{StopsStarting}
+use Rattle.ldm_node_command.specs.Node.{RunsNode}
+use Rattle.ldm_node_command.specs.Outside.{IsIdle, Outside}
+use Rattle.ldm_node_command.specs.Setup.{IsGoodSize, Setup, passes_for}
+
+-- This configuration was taken. Where the store tells its files and did not fail, they mean no other.
+pub record Takes (conf : ConfView) (path : List ℕ) (old new : StoreRecord) : Type 0 where
+  pub reads : FileReadsTo old path (Read conf)
+  pub same : new ≡ old
+  pub sole : (files : List File) (other : ConfView) → old.files ≡ Some files → FileReadsTo old path (Read other) → ¬ (Rose old.faults new.faults) → other ≡ conf
+
+-- No configuration was taken, for this cause. Where the store tells its files and did not fail, it is that of these files.
+pub record TakesNone (why : ConfNotTaken) (path : List ℕ) (old new : StoreRecord) : Type 0 where
+  pub takes : TakesConf (Err why) path old new
+  pub completes : CompletesConf (Err why) path old new
+
+module _ {S : Type 0} where
+  -- Why no node was run, and what was done then.
+  abbrev pub StaysIdle : NodeFault → Setup → Outside S → Outside S → Type 0
+  -- no configuration was taken, and no command was started
+  StaysIdle (NotTaken why) setup old new = TakesNone why setup.path old.store new.store × (new.launcher ≡ old.launcher)
+  -- there is no such queue or no memory for it, and no command was started
+  StaysIdle (NotMade fault) setup old new =
+      (conf : ConfView) × Takes conf setup.path old.store new.store × IsFaultOf setup.arena setup.slots (passes_for setup conf) fault
+      × (new.launcher ≡ old.launcher)
+  -- not all commands were started
+  StaysIdle (NotStarted why) setup old new =
+      (conf : ConfView) × Takes conf setup.path old.store new.store × IsGoodSize setup conf
+      × StopsStarting why conf.commands old.launcher new.launcher
+
+module _ {S : Type 0} (tells : S → StationRecord) where
+  abbrev pub NodeEnds : Result Ran NodeFault → Setup → Outside S → Outside S → Type 0
+  -- a node was run
+  NodeEnds (Ok ran) setup old new = (conf : ConfView) × Takes conf setup.path old.store new.store × RunsNode tells ran setup conf old new
+  -- none was
+  NodeEnds (Err why) setup old new = StaysIdle why setup old new × IsIdle old new

@@ -1,0 +1,10 @@
+pub mod Setup
+pub mod Outside
+pub mod Commands
+pub mod Node
+pub mod Ending
+pub mod Statuses
+pub mod Run
+pub mod Law
+pub mod Complete
+pub mod Told

@@ -1,0 +1,165 @@
+//! `ldm node`: a node, from its configuration to the line of its queue.
+ghost use Rattle.std.specs.Prelude.{◌≡◌, ◌+◌, ◌≤◌, List, length, map, IfOk, IfErr};
+ghost use Rattle.std.specs.List.{range_with_len};
+ghost use Rattle.ldm_outside.specs.Io.{SinkRecord};
+ghost use Rattle.ldm_outside.specs.Station.{station_tells};
+ghost use Rattle.ldm_model.specs.declared.event.Entry.{Entry};
+ghost use Rattle.ldm_model.specs.History.{after};
+ghost use Rattle.ldm_book.specs.Stands.{StandsFor};
+ghost use Rattle.ldm_shared.specs.Limits.{IsFaultOf};
+ghost use Rattle.ldm_shared.specs.Passes.{new_pass};
+ghost use Rattle.ldm_conf.specs.Confs.{conf_view};
+ghost use Rattle.ldm_node_command.specs.Complete.{NodeCompletes};
+ghost use Rattle.ldm_node_command.specs.Ending.{NodeEnds};
+ghost use Rattle.ldm_node_command.specs.Law.{ObeysNodeLaw};
+ghost use Rattle.ldm_node_command.specs.Node.{IsMade, Works};
+ghost use Rattle.ldm_node_command.specs.Outside.{KeepsFaults};
+ghost use Rattle.ldm_node_command.specs.Run.{NodeRuns};
+ghost use Rattle.ldm_node_command.specs.Setup.{IsGoodSize, passes_for, setup_of};
+ghost use Rattle.ldm_node_command.specs.Told.{TellsCommands};
+
+use crate::commands::{start_commands, wait_for_commands};
+use crate::ending::{NodeFault, Ran};
+use crate::passes::count_passes;
+use crate::setup::NodeSetup;
+use crate::stat_line::write_stat;
+use crate::statuses::report;
+use ldm_book::Book;
+use ldm_command_files::take_conf;
+use ldm_conf::Conf;
+use ldm_node::{NodeEnd, node};
+use ldm_outside::{Dial, Door, Launcher, Net, Sink, Store};
+use ldm_shared::{CreateFault, Pass, Shared};
+use ldm_worker_log::NodeStop;
+use std::alloc::Global;
+use std::sync::Wait;
+use std::thread::Threads;
+
+/// Runs a node: takes its configuration, makes its queue, starts the commands of the configuration, and has the workers of the node do their
+/// work until all have stopped. Then the net keeps the stations, the commands are waited for, and the line of the queue is written to the
+/// sink. Answers the number that the program ends with, and writes its line to the log.
+///
+/// Each step comes only where all before it went well, but what comes behind the workers' work comes at each of its ends. Where a command
+/// cannot be started, those before it run on, and nobody waits for them. The clause `ends` gives each status its cause, and what was done
+/// then: see `NodeEnds`. Where the log of a worker failed the number is [`LOG_FAULT`](ldm_status::LOG_FAULT), and no line is written to the
+/// log. The clause `commands` says which children a launcher tells that tells any.
+pub fn run_node<H: Threads + Wait + Sync, K: Sink, E: Sink, F: Store, L: Launcher, N: Net>(
+    rt: &H,
+    alloc: Global,
+    setup: &NodeSetup<'_>,
+    sink: &mut K,
+    log: &mut E,
+    store: &mut F,
+    launcher: &mut L,
+    net: &mut N,
+) -> u8
+where
+    <N::StationDoor as Door>::Link: Send,
+    <N::StationDial as Dial>::Link: Send,
+    ensures ends { NodeRuns (station_tells N.StationDoor.tells N.StationDial.tells N.StationLog.tells N.StationClock.tells N.StationGate.tells)
+        (setup_of setup.now) result
+        (record { sink = K.tells sink.old; log = E.tells log.old; store = F.tells store.old; launcher = L.tells launcher.old; net = N.tells net.old; kept = N.kept net.old })
+        (record { sink = K.tells sink.new; log = E.tells log.new; store = F.tells store.new; launcher = L.tells launcher.new; net = N.tells net.new; kept = N.kept net.new }) }
+    ensures law { ObeysNodeLaw (station_tells N.StationDoor.tells N.StationDial.tells N.StationLog.tells N.StationClock.tells N.StationGate.tells)
+        (setup_of setup.now)
+        (record { sink = K.tells sink.old; log = E.tells log.old; store = F.tells store.old; launcher = L.tells launcher.old; net = N.tells net.old; kept = N.kept net.old })
+        (record { sink = K.tells sink.new; log = E.tells log.new; store = F.tells store.new; launcher = L.tells launcher.new; net = N.tells net.new; kept = N.kept net.new }) }
+    ensures completes { NodeCompletes (station_tells N.StationDoor.tells N.StationDial.tells N.StationLog.tells N.StationClock.tells N.StationGate.tells)
+        (setup_of setup.now) result
+        (record { sink = K.tells sink.old; log = E.tells log.old; store = F.tells store.old; launcher = L.tells launcher.old; net = N.tells net.old; kept = N.kept net.old })
+        (record { sink = K.tells sink.new; log = E.tells log.new; store = F.tells store.new; launcher = L.tells launcher.new; net = N.tells net.new; kept = N.kept net.new }) }
+    ensures commands { TellsCommands (setup_of setup.now) result
+        (record { sink = K.tells sink.old; log = E.tells log.old; store = F.tells store.old; launcher = L.tells launcher.old; net = N.tells net.old; kept = N.kept net.old })
+        (record { sink = K.tells sink.new; log = E.tells log.new; store = F.tells store.new; launcher = L.tells launcher.new; net = N.tells net.new; kept = N.kept net.new }) }
+    ensures faults_kept { KeepsFaults
+        (record { sink = K.tells sink.old; log = E.tells log.old; store = F.tells store.old; launcher = L.tells launcher.old; net = N.tells net.old; kept = N.kept net.old })
+        (record { sink = K.tells sink.new; log = E.tells log.new; store = F.tells store.new; launcher = L.tells launcher.new; net = N.tells net.new; kept = N.kept net.new }) }
+{
+    let ending = run(rt, alloc, setup, sink, store, launcher, net);
+    report(ending, log)
+}
+
+// Takes the configuration, makes the queue, starts the commands, and runs the node.
+fn run<H: Threads + Wait + Sync, K: Sink, F: Store, L: Launcher, N: Net>(
+    rt: &H,
+    alloc: Global,
+    setup: &NodeSetup<'_>,
+    sink: &mut K,
+    store: &mut F,
+    launcher: &mut L,
+    net: &mut N,
+) -> Result<Ran, NodeFault>
+where
+    <N::StationDoor as Door>::Link: Send,
+    <N::StationDial as Dial>::Link: Send,
+    ensures ends { (log_before log_after : SinkRecord) →
+        NodeEnds (station_tells N.StationDoor.tells N.StationDial.tells N.StationLog.tells N.StationClock.tells N.StationGate.tells) result
+        (setup_of setup.now)
+        (record { sink = K.tells sink.old; log = log_before; store = F.tells store.old; launcher = L.tells launcher.old; net = N.tells net.old; kept = N.kept net.old })
+        (record { sink = K.tells sink.new; log = log_after; store = F.tells store.new; launcher = L.tells launcher.new; net = N.tells net.new; kept = N.kept net.new }) }
+    ensures sink_kept { (K.tells sink.old).faults ≤ (K.tells sink.new).faults }
+    ensures store_kept { (F.tells store.old).faults ≤ (F.tells store.new).faults }
+    ensures long_kept { (F.tells store.old).long ≤ (F.tells store.new).long }
+    ensures launcher_kept { (L.tells launcher.old).faults ≤ (L.tells launcher.new).faults }
+    ensures net_kept { (N.tells net.old).faults ≤ (N.tells net.new).faults }
+{
+    let conf = take_conf(alloc, store, setup.conf)?;
+    let (shared, passes) = make_queue(alloc, setup, &conf)?;
+    let children = start_commands(alloc, launcher, conf.commands.as_slice())?;
+    let (stop, mut book) = man(rt, alloc, setup, conf, shared, passes, net);
+    let waited = wait_for_commands(launcher, children.as_slice());
+    let written = write_stat(&mut book, sink);
+    Ok(Ran {
+        stop,
+        waited,
+        written,
+    })
+}
+
+// Makes the queue of a node, with all its passes.
+fn make_queue(
+    alloc: Global,
+    setup: &NodeSetup<'_>,
+    conf: &Conf,
+) -> Result<(Shared, Vec<Pass>), CreateFault>
+    ensures made { IfOk result (λ made. IsMade (setup_of setup.now) (conf_view conf.now) made.0) }
+    ensures passes { IfOk result (λ made. made.1.items ≡ map (new_pass made.0) (range_with_len 0 made.0.passes)) }
+    ensures count { IfOk result (λ made. made.0.passes ≡ setup.now.options.workers + length conf.now.requests.items + 1) }
+    ensures good { IfOk result (λ _. IsGoodSize (setup_of setup.now) (conf_view conf.now)) }
+    ensures fault { IfErr result (IsFaultOf setup.now.arena setup.now.slots (passes_for (setup_of setup.now) (conf_view conf.now))) }
+{
+    let passes = count_passes(setup.options.workers, conf.requests.len());
+    Shared::create(alloc, setup.arena, setup.slots, passes)
+}
+
+// Runs the node on its queue, and has the net keep the stations. Answers why it stopped, and the queue as all calls left it.
+fn man<H: Threads + Wait + Sync, N: Net>(
+    rt: &H,
+    alloc: Global,
+    setup: &NodeSetup<'_>,
+    conf: Conf,
+    shared: Shared,
+    passes: Vec<Pass>,
+    net: &mut N,
+) -> (NodeStop, Book)
+where
+    <N::StationDoor as Door>::Link: Send,
+    <N::StationDial as Dial>::Link: Send,
+    requires made { IsMade (setup_of setup.now) (conf_view conf) shared }
+    requires passes { passes.items ≡ map (new_pass shared) (range_with_len 0 shared.passes) }
+    requires count { shared.passes ≡ setup.now.options.workers + length conf.requests.items + 1 }
+    ensures works { (history : List Entry)
+        × Works (station_tells N.StationDoor.tells N.StationDial.tells N.StationLog.tells N.StationClock.tells N.StationGate.tells) result.0
+        (setup_of setup.now) (conf_view conf) history (N.tells net.old) (N.tells net.new) (N.kept net.new)
+        × StandsFor result.1 (after setup.now.arena setup.now.slots history) }
+    ensures net_kept { (N.tells net.old).faults ≤ (N.tells net.new).faults }
+{
+    let NodeEnd {
+        book,
+        stations,
+        end,
+        ..
+    } = node(rt, alloc, conf, shared, passes, net, &setup.options);
+    net.keep(stations);
+    (end, book)
+}

@@ -1,0 +1,16 @@
+//! What a node is set up with.
+
+use ldm_node::NodeOptions;
+
+/// What the words of a command line say of a node.
+#[derive(Clone, Copy)]
+pub struct NodeSetup<'a> {
+    /// Bytes of the arena.
+    pub arena: u64,
+    /// Product slots.
+    pub slots: u32,
+    /// What the node is told besides its configuration.
+    pub options: NodeOptions,
+    /// The path of its configuration.
+    pub conf: &'a str,
+}

@@ -1,0 +1,25 @@
+//! The last line of a node: how full its queue is.
+ghost use Rattle.std.specs.Prelude.{◌≤◌};
+ghost use Rattle.ldm_outside.specs.Io.{WritesAll};
+ghost use Rattle.ldm_model.specs.State.{State};
+ghost use Rattle.ldm_model.specs.Stat.{stat as stat_of};
+ghost use Rattle.ldm_book.specs.Stands.{StandsFor};
+ghost use Rattle.ldm_script.specs.Answer.{answer_line};
+
+use ldm_book::Book;
+use ldm_outside::{Sink, SinkFailed, write_all};
+use ldm_script::{Answer, Text, write_answer};
+use ldm_types::Actor;
+
+/// Writes how full the queue is: `stat ADMITTED QUEUED HELD USED LARGEST`.
+pub(crate) fn write_stat<K: Sink>(book: &mut Book, sink: &mut K) -> Result<(), SinkFailed>
+    ensures written { (s : State) → StandsFor book.old s → WritesAll result (answer_line (stat_of s).reply) (K.tells sink.old) (K.tells sink.new) }
+    ensures faults_kept { (K.tells sink.old).faults ≤ (K.tells sink.new).faults }
+{
+    let Some(actor) = Actor::new(0) else {
+        unreachable!()
+    };
+    let mut line = Text::new();
+    write_answer(&Answer::from(book.stat(actor)), &mut line);
+    write_all(sink, line.as_slice())
+}

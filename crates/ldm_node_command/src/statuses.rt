@@ -1,0 +1,75 @@
+//! The statuses of the ends of a node.
+ghost use Rattle.std.specs.Prelude.{◌≡◌, ◌≤◌};
+ghost use Rattle.ldm_node_command.specs.Statuses.{Tells, status_behind, status_of_fault, status_of_node, status_of_queue};
+
+use crate::commands::StartFault;
+use crate::ending::{NodeFault, Ran};
+use ldm_command_files::status_of_conf;
+use ldm_outside::{Failed, Sink, SinkFailed};
+use ldm_shared::CreateFault;
+use ldm_status::{LOG_FAULT, Status};
+use ldm_worker_log::NodeStop;
+
+/// Writes the line of an ending to the log, and answers the number that the program ends with. Where the log of a worker failed there is no
+/// line, and the number is [`LOG_FAULT`].
+pub(crate) fn report<E: Sink>(ending: Result<Ran, NodeFault>, log: &mut E) -> u8
+    ensures tells { Tells (status_of_node ending) result (E.tells log.old) (E.tells log.new) }
+    ensures faults_kept { (E.tells log.old).faults ≤ (E.tells log.new).faults }
+{
+    match status_of(ending) {
+        Some(status) => status.report(log),
+        None => LOG_FAULT,
+    }
+}
+
+// The status of an ending. Where the log of a worker failed there is none.
+fn status_of(ending: Result<Ran, NodeFault>) -> Option<Status>
+    ensures { result ≡ status_of_node ending }
+{
+    let ran = match ending {
+        Ok(ran) => ran,
+        Err(why) => return Some(status_of_fault(why)),
+    };
+    match ran.stop {
+        NodeStop::Done => Some(status_behind(ran.waited, ran.written)),
+        NodeStop::NetFault => Some(Status::NetFault),
+        NodeStop::LogFault => None,
+        NodeStop::Worn => Some(Status::Worn),
+        NodeStop::OutOfMemory => Some(Status::NoMemory),
+    }
+}
+
+// The status of a node that is done, by what came behind it.
+fn status_behind(waited: Result<(), Failed>, written: Result<(), SinkFailed>) -> Status
+    ensures { result ≡ status_behind waited written }
+{
+    match (waited, written) {
+        (Ok(()), Ok(())) => Status::Done,
+        (Ok(()), Err(SinkFailed)) => Status::SinkFault,
+        (Err(Failed), _) => Status::ChildFault,
+    }
+}
+
+// The status where no node was run.
+fn status_of_fault(why: NodeFault) -> Status
+    ensures { result ≡ status_of_fault why }
+{
+    match why {
+        NodeFault::NotTaken(why) => status_of_conf(why),
+        NodeFault::NotMade(fault) => status_of_queue(fault),
+        NodeFault::NotStarted(StartFault::Failed) => Status::ChildFault,
+        NodeFault::NotStarted(StartFault::OutOfMemory) => Status::NoMemory,
+    }
+}
+
+// The status where no queue was made.
+fn status_of_queue(fault: CreateFault) -> Status
+    ensures { result ≡ status_of_queue fault }
+{
+    match fault {
+        CreateFault::BadArena { arena } => Status::RefusedArena(arena),
+        CreateFault::BadSlots { slots } => Status::RefusedSlots(slots),
+        CreateFault::BadPasses { passes } => Status::RefusedPasses(passes),
+        CreateFault::OutOfMemory => Status::NoMemory,
+    }
+}

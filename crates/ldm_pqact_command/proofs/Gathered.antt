@@ -1,0 +1,371 @@
+-- What a whole gathering came to: piece by piece.
+use Rattle.std.proofs.Common.{◌≡◌, ◌∙◌, ℕ, false, List, [], ◌∷◌, ◌++◌, map, Option, Some, None, inl, inr, ◌⊎◌, refl, sym, ap, subst}
+use Rattle.std.specs.List.{flat_map}
+use Rattle.std.proofs.lemmas.List.{append-nil, map-append}
+use Rattle.std.proofs.lemmas.List.Concat.{flat_map-append}
+use Rattle.ldm_model.specs.declared.event.Event.{Event}
+use Rattle.ldm_model.specs.declared.event.Event.TheVariants as event
+use Rattle.ldm_model.specs.declared.event.Reply.{Reply}
+use Rattle.ldm_model.specs.declared.event.Reply.TheVariants as reply
+use Rattle.ldm_model.specs.declared.event.Entry.{Entry}
+use Rattle.ldm_model.specs.History.{after, IsLegal}
+use Rattle.ldm_model.specs.Product.{Product}
+use Rattle.ldm_outside.specs.Launcher.{LauncherRecord}
+use Rattle.ldm_outside.specs.Store.{StoreRecord}
+use Rattle.ldm_shared.specs.Passes.{PassView}
+use Rattle.ldm_shared.proofs.Made.{calls_none, calls_some, calls_trans}
+use Rattle.ldm_reader.specs.Staying.{HasRow}
+use Rattle.ldm_actions.specs.Effects.{Action}
+use Rattle.ldm_actions.specs.Outputs.{Standing}
+use Rattle.ldm_intake.specs.declared.end.RecvEnd.{RecvEnd}
+use Rattle.ldm_intake.specs.declared.end.RecvEnd.TheVariants.{Ended, Truncated, BadFrame, Refused, LinkFault, LogFault, StreamLimit, Worn, OutOfMemory}
+use Rattle.ldm_intake.specs.Receiving.{Receiving}
+use Rattle.ldm_intake.specs.TakesRecord.{stands}
+use Rattle.ldm_downstream.specs.Pieces.{Piece}
+use Rattle.ldm_downstream.specs.Pushing.{ClosesIf, EndsAt, PushesAt}
+use Rattle.ldm_downstream.specs.Received.{at_stream_end}
+use Rattle.ldm_downstream.specs.ReceiverView.{ReceiverView, before_stream}
+use Rattle.ldm_gather.specs.declared.end.GatherEnd.{GatherEnd}
+use Rattle.ldm_gather.specs.declared.end.GatherEnd.TheVariants as gather_end
+use Rattle.ldm_gather.specs.declared.end.Handled.{Handled}
+use Rattle.ldm_gather.specs.declared.end.Handled.TheVariants as handled
+use Rattle.ldm_gather.specs.Gathering.{Asks, BeginsNot, Comes, EndsBy, EndsStream, GathersAll, Gathers, GoesOn, TakesPiece}
+use Rattle.ldm_gather.specs.Quiet.{AreQuiet, CallsQuietly, IsQuiet}
+use Rattle.ldm_gather.specs.Scene.{Lent, Moment, Scene, moment_of}
+use Rattle.ldm_gather.proofs.Cursors.{closes-quiet, pushes-quiet}
+use Rattle.ldm_pqact.specs.declared.end.ActEnd.{ActEnd}
+use Rattle.ldm_pqact.specs.declared.end.ActEnd.TheVariants as end
+use Rattle.ldm_pqact.specs.Acting.{EndsSo, Sight, last_answer}
+use Rattle.ldm_pqact.specs.Carried.{Carries, Stands}
+use Rattle.ldm_pqact.specs.Turns.{Gave, Lost, Turn, deeds_of, products_in, turn_deeds, turn_reply}
+use Rattle.ldm_pqact.specs.Uses.{AreRows, AreUses, Uses, answer_by, step_answers}
+use Rattle.ldm_pqact.proofs.Carrying.{breaks_off_then, stands_none, stands_then}
+use Rattle.ldm_pqact.proofs.Coursing.{called_at, rows_then}
+use Rattle.ldm_pqact_conf.specs.Entries.{EntryView}
+use Rattle.ldm_pqact_command.specs.declared.stop.ActStop.{ActStop}
+use Rattle.ldm_pqact_command.specs.ActerView.{ActerView}
+use Rattle.ldm_pqact_command.specs.Course.{ActsAll, AreCallsOf, Gives, IsEndedBy, told, told_by}
+use Rattle.ldm_pqact_command.specs.Handling.{ActHandles, Follows, Tallies, standing_in}
+use Rattle.ldm_pqact_command.proofs.Carried.{Parts, parts_of}
+
+-- a product keeps its number, metadata, body and insertion time
+abbrev pub RowsStay : Type 0
+RowsStay =
+    (arena slots : ℕ) (front behind : List Entry) → IsLegal arena slots (front ++ behind) → (n : ℕ) (product : Product) (time : ℕ)
+    → HasRow n product time (after arena slots front) → HasRow n product time (after arena slots (front ++ behind))
+
+-- ---- calls and answers
+
+calls-append : (k : ℕ) (first second : List Entry) → AreCallsOf k first → AreCallsOf k second → AreCallsOf k (first ++ second)
+calls-append k [] second one two = two
+calls-append k (entry ∷ first) second one two = (one.0, calls-append k first second one.1 two)
+
+uses-calls : (k : ℕ) (called : List Entry) → AreUses k called → AreCallsOf k called
+uses-calls k [] uses = tt
+uses-calls k (entry ∷ called) uses = (inr (inl uses.0), uses-calls k called uses.1)
+
+quiet-calls : (k : ℕ) (made : List Entry) → AreQuiet made → AreCallsOf k made
+quiet-calls k [] quiet = tt
+quiet-calls k (entry ∷ made) quiet = (inl quiet.0, quiet-calls k made quiet.1)
+
+quiet-answer : (e : Event) (answer : Reply) → IsQuiet e → answer_by e answer ≡ []
+quiet-answer (event.Step at) answer quiet = absurd (cc quiet)
+quiet-answer _ answer quiet = refl
+
+quiet-answers : (made : List Entry) → AreQuiet made → step_answers made ≡ []
+quiet-answers [] quiet = refl
+quiet-answers (entry ∷ made) quiet =
+    ap (λ (xs : List Reply). xs ++ step_answers made) (quiet-answer entry.event entry.reply quiet.0) ∙ quiet-answers made quiet.1
+
+told-turn : (turn : Turn) → told_by (turn_reply turn) ≡ turn_reply turn ∷ []
+told-turn (Lost count first last) = refl
+told-turn (Gave given) = refl
+
+told-turns : (turns : List Turn) → told (map turn_reply turns) ≡ map turn_reply turns
+told-turns [] = refl
+told-turns (turn ∷ turns) =
+    ap (λ (xs : List Reply). xs ++ told (map turn_reply turns)) (told-turn turn) ∙ ap (λ (xs : List Reply). turn_reply turn ∷ xs) (told-turns turns)
+
+told-end : (turns : List Turn) (at : ℕ) → told (map turn_reply turns ++ reply.End at ∷ []) ≡ map turn_reply turns
+told-end turns at = flat_map-append told_by (map turn_reply turns) (reply.End at ∷ []) ∙ (append-nil (told (map turn_reply turns)) ∙ told-turns turns)
+
+told-none : (turns : List Turn) → told (map turn_reply turns ++ []) ≡ map turn_reply turns
+told-none turns = ap told (append-nil (map turn_reply turns)) ∙ told-turns turns
+
+told-last : (why : ActEnd) (turns : List Turn) (at : ℕ) → told (map turn_reply turns ++ last_answer why at) ≡ map turn_reply turns
+told-last end.Stopped turns at = told-end turns at
+told-last why turns at = told-none turns
+
+-- ---- what was given, one after another
+
+gives-quiet : (k : ℕ) (pass later : PassView) → CallsQuietly pass later → Gives k [] pass later
+gives-quiet k pass later quietly = record {
+  called = quietly.made;
+  calls = quietly.calls;
+  are_calls = quiet-calls k quietly.made quietly.quiet;
+  answered = ap told (quiet-answers quietly.made quietly.quiet);
+  rows = tt;
+}
+
+quiet-none : (pass after : PassView) → after ≡ pass → CallsQuietly pass after
+quiet-none pass after same = subst (λ (p : PassView). CallsQuietly pass p) (sym same) (record { made = []; calls = calls_none pass; quiet = tt })
+
+gives-then : (law : RowsStay) (k : ℕ) (first second : List Turn) (a b c : PassView) → Gives k first a b → Gives k second b c → Gives k (first ++ second) a c
+gives-then law k first second a b c one two = record {
+  called = one.called ++ two.called;
+  calls = calls_trans a b c one.called two.called one.calls two.calls;
+  are_calls = calls-append k one.called two.called one.are_calls two.are_calls;
+  answered =
+      ap told (flat_map-append (λ (entry : Entry). answer_by entry.event entry.reply) one.called two.called)
+      ∙ (flat_map-append told_by (step_answers one.called) (step_answers two.called)
+      ∙ (ap (λ (xs : List Reply). xs ++ told (step_answers two.called)) one.answered ∙ (ap (λ (xs : List Reply). map turn_reply first ++ xs) two.answered
+      ∙ sym (map-append turn_reply first second))));
+  rows = rows_then law b c two.called first second two.calls one.rows two.rows;
+}
+
+gives-uses : (k : ℕ) (turns : List Turn) (answers : List Reply) (old new : PassView) → Uses k old new answers → told answers ≡ map turn_reply turns
+    → AreRows new (flat_map products_in turns) → Gives k turns old new
+gives-uses k turns answers old new uses is rows = record {
+  called = uses.called;
+  calls = uses.calls;
+  are_calls = uses-calls k uses.called uses.are_uses;
+  answered = ap told uses.answered ∙ is;
+  rows = rows;
+}
+
+-- it was asked how many products it was given
+gives-tally : (k given : ℕ) (old new : PassView) → Tallies k given old new → Gives k [] old new
+gives-tally k given old new tallies = record {
+  called = _;
+  calls = calls_some old new _ tallies.grows.makes;
+  are_calls = (inr (inr refl), tt);
+  answered = refl;
+  rows = tt;
+}
+
+gives-after : (answer : Handled) (ended : ActEnd) (k : ℕ) (count : Option ℕ) (why : Option ActStop) (old new : PassView) → Follows answer ended k count why old new
+    → Gives k [] old new
+gives-after handled.On ended k None why old new follows = gives-quiet k old new (quiet-none old new follows.2)
+gives-after handled.On ended k (Some count) why old new follows = gives-tally k follows.2.0 old new follows.2.2
+gives-after handled.Enough ended k None why old new follows = absurd follows.2
+gives-after handled.Enough ended k (Some count) why old new follows = gives-tally k follows.2.0 old new follows.2.2
+gives-after handled.Stopped ended k None why old new (inl worn) = absurd worn.2
+gives-after handled.Stopped ended k (Some count) why old new (inl worn) =
+    gives-quiet k old new (record { made = []; calls = calls_some old new [] worn.2.1.makes; quiet = tt })
+gives-after handled.Stopped ended k count why old new (inr stopped) = gives-quiet k old new (quiet-none old new stopped.3)
+
+-- ---- what was done, one after another
+
+carried_at : (why : ActEnd) (k : ℕ) (answers : List Reply) (deeds : List (Action × List ℕ)) (lines : List ℕ) (old new : Sight) → EndsSo why k answers deeds lines old new
+    → Carries why deeds old.standing new.standing
+carried_at end.Stopped k answers deeds lines old new ends = ends.0.carried
+carried_at why k answers deeds lines old new ends = ends.carried
+
+carries_then : (why : ActEnd) (first second : List (Action × List ℕ)) (a b c : Standing) → Stands first a b → Carries why second b c → Carries why (first ++ second) a c
+carries_then end.Stopped first second a b c one two = stands_then first second a b c one two
+carries_then why first second a b c one two = breaks_off_then why first second a b c one two
+
+module _ {F L : Type 0} (store_tells : F → StoreRecord) (launcher_tells : L → LauncherRecord) where
+  abbrev At : Type 0
+  At = Moment ActerView F L
+
+  abbrev Here : Type 0
+  Here = Scene ActerView F L
+
+  abbrev Does : Handled → Here → Here → Type 0
+  Does = ActHandles store_tells launcher_tells
+
+  abbrev in_hand : Parts ActerView F L → Standing
+  in_hand side = standing_in store_tells launcher_tells side.handler side.first side.second
+
+  -- Entries acted on the products of the cursor, up to such an end.
+  record Acted (why : ActEnd) (old new : Here) : Type 0 where
+    turns : List Turn
+    gives : Gives old.handler.k turns old.pass new.pass
+    carried : Carries why (deeds_of old.handler.entries turns) (in_hand (parts_of old)) (in_hand (parts_of new))
+    same_k : new.handler.k ≡ old.handler.k
+    same_entries : new.handler.entries ≡ old.handler.entries
+
+  acted_quiet : (old new : Here) → parts_of new ≡ parts_of old → CallsQuietly old.pass new.pass → Acted end.Stopped old new
+  acted_quiet old new same quietly = record {
+    turns = [];
+    gives = gives-quiet old.handler.k old.pass new.pass quietly;
+    carried = subst (λ (p : Parts ActerView F L). Stands [] (in_hand (parts_of old)) (in_hand p)) (sym same) (stands_none (in_hand (parts_of old)));
+    same_k = ap (λ (p : Parts ActerView F L). p.handler.k) same;
+    same_entries = ap (λ (p : Parts ActerView F L). p.handler.entries) same;
+  }
+
+  acted_then : (law : RowsStay) (why : ActEnd) (a b c : Here) → Acted end.Stopped a b → Acted why b c → Acted why a c
+  acted_then law why a b c one two =
+      let k = a.handler.k in
+      let entries = a.handler.entries in
+      let gives : Gives k two.turns b.pass c.pass = subst (λ (n : ℕ). Gives n two.turns b.pass c.pass) one.same_k two.gives in
+      let carried : Carries why (deeds_of entries two.turns) (in_hand (parts_of b)) (in_hand (parts_of c)) =
+      subst (λ (es : List EntryView). Carries why (deeds_of es two.turns) (in_hand (parts_of b)) (in_hand (parts_of c))) one.same_entries two.carried in
+      record {
+        turns = one.turns ++ two.turns;
+        gives = gives-then law k one.turns two.turns a.pass b.pass c.pass one.gives gives;
+        carried =
+            subst (λ (ds : List (Action × List ℕ)). Carries why ds (in_hand (parts_of a)) (in_hand (parts_of c))) (sym (flat_map-append (turn_deeds entries) one.turns two.turns))
+            (carries_then why (deeds_of entries one.turns) (deeds_of entries two.turns) (in_hand (parts_of a)) (in_hand (parts_of b)) (in_hand (parts_of c)) one.carried carried);
+        same_k = two.same_k ∙ one.same_k;
+        same_entries = two.same_entries ∙ one.same_entries;
+      }
+
+  acted_handled : (law : RowsStay) (answer : Handled) (old new : Here) (does : Does answer old new) → Acted does.ended old new
+  acted_handled law answer old new does =
+      let k = old.handler.k in
+      let turns = does.acts.turns in
+      let uses = called_at does.ended k _ _ _ _ _ does.acts.ends in
+      let acted : Gives k turns old.pass does.acted = gives-uses k turns _ old.pass does.acted uses (told-last does.ended turns does.acts.at) does.acts.rows in
+      let asked : Gives k [] does.acted new.pass = gives-after answer does.ended k old.handler.count new.handler.why does.acted new.pass does.follows in
+      record {
+        turns = turns;
+        gives =
+            subst (λ (ts : List Turn). Gives k ts old.pass new.pass) (append-nil turns) (gives-then law k turns [] old.pass does.acted new.pass acted asked);
+        carried = carried_at does.ended k _ _ _ _ _ does.acts.ends;
+        same_k = ap (λ (acter : ActerView). acter.k) does.others;
+        same_entries = ap (λ (acter : ActerView). acter.entries) does.others;
+      }
+
+  -- ---- pieces
+
+  -- what was pushed calls the queue about no cursor
+  comes-quiet : (piece : Piece) (out notes : List ℕ) (old pushed : At) → old.receiver.end ≡ None → Comes piece out notes old pushed → CallsQuietly old.scene.pass pushed.scene.pass
+  comes-quiet piece out notes old pushed live comes =
+      let before = stands old.receiver.receiving old.scene.pass [] [] in
+      let after = stands pushed.receiver.receiving pushed.scene.pass out notes in
+      let at : PushesAt None piece old.receiver pushed.receiver before after =
+      subst (λ (e : Option RecvEnd). PushesAt e piece old.receiver pushed.receiver before after) live comes.pushes in
+      pushes-quiet pushed.receiver.end piece old.receiver.hand pushed.receiver.hand before after at.0
+
+  acted_come : (piece : Piece) (out notes : List ℕ) (old pushed : At) → old.receiver.end ≡ None → Comes piece out notes old pushed → Acted end.Stopped old.scene pushed.scene
+  acted_come piece out notes old pushed live comes =
+      acted_quiet old.scene pushed.scene (ap parts_of comes.others) (comes-quiet piece out notes old pushed live comes)
+
+  acted_piece : (law : RowsStay) (piece : Piece) (answer : Handled) (old new : At) → old.receiver.end ≡ None → (takes : TakesPiece Does piece answer old new)
+      → Acted takes.handles_it.handled.ended old.scene new.scene
+  acted_piece law piece answer old new live takes =
+      let does = takes.handles_it.handled in
+      let told_is = ap (λ (m : At). m.scene) takes.tells.others in
+      let told : Acted end.Stopped takes.pushed.scene takes.told.scene =
+      acted_quiet takes.pushed.scene takes.told.scene (ap parts_of told_is)
+      (quiet-none takes.pushed.scene.pass takes.told.scene.pass (ap (λ (s : Here). s.pass) told_is)) in
+      acted_then law does.ended old.scene takes.pushed.scene new.scene (acted_come piece takes.out takes.notes old takes.pushed live takes.comes)
+      (acted_then law does.ended takes.pushed.scene takes.told.scene new.scene told (acted_handled law answer takes.told.scene new.scene does))
+
+  -- a piece behind which all was acted on
+  acted_on : (law : RowsStay) (piece : Piece) (answer : Handled) (old new : At) → old.receiver.end ≡ None → (takes : TakesPiece Does piece answer old new)
+      → takes.handles_it.handled.ended ≡ end.Stopped → Acted end.Stopped old.scene new.scene
+  acted_on law piece answer old new live takes is = subst (λ (why : ActEnd). Acted why old.scene new.scene) is (acted_piece law piece answer old new live takes)
+
+  live-at : (pieces : List Piece) (old new : At) → old.receiver.end ≡ None → GoesOn Does pieces old new → new.receiver.end ≡ None
+  live-at [] old new live goes = ap (λ (m : At). m.receiver.end) goes ∙ live
+  live-at (piece ∷ pieces) old new live goes = live-at pieces goes.0 new goes.1.live goes.2
+
+  went : (law : RowsStay) (pieces : List Piece) (old new : At) → old.receiver.end ≡ None → GoesOn Does pieces old new → Acted end.Stopped old.scene new.scene
+  went law [] old new live goes =
+      acted_quiet old.scene new.scene (ap (λ (m : At). parts_of m.scene) goes) (quiet-none old.scene.pass new.scene.pass (ap (λ (m : At). m.scene.pass) goes))
+  went law (piece ∷ pieces) old new live goes =
+      let takes = goes.1.takes in
+      acted_then law end.Stopped old.scene goes.0.scene new.scene (acted_on law piece handled.On old goes.0 live takes takes.handles_it.handled.follows.0)
+      (went law pieces goes.0 new goes.1.live goes.2)
+
+  -- ---- the end
+
+  -- how it ended
+  record EndedBy (e : GatherEnd) (old new : Here) : Type 0 where
+    ended : ActEnd
+    is_ended : IsEndedBy e ended
+    acted : Acted ended old new
+
+  received : (e : RecvEnd) (old new : Here) → Acted end.Stopped old new → EndedBy (gather_end.Received e) old new
+  received e old new acted = record { ended = end.Stopped; is_ended = refl; acted = acted }
+
+  over : (law : RowsStay) (e : RecvEnd) (piece : Piece) (old new : At) → old.receiver.end ≡ None → TakesPiece Does piece handled.On old new
+      → EndedBy (gather_end.Received e) old.scene new.scene
+  over law e piece old new live takes = received e old.scene new.scene (acted_on law piece handled.On old new live takes takes.handles_it.handled.follows.0)
+
+  closes-none : (e : RecvEnd) (receiver : ReceiverView) (pass after : PassView) → receiver.end ≡ None → EndsAt receiver.end e receiver pass after → CallsQuietly pass after
+  closes-none e receiver pass after live ends = by_close at_end.1
+    where
+      at_end : EndsAt None e receiver pass after
+      at_end = subst (λ (o : Option RecvEnd). EndsAt o e receiver pass after) live ends
+
+      by_close : ClosesIf false (at_stream_end receiver.hand receiver.receiving) e receiver.receiving at_end.0 pass after → CallsQuietly pass after
+      by_close (inl closed) = closes-quiet receiver.receiving at_end.0 pass after closed.1
+      by_close (inr kept) = record { made = []; calls = kept.1.calls; quiet = tt }
+
+  stream : (e : RecvEnd) (old new : At) → old.receiver.end ≡ None → EndsStream e old new → EndedBy (gather_end.Received e) old.scene new.scene
+  stream e old new live ends =
+      let scene_is = ap (λ (m : At). m.scene) ends.is_at_end.others in
+      let quietly = closes-none e ends.at_end.receiver ends.at_end.scene.pass new.scene.pass (ap (λ (m : At). m.receiver.end) ends.is_at_end.others ∙ live) ends.ends in
+      let from : CallsQuietly old.scene.pass new.scene.pass = subst (λ (p : PassView). CallsQuietly p new.scene.pass) (ap (λ (s : Here). s.pass) scene_is) quietly in
+      received e old.scene new.scene (acted_quiet old.scene new.scene (ap (λ (m : At). parts_of m.scene) ends.others ∙ ap parts_of scene_is) from)
+
+  same_scene : (e : RecvEnd) (old new : At) → new.scene ≡ old.scene → EndedBy (gather_end.Received e) old.scene new.scene
+  same_scene e old new same =
+      received e old.scene new.scene (acted_quiet old.scene new.scene (ap parts_of same) (quiet-none old.scene.pass new.scene.pass (ap (λ (s : Here). s.pass) same)))
+
+  ends_by : (law : RowsStay) (e : GatherEnd) (old new : At) → old.receiver.end ≡ None → EndsBy Does e old new → EndedBy e old.scene new.scene
+  ends_by law (gather_end.Received Ended) old new live ends = stream Ended old new live ends
+  ends_by law (gather_end.Received (Truncated at)) old new live ends = stream (Truncated at) old new live ends
+  ends_by law (gather_end.Received (BadFrame at)) old new live ends = over law (BadFrame at) ends.piece old new live ends.takes
+  ends_by law (gather_end.Received (Refused answer)) old new live ends = over law (Refused answer) ends.piece old new live ends.takes
+  ends_by law (gather_end.Received StreamLimit) old new live ends = over law StreamLimit ends.piece old new live ends.takes
+  ends_by law (gather_end.Received OutOfMemory) old new live ends = over law OutOfMemory ends.piece old new live ends.takes
+  ends_by law (gather_end.Received Worn) old new live (inl is_over) = over law Worn is_over.piece old new live is_over.takes
+  ends_by law (gather_end.Received Worn) old new live (inr ends) = stream Worn old new live ends
+  ends_by law (gather_end.Received LinkFault) old new live (inl none) = same_scene LinkFault old new (ap (λ (m : At). m.scene) none.others)
+  ends_by law (gather_end.Received LinkFault) old new live (inr fails) =
+      let scene_is = ap (λ (m : At). m.scene) fails.sends.others in
+      received LinkFault old.scene new.scene
+      (subst (λ (s : Here). Acted end.Stopped old.scene s) (sym scene_is) (acted_come fails.piece fails.out fails.notes old fails.pushed live fails.comes))
+  ends_by law (gather_end.Received LogFault) old new live fails =
+      let scene_is = ap (λ (m : At). m.scene) fails.logs.others in
+      received LogFault old.scene new.scene
+      (acted_then law end.Stopped old.scene fails.pushed.scene new.scene (acted_come fails.piece fails.out fails.notes old fails.pushed live fails.comes)
+      (acted_quiet fails.pushed.scene new.scene (ap parts_of scene_is) (quiet-none fails.pushed.scene.pass new.scene.pass (ap (λ (s : Here). s.pass) scene_is))))
+  ends_by law gather_end.Enough old new live ends = record {
+    ended = end.Stopped;
+    is_ended = refl;
+    acted = acted_on law ends.piece handled.Enough old new live ends.takes ends.takes.handles_it.handled.follows.0;
+  }
+  ends_by law gather_end.Stopped old new live ends = record {
+    ended = ends.takes.handles_it.handled.ended;
+    is_ended = tt;
+    acted = acted_piece law ends.piece handled.Stopped old new live ends.takes;
+  }
+
+  begins_not : (e : GatherEnd) (old new : At) → BeginsNot Does e old new → EndedBy e old.scene new.scene
+  begins_not (gather_end.Received OutOfMemory) old new begins = same_scene OutOfMemory old new (ap (λ (m : At). m.scene) begins)
+  begins_not (gather_end.Received LinkFault) old new begins = same_scene LinkFault old new (ap (λ (m : At). m.scene) begins.others)
+  begins_not _ old new begins = absurd begins
+
+  all_of : (e : GatherEnd) (old new : Here) → EndedBy e old new
+      → ActsAll e old.handler.entries old.handler.k old.pass new.pass (in_hand (parts_of old)) (in_hand (parts_of new))
+  all_of e old new by = record { ended = by.ended; is_ended = by.is_ended; turns = by.acted.turns; gives = by.acted.gives; carried = by.acted.carried }
+
+  -- what a whole gathering came to
+  pub gathered_all : (law : RowsStay) (e : GatherEnd) (s : Receiving) (old new : Lent ActerView F L) → GathersAll Does e s old new
+      → ActsAll e old.scene.handler.entries old.scene.handler.k old.scene.pass new.scene.pass (in_hand (parts_of old.scene)) (in_hand (parts_of new.scene))
+  gathered_all law e s old new all = by_begin all.gathers
+    where
+      first : At
+      first = moment_of (before_stream s false) old
+
+      last : At
+      last = moment_of all.receiver new
+
+      by_begin : Asks Does e first last ⊎ BeginsNot Does e first last
+          → ActsAll e old.scene.handler.entries old.scene.handler.k old.scene.pass new.scene.pass (in_hand (parts_of old.scene)) (in_hand (parts_of new.scene))
+      by_begin (inl asks) =
+          let at : At = record first { link = asks.asked.link } in
+          let gathers : Gathers Does e at last = subst (λ (m : At). Gathers Does e m last) asks.others asks.gathers in
+          let ends = ends_by law e gathers.last last (live-at gathers.pieces at gathers.last refl gathers.goes_on) gathers.ends in
+          all_of e old.scene new.scene (record {
+            ended = ends.ended;
+            is_ended = ends.is_ended;
+            acted = acted_then law ends.ended at.scene gathers.last.scene last.scene (went law gathers.pieces at gathers.last refl gathers.goes_on) ends.acted;
+          })
+      by_begin (inr not) = all_of e old.scene new.scene (begins_not e first last not)

@@ -1,0 +1,19 @@
+-- What contracts see of the handler.
+use Rattle.std.specs.Prelude.{ℕ, List, Option}
+use Rattle.ldm_actions.specs.Outputs.{OutputsView}
+use Rattle.ldm_pqact_conf.specs.Entries.{EntryView}
+use Rattle.ldm_pqact_command.specs.declared.acter.Acter.TheInside.{Inside}
+use Rattle.ldm_pqact_command.specs.declared.stop.ActStop.{ActStop}
+
+pub record ActerView : Type 0 where
+  -- the place of its cursor
+  pub k : ℕ
+  -- how many products are to be acted on, where there is a count
+  pub count : Option ℕ
+  pub entries : List EntryView
+  pub outputs : OutputsView
+  -- why it stopped
+  pub why : Option ActStop
+
+abbrev pub acter_view : Inside → ActerView
+acter_view it = record { k = it.reader.k; count = it.count; entries = it.pqact.entries; outputs = it.pqact.outputs; why = it.why }

@@ -1,0 +1,101 @@
+//! The handler that acts on products.
+ghost use Rattle.std.specs.Prelude.{◌≡◌, None};
+
+use crate::stop::{ActStop, stop_of};
+use crate::tallying::tally;
+use ldm_actions::Done;
+use ldm_gather::{Handled, Handler};
+use ldm_outside::{Launcher, Sink, Store};
+use ldm_pqact::Pqact;
+use ldm_reader::Reader;
+use ldm_shared::{Pass, Shared};
+use std::marker::Model;
+use std::sync::Wait;
+
+/// Does with each product of a cursor what the entries of a pqact.conf choose. Where it has a count, it has enough once the cursor was given
+/// so many products.
+///
+/// It is lent the store and the launcher of its outputs: the same ones at each call, and nobody else may shut what is kept there.
+#[derive(Drop)]
+pub struct Acter {
+    reader: Reader,
+    count: Option<u64>,
+    pqact: Pqact,
+    why: Option<ActStop>,
+}
+
+impl Model for Acter {
+    ghost use Rattle.ldm_pqact_command.specs.ActerView.{ActerView, acter_view};
+
+    ghost Value = { ActerView };
+
+    ghost view = { acter_view };
+}
+
+impl Acter {
+    ghost use Rattle.ldm_actions.specs.Outputs.{KeepsUnlessSpent, standing};
+    ghost use Rattle.ldm_pqact_command.specs.Closing.{ClosesOutputs};
+
+    /// Acts on the products of this cursor.
+    pub fn create(reader: Reader, count: Option<u64>, pqact: Pqact) -> Acter
+        ensures { result ≡ record { k = reader.k; count = count; entries = pqact.entries; outputs = pqact.outputs; why = None } }
+    {
+        Acter {
+            reader,
+            count,
+            pqact,
+            why: None,
+        }
+    }
+
+    /// Why it stopped.
+    pub fn why(&self) -> Option<ActStop>
+        ensures { result ≡ self.now.why }
+    {
+        self.why
+    }
+
+    /// Shuts all files, and then shuts the input of each program and waits for it. Outputs that are spent touch nothing more, and answer
+    /// their fault again.
+    pub fn close<F: Store, L: Launcher>(self, store: &mut F, launcher: &mut L) -> Done
+        requires { KeepsUnlessSpent (standing self.outputs (F.tells store.old) (L.tells launcher.old)) }
+        ensures closed { ClosesOutputs result (standing self.outputs (F.tells store.old) (L.tells launcher.old)) (F.tells store.new) (L.tells launcher.new) }
+    {
+        let mut pqact = self.pqact;
+        pqact.close(store, launcher)
+    }
+}
+
+impl<F: Store, L: Launcher> Handler<F, L> for Acter {
+    ghost use Rattle.ldm_pqact_command.specs.Handling.{ActBegins, ActHandles};
+
+    ghost cursor = { λ acter. acter.k };
+
+    ghost begins = { ActBegins F.tells L.tells };
+
+    ghost handles = { ActHandles F.tells L.tells };
+
+    fn handle<H: Wait, E: Sink>(
+        &mut self,
+        rt: &H,
+        shared: &Shared,
+        pass: &mut Pass,
+        first: &mut F,
+        second: &mut L,
+        log: &mut E,
+    ) -> Handled {
+        let reader = self.reader;
+        let ended = self
+            .pqact
+            .pending(shared, rt, pass, &reader, first, second, log);
+        if let Some(why) = stop_of(ended) {
+            self.why = Some(why);
+            return Handled::Stopped;
+        }
+        let handled = tally(rt, shared, pass, &reader, self.count);
+        if let Handled::Stopped = handled {
+            self.why = Some(ActStop::Worn);
+        }
+        handled
+    }
+}

@@ -1,0 +1,110 @@
+//! How `pqact` ends.
+ghost use Rattle.std.specs.Prelude.{◌≡◌, ◌≤◌, IsSome};
+ghost use Rattle.ldm_pqact_command.specs.Statuses.{IfStopped, IsEndOf, ReportsIf, after_closing, receive_status, status_of, stop_status};
+
+use crate::stop::ActStop;
+use ldm_actions::Done;
+use ldm_command_files::{EntriesNotTaken, status_of_entries};
+use ldm_gather::GatherEnd;
+use ldm_intake::RecvEnd;
+use ldm_outside::Sink;
+use ldm_status::{LOG_FAULT, Status};
+
+/// How `pqact` ends.
+#[derive(Drop)]
+pub enum PqactEnd {
+    /// No entries were taken.
+    NotTaken(EntriesNotTaken),
+    /// There was no memory to begin.
+    NoMemory,
+    /// No link was connected.
+    Unreached,
+    /// The receiving ended so, and all that was queued by then was acted on.
+    Received(RecvEnd),
+    /// The cursor was given as many products as were to be acted on, or more.
+    Enough,
+    /// Acting on products stopped; or all else ended well, and closing the outputs failed.
+    Stopped(ActStop),
+}
+
+// How it ends, by how the gathering ended, why the handler stopped, and what the closing of the outputs answered.
+pub(crate) fn ended(end: GatherEnd, why: Option<ActStop>, closed: Done) -> PqactEnd
+    requires { IfStopped end (IsSome why) }
+    ensures { IsEndOf result end why closed }
+{
+    match end {
+        GatherEnd::Received(RecvEnd::Ended) => {
+            after_closing(PqactEnd::Received(RecvEnd::Ended), closed)
+        }
+        GatherEnd::Received(end) => PqactEnd::Received(end),
+        GatherEnd::Enough => after_closing(PqactEnd::Enough, closed),
+        GatherEnd::Stopped => match why {
+            Some(why) => PqactEnd::Stopped(why),
+            None => unreachable!(),
+        },
+    }
+}
+
+// An end at which all went well, but for what the closing of the outputs answered.
+fn after_closing(end: PqactEnd, closed: Done) -> PqactEnd
+    ensures { result ≡ after_closing end closed }
+{
+    match closed {
+        Done::Ok => end,
+        Done::StoreFault => PqactEnd::Stopped(ActStop::StoreFault),
+        Done::LaunchFault => PqactEnd::Stopped(ActStop::LaunchFault),
+    }
+}
+
+fn receive_status(end: RecvEnd) -> Option<Status>
+    ensures { result ≡ receive_status end }
+{
+    match end {
+        RecvEnd::Ended => Some(Status::Done),
+        RecvEnd::Truncated { at } => Some(Status::BadFrame { at }),
+        RecvEnd::BadFrame { at } => Some(Status::BadFrame { at }),
+        RecvEnd::Refused { .. } => Some(Status::Denied),
+        RecvEnd::LinkFault => Some(Status::NetFault),
+        RecvEnd::LogFault => None,
+        RecvEnd::StreamLimit => Some(Status::StreamLimit),
+        RecvEnd::Worn => Some(Status::Worn),
+        RecvEnd::OutOfMemory => Some(Status::NoMemory),
+    }
+}
+
+fn stop_status(why: ActStop) -> Option<Status>
+    ensures { result ≡ stop_status why }
+{
+    match why {
+        ActStop::StoreFault => Some(Status::StoreFault),
+        ActStop::LaunchFault => Some(Status::ChildFault),
+        ActStop::LogFault => None,
+        ActStop::Worn => Some(Status::Worn),
+        ActStop::OutOfMemory => Some(Status::NoMemory),
+    }
+}
+
+// The status of an end. There is none where the log failed.
+fn status_of(end: PqactEnd) -> Option<Status>
+    ensures { result ≡ status_of end }
+{
+    match end {
+        PqactEnd::NotTaken(why) => Some(status_of_entries(why)),
+        PqactEnd::NoMemory => Some(Status::NoMemory),
+        PqactEnd::Unreached => Some(Status::NetFault),
+        PqactEnd::Received(end) => receive_status(end),
+        PqactEnd::Enough => Some(Status::Done),
+        PqactEnd::Stopped(why) => stop_status(why),
+    }
+}
+
+/// Writes the log line of an end, and answers the number that the program ends with. Where the log failed there is no line.
+pub(crate) fn report<E: Sink>(end: PqactEnd, log: &mut E) -> u8
+    ensures reports { ReportsIf (status_of end) result (E.tells log.old) (E.tells log.new) }
+    ensures faults_kept { (E.tells log.old).faults ≤ (E.tells log.new).faults }
+{
+    match status_of(end) {
+        Some(status) => status.report(log),
+        None => LOG_FAULT,
+    }
+}

@@ -1,0 +1,5 @@
+mod Using
+mod Reading
+mod ShownTurns
+mod Opened
+mod Gathered

@@ -1,0 +1,9 @@
+pub mod Turns
+pub mod Uses
+pub mod Showing
+pub mod Product
+pub mod CatView
+pub mod Handling
+pub mod Statuses
+pub mod Course
+pub mod Cats

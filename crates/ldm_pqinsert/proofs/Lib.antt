@@ -1,0 +1,6 @@
+mod Taken
+mod Running
+mod Owed
+mod Completed
+mod Held
+mod Telling

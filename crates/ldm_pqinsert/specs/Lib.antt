@@ -1,0 +1,10 @@
+pub mod Inserting
+pub mod Lines
+pub mod Moments
+pub mod Files
+pub mod Runs
+pub mod Owing
+pub mod Inserts
+pub mod Told
+pub mod Examples
+pub mod Parts

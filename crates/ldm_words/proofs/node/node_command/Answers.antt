@@ -1,0 +1,24 @@
+use Rattle.std.proofs.Common.{codes, rules}
+use Rattle.std.proofs.lemmas.Result.{IfOk-weaker}
+use Rattle.ldm_words.proofs.Parsing.{adds}
+use Rattle.ldm_words.specs.Commands.{conf_rule, node_command, option_or_rule, option_rule}
+use Rattle.ldm_words.specs.Views.{HasRule}
+use Rattle.ldm_words.proofs.node.node_command.Goals as goal
+
+pub returns : goal.returns
+unfolding node_command
+returns c =
+    let arena : HasRule (option_or_rule (codes "arena") (codes "a") (codes "67108864")) c.option_or.result = search rules in
+    let slots : HasRule (option_or_rule (codes "slots") (codes "S") (codes "16384")) c.option_or-2.result = search rules in
+    let port : HasRule (option_or_rule (codes "port") (codes "p") (codes "388")) c.option_or-3.result = search rules in
+    let workers : HasRule (option_or_rule (codes "workers") (codes "w") (codes "4")) c.option_or-4.result = search rules in
+    let sessions : HasRule (option_or_rule (codes "sessions") (codes "n") (codes "4294967295")) c.option_or-5.result = search rules in
+    let idles : HasRule (option_rule (codes "idles") (codes "x")) c.option.result = search rules in
+    let conf : HasRule conf_rule c.word.result = search rules in
+    let one = adds _ _ _ _ _ c.in_ok-arg.ensures c.bare.ensures arena in
+    let two = adds _ _ _ _ _ c.in_ok-arg-2.ensures one slots in
+    let three = adds _ _ _ _ _ c.in_ok-arg-3.ensures two port in
+    let four = adds _ _ _ _ _ c.in_ok-arg-4.ensures three workers in
+    let five = adds _ _ _ _ _ c.in_ok-arg-5.ensures four sessions in
+    let six = adds _ _ _ _ _ c.in_ok-arg-6.ensures five idles in
+    IfOk-weaker c.arg-7.result _ _ (λ command added. adds _ command _ _ _ added six conf) c.arg-7.ensures

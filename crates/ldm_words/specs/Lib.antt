@@ -1,0 +1,5 @@
+pub mod Commands
+pub mod Values
+pub mod Forms
+pub mod Views
+pub mod Faults

@@ -1,0 +1,58 @@
+-- What the types of the code say.
+use Rattle.std.specs.Prelude.{◌≡◌, false, List}
+use Rattle.std.specs.Option.{option_copied}
+use Rattle.clap.specs.Words.{Row, Rule, found_of, rows_of, rule_of}
+use Rattle.clap.specs.declared.builder.arg.Arg.{Arg}
+use Rattle.clap.specs.declared.parser.matches.ArgMatches.{ArgMatches}
+use Rattle.ldm_conf.specs.AddressViews.{address_view}
+use Rattle.ldm_words.specs.declared.said.NodeWords.{NodeWords}
+use Rattle.ldm_words.specs.declared.said.ActWords.{ActWords}
+use Rattle.ldm_words.specs.declared.said.ChainWords.{ChainWords}
+use Rattle.ldm_words.specs.declared.said.InsertWords.{InsertWords}
+use Rattle.ldm_words.specs.declared.said.ReceivingWords.{ReceivingWords}
+use Rattle.ldm_words.specs.Values.{texts_of}
+use Rattle.ldm_words.specs.Forms.{ActForm, ChainForm, InsertForm, NodeForm, ReceivingForm}
+
+-- an argument of a command has this rule
+abbrev pub HasRule : Rule → Arg → Type 0
+HasRule rule arg = (rule_of arg ≡ rule) × (arg.global ≡ false)
+
+-- the rows of matches
+abbrev pub rows_in : ArgMatches → List Row
+rows_in matches = rows_of (found_of matches)
+
+abbrev pub receiving_view : ReceivingWords → ReceivingForm
+receiving_view words = record { class = words.class; count = words.count; peer = address_view words.peer }
+
+abbrev pub act_view : ActWords → ActForm
+act_view words = record { class = words.class; count = words.count; conf = words.conf.now; peer = address_view words.peer }
+
+abbrev pub insert_view : InsertWords → InsertForm
+insert_view words = record {
+  feed = words.feed.0;
+  ident = option_copied words.ident;
+  origin = words.origin.now;
+  sign_ident = words.sign_ident;
+  peer = address_view words.peer;
+  files = texts_of words.files.items;
+}
+
+abbrev pub node_view : NodeWords → NodeForm
+node_view words = record {
+  arena = words.arena;
+  slots = words.slots;
+  port = words.port;
+  workers = words.workers;
+  sessions = words.sessions;
+  idles = words.idles;
+  conf = words.conf.now;
+}
+
+abbrev pub chain_view : ChainWords → ChainForm
+chain_view words = record {
+  conf = option_copied words.conf;
+  arena = words.arena;
+  slots = words.slots;
+  max_hereis = words.max_hereis;
+  classes = words.classes.items;
+}

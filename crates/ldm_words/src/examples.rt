@@ -1,0 +1,77 @@
+//! Worked examples.
+ghost use Rattle.std.specs.Prelude.{◌≡◌, true, false, [], ◌∷◌, Some, None, codes};
+ghost use Rattle.ldm_conf.specs.Confs.{all_times};
+ghost use Rattle.ldm_words.specs.Forms.{act_form, chain_form, insert_form, node_form, pqmon_form, receiving_form};
+
+/// Worked examples of the words of `pqmon`. It does nothing.
+pub fn worked_examples_of_pqmon()
+    ensures by_default { pqmon_form [] ≡ Some (record { host = codes "127.0.0.1"; port = 388 }) }
+    ensures given { pqmon_form (codes "-q" ∷ codes "a:1" ∷ []) ≡ Some (record { host = codes "a"; port = 1 }) }
+    ensures last_colon { pqmon_form (codes "-q=::1:65535" ∷ []) ≡ Some (record { host = codes "::1"; port = 65535 }) }
+    ensures no_colon { pqmon_form (codes "-qa" ∷ []) ≡ None }
+    ensures no_port { pqmon_form (codes "-qa:65536" ∷ []) ≡ None }
+    ensures twice { pqmon_form (codes "-qa:1" ∷ codes "-qa:1" ∷ []) ≡ None }
+    ensures no_word { pqmon_form (codes "a:1" ∷ []) ≡ None }
+    ensures no_help { pqmon_form (codes "--help" ∷ []) ≡ None }
+{}
+
+/// Worked examples of the words of `node`. It does nothing.
+pub fn worked_examples_of_node()
+    ensures by_default { node_form (codes "c" ∷ [])
+        ≡ Some (record { arena = 67108864; slots = 16384; port = 388; workers = 4; sessions = 4294967295; idles = None; conf = codes "c" }) }
+    ensures given { node_form (codes "-a4096" ∷ codes "-S8" ∷ codes "-p1" ∷ codes "c" ∷ codes "-w2" ∷ codes "-n1" ∷ codes "-x0" ∷ [])
+        ≡ Some (record { arena = 4096; slots = 8; port = 1; workers = 2; sessions = 1; idles = Some 0; conf = codes "c" }) }
+    ensures too_many_slots { node_form (codes "-S4294967296" ∷ codes "c" ∷ []) ≡ None }
+    ensures leading_zero { node_form (codes "-w04" ∷ codes "c" ∷ []) ≡ None }
+    ensures two_files { node_form (codes "c" ∷ codes "d" ∷ []) ≡ None }
+    ensures no_file { node_form [] ≡ None }
+{}
+
+/// Worked examples of the words of `pqinsert`. It does nothing.
+pub fn worked_examples_of_pqinsert()
+    ensures by_default { insert_form (codes "f" ∷ codes "g" ∷ [])
+        ≡ Some (record {
+          feed = 0x4000_0000;
+          ident = None;
+          origin = codes "localhost";
+          sign_ident = false;
+          peer = record { host = codes "127.0.0.1"; port = 388 };
+          files = codes "f" ∷ codes "g" ∷ [];
+        }) }
+    ensures given { insert_form (codes "-i" ∷ codes "f" ∷ codes "-fDDS|IDS" ∷ codes "-p" ∷ codes "" ∷ codes "-o=h" ∷ codes "-qa:1" ∷ [])
+        ≡ Some (record {
+          feed = 10;
+          ident = Some [];
+          origin = codes "h";
+          sign_ident = true;
+          peer = record { host = codes "a"; port = 1 };
+          files = codes "f" ∷ [];
+        }) }
+    ensures zero_byte { insert_form (codes "-pa\0" ∷ codes "f" ∷ []) ≡ None }
+    ensures no_feed { insert_form (codes "-fDD" ∷ codes "f" ∷ []) ≡ None }
+    ensures no_file { insert_form (codes "-i" ∷ []) ≡ None }
+{}
+
+/// Worked examples of the words of `pqcat` and `pqact`. It does nothing.
+pub fn worked_examples_of_classes()
+    ensures by_default { receiving_form []
+        ≡ Some (record { class = all_times 0xffff_ffff (codes ".*"); count = None; peer = record { host = codes "127.0.0.1"; port = 388 } }) }
+    ensures given { act_form (codes "-fIDS" ∷ codes "-p^S" ∷ codes "c" ∷ codes "-c2" ∷ codes "a:1" ∷ [])
+        ≡ Some (record { class = all_times 8 (codes "^S"); count = Some 2; conf = codes "c"; peer = record { host = codes "a"; port = 1 } }) }
+    ensures no_count { receiving_form (codes "-c0" ∷ []) ≡ None }
+    ensures no_pattern { receiving_form (codes "-p(" ∷ []) ≡ None }
+    ensures no_peer { act_form (codes "c" ∷ []) ≡ None }
+{}
+
+/// Worked examples of the words of `chain`. It does nothing.
+pub fn worked_examples_of_chain()
+    ensures without_conf { chain_form (codes "4096" ∷ codes "8" ∷ codes "0" ∷ codes "IDS" ∷ codes "^S" ∷ [])
+        ≡ Some (record { conf = None; arena = 4096; slots = 8; max_hereis = 0; classes = all_times 8 (codes "^S") ∷ [] }) }
+    ensures with_conf { chain_form (codes "-a" ∷ codes "c" ∷ codes "1" ∷ codes "2" ∷ codes "3" ∷ codes "ANY" ∷ codes ".*" ∷ codes "IDS" ∷ codes "" ∷ [])
+        ≡ Some (record { conf = Some (codes "c"); arena = 1; slots = 2; max_hereis = 3; classes = all_times 0xffff_ffff (codes ".*") ∷ all_times 8 [] ∷ [] }) }
+    ensures conf_behind { chain_form (codes "1" ∷ codes "2" ∷ codes "3" ∷ codes "ANY" ∷ codes ".*" ∷ codes "-a" ∷ codes "c" ∷ []) ≡ None }
+    ensures no_conf { chain_form (codes "-a" ∷ []) ≡ None }
+    ensures no_class { chain_form (codes "1" ∷ codes "2" ∷ codes "3" ∷ []) ≡ None }
+    ensures no_pattern { chain_form (codes "1" ∷ codes "2" ∷ codes "3" ∷ codes "ANY" ∷ []) ≡ None }
+    ensures too_many_slots { chain_form (codes "1" ∷ codes "4294967296" ∷ codes "3" ∷ codes "ANY" ∷ codes ".*" ∷ []) ≡ None }
+{}

@@ -1,0 +1,32 @@
+//! The words of the commands that take options, most of them read by `clap`: each function reads the words behind the name of its
+//! command.
+//!
+//! Words that are no form of a command are [`WordsFault::Usage`].
+#![tactic(auto)]
+
+mod act;
+mod chain;
+mod command;
+mod examples;
+mod fault;
+mod insert;
+mod limits;
+mod mon;
+mod node;
+mod receiving;
+mod said;
+mod values;
+
+pub use act::read_pqact;
+pub use chain::read_chain;
+pub use examples::{
+    worked_examples_of_chain, worked_examples_of_classes, worked_examples_of_node,
+    worked_examples_of_pqinsert, worked_examples_of_pqmon,
+};
+pub use fault::WordsFault;
+pub use insert::read_pqinsert;
+pub use limits::MOST_CLASSES;
+pub use mon::read_pqmon;
+pub use node::read_node;
+pub use receiving::read_receiving;
+pub use said::{ActWords, ChainWords, InsertWords, NodeWords, ReceivingWords};
