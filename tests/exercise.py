@@ -71,9 +71,14 @@ def run(words, given):
     return done.stdout
 
 
-for number, count in RUNS:
-    answers = run(["play", "1048576", "1024"], "".join(script(number, count)))
-    if answers.count("\n") != count + 4:
-        sys.exit(f"the script of exercise {number} {count} is not played to its end")
-    if run(["exercise", str(number), str(count)], "") != summary(number, count, answers):
-        sys.exit(f"exercise {number} {count} does not sum up the answers to its script")
+def main():
+    for number, count in RUNS:
+        answers = run(["play", "1048576", "1024"], "".join(script(number, count)))
+        if answers.count("\n") != count + 4:
+            sys.exit(f"the script of exercise {number} {count} is not played to its end")
+        if run(["exercise", str(number), str(count)], "") != summary(number, count, answers):
+            sys.exit(f"exercise {number} {count} does not sum up the answers to its script")
+
+
+if __name__ == "__main__":
+    main()
