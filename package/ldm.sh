@@ -1,0 +1,13 @@
+#!/bin/sh
+# Runs the program ldm with the words that it is given. Words that ask for help or the version are answered here. Under the name
+# of a tool, as pqinsert, the words are those behind that command; ldmd is "ldm node".
+here=$(readlink -f "$0") || exit 1
+root=${here%/bin/*}
+name=${0##*/}
+case $name in
+pqinsert | pqcat | pqmon | pqact | notifyme) set -- "$name" "$@" ;;
+ldmd) set -- node "$@" ;;
+esac
+. "$root/lib/ldm/help.sh"
+answer_help "$root/share/ldm/help" "$root/share/ldm/VERSION" "$@"
+exec "$root/lib/ldm/ldm" "$@"
