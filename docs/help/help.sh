@@ -1,10 +1,10 @@
-# What ./ldm and the ldm of the package answer to words that ask for help or for the version. POSIX sh, read by `.`; nothing here
-# looks at the program, whose own words have no help.
+# What ./ldm and the ldm of the package answer to arguments that ask for help or for the version. POSIX sh, read by `.`; the program
+# is not run, and has no help of its own.
 
-# Ends the script where the words ask for help or the version: with 0, and what was asked for on standard output; with 64 where
-# there is no help on that word, which standard error says. Else it returns.
+# Ends the script where the arguments ask for help or the version: with 0, and what was asked for on standard output; with 64 where
+# there is no such help, which standard error says. Else it returns.
 #
-# Called as: answer_help FOLDER VERSION WORD ..: the folder with the texts, one for each command, and the file with the version.
+# Called as: answer_help FOLDER VERSION ARGUMENT ..: the folder with the texts, one for each command, and the file with the version.
 answer_help() {
     help_folder=$1
     help_version=$2
