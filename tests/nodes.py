@@ -67,13 +67,14 @@ def ports_below():
     return 32_768
 
 
-PORTS = [port for port in range(10_000, ports_below())] or range(61_000, 65_536)
+PORTS = range(10_000, ports_below()) or range(61_000, 65_536)
 TAKEN = set()
 
 
 def free_port():
     """A port at which nobody listens, and that was not given before."""
-    for port in random.sample(PORTS, len(PORTS)):
+    for _ in PORTS:
+        port = random.choice(PORTS)
         with contextlib.suppress(OSError), socket.socket() as listener:
             listener.bind(("", port))
             if port not in TAKEN:
@@ -271,14 +272,14 @@ def relays_what_is_due(place):
     with b.connect() as subscriber:
         expect(subscriber.subscribe([(ANY, b"")]), number(OK), "the answer to a FEEDME")
         expect_products(subscriber.products(len(due)), due, "a subscriber of the second node")
-    stat = b.stat()
-    used = sum(product.extent() for product in due)
-    expect(stat, Stat(len(due), len(due), 0, used, ARENA - used), "the figures of the second node")
+        stat = b.stat()
+        used = sum(product.extent() for product in due)
+        expect(stat, Stat(len(due), len(due), 0, used, ARENA - used), "the figures of the second node")
+        b.until_logged("session 127.0.0.1 ended")
+        expect(b.log(), ["session 127.0.0.1 ended"], "the log of the second node while it is fed")
     ran = place.run("pqcat", "-q", b.at, "-c", len(due))
     expect((ran.status, ran.log), (0, b""), "pqcat")
     expect(ran.output == b"".join(product.body for product in due), True, "whether pqcat wrote the bodies in order")
-    b.until_logged("session 127.0.0.1 ended")
-    expect(set(b.log()), {"session 127.0.0.1 ended"}, "the lines of the log of the second node")
 
 
 def resumes_a_cut_session(place):
@@ -781,7 +782,7 @@ def goes_on_behind_reclass(place):
 
         expect(watcher.subscribe(more), reclass, "the answer to a FEEDME of more")
         expect(watcher.ask(NOTIFYME, less), number(OK), "the answer to a NOTIFYME of what is left")
-        expect(watcher.next_call(), (1, NOTIFICATION, call(1, NOTIFICATION, x.metadata())[4:]), "a notice")
+        expect(watcher.next_notice(), x.metadata(), "a notice")
 
         pushed = [Product(b"x2", b"2" * 100, DDS), Product(b"x3", b"3" * 50_000, DDS), Product(b"x4", b"", DDS)]
         pusher.xid = 0
@@ -793,8 +794,8 @@ def goes_on_behind_reclass(place):
         pusher.feed_whole(x)
         pusher.feed_in_blocks(pushed[2])
         expect(subscriber.products(3), [product.told() for product in pushed], "what is fed of what was pushed")
-        for xid, product in enumerate(pushed, 2):
-            expect(watcher.next_call(), (xid, NOTIFICATION, call(xid, NOTIFICATION, product.metadata())[4:]), "a notice")
+        for product in pushed:
+            expect(watcher.next_notice(), product.metadata(), "a notice")
     # lines are written behind the replies of the same piece
     until(lambda: len(node.log()) >= 3, "three lines")
     expect(node.log()[:3], ["unwanted x%20of%20HDS", "unwanted p", "refused x1 duplicate 0"], "the log")

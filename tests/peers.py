@@ -310,6 +310,14 @@ class Peer:
         self.send(reply(came.xid, number(OK if wanted else DONT_SEND)))
         return product._replace(body=self.body_in_blocks(product, size)) if wanted else product
 
+    def next_notice(self):
+        """The metadata of the next product that it is told of; None at the end of the stream."""
+        came = self.next_call()
+        if came is None:
+            return None
+        expect(came.procedure, NOTIFICATION, "the procedure of a notice")
+        return came.body[40:]
+
     def body_in_blocks(self, product, size):
         body = b""
         block = 0
