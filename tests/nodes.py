@@ -38,7 +38,7 @@ ARENA = 67_108_864
 OPEN = "ALLOW ANY .*\nACCEPT ANY .* .*\n"
 
 # How long a node takes at most to come to something that no reply tells, in seconds.
-STEP = 20
+STEP = 100
 
 IS_HERE = b"a product that is the last of a case"
 
@@ -49,21 +49,38 @@ FULL = pathlib.Path("/dev/full")
 MANY = ["-w", 24]
 
 
-def until(probe, what):
+def until(probe, what, seconds=STEP):
     """What the probe answers, as soon as that is true."""
-    last = time.monotonic() + STEP
+    last = time.monotonic() + seconds
     while time.monotonic() < last:
         found = probe()
         if found:
             return found
         time.sleep(0.01)
-    raise Wrong(f"{what}: not within {STEP} seconds")
+    raise Wrong(f"{what}: not within {seconds} seconds")
+
+
+def ports_below():
+    """The first port that the system gives to who asks for any: to clients, so that one below stays free until a node takes it."""
+    with contextlib.suppress(OSError), open("/proc/sys/net/ipv4/ip_local_port_range") as fields:
+        return int(fields.read().split()[0])
+    return 32_768
+
+
+PORTS = range(10_000, ports_below()) or range(61_000, 65_536)
+TAKEN = set()
 
 
 def free_port():
-    with socket.socket() as listener:
-        listener.bind(("", 0))
-        return listener.getsockname()[1]
+    """A port at which nobody listens, and that was not given before."""
+    for _ in PORTS:
+        port = random.choice(PORTS)
+        with contextlib.suppress(OSError), socket.socket() as listener:
+            listener.bind(("", port))
+            if port not in TAKEN:
+                TAKEN.add(port)
+                return port
+    raise Wrong("no port is free")
 
 
 def listens(port):
@@ -225,8 +242,8 @@ def put_in_files(place, node, products):
 
 
 def relays_what_is_due(place):
-    """A second node asks the first for two feeds. What is put into the first comes to it where its class and the ALLOW line of the first
-    want it, in order, each product once and whole, those above 16,384 bytes in blocks."""
+    """A second node asks the first for two feeds. Of 1,000 products that are put into the first those come to it that its class and the ALLOW
+    line of the first want, in order, each product once and whole, those above 16,384 bytes in blocks."""
     a = place.node("ALLOW ANY ^127\\.0\\.0\\.1$ .* ^TEST\nACCEPT ANY .* ^127\\.0\\.0\\.1$\n", *MANY)
     b = place.node(f'REQUEST IDS|DDPLUS ".*" {a.at}\nALLOW ANY .*\n', *MANY)
     draw = random.Random(18)
@@ -244,7 +261,7 @@ def relays_what_is_due(place):
         put = []
         for feed in (IDS, DDS, HDS):
             put += put_in_files(place, a, some(8, "file.", feed))
-        behind = some(100, "") + [Product(b"last", IS_HERE, HDS), Product(b"TEST last", IS_HERE + b"t"), Product(b"last", IS_HERE + b"l")]
+        behind = some(973, "") + [Product(b"last", IS_HERE, HDS), Product(b"TEST last", IS_HERE + b"t"), Product(b"last", IS_HERE + b"l")]
         expect(a.put_all(behind), len(put), "the first number behind those of the files")
         put += behind
         allowed = [product for product in put if not product.ident.startswith(b"TEST")]
@@ -255,14 +272,14 @@ def relays_what_is_due(place):
     with b.connect() as subscriber:
         expect(subscriber.subscribe([(ANY, b"")]), number(OK), "the answer to a FEEDME")
         expect_products(subscriber.products(len(due)), due, "a subscriber of the second node")
-    stat = b.stat()
-    used = sum(product.extent() for product in due)
-    expect(stat, Stat(len(due), len(due), 0, used, ARENA - used), "the figures of the second node")
+        stat = b.stat()
+        used = sum(product.extent() for product in due)
+        expect(stat, Stat(len(due), len(due), 0, used, ARENA - used), "the figures of the second node")
+        b.until_logged("session 127.0.0.1 ended")
+        expect(b.log(), ["session 127.0.0.1 ended"], "the log of the second node while it is fed")
     ran = place.run("pqcat", "-q", b.at, "-c", len(due))
     expect((ran.status, ran.log), (0, b""), "pqcat")
     expect(ran.output == b"".join(product.body for product in due), True, "whether pqcat wrote the bodies in order")
-    b.until_logged("session 127.0.0.1 ended")
-    expect(set(b.log()), {"session 127.0.0.1 ended"}, "the lines of the log of the second node")
 
 
 def resumes_a_cut_session(place):
@@ -308,10 +325,10 @@ def resumes_a_cut_session(place):
                 peer.feed_whole(last)
                 expect(subscriber.next_product(), last.told(), "what comes last")
             expect(node.stat()[:3], (4, 4, 0), "the first figures at the end")
-    sessions = [f"session 127.0.0.1 {end}" for end in ("truncated", "ended", "ended")]
-    wanted = sessions[:1] + ["refused third duplicate 2"] + sessions[1:2] + ["unwanted of%20HDS"] * 2 + sessions[2:]
-    found = [line for line in node.log() if not line.startswith("session 127.0.0.1 ended")]
-    expect(found, [line for line in wanted if line != sessions[1]], "the log but for the sessions that ended")
+            # while the node waits for this peer
+            found = [line for line in node.log() if line != "session 127.0.0.1 ended"]
+            wanted = ["session 127.0.0.1 truncated", "refused third duplicate 2", *["unwanted of%20HDS"] * 2]
+            expect(found, wanted, "the log but for the sessions that ended")
 
 
 class BreakingLink:
@@ -359,12 +376,12 @@ def relays_over_links_that_break(place):
     a.put_all(products)
     link = BreakingLink(a.port, [draw.choice([1, 31, 32, 33, *range(1_000, 130_000, 997)]) for _ in range(40)])
     b = place.node(f"REQUEST ANY .* {link.at}\nALLOW ANY .*\n")
-    until(lambda: b.stat().queued == len(products), "the node has all products")
+    until(lambda: b.stat().queued == len(products), "the node has all products", 3 * STEP)
     with b.connect() as subscriber:
         expect(subscriber.subscribe([(ANY, b".*")]), number(OK), "the answer to a FEEDME")
         expect_products(subscriber.products(len(products)), products, "what came over links that break")
     ends = collections.Counter(b.log())
-    cut = ends["session 127.0.0.1 truncated"]
+    cut = ends["session 127.0.0.1 truncated"] + ends["session 127.0.0.1 linkfault"]
     if cut < 10:
         raise Wrong(f"this case has {cut} sessions that were cut")
     odd = [line for line in ends if line.split()[2:] not in (["truncated"], ["ended"], ["linkfault"])]
@@ -432,31 +449,55 @@ def feeds_both_ways(place):
         for port, other in (ports, ports[::-1])
     ]
     own = [[Product(f"{name}{i}".encode(), name.encode() * (1_000 + 7_000 * i), seqno=i) for i in range(6)] for name in "AB"]
-    last = Product(b"last", IS_HERE)
+    last = [Product(f"last of {name}".encode(), IS_HERE + name.encode()) for name in "AB"]
     with pair[0].connect() as a, pair[1].connect() as b:
         for one, other in zip(*own):
             expect([a.put(one)[0], b.put(other)[0]], [ADMITTED] * 2, "the answers to PUT")
         for peer in (a, b):
             until(lambda peer=peer: peer.stat().queued == 12, "both nodes have all products")
-        expect(a.put(last)[0], ADMITTED, "the answer to PUT")
-    own[0].append(last)
+        expect([a.put(last[0])[0], b.put(last[1])[0]], [ADMITTED] * 2, "the answers to PUT")
+    for products, product in zip(own, last):
+        products.append(product)
     for node, products in zip(pair, own):
-        small = sorted(product.ident.decode() for product in products if len(product.body) <= BLOCK)
+        small = [product.ident.decode().replace(" ", "%20") for product in products if len(product.body) <= BLOCK]
 
         def told_again(node=node):
-            return sorted(line.split()[1] for line in node.log() if line.startswith("refused ") and line.split()[2] == "duplicate")
+            return [line.split()[1] for line in node.log() if line.startswith("refused ") and line.split()[2] == "duplicate"]
 
-        until(lambda: len(told_again()) >= len(small), "a line of each product that came back")
-        time.sleep(0.3)
+        # what was put in before the last one came back before it
+        until(lambda: small[-1] in told_again(), "the line of the last product that came back")
         expect(told_again(), small, "the products that came back")
         odd = [line for line in node.log() if not line.startswith(("refused ", "unreached 127.0.0.1", "session 127.0.0.1 ended"))]
         expect(odd, [], "lines of the log that have no place there")
         everything = sorted(product.told() for product in own[0] + own[1])
         used = sum(product.extent() for product in everything)
-        expect(node.stat(), Stat(13, 13, 0, used, 4_194_304 - used), "the figures of a node")
+        wanted = Stat(14, 14, 0, used, 4_194_304 - used)
+        # one is held as the other node is fed it
+        until(lambda node=node, wanted=wanted: node.stat() == wanted, f"the figures {wanted} of a node")
         with node.connect() as subscriber:
             expect(subscriber.subscribe([(ANY, b".*")]), number(OK), "the answer to a FEEDME")
-            expect(sorted(subscriber.products(13)) == everything, True, "whether the node has all products")
+            expect(sorted(subscriber.products(14)) == everything, True, "whether the node has all products")
+
+
+def serves_two_at_once(place):
+    """A node of two workers has two peers connected. Each is answered behind what the other one was answered meanwhile, whichever came first;
+    and one that is fed waits for what the other one puts in."""
+    for waiting in (0, 1):
+        node = place.node(OPEN, "-w", 2)
+        with node.connect() as first, node.connect() as second:
+            waits, other = (first, second)[waiting], (second, first)[waiting]
+            products = [Product(f"{i}".encode(), b"%d" % i, seqno=i) for i in range(4)]
+            for product in products[:3]:
+                expect(waits.stat().admitted, product.seqno, "how many were admitted, as one is told that waits")
+                expect(other.put(product)[:2], (ADMITTED, product.seqno), "the answer to a PUT meanwhile")
+                expect(waits.stat().admitted, product.seqno + 1, "how many were admitted, as the same is told behind it")
+                expect(other.stat().admitted, product.seqno + 1, "how many were admitted, as the other is told behind that")
+            expect(waits.subscribe([(ANY, b".*")]), number(OK), "the answer to a FEEDME")
+            expect(waits.products(3), [product.told() for product in products[:3]], "what is fed first")
+            expect(other.put(products[3])[:2], (ADMITTED, 3), "the answer to a PUT beside a feeding")
+            expect(waits.next_product(), products[3].told(), "what is fed then")
+            expect(other.stat()[:3], (4, 4, 0), "the first figures beside a feeding")
+            expect(node.log(), [], "the log while both are connected")
 
 
 # One connection
@@ -741,7 +782,7 @@ def goes_on_behind_reclass(place):
 
         expect(watcher.subscribe(more), reclass, "the answer to a FEEDME of more")
         expect(watcher.ask(NOTIFYME, less), number(OK), "the answer to a NOTIFYME of what is left")
-        expect(watcher.next_call(), (1, NOTIFICATION, call(1, NOTIFICATION, x.metadata())[4:]), "a notice")
+        expect(watcher.next_notice(), x.metadata(), "a notice")
 
         pushed = [Product(b"x2", b"2" * 100, DDS), Product(b"x3", b"3" * 50_000, DDS), Product(b"x4", b"", DDS)]
         pusher.xid = 0
@@ -753,8 +794,10 @@ def goes_on_behind_reclass(place):
         pusher.feed_whole(x)
         pusher.feed_in_blocks(pushed[2])
         expect(subscriber.products(3), [product.told() for product in pushed], "what is fed of what was pushed")
-        for xid, product in enumerate(pushed, 2):
-            expect(watcher.next_call(), (xid, NOTIFICATION, call(xid, NOTIFICATION, product.metadata())[4:]), "a notice")
+        for product in pushed:
+            expect(watcher.next_notice(), product.metadata(), "a notice")
+    # lines are written behind the replies of the same piece
+    until(lambda: len(node.log()) >= 3, "three lines")
     expect(node.log()[:3], ["unwanted x%20of%20HDS", "unwanted p", "refused x1 duplicate 0"], "the log")
 
 
@@ -796,7 +839,7 @@ def some_visit(node, draw):
     """One connects, asks for something at random, waits a little, and drops the connection."""
     with contextlib.suppress(OSError, Wrong):
         with node.connect() as peer:
-            peer.connection.settimeout(0.2)
+            peer.patience = 0.2
             kind = draw.randrange(9)
             if kind == 0:
                 peer.stat()
@@ -830,26 +873,28 @@ def stays_as_it_was(place):
     and again. Then it answers as before, holds nothing for them, and has as many descriptors and as much memory as before."""
     node = place.node(OPEN, "-w", 8, "-a", 1_048_576, "-S", 100)
 
-    def visit(seconds, seed):
+    def visit(count, seed):
         draw = random.Random(seed)
-        last = time.monotonic() + seconds
-        while time.monotonic() < last:
+        for _ in range(count):
             some_visit(node, draw)
 
-    def visit_by_all(seconds, seed):
-        """The figures behind the visits, and how many products the feeder had admitted meanwhile."""
-        clients = [threading.Thread(target=visit, args=(seconds, f"{seed} {i}")) for i in range(32)]
+    def visit_by_all(count, seed):
+        """So many visits by each client. How many products the feeder had admitted up to their end."""
+        clients = [threading.Thread(target=visit, args=(count, f"{seed} {i}"), daemon=True) for i in range(32)]
         for client in clients:
             client.start()
-        # those that are fed and went are found out as they are sent something
         fed = 0
-        while any(client.is_alive() for client in clients) or node.descriptors() > base:
+
+        def are_over():
+            # those that are fed and went are found out as they are sent something
+            nonlocal fed
             fed += 1
             expect(feeder.put(Product(b"many", f"{seed} {fed}".encode(), EXP))[0], ADMITTED, "the answer to a PUT")
-            time.sleep(0.005)
-            if fed > 200 * STEP:
-                raise Wrong(f"{node.descriptors() - base} descriptors more than before are open")
-        return feeder.stat(), fed
+            return not any(client.is_alive() for client in clients)
+
+        until(are_over, "the visits are over", 3 * STEP)
+        until(lambda: are_over() and node.descriptors() == base and feeder.stat().held == 0, f"{base} descriptors are open and nothing is held")
+        return fed
 
     def sessions():
         return sum(line.startswith("session ") for line in node.log())
@@ -857,15 +902,16 @@ def stays_as_it_was(place):
     with node.connect() as feeder:
         expect(feeder.put(Product(b"many", b"first"))[0], ADMITTED, "the answer to a PUT")
         base = node.descriptors()
-        visit_by_all(1.5, "at first")
+        visit_by_all(30, "at first")
         memory, held = node.memory(), sessions()
-        stat, fed = visit_by_all(3, "then")
-        expect((node.descriptors(), stat.held), (base, 0), "the descriptors, and what is held")
+        fed = visit_by_all(60, "then")
         grown = node.memory() - memory
         if grown > 8_388_608:
             raise Wrong(f"the node has {grown} bytes more in memory behind {sessions() - held} sessions")
         with node.connect() as peer:
-            expect(peer.stat(), stat, "the figures of a node that is asked by another")
+            # a visit that the system had still to hand over may come last
+            until(lambda: peer.stat() == feeder.stat(), "two peers are told the same figures")
+            stat = peer.stat()
             expect(stat.used <= 1_048_576 and stat.queued <= 100 and stat.admitted > fed, True, f"whether {stat} may be behind {fed} of one peer")
     known = ("session 127.0.0.1 ", "gap 127.0.0.1 ", "refused pushed ")
     odd = [line for line in node.log() if not line.startswith(known)]
@@ -889,7 +935,7 @@ def bears_a_slow_peer(place):
             slow.send(call_of_put[i : i + 1])
             with node.connect() as peer:
                 expect(peer.stat().admitted, 0, "how many were admitted")
-                expect(node.descriptors() - base, 4, "the connections that are served")
+                until(lambda: node.descriptors() - base == 4, "four connections are served")
             until(lambda: node.descriptors() - base == 3, "a connection is over")
             time.sleep(1)
         if node.memory() - memory > 8_388_608:
@@ -1469,6 +1515,7 @@ CASES = [
     relays_over_links_that_break,
     asks_until_it_is_fed,
     feeds_both_ways,
+    serves_two_at_once,
     starts_anew,
     answers_wrong_calls,
     takes_no_part_of_a_call,

@@ -5,6 +5,7 @@ A peer is told of a connection as it comes: a record that is not what it waits f
 import hashlib
 import socket
 import struct
+import time
 import typing
 
 PROGRAM, VERSION = 300029, 6
@@ -26,8 +27,8 @@ BLOCK = 16_384
 GREATEST_INSTANT = 4_294_967_295_999_999
 LARGEST_RECORD = 2**30 + 1_024
 
-# How long a peer waits for the next bytes, in seconds.
-PATIENCE = 20
+# How long a peer waits for what is to come next, in seconds. A node gives a link up that is silent for 120.
+PATIENCE = 100
 
 
 class Wrong(Exception):
@@ -164,8 +165,8 @@ class Peer:
     """One end of a connection."""
 
     def __init__(self, connection):
-        connection.settimeout(PATIENCE)
         self.connection = connection
+        self.patience = PATIENCE
         self.kept = b""
         # of the last call that was sent, and of the last one that a feeder made
         self.xid = 0
@@ -179,7 +180,12 @@ class Peer:
         self.connection.close()
 
     def send(self, piece):
+        self.connection.settimeout(self.patience)
         self.connection.sendall(piece)
+
+    def last_moment(self):
+        """When it waits no more for what is to come next."""
+        return time.monotonic() + self.patience
 
     def reset(self):
         """Ends the connection at once, whatever is on its way."""
@@ -189,11 +195,16 @@ class Peer:
     def say_no_more(self):
         self.connection.shutdown(socket.SHUT_WR)
 
-    def take(self, count):
-        """The next bytes; fewer only where the stream ended."""
+    def take(self, count, last=None):
+        """The next bytes, which have to be there by the last moment; fewer only where the stream ended."""
+        last = last or self.last_moment()
         pieces = [self.kept]
         have = len(self.kept)
         while have < count:
+            left = last - time.monotonic()
+            if left <= 0:
+                raise Wrong(f"{have} bytes came in time, of {count}")
+            self.connection.settimeout(left)
             try:
                 piece = self.connection.recv(max(65_536, min(count - have, 1_048_576)))
             except ConnectionResetError:
@@ -210,17 +221,18 @@ class Peer:
         """All bytes up to the end of the stream."""
         return self.take(2**62)
 
-    def next_record(self):
+    def next_record(self, last=None):
         """The content of the next record; None where the stream ended in front of it."""
+        last = last or self.last_moment()
         content = b""
         while True:
-            header = self.take(4)
+            header = self.take(4, last)
             if not header and not content:
                 return None
             if len(header) < 4:
                 raise Wrong(f"the stream ended within a header: {header!r}")
             (length,) = struct.unpack(">I", header)
-            fragment = self.take(length % 2**31)
+            fragment = self.take(length % 2**31, last)
             if len(fragment) < length % 2**31:
                 raise Wrong(f"the stream ended within a record of {length % 2**31} bytes")
             content += fragment
@@ -265,8 +277,9 @@ class Peer:
 
     def next_call(self):
         """The next call of a feeder but IS_ALIVE; None at the end of the stream. Its calls are numbered from 1."""
+        last = self.last_moment()
         while True:
-            content = self.next_record()
+            content = self.next_record(last)
             if content is None:
                 return None
             self.fed_xid += 1
@@ -296,6 +309,14 @@ class Peer:
         expect(came.body[at:], number(BLOCK), "the end of a COMINGSOON")
         self.send(reply(came.xid, number(OK if wanted else DONT_SEND)))
         return product._replace(body=self.body_in_blocks(product, size)) if wanted else product
+
+    def next_notice(self):
+        """The metadata of the next product that it is told of; None at the end of the stream."""
+        came = self.next_call()
+        if came is None:
+            return None
+        expect(came.procedure, NOTIFICATION, "the procedure of a notice")
+        return came.body[40:]
 
     def body_in_blocks(self, product, size):
         body = b""
