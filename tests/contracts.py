@@ -1,5 +1,6 @@
 """The definitions in specs/ and the clauses of the code, with what each names: what tests/reading_lists reads."""
 
+import bisect
 import os
 import re
 from collections import namedtuple
@@ -52,8 +53,8 @@ class Scope:
             self.names[name] = meaning
 
 
-def names_in(tokens, scope, bound=(), lookup=None):
-    """The meanings of the free names of these tokens. `lookup` finds a name in a module."""
+def names_in(tokens, scope, bound, lookup):
+    """The meanings of the names of these tokens that are not bound there. `lookup` finds a name in a module."""
     found = []
     scopes = [set(bound)]
     pending = []  # names that a group binds for what stands behind it
@@ -452,18 +453,15 @@ class Item:
 class CodeFile:
     """A .rt file: its items with their clauses, as far as the layout of `rt fmt` tells them."""
 
-    def __init__(self, code, crate, path):
-        self.code, self.crate, self.path = code, crate, path
+    def __init__(self, crate, path):
+        self.crate, self.path = crate, path
         with open(f"{TOP}/{path}", encoding="utf-8") as it:
             self.text = it.read()
         self.tokens = [it for it in RUST.finditer(self.text) if not it.group().startswith(("//", "/*"))]
         self.words = [it.group() for it in self.tokens]
-        self.uses = {}
-        self.scope = Scope()
-        self.starts = [0]
-        for it in re.finditer("\n", self.text):
-            self.starts.append(it.end())
+        self.uses = {}  # of a name that is imported its crate, and its name there
         self.said = []  # its clauses
+        self.starts = [0, *(it.end() for it in re.finditer("\n", self.text))]
 
     def lines_of_code(self):
         """How many lines have something that runs: no comment, no clause, no ghost, no hint for the prover."""
@@ -485,13 +483,10 @@ class CodeFile:
         return len(lines)
 
     def line_of(self, i):
-        at, low, high = self.tokens[i].start(), 0, len(self.starts)
-        while high - low > 1:
-            middle = (low + high) // 2
-            low, high = (middle, high) if self.starts[middle] <= at else (low, middle)
-        return low + 1
+        return bisect.bisect_right(self.starts, self.tokens[i].start())
 
     def closing(self, i):
+        """Where the bracket closes that opens here."""
         depth = 0
         for k in range(i, len(self.words)):
             if self.words[k] in OPEN:
@@ -507,6 +502,7 @@ class CodeFile:
         return self.text[self.tokens[i].end():self.tokens[end].start()]
 
     def until(self, i, sign):
+        """Where that sign comes next, outside brackets that open before it."""
         while self.words[i] != sign:
             i = self.closing(i) + 1 if self.words[i] in OPEN else i + 1
         return i
@@ -530,75 +526,71 @@ class Crate:
 
 
 class Sources:
-    """The clauses of all crates."""
+    """The clauses of all crates. `below` has for each crate those that it stands on."""
 
-    def __init__(self, specs, crates):
-        self.specs = specs
-        self.below = crates
-        self.crates = {name: Crate(name) for name in crates}
+    def __init__(self, specs, below):
+        self.specs, self.below = specs, below
+        self.crates = {name: Crate(name) for name in below}
         self.files = []
-        for name in crates:
+        for name in below:
             for folder, folders, files in os.walk(f"{TOP}/crates/{name}/src"):
                 folders.sort()
                 for file in sorted(files):
                     if file.endswith(".rt"):
-                        path = os.path.relpath(f"{folder}/{file}", TOP)
-                        self.files.append(CodeFile(self, self.crates[name], path))
+                        self.files.append(CodeFile(self.crates[name], os.path.relpath(f"{folder}/{file}", TOP)))
         for file in self.files:
-            self.items(file, 0, len(file.words), file.scope, None, True, set())
+            self.items(file, 0, len(file.words), Scope(), None)
 
-    def items(self, file, i, end, scope, owner, public, bound):
-        """Reads the items between these places. `owner` is the type or the trait that they belong to."""
-        words, crate = file.words, file.crate
-        visible, first = None, None
+    def items(self, file, i, end, scope, owner):
+        """Reads the items between these places. `owner` is what they belong to, if not to the file: its kind, its name, and about it."""
+        words = file.words
+        visible = False
         while i < end:
             word = words[i]
-            if first is None:
-                first = i
             if word in ("#", "#!"):
-                i = file.closing(file.until(i, "[") if words[i + 1] != "[" else i + 1) + 1
-                continue
-            if word == "pub":
-                visible = "pub"
-                if words[i + 1] == "(":
-                    visible, i = "inside", file.closing(i + 1)
-                i += 1
-                continue
-            if word == "ghost" and words[i + 1] == "use":
-                stop = file.until(i, ";")
-                self.specs.bring(scope, " ".join(file.text[file.tokens[i].start():file.tokens[stop].start()].split()))
-                i = stop + 1
-            elif word == "ghost":
-                i = self.ghost(file, i, scope, owner, public)
-            elif word == "use":
-                stop = file.until(i, ";")
-                self.use(file, file.text[file.tokens[i].end():file.tokens[stop].start()])
-                i = stop + 1
-            elif word == "fn":
-                i = self.function(file, i, end, scope, owner, visible, public, bound)
-            elif word in ("struct", "enum", "union"):
-                i = self.type(file, i, scope, visible)
-            elif word == "trait":
-                i = self.trait(file, i, scope, visible)
-            elif word == "impl":
-                i = self.implementation(file, i, scope)
-            elif word == "mod":
-                if words[i + 2] == ";":
-                    i += 3
-                else:
-                    stop = file.closing(i + 2)
-                    self.items(file, i + 3, stop, scope.child(), owner, False, bound)
-                    i = stop + 1
-            elif word in ("const", "static", "type") and words[i + 1] != "fn":
-                if word == "type" and owner and owner[0] == "trait":
-                    name = words[i + 1]
-                    stop = file.until(i, ";")
-                    owner[2]["types"][name] = [it for it in words[i + 2:stop] if it[0].isupper()]
-                i = file.until(i, ";") + 1
+                i = file.closing(file.until(i, "[")) + 1
+            elif word == "pub":
+                visible = words[i + 1] != "("
+                i += 1 if visible else file.closing(i + 1) + 1 - i
+            elif word == "ghost" and words[i + 1] == "use":
+                i = self.bring(file, i, scope)
+                visible = False
             else:
-                i += 1
-                continue
-            visible, first = None, None
+                i = self.item(file, i, end, scope, owner, visible)
+                visible = False
+
+    def item(self, file, i, end, scope, owner, visible):
+        """Reads what begins at this place, and returns where the next item begins."""
+        words = file.words
+        word = words[i]
+        if word == "ghost":
+            return self.ghost(file, i, scope, owner)
+        if word == "use":
+            stop = file.until(i, ";")
+            self.use(file, file.text[file.tokens[i].end():file.tokens[stop].start()])
+            return stop + 1
+        if word == "fn":
+            return self.function(file, i, end, scope, owner, visible)
+        if word in ("struct", "enum"):
+            return self.type(file, i, scope, visible)
+        if word == "trait":
+            return self.trait(file, i, scope, visible)
+        if word == "impl":
+            return self.implementation(file, i, scope)
+        if word == "mod":
+            return i + 3 if words[i + 2] == ";" else file.closing(i + 2) + 1
+        if word in ("const", "static", "type") and words[i + 1] != "fn":
+            stop = file.until(i, ";")
+            if word == "type" and owner and owner[0] == "trait":
+                owner[2]["types"][words[i + 1]] = [it for it in words[i + 2:stop] if it[0].isupper()]
+            return stop + 1
+        return i + 1
+
+    def bring(self, file, i, scope):
+        """Reads a `ghost use`."""
+        stop = file.until(i, ";")
+        self.specs.bring(scope, " ".join(file.text[file.tokens[i].start():file.tokens[stop].start()].split()))
+        return stop + 1
 
     @staticmethod
     def say(item, *parts):
@@ -622,35 +614,39 @@ class Sources:
         """The crate of a type that a file names."""
         return file.uses.get(name, (file.crate.name, name))
 
-    def ghost(self, file, i, scope, owner, public):
-        """`ghost NAME = { .. };` or `ghost NAME: { .. };`: of a trait, of its implementation, or of a type."""
+    def ghost(self, file, i, scope, owner):
+        """Reads `ghost NAME = { .. };` or `ghost NAME: { .. };` of a trait, of its implementation, or of how contracts see a type."""
         words = file.words
-        name = words[i + 1]
-        opens = file.until(i, "{") if "{" in words[i:i + 4] else None
-        if opens is None:
+        if "{" not in words[i:i + 4]:
             return file.until(i, ";") + 1
+        name, opens = words[i + 1], file.until(i, "{")
         ends = file.closing(opens)
-        names = names_in(tokens_of(file.inside(opens, ends)), scope, (), self.specs.lookup)
+        text = file.inside(opens, ends)
         if owner:
             kind, title, about = owner
-            about.setdefault("ghosts", {})[name] = names
-            if kind == "trait":
+            names = names_in(tokens_of(text), scope, (), self.specs.lookup)
+            about["ghosts"][name] = names
+            if kind != "model":
                 scope.names[name] = ("ghost", names)
             if kind == "model" and name == "Value":
                 file.crate.values[title] = names
-            exported = about.get("public", False)
-            if kind == "trait" or kind == "impl" or (kind == "model" and name == "Value"):
-                self.say(about["item"], "ghost", name, file.inside(opens, ends), scope, (), exported)
-        k = ends + 1
+            if kind != "model" or name == "Value":
+                self.say(about["item"], "ghost", name, text, scope, (), about["item"].public)
+        return self.after_group(file, ends)
+
+    @staticmethod
+    def after_group(file, ends):
+        """Where it goes on after a clause, with what proves it and a sign at its end."""
+        words, k = file.words, ends + 1
         if words[k] == "by":
             k = file.closing(k + 1) + 1
-        return k + 1 if k < len(words) and words[k] in ";," else k
+        return k + 1 if words[k] in (";", ",") else k
 
     def bounds_of(self, file, i, end):
         """The type parameters between these places with their bounds."""
         found, words = {}, file.words
         for k in range(i, end):
-            if words[k] == ":" and words[k - 1][0].isupper() and words[k - 1] not in ("Self",):
+            if words[k] == ":" and words[k - 1][0].isupper():
                 stop, depth = k + 1, 0
                 while stop < end and not (words[stop] in ",{;" and depth <= 0) and words[stop] not in ("requires", "ensures", "where"):
                     depth += (words[stop] in "(<[") - (words[stop] in ")>]")
@@ -660,25 +656,46 @@ class Sources:
                 found.setdefault(words[k - 1], []).extend(it for it in words[k + 1:stop] if it[0].isupper())
         return found
 
-    def function(self, file, i, end, scope, owner, visible, public, bound):
+    def function(self, file, i, end, scope, owner, visible):
+        """Reads a function with its clauses."""
         words, crate = file.words, file.crate
-        name, line = words[i + 1], file.line_of(i)
-        title = f"{owner[1]}::{name}" if owner else name
-        if owner and owner[0] == "trait":
-            is_public = owner[2]["public"]
-        elif owner and owner[0] == "impl":
-            is_public = owner[2]["public"]
+        name = words[i + 1]
+        kind, title, about = owner or ("", "", {})
+        if kind in ("trait", "impl"):
+            public = about["item"].public
         elif owner:
-            is_public = visible == "pub" and owner[1] in crate.exported
+            public = visible and title in crate.exported
         else:
-            is_public = public and visible == "pub" and name in crate.exported
-        if crate.is_program and not owner and name == "main":
-            is_public = True
-        item = Item(crate, title, file, line, is_public)
+            public = visible and name in crate.exported or crate.is_program and name == "main"
+        item = Item(crate, f"{title}::{name}" if owner else name, file, file.line_of(i), public)
         opens = file.until(i, "(")
         closes = file.closing(opens)
-        # parameters, with the types that each has
-        types, k = {}, opens + 1
+        k, head, clauses = closes + 1, None, []
+        while k < end and words[k] not in "{;":
+            if words[k] in ("requires", "ensures"):
+                head = head or k
+                opens_at = file.until(k, "{")
+                label = next((it for it in words[k + 1:opens_at] if is_name(it)), "")
+                ends_at = file.closing(opens_at)
+                clauses.append((words[k], label, file.inside(opens_at, ends_at)))
+                k = ends_at + 1
+                if words[k] == "by":
+                    k = file.closing(k + 1) + 1
+            else:
+                k = file.closing(k) + 1 if words[k] in OPEN else k + 1
+        if clauses:
+            item.types = self.types_of(file, opens, closes, title)
+            item.types["result"] = [title if it == "Self" else it for it in words[closes + 1:head] if it[0].isupper()]
+            item.bounds = {**about.get("bounds", {}), **self.bounds_of(file, i + 2, head)}
+            for kind, label, text in clauses:
+                self.say(item, kind, label, text, scope, {*item.types, *item.bounds}, public)
+            crate.items.append(item)
+        return file.closing(k) + 1 if words[k] == "{" else k + 1
+
+    @staticmethod
+    def types_of(file, opens, closes, owner):
+        """The names of the parameters between these brackets, with the types that the type of each is made of."""
+        words, found, k = file.words, {}, opens + 1
         while k < closes:
             stop, depth = k, 0
             while stop < closes and not (words[stop] == "," and depth == 0):
@@ -686,121 +703,75 @@ class Sources:
                 stop += 1
             piece = words[k:stop]
             if "self" in piece[:4]:
-                types["self"] = [owner[1]] if owner else []
+                found["self"] = [owner]
             elif ":" in piece:
                 colon = piece.index(":")
-                for it in piece[:colon]:
-                    if is_name(it) and it not in ("mut", "ref"):
-                        types[it] = [one for one in piece[colon + 1:] if one[0].isupper()]
+                types = [it for it in piece[colon + 1:] if it[0].isupper()]
+                found.update((it, types) for it in piece[:colon] if is_name(it) and it != "mut")
             k = stop + 1
-        k = closes + 1
-        clauses = []
-        body = None
-        head = closes
-        while k < end:
-            word = words[k]
-            if word in ("requires", "ensures"):
-                head = head if clauses else k
-                opens_at = file.until(k, "{")
-                label = next((it for it in words[k + 1:opens_at] if is_name(it)), "")
-                ends_at = file.closing(opens_at)
-                clauses.append((word, label, file.inside(opens_at, ends_at)))
-                k = ends_at + 1
-                if words[k] == "by":
-                    k = file.closing(k + 1) + 1
-            elif word == "{":
-                body = (k, file.closing(k))
-                k = body[1] + 1
-                break
-            elif word == ";":
-                k += 1
-                break
-            elif word in OPEN:
-                k = file.closing(k) + 1
-            else:
-                k += 1
-        stop = k
-        result = [it for it in words[closes + 1:head] if it[0].isupper()] if clauses else []
-        types["result"] = [owner[1] if it == "Self" and owner else it for it in result]
-        item.bounds = self.bounds_of(file, i + 2, head if clauses else closes)
-        if owner:
-            item.bounds = {**owner[2].get("bounds", {}), **item.bounds}
-        item.types = types
-        names = set(types) | set(item.bounds)
-        for kind, label, text in clauses:
-            self.say(item, kind, label, text, scope, names, is_public)
-        if clauses or is_public:
-            crate.items.append(item)
-        return stop
+        return found
 
     def type(self, file, i, scope, visible):
+        """Reads a struct or an enum, with the clauses among its fields."""
         words, crate = file.words, file.crate
         name = words[i + 1]
-        k = i + 2
-        while words[k] not in "{(;":
-            k += 1
-        if words[k] == ";":
-            return k + 1
-        ends = file.closing(k)
-        if words[k] == "{":
-            inner = scope.child()
-            item = Item(crate, name, file, file.line_of(i), visible == "pub" and name in crate.exported)
-            at = k + 1
-            while at < ends:
-                if words[at] == "ghost" and words[at + 1] == "use":
-                    stop = file.until(at, ";")
-                    self.specs.bring(inner, " ".join(file.text[file.tokens[at].start():file.tokens[stop].start()].split()))
-                    at = stop + 1
-                elif words[at] == "ghost":
-                    opens = file.until(at, "{")
-                    closes = file.closing(opens)
-                    is_public = item.public and words[at - 1] == "pub"
-                    fields = {words[n - 1] for n in range(k + 1, ends) if words[n] == ":" and words[n - 1] not in ")>"}
-                    self.say(item, "ghost", words[at + 1], file.inside(opens, closes), inner, fields, is_public)
-                    at = closes + 1
-                else:
-                    at = file.closing(at) + 1 if words[at] in "([{" else at + 1
-            if item.clauses:
-                crate.items.append(item)
-        return ends + 1 if words[k] == "{" else file.until(ends, ";") + 1
+        opens = i + 2
+        while words[opens] not in "{(;":
+            opens += 1
+        if words[opens] == ";":
+            return opens + 1
+        ends = file.closing(opens)
+        if words[opens] == "(":
+            return file.until(ends + 1, ";") + 1
+        inner = scope.child()
+        item = Item(crate, name, file, file.line_of(i), visible and name in crate.exported)
+        fields = {words[k - 1] for k in range(opens + 1, ends) if words[k] == ":"}
+        k = opens + 1
+        while k < ends:
+            if words[k] == "ghost" and words[k + 1] == "use":
+                k = self.bring(file, k, inner)
+            elif words[k] == "ghost":
+                at = file.until(k, "{")
+                closes = file.closing(at)
+                self.say(item, "ghost", words[k + 1], file.inside(at, closes), inner, fields, item.public and words[k - 1] == "pub")
+                k = closes + 1
+            else:
+                k = file.closing(k) + 1 if words[k] in OPEN else k + 1
+        if item.clauses:
+            crate.items.append(item)
+        return ends + 1
 
     def trait(self, file, i, scope, visible):
+        """Reads a trait with its methods."""
         words, crate = file.words, file.crate
-        name = words[i + 1]
-        opens = file.until(i, "{")
+        name, opens = words[i + 1], file.until(i, "{")
         ends = file.closing(opens)
-        item = Item(crate, name, file, file.line_of(i), visible == "pub" and name in crate.exported)
+        item = Item(crate, name, file, file.line_of(i), visible and name in crate.exported)
         item.is_trait = True
-        about = {"public": item.public, "item": item, "types": {}, "ghosts": {}, "bounds": self.bounds_of(file, i + 1, opens)}
-        crate.traits[name] = about
+        crate.traits[name] = {"item": item, "types": {}, "ghosts": {}, "bounds": self.bounds_of(file, i + 1, opens)}
         crate.items.append(item)
-        self.items(file, opens + 1, ends, scope.child(), ("trait", name, about), True, set())
+        self.items(file, opens + 1, ends, scope.child(), ("trait", name, crate.traits[name]))
         return ends + 1
 
     def implementation(self, file, i, scope):
+        """Reads an `impl`: of a type, of how contracts see one (`Model`), or of another trait."""
         words, crate = file.words, file.crate
         opens = file.until(i, "{")
         ends = file.closing(opens)
-        head = words[i + 1:opens]
-        k, depth = 0, 0
-        if head[0] == "<":
-            while True:
-                depth += head[k].count("<") - head[k].count(">") + (head[k] == "->")
-                k += 1
-                if depth == 0:
-                    break
-        rest = head[k:]
-        where = rest.index("where") if "where" in rest else len(rest)
-        split = rest.index("for") if "for" in rest[:where] else None
-        target = rest[split + 1:where] if split is not None else rest[:where]
+        head, k, depth = words[i + 1:opens], 0, 0
+        while head[0] == "<" and (k == 0 or depth > 0):
+            depth += head[k].count("<") - head[k].count(">") + (head[k] == "->")
+            k += 1
+        head = head[k:head.index("where") if "where" in head else len(head)]
+        split = head.index("for") if "for" in head else None
+        target = head if split is None else head[split + 1:]
         title = next((it for it in target if it[0].isupper()), target[0])
-        traits = rest[:split] if split is not None else []
-        kind = "type" if not traits else "model" if "Model" in traits else "impl"
+        kind = "type" if split is None else "model" if "Model" in head[:split] else "impl"
         item = Item(crate, title, file, file.line_of(i), title in crate.exported)
-        about = {"public": title in crate.exported, "item": item, "bounds": self.bounds_of(file, i, opens)}
+        about = {"item": item, "ghosts": {}, "bounds": self.bounds_of(file, i, opens)}
         if kind != "type":
             crate.items.append(item)
-        self.items(file, opens + 1, ends, scope.child(), (kind, title, about), True, set())
+        self.items(file, opens + 1, ends, scope.child(), (kind, title, about))
         return ends + 1
 
     # -- what a clause names itself
