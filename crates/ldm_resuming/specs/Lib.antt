@@ -1,0 +1,7 @@
+pub mod Life
+pub mod Session
+pub mod Offered
+pub mod Behind
+pub mod Resumed
+pub mod Blocks
+pub mod Examples
