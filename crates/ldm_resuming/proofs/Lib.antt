@@ -10,3 +10,6 @@ mod Counting
 mod Coming
 mod Behind
 mod Resuming
+mod Naming
+mod Following
+mod Living

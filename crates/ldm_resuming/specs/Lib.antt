@@ -3,5 +3,6 @@ pub mod Session
 pub mod Offered
 pub mod Behind
 pub mod Resumed
+pub mod Following
 pub mod Blocks
 pub mod Examples

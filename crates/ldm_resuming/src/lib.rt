@@ -5,4 +5,4 @@ mod examples;
 mod laws;
 
 pub use examples::worked_examples;
-pub use laws::cut_sessions_resume;
+pub use laws::{cut_sessions_resume, feedings_have_lives};

@@ -7,19 +7,20 @@ use Rattle.ldm_resuming.specs.Session.{Session, IsSession}
 use Rattle.ldm_resuming.proofs.Behind.{QueueLaws, all-above, all-next}
 use Rattle.ldm_resuming.proofs.Coming.{came-or-declined}
 use Rattle.ldm_resuming.proofs.Counting.{done-settled, left-unsettled}
+use Rattle.ldm_resuming.proofs.Following.{EndsLaw, are-resumed}
 use Rattle.ldm_resuming.proofs.Handing.{offered-first}
 use Rattle.ldm_resuming.proofs.Resuming.{resumed-rise}
 use Rattle.ldm_resuming.proofs.laws.cut_sessions_resume.Goals as goal
 
 -- what the laws say that are called
-abbrev queue_laws : goal.After-products_stay → QueueLaws
+abbrev queue_laws : goal.After-reads_what_is_written → QueueLaws
 queue_laws c = record {
   readers = c.every_reader_is_served.ensures.obeys_law;
   signatures = c.signatures_differ.ensures;
   stays = c.products_stay.ensures.stays;
 }
 
-passes_first : goal.After-products_stay → (s : Session) → IsSession s → PassesFirst s.passing
+passes_first : goal.After-reads_what_is_written → (s : Session) → IsSession s → PassesFirst s.passing
 passes_first c s is = c.products_are_passed_on.ensures.in_order s.passing is.passing
 
 pub returns-clause-first : goal.returns-clause-first
@@ -34,12 +35,15 @@ returns-clause-taken c = λ s is.
     let left = left-unsettled p.actor (moments_of p.pieces) p.begins.last p.came_to.receiving.last all p.made passes in
     coe 0 1 (i. Joins (Takings p.actor (moments_of p.pieces) (sym done i)) (BeginsFirst p.actor (sym left i)) p.made) passes.made_is
 
-pub returns-clause-last : goal.returns-clause-last
-returns-clause-last c = λ s is.
+last_is : goal.After-reads_what_is_written → EndsLaw
+last_is c = λ s is.
     let p = s.passing in
     let passes = passes_first c s is in
     passes.last_is
     ∙ ap (last_of p.begins.last) (sym (done-settled p.actor (moments_of p.pieces) p.begins.last p.came_to.receiving.last (handed p.feeding) p.made passes))
+
+pub returns-clause-last : goal.returns-clause-last
+returns-clause-last c = last_is c
 
 pub returns-clause-in_blocks : goal.returns-clause-in_blocks
 returns-clause-in_blocks c = λ s is product there large some.
@@ -56,3 +60,7 @@ returns-clause-passes_over c = λ s n is b. all-next (queue_laws c) s is n b
 
 pub returns-clause-rising : goal.returns-clause-rising
 returns-clause-rising c = resumed-rise (queue_laws c)
+
+pub returns-clause-resumed : goal.returns-clause-resumed
+returns-clause-resumed c = λ class sessions can are finds.
+    are-resumed c.products_stay.ensures.stays c.reads_what_is_written.ensures (λ s is. last_is c s is) class can sessions are finds
