@@ -1,8 +1,10 @@
 //! A check of the definitions: worked examples that compute.
 ghost use Rattle.std.specs.Prelude.{◌≡◌, [], ◌∷◌, true, false, Some, None};
+ghost use Rattle.ldm_model.specs.Law.{given};
 ghost use Rattle.ldm_model.specs.declared.event.Reply.TheVariants as reply;
 ghost use Rattle.ldm_passing.specs.Examples.{inserts, reserves, fills, commits};
-ghost use Rattle.ldm_resuming.specs.Examples.{session_with, sample_feeding, asks_before, sample_row, givings};
+ghost use Rattle.ldm_resuming.specs.Behind.{IsBehind, IsNextBehind};
+ghost use Rattle.ldm_resuming.specs.Examples.{resumed_life, resumed_session, session_with, sample_feeding, asks_before, sample_row, givings};
 ghost use Rattle.ldm_resuming.specs.Life.{calls_of};
 ghost use Rattle.ldm_resuming.specs.Offered.{count_settled, is_due_row, numbers_of, offered, products_left};
 ghost use Rattle.ldm_resuming.specs.Resumed.{last_number};
@@ -31,4 +33,14 @@ pub fn worked_examples()
     // A session in which nothing was offered leaves the product to go on behind.
     ensures last { last_number (Some 2) (4 ∷ 9 ∷ []) ≡ Some 9 }
     ensures none_more { last_number (Some 9) [] ≡ Some 9 }
+{}
+
+/// A session that goes on behind product 0, through the queue. Product 1 was evicted before its cursor was given product 2.
+pub fn worked_example_of_resuming()
+    ensures given { given resumed_life ≡ 2 ∷ [] }
+    ensures behind { IsBehind resumed_session 0 }
+    // The class does not name product 1.
+    ensures not_behind { ¬ (IsBehind resumed_session 1) }
+    // Product 1 is passed over, and it was not queued then.
+    ensures next { IsNextBehind resumed_session 0 2 }
 {}

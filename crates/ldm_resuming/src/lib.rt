@@ -4,5 +4,5 @@
 mod examples;
 mod laws;
 
-pub use examples::worked_examples;
+pub use examples::{worked_example_of_resuming, worked_examples};
 pub use laws::{cut_sessions_resume, feedings_have_lives};
