@@ -1,5 +1,5 @@
 -- As many products were settled as were taken.
-use Rattle.std.proofs.Common.{◌≡◌, ◌∙◌, ℕ, ◌+◌, Bool, false, cond, not, List, [], ◌∷◌, ◌++◌, length, filter, take, drop, Option, inl, inr, refl, sym, ap, arith, length-append}
+use Rattle.std.proofs.Common.{◌≡◌, ◌∙◌, ℕ, ◌+◌, Bool, false, cond, not, List, [], ◌∷◌, ◌++◌, length, filter, take, drop, inl, inr, refl, sym, ap, arith, length-append}
 use Rattle.std.proofs.lemmas.List.{take_at, drop_at}
 use Rattle.std.proofs.lemmas.List.Elements.{filter-append}
 use Rattle.ldm_model.specs.declared.event.Event.TheVariants.{Reserve, Commit}
@@ -7,8 +7,7 @@ use Rattle.ldm_model.specs.declared.event.Entry.{Entry}
 use Rattle.ldm_model.specs.Product.{Product}
 use Rattle.ldm_intake.specs.Course.{entry_by}
 use Rattle.ldm_passing.specs.Handed.{Way, Whole, Declined, InBlocks, Announced, Handed}
-use Rattle.ldm_passing.specs.Passing.{PassesOn}
-use Rattle.ldm_passing.specs.Takings.{Fills, TakesNone, TakesBlocks, TakesBy, Takings, BeginsBy, BeginsFirst}
+use Rattle.ldm_passing.specs.Takings.{Joins, Fills, TakesNone, TakesBlocks, TakesBy, Takings, BeginsBy, BeginsFirst}
 use Rattle.ldm_resuming.specs.Offered.{settles, count_settled}
 
 abbrev is_settling : Entry → Bool
@@ -65,16 +64,18 @@ begins-none : (actor : ℕ) (left : List Handed) (made : List Entry) → BeginsF
 begins-none actor [] made b = ap count_settled b
 begins-none actor (product ∷ left) made b = begun-none product.way actor product.given.product made b
 
-module _ (actor : ℕ) (moments : List ℕ) (old last : Option (List ℕ)) (products : List Handed) (made : List Entry) (p : PassesOn actor moments old last products made) where
-  settled-done : count_settled made ≡ length p.done
+-- a cut of the products that fits what was asked for them
+module _ (actor : ℕ) (moments : List ℕ) (products : List Handed) (made : List Entry) (done left : List Handed) (all : done ++ left ≡ products)
+    (fits : Joins (Takings actor moments done) (BeginsFirst actor left) made) where
+  settled-done : count_settled made ≡ length done
   settled-done =
-      let first = takings-count actor moments p.done p.made_is.first p.made_is.is_first in
-      let second = begins-none actor p.left p.made_is.second p.made_is.is_second in
-      let all = ap count_settled p.made_is.all ∙ count-append p.made_is.first p.made_is.second in
-      omega (arith, first, second, all)
+      let first = takings-count actor moments done fits.first fits.is_first in
+      let second = begins-none actor left fits.second fits.is_second in
+      let both = ap count_settled fits.all ∙ count-append fits.first fits.second in
+      omega (arith, first, second, both)
 
-  pub done-settled : take (count_settled made) products ≡ p.done
-  done-settled = ap (take (count_settled made)) (sym p.all) ∙ take_at p.done p.left (count_settled made) (sym settled-done)
+  pub done-settled : take (count_settled made) products ≡ done
+  done-settled = ap (take (count_settled made)) (sym all) ∙ take_at done left (count_settled made) (sym settled-done)
 
-  pub left-unsettled : drop (count_settled made) products ≡ p.left
-  left-unsettled = ap (drop (count_settled made)) (sym p.all) ∙ drop_at p.done p.left (count_settled made) (sym settled-done)
+  pub left-unsettled : drop (count_settled made) products ≡ left
+  left-unsettled = ap (drop (count_settled made)) (sym all) ∙ drop_at done left (count_settled made) (sym settled-done)

@@ -10,13 +10,19 @@ use Rattle.ldm_model.specs.Law.{given}
 use Rattle.ldm_sender.specs.Asked.{Asked}
 use Rattle.ldm_sender.specs.Due.{is_due}
 use Rattle.ldm_passing.specs.Handed.{Handed, handed}
-use Rattle.ldm_passing.specs.Takings.{is_reserved}
+use Rattle.ldm_passing.specs.Passing.{Passing, moments_of}
+use Rattle.ldm_passing.specs.Takings.{Joins, Takings, BeginsFirst, is_reserved}
 use Rattle.ldm_resuming.specs.Session.{Session}
 
 -- ---- what was offered
 
+-- What the receiver asked its queue is what is asked for the products that are done, in order and each once, and perhaps some of what
+-- is asked for the first that is left.
+abbrev pub IsAskedFor : Passing → (done left : List Handed) → Type 0
+IsAskedFor p done left = Joins (Takings p.actor (moments_of p.pieces) done) (BeginsFirst p.actor left) p.made
+
 -- Whether a call of the receiver on its queue is the last one for a product: it inserts it, it commits it, or it asks for a region and
--- gets none. Then the product is announced as not wanted, where it was announced.
+-- gets none, so that the announcement is declined.
 abbrev pub settles : Event → Reply → Bool
 settles (Insert now info body) reply = true
 settles (Commit r now) reply = true

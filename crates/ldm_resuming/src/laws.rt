@@ -13,12 +13,10 @@ ghost use Rattle.ldm_sender.specs.Asked.{Asked};
 ghost use Rattle.ldm_sender.specs.Opening.{Opened, opening_entries};
 ghost use Rattle.ldm_upstream.specs.Feeding.{Feeding};
 ghost use Rattle.ldm_upstream.specs.Feeds.{Feeds};
-ghost use Rattle.ldm_passing.specs.Handed.{Handed, last_of};
-ghost use Rattle.ldm_passing.specs.Passing.{moments_of};
-ghost use Rattle.ldm_passing.specs.Takings.{Joins, Takings, BeginsFirst};
+ghost use Rattle.ldm_passing.specs.Handed.{Handed, handed, last_of};
 ghost use Rattle.ldm_resuming.specs.Life.{HasLife, calls_of, gives};
 ghost use Rattle.ldm_resuming.specs.Session.{Session, IsSession};
-ghost use Rattle.ldm_resuming.specs.Offered.{offered, offered_products, products_left, due};
+ghost use Rattle.ldm_resuming.specs.Offered.{IsAskedFor, offered, offered_products, products_left, due};
 ghost use Rattle.ldm_resuming.specs.Behind.{IsBehind, IsNextBehind};
 ghost use Rattle.ldm_resuming.specs.Resumed.{AreResumed, all_offered};
 ghost use Rattle.ldm_resuming.specs.Following.{CanName, FollowInTurn, AllFind};
@@ -34,9 +32,11 @@ use ldm_signature::reads_what_is_written;
 pub fn cut_sessions_resume()
     // What was offered are the first of the due products that the cursor was given, in order.
     ensures first { (s : Session) → IsSession s → IsPrefix (offered s) (due s) }
-    // They are those that the receiver asked its queue for, each once, and of the next one perhaps some was asked.
-    ensures taken { (s : Session) → IsSession s → Joins (Takings s.passing.actor (moments_of s.passing.pieces) (offered_products s))
-        (BeginsFirst s.passing.actor (products_left s)) s.passing.made }
+    // They are those that the receiver asked its queue for, and of the next one perhaps some was asked.
+    ensures taken { (s : Session) → IsSession s → IsAskedFor s.passing (offered_products s) (products_left s) }
+    // What it asked fits no others of the products that the feeder sent or announced.
+    ensures no_others { (s : Session) (done left : List Handed) → done ++ left ≡ handed s.passing.feeding →
+        IsAskedFor s.passing done left → done ≡ offered_products s }
     // The receiver goes on behind the last of them.
     ensures last { (s : Session) → IsSession s →
         s.passing.came_to.receiving.last ≡ last_of s.passing.begins.last (offered_products s) }
