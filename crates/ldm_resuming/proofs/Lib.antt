@@ -1,0 +1,15 @@
+mod Numbers
+mod Gone
+mod Position
+mod Giving
+mod Reader
+mod Wanted
+mod Calls
+mod Handing
+mod Counting
+mod Coming
+mod Behind
+mod Resuming
+mod Naming
+mod Following
+mod Living

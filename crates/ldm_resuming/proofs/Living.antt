@@ -1,0 +1,176 @@
+-- The calls of a feeding are those of a life of its cursor.
+use Rattle.std.proofs.Common.{◌≡◌, ◌∙◌, ℕ, ◌+◌, Bool, true, false, List, [], ◌∷◌, ◌++◌, length, All, Option, Some, None, refl, sym, ap, subst, inl, inr, append_assoc, append-nil}
+use Rattle.std.specs.Prelude.{◌⊎◌, ◌&&◌}
+use Rattle.std.proofs.lemmas.Bool.{and_right, false≢true}
+use Rattle.std.proofs.lemmas.List.Elements.{All-nil, All-cons, All-append, All-weaker}
+use Rattle.ldm_outside.specs.Session.{SessionRecord}
+use Rattle.ldm_model.specs.declared.event.Event.TheVariants.{OpenCursor}
+use Rattle.ldm_model.specs.declared.event.Reply.TheVariants.{Opened as OpenedAt}
+use Rattle.ldm_model.specs.declared.event.Start.{Start}
+use Rattle.ldm_model.specs.declared.event.Start.TheVariants.{AfterSignature}
+use Rattle.ldm_model.specs.declared.event.Entry.{Entry}
+use Rattle.ldm_model.specs.Law.{Point, is_close, opening}
+use Rattle.ldm_class.specs.Classes.{resumed}
+use Rattle.ldm_shared.specs.Own.{own}
+use Rattle.ldm_shared.specs.OwnReaders.{OwnPoint, AtEveryOwnPoint, IsOwnPointOf, IsSeenAt, is_about, opening_by}
+use Rattle.ldm_shared.specs.Passes.{PassView, HasSeen, Calls}
+use Rattle.ldm_sender.specs.declared.end.SendEnd.{SendEnd}
+use Rattle.ldm_sender.specs.Acts.{is_whole}
+use Rattle.ldm_sender.specs.Asked.{Asked}
+use Rattle.ldm_sender.specs.Does.{IsPart}
+use Rattle.ldm_sender.specs.Ending.{closing_of}
+use Rattle.ldm_sender.specs.Opening.{Opened, feeds_of, from_instant, opens, opening_calls, opening_entries, place_of}
+use Rattle.ldm_upstream.specs.Blocks.{blocks, reads}
+use Rattle.ldm_upstream.specs.Feeding.{Feeding, Last, GoesOn, Stopped, Unanswered, entries_of, last_entries}
+use Rattle.ldm_upstream.specs.Feeds.{Feeds}
+use Rattle.ldm_upstream.specs.Turn.{Given, Handling, Passed, Whole, Declined, InBlocks, Turn, Lost, Gave, Quiet, Alive, handling_entries, turn_entries}
+use Rattle.ldm_upstream.specs.Turns.{entries_of_turns}
+use Rattle.ldm_resuming.specs.Life.{HasLife, calls_of, gives}
+use Rattle.ldm_resuming.proofs.Giving.{All-front}
+
+-- the call that opened the cursor, and those before it that are made for the same request
+record OpensLast (actor k : ℕ) (asked : Asked) (calls : List Entry) : Type 0 where
+  pub refused : List Entry
+  pub start : Start
+  pub are : calls ≡ refused ++ opens actor asked start (OpenedAt k) ∷ []
+
+opens-last : (actor k : ℕ) (asked : Asked) (signature : Option (List ℕ)) (missed : Bool)
+    → OpensLast actor k asked (opening_calls actor asked signature missed (OpenedAt k))
+opens-last actor k asked None missed = record { refused = []; start = from_instant asked.class.from; are = refl }
+opens-last actor k asked (Some signature) false = record { refused = []; start = AfterSignature (record { 0 = signature }); are = refl }
+opens-last actor k asked (Some signature) true = record { refused = _ ∷ []; start = from_instant asked.class.from; are = refl }
+
+-- ---- no call of a feeding closes its cursor
+
+abbrev StaysOpen : Entry → Type 0
+StaysOpen entry = is_close entry.event ≡ false
+
+module _ (actor k : ℕ) where
+  one-open : (entry : Entry) → StaysOpen entry → All StaysOpen (entry ∷ [])
+  one-open entry still = All-cons StaysOpen entry [] still (All-nil StaysOpen)
+
+  reads-open : (offset : ℕ) (bodies : List (List ℕ)) → All StaysOpen (reads actor k offset bodies)
+  reads-open offset [] = All-nil StaysOpen
+  reads-open offset (body ∷ bodies) = All-cons StaysOpen _ (reads actor k (offset + length body) bodies) refl (reads-open (offset + length body) bodies)
+
+  handling-open : (given : Given) (handling : Handling) → All StaysOpen (handling_entries actor k given handling)
+  handling-open given Passed = All-nil StaysOpen
+  handling-open given (Whole at) = reads-open 0 (blocks given.product.body)
+  handling-open given (Declined at) = All-nil StaysOpen
+  handling-open given (InBlocks at blocks_at) = reads-open 0 (blocks given.product.body)
+
+  turn-open : (turn : Turn) → All StaysOpen (turn_entries actor k turn)
+  turn-open (Lost count first last) = one-open _ refl
+  turn-open (Gave given handling) = All-cons StaysOpen _ _ refl (All-append StaysOpen (handling_entries actor k given handling) _ (handling-open given handling) (one-open _ refl))
+  turn-open (Quiet end now) = one-open _ refl
+  turn-open (Alive end now at) = one-open _ refl
+
+  turns-open : (turns : List Turn) → All StaysOpen (entries_of_turns actor k turns)
+  turns-open [] = All-nil StaysOpen
+  turns-open (turn ∷ turns) = All-append StaysOpen (turn_entries actor k turn) (entries_of_turns actor k turns) (turn-open turn) (turns-open turns)
+
+  last-open : (last : Last) → All StaysOpen (last_entries actor k last)
+  last-open GoesOn = All-nil StaysOpen
+  last-open (Stopped end) = one-open _ refl
+  last-open (Unanswered given at) = one-open _ refl
+
+  calls-open : (feeding : Feeding) → All StaysOpen (calls_of actor k feeding)
+  calls-open feeding = All-append StaysOpen (entries_of_turns actor k feeding.turns) (last_entries actor k feeding.last) (turns-open feeding.turns) (last-open feeding.last)
+
+-- ---- the life
+
+-- where a pass made calls it has seen a history, if it had before
+pub seen-then : (old new : PassView) (made : List Entry) → HasSeen old → Calls old new made → HasSeen new
+seen-then old new made has calls = by_case calls.has_seen
+  where
+    by_case : (new ≡ old) ⊎ HasSeen new → HasSeen new
+    by_case (inl same) = subst HasSeen (sym same) has
+    by_case (inr now) = now
+
+abbrev pub SeenLaw : Type 0
+SeenLaw = AtEveryOwnPoint (λ (pass : PassView) (q : OwnPoint). (p : Point) × IsSeenAt pass q p)
+
+module _ (law : SeenLaw) (old new : PassView) (asked : Asked) (feeding : Feeding) (missed : Bool) (k : ℕ) (called unmade more : List Entry) (has : HasSeen old)
+    (calls : Calls old new (opening_entries old.actor asked feeding.answered ++ (called ++ more))) (answered : feeding.answered ≡ Opened missed k)
+    (called_are : called ++ unmade ≡ calls_of old.actor k feeding) (none : All (λ (entry : Entry). gives entry.reply ≡ false) unmade) where
+  same_actor : new.actor ≡ old.actor
+  same_actor = ap (λ (pass : PassView). pass.actor) calls.same
+
+  opening-is : (o : OpensLast old.actor k asked (opening_calls old.actor asked (resumed asked.class.specs.items) missed (OpenedAt k)))
+      → opening_entries old.actor asked feeding.answered ≡ o.refused ++ opens old.actor asked o.start (OpenedAt k) ∷ []
+  opening-is o = ap (opening_entries old.actor asked) answered ∙ o.are
+
+  abbrev own_point : Start → List Entry → OwnPoint
+  own_point start refused = record { earlier = own old.actor old.seen ++ refused; feed = feeds_of asked.class; start = start; k = k; since = called }
+
+  is-own : (o : OpensLast old.actor k asked (opening_calls old.actor asked (resumed asked.class.specs.items) missed (OpenedAt k)))
+      → IsOwnPointOf new (own_point o.start o.refused)
+  is-own o =
+      let q = own_point o.start o.refused in
+      let earlier = own old.actor old.seen in
+      let opened = opening_by old.actor q in
+      let own_are : own old.actor new.seen ≡ earlier ++ ((o.refused ++ opened ∷ []) ++ (called ++ more)) =
+      calls.adds.own ∙ ap (λ (es : List Entry). earlier ++ (es ++ (called ++ more))) (opening-is o) in
+      let joined : earlier ++ ((o.refused ++ opened ∷ []) ++ (called ++ more)) ≡ (earlier ++ o.refused) ++ opened ∷ (called ++ more) =
+      ap (λ (es : List Entry). earlier ++ es) (append_assoc o.refused (opened ∷ []) (called ++ more))
+      ∙ sym (append_assoc earlier o.refused (opened ∷ (called ++ more))) in
+      record {
+        rest = more;
+        front = subst (λ (actor : ℕ). own actor new.seen ≡ (earlier ++ o.refused) ++ opening_by actor q ∷ (called ++ more)) (sym same_actor) (own_are ∙ joined);
+        not_closed = All-weaker StaysOpen (λ (entry : Entry). (is_about k entry && is_close entry.event) ≡ false)
+            (λ entry still. and_right (is_about k entry) (is_close entry.event) still) called
+            (All-front StaysOpen called unmade (subst (All StaysOpen) (sym called_are) (calls-open old.actor k feeding)));
+      }
+
+  life-of : (o : OpensLast old.actor k asked (opening_calls old.actor asked (resumed asked.class.specs.items) missed (OpenedAt k))) → (p : Point)
+      → IsSeenAt new (own_point o.start o.refused) p → HasLife new asked feeding p
+  life-of o p at =
+      let earlier = own old.actor old.seen in
+      let who : old.actor ≡ p.owner = sym (at.owner ∙ same_actor) in
+      let opens_there : opening p ≡ opens old.actor asked o.start (OpenedAt k) =
+      λ i. record { actor = sym who i; event = OpenCursor (record { 0 = at.feed i }) (at.start i); reply = OpenedAt (at.place i) } in
+      record {
+        is_point = at.is_point;
+        owner = at.owner;
+        earlier = earlier;
+        opened = ap (λ (actor : ℕ). own actor p.before ++ opening p ∷ []) at.owner
+            ∙ (λ i. at.earlier i ++ opens_there i ∷ [])
+            ∙ append_assoc earlier o.refused (opens old.actor asked o.start (OpenedAt k) ∷ [])
+            ∙ ap (λ (es : List Entry). earlier ++ es) (sym (opening-is o))
+            ∙ ap (λ (actor : ℕ). earlier ++ opening_entries actor asked feeding.answered) who;
+        unmade = unmade;
+        called = ap (λ (actor : ℕ). own actor p.since ++ unmade) at.owner
+            ∙ ap (λ (es : List Entry). es ++ unmade) at.since
+            ∙ called_are
+            ∙ (λ i. calls_of (who i) (sym at.place i) feeding);
+        none_given = none;
+      }
+
+  pub has-life : (life : Point) × HasLife new asked feeding life
+  has-life =
+      let o = opens-last old.actor k asked (resumed asked.class.specs.items) missed in
+      let seen = law new (seen-then old new _ has calls) (own_point o.start o.refused) (is-own o) in
+      (seen.0, life-of o seen.0 seen.1)
+
+-- ---- of a call that feeds
+
+whole-part : (part whole : List Entry) (b : Bool) → b ≡ true → IsPart b part whole → part ≡ whole
+whole-part part whole true is h = h
+whole-part part whole false is h = absurd (false≢true is)
+
+pub fed-life : SeenLaw → (why : SendEnd) (asked : Asked) (ahead : List ℕ) (old new : PassView) (before after : SessionRecord)
+    → (feeds : Feeds why asked ahead old new before after) → HasSeen old → is_whole why ≡ true → (missed : Bool) (k : ℕ) → feeds.feeding.answered ≡ Opened missed k
+    → (life : Point) × HasLife new asked feeds.feeding life
+fed-life law why asked ahead old new before after feeds has whole missed k answered =
+    let feeding = feeds.feeding in
+    let calls = calls_of old.actor k feeding in
+    let opening_ones = opening_entries old.actor asked feeding.answered in
+    let closing = closing_of old.actor why feeding.answered in
+    let at : place_of feeding.answered ≡ k = ap place_of answered in
+    let all : feeds.called ≡ opening_ones ++ calls =
+    whole-part feeds.called (entries_of old.actor asked feeding) (is_whole why) whole feeds.called_part
+    ∙ append_assoc opening_ones (entries_of_turns old.actor (place_of feeding.answered) feeding.turns) (last_entries old.actor (place_of feeding.answered) feeding.last)
+    ∙ ap (λ (place : ℕ). opening_ones ++ calls_of old.actor place feeding) at in
+    let made : feeds.called ++ closing ≡ opening_ones ++ (calls ++ closing) = ap (λ (es : List Entry). es ++ closing) all ∙ append_assoc opening_ones calls closing in
+    has-life law old new asked feeding missed k calls [] closing has (subst (Calls old new) made feeds.made) answered (append-nil calls)
+    (All-nil (λ (entry : Entry). gives entry.reply ≡ false))
