@@ -3,12 +3,12 @@ ghost use Rattle.std.specs.Prelude.{◌≡◌, false, IfSome};
 ghost use Rattle.ldm_outside.specs.Link.{IsNotClosed};
 ghost use Rattle.ldm_adapters.specs.Told.{told_by_door, told_by_dial, told_by_link};
 
-use ldm_adapters::{RealDial, RealDoor, RealLink, RealNet, RealStation, Timeouts};
+use ldm_adapters::{RealClock, RealDial, RealDoor, RealLink, RealNet, RealStation, Timeouts};
 use ldm_drive::Trial;
 use ldm_drive_outside::{
-    idle, listen, tell_bytes, tell_count, tell_go, tell_got, tell_number, tell_put, tell_word,
+    ask, idle, listen, tell_bytes, tell_count, tell_go, tell_got, tell_number, tell_put, tell_word,
 };
-use ldm_outside::{Came, Dial, Dialled, Door, Got, Link, Manned, Net, Put};
+use ldm_outside::{Came, Dial, Dialled, Door, Gate, Got, Link, Manned, Net, Put};
 use std::net::{Ipv4Addr, Shutdown, TcpListener, TcpStream};
 use std::rt::HostRuntime;
 use std::time::Duration;
@@ -270,6 +270,55 @@ fn stations(rt: HostRuntime, trial: &mut Trial) {
     net.keep(stations);
 }
 
+// How long an idle call of a gate takes, in microseconds.
+fn idles_for<G: Gate>(rt: HostRuntime, gate: &mut G) -> u64 {
+    let mut clock = RealClock::new(rt);
+    let before = ask(&mut clock).get();
+    idle(gate);
+    ask(&mut clock).get().saturating_sub(before)
+}
+
+// Whether one of some idle calls is short, each of which comes after bytes came over the link.
+fn is_cut_short<F: Link, T: Link, G: Gate>(
+    rt: HostRuntime,
+    from: &mut F,
+    to: &mut T,
+    gate: &mut G,
+) -> bool
+    requires from { IsNotClosed (F.tells from.old) }
+    requires to { IsNotClosed (T.tells to.old) }
+{
+    for _ in 0..20 {
+        let _ = from.send(b"a");
+        let _ = listen(to);
+        if idles_for(rt, gate) < 45_000 {
+            return true;
+        }
+    }
+    false
+}
+
+// A station of a net that let a peer in: its gate sleeps its whole time, but where bytes came.
+fn busy(rt: HostRuntime, trial: &mut Trial) {
+    let Some(port) = free_port(rt) else {
+        return trial.refuse("the system failed");
+    };
+    let Some(mut station) = station_at(rt, port) else {
+        return trial.refuse("the system failed");
+    };
+    let mut dial = RealDial::new(rt, Timeouts::new());
+    let Dialled::Linked(mut peer) = dial.connect(b"127.0.0.1", port) else {
+        return trial.refuse("the system failed");
+    };
+    let Came::Peer { mut link, .. } = station.door.accept() else {
+        return trial.refuse("the system failed");
+    };
+    let slept = idles_for(rt, &mut station.gate) >= 45_000;
+    tell_word(trial, if slept { "slept" } else { "awake" });
+    let is_short = is_cut_short(rt, &mut peer, &mut link, &mut station.gate);
+    tell_word(trial, if is_short { "awake" } else { "slept" });
+}
+
 // The port in the next word.
 fn next_port(trial: &mut Trial) -> u16 {
     match u16::try_from(trial.small()) {
@@ -328,7 +377,7 @@ fn call(rt: HostRuntime, trial: &mut Trial) {
     }
 }
 
-/// `tcp talk`, `tcp reset`, `tcp wait`, `tcp half`, `tcp unanswered`, `tcp stations`, `tcp sessions COUNT`, `tcp visit PORT`,
+/// `tcp talk`, `tcp reset`, `tcp wait`, `tcp half`, `tcp unanswered`, `tcp stations`, `tcp busy`, `tcp sessions COUNT`, `tcp visit PORT`,
 /// `tcp call HOST PORT`.
 pub fn tcp(rt: HostRuntime, trial: &mut Trial) {
     match trial.word() {
@@ -338,6 +387,7 @@ pub fn tcp(rt: HostRuntime, trial: &mut Trial) {
         "half" => halves(rt, trial),
         "unanswered" => unanswered(rt, trial),
         "stations" => stations(rt, trial),
+        "busy" => busy(rt, trial),
         "sessions" => sessions(rt, trial),
         "visit" => visit(rt, trial),
         "call" => call(rt, trial),

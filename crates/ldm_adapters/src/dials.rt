@@ -5,6 +5,7 @@ ghost use Rattle.ldm_outside.specs.Dial.{IsNewDial};
 ghost use Rattle.ldm_outside.specs.Link.{IsFresh};
 ghost use Rattle.ldm_adapters.specs.Told.{told_by_dial, told_by_link};
 
+use crate::beats::Beats;
 use crate::lending::RealLending;
 use crate::links::{RealLink, Timeouts};
 use ldm_outside::{Dial, Dialled};
@@ -19,6 +20,7 @@ use std::str;
 pub struct RealDial {
     rt: HostRuntime,
     timeouts: Timeouts,
+    beats: Option<Beats>,
     faults: u64,
     links: RealLending,
 }
@@ -28,9 +30,17 @@ impl RealDial {
     pub fn new(rt: HostRuntime, timeouts: Timeouts) -> RealDial
         ensures { IsNewDial (told_by_dial result) }
     {
+        RealDial::beating(rt, timeouts, None)
+    }
+
+    /// The same, over whose links each piece that comes is a beat.
+    pub(crate) fn beating(rt: HostRuntime, timeouts: Timeouts, beats: Option<Beats>) -> RealDial
+        ensures { IsNewDial (told_by_dial result) }
+    {
         RealDial {
             rt,
             timeouts,
+            beats,
             faults: 0,
             links: RealLending::new(),
         }
@@ -45,13 +55,19 @@ impl RealDial {
 }
 
 // A link to the first address of the host that answers in time.
-fn connect(rt: HostRuntime, host: &[u8], port: u16, timeouts: Timeouts) -> Option<RealLink>
+fn connect(
+    rt: HostRuntime,
+    host: &[u8],
+    port: u16,
+    timeouts: Timeouts,
+    beats: Option<Beats>,
+) -> Option<RealLink>
     ensures { IfSome result (λ link. IsFresh (told_by_link link)) }
 {
     let host = str::from_utf8(host).ok()?;
     for address in (host, port).to_socket_addrs(&rt).ok()? {
         if let Ok(stream) = TcpStream::connect_timeout(&rt, &address, timeouts.connect) {
-            return RealLink::new(stream, timeouts).ok();
+            return RealLink::new(stream, timeouts, beats).ok();
         }
     }
     None
@@ -63,7 +79,8 @@ impl Dial for RealDial {
     ghost tells = { told_by_dial };
 
     fn connect(&mut self, host: &[u8], port: u16) -> Dialled<RealLink> {
-        match connect(self.rt, host, port, self.timeouts) {
+        let beats = self.beats.as_ref().and_then(|beats| beats.share().ok());
+        match connect(self.rt, host, port, self.timeouts, beats) {
             Some(link) => {
                 self.links.hand_out();
                 Dialled::Linked(link)

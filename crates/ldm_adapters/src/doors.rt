@@ -4,6 +4,7 @@ ghost use Rattle.ldm_outside.specs.Door.{IsNewDoor};
 ghost use Rattle.ldm_outside.specs.Link.{IsFresh};
 ghost use Rattle.ldm_adapters.specs.Told.{told_by_door, told_by_link};
 
+use crate::beats::Beats;
 use crate::lending::RealLending;
 use crate::links::{RealLink, Timeouts};
 use arrayvec::{ArrayString, ArrayVec};
@@ -19,6 +20,7 @@ use std::net::{IpAddr, TcpListener, TcpStream};
 pub struct RealDoor {
     listener: TcpListener,
     timeouts: Timeouts,
+    beats: Option<Beats>,
     faults: u64,
     peers: u64,
     links: RealLending,
@@ -29,9 +31,21 @@ impl RealDoor {
     pub fn new(listener: TcpListener, timeouts: Timeouts) -> RealDoor
         ensures { IsNewDoor (told_by_door result) }
     {
+        RealDoor::beating(listener, timeouts, None)
+    }
+
+    /// The same, over whose links each piece that comes is a beat.
+    pub(crate) fn beating(
+        listener: TcpListener,
+        timeouts: Timeouts,
+        beats: Option<Beats>,
+    ) -> RealDoor
+        ensures { IsNewDoor (told_by_door result) }
+    {
         RealDoor {
             listener,
             timeouts,
+            beats,
             faults: 0,
             peers: 0,
             links: RealLending::new(),
@@ -92,11 +106,12 @@ fn is_passing(kind: ErrorKind) -> bool {
 fn next_peer(
     listener: &TcpListener,
     timeouts: Timeouts,
+    beats: Option<Beats>,
 ) -> Option<(ArrayVec<u8, LONGEST_HOST>, RealLink)>
     ensures { IfSome result (λ peer. IsFresh (told_by_link peer.1)) }
 {
     let (stream, address) = accept_peer(listener).ok()?;
-    Some((host_of(address)?, RealLink::new(stream, timeouts).ok()?))
+    Some((host_of(address)?, RealLink::new(stream, timeouts, beats).ok()?))
 }
 
 impl Door for RealDoor {
@@ -105,8 +120,12 @@ impl Door for RealDoor {
     ghost tells = { told_by_door };
 
     fn accept(&mut self) -> Came<RealLink> {
-        match next_peer(&self.listener, self.timeouts) {
+        let beats = self.beats.as_ref().and_then(|beats| beats.share().ok());
+        match next_peer(&self.listener, self.timeouts, beats) {
             Some((host, link)) => {
+                if let Some(beats) = &self.beats {
+                    beats.serve();
+                }
                 self.peers = self.peers.saturating_add(1);
                 self.links.hand_out();
                 Came::Peer { host, link }

@@ -6,6 +6,7 @@
 //! system does with bytes is trusted.
 #![tactic(auto)]
 
+mod beats;
 mod children;
 mod clock;
 mod dials;
@@ -23,7 +24,7 @@ pub use clock::RealClock;
 pub use dials::RealDial;
 pub use doors::RealDoor;
 pub use files::RealStore;
-pub use gate::{IDLE_MILLISECONDS, RealGate};
+pub use gate::{BUSY_MILLISECONDS, IDLE_MILLISECONDS, LOOK_MILLISECONDS, RealGate};
 pub use lending::RealLending;
 pub use links::{CONNECT_SECONDS, RealLink, SILENT_SECONDS, STALLED_SECONDS, Timeouts};
 pub use net::{RealNet, RealStation};

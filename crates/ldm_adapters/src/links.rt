@@ -1,5 +1,6 @@
 //! Links over TCP.
 
+use crate::beats::Beats;
 use crate::streams::{read_once, write_once};
 use ldm_outside::{Got, Link, Put};
 use std::io;
@@ -45,6 +46,7 @@ impl Timeouts {
 #[derive(Drop)]
 pub struct RealLink {
     stream: TcpStream,
+    beats: Option<Beats>,
     ends: u64,
     faults: u64,
     closed: bool,
@@ -55,8 +57,13 @@ impl RealLink {
     ghost use Rattle.ldm_outside.specs.Link.{IsFresh};
     ghost use Rattle.ldm_adapters.specs.Told.{told_by_link};
 
-    /// A link of the stream, which waits no longer than this, and sends each piece at once where the system can.
-    pub(crate) fn new(stream: TcpStream, timeouts: Timeouts) -> io::Result<RealLink>
+    /// A link of the stream, which waits no longer than this, and sends each piece at once where the system can. Each piece that
+    /// comes is a beat.
+    pub(crate) fn new(
+        stream: TcpStream,
+        timeouts: Timeouts,
+        beats: Option<Beats>,
+    ) -> io::Result<RealLink>
         ensures { IfOk result (λ link. IsFresh (told_by_link link)) }
     {
         stream.set_read_timeout(Some(timeouts.silent))?;
@@ -64,6 +71,7 @@ impl RealLink {
         let _ = stream.set_nodelay(true);
         Ok(RealLink {
             stream,
+            beats,
             ends: 0,
             faults: 0,
             closed: false,
@@ -92,7 +100,11 @@ impl Link for RealLink {
     fn recv(&mut self, into: &mut [u8]) -> Got {
         let got = read_once(&mut self.stream, into);
         match got {
-            Got::Bytes(_) => {}
+            Got::Bytes(_) => {
+                if let Some(beats) = &self.beats {
+                    beats.beat();
+                }
+            }
             Got::End => self.ends = self.ends.saturating_add(1),
             Got::Failed => self.faults = self.faults.saturating_add(1),
         }

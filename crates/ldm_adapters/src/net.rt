@@ -4,6 +4,7 @@ ghost use Rattle.ldm_outside.specs.Dial.{IsNewDial};
 ghost use Rattle.ldm_outside.specs.Station.{IsNew};
 ghost use Rattle.ldm_adapters.specs.Told.{told_by_dial, told_by_station};
 
+use crate::beats::Beats;
 use crate::clock::RealClock;
 use crate::dials::RealDial;
 use crate::doors::RealDoor;
@@ -11,6 +12,7 @@ use crate::gate::RealGate;
 use crate::links::{RealLink, Timeouts};
 use crate::streams::RealSink;
 use ldm_outside::{Dial, Dialled, Manned, Net, Station};
+use std::alloc::AllocError;
 use std::io::{self, ErrorKind};
 use std::net::{IpAddr, Ipv4Addr, Ipv6Addr, SocketAddr, TcpListener};
 use std::rt::{HostRuntime, Stderr};
@@ -24,16 +26,17 @@ fn station(
     listener: TcpListener,
     timeouts: Timeouts,
     idles: Option<u32>,
-) -> RealStation
-    ensures { IsNew idles (told_by_station result) }
+    beats: Beats,
+) -> Result<RealStation, AllocError>
+    ensures { IfOk result (λ made. IsNew idles (told_by_station made)) }
 {
-    Station {
-        door: RealDoor::new(listener, timeouts),
-        dial: RealDial::new(rt, timeouts),
+    Ok(Station {
+        door: RealDoor::beating(listener, timeouts, Some(beats.share()?)),
+        dial: RealDial::beating(rt, timeouts, Some(beats.share()?)),
         log: RealSink::new(rt.stderr()),
         clock: RealClock::new(rt),
-        gate: RealGate::new(rt, idles),
-    }
+        gate: RealGate::beating(rt, idles, Some(beats)),
+    })
 }
 
 // A listener on all addresses of this machine: of IPv6 and IPv4, or of IPv4 alone where the system has no IPv6.
@@ -58,9 +61,12 @@ fn man(
     ensures new { IfOk result (λ made. All (λ one. IsNew idles (told_by_station one)) made.items) }
 {
     let listener = listen(rt, port)?;
+    let beats = Beats::new(rt.alloc())?;
     let mut made = Vec::with_capacity(rt.alloc(), count as usize)?;
     for _ in 0..count {
-        made.push_reserved(station(rt, listener.try_clone()?, timeouts, idles));
+        let beats = beats.beside(rt.alloc())?;
+        let one = station(rt, listener.try_clone()?, timeouts, idles, beats)?;
+        made.push_reserved(one);
     }
     Ok(made)
 }

@@ -8,7 +8,7 @@ pub loop-preserved : goal.loop-preserved
 loop-preserved c = (
   search rules,
   rw c.push_reserved.ensures.items
-      (All-append (λ one. IsNew c.args.idles (told_by_station one)) c.loop.made.items (c.station.result ∷ []) c.loop.invariant.1
-      (All-cons (λ one. IsNew c.args.idles (told_by_station one)) c.station.result [] c.station.ensures (All-nil (λ one. IsNew c.args.idles (told_by_station one))))),
+      (All-append (λ one. IsNew c.args.idles (told_by_station one)) c.loop.made.items (c.in_ok-one.one ∷ []) c.loop.invariant.1
+      (All-cons (λ one. IsNew c.args.idles (told_by_station one)) c.in_ok-one.one [] c.in_ok-one.ensures (All-nil (λ one. IsNew c.args.idles (told_by_station one))))),
   search rules,
 )
