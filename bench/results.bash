@@ -1,5 +1,5 @@
 # Measurements as a data file: plain text, one measurement a line, which is its series, its place on the axis and its value, one tab apart.
-# The first lines begin with `#` and tell the command, the machine, the date and the unit. `bench/plot` draws these files.
+# The first lines begin with `#` and name the command, the machine, the date and the unit. `bench/plot` draws these files.
 #
 # Read by a script of this folder, with the arguments of that script, which may begin with `-o FILE`. It gives
 #   words                  the other arguments
