@@ -6,7 +6,7 @@
 #[allow(dead_code)]
 mod queue;
 
-use queue::{Answer, Queue, Start};
+use queue::{Answer, Metadata, Queue, Start};
 use std::sync::Mutex;
 use std::thread;
 use std::time::Instant;
@@ -41,8 +41,8 @@ impl Call for Queue {
 }
 
 fn insert(queue: &mut impl Call, signature: [u8; 16]) -> Answer {
-    let info = String::from("host product");
-    queue.call(|queue| queue.insert(100, signature, FEED, info, 12, &[65; 96]))
+    let metadata = Metadata { signature, feed: FEED, info: String::from("host product"), texts: 12, size: 96 };
+    queue.call(|queue| queue.insert(100, metadata, &[65; 96]))
 }
 
 // Products that no thread looks for fill the queue.
