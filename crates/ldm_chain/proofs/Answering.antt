@@ -1,5 +1,5 @@
 -- A feeding that came whole to a receiver, by how its request was answered.
-use Rattle.std.proofs.Common.{◌≡◌, ℕ, ◌+◌, ◌<◌, ◌≤◌, Bool, true, false, List, [], ◌∷◌, ◌++◌, length, Option, Some, None, refl, ap, sym, subst, ◌∙◌, append_assoc, arith}
+use Rattle.std.proofs.Common.{◌≡◌, ℕ, ◌≤◌, Bool, true, false, List, [], ◌∷◌, ◌++◌, Option, Some, None, refl, ap, sym, subst, ◌∙◌, append_assoc}
 use Rattle.std.specs.Prelude.{if◌then◌else◌}
 use Rattle.std.proofs.lemmas.List.{append-nil}
 use Rattle.ldm_types.specs.declared.class.ClassSpec.{ClassSpec}
@@ -13,7 +13,7 @@ use Rattle.ldm_class.specs.Classes.{bad_place, resumed}
 use Rattle.ldm_outside.specs.Session.{SessionRecord}
 use Rattle.ldm_relay.specs.declared.message.ClassAnswer.TheVariants as class_answer
 use Rattle.ldm_relay.specs.Fits.{ClassAnswerFits}
-use Rattle.ldm_shared.specs.Passes.{PassView, HasSeen, Makes}
+use Rattle.ldm_shared.specs.Passes.{PassView, Makes}
 use Rattle.ldm_session.specs.Owed.{Code, Said}
 use Rattle.ldm_intake.specs.declared.end.RecvEnd.{RecvEnd}
 use Rattle.ldm_intake.specs.declared.end.RecvEnd.TheVariants as receive
@@ -28,14 +28,13 @@ use Rattle.ldm_sender.specs.Ending.{closing_of}
 use Rattle.ldm_sender.specs.Opening.{Answered, Busy, Denied, Opened, Reclassed, class_answer_of, opening_calls, opening_entries, place_of}
 use Rattle.ldm_upstream.specs.Turn.{Given, Turn}
 use Rattle.ldm_upstream.specs.Feeding.{GoesOn, Last, MayTurn, Unanswered, bytes_of, codes_of, entries_of, given_of, last_entries, stands}
-use Rattle.ldm_upstream.specs.Feeding as feeding
 use Rattle.ldm_upstream.specs.Turns.{entries_of_turns}
 use Rattle.ldm_upstream.specs.Feeds.{Feeds}
 use Rattle.ldm_downstream.specs.Pieces.{joined}
 use Rattle.ldm_passing.specs.Passing.{Carries, IsGranted, IsPassing, Passing}
 use Rattle.ldm_passing.specs.Ungranted.{EndsBy, IsUngranted, IsUnopened}
 use Rattle.ldm_sole_reader.specs.OnePass.{IsOnlyPass}
-use Rattle.ldm_sole_reader.proofs.OnePass.{seen-by}
+use Rattle.ldm_sole_reader.proofs.OnePass.{fed-opened, seen-by}
 use Rattle.ldm_chain.specs.Causes.{HadNoCursor}
 use Rattle.ldm_chain.specs.Reflecting.{pieces_at}
 use Rattle.ldm_chain.proofs.FedWhole.{TookAll}
@@ -198,15 +197,8 @@ module _ (laws : Laws) (more : EndLaws) (asked : Asked) (old new : PassView) (be
     (now actor : ℕ) (made : List Entry) (end : Option RecvEnd) where
   pub stopped-goes_on : (feeds : Feeds feed.Stopped asked [] old new before after') → TookAll asked feeds.sent feeds.given now actor made end → end ≡ None
   stopped-goes_on feeds all =
-      let opened = stopped-opened feeds.feeding.answered feeds.feeding.turns feeds.feeding.last feeds.last.0 feeds.is_feeding.opened feeds.last.1 in
+      let opened = fed-opened asked [] old new before after' feeds in
       granted-goes_on laws more feed.Stopped asked old new before after' feeds only small now actor made end all feeds.sent_part opened.0 opened.1 opened.2 feeds.codes_part
-    where
-      stopped-opened : (answered : Answered) (turns : List Turn) (last : Last) (at : ℕ) → MayTurn answered turns last → last ≡ feeding.Stopped at
-          → (missed : Bool) × (k : ℕ) × (answered ≡ Opened missed k)
-      stopped-opened (Opened missed k) turns last at may is = (missed, k, refl)
-      stopped-opened (Denied rule) turns last at may is = let no : feeding.Stopped at ≡ GoesOn = sym is ∙ may.1 in absurd (cc no)
-      stopped-opened (Reclassed class) turns last at may is = let no : feeding.Stopped at ≡ GoesOn = sym is ∙ may.1 in absurd (cc no)
-      stopped-opened (Busy missed) turns last at may is = let no : feeding.Stopped at ≡ GoesOn = sym is ∙ may.1 in absurd (cc no)
 
   -- what a feeder hears of its receiver is no bad reply
   pub no-bad_reply : (place : ℕ) (feeds : Feeds (feed.BadReply place) asked [] old new before after') → TookAll asked feeds.sent feeds.given now actor made end → ⊥

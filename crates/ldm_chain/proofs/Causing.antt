@@ -1,11 +1,10 @@
 -- Why a chain ended while a node was fed.
-use Rattle.std.proofs.Common.{◌≡◌, ℕ, ◌<◌, ◌≤◌, true, false, List, ◌++◌, length, Option, Some, None, inl, inr, refl, ap, sym, subst, ◌∙◌, arith}
+use Rattle.std.proofs.Common.{◌≡◌, ℕ, ◌≤◌, true, false, ◌++◌, Option, Some, None, inl, inr, refl, ap, sym, subst, ◌∙◌, arith}
 use Rattle.std.specs.Prelude.{◌⊎◌, IsSome}
 use Rattle.ldm_types.specs.declared.class.ClassSpec.{ClassSpec}
 use Rattle.ldm_types.specs.declared.limits.TheConstants.{LARGEST_ARENA}
 use Rattle.ldm_class.specs.Access.{feeds_for, first_rule, is_about, or_none, reduce}
 use Rattle.ldm_class.specs.Classes.{bad_place}
-use Rattle.ldm_class.specs.declared.answers.Reduced.{Reduced}
 use Rattle.ldm_class.specs.declared.answers.Reduced.TheVariants as reduced
 use Rattle.ldm_outside.specs.Count.{Rose}
 use Rattle.ldm_relay.specs.declared.message.ClassAnswer.TheVariants as class_answer
@@ -19,17 +18,17 @@ use Rattle.ldm_sender.specs.declared.end.SendEnd.{SendEnd}
 use Rattle.ldm_sender.specs.declared.end.SendEnd.TheVariants as feed
 use Rattle.ldm_sender.specs.Asked.{Asked}
 use Rattle.ldm_sender.specs.Opening.{Answered, Denied, Reclassed, IsAnswerTo}
-use Rattle.ldm_downstream.specs.Pushing.{Ends, EndsWorn}
+use Rattle.ldm_downstream.specs.Pushing.{Ends}
 use Rattle.ldm_downstream.specs.Pieces.{beginning}
 use Rattle.ldm_sole_reader.specs.OnePass.{IsOnlyPass}
 use Rattle.ldm_chain.specs.declared.node.Break.{Break}
 use Rattle.ldm_chain.specs.declared.node.Break.TheVariants as broken
 use Rattle.ldm_chain.specs.declared.node.ChainEnd.{ChainEnd}
 use Rattle.ldm_chain.specs.Breaking.{Breaks, BreaksAt, BreaksSo, Came, FedFirst, LeavesNothing}
-use Rattle.ldm_chain.specs.Causes.{CauseAt, HadAllCalls, MeansNothing, ReceiveCause}
+use Rattle.ldm_chain.specs.Causes.{CauseAt, HadAllCalls, ReceiveCause}
 use Rattle.ldm_chain.specs.Ending.{broken_off, by_receiver, by_told, by_told_of, end_by}
 use Rattle.ldm_chain.specs.Linking.{Fed, FedFewer, asking, request_read}
-use Rattle.ldm_chain.specs.MirrorView.{MirrorView, all_read}
+use Rattle.ldm_chain.specs.MirrorView.{MirrorView}
 use Rattle.ldm_chain.specs.Reflecting.{Went, pieces_at}
 use Rattle.ldm_chain.proofs.Answering.{ReclassEnds, busy-ends, busy-seen, denied-ends, no-bad_reply, reclassed-ends, stopped-goes_on}
 use Rattle.ldm_chain.proofs.FedWhole.{TookAll, still-only}

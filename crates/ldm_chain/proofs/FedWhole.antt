@@ -1,12 +1,12 @@
 -- A feeding that came whole to a receiver makes of its queue what the law of a link says.
-use Rattle.std.proofs.Common.{◌≡◌, ℕ, ◌+◌, ◌<◌, ◌≤◌, true, List, [], ◌++◌, length, Option, None, refl, ap, sym, subst, ◌∙◌}
+use Rattle.std.proofs.Common.{◌≡◌, ℕ, ◌+◌, ◌<◌, ◌≤◌, List, [], ◌++◌, length, Option, None, refl, ap, sym, subst, ◌∙◌}
 use Rattle.std.specs.Prelude.{map}
 use Rattle.std.proofs.lemmas.List.{append-nil}
 use Rattle.ldm_types.specs.declared.limits.TheConstants.{LARGEST_ARENA}
 use Rattle.ldm_model.specs.declared.event.Entry.{Entry}
 use Rattle.ldm_model.specs.Product.{Product}
 use Rattle.ldm_model.specs.State.{State}
-use Rattle.ldm_model.specs.History.{after, after_entries, IsLegalFrom}
+use Rattle.ldm_model.specs.History.{after_entries, IsLegalFrom}
 use Rattle.ldm_model.specs.State.{empty}
 use Rattle.ldm_model.proofs.Appended.{after_entries-append, IsLegalFrom-append}
 use Rattle.ldm_class.specs.Classes.{resumed}

@@ -1,12 +1,10 @@
 -- What the queues of a link come to.
-use Rattle.std.proofs.Common.{◌≡◌, ℕ, ◌+◌, ◌<◌, ◌≤◌, true, false, List, [], ◌∷◌, ◌++◌, length, Option, Some, None, inl, inr, refl, ap, sym, subst, ◌∙◌, append_assoc, arith}
-use Rattle.std.specs.Prelude.{map, ◌⊎◌}
+use Rattle.std.proofs.Common.{◌≡◌, ℕ, ◌+◌, ◌<◌, ◌≤◌, false, List, [], ◌∷◌, ◌++◌, length, Option, Some, None, inl, inr, refl, ap, sym, subst, ◌∙◌, append_assoc, arith}
 use Rattle.std.proofs.lemmas.List.{append-nil, length-append}
 use Rattle.std.proofs.lemmas.List.Concat.{flat_map-append}
 use Rattle.ldm_types.specs.declared.class.ClassSpec.{ClassSpec}
 use Rattle.ldm_types.specs.declared.limits.TheConstants.{LARGEST_ARENA}
 use Rattle.ldm_model.specs.declared.event.Entry.{Entry}
-use Rattle.ldm_model.specs.Product.{Product}
 use Rattle.ldm_model.specs.State.{State}
 use Rattle.ldm_model.specs.History.{after_entries, IsLegalFrom}
 use Rattle.ldm_class.specs.Classes.{bad_place}
@@ -18,13 +16,10 @@ use Rattle.ldm_relay.specs.Fits.{ClassFits}
 use Rattle.ldm_relay.specs.Sent.{Sent}
 use Rattle.ldm_relay.specs.Sent as sent
 use Rattle.ldm_relay.specs.Spelling.{record_of, written}
-use Rattle.ldm_outside.specs.declared.link.Passed.{Passed}
 use Rattle.ldm_outside.specs.Link.{bytes_given, bytes_sent}
 use Rattle.ldm_shared.specs.Passes.{PassView}
-use Rattle.ldm_session.specs.Exchange.{PassesMore}
 use Rattle.ldm_intake.specs.declared.end.RecvEnd.{RecvEnd}
-use Rattle.ldm_intake.specs.declared.phase.Phase.TheVariants as phase
-use Rattle.ldm_intake.specs.Course.{Course, Comes, Leads, then}
+use Rattle.ldm_intake.specs.Course.{Comes, Leads, then}
 use Rattle.ldm_intake.specs.Opening.{request_of}
 use Rattle.ldm_intake.specs.Receiving.{Receiving}
 use Rattle.ldm_intake.specs.Room.{records_of}
@@ -36,21 +31,18 @@ use Rattle.ldm_sender.specs.declared.end.SendEnd.TheVariants.{Stopped, Reclassed
 use Rattle.ldm_sender.specs.Asked.{Asked}
 use Rattle.ldm_sender.specs.Opening.{Answered, IsAnswerTo}
 use Rattle.ldm_sender.specs.Opening as answered
-use Rattle.ldm_upstream.specs.Feeds.{Feeds}
 use Rattle.ldm_session.specs.declared.limits.TheConstants.{LONGEST_STREAM}
 use Rattle.ldm_downstream.specs.Pieces.{Piece, arrivals, beginning, hand, joined}
 use Rattle.ldm_downstream.specs.Received.{end_behind, received, with_hand}
 use Rattle.ldm_downstream.proofs.Arrivals.{arrivals-append, hand-append}
-use Rattle.ldm_passing.specs.Narrowing.{IsNarrowing, Narrows}
+use Rattle.ldm_passing.specs.Narrowing.{Narrows}
 use Rattle.ldm_passing.specs.Passing.{HasAsked, Passing, record_at}
 use Rattle.ldm_passing.specs.Queue.{passed_all}
 use Rattle.ldm_passing.proofs.Growing.{comes-made}
 use Rattle.ldm_sole_reader.specs.OnePass.{IsOnlyPass, state_of}
 use Rattle.ldm_sole_reader.proofs.OnePass.{fed-opened}
-use Rattle.ldm_chain.specs.Beginning.{Beginning}
-use Rattle.ldm_chain.specs.Linking.{Fed, FedAll, FedFewer, FedRest, Links, asking, request_read}
+use Rattle.ldm_chain.specs.Linking.{Fed, FedFewer, Links, asking, request_read}
 use Rattle.ldm_chain.specs.MirrorView.{MirrorView, all_read}
-use Rattle.ldm_chain.specs.Outside.{outside}
 use Rattle.ldm_chain.specs.Queues.{IsForAllTimes, fed_from, left_to, products_due}
 use Rattle.ldm_chain.specs.Reflecting.{pieces_at}
 use Rattle.ldm_chain.proofs.FedWhole.{TookAll, fed-queue, made-legal, made-state, still-only}

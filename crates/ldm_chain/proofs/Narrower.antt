@@ -1,7 +1,7 @@
 -- A class of which a part is left.
-use Rattle.std.proofs.Common.{◌≡◌, ℕ, suc, ◌+◌, ◌≤◌, Bool, true, false, ◌&&◌, ◌==◌, eqb, List, [], ◌∷◌, length, Option, Some, None, bit_and, inl, inr, refl, ap, sym, subst, ◌∙◌, arith}
-use Rattle.std.specs.Prelude.{◌⊎◌, ◌||◌, is_some, bytes_eq, nat_lt, if◌then◌else◌}
-use Rattle.std.specs.List.{AllByRecursion, cons_option, filter_map, list_all, zip}
+use Rattle.std.proofs.Common.{◌≡◌, ℕ, ◌≤◌, Bool, true, false, ◌&&◌, ◌==◌, eqb, List, [], ◌∷◌, length, Option, Some, None, bit_and, inl, inr, refl, ap, sym, subst, ◌∙◌, arith}
+use Rattle.std.specs.Prelude.{◌||◌, is_some, bytes_eq, nat_lt, if◌then◌else◌}
+use Rattle.std.specs.List.{AllByRecursion, list_all, zip}
 use Rattle.std.specs.Option.{option_or}
 use Rattle.std.specs.Int.Bits.{and_self}
 use Rattle.std.proofs.lemmas.Bool.{and_parts, cases_Bool, eq-eqb, eqb-true}
@@ -11,9 +11,8 @@ use Rattle.std.proofs.lemmas.Slice.Eq.{bytes_eq-Decides}
 use Rattle.ldm_types.specs.Feed.{feeds_meet}
 use Rattle.ldm_types.specs.declared.class.ClassSpec.{ClassSpec}
 use Rattle.ldm_types.specs.declared.class.Spec.{Spec}
-use Rattle.ldm_class.specs.Access.{is_within, left_of, narrowed, reduced}
+use Rattle.ldm_class.specs.Access.{is_within, left_of, reduced}
 use Rattle.ldm_class.specs.Classes.{is_resumption, resumed, signature_in}
-use Rattle.ldm_class.specs.declared.answers.Reduced.{Reduced}
 use Rattle.ldm_class.specs.declared.answers.Reduced.TheVariants.{Same, Fewer, Nothing}
 use Rattle.ldm_class.proofs.Left.{whole_left}
 use Rattle.ldm_relay.specs.Fits.{ClassFits, SpecFits}

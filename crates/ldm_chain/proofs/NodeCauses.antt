@@ -1,6 +1,5 @@
 -- The cause of a chain's end, at one of its nodes.
 use Rattle.std.proofs.Common.{◌≡◌, ℕ, ◌+◌, List, [], ◌∷◌, inl, inr, refl, sym, subst}
-use Rattle.std.specs.Prelude.{◌⊎◌}
 use Rattle.ldm_class.specs.Rules.{Rules}
 use Rattle.ldm_shared.specs.Passes.{PassView}
 use Rattle.ldm_sender.specs.Asked.{Asked}

@@ -1,6 +1,6 @@
 -- What the receiver of a mirror took, and what a feeding over a mirror sent and heard.
-use Rattle.std.proofs.Common.{◌≡◌, ℕ, ◌+◌, ◌<◌, true, List, [], ◌++◌, length, Option, Some, None, refl, ap, sym, subst, ◌∙◌, append_assoc, arith}
-use Rattle.std.proofs.lemmas.List.{append_cancel_left, append-nil}
+use Rattle.std.proofs.Common.{◌≡◌, ℕ, ◌<◌, List, ◌++◌, length, Option, Some, None, ap, sym, subst, ◌∙◌, append_assoc, arith}
+use Rattle.std.proofs.lemmas.List.{append_cancel_left}
 use Rattle.ldm_model.specs.declared.event.Entry.{Entry}
 use Rattle.ldm_rpc.specs.Streams.{Position}
 use Rattle.ldm_outside.specs.declared.link.Passed.{Passed}
