@@ -6,6 +6,11 @@ use Rattle.ldm_types.specs.declared.class.ClassSpec.{ClassSpec}
 use Rattle.ldm_types.specs.declared.feed.Feed.{Feed}
 use Rattle.ldm_types.specs.declared.limits.TheConstants.{LARGEST_ARENA}
 use Rattle.ldm_model.specs.declared.event.Start.{Start}
+use Rattle.ldm_model.specs.declared.event.Start.TheVariants as start
+use Rattle.ldm_model.specs.State.{State, empty}
+use Rattle.ldm_model.specs.History.{IsLegal, IsLegalFrom}
+use Rattle.ldm_model.specs.Open.{open_cursor}
+use Rattle.ldm_model.proofs.Appended.{IsLegalFrom-append}
 use Rattle.ldm_model.specs.declared.event.Event.TheVariants.{OpenCursor}
 use Rattle.ldm_model.specs.declared.event.Reply.TheVariants.{AllBusy}
 use Rattle.ldm_model.specs.declared.event.Entry.{Entry}
@@ -25,18 +30,19 @@ use Rattle.ldm_sender.specs.declared.end.SendEnd.{SendEnd}
 use Rattle.ldm_sender.specs.declared.end.SendEnd.TheVariants as feed
 use Rattle.ldm_sender.specs.Asked.{Asked}
 use Rattle.ldm_sender.specs.Ending.{closing_of}
-use Rattle.ldm_sender.specs.Opening.{Answered, Busy, Denied, Opened, Reclassed, class_answer_of, opening_calls, opening_entries, place_of}
+use Rattle.ldm_sender.specs.Opening.{Answered, Busy, Denied, Opened, Reclassed, class_answer_of, feeds_of, from_instant, opening_calls, opening_entries, place_of}
 use Rattle.ldm_upstream.specs.Turn.{Given, Turn}
-use Rattle.ldm_upstream.specs.Feeding.{GoesOn, Last, MayTurn, Unanswered, bytes_of, codes_of, entries_of, given_of, last_entries, stands}
+use Rattle.ldm_upstream.specs.Feeding.{GoesOn, Last, MayTurn, Unanswered, bytes_of, codes_of, given_of, last_entries}
 use Rattle.ldm_upstream.specs.Turns.{entries_of_turns}
 use Rattle.ldm_upstream.specs.Feeds.{Feeds}
 use Rattle.ldm_downstream.specs.Pieces.{joined}
 use Rattle.ldm_passing.specs.Passing.{Carries, IsGranted, IsPassing, Passing}
 use Rattle.ldm_passing.specs.Ungranted.{EndsBy, IsUngranted, IsUnopened}
-use Rattle.ldm_sole_reader.specs.OnePass.{IsOnlyPass}
-use Rattle.ldm_sole_reader.proofs.OnePass.{fed-opened, seen-by}
-use Rattle.ldm_chain.specs.Causes.{HadNoCursor}
+use Rattle.ldm_sole_reader.specs.OnePass.{IsOnlyPass, state_of}
+use Rattle.ldm_sole_reader.proofs.OnePass.{fed-opened, seen-by, seen-legal}
+use Rattle.ldm_chain.specs.Causes.{AreAllTaken, HadNoCursor}
 use Rattle.ldm_chain.specs.Reflecting.{pieces_at}
+use Rattle.ldm_chain.proofs.Cursors.{busy-taken, missed-same}
 use Rattle.ldm_chain.proofs.FedWhole.{TookAll}
 use Rattle.ldm_chain.proofs.Products.{rows-sound}
 use Rattle.ldm_chain.proofs.UsedLaws.{EndLaws, Laws}
@@ -76,9 +82,6 @@ opening-busy : (actor : ℕ) (asked : Asked) (signature : Option (List ℕ)) (mi
 opening-busy actor asked None missed = record { before = []; behind = []; actor = actor; feed = _; start = _; all = refl }
 opening-busy actor asked (Some signature) false = record { before = []; behind = []; actor = actor; feed = _; start = _; all = refl }
 opening-busy actor asked (Some signature) true = record { before = _ ∷ []; behind = []; actor = actor; feed = _; start = _; all = refl }
-
-had-none : (pass : PassView) → HasBusy pass.seen → HadNoCursor pass
-had-none pass has = record { before = has.before; behind = has.behind; actor = has.actor; feed = has.feed; start = has.start; all = has.all }
 
 -- ---- the reply to a request
 
@@ -213,18 +216,44 @@ module _ (laws : Laws) (more : EndLaws) (asked : Asked) (old new : PassView) (be
       (said laws more why asked old new before after' feeds only small now actor made end all feeds.sent_part opened.0 opened.1 opened.2 feeds.codes_part)
       all.heard feeds.says.is_behind
 
--- all cursors were taken
+-- all cursors were taken, and no call changed that
 module _ (laws : Laws) (asked : Asked) (old new : PassView) (before after' : SessionRecord) (only : IsOnlyPass old) where
-  pub busy-seen : (feeds : Feeds feed.AllBusy asked [] old new before after') → HadNoCursor new
+  opening-taken : (actor : ℕ) (signature : Option (List ℕ)) (missed : Bool) (s : State) → IsLegalFrom s (opening_calls actor asked signature missed AllBusy) → AreAllTaken s
+  opening-taken actor None missed s legal = busy-taken s actor (feeds_of asked.class) (from_instant asked.class.from) legal.0.reply
+  opening-taken actor (Some signature) false s legal = busy-taken s actor (feeds_of asked.class) (start.AfterSignature (record { 0 = signature })) legal.0.reply
+  opening-taken actor (Some signature) true s legal =
+      let behind : Start = start.AfterSignature (record { 0 = signature }) in
+      subst AreAllTaken (missed-same s actor (feeds_of asked.class) behind legal.0.reply)
+      (busy-taken (open_cursor s actor (feeds_of asked.class) behind).state actor (feeds_of asked.class) (from_instant asked.class.from) legal.1.0.reply)
+
+  pub busy-seen : (feeds : Feeds feed.AllBusy asked [] old new before after') → HadNoCursor old new
   busy-seen feeds =
       let actor = old.actor in
       let f = feeds.feeding in
       let closing = closing_of actor feed.AllBusy f.answered in
       let calls = feeds.called ++ closing in
-      let seen : new.seen ≡ old.seen ++ calls = laws.goes_on old new calls (seen-by old new calls only.has_seen feeds.made) only.passes only.actor in
-      let opening : HasBusy (opening_entries actor asked f.answered) =
-      subst (λ (a : Answered). HasBusy (opening_entries actor asked a)) (sym feeds.cause.1) (opening-busy actor asked (resumed asked.class.specs.items) feeds.cause.0) in
-      let entries : HasBusy (entries_of actor asked f) =
-      busy-in_front (opening_entries actor asked f.answered ++ entries_of_turns actor (place_of f.answered) f.turns) (last_entries actor (place_of f.answered) f.last)
-      (busy-in_front (opening_entries actor asked f.answered) (entries_of_turns actor (place_of f.answered) f.turns) opening) in
-      had-none new (subst HasBusy (sym seen) (busy-behind old.seen calls (busy-in_front feeds.called closing (subst HasBusy (sym feeds.called_part) entries))))
+      let makes = seen-by old new calls only.has_seen feeds.made in
+      let seen : new.seen ≡ old.seen ++ calls = laws.goes_on old new calls makes only.passes only.actor in
+      let signature = resumed asked.class.specs.items in
+      let opened = opening_calls actor asked signature feeds.cause.0 AllBusy in
+      let turned = entries_of_turns actor (place_of f.answered) f.turns in
+      let ended = last_entries actor (place_of f.answered) f.last in
+      let is : feeds.called ≡ (opened ++ turned) ++ ended =
+      feeds.called_part ∙ ap (λ (a : Answered). (opening_entries actor asked a ++ turned) ++ ended) feeds.cause.1 in
+      let all : calls ≡ opened ++ (turned ++ (ended ++ closing)) =
+      ap (λ (es : List Entry). es ++ closing) is ∙ append_assoc (opened ++ turned) ended closing ∙ append_assoc opened turned (ended ++ closing) in
+      let legal : IsLegal old.arena old.slots (old.seen ++ calls) = seen-legal old new calls makes seen in
+      let behind_old : IsLegalFrom (state_of old) calls = ((IsLegalFrom-append old.seen calls (empty old.arena old.slots)).0 legal).1 in
+      let opens : IsLegalFrom (state_of old) opened =
+      ((IsLegalFrom-append opened (turned ++ (ended ++ closing)) (state_of old)).0 (subst (λ (es : List Entry). IsLegalFrom (state_of old) es) all behind_old)).0 in
+      let entries : HasBusy calls = subst HasBusy (sym all) (busy-in_front opened (turned ++ (ended ++ closing)) (opening-busy actor asked signature feeds.cause.0)) in
+      let busy : HasBusy new.seen = subst HasBusy (sym seen) (busy-behind old.seen calls entries) in
+      record {
+        taken = opening-taken actor signature feeds.cause.0 (state_of old) opens;
+        before = busy.before;
+        behind = busy.behind;
+        actor = busy.actor;
+        feed = busy.feed;
+        start = busy.start;
+        all = busy.all;
+      }

@@ -12,6 +12,7 @@ pub mod Narrower
 pub mod Linked
 pub mod NodeQueues
 pub mod Broken
+pub mod Cursors
 pub mod Answering
 pub mod Causing
 pub mod NodeCauses

@@ -40,10 +40,10 @@ pub fn a_link_passes_on()
     products_stay();
 }
 
-/// Why a chain ended while a node was fed from the one before it, where the queue of that one has one pass.
+/// Why a chain ended while a node was fed from the one before it, where each of the two queues has one pass.
 pub fn a_break_has_a_cause()
     ensures { (end : ChainEnd) (asked : Asked) (old new before after : PassView) → BreaksAt end asked old new before after → asked.xid ≡ 1 →
-        IsOnlyPass old → CauseAt end asked new after }
+        IsOnlyPass old → IsOnlyPass before → CauseAt end asked old new after }
 {
     the_setting_is_met();
     products_are_passed_on();

@@ -25,4 +25,4 @@ end_laws c = record {
 }
 
 pub returns : goal.returns
-returns c = λ end asked old new before after breaks number only. causes (laws c) (end_laws c) asked number old new before after only end breaks
+returns c = λ end asked old new before after breaks number only next. causes (laws c) (end_laws c) asked number old new before after only next end breaks
