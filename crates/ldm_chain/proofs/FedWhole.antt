@@ -1,18 +1,19 @@
 -- A feeding that came whole to a receiver makes of its queue what the law of a link says.
-use Rattle.std.proofs.Common.{◌≡◌, ℕ, ◌+◌, ◌<◌, ◌≤◌, true, List, [], ◌++◌, length, None, refl, ap, sym, subst, ◌∙◌}
+use Rattle.std.proofs.Common.{◌≡◌, ℕ, ◌+◌, ◌<◌, ◌≤◌, List, [], ◌++◌, length, Option, None, refl, ap, sym, subst, ◌∙◌}
 use Rattle.std.specs.Prelude.{map}
 use Rattle.std.proofs.lemmas.List.{append-nil}
 use Rattle.ldm_types.specs.declared.limits.TheConstants.{LARGEST_ARENA}
 use Rattle.ldm_model.specs.declared.event.Entry.{Entry}
 use Rattle.ldm_model.specs.Product.{Product}
 use Rattle.ldm_model.specs.State.{State}
-use Rattle.ldm_model.specs.History.{after, after_entries, IsLegalFrom}
+use Rattle.ldm_model.specs.History.{after_entries, IsLegalFrom}
 use Rattle.ldm_model.specs.State.{empty}
 use Rattle.ldm_model.proofs.Appended.{after_entries-append, IsLegalFrom-append}
 use Rattle.ldm_class.specs.Classes.{resumed}
 use Rattle.ldm_outside.specs.Session.{SessionRecord}
 use Rattle.ldm_shared.specs.Passes.{PassView, Calls, Makes}
 use Rattle.ldm_session.specs.Owed.{Code, Said}
+use Rattle.ldm_intake.specs.declared.end.RecvEnd.{RecvEnd}
 use Rattle.ldm_intake.specs.Course.{Leads}
 use Rattle.ldm_intake.specs.Receiving.{Receiving}
 use Rattle.ldm_intake.specs.Room.{records_of}
@@ -36,8 +37,8 @@ use Rattle.ldm_chain.proofs.UsedLaws.{Laws}
 use Rattle.ldm_chain.proofs.Moment.{all-at}
 use Rattle.ldm_chain.proofs.Products.{handed-offered, rows-sound}
 
--- A receiver that asked for it took all its bytes, at one moment.
-pub record TookAll (asked : Asked) (sent given : List ℕ) (now actor : ℕ) (made : List Entry) : Type 0 where
+-- A receiver that asked for it took all its bytes, at one moment, and that is how it ended, if it did.
+pub record TookAll (asked : Asked) (sent given : List ℕ) (now actor : ℕ) (made : List Entry) (end : Option RecvEnd) : Type 0 where
   pub begins : Receiving
   pub at : ℕ
   pub parts : List (List ℕ)
@@ -48,13 +49,14 @@ pub record TookAll (asked : Asked) (sent given : List ℕ) (now actor : ℕ) (ma
   pub few : at + length (joined (pieces_at now parts)) < LONGEST_STREAM
   pub waiting : List ℕ
   pub heard : given ++ waiting ≡ records_of came_to.replies
+  pub end_is : came_to.end ≡ end
 
 stopped-answered : (last : Last) (end : ℕ) → last ≡ feeding.Stopped end → IsAnswered last
 stopped-answered last end is = subst IsAnswered (sym is) tt
 
 module _ (laws : Laws) (asked : Asked) (old new : PassView) (before after' : SessionRecord) (feeds : Feeds Stopped asked [] old new before after') (only : IsOnlyPass old)
     (small : old.arena ≤ LARGEST_ARENA) (from : asked.class.from ≡ 0) (names : resumed asked.class.specs.items ≡ None)
-    (now actor : ℕ) (made : List Entry) (all : TookAll asked feeds.sent feeds.given now actor made) where
+    (now actor : ℕ) (made : List Entry) (end : Option RecvEnd) (all : TookAll asked feeds.sent feeds.given now actor made end) where
   abbrev passing : Passing
   passing = record {
     asked = asked;

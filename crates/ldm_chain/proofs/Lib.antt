@@ -11,3 +11,8 @@ pub mod FedWhole
 pub mod Narrower
 pub mod Linked
 pub mod NodeQueues
+pub mod Broken
+pub mod Cursors
+pub mod Answering
+pub mod Causing
+pub mod NodeCauses

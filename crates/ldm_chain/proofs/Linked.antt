@@ -1,12 +1,10 @@
 -- What the queues of a link come to.
-use Rattle.std.proofs.Common.{◌≡◌, ℕ, ◌+◌, ◌<◌, ◌≤◌, true, false, List, [], ◌∷◌, ◌++◌, length, Option, Some, None, inl, inr, refl, ap, sym, subst, ◌∙◌, append_assoc, arith}
-use Rattle.std.specs.Prelude.{map, ◌⊎◌}
+use Rattle.std.proofs.Common.{◌≡◌, ℕ, ◌+◌, ◌<◌, ◌≤◌, false, List, [], ◌∷◌, ◌++◌, length, Option, Some, None, inl, inr, refl, ap, sym, subst, ◌∙◌, append_assoc, arith}
 use Rattle.std.proofs.lemmas.List.{append-nil, length-append}
 use Rattle.std.proofs.lemmas.List.Concat.{flat_map-append}
 use Rattle.ldm_types.specs.declared.class.ClassSpec.{ClassSpec}
 use Rattle.ldm_types.specs.declared.limits.TheConstants.{LARGEST_ARENA}
 use Rattle.ldm_model.specs.declared.event.Entry.{Entry}
-use Rattle.ldm_model.specs.Product.{Product}
 use Rattle.ldm_model.specs.State.{State}
 use Rattle.ldm_model.specs.History.{after_entries, IsLegalFrom}
 use Rattle.ldm_class.specs.Classes.{bad_place}
@@ -18,38 +16,33 @@ use Rattle.ldm_relay.specs.Fits.{ClassFits}
 use Rattle.ldm_relay.specs.Sent.{Sent}
 use Rattle.ldm_relay.specs.Sent as sent
 use Rattle.ldm_relay.specs.Spelling.{record_of, written}
-use Rattle.ldm_outside.specs.declared.link.Passed.{Passed}
 use Rattle.ldm_outside.specs.Link.{bytes_given, bytes_sent}
 use Rattle.ldm_shared.specs.Passes.{PassView}
-use Rattle.ldm_session.specs.Exchange.{PassesMore}
 use Rattle.ldm_intake.specs.declared.end.RecvEnd.{RecvEnd}
-use Rattle.ldm_intake.specs.declared.phase.Phase.TheVariants as phase
-use Rattle.ldm_intake.specs.Course.{Course, Comes, Leads, then}
+use Rattle.ldm_intake.specs.Course.{Comes, Leads, then}
 use Rattle.ldm_intake.specs.Opening.{request_of}
 use Rattle.ldm_intake.specs.Receiving.{Receiving}
 use Rattle.ldm_intake.specs.Room.{records_of}
 use Rattle.ldm_intake.specs.Taken.{Arrival, Taken, taken, taken_none}
 use Rattle.ldm_intake.proofs.Courses.{leads-same, leads-then_comes, leads-then_parts}
 use Rattle.ldm_intake.proofs.TakenRecords.{goes_on, goes_on_at, in_front, taken-append, taken-from_none}
+use Rattle.ldm_sender.specs.declared.end.SendEnd.{SendEnd}
 use Rattle.ldm_sender.specs.declared.end.SendEnd.TheVariants.{Stopped, Reclassed}
 use Rattle.ldm_sender.specs.Asked.{Asked}
 use Rattle.ldm_sender.specs.Opening.{Answered, IsAnswerTo}
 use Rattle.ldm_sender.specs.Opening as answered
-use Rattle.ldm_upstream.specs.Feeds.{Feeds}
 use Rattle.ldm_session.specs.declared.limits.TheConstants.{LONGEST_STREAM}
 use Rattle.ldm_downstream.specs.Pieces.{Piece, arrivals, beginning, hand, joined}
 use Rattle.ldm_downstream.specs.Received.{end_behind, received, with_hand}
-use Rattle.ldm_downstream.proofs.Arrivals.{arrivals-append}
-use Rattle.ldm_passing.specs.Narrowing.{IsNarrowing, Narrows}
+use Rattle.ldm_downstream.proofs.Arrivals.{arrivals-append, hand-append}
+use Rattle.ldm_passing.specs.Narrowing.{Narrows}
 use Rattle.ldm_passing.specs.Passing.{HasAsked, Passing, record_at}
 use Rattle.ldm_passing.specs.Queue.{passed_all}
 use Rattle.ldm_passing.proofs.Growing.{comes-made}
 use Rattle.ldm_sole_reader.specs.OnePass.{IsOnlyPass, state_of}
 use Rattle.ldm_sole_reader.proofs.OnePass.{fed-opened}
-use Rattle.ldm_chain.specs.Beginning.{Beginning}
-use Rattle.ldm_chain.specs.Linking.{Fed, FedAll, FedFewer, FedRest, Links, asking, request_read}
+use Rattle.ldm_chain.specs.Linking.{Fed, FedFewer, Links, asking, request_read}
 use Rattle.ldm_chain.specs.MirrorView.{MirrorView, all_read}
-use Rattle.ldm_chain.specs.Outside.{outside}
 use Rattle.ldm_chain.specs.Queues.{IsForAllTimes, fed_from, left_to, products_due}
 use Rattle.ldm_chain.specs.Reflecting.{pieces_at}
 use Rattle.ldm_chain.proofs.FedWhole.{TookAll, fed-queue, made-legal, made-state, still-only}
@@ -76,16 +69,17 @@ record Halves (actor : ℕ) (s : Receiving) (first second : List Arrival) (made 
   seconds : Leads actor (taken (taken_none mid.receiving) second) behind to
   is : u ≡ in_front mid.replies mid.notes to
 
-halves : (actor : ℕ) (s : Receiving) (first second : List Arrival) (made : List Entry) (u : Taken) → u.end ≡ None
+halves : (actor : ℕ) (s : Receiving) (first second : List Arrival) (made : List Entry) (u : Taken)
+    → ((mid : Taken) (before : List Entry) → Leads actor (taken (taken_none s) first) before mid → mid.end ≡ None)
     → Leads actor (taken (taken_none s) (first ++ second)) made u → Halves actor s first second made u
 halves actor s first second made u live leads =
     let parts = leads-then_parts actor (taken (taken_none s) first) (goes_on second) made u
     (leads-same actor (taken (taken_none s) (first ++ second)) (then (taken (taken_none s) first) (goes_on second)) made u (taken-append (taken_none s) first second refl) leads) in
-    by parts.mid parts.made parts.more parts.all parts.first parts.mid.end refl parts.second
+    by parts.mid parts.made parts.more parts.all parts.first (live parts.mid parts.made parts.first) parts.mid.end refl parts.second
   where
-    by : (mid : Taken) (before more : List Entry) → made ≡ before ++ more → Leads actor (taken (taken_none s) first) before mid → (end : Option RecvEnd) → mid.end ≡ end
+    by : (mid : Taken) (before more : List Entry) → made ≡ before ++ more → Leads actor (taken (taken_none s) first) before mid → mid.end ≡ None → (end : Option RecvEnd) → mid.end ≡ end
         → Leads actor (goes_on_at second mid end) more u → Halves actor s first second made u
-    by mid before more all firsts None open_ later =
+    by mid before more all firsts goes_on None open_ later =
         let rest = leads-then_parts actor (taken (taken_none mid.receiving) second) (λ (v : Taken). Comes (in_front mid.replies mid.notes v)) more u
         (leads-same actor (taken mid second) (then (taken (taken_none mid.receiving) second) (λ (v : Taken). Comes (in_front mid.replies mid.notes v))) more u
         (taken-from_none mid second open_) later) in
@@ -100,9 +94,7 @@ halves actor s first second made u live leads =
           seconds = rest.first;
           is = sym ends.1;
         }
-    by mid before more all firsts (Some end) over later =
-        let ends = comes-made actor mid more u later in
-        absurd (let no : Some end ≡ None = sym over ∙ ap (λ (v : Taken). v.end) ends.1 ∙ live in cc no)
+    by mid before more all firsts goes_on (Some end) over later = absurd (let no : Some end ≡ None = sym over ∙ goes_on in cc no)
 
 module _ (laws : Laws) (asked : Asked) (now : ℕ) (before : PassView) (number : asked.xid ≡ 1) where
   -- the receiver, as it asked first
@@ -121,9 +113,9 @@ module _ (laws : Laws) (asked : Asked) (now : ℕ) (before : PassView) (number :
 
   -- ---- all of the class is left
 
-  took-whole : (old new : PassView) (end : MirrorView) (fed : Fed Stopped asked old new (request_read first_asker before) end) (t : Took first_asker before now end)
-      → TookAll asked fed.feeds.sent fed.feeds.given now before.actor t.made
-  took-whole old new end fed t =
+  pub took-whole : (why : SendEnd) (old new : PassView) (end : MirrorView) (fed : Fed why asked old new (request_read first_asker before) end) (t : Took first_asker before now end)
+      → TookAll asked fed.feeds.sent fed.feeds.given now before.actor t.made end.receiver.end
+  took-whole why old new end fed t =
       let feeds = fed.feeds in
       record {
         begins = first_asker;
@@ -136,6 +128,7 @@ module _ (laws : Laws) (asked : Asked) (now : ℕ) (before : PassView) (number :
         few = omega (arith, t.few);
         waiting = end.waiting;
         heard = replied-behind at_first_byte end.passed feeds.sent feeds.given feeds.exchanged.passed end.waiting request (records_of t.to.replies) refl t.out;
+        end_is = t.end_is;
       }
 
   -- ---- a part of it is left
@@ -191,7 +184,7 @@ module _ (laws : Laws) (asked : Asked) (now : ℕ) (before : PassView) (number :
           let n = narrows-of t.parts t.made t.to (t.came ∙ sent-first) t.few t.leads in
           t.out ∙ ap (λ (v : Taken). request ++ records_of v.replies) n.came_to
 
-      module _ (new : PassView) (end : MirrorView) (fed : Fed Stopped (record asked { xid = 2; class = fewer }) mid new (all_read told) end)
+      module _ (why : SendEnd) (new : PassView) (end : MirrorView) (fed : Fed why (record asked { xid = 2; class = fewer }) mid new (all_read told) end)
           (u : Took first_asker before now end) where
         abbrev one : List ℕ
         one = first.feeds.sent
@@ -223,6 +216,18 @@ module _ (laws : Laws) (asked : Asked) (now : ℕ) (before : PassView) (number :
             (received-same now beginning u.parts (one ∷ other ∷ []) joined-both (omega (arith, u.few)) first_asker) u.leads
 
         -- what the receiver did of both
+        abbrev h0 : Position
+        h0 = hand beginning both_pieces
+
+        -- the first feeding ends nothing
+        first-live : (mid : Taken) (earlier : List Entry) → Leads before.actor (taken (taken_none first_asker) (arrivals beginning one_piece)) earlier mid → mid.end ≡ None
+        first-live mid earlier firsts =
+            let h1 = hand beginning one_piece in
+            let leads1 = leads-then_comes before.actor (taken (taken_none first_asker) (arrivals beginning one_piece)) (λ (v : Taken). Comes (with_hand h1 v)) earlier mid
+            (with_hand h1 mid) firsts refl in
+            let n = narrows-of (one ∷ []) earlier (with_hand h1 mid) (append-nil one) (omega (arith, few-both, ap length (append-nil one))) leads1 in
+            live-before h1 mid.end (ap (λ (v : Taken). v.end) n.came_to)
+
         record Split : Type 0 where
           mid_taken : Taken
           behind : List Entry
@@ -232,19 +237,18 @@ module _ (laws : Laws) (asked : Asked) (now : ℕ) (before : PassView) (number :
           edge : hand beginning one_piece ≡ record_at (0 + length (joined one_piece))
           leads : Leads before.actor (taken (taken_none mid_taken.receiving) (arrivals (hand beginning one_piece) other_piece)) behind to
           replies : u.to.replies ≡ again_asked ++ to.replies
+          end_is : end_behind h0 to.end ≡ u.to.end
 
         split : Split
         split =
             let actor = before.actor in
             let s = first_asker in
-            let h0 = hand beginning both_pieces in
             let parts = leads-then_parts actor (taken (taken_none s) (arrivals beginning both_pieces)) (λ (v : Taken). Comes (with_hand h0 v)) u.made u.to leads-both in
             let ends = comes-made actor (with_hand h0 parts.mid) parts.more u.to parts.second in
-            let live : parts.mid.end ≡ None = live-before h0 parts.mid.end (ap (λ (v : Taken). v.end) ends.1 ∙ u.live) in
             let a1 = arrivals beginning one_piece in
             let h1 = hand beginning one_piece in
             let a2 = arrivals h1 other_piece in
-            let half = halves actor s a1 a2 parts.made parts.mid live
+            let half = halves actor s a1 a2 parts.made parts.mid first-live
             (leads-same actor (taken (taken_none s) (arrivals beginning both_pieces)) (taken (taken_none s) (a1 ++ a2)) parts.made parts.mid
             (ap (taken (taken_none s)) (arrivals-append beginning one_piece other_piece)) parts.first) in
             let leads1 = leads-then_comes actor (taken (taken_none s) a1) (λ (v : Taken). Comes (with_hand h1 v)) half.before half.mid (with_hand h1 half.mid) half.firsts refl in
@@ -260,9 +264,10 @@ module _ (laws : Laws) (asked : Asked) (now : ℕ) (before : PassView) (number :
               leads = half.seconds;
               replies = sym (ap (λ (v : Taken). v.replies) ends.1) ∙ ap (λ (v : Taken). v.replies) half.is
                   ∙ ap (λ (v : Taken). v.replies ++ half.to.replies) n.came_to;
+              end_is = ap (λ (v : Taken). end_behind h0 v.end) (sym half.is) ∙ ap (λ (v : Taken). v.end) ends.1;
             }
 
-        took-rest : TookAll (record asked { xid = 2; class = fewer }) fed.feeds.sent fed.feeds.given now before.actor u.made
+        pub took-rest : TookAll (record asked { xid = 2; class = fewer }) fed.feeds.sent fed.feeds.given now before.actor u.made end.receiver.end
         took-rest =
             let actor = before.actor in
             let sp = split in
@@ -289,6 +294,8 @@ module _ (laws : Laws) (asked : Asked) (now : ℕ) (before : PassView) (number :
               waiting = end.waiting;
               heard = replied-behind told end.passed other fed.feeds.given fed.feeds.exchanged.passed end.waiting (request ++ records_of again_asked) (records_of sp.to.replies)
                   out-first out;
+              end_is = ap (λ (q : Position). end_behind q sp.to.end)
+                  (sym (hand-append beginning one_piece other_piece ∙ ap (λ (q : Position). hand q other_piece) sp.edge)) ∙ sp.end_is ∙ u.end_is;
             }
 
 -- ---- both queues of a link
@@ -315,7 +322,7 @@ module _ (laws : Laws) (asked : Asked) (now : ℕ) (old new before after' : Pass
       → after_entries (state_of before) end-took.made ≡ passed_all before.actor by.max_hereis now (products_due by from) (state_of before)
       → state_of links.end.pass ≡ fed_from (state_of old) asked now (state_of before)
   queue-by by from left from_is most is =
-      made-state laws before links.end.pass end-took.made only_next end-took.calls
+      made-state laws before links.end.pass end-took.made only_next (end-took.calls links.goes_on)
       ∙ is
       ∙ (λ i. passed_all (only_next.actor i) (most i) now (products_due (sym left i) (from_is i)) (state_of before))
 
@@ -323,11 +330,11 @@ module _ (laws : Laws) (asked : Asked) (now : ℕ) (old new before after' : Pass
   with-end same queue = record {
     queue = subst (λ (p : PassView). state_of p ≡ fed_from (state_of old) asked now (state_of before)) links.pass_is queue;
     unchanged = same;
-    only = subst IsOnlyPass links.pass_is (still-only laws before links.end.pass end-took.made only_next end-took.calls);
+    only = subst IsOnlyPass links.pass_is (still-only laws before links.end.pass end-took.made only_next (end-took.calls links.goes_on));
   }
 
   legal : IsLegalFrom (state_of before) end-took.made
-  legal = made-legal laws before links.end.pass end-took.made only_next end-took.calls
+  legal = made-legal laws before links.end.pass end-took.made only_next (end-took.calls links.goes_on)
 
   by-whole : Fed Stopped asked old new (request_read (asking asked.class asked.max_hereis) before) links.end → Leaves asked now old new before after'
   by-whole fed =
@@ -337,10 +344,10 @@ module _ (laws : Laws) (asked : Asked) (now : ℕ) (old new before after' : Pass
       let names = same-names feeds_left rule_left asked.class asks all in
       with-end (laws.unchanged Stopped asked [] old new _ _ feeds only refl)
       (queue-by asked (state_of old) (ap (λ (r : Reduced). left_to r asked) all) refl refl
-      (fed-queue laws asked old new _ _ feeds only links.small asks.from names now before.actor end-took.made
-      (took-whole laws asked now before number old new links.end fed end-took) (state_of before) legal))
+      (fed-queue laws asked old new _ _ feeds only links.small asks.from names now before.actor end-took.made links.end.receiver.end
+      (took-whole laws asked now before number Stopped old new links.end fed end-took) (state_of before) legal))
 
-  by-rest : FedFewer links.b asked old new (request_read (asking asked.class asked.max_hereis) before) links.end → Leaves asked now old new before after'
+  by-rest : FedFewer Stopped links.b asked old new (request_read (asking asked.class asked.max_hereis) before) links.end → Leaves asked now old new before after'
   by-rest part =
       let rest = part.rest in
       let fewer = rest.fewer in
@@ -353,8 +360,8 @@ module _ (laws : Laws) (asked : Asked) (now : ℕ) (old new before after' : Pass
       with-end (laws.unchanged Stopped narrower [] part.mid new _ _ rest.fed.feeds mid_only refl ∙ same)
       (queue-by narrower (state_of part.mid) (ap (λ (r : Reduced). left_to r asked) rest.left) same refl
       (fed-queue laws narrower part.mid new _ _ rest.fed.feeds mid_only mid_small (fewer-from feeds_left rule_left asked.class asks fewer rest.left)
-      (fewer-names feeds_left rule_left asked.class asks fewer rest.left) now before.actor end-took.made
-      (took-rest laws asked now before number old part.mid part.told fewer part.first rest.left rest.fits rest.meant t new links.end rest.fed end-took) (state_of before) legal))
+      (fewer-names feeds_left rule_left asked.class asks fewer rest.left) now before.actor end-took.made links.end.receiver.end
+      (took-rest laws asked now before number old part.mid part.told fewer part.first rest.left rest.fits rest.meant t Stopped new links.end rest.fed end-took) (state_of before) legal))
 
   pub leaves : Leaves asked now old new before after'
   leaves = elim links.fed [

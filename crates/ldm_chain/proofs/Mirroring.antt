@@ -1,6 +1,7 @@
 -- What a mirror keeps, from its beginning and over its calls.
-use Rattle.std.proofs.Common.{◌≡◌, ◌≤◌, ℕ, ◌+◌, Bool, false, List, [], ◌∷◌, ◌++◌, length, take, drop, Option, Some, None, refl, ap, sym, subst, ◌∙◌, append_assoc, arith}
-use Rattle.std.specs.Prelude.{is_some}
+use Rattle.std.proofs.Common.{◌≡◌, ◌≤◌, ◌<◌, ℕ, ◌+◌, Bool, true, false, List, [], ◌∷◌, ◌++◌, length, take, drop, Option, Some, None, inl, inr, refl, ap, sym, subst, ◌∙◌, append_assoc, arith}
+use Rattle.std.specs.Prelude.{is_some, nat_le}
+use Rattle.std.proofs.lemmas.Bool.{cases_lt, le-leb}
 use Rattle.std.proofs.lemmas.List.{append-nil, take-append-drop, drop-drop, drop-append-le, length-append}
 use Rattle.std.proofs.lemmas.List.Concat.{flat_map-append}
 use Rattle.ldm_rpc.specs.Streams.{Position}
@@ -14,6 +15,7 @@ use Rattle.ldm_intake.specs.Opening.{request_of}
 use Rattle.ldm_intake.specs.Receiving.{Receiving}
 use Rattle.ldm_intake.specs.Room.{records_of}
 use Rattle.ldm_intake.specs.TakesRecord.{Standing, stands}
+use Rattle.ldm_session.specs.declared.limits.TheConstants.{LONGEST_STREAM}
 use Rattle.ldm_downstream.specs.Pieces.{Piece, beginning, joined}
 use Rattle.ldm_downstream.specs.Pushing.{Continues, Pushes, PushesAt}
 use Rattle.ldm_downstream.specs.Receives.{at_first}
@@ -43,6 +45,20 @@ pub bytes_sent-given : (bytes : List ℕ) (passed : List Passed) → bytes_sent 
 bytes_sent-given bytes passed =
     bytes_passed-append way.Sent passed (passed_all way.Given bytes) ∙ ap (λ (x : List ℕ). bytes_sent passed ++ x) (none_sent bytes) ∙ append-nil (bytes_sent passed)
 
+-- how many bytes were sent, where more are sent or given
+pub sent-more : (piece : List ℕ) (old new : List Passed) → new ≡ then_all way.Sent piece old → length (bytes_sent new) ≡ length (bytes_sent old) + length piece
+sent-more piece old new told = ap (λ (ps : List Passed). length (bytes_sent ps)) told ∙ ap length (bytes_sent-more piece old) ∙ length-append (bytes_sent old) piece
+
+pub sent-kept : (bytes : List ℕ) (old new : List Passed) → new ≡ then_all way.Given bytes old → length (bytes_sent new) ≡ length (bytes_sent old)
+sent-kept bytes old new told = ap (λ (ps : List Passed). length (bytes_sent ps)) told ∙ ap length (bytes_sent-given bytes old)
+
+-- there is room for a piece
+pub room-left : (sent len : ℕ) → nat_le LONGEST_STREAM (sent + len) ≡ false → sent + len < LONGEST_STREAM
+room-left sent len is = elim (cases_lt (sent + len) LONGEST_STREAM) [
+  | inl less ↦ less
+  | inr most ↦ absurd (let never : true ≡ false = sym (le-leb LONGEST_STREAM (sent + len) most) ∙ is in cc never)
+]
+
 -- ---- its beginning
 
 went-none : (first a : Standing) (out : List ℕ) (end : Option RecvEnd) (hand : Position) → first ≡ a → end ≡ None → hand ≡ beginning → out ≡ a.out
@@ -55,9 +71,9 @@ went-none first a out end hand first_is live hand_is out_is =
 
 pub begins : (b : Beginning) (receiver : ReceiverView) (pass : PassView) (passed : List Passed) (request : List ℕ) → receiver ≡ before_stream receiver.receiving false
     → request ≡ records_of (request_of receiver.receiving) → b.first ≡ at_first receiver.receiving pass → passed ≡ []
-    → Reflects b (mirror_of passed 0 0 false 0 request receiver pass)
+    → Reflects b (mirror_of passed 0 false 0 request receiver pass)
 begins b receiver pass passed request before asks first none =
-    subst (λ (ps : List Passed). Reflects b (mirror_of ps 0 0 false 0 request receiver pass)) (sym none)
+    subst (λ (ps : List Passed). Reflects b (mirror_of ps 0 false 0 request receiver pass)) (sym none)
     (record {
       parts = [];
       sent_is = refl;
@@ -81,24 +97,24 @@ reads b m front rest split r =
       went = subst (λ (o : List ℕ). Went m.receiver.end (pieces_at b.now r.parts) m.receiver.hand b.first (stands m.receiver.receiving m.pass o r.notes)) out r.went;
     }
 
-module _ (b : Beginning) (passed : List Passed) (ends faults : ℕ) (closed : Bool) (read : ℕ) (replies : List ℕ) (receiver : ReceiverView) (pass : PassView) where
+module _ (b : Beginning) (passed : List Passed) (faults : ℕ) (closed : Bool) (read : ℕ) (replies : List ℕ) (receiver : ReceiverView) (pass : PassView) where
   abbrev was : MirrorView
-  was = mirror_of passed ends faults closed read replies receiver pass
+  was = mirror_of passed faults closed read replies receiver pass
 
   -- some from the front
   pub reads-front : (after : List Passed) (n : ℕ) → after ≡ then_all way.Given (take n (drop read replies)) passed → Reflects b was
-      → Reflects b (mirror_of after ends faults closed (read + n) replies receiver pass)
+      → Reflects b (mirror_of after faults closed (read + n) replies receiver pass)
   reads-front after n told r =
-      subst (λ (ps : List Passed). Reflects b (mirror_of ps ends faults closed (read + n) replies receiver pass)) (sym told)
+      subst (λ (ps : List Passed). Reflects b (mirror_of ps faults closed (read + n) replies receiver pass)) (sym told)
       (reads b was (take n (drop read replies)) (drop (read + n) replies)
       (sym (take-append-drop n (drop read replies)) ∙ ap (λ (xs : List ℕ). take n (drop read replies) ++ xs) (drop-drop n read replies)) r)
 
   -- all
   pub reads-all : (after : List Passed) (none : List ℕ) → after ≡ then_all way.Given (drop read replies) passed → none ≡ [] → Reflects b was
-      → Reflects b (mirror_of after ends faults closed 0 none receiver pass)
+      → Reflects b (mirror_of after faults closed 0 none receiver pass)
   reads-all after none told empty r =
-      subst (λ (ps : List Passed). Reflects b (mirror_of ps ends faults closed 0 none receiver pass)) (sym told)
-      (subst (λ (xs : List ℕ). Reflects b (mirror_of (then_all way.Given (drop read replies) passed) ends faults closed 0 xs receiver pass)) (sym empty)
+      subst (λ (ps : List Passed). Reflects b (mirror_of ps faults closed 0 none receiver pass)) (sym told)
+      (subst (λ (xs : List ℕ). Reflects b (mirror_of (then_all way.Given (drop read replies) passed) faults closed 0 xs receiver pass)) (sym empty)
       (reads b was (drop read replies) [] (sym (append-nil (drop read replies))) r))
 
 -- ---- a piece is pushed
@@ -137,11 +153,11 @@ pub record Sends (b : Beginning) (read : ℕ) (after : List ℕ) (new : MirrorVi
   pub within : read ≤ length after
   pub reflects : Reflects b new
 
-pub sends : (b : Beginning) (m : MirrorView) (passed : List Passed) (ends faults : ℕ) (closed : Bool) (read now : ℕ) (piece before notes after lines : List ℕ) (receiver : ReceiverView)
+pub sends : (b : Beginning) (m : MirrorView) (passed : List Passed) (faults : ℕ) (closed : Bool) (read now : ℕ) (piece before notes after lines : List ℕ) (receiver : ReceiverView)
     (pass : PassView) → Sending m read before → now ≡ b.now → passed ≡ then_all way.Sent piece m.passed
     → PushesAt m.receiver.end (record { now = now; bytes = piece }) m.receiver receiver (stands m.receiver.receiving m.pass before notes) (stands receiver.receiving pass after lines)
-    → Reflects b m → Sends b read after (mirror_of passed ends faults closed read after receiver pass)
-sends b m passed ends faults closed read now piece before notes after lines receiver pass at now_is told pushed r =
+    → Reflects b m → Sends b read after (mirror_of passed faults closed read after receiver pass)
+sends b m passed faults closed read now piece before notes after lines receiver pass at now_is told pushed r =
     let came : Piece = record { now = b.now; bytes = piece } in
     let x : Standing = stands m.receiver.receiving m.pass before notes in
     let c : Standing = stands receiver.receiving pass after lines in

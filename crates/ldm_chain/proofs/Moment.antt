@@ -1,14 +1,13 @@
 -- Pieces that all come at one moment: only the bytes make a difference.
-use Rattle.std.proofs.Common.{◌≡◌, ℕ, ◌+◌, ◌-◌, ◌<◌, ◌≤◌, Bool, true, false, leb, min, List, [], ◌∷◌, ◌++◌, length, take, Option, Some, None, inl, inr, refl, ap, sym, subst, ◌∙◌, arith}
+use Rattle.std.proofs.Common.{◌≡◌, ℕ, ◌+◌, ◌-◌, ◌<◌, ◌≤◌, Bool, true, false, leb, min, List, [], ◌∷◌, ◌++◌, length, Some, None, inl, inr, refl, ap, sym, subst, ◌∙◌, arith}
 use Rattle.std.specs.Prelude.{All, if◌then◌else◌}
 use Rattle.std.proofs.lemmas.Bool.{cases_lt, le-leb}
-use Rattle.std.proofs.lemmas.List.{append-nil, length-append, length-take}
+use Rattle.std.proofs.lemmas.List.{length-append, length-take}
 use Rattle.std.proofs.lemmas.List.Elements.{All-nil, All-cons}
 use Rattle.ldm_rpc.specs.Reading.{after_byte, is_faulty}
 use Rattle.ldm_rpc.specs.Streams.{Position, Placed, forgets, in_hand, records_in}
-use Rattle.ldm_intake.specs.declared.end.RecvEnd.{RecvEnd}
 use Rattle.ldm_intake.specs.declared.end.RecvEnd.TheVariants.{BadFrame, StreamLimit}
-use Rattle.ldm_intake.specs.Course.{Course, Comes, then}
+use Rattle.ldm_intake.specs.Course.{Comes, then}
 use Rattle.ldm_intake.specs.Receiving.{Receiving}
 use Rattle.ldm_intake.specs.Taken.{Arrival, Taken, taken, taken_none}
 use Rattle.ldm_session.specs.declared.limits.TheConstants.{LONGEST_STREAM}

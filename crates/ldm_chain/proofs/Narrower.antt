@@ -1,21 +1,21 @@
 -- A class of which a part is left.
-use Rattle.std.proofs.Common.{◌≡◌, ℕ, suc, ◌+◌, Bool, true, false, ◌&&◌, ◌==◌, eqb, List, [], ◌∷◌, length, Option, Some, None, bit_and, inl, inr, refl, ap, sym, subst, ◌∙◌, arith}
-use Rattle.std.specs.Prelude.{◌⊎◌, ◌||◌, is_some, bytes_eq, nat_lt, if◌then◌else◌}
-use Rattle.std.specs.List.{cons_option, filter_map, list_all, zip}
+use Rattle.std.proofs.Common.{◌≡◌, ℕ, ◌≤◌, Bool, true, false, ◌&&◌, ◌==◌, eqb, List, [], ◌∷◌, length, Option, Some, None, bit_and, inl, inr, refl, ap, sym, subst, ◌∙◌, arith}
+use Rattle.std.specs.Prelude.{◌||◌, is_some, bytes_eq, nat_lt, if◌then◌else◌}
+use Rattle.std.specs.List.{AllByRecursion, list_all, zip}
 use Rattle.std.specs.Option.{option_or}
 use Rattle.std.specs.Int.Bits.{and_self}
 use Rattle.std.proofs.lemmas.Bool.{and_parts, cases_Bool, eq-eqb, eqb-true}
 use Rattle.std.proofs.lemmas.Bool.Decides.{nat_tests}
-use Rattle.std.proofs.lemmas.Nat.{and_assoc}
+use Rattle.std.proofs.lemmas.Nat.{and_assoc, and_le_l}
 use Rattle.std.proofs.lemmas.Slice.Eq.{bytes_eq-Decides}
 use Rattle.ldm_types.specs.Feed.{feeds_meet}
 use Rattle.ldm_types.specs.declared.class.ClassSpec.{ClassSpec}
 use Rattle.ldm_types.specs.declared.class.Spec.{Spec}
-use Rattle.ldm_class.specs.Access.{is_within, left_of, narrowed, reduced}
+use Rattle.ldm_class.specs.Access.{is_within, left_of, reduced}
 use Rattle.ldm_class.specs.Classes.{is_resumption, resumed, signature_in}
-use Rattle.ldm_class.specs.declared.answers.Reduced.{Reduced}
 use Rattle.ldm_class.specs.declared.answers.Reduced.TheVariants.{Same, Fewer, Nothing}
 use Rattle.ldm_class.proofs.Left.{whole_left}
+use Rattle.ldm_relay.specs.Fits.{ClassFits, SpecFits}
 use Rattle.ldm_intake.specs.Asking.{same_class, same_spec, same_specs}
 use Rattle.ldm_chain.specs.Queues.{IsForAllTimes}
 
@@ -169,3 +169,41 @@ module _ (feeds rule : ℕ) (class : ClassSpec) (asks : IsForAllTimes class) whe
     | inl none ↦ ap (λ (c : ClassSpec). resumed c.specs.items) (fewer-of feeds rule class fewer is).is ∙ left-named feeds class.specs.items none
     | inr named ↦ absurd (let no : Fewer fewer ≡ Nothing rule = sym is ∙ nothing-left feeds rule class named in cc no)
   ]
+
+-- ---- it can be written
+
+left-fits : (feeds : ℕ) (specs : List Spec) → AllByRecursion SpecFits specs → AllByRecursion SpecFits (left_of feeds specs)
+left-fits feeds [] fits = tt
+left-fits feeds (spec ∷ others) fits =
+    let rest = left-fits feeds others fits.1 in
+    let small : bit_and spec.feed.0 feeds ≤ spec.feed.0 = and_le_l spec.feed.0 feeds in
+    let lesser : SpecFits (record spec { feed = record { 0 = bit_and spec.feed.0 feeds } }) = (omega (arith, small, fits.0.0), fits.0.1) in
+    elim (cases_Bool (is_resumption spec)) [
+      | inl named ↦ rw named (fits.0, rest)
+      | inr plain ↦ elim (cases_Bool (feeds_meet spec.feed.0 feeds)) [
+        | inl meets ↦ rw (plain, meets) (lesser, rest)
+        | inr apart ↦ rw (plain, apart) rest
+      ]
+    ]
+
+left-few : (feeds : ℕ) (specs : List Spec) → length (left_of feeds specs) ≤ length specs
+left-few feeds [] = omega arith
+left-few feeds (spec ∷ others) =
+    let rest = left-few feeds others in
+    elim (cases_Bool (is_resumption spec)) [
+      | inl named ↦ rw named (omega (arith, rest))
+      | inr plain ↦ elim (cases_Bool (feeds_meet spec.feed.0 feeds)) [
+        | inl meets ↦ rw (plain, meets) (omega (arith, rest))
+        | inr apart ↦ rw (plain, apart) (omega (arith, rest))
+      ]
+    ]
+
+pub fewer-fits : (feeds rule : ℕ) (class fewer : ClassSpec) → reduced feeds rule class ≡ Fewer fewer → ClassFits class → ClassFits fewer
+fewer-fits feeds rule class fewer is fits =
+    let specs = class.specs.items in
+    subst ClassFits (sym (fewer-of feeds rule class fewer is).is) (record {
+      from = fits.from;
+      to = fits.to;
+      few = omega (arith, left-few feeds specs, fits.few);
+      each = left-fits feeds specs fits.each;
+    })

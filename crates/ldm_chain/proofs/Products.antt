@@ -1,13 +1,13 @@
 -- The products that a feeding hands on.
-use Rattle.std.proofs.Common.{◌≡◌, ℕ, ◌≤◌, List, [], ◌∷◌, ◌++◌, length, Some, inl, inr, refl, ap, sym, subst, ◌∙◌, arith}
-use Rattle.std.specs.Prelude.{All, map, slice_get, ◌⊎◌}
+use Rattle.std.proofs.Common.{◌≡◌, ℕ, ◌≤◌, List, [], ◌∷◌, ◌++◌, inl, inr, refl, ap, subst, arith}
+use Rattle.std.specs.Prelude.{All, map}
 use Rattle.std.specs.List.{flat_map}
 use Rattle.std.proofs.lemmas.List.Elements.{All-weaker}
 use Rattle.ldm_types.specs.declared.limits.TheConstants.{LARGEST_ARENA}
 use Rattle.ldm_types.specs.Info.{IsMetadata}
 use Rattle.ldm_model.specs.declared.event.Entry.{Entry}
-use Rattle.ldm_model.specs.Product.{Product, extent_of}
-use Rattle.ldm_model.specs.State.{Row, empty}
+use Rattle.ldm_model.specs.Product.{Product}
+use Rattle.ldm_model.specs.State.{empty}
 use Rattle.ldm_model.specs.History.{after, after_entries, IsAdmitted, IsAnswered, IsLegal, IsLegalFrom}
 use Rattle.ldm_model.proofs.Appended.{IsLegalFrom-append}
 use Rattle.ldm_reader.specs.Staying.{HasRow}
@@ -16,7 +16,7 @@ use Rattle.ldm_upstream.specs.Turn.{Given, Turn, Lost, Gave, Quiet, Alive}
 use Rattle.ldm_upstream.specs.Turn as turn
 use Rattle.ldm_upstream.specs.Feeding.{Last, GoesOn, Stopped, Unanswered, last_given}
 use Rattle.ldm_upstream.specs.Course.{AreRows}
-use Rattle.ldm_passing.specs.Handed.{Handed, handed_in, handed_last}
+use Rattle.ldm_passing.specs.Handed.{handed_in, handed_last}
 use Rattle.ldm_passing.specs.Passing.{IsSound}
 use Rattle.ldm_passing.specs.Queue.{products_of}
 use Rattle.ldm_sole_reader.specs.Alone.{offered_in}

@@ -1,6 +1,6 @@
 -- What the receiver of a mirror took, and what a feeding over a mirror sent and heard.
-use Rattle.std.proofs.Common.{◌≡◌, ℕ, ◌+◌, ◌<◌, true, List, [], ◌++◌, length, Option, Some, None, refl, ap, sym, subst, ◌∙◌, append_assoc, arith}
-use Rattle.std.proofs.lemmas.List.{append_cancel_left, append-nil}
+use Rattle.std.proofs.Common.{◌≡◌, ℕ, ◌<◌, List, ◌++◌, length, Option, Some, None, ap, sym, subst, ◌∙◌, append_assoc, arith}
+use Rattle.std.proofs.lemmas.List.{append_cancel_left}
 use Rattle.ldm_model.specs.declared.event.Entry.{Entry}
 use Rattle.ldm_rpc.specs.Streams.{Position}
 use Rattle.ldm_outside.specs.declared.link.Passed.{Passed}
@@ -10,6 +10,7 @@ use Rattle.ldm_outside.proofs.LinkLemmas.{bytes_given-more, bytes_passed-append}
 use Rattle.ldm_shared.specs.Passes.{PassView, Calls}
 use Rattle.ldm_session.specs.Exchange.{PassesMore}
 use Rattle.ldm_intake.specs.declared.end.RecvEnd.{RecvEnd}
+use Rattle.ldm_intake.specs.declared.end.RecvEnd.TheVariants as receive
 use Rattle.ldm_intake.specs.Course.{Leads}
 use Rattle.ldm_intake.specs.Opening.{request_of}
 use Rattle.ldm_intake.specs.Receiving.{Receiving}
@@ -17,8 +18,8 @@ use Rattle.ldm_intake.specs.Room.{records_of}
 use Rattle.ldm_intake.specs.Taken.{Taken}
 use Rattle.ldm_intake.specs.TakesRecord.{Standing, stands}
 use Rattle.ldm_session.specs.declared.limits.TheConstants.{LONGEST_STREAM}
-use Rattle.ldm_downstream.specs.Pieces.{beginning, joined}
-use Rattle.ldm_downstream.specs.Pushing.{Continues}
+use Rattle.ldm_downstream.specs.Pieces.{Piece, beginning, joined}
+use Rattle.ldm_downstream.specs.Pushing.{Continues, Ends, EndsWhole}
 use Rattle.ldm_downstream.specs.Received.{received}
 use Rattle.ldm_downstream.specs.Receives.{at_first}
 use Rattle.ldm_downstream.proofs.PieceEnds.{continues-takes}
@@ -28,15 +29,15 @@ use Rattle.ldm_chain.specs.Reflecting.{Reflects, Went, pieces_at}
 use Rattle.ldm_chain.proofs.Mirroring.{bytes_sent-given}
 use Rattle.ldm_chain.proofs.Moment.{few-came}
 
--- The receiver of a mirror began so, took the bytes that were sent, all at one moment, and goes on.
+-- The receiver of a mirror began so and took the bytes that were sent, all at one moment. It goes on, or ended by what it was told.
 pub record Took (s : Receiving) (before : PassView) (now : ℕ) (m : MirrorView) : Type 0 where
   pub parts : List (List ℕ)
   pub came : joined (pieces_at now parts) ≡ bytes_sent m.passed
   pub made : List Entry
   pub to : Taken
   pub leads : Leads before.actor (received s beginning (pieces_at now parts)) made to
-  pub live : to.end ≡ None
-  pub calls : Calls before m.pass made
+  pub end_is : to.end ≡ m.receiver.end
+  pub calls : m.receiver.end ≡ None → Calls before m.pass made
   pub out : bytes_given m.passed ++ m.waiting ≡ records_of (request_of s) ++ records_of to.replies
   pub few : length (joined (pieces_at now parts)) < LONGEST_STREAM
 
@@ -58,10 +59,49 @@ took b s before now m r first moment live =
       made = takes.made;
       to = takes.to;
       leads = takes.leads;
-      live = takes.end_is;
-      calls = takes.calls;
+      end_is = takes.end_is ∙ sym live;
+      calls = λ goes_on. takes.calls;
       out = takes.sends;
       few = omega (arith, few);
+    }
+
+-- an end by what the receiver was told
+abbrev pub IsTold : RecvEnd → Type 0
+IsTold (receive.BadFrame at) = Unit {0}
+IsTold (receive.Refused answer) = Unit {0}
+IsTold receive.StreamLimit = Unit {0}
+IsTold _ = ⊥
+
+ends-whole : (told : RecvEnd) (pieces : List Piece) (p : Position) (old new : Standing) → IsTold told → Ends told pieces p old new → EndsWhole told pieces p old new
+ends-whole (receive.BadFrame at) pieces p old new is ends = ends
+ends-whole (receive.Refused answer) pieces p old new is ends = ends
+ends-whole receive.StreamLimit pieces p old new is ends = ends
+ends-whole receive.Ended pieces p old new is ends = absurd is
+ends-whole (receive.Truncated at) pieces p old new is ends = absurd is
+ends-whole receive.LinkFault pieces p old new is ends = absurd is
+ends-whole receive.LogFault pieces p old new is ends = absurd is
+ends-whole receive.Worn pieces p old new is ends = absurd is
+ends-whole receive.OutOfMemory pieces p old new is ends = absurd is
+
+pub took-told : (b : Beginning) (s : Receiving) (before : PassView) (m : MirrorView) (told : RecvEnd) → Reflects b m → b.first ≡ at_first s before → IsTold told
+    → m.receiver.end ≡ Some told → length (bytes_sent m.passed) < LONGEST_STREAM → Took s before b.now m
+took-told b s before m told r first is over few =
+    let after : Standing = stands m.receiver.receiving m.pass (bytes_given m.passed ++ m.waiting) r.notes in
+    let pieces = pieces_at b.now r.parts in
+    let went : Ends told pieces beginning b.first after = subst (λ (e : Option RecvEnd). Went e pieces m.receiver.hand b.first after) over r.went in
+    let whole : EndsWhole told pieces beginning (at_first s before) after =
+    subst (λ (f : Standing). EndsWhole told pieces beginning f after) first (ends-whole told pieces beginning b.first after is went) in
+    let takes = whole.takes in
+    record {
+      parts = r.parts;
+      came = r.sent_is;
+      made = takes.made;
+      to = takes.to;
+      leads = takes.leads;
+      end_is = takes.end_is ∙ sym over;
+      calls = λ goes_on. absurd (let no : Some told ≡ None = sym over ∙ goes_on in cc no);
+      out = whole.gives_up.sends ∙ takes.sends;
+      few = omega (arith, few, ap length r.sent_is);
     }
 
 -- ---- what passed

@@ -12,7 +12,7 @@ use Rattle.ldm_class.specs.Classes.{resumed}
 use Rattle.ldm_rpc.specs.Streams.{Placed}
 use Rattle.ldm_outside.specs.Session.{SessionRecord}
 use Rattle.ldm_shared.specs.Passes.{PassView, Makes}
-use Rattle.ldm_session.specs.Owed.{Said}
+use Rattle.ldm_session.specs.Owed.{IsNoReply, Said}
 use Rattle.ldm_intake.specs.Course.{Leads}
 use Rattle.ldm_intake.specs.Room.{records_of}
 use Rattle.ldm_reader.specs.Staying.{HasRow}
@@ -21,7 +21,7 @@ use Rattle.ldm_sender.specs.declared.end.SendEnd.TheVariants as end
 use Rattle.ldm_sender.specs.Acts.{is_whole}
 use Rattle.ldm_sender.specs.Asked.{Asked}
 use Rattle.ldm_upstream.specs.Turn.{Given}
-use Rattle.ldm_upstream.specs.Feeding.{codes_of}
+use Rattle.ldm_upstream.specs.Feeding.{Unanswered, codes_of, stands}
 use Rattle.ldm_upstream.specs.Feeds.{Feeds}
 use Rattle.ldm_downstream.specs.Received.{received}
 use Rattle.ldm_passing.specs.Codes.{Agree, soon_codes}
@@ -29,6 +29,7 @@ use Rattle.ldm_passing.specs.Handed.{handed}
 use Rattle.ldm_passing.specs.Narrowing.{IsNarrowing, Narrows}
 use Rattle.ldm_passing.specs.Passing.{CameAt, Carries, CarriesAll, HasAsked, IsAnswered, IsGranted, IsPassing, IsSound, Passing, record_at}
 use Rattle.ldm_passing.specs.Queue.{passed_all, products_of}
+use Rattle.ldm_passing.specs.Ungranted.{EndsByReply, IsUngranted}
 use Rattle.ldm_sole_reader.specs.Alone.{due_rows, offered_of}
 use Rattle.ldm_sole_reader.specs.OnePass.{IsOnlyPass, state_of}
 
@@ -54,3 +55,11 @@ pub record Laws : Type 0 where
       → HasRow n product time (after arena slots history) → length product.body ≡ product.info.size
   pub fits : (arena slots : ℕ) (history : List Entry) → IsLegal arena slots history → (n : ℕ) (product : Product) (time : ℕ)
       → HasRow n product time (after arena slots history) → extent_of product.info ≤ arena
+
+-- The laws that lead from the bytes of a feeding to the end of its receiver.
+pub record EndLaws : Type 0 where
+  pub live : (p : Passing) → IsPassing p → p.came_to.end ≡ None
+  pub replied : (p : Passing) (ungranted : IsUngranted p) → EndsByReply p ungranted
+  pub answered : (p : Passing) (product : Given) (sent_at at : ℕ) (given more : List ℕ) (behind : List Placed) → IsPassing p → CarriesAll p
+      → p.feeding.last ≡ Unanswered product sent_at → Said given (codes_of p.feeding) behind → given ++ more ≡ records_of p.came_to.replies
+      → IsNoReply (stands p.feeding).next at given behind → ⊥

@@ -1,7 +1,9 @@
--- How a receiver ended, by what a push answered; and how a chain ended, by what broke it.
+-- How a receiver ended, by what a push answered; and how a chain ended, by how a feeder and a receiver did.
 use Rattle.std.specs.Prelude.{Option, Some, None}
 use Rattle.ldm_intake.specs.declared.end.RecvEnd.{RecvEnd}
-use Rattle.ldm_intake.specs.declared.end.RecvEnd.TheVariants.{OutOfMemory}
+use Rattle.ldm_intake.specs.declared.end.RecvEnd.TheVariants.{Worn, OutOfMemory}
+use Rattle.ldm_sender.specs.declared.end.SendEnd.{SendEnd}
+use Rattle.ldm_sender.specs.declared.end.SendEnd.TheVariants as end
 use Rattle.ldm_downstream.specs.declared.receiver.Pushed.{Pushed}
 use Rattle.ldm_chain.specs.declared.node.ChainEnd.{ChainEnd}
 use Rattle.ldm_chain.specs.declared.node.ChainEnd.TheVariants as chain_end
@@ -18,3 +20,41 @@ abbrev pub end_by : Break → ChainEnd
 end_by (broken.Feed end) = chain_end.Feed end
 end_by (broken.Receive end) = chain_end.Receive end
 end_by broken.OutOfMemory = chain_end.OutOfMemory
+
+-- how a feeding ends a chain, if it does
+abbrev pub ended_by : SendEnd → Option Break
+ended_by end.Stopped = None
+ended_by why = Some (broken.Feed why)
+
+-- A mirror fails a send where its receiver is over or where it has no room for more, and nothing else of what a feeding is lent within one
+-- process fails. So where the receiver goes on, or is over by what it was told, it is the room that was wanting.
+abbrev pub broken_off : SendEnd → Break
+broken_off end.LinkFault = broken.OutOfMemory
+broken_off why = broken.Feed why
+
+abbrev pub by_feeder : Option Break → Option Break
+by_feeder None = None
+by_feeder (Some (broken.Feed why)) = Some (broken_off why)
+by_feeder (Some (broken.Receive over)) = Some (broken.Receive over)
+by_feeder (Some broken.OutOfMemory) = Some broken.OutOfMemory
+
+-- The receiver ended by what it was told. Its feeder has done then all that there was to do, and one that has not says why.
+abbrev pub by_told_of : RecvEnd → SendEnd → Break
+by_told_of over end.LinkFault = broken_off end.LinkFault
+by_told_of over end.LogFault = broken_off end.LogFault
+by_told_of over end.Worn = broken_off end.Worn
+by_told_of over end.OutOfMemory = broken_off end.OutOfMemory
+by_told_of over why = broken.Receive over
+
+abbrev pub by_told : RecvEnd → Option Break → Break
+by_told over None = broken.Receive over
+by_told over (Some (broken.Feed why)) = by_told_of over why
+by_told over (Some (broken.Receive bad)) = broken.Receive over
+by_told over (Some broken.OutOfMemory) = broken.OutOfMemory
+
+-- how a node's feeding ends a chain, if it does: by the receiver, if that is over, else by the feeder
+abbrev pub by_receiver : Option RecvEnd → Option Break → Option Break
+by_receiver None fed = by_feeder fed
+by_receiver (Some OutOfMemory) fed = Some broken.OutOfMemory
+by_receiver (Some Worn) fed = Some (broken.Receive Worn)
+by_receiver (Some over) fed = Some (by_told over fed)

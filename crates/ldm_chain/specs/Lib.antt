@@ -7,3 +7,5 @@ pub mod Outside
 pub mod Linking
 pub mod Nodes
 pub mod Queues
+pub mod Causes
+pub mod Breaking

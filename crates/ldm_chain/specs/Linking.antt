@@ -35,27 +35,27 @@ pub record Fed (why : SendEnd) (asked : Asked) (old new : PassView) (before afte
   pub stops : ℕ
   pub feeds : Feeds why asked [] old new (outside before 0) (outside after stops)
 
--- What is left of the class is asked for by a second request, and is fed.
-pub record FedRest (asked : Asked) (old new : PassView) (before after : MirrorView) : Type 0 where
+-- What is left of the class is asked for by a second request, and feeding it ended so.
+pub record FedRest (why : SendEnd) (asked : Asked) (old new : PassView) (before after : MirrorView) : Type 0 where
   pub fewer : ClassSpec
   pub left : reduce asked.rules asked.host asked.class ≡ reduced.Fewer fewer
   -- it can be written, and each of its patterns means something
   pub fits : ClassFits fewer
   pub meant : bad_place fewer.specs.items ≡ None
-  pub fed : Fed Stopped (record asked { xid = 2; class = fewer }) old new (all_read before) after
+  pub fed : Fed why (record asked { xid = 2; class = fewer }) old new (all_read before) after
 
--- A part of the class is left to the host. It is told so, asks for that part, and is fed it.
-pub record FedFewer (b : Beginning) (asked : Asked) (old new : PassView) (before after : MirrorView) : Type 0 where
+-- A part of the class is left to the host. It is told so, and asks for that part; feeding that ended so.
+pub record FedFewer (why : SendEnd) (b : Beginning) (asked : Asked) (old new : PassView) (before after : MirrorView) : Type 0 where
   pub mid : PassView
   pub told : MirrorView
   pub first : Fed Reclassed asked old mid before told
   pub goes_on : told.receiver.end ≡ None
   pub so_far : Reflects b told
-  pub rest : FedRest asked mid new told after
+  pub rest : FedRest why asked mid new told after
 
 -- all was fed: the class, or what is left of it
 abbrev pub FedAll : Beginning → Asked → (old new : PassView) → (before after : MirrorView) → Type 0
-FedAll b asked old new before after = Fed Stopped asked old new before after ⊎ FedFewer b asked old new before after
+FedAll b asked old new before after = Fed Stopped asked old new before after ⊎ FedFewer Stopped b asked old new before after
 
 -- a receiving that requests a class from its beginning on
 abbrev pub asking : ClassSpec → ℕ → Receiving
@@ -65,7 +65,6 @@ asking class max_hereis = requesting class None max_hereis
 abbrev pub request_read : Receiving → PassView → MirrorView
 request_read s pass = all_read (record {
   passed = [];
-  ends = 0;
   faults = 0;
   closed = false;
   waiting = records_of (request_of s);

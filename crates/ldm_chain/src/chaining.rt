@@ -2,11 +2,13 @@
 ghost use Rattle.std.specs.Prelude.{◌≡◌, ◌≤◌, ◌<◌, ◌+◌, ℕ, List, length};
 ghost use Rattle.ldm_session.specs.Exchange.{AnsweredAll};
 ghost use Rattle.ldm_chain.specs.Linking.{host_name};
+ghost use Rattle.ldm_chain.specs.Breaking.{BreaksEach};
+ghost use Rattle.ldm_chain.specs.Causes.{CausesAll};
 ghost use Rattle.ldm_chain.specs.Nodes.{AreNodes, IsNode, KeepsNode, KeepsNodes, LinksAll, LinksEach};
 ghost use Rattle.ldm_chain.specs.Queues.{IsChain, QueuesAll};
 
 use crate::feeding::feed_next;
-use crate::laws::a_link_passes_on;
+use crate::laws::{a_break_has_a_cause, a_link_passes_on};
 use crate::node::{ChainEnd, ChainNode, end_by};
 use ldm_class::Policy;
 use ldm_outside::Clock;
@@ -38,6 +40,7 @@ fn link_all<H: Wait, C: Clock>(
     ensures kept { KeepsNodes nodes.old nodes.new }
     ensures done { result ≡ ChainEnd.Done → (instants : List ℕ) × AnsweredAll instants (C.tells clock.old) (C.tells clock.new)
         × LinksEach i policy.now from.old.pass from.new.pass nodes.old nodes.new instants }
+    ensures broken { (result ≡ ChainEnd.Done → ⊥) → BreaksEach i policy.now result from.old.pass from.new.pass nodes.old nodes.new }
 {
     let Some((to, behind)) = nodes.split_first_mut() else {
         return ChainEnd::Done;
@@ -52,6 +55,8 @@ fn link_all<H: Wait, C: Clock>(
 
 /// Feeds each node, but the first one, from the one before it, in one process: in turn, and each time all that is queued there and is
 /// due. Node i asks as host `nodei`, under the ALLOW rules of the policy.
+///
+/// A chain that ends before each node was fed has the cause of its end at one of the nodes.
 ///
 /// The clock is asked once for each node, before that node is fed. Its answer is the moment of each product that the node takes.
 pub fn chain<H: Wait, C: Clock>(
@@ -69,8 +74,10 @@ pub fn chain<H: Wait, C: Clock>(
         × LinksAll 1 policy.now nodes.old nodes.new instants }
     ensures queues { result ≡ ChainEnd.Done → (instants : List ℕ) × AnsweredAll instants (C.tells clock.old) (C.tells clock.new)
         × QueuesAll 1 policy.now nodes.old nodes.new instants }
+    ensures cause { CausesAll 1 policy.now result nodes.old nodes.new }
 {
     a_link_passes_on();
+    a_break_has_a_cause();
     let Some((first, others)) = nodes.split_first_mut() else {
         return ChainEnd::Done;
     };

@@ -1,5 +1,5 @@
 //! Feeding a node of a chain from the one before it.
-ghost use Rattle.std.specs.Prelude.{◌≡◌, ◌≤◌, length, None, IfOk, IfNone, OnErr, false};
+ghost use Rattle.std.specs.Prelude.{◌≡◌, ◌≤◌, length, None, IfOk, IfNone, IfSome, MatchResult, OnErr, false};
 ghost use Rattle.ldm_types.specs.declared.class.ClassSpec.{ClassSpec};
 ghost use Rattle.ldm_class.specs.Access.{reduce};
 ghost use Rattle.ldm_class.specs.Classes.{bad_place};
@@ -11,7 +11,9 @@ ghost use Rattle.ldm_intake.specs.Opening.{request_of};
 ghost use Rattle.ldm_intake.specs.Room.{records_of};
 ghost use Rattle.ldm_downstream.specs.ReceiverView.{before_stream};
 ghost use Rattle.ldm_downstream.specs.Receives.{at_first};
-ghost use Rattle.ldm_chain.specs.Linking.{Fed, FedAll, FedRest, Links, asked_by, asking};
+ghost use Rattle.ldm_chain.specs.Breaking.{Breaks, Came, CameRest, IsUnbuilt};
+ghost use Rattle.ldm_chain.specs.Ending.{broken_off, by_feeder, by_receiver, by_told, by_told_of, ended_by};
+ghost use Rattle.ldm_chain.specs.Linking.{Fed, Links, asked_by, asking};
 ghost use Rattle.ldm_chain.specs.MirrorView.{MirrorView};
 ghost use Rattle.ldm_chain.specs.Nodes.{IsNode, KeepsNode};
 
@@ -66,7 +68,7 @@ fn feed_over<H: Wait, B: Begun>(
 
 // How a feeding ends a chain, if it does.
 fn ended(end: FeedEnd) -> Option<Break>
-    ensures { IfNone result (end ≡ FeedEnd.Stopped) }
+    ensures { result ≡ ended_by end }
 {
     match end {
         FeedEnd::Stopped => None,
@@ -93,7 +95,7 @@ fn fewer_of(
 
 // Builds the class that the receiver took over. It built the same one, so a pattern that means nothing has ended it before.
 fn build_fewer(alloc: Global, fewer: &ClassSpec) -> Result<Class, Break>
-    ensures { IfOk result (λ class. (class ≡ fewer.now) × (bad_place fewer.now.specs.items ≡ None)) }
+    ensures { MatchResult result (λ class. (class ≡ fewer.now) × (bad_place fewer.now.specs.items ≡ None)) (λ why. IsUnbuilt fewer.now why) }
 {
     match Class::build(alloc, fewer) {
         Ok(class) => Ok(class),
@@ -120,7 +122,7 @@ fn feed_fewer<H: Wait, B: Begun>(
     requires open { mirror.old.closed ≡ false }
     requires left { (fewer : ClassSpec) × (reduce (rules_for false policy.now) host.now class.now ≡ reduced.Fewer fewer) }
     ensures kept { IsSamePass pass.old pass.new }
-    ensures fed { IfNone result (FedRest (asked_by host.now policy.now 1 class.now max_hereis) pass.old pass.new mirror.old mirror.new) }
+    ensures fed { CameRest result (asked_by host.now policy.now 1 class.now max_hereis) pass.old pass.new mirror.old mirror.new }
 {
     let fewer = match fewer_of(alloc, policy, host, class) {
         Ok(fewer) => fewer,
@@ -155,7 +157,7 @@ fn feed_class<H: Wait, B: Begun>(
     requires name { length host.now ≤ LONGEST_NAME }
     requires open { mirror.old.closed ≡ false }
     ensures kept { IsSamePass pass.old pass.new }
-    ensures fed { IfNone result (FedAll B.begun (asked_by host.now policy.now 1 class.now max_hereis) pass.old pass.new mirror.old mirror.new) }
+    ensures fed { Came result B.begun (asked_by host.now policy.now 1 class.now max_hereis) pass.old pass.new mirror.old mirror.new }
 {
     let end = feed_over(
         rt, alloc, shared, pass, mirror, policy, host, 1, class, max_hereis, now,
@@ -171,14 +173,59 @@ fn feed_class<H: Wait, B: Begun>(
     )
 }
 
+// How a feeder ends a chain that could not go on. A mirror fails a send where its receiver is over, which decides before, or where it
+// has no room for more.
+fn broken_off(end: FeedEnd) -> Break
+    ensures { result ≡ broken_off end }
+{
+    match end {
+        FeedEnd::LinkFault => Break::OutOfMemory,
+        end => Break::Feed(end),
+    }
+}
+
+// How a feeder ends a chain, if it does, whose receiver goes on.
+fn by_feeder(fed: Option<Break>) -> Option<Break>
+    ensures { result ≡ by_feeder fed }
+{
+    match fed {
+        Some(Break::Feed(end)) => Some(broken_off(end)),
+        fed => fed,
+    }
+}
+
+// How a node's feeding ends a chain whose receiver ended by what it was told. A feeder that has told all is behind it; of one that
+// could not go on nothing is known of what it told, so that one decides.
+fn by_told_of(over: RecvEnd, end: FeedEnd) -> Break
+    ensures { result ≡ by_told_of over end }
+{
+    match end {
+        FeedEnd::LinkFault | FeedEnd::LogFault | FeedEnd::Worn | FeedEnd::OutOfMemory => {
+            broken_off(end)
+        }
+        _ => Break::Receive(over),
+    }
+}
+
+fn by_told(over: RecvEnd, fed: Option<Break>) -> Break
+    ensures { result ≡ by_told over fed }
+{
+    match fed {
+        Some(Break::Feed(end)) => by_told_of(over, end),
+        Some(Break::OutOfMemory) => Break::OutOfMemory,
+        _ => Break::Receive(over),
+    }
+}
+
 // How a node's feeding ends a chain, if it does: by the receiver, if that is over, else by the feeder.
-fn by_receiver(over: Option<RecvEnd>, end: Option<Break>) -> Option<Break>
-    ensures { IfNone result ((over ≡ None) × (end ≡ None)) }
+fn by_receiver(over: Option<RecvEnd>, fed: Option<Break>) -> Option<Break>
+    ensures { result ≡ by_receiver over fed }
 {
     match over {
-        None => end,
+        None => by_feeder(fed),
         Some(RecvEnd::OutOfMemory) => Some(Break::OutOfMemory),
-        Some(over) => Some(Break::Receive(over)),
+        Some(RecvEnd::Worn) => Some(Break::Receive(RecvEnd::Worn)),
+        Some(over) => Some(by_told(over, fed)),
     }
 }
 
@@ -211,9 +258,11 @@ fn reflect<'a, 'p, H: Wait, B: Begun>(
     ensures lender { result.pass.ghost_name ≡ lent.entry.pass.ghost_name }
     ensures next { IsSamePass lent.entry.pass.now result.pass.now }
     ensures links { IfNone end.new (Links (asked_by host.now policy.now 1 class.now max_hereis) now pass.old pass.new lent.entry.pass.now result.pass.now) }
+    ensures broken { IfSome end.new (λ why. Breaks why (asked_by host.now policy.now 1 class.now max_hereis) pass.old pass.new lent.entry.pass.now result.pass.now) }
 {
-    // The bound of the arena is known then.
+    // The bound of the arena is known then, and that the class can be written.
     let _arena = shared.arena();
+    class_fits(class.spec());
     let mut mirror = Mirror::<'a, 'p, H, B>::over(rt, alloc, next, lent, receiver, request, now);
     mirror.take_request();
     let fed = feed_class(
@@ -263,6 +312,7 @@ pub(crate) fn feed_next<H: Wait>(
     ensures from { KeepsNode from.old from.new }
     ensures to { KeepsNode to.old to.new }
     ensures links { IfNone result (Links (asked_by host.now policy.now 1 to.old.class to.old.max_hereis) now from.old.pass from.new.pass to.old.pass to.new.pass) }
+    ensures broken { IfSome result (λ why. Breaks why (asked_by host.now policy.now 1 to.old.class to.old.max_hereis) from.old.pass from.new.pass to.old.pass to.new.pass) }
 {
     let (receiver, request) = match asker(alloc, &to.class, to.max_hereis) {
         Ok(asked) => asked,

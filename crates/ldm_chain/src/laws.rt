@@ -3,11 +3,17 @@ ghost use Rattle.std.specs.Prelude.{◌≡◌, ℕ};
 ghost use Rattle.ldm_shared.specs.Passes.{PassView};
 ghost use Rattle.ldm_sender.specs.Asked.{Asked};
 ghost use Rattle.ldm_sole_reader.specs.OnePass.{IsOnlyPass, state_of};
+ghost use Rattle.ldm_chain.specs.declared.node.ChainEnd.{ChainEnd};
+ghost use Rattle.ldm_chain.specs.Breaking.{BreaksAt};
+ghost use Rattle.ldm_chain.specs.Causes.{CauseAt};
 ghost use Rattle.ldm_chain.specs.Linking.{Links};
 ghost use Rattle.ldm_chain.specs.Queues.{IsForAllTimes, fed_from};
 
 use ldm_model::products_were_admitted;
-use ldm_passing::{a_narrower_class_is_asked_for, a_queue_is_passed_on, the_setting_is_met};
+use ldm_passing::{
+    a_narrower_class_is_asked_for, a_queue_is_passed_on, a_reply_is_taken,
+    announcements_are_answered, products_are_passed_on, the_setting_is_met,
+};
 use ldm_reader::products_stay;
 use ldm_shared::one_pass;
 use ldm_sole_reader::one_pass_is_fed_all;
@@ -28,6 +34,23 @@ pub fn a_link_passes_on()
     the_setting_is_met();
     a_queue_is_passed_on();
     a_narrower_class_is_asked_for();
+    one_pass_is_fed_all();
+    one_pass();
+    products_were_admitted();
+    products_stay();
+}
+
+/// Why a chain ended while a node was fed from the one before it, where each of the two queues has one pass.
+pub fn a_break_has_a_cause()
+    ensures { (end : ChainEnd) (asked : Asked) (old new before after : PassView) → BreaksAt end asked old new before after → asked.xid ≡ 1 →
+        IsOnlyPass old → IsOnlyPass before → CauseAt end asked old new after }
+{
+    the_setting_is_met();
+    products_are_passed_on();
+    a_queue_is_passed_on();
+    a_narrower_class_is_asked_for();
+    a_reply_is_taken();
+    announcements_are_answered();
     one_pass_is_fed_all();
     one_pass();
     products_were_admitted();

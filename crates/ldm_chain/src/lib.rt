@@ -14,6 +14,6 @@ mod told;
 mod writable;
 
 pub use chaining::chain;
-pub use laws::a_link_passes_on;
+pub use laws::{a_break_has_a_cause, a_link_passes_on};
 pub use mirror::{Begun, Lent, Mirror, Returned};
 pub use node::{ChainEnd, ChainNode};

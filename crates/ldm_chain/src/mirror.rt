@@ -1,6 +1,7 @@
 //! A link that owns the receiver of the next queue.
-ghost use Rattle.std.specs.Prelude.{◌≡◌, ◌≤◌, ◌<◌, length, take, drop, min, is_some, true, vec_len};
+ghost use Rattle.std.specs.Prelude.{◌≡◌, ◌≤◌, ◌<◌, ◌+◌, length, take, drop, min, nat_le, is_some, true, vec_len};
 ghost use Rattle.ldm_shared.specs.Passes.{IsPassOf, IsSamePass};
+ghost use Rattle.ldm_session.specs.declared.limits.TheConstants.{LONGEST_STREAM};
 ghost use Rattle.ldm_intake.specs.Opening.{request_of};
 ghost use Rattle.ldm_intake.specs.Room.{records_of};
 ghost use Rattle.ldm_downstream.specs.ReceiverView.{before_stream};
@@ -11,6 +12,7 @@ use crate::told::{Passing, Told};
 use ldm_downstream::{Pushed, Receiver};
 use ldm_intake::RecvEnd;
 use ldm_outside::{Got, Link, Put};
+use ldm_session::LONGEST_STREAM;
 use ldm_shared::{Pass, Shared};
 use ldm_types::Micros;
 use std::alloc::Global;
@@ -48,8 +50,10 @@ pub struct Returned<'a> {
 /// A link that owns the receiver of a queue: what it is sent is pushed into the receiver, all at one moment, and what the receiver
 /// replies is what it gives.
 ///
-/// A send in whose push the receiver ends takes its piece; each later one fails. It is at its end where no reply waits. What is
-/// logged is forgotten.
+/// A send in whose push the receiver ends takes its piece; each later one fails. So does a send of more than there is room for: a
+/// mirror takes fewer bytes than a stream may have, in all. Who receives where no reply waits waits for ever, as on a link whose
+/// peer has no more to say: a feeder asks only where a reply is owed, and the receiver replied when it took the announcement. That
+/// a feeder therefore never waits is not proved. What is logged is forgotten.
 #[derive(Drop)]
 pub struct Mirror<'a, 'p, H, B: Begun> {
     rt: &'a H,
@@ -57,12 +61,13 @@ pub struct Mirror<'a, 'p, H, B: Begun> {
     pass: &'p mut Pass,
     receiver: Receiver<'a>,
     now: Micros,
+    // How many bytes it was sent.
+    sent: u64,
     // What the receiver replied, and how many bytes of it were received.
     replies: Vec<u8>,
     read: usize,
     notes: Vec<u8>,
     over: Option<RecvEnd>,
-    ends: u64,
     faults: u64,
     closed: bool,
     told: Told,
@@ -76,14 +81,15 @@ impl<'a, 'p, H, B: Begun> Model for Mirror<'a, 'p, H, B> {
 
     ghost use Rattle.ldm_chain.specs.Reflecting.{IsKept, mirror_of};
 
-    ghost view = { λ m. mirror_of m.told.passed m.ends m.faults m.closed m.read m.replies.items m.receiver m.pass.now };
+    ghost view = { λ m. mirror_of m.told.passed m.faults m.closed m.read m.replies.items m.receiver m.pass.now };
 
-    ghost invariant = { λ m. IsKept B.begun m.shared.now m.pass.ghost_name m.now m.read m.replies.items m.over
-        (mirror_of m.told.passed m.ends m.faults m.closed m.read m.replies.items m.receiver m.pass.now) };
+    ghost invariant = { λ m. IsKept B.begun m.shared.now m.pass.ghost_name m.now m.sent m.read m.replies.items m.over
+        (mirror_of m.told.passed m.faults m.closed m.read m.replies.items m.receiver m.pass.now) };
 }
 
 impl<'a, 'p, H, B: Begun> Mirror<'a, 'p, H, B> {
     ghost use Rattle.std.specs.Prelude.{[], false};
+    ghost use Rattle.ldm_outside.specs.Link.{bytes_sent};
     ghost use Rattle.ldm_chain.specs.MirrorView.{all_read};
     ghost use Rattle.ldm_chain.specs.Reflecting.{Reflects};
 
@@ -104,7 +110,7 @@ impl<'a, 'p, H, B: Begun> Mirror<'a, 'p, H, B> {
         requires first { B.begun.first ≡ at_first receiver.receiving lent.pass.now }
         requires moment { B.begun.now ≡ now }
         requires name { B.begun.name ≡ lent.pass.ghost_name }
-        ensures { result ≡ record { passed = []; ends = 0; faults = 0; closed = false; waiting = request.items; receiver = receiver.entry; pass = lent.entry.pass.now } }
+        ensures { result ≡ record { passed = []; faults = 0; closed = false; waiting = request.items; receiver = receiver.entry; pass = lent.entry.pass.now } }
     {
         let Lent { pass } = lent;
         Mirror {
@@ -113,11 +119,11 @@ impl<'a, 'p, H, B: Begun> Mirror<'a, 'p, H, B> {
             pass,
             receiver,
             now,
+            sent: 0,
             replies: request,
             read: 0,
             notes: Vec::new(alloc),
             over: None,
-            ends: 0,
             faults: 0,
             closed: false,
             told: Told::new(),
@@ -149,6 +155,7 @@ impl<'a, 'p, H, B: Begun> Mirror<'a, 'p, H, B> {
         ensures pass { result.lent.pass.now ≡ self.entry.pass }
         ensures same { IsSamePass B.begun.first.pass self.entry.pass }
         ensures end { result.end ≡ self.entry.receiver.end }
+        ensures few { length (bytes_sent self.entry.passed) < LONGEST_STREAM }
         ensures reflects { Reflects B.begun self.entry }
     {
         let Mirror { pass, over, .. } = self;
@@ -171,14 +178,13 @@ impl<'a, 'p, H: Wait, B: Begun> Link for Mirror<'a, 'p, H, B> {
         requires not_closed { IsNotClosed (told_by_mirror self.old) }
         ensures given { RecvGives result into.new (told_by_mirror self.old) (told_by_mirror self.new) }
         ensures faults_kept { self.old.faults ≤ self.new.faults }
-        ensures ends_kept { self.old.ends ≤ self.new.ends }
+        ensures ends_kept { (told_by_mirror self.old).ends ≤ (told_by_mirror self.new).ends }
         ensures still_open { IsNotClosed (told_by_mirror self.new) }
         ensures waited { RecvsFrom result (length into.old) self.old self.new }
     {
         let waiting = &self.replies[self.read..];
         if waiting.is_empty() {
-            self.ends = self.ends.saturating_add(1);
-            return Got::End;
+            wait_for_ever(self.rt)
         }
         let n = copy_front(waiting, into);
         self.told = self.told.then(&Passing::Given(&waiting[..n]));
@@ -197,6 +203,10 @@ impl<'a, 'p, H: Wait, B: Begun> Link for Mirror<'a, 'p, H, B> {
             self.faults = self.faults.saturating_add(1);
             return Put::Failed;
         }
+        if is_too_much(self.sent, piece) {
+            self.faults = self.faults.saturating_add(1);
+            return Put::Failed;
+        }
         self.read = forget_read(&mut self.replies, self.read);
         self.notes.clear();
         let pushed = self.receiver.push(
@@ -210,6 +220,7 @@ impl<'a, 'p, H: Wait, B: Begun> Link for Mirror<'a, 'p, H, B> {
         );
         self.over = end_pushed(pushed);
         self.told = self.told.then(&Passing::Sent(piece));
+        self.sent += piece.len() as u64;
         Put::Took(piece.len())
     }
 
@@ -218,6 +229,20 @@ impl<'a, 'p, H: Wait, B: Begun> Link for Mirror<'a, 'p, H, B> {
     {
         self.closed = true;
     }
+}
+
+// Waits, and does not return.
+fn wait_for_ever<H: Wait>(rt: &H) -> ! {
+    for _ in rt.forever() {}
+    unreachable!()
+}
+
+// Whether there is no room for a piece behind so many bytes.
+fn is_too_much(sent: u64, piece: &[u8]) -> bool
+    requires { sent < LONGEST_STREAM }
+    ensures { result ≡ nat_le LONGEST_STREAM (sent + length piece.now) }
+{
+    (piece.len() as u64) >= LONGEST_STREAM - sent
 }
 
 // How the receiver ended, by what a push answered.

@@ -23,9 +23,10 @@ pub struct ChainNode {
 pub enum ChainEnd {
     /// Each node was fed from the one before it.
     Done,
-    /// The feeder of a node ended so.
+    /// The feeder of a node ended so: `Worn`, or `OutOfMemory`.
     Feed(FeedEnd),
-    /// The receiver of a node ended so.
+    /// The receiver of a node ended so: `Refused` with `Denied` or with `Busy`, `BadFrame` by a pattern of a narrower class that means
+    /// nothing, or `Worn`.
     Receive(RecvEnd),
     /// There is no memory.
     OutOfMemory,

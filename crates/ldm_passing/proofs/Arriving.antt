@@ -81,7 +81,7 @@ records-bytes : (messages : List Sent) → flat_map record_bytes messages ≡ fl
 records-bytes [] = refl
 records-bytes (m ∷ messages) = ap (λ (x : List ℕ). record_bytes m ++ x) (records-bytes messages)
 
-part-records : (behind : List Sent) (part : List ℕ) → IsPart record_bytes behind part → IsPart spelling (map one_record behind) part
+pub part-records : (behind : List Sent) (part : List ℕ) → IsPart record_bytes behind part → IsPart spelling (map one_record behind) part
 part-records [] part is = is
 part-records (m ∷ behind) part is = is
 

@@ -16,4 +16,6 @@ pub mod Moments
 pub mod Queueing
 pub mod Setting
 pub mod Narrowing
+pub mod Replying
+pub mod Owing
 pub mod Hearing

@@ -73,7 +73,7 @@ unfolding class_bytes
 class-length class fits =
     simp (length-append, length_unsigned, instant-length) (omega (arith, specs-length class.specs.items fits.each, fits.few))
 
-short-narrower : (xid : ℕ) (class : ClassSpec) → ClassFits class → IsShortMessage (sent.FeedmeReply xid (class_answer.Reclass class))
+pub short-narrower : (xid : ℕ) (class : ClassSpec) → ClassFits class → IsShortMessage (sent.FeedmeReply xid (class_answer.Reclass class))
 unfolding written
 short-narrower xid class fits =
     omega (
@@ -106,12 +106,12 @@ narrower_comes again s before class a arrivals xid fits is phase number other me
     ∙ ap (λ (b : Bool). rest (if b then Declined (class_answer.Reclass class) else asks_again s class)) other
     ∙ ap (λ (o : Option ℕ). rest (if is_none o then Goes (asking s class) (sent.Feedme 2 class s.max_hereis ∷ []) [] else Bad)) meant
 
-record OneCame (m : Sent) (came : List Arrival) : Type 0 where
-  a : Arrival
-  all : came ≡ a ∷ []
-  content : a.content ≡ written m
+pub record OneCame (m : Sent) (came : List Arrival) : Type 0 where
+  pub a : Arrival
+  pub all : came ≡ a ∷ []
+  pub content : a.content ≡ written m
 
-one_came : (moments : List ℕ) (m : Sent) (came : List Arrival) (behind : List Sent) → behind ≡ [] → First moments (m ∷ []) came behind → OneCame m came
+pub one_came : (moments : List ℕ) (m : Sent) (came : List Arrival) (behind : List Sent) → behind ≡ [] → First moments (m ∷ []) came behind → OneCame m came
 one_came moments m [] behind none first = absurd (some-left m [] behind first none)
 one_came moments m (a ∷ []) behind none first = record { a = a; all = refl; content = first.0 }
 one_came moments m (a ∷ b ∷ came) behind none first = absurd first.2

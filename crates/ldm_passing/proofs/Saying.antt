@@ -1,5 +1,5 @@
 -- What a receiver replies in a feed, and what a feeder reads of it.
-use Rattle.std.proofs.Common.{◌≡◌, ℕ, ◌+◌, ◌^◌, ◌<◌, ◌≤◌, Bool, true, false, List, [], ◌∷◌, ◌++◌, length, Option, Some, None, Result, Ok, refl, ap, sym, subst, ◌∙◌, append_assoc, arith}
+use Rattle.std.proofs.Common.{◌≡◌, ℕ, ◌+◌, ◌^◌, ◌<◌, Bool, true, false, List, [], ◌∷◌, ◌++◌, length, Option, Some, None, Result, Ok, refl, ap, sym, subst, ◌∙◌, append_assoc, arith}
 use Rattle.std.specs.Prelude.{All, map, is_none, nat_le, ◌==◌, ◌&&◌, if◌then◌else◌}
 use Rattle.std.specs.List.{flat_map, AllByRecursion}
 use Rattle.std.proofs.lemmas.List.{append-nil, length-append}
@@ -10,8 +10,8 @@ use Rattle.ldm_xdr.proofs.Lengths.{length_unsigned}
 use Rattle.ldm_model.specs.declared.event.Reply.{Reply}
 use Rattle.ldm_model.specs.declared.event.Reply.TheVariants.{Reserved}
 use Rattle.ldm_model.specs.declared.event.Entry.{Entry}
-use Rattle.ldm_rpc.specs.Spelling.{Record, Fits as RecordFits, IsShort, spelling}
-use Rattle.ldm_rpc.specs.Streams.{Placed, Position, at_start, in_hand, placed, records_in}
+use Rattle.ldm_rpc.specs.Spelling.{Fits as RecordFits, IsShort, spelling}
+use Rattle.ldm_rpc.specs.Streams.{Placed, at_start, in_hand, placed, records_in}
 use Rattle.ldm_rpc.proofs.Joined.{records-append}
 use Rattle.ldm_relay.specs.declared.fault.RelayFault.{RelayFault}
 use Rattle.ldm_relay.specs.declared.message.TheConstants.{LARGEST_BLOCK, LARGEST_REPLY}
@@ -24,14 +24,14 @@ use Rattle.ldm_relay.specs.Procedure.{number_of}
 use Rattle.ldm_relay.specs.Reading.{call_of, reply_of}
 use Rattle.ldm_relay.specs.Sent.{Sent}
 use Rattle.ldm_relay.specs.Sent as sent
-use Rattle.ldm_relay.specs.Spelling.{reply_header, soon_answer_bytes, written}
-use Rattle.ldm_session.specs.Owed.{AreReplies, Code, Said, records_given}
+use Rattle.ldm_relay.specs.Spelling.{reply_header, written}
+use Rattle.ldm_session.specs.Owed.{AreReplies, Code, Said}
 use Rattle.ldm_intake.specs.declared.phase.Pending.{Pending}
 use Rattle.ldm_intake.specs.declared.phase.Phase.{Phase}
 use Rattle.ldm_intake.specs.declared.phase.Phase.TheVariants.{Feeding as InFeed}
 use Rattle.ldm_intake.specs.Course.{Course, Comes, Asks, Leads}
 use Rattle.ldm_intake.specs.Notes.{Note, Unwanted}
-use Rattle.ldm_intake.specs.Products.{accepts, blkdata_of, commit_note, commits, comingsoon_wanted, declines, filled_in, fills, hereis_wanted, insert_note, is_next, reserve_note, reserved}
+use Rattle.ldm_intake.specs.Products.{accepts, blkdata_of, commits, comingsoon_wanted, declines, fills, hereis_wanted, is_next, reserve_note, reserved}
 use Rattle.ldm_intake.specs.Receiving.{Receiving, is_wanted, left_of, with_last}
 use Rattle.ldm_intake.specs.Record.{call_course, course_in, record_course}
 use Rattle.ldm_intake.specs.Room.{records_of}
@@ -40,7 +40,7 @@ use Rattle.ldm_intake.specs.Taken.{Arrival, Taken, after_step, taken, taken_none
 use Rattle.ldm_intake.proofs.Courses.{leads-then_parts}
 use Rattle.ldm_sender.specs.Opening.{class_answer_of}
 use Rattle.ldm_upstream.specs.Feeding.{begun, codes_of, given_of, messages_of}
-use Rattle.ldm_downstream.specs.Pieces.{arrivals, hand, joined}
+use Rattle.ldm_downstream.specs.Pieces.{arrivals, hand}
 use Rattle.ldm_downstream.specs.Received.{received, with_hand}
 use Rattle.ldm_passing.specs.Codes.{Agree, soon_codes}
 use Rattle.ldm_passing.specs.Passing.{Carries, HasAsked, IsGranted, IsSound, Passing, moments_of, record_at}
@@ -59,17 +59,17 @@ abbrev pub IsSoonReply : Sent → Type 0
 IsSoonReply (sent.ComingsoonReply xid answer) = xid < 2 ^ 32
 IsSoonReply _ = ⊥
 
-abbrev AreSoonReplies : List Sent → Type 0
+abbrev pub AreSoonReplies : List Sent → Type 0
 AreSoonReplies replies = AllByRecursion IsSoonReply replies
 
 -- ---- one record of a feed
 
 -- what a course comes to, whatever the queue replies
-abbrev Always : (Step → Type 0) → Course Step → Type 0
+abbrev pub Always : (Step → Type 0) → Course Step → Type 0
 Always P (Comes to) = P to
 Always P (Asks event on) = (reply : Reply) → Always P (on reply)
 
-always-leads : (actor : ℕ) (P : Step → Type 0) (c : Course Step) (made : List Entry) (to : Step) → Always P c → Leads actor c made to → P to
+pub always-leads : (actor : ℕ) (P : Step → Type 0) (c : Course Step) (made : List Entry) (to : Step) → Always P c → Leads actor c made to → P to
 always-leads actor P (Comes x) [] to always leads = subst P leads always
 always-leads actor P (Comes x) (entry ∷ made) to always leads = absurd leads
 always-leads actor P (Asks event on) [] to always leads = absurd leads
@@ -195,7 +195,7 @@ unfolding written
 soon-length xid soon_answer.Ok = omega (arith, length-append (reply_header xid) (unsigned 0), reply_header-length xid, length_unsigned 0)
 soon-length xid soon_answer.DontSend = omega (arith, length-append (reply_header xid) (unsigned 1), reply_header-length xid, length_unsigned 1)
 
-soon-fits : (replies : List Sent) → AreSoonReplies replies → All (RecordFits LARGEST_REPLY) (map one_record replies)
+pub soon-fits : (replies : List Sent) → AreSoonReplies replies → All (RecordFits LARGEST_REPLY) (map one_record replies)
 soon-fits [] soon = All-nil (RecordFits LARGEST_REPLY)
 soon-fits (sent.ComingsoonReply xid answer ∷ replies) soon =
     let len = soon-length xid answer in
@@ -203,7 +203,7 @@ soon-fits (sent.ComingsoonReply xid answer ∷ replies) soon =
     (record { before = All-nil IsShort; last = omega (arith, len); within = omega (arith, len) }) (soon-fits replies soon.1)
 soon-fits (m ∷ replies) soon = absurd soon.0
 
-replies-bytes : (replies : List Sent) → records_of replies ≡ flat_map spelling (map one_record replies)
+pub replies-bytes : (replies : List Sent) → records_of replies ≡ flat_map spelling (map one_record replies)
 replies-bytes [] = refl
 replies-bytes (m ∷ replies) = ap (λ (x : List ℕ). spelling (one_record m) ++ x) (replies-bytes replies)
 
@@ -239,7 +239,7 @@ soon-by again actor moments p u behind asker calls (a ∷ came) made first leads
 
 module _ (again : Again) (laws : StreamLaws) (p : Passing) (granted : IsGranted p.asked p.feeding) (asker : HasAsked p.asked p.begins) (carries : Carries p)
     (leads : Leads p.actor (received p.begins (record_at p.at) p.pieces) p.made p.came_to) where
-  all-soon : AreSoonReplies p.came_to.replies
+  pub all-soon : AreSoonReplies p.came_to.replies
   all-soon =
       let s = p.begins in
       let moments = moments_of p.pieces in

@@ -4,5 +4,6 @@ pub mod Codes
 pub mod Passing
 pub mod Queue
 pub mod Narrowing
+pub mod Ungranted
 pub mod Examples
 pub mod Hearing

@@ -7,10 +7,10 @@ ghost use Rattle.ldm_model.specs.Product.{extent_of};
 ghost use Rattle.ldm_model.specs.State.{State};
 ghost use Rattle.ldm_model.specs.History.{after_entries, IsLegalFrom};
 ghost use Rattle.ldm_rpc.specs.Streams.{Placed};
-ghost use Rattle.ldm_session.specs.Owed.{Code, Said};
+ghost use Rattle.ldm_session.specs.Owed.{Code, IsNoReply, Said};
 ghost use Rattle.ldm_sender.specs.Asked.{Asked};
 ghost use Rattle.ldm_upstream.specs.Turn.{Given};
-ghost use Rattle.ldm_upstream.specs.Feeding.{Feeding, IsFeeding, bytes_of, codes_of};
+ghost use Rattle.ldm_upstream.specs.Feeding.{Feeding, IsFeeding, Unanswered, bytes_of, codes_of, stands};
 ghost use Rattle.ldm_intake.specs.Answered.{number_of_request};
 ghost use Rattle.ldm_intake.specs.Asking.{asked_class};
 ghost use Rattle.ldm_intake.specs.Course.{Leads};
@@ -26,6 +26,7 @@ ghost use Rattle.ldm_passing.specs.Narrowing.{IsNarrowing, Narrows};
 ghost use Rattle.ldm_passing.specs.Passing.{CameAt, Carries, CarriesAll, HasAsked, IsAnswered, IsGranted, IsPassing, IsSound, Passing, PassesFirst, PassesWhole, record_at};
 ghost use Rattle.ldm_passing.specs.Queue.{passed_all, products_of};
 ghost use Rattle.ldm_passing.specs.Takings.{IsAt};
+ghost use Rattle.ldm_passing.specs.Ungranted.{EndsByReply, IsUngranted};
 
 use ldm_relay::what_is_written_is_read;
 use ldm_rpc::{pieces_join, pushes_read_the_stream, records_are_read};
@@ -73,6 +74,30 @@ pub fn a_queue_is_passed_on()
 /// these laws are about, from that place of the stream on.
 pub fn a_narrower_class_is_asked_for()
     ensures { (p : Passing) (class : ClassSpec) → IsNarrowing p class → Narrows p class }
+{
+    what_is_written_is_read();
+    records_are_read();
+    pieces_join();
+    pushes_read_the_stream();
+}
+
+/// A feeder that does not grant what it was asked for replies so, and nothing else comes: a receiver that had asked ends by that
+/// reply, or asks for the narrower class that it offers.
+pub fn a_reply_is_taken()
+    ensures { (p : Passing) (ungranted : IsUngranted p) → EndsByReply p ungranted }
+{
+    what_is_written_is_read();
+    records_are_read();
+    pieces_join();
+    pushes_read_the_stream();
+}
+
+/// A receiver that all bytes of a feeding came to has replied to each announcement. So who hears its replies, all but the last one,
+/// finds no other record behind them, nor the beginning of one.
+pub fn announcements_are_answered()
+    ensures { (p : Passing) (product : Given) (sent_at at : ℕ) (given more : List ℕ) (behind : List Placed) → IsPassing p → CarriesAll p →
+        p.feeding.last ≡ Unanswered product sent_at → Said given (codes_of p.feeding) behind → given ++ more ≡ records_of p.came_to.replies →
+        IsNoReply (stands p.feeding).next at given behind → ⊥ }
 {
     what_is_written_is_read();
     records_are_read();

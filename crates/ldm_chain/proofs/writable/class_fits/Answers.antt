@@ -1,7 +1,6 @@
-use Rattle.std.proofs.Common.{rules, ◌≡◌, take, sym, subst, ◌∙◌, List}
+use Rattle.std.proofs.Common.{rules, ◌≡◌, take, sym, subst, ◌∙◌}
 use Rattle.std.proofs.lemmas.List.{take_all}
 use Rattle.std.proofs.lemmas.List.Elements.{All-more, All-same, recursion_from_All}
-use Rattle.ldm_types.specs.declared.class.Spec.{Spec}
 use Rattle.ldm_relay.specs.Fits.{SpecFits}
 use Rattle.ldm_chain.proofs.writable.class_fits.Goals as goal
 

@@ -1,6 +1,6 @@
-use Rattle.std.proofs.Common.{arith}
+use Rattle.std.proofs.Common.{drop, sym, ◌∙◌, arith}
 use Rattle.std.proofs.lemmas.List.{take_rest}
-use Rattle.ldm_chain.proofs.Mirroring.{reads-all}
+use Rattle.ldm_chain.proofs.Mirroring.{reads-all, sent-kept}
 use Rattle.ldm_chain.proofs.mirror.Mirror.take_request.Goals as goal
 
 pub invariant_of-self : goal.invariant_of-self
@@ -13,8 +13,10 @@ invariant_of-self g c =
       same = i.same;
       name_is = i.name_is;
       now_is = i.now_is;
+      sent_is = i.sent_is ∙ sym (sent-kept (drop s.read s.replies.items) s.told.passed c.then-self-inside.result.passed told);
+      room = i.room;
       within = omega arith;
       over_is = i.over_is;
-      reflects = reads-all g.B.Begun.begun s.told.passed s.ends s.faults s.closed s.read s.replies.items s.receiver s.pass.now c.then-self-inside.result.passed
+      reflects = reads-all g.B.Begun.begun s.told.passed s.faults s.closed s.read s.replies.items s.receiver s.pass.now c.then-self-inside.result.passed
           c.clear.new.self.items told c.clear.ensures.items i.reflects;
     }

@@ -1,0 +1,337 @@
+-- Why a chain ended while a node was fed.
+use Rattle.std.proofs.Common.{◌≡◌, ℕ, ◌≤◌, true, false, ◌++◌, Option, Some, None, inl, inr, refl, ap, sym, subst, ◌∙◌, arith, List, []}
+use Rattle.std.specs.Prelude.{◌⊎◌, IsSome}
+use Rattle.ldm_types.specs.declared.class.ClassSpec.{ClassSpec}
+use Rattle.ldm_types.specs.declared.limits.TheConstants.{LARGEST_ARENA}
+use Rattle.ldm_class.specs.Access.{feeds_for, first_rule, is_about, or_none, reduce}
+use Rattle.ldm_class.specs.Classes.{bad_place}
+use Rattle.ldm_class.specs.declared.answers.Reduced.TheVariants as reduced
+use Rattle.ldm_outside.specs.Count.{Rose}
+use Rattle.ldm_relay.specs.declared.message.ClassAnswer.TheVariants as class_answer
+use Rattle.ldm_model.specs.declared.event.Entry.{Entry}
+use Rattle.ldm_model.specs.History.{IsLegal}
+use Rattle.ldm_shared.specs.Passes.{Calls, HasSeen, PassView}
+use Rattle.ldm_intake.specs.declared.end.RecvEnd.{RecvEnd}
+use Rattle.ldm_intake.specs.declared.end.RecvEnd.TheVariants as receive
+use Rattle.ldm_intake.specs.Receiving.{Receiving}
+use Rattle.ldm_intake.specs.TakesRecord.{Standing, stands}
+use Rattle.ldm_outside.specs.Link.{bytes_given}
+use Rattle.ldm_sender.specs.declared.end.SendEnd.{SendEnd}
+use Rattle.ldm_sender.specs.declared.end.SendEnd.TheVariants as feed
+use Rattle.ldm_sender.specs.Asked.{Asked}
+use Rattle.ldm_sender.specs.Opening.{Answered, Denied, Reclassed, IsAnswerTo}
+use Rattle.ldm_downstream.specs.Pushing.{Ends}
+use Rattle.ldm_downstream.specs.Pieces.{beginning}
+use Rattle.ldm_sole_reader.specs.OnePass.{IsOnlyPass, state_of}
+use Rattle.ldm_sole_reader.proofs.OnePass.{seen-by}
+use Rattle.ldm_chain.specs.declared.node.Break.{Break}
+use Rattle.ldm_chain.specs.declared.node.Break.TheVariants as broken
+use Rattle.ldm_chain.specs.declared.node.ChainEnd.{ChainEnd}
+use Rattle.ldm_chain.specs.Breaking.{Breaks, BreaksAt, BreaksSo, Came, FedFirst, LeavesNothing}
+use Rattle.ldm_chain.specs.Causes.{AreAllTaken, CauseAt, HadAllCalls, HadNoCursor, ReceiveCause}
+use Rattle.ldm_chain.specs.Ending.{broken_off, by_receiver, by_told, by_told_of, end_by}
+use Rattle.ldm_chain.specs.Linking.{Fed, FedFewer, asking, request_read}
+use Rattle.ldm_chain.specs.MirrorView.{MirrorView}
+use Rattle.ldm_chain.specs.Reflecting.{Went, pieces_at}
+use Rattle.ldm_chain.proofs.Answering.{ReclassEnds, busy-ends, busy-seen, denied-ends, no-bad_reply, reclassed-ends, stopped-goes_on}
+use Rattle.ldm_chain.proofs.FedWhole.{TookAll, still-only}
+use Rattle.ldm_chain.proofs.Linked.{took-rest, took-whole}
+use Rattle.ldm_chain.proofs.Narrower.{fewer-fits, fewer-other, fewer-whole}
+use Rattle.ldm_chain.proofs.Took.{IsTold, Took, took, took-told}
+use Rattle.ldm_chain.proofs.UsedLaws.{EndLaws, Laws}
+
+-- a count that stands at 0 did not rise
+not-risen : Rose 0 0 → ⊥
+not-risen (inl less) = omega (arith, less)
+not-risen (inr full) = omega (arith, full.0)
+
+none-some : {A : Type 0} (x : A) → None ≡ Some x → ⊥
+none-some x is = cc is
+
+-- what is left of what is left is the whole
+module _ (asked : Asked) (fewer : ClassSpec) (left : reduce asked.rules asked.host asked.class ≡ reduced.Fewer fewer) where
+  abbrev narrower : Asked
+  narrower = record asked { xid = 2; class = fewer }
+
+  whole-left : reduce asked.rules asked.host fewer ≡ reduced.Same
+  whole-left = fewer-whole (feeds_for asked.host asked.rules) (or_none (first_rule (is_about asked.host) asked.rules)) asked.class fewer left
+
+  not-denied : (answered : Answered) (rule : ℕ) → IsAnswerTo narrower answered → answered ≡ Denied rule → ⊥
+  not-denied answered rule answers is =
+      let by_rules : reduce asked.rules asked.host fewer ≡ reduced.Nothing rule = subst (IsAnswerTo narrower) is answers in
+      let no : reduced.Same ≡ reduced.Nothing rule = sym whole-left ∙ by_rules in cc no
+
+  not-reclassed : (answered : Answered) (class : ClassSpec) → IsAnswerTo narrower answered → answered ≡ Reclassed class → ⊥
+  not-reclassed answered class answers is =
+      let by_rules : reduce asked.rules asked.host fewer ≡ reduced.Fewer class = subst (IsAnswerTo narrower) is answers in
+      let no : reduced.Same ≡ reduced.Fewer class = sym whole-left ∙ by_rules in cc no
+
+leaves-cause : (end : RecvEnd) (asked : Asked) (found from to : PassView) → LeavesNothing end asked → ReceiveCause end asked found from to
+leaves-cause (receive.BadFrame at) asked found from to leaves = leaves
+leaves-cause receive.Ended asked found from to leaves = absurd leaves
+leaves-cause (receive.Truncated at) asked found from to leaves = absurd leaves
+leaves-cause (receive.Refused answer) asked found from to leaves = absurd leaves
+leaves-cause receive.LinkFault asked found from to leaves = absurd leaves
+leaves-cause receive.LogFault asked found from to leaves = absurd leaves
+leaves-cause receive.StreamLimit asked found from to leaves = absurd leaves
+leaves-cause receive.Worn asked found from to leaves = absurd leaves
+leaves-cause receive.OutOfMemory asked found from to leaves = absurd leaves
+
+-- all cursors were taken of a queue that stood so
+found-in : (one other pass : PassView) → state_of one ≡ state_of other → HadNoCursor one pass → HadNoCursor other pass
+found-in one other pass same none = record {
+  taken = subst AreAllTaken same none.taken;
+  before = none.before;
+  behind = none.behind;
+  actor = none.actor;
+  feed = none.feed;
+  start = none.start;
+  all = none.all;
+}
+
+made-legal-of : (old new : PassView) (made : List Entry) → IsOnlyPass old → Calls old new made → IsLegal new.arena new.slots new.seen
+made-legal-of old new made only calls = (seen-by old new made only.has_seen calls).has_seen.legal
+
+module _ (laws : Laws) (more : EndLaws) (asked : Asked) (number : asked.xid ≡ 1) (why : Break) (old new before after : PassView) (only : IsOnlyPass old) (next : IsOnlyPass before)
+    (breaks : BreaksSo why asked old new before after) where
+  abbrev m : MirrorView
+  m = breaks.end
+
+  abbrev end : Option RecvEnd
+  end = m.receiver.end
+
+  abbrev now : ℕ
+  now = breaks.b.now
+
+  abbrev s : Receiving
+  s = asking asked.class asked.max_hereis
+
+  abbrev at_first : MirrorView
+  at_first = request_read s before
+
+  -- where a part was left, and was asked for
+  module _ (how : SendEnd) (part : FedFewer how breaks.b asked old new at_first m) where
+    mid-only : IsOnlyPass part.mid
+    mid-only = still-only laws old part.mid _ only part.first.feeds.made
+
+    mid-small : part.mid.arena ≤ LARGEST_ARENA
+    mid-small = subst (λ (n : ℕ). n ≤ LARGEST_ARENA) (sym (ap (λ (p : PassView). p.arena) part.first.feeds.made.same)) breaks.small
+
+    -- and the queue before stood as it did
+    mid-state : state_of part.mid ≡ state_of old
+    mid-state = laws.unchanged feed.Reclassed asked [] old part.mid _ _ part.first.feeds only refl
+
+  -- ---- over the receiver, where it goes on or ended by what it was told
+
+  module _ (t : Took s before now m) where
+    -- the first feeding
+    module _ (how : SendEnd) (fed : Fed how asked old new at_first m) where
+      first-all : TookAll asked fed.feeds.sent fed.feeds.given now before.actor t.made end
+      first-all = took-whole laws asked now before number how old new m fed t
+
+    -- the second one
+    module _ (how : SendEnd) (part : FedFewer how breaks.b asked old new at_first m) where
+      told-took : Took s before now part.told
+      told-took = took breaks.b s before now part.told part.so_far breaks.first refl part.goes_on
+
+      rest-all : TookAll (narrower asked part.rest.fewer part.rest.left) part.rest.fed.feeds.sent part.rest.fed.feeds.given now before.actor t.made end
+      rest-all =
+          took-rest laws asked now before number old part.mid part.told part.rest.fewer part.first part.rest.left part.rest.fits part.rest.meant told-took how new m part.rest.fed t
+
+    -- an end that a reply decided, or none
+    stopped : Fed feed.Stopped asked old new at_first m ⊎ FedFewer feed.Stopped breaks.b asked old new at_first m → end ≡ None
+    stopped (inl fed) = stopped-goes_on laws more asked old new _ _ only breaks.small now before.actor t.made end fed.feeds (first-all feed.Stopped fed)
+    stopped (inr part) =
+        stopped-goes_on laws more (narrower asked part.rest.fewer part.rest.left) part.mid new _ _ (mid-only feed.Stopped part) (mid-small feed.Stopped part) now before.actor t.made end
+        part.rest.fed.feeds (rest-all feed.Stopped part)
+
+    bad-reply : (place : ℕ) → FedFirst (feed.BadReply place) asked old new at_first m ⊎ FedFewer (feed.BadReply place) breaks.b asked old new at_first m → ⊥
+    bad-reply place (inl first) =
+        no-bad_reply laws more asked old new _ _ only breaks.small now before.actor t.made end place first.fed.feeds (first-all (feed.BadReply place) first.fed)
+    bad-reply place (inr part) =
+        let how = feed.BadReply place in
+        no-bad_reply laws more (narrower asked part.rest.fewer part.rest.left) part.mid new _ _ (mid-only how part) (mid-small how part) now before.actor t.made end
+        place part.rest.fed.feeds (rest-all how part)
+
+    denied : (rule : ℕ) → FedFirst (feed.Denied rule) asked old new at_first m ⊎ FedFewer (feed.Denied rule) breaks.b asked old new at_first m
+        → (reduce asked.rules asked.host asked.class ≡ reduced.Nothing rule) × (end ≡ Some (receive.Refused class_answer.Denied))
+    denied rule (inl first) =
+        let how = feed.Denied rule in
+        let feeds = first.fed.feeds in (
+          subst (IsAnswerTo asked) feeds.cause feeds.is_feeding.answered,
+          denied-ends laws more how asked old new _ _ feeds only breaks.small now before.actor t.made end (first-all how first.fed) feeds.sent_part rule feeds.cause,
+        )
+    denied rule (inr part) =
+        let feeds = part.rest.fed.feeds in absurd (not-denied asked part.rest.fewer part.rest.left feeds.feeding.answered rule feeds.is_feeding.answered feeds.cause)
+
+    busy : FedFirst feed.AllBusy asked old new at_first m ⊎ FedFewer feed.AllBusy breaks.b asked old new at_first m → end ≡ Some (receive.Refused class_answer.Busy)
+    busy (inl first) =
+        let feeds = first.fed.feeds in
+        busy-ends laws more feed.AllBusy asked old new _ _ feeds only breaks.small now before.actor t.made end (first-all feed.AllBusy first.fed) feeds.sent_part
+        feeds.cause.0 feeds.cause.1
+    busy (inr part) =
+        let feeds = part.rest.fed.feeds in
+        busy-ends laws more feed.AllBusy (narrower asked part.rest.fewer part.rest.left) part.mid new _ _ feeds (mid-only feed.AllBusy part) (mid-small feed.AllBusy part)
+        now before.actor t.made end (rest-all feed.AllBusy part) feeds.sent_part feeds.cause.0 feeds.cause.1
+
+    -- a part is left, and the receiver asks for it, or a pattern means nothing
+    record IsLeft : Type 0 where
+      fewer : ClassSpec
+      left : reduce asked.rules asked.host asked.class ≡ reduced.Fewer fewer
+      ends : ReclassEnds (bad_place fewer.specs.items) end
+
+    reclassed : FedFirst feed.Reclassed asked old new at_first m ⊎ FedFewer feed.Reclassed breaks.b asked old new at_first m → IsLeft
+    reclassed (inl first) =
+        let feeds = first.fed.feeds in
+        let class = feeds.cause.0 in
+        let feeds_left = feeds_for asked.host asked.rules in
+        let rule_left = or_none (first_rule (is_about asked.host) asked.rules) in
+        let left : reduce asked.rules asked.host asked.class ≡ reduced.Fewer class = subst (IsAnswerTo asked) feeds.cause.1 feeds.is_feeding.answered in
+        record {
+          fewer = class;
+          left = left;
+          ends = reclassed-ends laws more feed.Reclassed asked old new _ _ feeds only breaks.small now before.actor t.made end (first-all feed.Reclassed first.fed)
+              feeds.sent_part class feeds.cause.1 (fewer-fits feeds_left rule_left asked.class class left breaks.fits) number (fewer-other feeds_left rule_left asked.class class left);
+        }
+    reclassed (inr part) =
+        let feeds = part.rest.fed.feeds in
+        absurd (not-reclassed asked part.rest.fewer part.rest.left feeds.feeding.answered feeds.cause.0 feeds.is_feeding.answered feeds.cause.1)
+
+  -- ---- ends of a feeder that need no receiver
+
+  worn : FedFirst feed.Worn asked old new at_first m ⊎ FedFewer feed.Worn breaks.b asked old new at_first m → HadAllCalls new
+  worn (inl first) = record { legal = (made-legal-of old new _ only first.fed.feeds.made); all = first.fed.feeds.cause }
+  worn (inr part) = record { legal = (made-legal-of part.mid new _ (mid-only feed.Worn part) part.rest.fed.feeds.made); all = part.rest.fed.feeds.cause }
+
+  no-peer_end : (place : ℕ) → FedFirst (feed.PeerEnd place) asked old new at_first m ⊎ FedFewer (feed.PeerEnd place) breaks.b asked old new at_first m → ⊥
+  no-peer_end place (inl first) = not-risen first.fed.feeds.cause
+  no-peer_end place (inr part) = not-risen part.rest.fed.feeds.cause
+
+  no-log_fault : FedFirst feed.LogFault asked old new at_first m ⊎ FedFewer feed.LogFault breaks.b asked old new at_first m → ⊥
+  no-log_fault (inl first) = not-risen first.fed.feeds.cause
+  no-log_fault (inr part) = not-risen part.rest.fed.feeds.cause
+
+  -- ---- the receiver goes on
+
+  module _ (live : end ≡ None) where
+    live-took : Took s before now m
+    live-took = took breaks.b s before now m breaks.reflects breaks.first refl live
+
+    over-not : (over : RecvEnd) → end ≡ Some over → ⊥
+    over-not over is = none-some over (sym live ∙ is)
+
+    feeder-cause : (how : SendEnd) → (how ≡ feed.Stopped → ⊥) → FedFirst how asked old new at_first m ⊎ FedFewer how breaks.b asked old new at_first m
+        → CauseAt (end_by (broken_off how)) asked old new after
+    feeder-cause feed.Stopped unlike by = absurd (unlike refl)
+    feeder-cause feed.Reclassed unlike (inl first) = (let none : false ≡ true = subst (λ (e : Option RecvEnd). IsSome e) live (first.over refl) in absurd (cc none))
+    feeder-cause feed.Reclassed unlike (inr part) =
+        let feeds = part.rest.fed.feeds in
+        absurd (not-reclassed asked part.rest.fewer part.rest.left feeds.feeding.answered feeds.cause.0 feeds.is_feeding.answered feeds.cause.1)
+    feeder-cause (feed.Denied rule) unlike by = absurd (over-not (receive.Refused class_answer.Denied) (denied live-took rule by).1)
+    feeder-cause (feed.PeerEnd place) unlike by = absurd (no-peer_end place by)
+    feeder-cause feed.LinkFault unlike by = tt
+    feeder-cause feed.LogFault unlike by = absurd (no-log_fault by)
+    feeder-cause (feed.BadReply place) unlike by = absurd (bad-reply live-took place by)
+    feeder-cause feed.AllBusy unlike by = absurd (over-not (receive.Refused class_answer.Busy) (busy live-took by))
+    feeder-cause feed.Worn unlike by = worn by
+    feeder-cause feed.OutOfMemory unlike by = tt
+
+  -- ---- the receiver ended by what it was told
+
+  module _ (told : RecvEnd) (is_told : IsTold told) (over : end ≡ Some told) where
+    took-it : Took s before now m
+    took-it = took-told breaks.b s before m told breaks.reflects breaks.first is_told over breaks.few
+
+    not-live : end ≡ None → ⊥
+    not-live live = none-some told (sym live ∙ over)
+
+    told-by : (other : RecvEnd) → end ≡ Some other → other ≡ told
+    told-by other is = let same : Some other ≡ Some told = sym is ∙ over in cc same
+
+    left-cause : (fewer : ClassSpec) → reduce asked.rules asked.host asked.class ≡ reduced.Fewer fewer → (bad : Option ℕ) → bad_place fewer.specs.items ≡ bad → ReclassEnds bad end
+        → ReceiveCause told asked old new after
+    left-cause fewer left None is ends = absurd (not-live ends)
+    left-cause fewer left (Some place) is ends =
+        subst (λ (e : RecvEnd). ReceiveCause e asked old new after) (told-by (receive.BadFrame ends.0) ends.1)
+        (record { fewer = fewer; left = left; bad = subst (λ (o : Option ℕ). IsSome o) (sym is) refl })
+
+    told-feeder : (how : SendEnd) → (how ≡ feed.Stopped → ⊥) → FedFirst how asked old new at_first m ⊎ FedFewer how breaks.b asked old new at_first m
+        → CauseAt (end_by (by_told_of told how)) asked old new after
+    told-feeder feed.Stopped unlike by = absurd (unlike refl)
+    told-feeder feed.Reclassed unlike by =
+        let left = reclassed took-it by in left-cause left.fewer left.left (bad_place left.fewer.specs.items) refl left.ends
+    told-feeder (feed.Denied rule) unlike by =
+        let denied_so = denied took-it rule by in
+        subst (λ (e : RecvEnd). ReceiveCause e asked old new after) (told-by (receive.Refused class_answer.Denied) denied_so.1) (rule, denied_so.0)
+    told-feeder (feed.PeerEnd place) unlike by = absurd (no-peer_end place by)
+    told-feeder feed.LinkFault unlike by = tt
+    told-feeder feed.LogFault unlike by = absurd (no-log_fault by)
+    told-feeder (feed.BadReply place) unlike by = absurd (bad-reply took-it place by)
+    told-feeder feed.AllBusy unlike (inl first) =
+        subst (λ (e : RecvEnd). ReceiveCause e asked old new after) (told-by (receive.Refused class_answer.Busy) (busy took-it (inl first)))
+        (busy-seen laws asked old new _ _ only first.fed.feeds)
+    told-feeder feed.AllBusy unlike (inr part) =
+        subst (λ (e : RecvEnd). ReceiveCause e asked old new after) (told-by (receive.Refused class_answer.Busy) (busy took-it (inr part)))
+        (found-in part.mid old new (mid-state feed.AllBusy part)
+        (busy-seen laws (narrower asked part.rest.fewer part.rest.left) part.mid new _ _ (mid-only feed.AllBusy part) part.rest.fed.feeds))
+    told-feeder feed.Worn unlike by = worn by
+    told-feeder feed.OutOfMemory unlike by = tt
+
+    told-cause : (fed : Option Break) → Came fed breaks.b asked old new at_first m → CauseAt (end_by (by_told told fed)) asked old new after
+    told-cause None came = absurd (not-live (stopped took-it came))
+    told-cause (Some (broken.Feed how)) came = told-feeder how came.0 came.1
+    told-cause (Some (broken.Receive bad)) came = absurd (not-live came.1)
+    told-cause (Some broken.OutOfMemory) came = tt
+
+  -- ---- all
+
+  -- no push ends a receiver so
+  no-end : (over : RecvEnd) → end ≡ Some over → Ends over (pieces_at now breaks.reflects.parts) beginning breaks.b.first
+      (stands m.receiver.receiving m.pass (bytes_given m.passed ++ m.waiting) breaks.reflects.notes)
+  no-end over is = subst (λ (e : Option RecvEnd). Went e (pieces_at now breaks.reflects.parts) m.receiver.hand breaks.b.first (stands m.receiver.receiving m.pass (bytes_given m.passed ++ m.waiting) breaks.reflects.notes)) is
+      breaks.reflects.went
+
+  receiver-worn : end ≡ Some receive.Worn → HadAllCalls after
+  receiver-worn is =
+      let ends = no-end receive.Worn is in
+      let old_pass : breaks.b.first.pass ≡ before = ap (λ (st : Standing). st.pass) breaks.first in
+      let seen_first : HasSeen breaks.b.first.pass = subst HasSeen (sym old_pass) next.has_seen in
+      let between = (seen-by breaks.b.first.pass ends.breaks.between.pass ends.breaks.takes.made seen_first ends.breaks.takes.calls).has_seen in
+      let behind = (seen-by ends.breaks.between.pass m.pass ends.breaks.made between ends.breaks.calls).has_seen in
+      subst HadAllCalls breaks.pass_is (record { legal = behind.legal; all = ends.worn })
+
+  by-receiver : (over : Option RecvEnd) → end ≡ over → (fed : Option Break) → Came fed breaks.b asked old new at_first m → (how : Break) → by_receiver over fed ≡ Some how
+      → CauseAt (end_by how) asked old new after
+  by-receiver None live None came how is = absurd (none-some how is)
+  by-receiver None live (Some (broken.Feed why_fed)) came how is =
+      subst (λ (b : Break). CauseAt (end_by b) asked old new after) (let same : broken_off why_fed ≡ how = cc is in same) (feeder-cause live why_fed came.0 came.1)
+  by-receiver None live (Some (broken.Receive bad)) came how is =
+      subst (λ (b : Break). CauseAt (end_by b) asked old new after) (let same : broken.Receive bad ≡ how = cc is in same) (leaves-cause bad asked old new after came.0)
+  by-receiver None live (Some broken.OutOfMemory) came how is =
+      subst (λ (b : Break). CauseAt (end_by b) asked old new after) (let same : broken.OutOfMemory ≡ how = cc is in same) tt
+  by-receiver (Some receive.OutOfMemory) over fed came how is =
+      subst (λ (b : Break). CauseAt (end_by b) asked old new after) (let same : broken.OutOfMemory ≡ how = cc is in same) tt
+  by-receiver (Some receive.Worn) over fed came how is =
+      subst (λ (b : Break). CauseAt (end_by b) asked old new after) (let same : broken.Receive receive.Worn ≡ how = cc is in same) (receiver-worn over)
+  by-receiver (Some (receive.BadFrame at)) over fed came how is =
+      subst (λ (b : Break). CauseAt (end_by b) asked old new after) (let same : by_told (receive.BadFrame at) fed ≡ how = cc is in same) (told-cause (receive.BadFrame at) tt over fed came)
+  by-receiver (Some (receive.Refused answer)) over fed came how is =
+      subst (λ (b : Break). CauseAt (end_by b) asked old new after) (let same : by_told (receive.Refused answer) fed ≡ how = cc is in same) (told-cause (receive.Refused answer) tt over fed came)
+  by-receiver (Some receive.StreamLimit) over fed came how is =
+      subst (λ (b : Break). CauseAt (end_by b) asked old new after) (let same : by_told receive.StreamLimit fed ≡ how = cc is in same) (told-cause receive.StreamLimit tt over fed came)
+  by-receiver (Some receive.Ended) over fed came how is = absurd (no-end receive.Ended over)
+  by-receiver (Some (receive.Truncated at)) over fed came how is = absurd (no-end (receive.Truncated at) over)
+  by-receiver (Some receive.LinkFault) over fed came how is = absurd (no-end receive.LinkFault over)
+  by-receiver (Some receive.LogFault) over fed came how is = absurd (no-end receive.LogFault over)
+
+  so-cause : CauseAt (end_by why) asked old new after
+  so-cause = by-receiver end refl breaks.fed breaks.came why breaks.is
+
+module _ (laws : Laws) (more : EndLaws) (asked : Asked) (number : asked.xid ≡ 1) (old new before after : PassView) (only : IsOnlyPass old) (next : IsOnlyPass before) where
+  by-break : (why : Break) → Breaks why asked old new before after → CauseAt (end_by why) asked old new after
+  by-break (broken.Feed how) breaks = so-cause laws more asked number (broken.Feed how) old new before after only next breaks
+  by-break (broken.Receive over) breaks = so-cause laws more asked number (broken.Receive over) old new before after only next breaks
+  by-break broken.OutOfMemory breaks = tt
+
+  pub causes : (ending : ChainEnd) → BreaksAt ending asked old new before after → CauseAt ending asked old new after
+  causes ending breaks = subst (λ (e : ChainEnd). CauseAt e asked old new after) (sym breaks.is) (by-break breaks.why breaks.breaks)

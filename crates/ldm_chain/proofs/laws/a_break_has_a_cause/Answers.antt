@@ -1,0 +1,28 @@
+use Rattle.ldm_chain.proofs.UsedLaws.{EndLaws, Laws}
+use Rattle.ldm_chain.proofs.Causing.{causes}
+use Rattle.ldm_chain.proofs.laws.a_break_has_a_cause.Goals as goal
+
+-- what the laws say that are called
+abbrev laws : goal.After-products_stay → Laws
+laws c = record {
+  read = c.the_setting_is_met.ensures.read;
+  sound = c.the_setting_is_met.ensures.sound;
+  passed = c.a_queue_is_passed_on.ensures.whole;
+  narrows = c.a_narrower_class_is_asked_for.ensures;
+  offered = c.one_pass_is_fed_all.ensures.offered;
+  unchanged = c.one_pass_is_fed_all.ensures.unchanged;
+  goes_on = c.one_pass.ensures.goes_on;
+  admitted = c.products_were_admitted.ensures;
+  sized = c.products_stay.ensures.whole;
+  fits = c.products_stay.ensures.fits;
+}
+
+abbrev end_laws : goal.After-products_stay → EndLaws
+end_laws c = record {
+  live = c.products_are_passed_on.ensures.goes_on;
+  replied = c.a_reply_is_taken.ensures;
+  answered = c.announcements_are_answered.ensures;
+}
+
+pub returns : goal.returns
+returns c = λ end asked old new before after breaks number only next. causes (laws c) (end_laws c) asked number old new before after only next end breaks
