@@ -111,7 +111,10 @@ fn next_peer(
     ensures { IfSome result (λ peer. IsFresh (told_by_link peer.1)) }
 {
     let (stream, address) = accept_peer(listener).ok()?;
-    Some((host_of(address)?, RealLink::new(stream, timeouts, beats).ok()?))
+    Some((
+        host_of(address)?,
+        RealLink::new(stream, timeouts, beats).ok()?,
+    ))
 }
 
 impl Door for RealDoor {
