@@ -1,4 +1,4 @@
--- A chain that nothing hinders writes all its text, where each node was fed: for `ChainCompletes`.
+-- A chain that nothing hinders writes all its text: for `ChainCompletes`.
 use Rattle.std.proofs.Common.{◌≡◌, ℕ, ◌<◌, ◌⊎◌, List, ◌++◌, length, Option, Some, None, Ok, Err, Result, inl, inr, refl, sym, ap, ◌∙◌, arith, length-append}
 use Rattle.std.specs.Prelude.{IfErr}
 use Rattle.ldm_outside.specs.Count.{Rose}
@@ -14,6 +14,11 @@ use Rattle.ldm_loading.specs.WholeScript.{TakesWhole}
 use Rattle.ldm_loading.specs.Script.{script_played}
 use Rattle.ldm_loading.specs.declared.whole_script.TheConstants.{LONGEST_SCRIPT}
 use Rattle.ldm_loading.specs.declared.whole_script.ScriptFault.TheVariants as untaken
+use Rattle.ldm_class.specs.Rules.{Rules}
+use Rattle.ldm_intake.specs.declared.end.RecvEnd.{RecvEnd}
+use Rattle.ldm_intake.specs.declared.end.RecvEnd.TheVariants as received
+use Rattle.ldm_sender.specs.declared.end.SendEnd.{SendEnd}
+use Rattle.ldm_sender.specs.declared.end.SendEnd.TheVariants as fed
 use Rattle.ldm_chain.specs.declared.node.ChainEnd.{ChainEnd}
 use Rattle.ldm_chain.specs.declared.node.ChainEnd.TheVariants as chain_end
 use Rattle.ldm_chain_command.specs.declared.fault.ChainFault.{ChainFault}
@@ -21,18 +26,44 @@ use Rattle.ldm_chain_command.specs.declared.fault.ChainFault.TheVariants as stop
 use Rattle.ldm_chain_command.specs.Work.{ChainOutside, ChainWork}
 use Rattle.ldm_chain_command.specs.Policy.{NotTakenCompletes, TakesNoRules, UntakenCompletes}
 use Rattle.ldm_chain_command.specs.Ending.{ChainEnds, ChainStops}
-use Rattle.ldm_chain_command.specs.Statuses.{status_of_chain, status_of_end, status_of_stop}
-use Rattle.ldm_chain_command.specs.Complete.{ChainUnhindered, HasConf, IsUnfed}
-
--- not each node was fed
-record IsEndOf (ending : Status) : Type 0 where
-  end : ChainEnd
-  not_done : end ≡ chain_end.Done → ⊥
-  is : ending ≡ status_of_end end
+use Rattle.ldm_chain_command.specs.Statuses.{status_of_chain, status_of_end, status_of_fed, status_of_received, status_of_stop}
+use Rattle.ldm_chain_command.specs.Unfed.{FeedCause, ReceiveCause, UnfedCause}
+use Rattle.ldm_chain_command.specs.Complete.{ChainUnhindered, HasConf, LeavesAll}
 
 -- the status where it can stop nonetheless
 abbrev IsFree : Status → Type 0
-IsFree ending = (ending ≡ status.NoMemory) ⊎ ((ending ≡ status.Worn) ⊎ IsEndOf ending)
+IsFree ending = (ending ≡ status.NoMemory) ⊎ (ending ≡ status.Worn)
+
+-- not each node was fed
+module _ (rules : Rules) (work : ChainWork) (leaves : LeavesAll rules work) where
+  received-free : (end : RecvEnd) → ReceiveCause end rules work → IsFree (status_of_received end)
+  received-free received.Worn cause = inr refl
+  received-free (received.Refused answer) cause = absurd (leaves.some cause)
+  received-free (received.BadFrame at) cause = absurd (leaves.meant cause)
+  received-free received.Ended cause = absurd cause
+  received-free (received.Truncated at) cause = absurd cause
+  received-free received.LinkFault cause = absurd cause
+  received-free received.LogFault cause = absurd cause
+  received-free received.StreamLimit cause = absurd cause
+  received-free received.OutOfMemory cause = absurd cause
+
+  fed-free : (end : SendEnd) → FeedCause end work → IsFree (status_of_fed end)
+  fed-free fed.Worn cause = inr refl
+  fed-free fed.OutOfMemory cause = inl refl
+  fed-free fed.Stopped cause = absurd cause
+  fed-free fed.Reclassed cause = absurd cause
+  fed-free (fed.Denied rule) cause = absurd cause
+  fed-free (fed.PeerEnd at) cause = absurd cause
+  fed-free fed.LinkFault cause = absurd cause
+  fed-free fed.LogFault cause = absurd cause
+  fed-free (fed.BadReply at) cause = absurd cause
+  fed-free fed.AllBusy cause = absurd cause
+
+  unfed-free : (end : ChainEnd) → UnfedCause end rules work → IsFree (status_of_end end)
+  unfed-free chain_end.Done cause = absurd cause
+  unfed-free (chain_end.Feed end) cause = fed-free end cause
+  unfed-free (chain_end.Receive end) cause = received-free end cause
+  unfed-free chain_end.OutOfMemory cause = inl refl
 
 -- a configuration is given
 abbrev IfGiven : Option (List ℕ) → Type 0
@@ -74,22 +105,19 @@ module _ (work : ChainWork) (old new : ChainOutside) (free : ChainUnhindered wor
   stops_for (stop.BadLine line column) ends completes =
       let same = sym free.to_end ∙ ap (λ (script : List ℕ). (script_played work.arena work.slots script).stop) (whole_taken ends.0 ends.1.taken) ∙ ends.2 in
       absurd cc
-  stops_for stop.Worn ends completes = inr (inl refl)
-  stops_for (stop.NotFed end) ends completes = inr (inr (record { end = end; not_done = ends.3; is = refl }))
+  stops_for stop.Worn ends completes = inr refl
+  stops_for (stop.NotFed end) ends completes = unfed-free ends.1.rules work (free.leaves ends.1.rules ends.1.taken_rules) end ends.3
   stops_for stop.SinkFault ends completes = absurd (free.sink_works ends.2)
   stops_for stop.OutOfMemory ends completes = inl refl
 
   pub chain-completes : (ending : Result (Unit {0}) ChainFault) (code : ℕ) → ChainEnds ending work old new
       → IfErr ending (λ why. UntakenCompletes why work.conf old.store new.store) → Reports (status_of_chain ending) code old.streams.log new.streams.log
-      → (code ≡ 0) ⊎ ((code ≡ 71) ⊎ ((code ≡ 77) ⊎ IsUnfed code))
+      → (code ≡ 0) ⊎ ((code ≡ 71) ⊎ (code ≡ 77))
   chain-completes (Ok done) code ends completes reports = elim reports [ inl told ↦ inl told.0 | inr failed ↦ absurd (free.log_works failed.1) ]
   chain-completes (Err why) code ends completes reports = elim reports [
     | inl told ↦ elim (stops_for why ends completes) [
       | inl no_memory ↦ inr (inl (told.0 ∙ ap code_of no_memory))
-      | inr other ↦ elim other [
-        | inl worn ↦ inr (inr (inl (told.0 ∙ ap code_of worn)))
-        | inr unfed ↦ inr (inr (inr (record { end = unfed.end; not_done = unfed.not_done; code_is = told.0 ∙ ap code_of unfed.is })))
-      ]
+      | inr worn ↦ inr (inr (told.0 ∙ ap code_of worn))
     ]
     | inr failed ↦ absurd (free.log_works failed.1)
   ]

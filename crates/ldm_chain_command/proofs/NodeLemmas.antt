@@ -15,7 +15,7 @@ use Rattle.ldm_loading.specs.Putting.{IsPutFault, StandsAfter, inserted_all}
 use Rattle.ldm_loading.specs.declared.putting.PutFault.{PutFault}
 use Rattle.ldm_loading.specs.declared.putting.PutFault.TheVariants as put
 use Rattle.ldm_chain_command.specs.Faults.{not_put}
-use Rattle.ldm_chain_command.specs.Ending.{IsWornOut}
+use Rattle.ldm_chain_command.specs.Unfed.{IsWornOut}
 use Rattle.ldm_class.specs.Rules.{Rules}
 use Rattle.ldm_shared.specs.Passes.{HasSeen, IsPassOf, IsSamePass, PassView, SharedView, new_pass}
 use Rattle.ldm_sole_reader.specs.OnePass.{IsOnlyPass, state_of}

@@ -8,12 +8,15 @@ use Rattle.ldm_script.specs.Answer.{answer_line}
 use Rattle.ldm_class.specs.Rules.{Rules}
 use Rattle.ldm_loading.specs.WholeScript.{TakesWhole}
 use Rattle.ldm_chain.specs.declared.node.ChainNode.{ChainNode}
+use Rattle.ldm_loading.specs.Script.{script_played}
+use Rattle.ldm_chain_command.specs.declared.fault.ChainFault.{ChainFault}
+use Rattle.ldm_chain_command.specs.declared.fault.ChainFault.TheVariants as stop
 use Rattle.ldm_chain_command.specs.Work.{ChainOutside, ChainWork, IsGoodSize}
 use Rattle.ldm_chain_command.specs.Policy.{TakesRules}
 use Rattle.ldm_chain_command.specs.Queues.{node_line, node_text, nodes_text, product_line}
 use Rattle.ldm_chain_command.specs.Texts.{listed_texts}
-use Rattle.ldm_chain_command.specs.Ending.{Chains, IsLegalQueue}
-use Rattle.ldm_chain_command.specs.Nodes.{AreFed, AreSole, HasLegal, queue_of}
+use Rattle.ldm_chain_command.specs.Ending.{ChainStops, Chains, IsLegalQueue}
+use Rattle.ldm_chain_command.specs.Nodes.{AreFed, AreNotFed, AreSole, HasLegal, queue_of}
 use Rattle.ldm_chain_command.proofs.FeedLemmas.{IsListedWhole, chain-listed}
 
 legal-queues : (work : ChainWork) (nodes : List ChainNode) → AllByRecursion HasLegal nodes → AreSole work.arena work.slots nodes
@@ -46,6 +49,32 @@ chains-of work old new given script is rules good taken_rules taken nodes given_
       queues_are = fed.queues;
       queues_legal = legal-queues work nodes legal fed.sole;
     }
+
+-- where not each node was fed, what was read stands as it is told
+pub stops-unfed : (why : ChainFault) (work : ChainWork) (old new : ChainOutside) (given script : List ℕ) → given ≡ script → (rules : Rules) → IsGoodSize work
+    → TakesRules work.conf rules old.store new.store → TakesWhole script old.streams.source new.streams.source → new.streams.sink ≡ old.streams.sink
+    → AreNotFed why work rules given old.clock new.clock → ChainStops why work old new
+stops-unfed (stop.BadLine line column) work old new given script is rules good taken_rules taken sink unfed = (
+  script,
+  record { good = good; rules = rules; taken_rules = taken_rules; taken = taken },
+  sym (ap (λ (text : List ℕ). (script_played work.arena work.slots text).stop) is) ∙ unfed.0,
+  sink,
+  unfed.1,
+)
+stops-unfed (stop.NotFed end) work old new given script is rules good taken_rules taken sink unfed = (
+  script,
+  record { good = good; rules = rules; taken_rules = taken_rules; taken = taken },
+  sym (ap (λ (text : List ℕ). (script_played work.arena work.slots text).stop) is) ∙ unfed.0,
+  unfed.1,
+  sink,
+)
+stops-unfed stop.Worn work old new given script is rules good taken_rules taken sink unfed = (unfed, sink)
+stops-unfed stop.OutOfMemory work old new given script is rules good taken_rules taken sink unfed = sink
+stops-unfed (stop.BadArena arena) work old new given script is rules good taken_rules taken sink unfed = absurd unfed
+stops-unfed (stop.BadSlots slots) work old new given script is rules good taken_rules taken sink unfed = absurd unfed
+stops-unfed (stop.ConfNotTaken why) work old new given script is rules good taken_rules taken sink unfed = absurd unfed
+stops-unfed (stop.ScriptFault why) work old new given script is rules good taken_rules taken sink unfed = absurd unfed
+stops-unfed stop.SinkFault work old new given script is rules good taken_rules taken sink unfed = absurd unfed
 
 -- all products of the nodes are listed
 whole-texts : (i : ℕ) (queues : List State) → AllByRecursion IsListedWhole queues → listed_texts i queues ≡ nodes_text i queues

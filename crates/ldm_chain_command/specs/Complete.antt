@@ -2,27 +2,33 @@
 use Rattle.std.specs.Prelude.{◌≡◌, ◌⊎◌, ℕ, ◌<◌, List, length, Option, Some, None}
 use Rattle.ldm_outside.specs.Count.{Rose}
 use Rattle.ldm_outside.specs.Store.{File, StoreRecord}
+use Rattle.ldm_class.specs.Rules.{Rules}
 use Rattle.ldm_conf.specs.Confs.{ConfView}
 use Rattle.ldm_conf.specs.Reading.{Read}
 use Rattle.ldm_command_files.specs.ConfFiles.{FileReadsTo}
 use Rattle.ldm_loading.specs.Script.{script_played}
 use Rattle.ldm_loading.specs.declared.whole_script.TheConstants.{LONGEST_SCRIPT}
-use Rattle.ldm_status.specs.Status.{code_of}
-use Rattle.ldm_chain.specs.declared.node.ChainEnd.{ChainEnd}
-use Rattle.ldm_chain.specs.declared.node.ChainEnd.TheVariants as chain_end
 use Rattle.ldm_chain_command.specs.Work.{ChainOutside, ChainWork, IsGoodSize}
-use Rattle.ldm_chain_command.specs.Statuses.{status_of_end}
+use Rattle.ldm_chain_command.specs.Policy.{TakesRules}
+use Rattle.ldm_chain_command.specs.Unfed.{LeavesNothing, LeavesUnmeant}
 
 -- the store tells its files, and the file under the path, where one is given, is a configuration
 abbrev pub HasConf : Option (List ℕ) → StoreRecord → Type 0
 HasConf None store = Unit {0}
 HasConf (Some path) store = ((files : List File) × (store.files ≡ Some files)) × ((conf : ConfView) × FileReadsTo store path (Read conf))
 
--- Nothing hinders a chain: there are such queues; the configuration is one; the source tells a script of fewer bytes than are too many,
--- each line of which is in the grammar; and no count of faults rose.
+-- The rules leave each node some of its class, and each pattern of that means something.
+pub record LeavesAll (rules : Rules) (work : ChainWork) : Type 0 where
+  pub some : ¬ (LeavesNothing rules work)
+  pub meant : ¬ (LeavesUnmeant rules work)
+
+-- Nothing hinders a chain: there are such queues; the configuration is one, and its rules leave each node some of its class, in which each
+-- pattern means something; the source tells a script of fewer bytes than are too many, each line of which is in the grammar; and no count
+-- of faults rose.
 pub record ChainUnhindered (work : ChainWork) (old new : ChainOutside) : Type 0 where
   pub good : IsGoodSize work
   pub conf : HasConf work.conf old.store
+  pub leaves : (rules : Rules) → TakesRules work.conf rules old.store new.store → LeavesAll rules work
   pub script : List ℕ
   pub told : old.streams.source.left ≡ Some script
   pub short : length script < LONGEST_SCRIPT
@@ -32,13 +38,6 @@ pub record ChainUnhindered (work : ChainWork) (old new : ChainOutside) : Type 0 
   pub sink_works : ¬ (Rose old.streams.sink.faults new.streams.sink.faults)
   pub log_works : ¬ (Rose old.streams.log.faults new.streams.log.faults)
 
--- The number is that of an end at which not each node was fed.
-pub record IsUnfed (code : ℕ) : Type 0 where
-  pub end : ChainEnd
-  pub not_done : end ≡ chain_end.Done → ⊥
-  pub code_is : code ≡ code_of (status_of_end end)
-
--- A chain that nothing hinders ends with 0, with 71 for want of memory, with 77 once a queue had all the calls that it can have, or as not
--- each node was fed.
+-- A chain that nothing hinders ends with 0, with 71 for want of memory, or with 77 once a queue had all the calls that it can have.
 abbrev pub ChainCompletes : ChainWork → ℕ → ChainOutside → ChainOutside → Type 0
-ChainCompletes work code old new = ChainUnhindered work old new → (code ≡ 0) ⊎ ((code ≡ 71) ⊎ ((code ≡ 77) ⊎ IsUnfed code))
+ChainCompletes work code old new = ChainUnhindered work old new → (code ≡ 0) ⊎ ((code ≡ 71) ⊎ (code ≡ 77))

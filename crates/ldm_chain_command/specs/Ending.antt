@@ -8,17 +8,16 @@ use Rattle.ldm_model.specs.State.{State}
 use Rattle.ldm_model.specs.History.{after, IsLegal}
 use Rattle.ldm_class.specs.Rules.{Rules}
 use Rattle.ldm_book.specs.Limits.{IsGoodArena, IsGoodSlots}
-use Rattle.ldm_shared.specs.declared.steps.TheConstants.{MOST_TURNS}
 use Rattle.ldm_session.specs.Exchange.{AnsweredAll}
 use Rattle.ldm_loading.specs.WholeScript.{TakesWhole, TakesPart}
 use Rattle.ldm_loading.specs.Script.{script_played}
-use Rattle.ldm_chain.specs.declared.node.ChainEnd.TheVariants as chain_end
 use Rattle.ldm_chain_command.specs.declared.fault.ChainFault.{ChainFault}
 use Rattle.ldm_chain_command.specs.declared.fault.ChainFault.TheVariants as stop
 use Rattle.ldm_chain_command.specs.declared.setup.TheConstants.{LARGEST_CHAIN_ARENA}
 use Rattle.ldm_chain_command.specs.Work.{ChainOutside, ChainWork, IsGoodSize}
 use Rattle.ldm_chain_command.specs.Policy.{TakesNoRules, TakesRules}
 use Rattle.ldm_chain_command.specs.Queues.{chain_queues, nodes_text}
+use Rattle.ldm_chain_command.specs.Unfed.{IsWornOut, UnfedCause}
 
 -- The rules were taken, and then the script, whole.
 pub record HasTaken (work : ChainWork) (script : List ℕ) (old new : ChainOutside) : Type 0 where
@@ -44,12 +43,6 @@ pub record Chains (work : ChainWork) (queues : List State) (old new : ChainOutsi
   pub answered : AnsweredAll instants old.clock new.clock
   pub queues_are : queues ≡ chain_queues taken.rules work script instants
   pub queues_legal : AllByRecursion (IsLegalQueue work) queues
-
--- A queue has had all the calls that it can have.
-pub record IsWornOut (arena slots : ℕ) : Type 0 where
-  pub history : List Entry
-  pub legal : IsLegal arena slots history
-  pub all_calls : length history ≡ MOST_TURNS
 
 -- Nothing was read and nothing was written, the log apart, and the clock was not asked.
 pub record IsUntouched (old new : ChainOutside) : Type 0 where
@@ -77,10 +70,10 @@ ChainStops (stop.BadLine line column) work old new =
     × (new.streams.sink ≡ old.streams.sink) × (new.clock ≡ old.clock)
 -- the first queue has had all its calls
 ChainStops stop.Worn work old new = IsWornOut work.arena work.slots × (new.streams.sink ≡ old.streams.sink)
--- not each node was fed
+-- not each node was fed, which has its cause under the rules that were taken
 ChainStops (stop.NotFed end) work old new =
-    (script : List ℕ) × HasTaken work script old new × ((script_played work.arena work.slots script).stop ≡ None)
-    × (end ≡ chain_end.Done → ⊥) × (new.streams.sink ≡ old.streams.sink)
+    (script : List ℕ) × (taken : HasTaken work script old new) × ((script_played work.arena work.slots script).stop ≡ None)
+    × UnfedCause end taken.rules work × (new.streams.sink ≡ old.streams.sink)
 -- the sink failed, and a front of the text was written
 ChainStops stop.SinkFault work old new =
     (queues : List State) × Chains work queues old new × Rose old.streams.sink.faults new.streams.sink.faults

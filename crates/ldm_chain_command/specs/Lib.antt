@@ -2,6 +2,7 @@ pub mod Faults
 pub mod Work
 pub mod Policy
 pub mod Queues
+pub mod Unfed
 pub mod Ending
 pub mod Statuses
 pub mod Run

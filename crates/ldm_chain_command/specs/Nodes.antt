@@ -10,7 +10,6 @@ use Rattle.ldm_shared.specs.Passes.{new_pass}
 use Rattle.ldm_session.specs.Exchange.{AnsweredAll}
 use Rattle.ldm_sole_reader.specs.OnePass.{IsOnlyPass, state_of}
 use Rattle.ldm_loading.specs.Script.{script_played}
-use Rattle.ldm_chain.specs.declared.node.ChainEnd.TheVariants as chain_end
 use Rattle.ldm_chain.specs.declared.node.ChainNode.{ChainNode}
 use Rattle.ldm_chain.specs.Nodes.{IsNode}
 use Rattle.ldm_chain_command.specs.declared.fault.ChainFault.{ChainFault}
@@ -18,7 +17,7 @@ use Rattle.ldm_chain_command.specs.declared.fault.ChainFault.TheVariants as stop
 use Rattle.ldm_chain_command.specs.declared.setup.TheConstants.{LARGEST_CHAIN_ARENA}
 use Rattle.ldm_chain_command.specs.Work.{ChainWork}
 use Rattle.ldm_chain_command.specs.Queues.{chain_queues, first_queue}
-use Rattle.ldm_chain_command.specs.Ending.{IsWornOut}
+use Rattle.ldm_chain_command.specs.Unfed.{IsWornOut, UnfedCause}
 
 -- ---- sizes
 
@@ -91,12 +90,12 @@ pub record AreFed (work : ChainWork) (rules : Rules) (script : List ℕ) (nodes 
   pub queues : map queue_of nodes ≡ chain_queues rules work script instants
 
 -- why not all were fed
-abbrev pub AreNotFed : ChainFault → ChainWork → List ℕ → ClockRecord → ClockRecord → Type 0
-AreNotFed (stop.BadLine line column) work script old new = ((script_played work.arena work.slots script).stop ≡ Some (record { line = line; column = column })) × (new ≡ old)
-AreNotFed stop.Worn work script old new = IsWornOut work.arena work.slots
-AreNotFed (stop.NotFed end) work script old new = ((script_played work.arena work.slots script).stop ≡ None) × (end ≡ chain_end.Done → ⊥)
-AreNotFed stop.OutOfMemory work script old new = Unit {0}
-AreNotFed _ work script old new = ⊥
+abbrev pub AreNotFed : ChainFault → ChainWork → Rules → List ℕ → ClockRecord → ClockRecord → Type 0
+AreNotFed (stop.BadLine line column) work rules script old new = ((script_played work.arena work.slots script).stop ≡ Some (record { line = line; column = column })) × (new ≡ old)
+AreNotFed stop.Worn work rules script old new = IsWornOut work.arena work.slots
+AreNotFed (stop.NotFed end) work rules script old new = ((script_played work.arena work.slots script).stop ≡ None) × UnfedCause end rules work
+AreNotFed stop.OutOfMemory work rules script old new = Unit {0}
+AreNotFed _ work rules script old new = ⊥
 
 -- why the first node was not made
 abbrev pub IsNotFirst : ChainFault → ℕ → ℕ → List ℕ → Type 0

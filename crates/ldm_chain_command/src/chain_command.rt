@@ -63,8 +63,8 @@ fn feed_and_write<H: Wait, S: Source, K: Sink, C: Clock, F: Store>(
 ///
 /// The sizes are looked at first, then the configuration is taken, and then the script, whole. Nothing is written unless each node was
 /// fed. The clause `ends` gives each status its cause, and what was read and written then: see `RunsChain`. The clause `law` says that the
-/// queues that are written obey the law of the queue: see `ChainWritesLawful`. The clause `completes` says when all is written: see
-/// `ChainUnhindered`.
+/// queues that are written obey the law of the queue: see `ChainWritesLawful`. The clause `completes` says when each node is fed and all
+/// is written: see `ChainUnhindered`.
 pub fn run_chain<H: Wait, S: Source, K: Sink, E: Sink, C: Clock, F: Store>(
     rt: &H,
     alloc: Global,

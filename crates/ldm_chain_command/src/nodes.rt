@@ -139,7 +139,7 @@ pub fn fed_nodes<H: Wait, C: Clock>(
     requires few { length setup.classes.items ≤ 7 }
     requires short { length script.now ≤ LONGEST_SCRIPT }
     ensures fed { IfOk result (λ nodes. AreFed (work_of setup.entry) policy.now script.now nodes.items (C.tells clock.old) (C.tells clock.new)) }
-    ensures unfed { IfErr result (λ why. AreNotFed why (work_of setup.entry) script.now (C.tells clock.old) (C.tells clock.new)) }
+    ensures unfed { IfErr result (λ why. AreNotFed why (work_of setup.entry) policy.now script.now (C.tells clock.old) (C.tells clock.new)) }
 {
     let ChainSetup {
         conf: _,

@@ -1,9 +1,9 @@
-use Rattle.std.proofs.Common.{◌∙◌, ℕ, List, map, subst}
+use Rattle.std.proofs.Common.{◌∙◌, ℕ, List, map, refl, subst}
 use Rattle.std.proofs.lemmas.Result.{err_from_is_err_and}
 use Rattle.ldm_outside.specs.Io.{Takes, WritesFront}
 use Rattle.ldm_chain_command.specs.Work.{ChainOutside, IsGoodSize, work_of}
 use Rattle.ldm_chain_command.specs.Nodes.{queue_of}
-use Rattle.ldm_chain_command.proofs.RanLemmas.{chains-of, text-is}
+use Rattle.ldm_chain_command.proofs.RanLemmas.{chains-of, stops-unfed, text-is}
 use Rattle.ldm_chain_command.proofs.chain_command.feed_and_write.Goals as goal
 
 pub returns-in_err-write_all-clause-ends : goal.returns-in_err-write_all-clause-ends
@@ -56,3 +56,23 @@ returns-clause-ends g c = λ log_before log_after.
       subst (λ (t : List ℕ). Takes old.streams.sink t new.streams.sink) (c.as_slice-2.ensures.value ∙ c.in_ok-text.ensures.text ∙ text-is work old new nodes chains)
           c.in_ok-write_all.ensures.written,
     )
+
+pub returns-in_err-nodes-clause-ends : goal.returns-in_err-nodes-clause-ends
+returns-in_err-nodes-clause-ends g c = λ log_before log_after.
+    let p = err_from_is_err_and c.from_residual-in_err-nodes.result c.from_residual-in_err-nodes.ensures.1 in
+    let work = work_of c.args.setup in
+    let old : ChainOutside = record {
+      streams = record { source = g.S.Source.tells c.args.source.now; sink = g.K.Sink.tells c.args.sink.now; log = log_before };
+      clock = g.C.Clock.tells c.args.clock.now;
+      store = g.F.Store.tells c.args.store.now;
+    } in
+    let new : ChainOutside = record {
+      streams = record { source = g.S.Source.tells c.take_script.new.source; sink = g.K.Sink.tells c.args.sink.now; log = log_after };
+      clock = g.C.Clock.tells c.fed_nodes.new.clock;
+      store = g.F.Store.tells c.take_policy.new.store;
+    } in
+    let sizes = c.in_ok-check_sizes.ensures.good in
+    let good : IsGoodSize work = record { arena = sizes.0; most = sizes.1; slots = sizes.2 } in
+    rw (p.1, p.2)
+    (stops-unfed c.in_err-nodes.field-0.0 work old new c.as_slice.result.now c.in_ok-script.script.items c.as_slice.ensures.value c.in_ok-policy.policy good
+    c.in_ok-policy.ensures.taken c.in_ok-script.ensures.whole refl c.in_err-nodes.ensures.unfed)

@@ -5,6 +5,7 @@ use Rattle.ldm_chain.specs.declared.node.ChainNode.{ChainNode}
 use Rattle.ldm_chain_command.specs.Work.{work_of}
 use Rattle.ldm_chain_command.specs.Nodes.{AreFed}
 use Rattle.ldm_chain_command.proofs.NodeLemmas.{are-fed, asks, asks-few}
+use Rattle.ldm_chain_command.proofs.UnfedLemmas.{unfed}
 use Rattle.ldm_chain_command.proofs.nodes.fed_nodes.Goals as goal
 
 pub chain-requires-clause-nodes : goal.chain-requires-clause-nodes
@@ -40,3 +41,11 @@ returns-in-Done-clause-fed g c =
     c.remove-first.ensures.items
     ∙ ap (λ (ns : List ChainNode). remove ns 0) (take_at news _ c.in_ok-nodes.nodes.len (omega (arith, c.chain.auto.nodes, c.as_mut_slice.ensures.len))) in
     subst (λ (ns : List ChainNode). AreFed work c.args.policy.now c.args.script.now ns before behind) (sym left) fed
+
+pub returns-in_default-clause-unfed : goal.returns-in_default-clause-unfed
+returns-in_default-clause-unfed g c =
+    let made = c.in_ok-nodes.ensures in (
+      c.in_ok-first.ensures.first.played,
+      unfed c.args.policy.now (work_of c.args.setup) c.chain.result c.args.script.now c.in_ok-first.first made.0 c.as_mut_slice.result.now c.chain.new.nodes
+          (c.as_mut_slice.ensures.value ∙ made.1) c.chain.ensures.kept made.2 c.in_ok-first.ensures.first c.chain.ensures.cause c.in_default.not-Done,
+    )

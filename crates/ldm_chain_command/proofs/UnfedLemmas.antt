@@ -1,0 +1,159 @@
+-- Why not each node was fed: for `UnfedCause`.
+use Rattle.std.proofs.Common.{◌≡◌, ◌∙◌, ℕ, ◌+◌, List, [], ◌∷◌, ◌++◌, length, Some, inl, inr, refl, ap, sym, subst, append_assoc, length-append}
+use Rattle.std.specs.Prelude.{◌⊎◌, slice_get}
+use Rattle.ldm_types.specs.declared.class.ClassSpec.{ClassSpec}
+use Rattle.ldm_model.specs.State.{Queued, State, empty}
+use Rattle.ldm_model.specs.History.{IsLegal, after}
+use Rattle.ldm_model.specs.declared.event.Entry.{Entry}
+use Rattle.ldm_model.specs.Insert.{insert}
+use Rattle.ldm_class.specs.Rules.{Rules}
+use Rattle.ldm_shared.specs.Passes.{IsSamePass, PassView}
+use Rattle.ldm_intake.specs.declared.end.RecvEnd.{RecvEnd}
+use Rattle.ldm_intake.specs.declared.end.RecvEnd.TheVariants as received
+use Rattle.ldm_sender.specs.declared.end.SendEnd.{SendEnd}
+use Rattle.ldm_sender.specs.declared.end.SendEnd.TheVariants as fed
+use Rattle.ldm_sole_reader.specs.OnePass.{state_of}
+use Rattle.ldm_listing.specs.Listing.{listed}
+use Rattle.ldm_loading.specs.Putting.{inserted_all}
+use Rattle.ldm_loading.specs.Script.{script_played}
+use Rattle.ldm_chain.specs.declared.node.ChainEnd.{ChainEnd}
+use Rattle.ldm_chain.specs.declared.node.ChainEnd.TheVariants as chain_end
+use Rattle.ldm_chain.specs.declared.node.ChainNode.{ChainNode}
+use Rattle.ldm_chain.specs.Causes as chained
+use Rattle.ldm_chain.specs.Causes.{AreAllTaken, CauseAt, CauseBehind, CauseEach, CausesAll, HadAllCalls, IsDenied}
+use Rattle.ldm_chain.specs.Linking.{asked_by, host_name}
+use Rattle.ldm_chain.specs.Nodes.{KeepsNodes}
+use Rattle.ldm_chain.proofs.Cursors.{insert-taken, taken-same, taken_places}
+use Rattle.ldm_chain.proofs.NodeCauses.{refused-by}
+use Rattle.ldm_chain_command.specs.Work.{ChainWork}
+use Rattle.ldm_chain_command.specs.Queues.{first_queue}
+use Rattle.ldm_chain_command.specs.Unfed.{AsksFor, FeedCause, IsWornOut, LeavesNothing, ReceiveCause, UnfedCause}
+use Rattle.ldm_chain_command.specs.Nodes.{AreNew, IsFirst, IsNew}
+
+-- ---- cursors
+
+-- a queue before its first call has no cursor
+none-taken : (arena slots : ℕ) → AreAllTaken (empty arena slots) → ⊥
+none-taken arena slots all = cc all
+
+inserted-taken : (qs : List Queued) (s : State) → taken_places (inserted_all qs s) ≡ taken_places s
+inserted-taken [] s = refl
+inserted-taken (q ∷ behind) s = inserted-taken behind (insert s q.time q.product).state ∙ insert-taken s q.time q.product
+
+-- nor has the first one, which only took products
+first-not_taken : (arena slots : ℕ) (script : List ℕ) → AreAllTaken (first_queue arena slots script) → ⊥
+first-not_taken arena slots script all =
+    let qs = listed (script_played arena slots script).playing.state in
+    none-taken arena slots (taken-same (first_queue arena slots script) (empty arena slots) (inserted-taken qs (empty arena slots)) all)
+
+-- ---- one node
+
+-- the pass is of a queue of that size
+record IsSized (work : ChainWork) (pass : PassView) : Type 0 where
+  arena : pass.arena ≡ work.arena
+  slots : pass.slots ≡ work.slots
+
+same-sized : (work : ChainWork) (old new : PassView) → IsSized work old → IsSamePass old new → IsSized work new
+same-sized work old new sized same = record {
+  arena = ap (λ (p : PassView). p.arena) same ∙ sized.arena;
+  slots = ap (λ (p : PassView). p.slots) same ∙ sized.slots;
+}
+
+worn-of : (work : ChainWork) (pass : PassView) → IsSized work pass → HadAllCalls pass → IsWornOut work.arena work.slots
+worn-of work pass sized had = record {
+  history = pass.seen;
+  legal = subst (λ (a : ℕ). IsLegal a work.slots pass.seen) sized.arena (subst (λ (n : ℕ). IsLegal pass.arena n pass.seen) sized.slots had.legal);
+  all_calls = had.all;
+}
+
+module _ (rules : Rules) (work : ChainWork) (i max_hereis : ℕ) (class : ClassSpec) (asks : AsksFor work i class) (found from to : PassView) (sized : IsSized work from)
+    (sized_too : IsSized work to) (free : AreAllTaken (state_of found) → ⊥) where
+  denied-at : IsDenied (asked_by (host_name i) rules 1 class max_hereis) ⊎ AreAllTaken (state_of found) → LeavesNothing rules work
+  denied-at (inl denied) = record { node = i; class = class; asks = asks; rule = denied.0; left = denied.1 }
+  denied-at (inr taken) = absurd (free taken)
+
+  received-at : (end : RecvEnd) → chained.ReceiveCause end (asked_by (host_name i) rules 1 class max_hereis) found from to → ReceiveCause end rules work
+  received-at (received.Refused answer) cause = denied-at (refused-by answer (asked_by (host_name i) rules 1 class max_hereis) found from cause)
+  received-at (received.BadFrame at) cause = record { node = i; class = class; asks = asks; fewer = cause.fewer; left = cause.left; bad = cause.bad }
+  received-at received.Worn cause = worn-of work to sized_too cause
+  received-at received.Ended cause = absurd cause
+  received-at (received.Truncated at) cause = absurd cause
+  received-at received.LinkFault cause = absurd cause
+  received-at received.LogFault cause = absurd cause
+  received-at received.StreamLimit cause = absurd cause
+  received-at received.OutOfMemory cause = absurd cause
+
+  fed-at : (end : SendEnd) → chained.FeedCause end from → FeedCause end work
+  fed-at fed.Worn cause = worn-of work from sized cause
+  fed-at fed.OutOfMemory cause = tt
+  fed-at fed.Stopped cause = absurd cause
+  fed-at fed.Reclassed cause = absurd cause
+  fed-at (fed.Denied rule) cause = absurd cause
+  fed-at (fed.PeerEnd at) cause = absurd cause
+  fed-at fed.LinkFault cause = absurd cause
+  fed-at fed.LogFault cause = absurd cause
+  fed-at (fed.BadReply at) cause = absurd cause
+  fed-at fed.AllBusy cause = absurd cause
+
+  unfed-at : (end : ChainEnd) → CauseAt end (asked_by (host_name i) rules 1 class max_hereis) found from to → UnfedCause end rules work
+  unfed-at chain_end.Done cause = absurd cause
+  unfed-at (chain_end.Feed end) cause = fed-at end cause
+  unfed-at (chain_end.Receive end) cause = received-at end cause
+  unfed-at chain_end.OutOfMemory cause = tt
+
+-- ---- all nodes
+
+class-behind : (front : List ClassSpec) (class : ClassSpec) (behind : List ClassSpec) → slice_get (front ++ class ∷ behind) (length front) ≡ Some class
+class-behind [] class behind = refl
+class-behind (first ∷ front) class behind = class-behind front class behind
+
+new-sized : (work : ChainWork) (class : ClassSpec) (node : ChainNode) → IsNew work.arena work.slots work.max_hereis class node → IsSized work node.pass
+new-sized work class node new = record { arena = new.of.arena ∙ new.arena_is; slots = new.of.slots ∙ new.slots_is }
+
+new-not_taken : (work : ChainWork) (class : ClassSpec) (node : ChainNode) → IsNew work.arena work.slots work.max_hereis class node → AreAllTaken (state_of node.pass) → ⊥
+new-not_taken work class node new all =
+    let uncalled : node.pass.seen ≡ [] = ap (λ (p : PassView). p.seen) new.pass in
+    none-taken node.pass.arena node.pass.slots (subst (λ (seen : List Entry). AreAllTaken (after node.pass.arena node.pass.slots seen)) uncalled all)
+
+module _ (rules : Rules) (work : ChainWork) (end : ChainEnd) where
+  each-unfed : (front classes : List ClassSpec) → front ++ classes ≡ work.classes → (found from : PassView) (olds news : List ChainNode) → IsSized work from
+      → (AreAllTaken (state_of found) → ⊥) → AreNew work.arena work.slots work.max_hereis classes olds → KeepsNodes olds news
+      → CauseEach (length front + 1) rules end found from olds news → UnfedCause end rules work
+  each-unfed front [] is found from [] [] sized free new kept cause = absurd cause
+  each-unfed front [] is found from [] (now ∷ news) sized free new kept cause = absurd cause
+  each-unfed front [] is found from (old ∷ olds) news sized free new kept cause = absurd new
+  each-unfed front (class ∷ classes) is found from [] news sized free new kept cause = absurd new
+  each-unfed front (class ∷ classes) is found from (old ∷ olds) [] sized free new kept cause = absurd cause
+  each-unfed front (class ∷ classes) is found from (old ∷ olds) (now ∷ news) sized free new kept (inl here) =
+      let i = length front + 1 in
+      let at : slice_get work.classes (length front) ≡ Some class = ap (λ (cs : List ClassSpec). slice_get cs (length front)) (sym is) ∙ class-behind front class classes in
+      let sized_old = new-sized work class old new.0 in
+      unfed-at rules work i old.max_hereis class (length front, refl, at) found from now.pass sized (same-sized work old.pass now.pass sized_old kept.0.pass) free end
+      (subst (λ (c : ClassSpec). CauseAt end (asked_by (host_name i) rules 1 c old.max_hereis) found from now.pass) new.0.class_is here)
+  each-unfed front (class ∷ classes) is found from (old ∷ olds) (now ∷ news) sized free new kept (inr behind) =
+      let more : length (front ++ class ∷ []) ≡ length front + 1 = length-append front (class ∷ []) in
+      let sized_now = same-sized work old.pass now.pass (new-sized work class old new.0) kept.0.pass in
+      each-unfed (front ++ class ∷ []) classes (append_assoc front (class ∷ []) classes ∙ is) old.pass now.pass olds news sized_now (new-not_taken work class old new.0) new.1 kept.1
+      (subst (λ (n : ℕ). CauseEach (n + 1) rules end old.pass now.pass olds news) (sym more) behind)
+
+  behind-of : (olds news : List ChainNode) → (end ≡ chain_end.Done → ⊥) → CausesAll 1 rules end olds news → CauseBehind 1 rules end olds news
+  behind-of olds news unlike causes = by end refl causes
+    where
+      by : (how : ChainEnd) → end ≡ how → CausesAll 1 rules how olds news → CauseBehind 1 rules end olds news
+      by chain_end.Done is cause = absurd (unlike is)
+      by (chain_end.Feed how) is cause = subst (λ (e : ChainEnd). CauseBehind 1 rules e olds news) (sym is) cause
+      by (chain_end.Receive how) is cause = subst (λ (e : ChainEnd). CauseBehind 1 rules e olds news) (sym is) cause
+      by chain_end.OutOfMemory is cause = subst (λ (e : ChainEnd). CauseBehind 1 rules e olds news) (sym is) cause
+
+  -- not each node was fed
+  pub unfed : (script : List ℕ) (first : ChainNode) (others olds news : List ChainNode) → olds ≡ first ∷ others → KeepsNodes olds news
+      → AreNew work.arena work.slots work.max_hereis work.classes others → IsFirst work.arena work.slots script first → CausesAll 1 rules end olds news
+      → (end ≡ chain_end.Done → ⊥) → UnfedCause end rules work
+  unfed script first others olds [] is kept new is_first causes unlike = absurd (subst (λ (ns : List ChainNode). KeepsNodes ns []) is kept)
+  unfed script first others olds (now ∷ news) is kept new is_first causes unlike =
+      let here : KeepsNodes (first ∷ others) (now ∷ news) = subst (λ (ns : List ChainNode). KeepsNodes ns (now ∷ news)) is kept in
+      let each : CauseBehind 1 rules end (first ∷ others) (now ∷ news) =
+      subst (λ (ns : List ChainNode). CauseBehind 1 rules end ns (now ∷ news)) is (behind-of olds (now ∷ news) unlike causes) in
+      let sized : IsSized work first.pass = record { arena = is_first.arena_is; slots = is_first.slots_is } in
+      each-unfed [] work.classes refl first.pass now.pass others news (same-sized work first.pass now.pass sized here.0.pass)
+      (λ all. first-not_taken work.arena work.slots script (subst AreAllTaken is_first.state all)) new here.1 each

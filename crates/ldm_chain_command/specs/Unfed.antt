@@ -1,0 +1,65 @@
+-- Why not each node was fed, in terms of the classes that the nodes ask for and of the rules.
+use Rattle.std.specs.Prelude.{◌≡◌, ℕ, ◌+◌, false, List, length, Some, IsSome, slice_get}
+use Rattle.ldm_types.specs.declared.class.ClassSpec.{ClassSpec}
+use Rattle.ldm_model.specs.declared.event.Entry.{Entry}
+use Rattle.ldm_model.specs.History.{IsLegal}
+use Rattle.ldm_class.specs.Access.{reduce}
+use Rattle.ldm_class.specs.Classes.{bad_place}
+use Rattle.ldm_class.specs.Rules.{Rules, rules_for}
+use Rattle.ldm_class.specs.declared.answers.Reduced.TheVariants.{Fewer, Nothing}
+use Rattle.ldm_shared.specs.declared.steps.TheConstants.{MOST_TURNS}
+use Rattle.ldm_intake.specs.declared.end.RecvEnd.{RecvEnd}
+use Rattle.ldm_intake.specs.declared.end.RecvEnd.TheVariants as received
+use Rattle.ldm_sender.specs.declared.end.SendEnd.{SendEnd}
+use Rattle.ldm_sender.specs.declared.end.SendEnd.TheVariants as fed
+use Rattle.ldm_chain.specs.declared.node.ChainEnd.{ChainEnd}
+use Rattle.ldm_chain.specs.declared.node.ChainEnd.TheVariants as chain_end
+use Rattle.ldm_chain.specs.Linking.{host_name}
+use Rattle.ldm_chain_command.specs.Work.{ChainWork}
+
+-- A queue has had all the calls that it can have.
+pub record IsWornOut (arena slots : ℕ) : Type 0 where
+  pub history : List Entry
+  pub legal : IsLegal arena slots history
+  pub all_calls : length history ≡ MOST_TURNS
+
+-- the node of that number asks for the class
+abbrev pub AsksFor : ChainWork → ℕ → ClassSpec → Type 0
+AsksFor work node class = (at : ℕ) × (node ≡ at + 1) × (slice_get work.classes at ≡ Some class)
+
+-- The rules leave a node nothing of its class.
+pub record LeavesNothing (rules : Rules) (work : ChainWork) : Type 0 where
+  pub node : ℕ
+  pub class : ClassSpec
+  pub asks : AsksFor work node class
+  pub rule : ℕ
+  pub left : reduce (rules_for false rules) (host_name node) class ≡ Nothing rule
+
+-- The rules leave a node a part of its class, and a pattern in it means nothing.
+pub record LeavesUnmeant (rules : Rules) (work : ChainWork) : Type 0 where
+  pub node : ℕ
+  pub class : ClassSpec
+  pub asks : AsksFor work node class
+  pub fewer : ClassSpec
+  pub left : reduce (rules_for false rules) (host_name node) class ≡ Fewer fewer
+  pub bad : IsSome (bad_place fewer.specs.items)
+
+-- the feeder of a node ended so
+abbrev pub FeedCause : SendEnd → ChainWork → Type 0
+FeedCause fed.Worn work = IsWornOut work.arena work.slots
+FeedCause fed.OutOfMemory work = Unit {0}
+FeedCause _ work = ⊥
+
+-- the receiver of a node ended so
+abbrev pub ReceiveCause : RecvEnd → Rules → ChainWork → Type 0
+ReceiveCause (received.Refused answer) rules work = LeavesNothing rules work
+ReceiveCause (received.BadFrame at) rules work = LeavesUnmeant rules work
+ReceiveCause received.Worn rules work = IsWornOut work.arena work.slots
+ReceiveCause _ rules work = ⊥
+
+-- not each node was fed, and it ended so
+abbrev pub UnfedCause : ChainEnd → Rules → ChainWork → Type 0
+UnfedCause chain_end.Done rules work = ⊥
+UnfedCause (chain_end.Feed end) rules work = FeedCause end work
+UnfedCause (chain_end.Receive end) rules work = ReceiveCause end rules work
+UnfedCause chain_end.OutOfMemory rules work = Unit {0}
