@@ -26,8 +26,8 @@ abbrev pub ended_by : SendEnd → Option Break
 ended_by end.Stopped = None
 ended_by why = Some (broken.Feed why)
 
--- A mirror fails a send where its receiver is over or where it has no room for more, and nothing else of what a feeding is lent within one
--- process fails. So where the receiver goes on, or is over by what it was told, it is the room that was wanting.
+-- A mirror fails where its receiver is over or where it has no room for more, and nothing else of what a feeding is lent within one process
+-- fails. So where the receiver goes on it is the room that was wanting.
 abbrev pub broken_off : SendEnd → Break
 broken_off end.LinkFault = broken.OutOfMemory
 broken_off why = broken.Feed why
@@ -38,7 +38,8 @@ by_feeder (Some (broken.Feed why)) = Some (broken_off why)
 by_feeder (Some (broken.Receive over)) = Some (broken.Receive over)
 by_feeder (Some broken.OutOfMemory) = Some broken.OutOfMemory
 
--- The receiver ended by what it was told. Its feeder has done then all that there was to do, and one that has not says why.
+-- The receiver ended by what it was told. Its feeder has done then all that there was to do; the end of one that could not go on counts, since
+-- that says nothing of what it told. This does not come.
 abbrev pub by_told_of : RecvEnd → SendEnd → Break
 by_told_of over end.LinkFault = broken_off end.LinkFault
 by_told_of over end.LogFault = broken_off end.LogFault

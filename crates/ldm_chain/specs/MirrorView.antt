@@ -27,13 +27,13 @@ pub record MirrorView : Type 0 where
 abbrev pub told_by_mirror : MirrorView → LinkRecord
 told_by_mirror m = record { passed = Some m.passed; left = None; ends = 0; faults = m.faults; closed = m.closed }
 
--- What one call of `recv` did, with a buffer of that room: it gave all that it may of what waits.
+-- What one call of `recv` did, with a buffer of that room: it gave all that it may of what waits; or nothing waits, and the receiver is over.
 abbrev pub RecvsFrom : Got → ℕ → MirrorView → MirrorView → Type 0
 RecvsFrom (Bytes n) room old new =
     (n ≡ min (length old.waiting) room)
     × (new ≡ record old { passed = then_all way.Given (take n old.waiting) old.passed; waiting = drop n old.waiting })
 RecvsFrom End room old new = ⊥
-RecvsFrom Failed room old new = ⊥
+RecvsFrom Failed room old new = (old.waiting ≡ []) × IsSome old.receiver.end × (new ≡ record old { faults = raised old.faults })
 
 -- it was sent so much that it has no room for the piece
 abbrev pub HasNoRoom : List ℕ → MirrorView → Type 0

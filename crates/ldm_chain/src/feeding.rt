@@ -173,8 +173,8 @@ fn feed_class<H: Wait, B: Begun>(
     )
 }
 
-// How a feeder ends a chain that could not go on. A mirror fails a send where its receiver is over, which decides before, or where it
-// has no room for more.
+// How a feeder ends a chain that could not go on. A mirror fails where its receiver is over, which decides before, or where it has no
+// room for more.
 fn broken_off(end: FeedEnd) -> Break
     ensures { result ≡ broken_off end }
 {
@@ -194,8 +194,8 @@ fn by_feeder(fed: Option<Break>) -> Option<Break>
     }
 }
 
-// How a node's feeding ends a chain whose receiver ended by what it was told. A feeder that has told all is behind it; of one that
-// could not go on nothing is known of what it told, so that one decides.
+// How a node's feeding ends a chain whose receiver ended by what it was told. A feeder has done then all that there was to do. One that
+// could not go on would say nothing of what it told, so that its end would count; this does not come.
 fn by_told_of(over: RecvEnd, end: FeedEnd) -> Break
     ensures { result ≡ by_told_of over end }
 {

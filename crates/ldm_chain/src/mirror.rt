@@ -51,9 +51,11 @@ pub struct Returned<'a> {
 /// replies is what it gives.
 ///
 /// A send in whose push the receiver ends takes its piece; each later one fails. So does a send of more than there is room for: a
-/// mirror takes fewer bytes than a stream may have, in all. Who receives where no reply waits waits for ever, as on a link whose
-/// peer has no more to say: a feeder asks only where a reply is owed, and the receiver replied when it took the announcement. That
-/// a feeder therefore never waits is not proved. What is logged is forgotten.
+/// mirror takes fewer bytes than a stream may have, in all. What is logged is forgotten.
+///
+/// Where no reply waits, receiving fails if the receiver is over. Else it waits for ever, as on a link whose peer has no more to say:
+/// a feeder asks only where a reply is owed, and a receiver that goes on replied when it took the announcement. That a feeder
+/// therefore never waits is not proved.
 #[derive(Drop)]
 pub struct Mirror<'a, 'p, H, B: Begun> {
     rt: &'a H,
@@ -184,7 +186,11 @@ impl<'a, 'p, H: Wait, B: Begun> Link for Mirror<'a, 'p, H, B> {
     {
         let waiting = &self.replies[self.read..];
         if waiting.is_empty() {
-            wait_for_ever(self.rt)
+            if self.over.is_none() {
+                wait_for_ever(self.rt)
+            }
+            self.faults = self.faults.saturating_add(1);
+            return Got::Failed;
         }
         let n = copy_front(waiting, into);
         self.told = self.told.then(&Passing::Given(&waiting[..n]));

@@ -3,8 +3,8 @@ use Rattle.std.proofs.lemmas.List.{take_rest}
 use Rattle.ldm_chain.proofs.Mirroring.{reads-front, sent-kept}
 use Rattle.ldm_chain.proofs.mirror.MirrorLink.recv.Goals as goal
 
-pub invariant_of-self : goal.invariant_of-self
-invariant_of-self g c =
+pub invariant_of-self-2 : goal.invariant_of-self-2
+invariant_of-self-2 g c =
     let i = c.self.invariant in
     let s = c.self.inside in
     let told = rw (take_rest, c.deref.ensures.value) at c.then-self-inside.ensures in
