@@ -278,7 +278,7 @@ fn idles_for<G: Gate>(rt: HostRuntime, gate: &mut G) -> u64 {
     ask(&mut clock).get().saturating_sub(before)
 }
 
-// Whether one of some idle calls is short, each of which comes after bytes came over the link.
+// Whether an idle call is short that comes after bytes came over the link.
 fn is_cut_short<F: Link, T: Link, G: Gate>(
     rt: HostRuntime,
     from: &mut F,
@@ -287,15 +287,12 @@ fn is_cut_short<F: Link, T: Link, G: Gate>(
 ) -> bool
     requires from { IsNotClosed (F.tells from.old) }
     requires to { IsNotClosed (T.tells to.old) }
+    ensures from { IsNotClosed (F.tells from.new) }
+    ensures to { IsNotClosed (T.tells to.new) }
 {
-    for _ in 0..20 {
-        let _ = from.send(b"a");
-        let _ = listen(to);
-        if idles_for(rt, gate) < 45_000 {
-            return true;
-        }
-    }
-    false
+    let _ = from.send(b"a");
+    let _ = listen(to);
+    idles_for(rt, gate) < 45_000
 }
 
 // A station of a net that let a peer in: its gate sleeps its whole time, but where bytes came.
@@ -315,7 +312,11 @@ fn busy(rt: HostRuntime, trial: &mut Trial) {
     };
     let slept = idles_for(rt, &mut station.gate) >= 45_000;
     tell_word(trial, if slept { "slept" } else { "awake" });
-    let is_short = is_cut_short(rt, &mut peer, &mut link, &mut station.gate);
+    // a machine with much other work may be slow to wake it
+    let is_short = is_cut_short(rt, &mut peer, &mut link, &mut station.gate)
+        || is_cut_short(rt, &mut peer, &mut link, &mut station.gate)
+        || is_cut_short(rt, &mut peer, &mut link, &mut station.gate)
+        || is_cut_short(rt, &mut peer, &mut link, &mut station.gate);
     tell_word(trial, if is_short { "awake" } else { "slept" });
 }
 
