@@ -15,6 +15,8 @@ use Rattle.ldm_loading.specs.Script.{script_played}
 use Rattle.ldm_loading.specs.declared.whole_script.TheConstants.{LONGEST_SCRIPT}
 use Rattle.ldm_loading.specs.declared.whole_script.ScriptFault.TheVariants as untaken
 use Rattle.ldm_class.specs.Rules.{Rules}
+use Rattle.ldm_relay.specs.declared.message.ClassAnswer.{ClassAnswer}
+use Rattle.ldm_relay.specs.declared.message.ClassAnswer.TheVariants as class_answer
 use Rattle.ldm_intake.specs.declared.end.RecvEnd.{RecvEnd}
 use Rattle.ldm_intake.specs.declared.end.RecvEnd.TheVariants as received
 use Rattle.ldm_sender.specs.declared.end.SendEnd.{SendEnd}
@@ -27,7 +29,7 @@ use Rattle.ldm_chain_command.specs.Work.{ChainOutside, ChainWork}
 use Rattle.ldm_chain_command.specs.Policy.{NotTakenCompletes, TakesNoRules, UntakenCompletes}
 use Rattle.ldm_chain_command.specs.Ending.{ChainEnds, ChainStops}
 use Rattle.ldm_chain_command.specs.Statuses.{status_of_chain, status_of_end, status_of_fed, status_of_received, status_of_stop}
-use Rattle.ldm_chain_command.specs.Unfed.{FeedCause, ReceiveCause, UnfedCause}
+use Rattle.ldm_chain_command.specs.Unfed.{FeedCause, ReceiveCause, RefusedCause, UnfedCause}
 use Rattle.ldm_chain_command.specs.Complete.{ChainUnhindered, HasConf, LeavesAll}
 
 -- the status where it can stop nonetheless
@@ -36,9 +38,16 @@ IsFree ending = (ending ≡ status.NoMemory) ⊎ (ending ≡ status.Worn)
 
 -- not each node was fed
 module _ (rules : Rules) (work : ChainWork) (leaves : LeavesAll rules work) where
+  denied-free : (answer : ClassAnswer) → RefusedCause answer rules work → ⊥
+  denied-free class_answer.Denied cause = leaves.some cause
+  denied-free class_answer.Busy cause = cause
+  denied-free class_answer.Ok cause = cause
+  denied-free (class_answer.Reclass fewer) cause = cause
+  denied-free class_answer.BadPattern cause = cause
+
   received-free : (end : RecvEnd) → ReceiveCause end rules work → IsFree (status_of_received end)
   received-free received.Worn cause = inr refl
-  received-free (received.Refused answer) cause = absurd (leaves.some cause)
+  received-free (received.Refused answer) cause = absurd (denied-free answer cause)
   received-free (received.BadFrame at) cause = absurd (leaves.meant cause)
   received-free received.Ended cause = absurd cause
   received-free (received.Truncated at) cause = absurd cause

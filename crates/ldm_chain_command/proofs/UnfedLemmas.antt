@@ -1,12 +1,14 @@
 -- Why not each node was fed: for `UnfedCause`.
 use Rattle.std.proofs.Common.{◌≡◌, ◌∙◌, ℕ, ◌+◌, List, [], ◌∷◌, ◌++◌, length, Some, inl, inr, refl, ap, sym, subst, append_assoc, length-append}
-use Rattle.std.specs.Prelude.{◌⊎◌, slice_get}
+use Rattle.std.specs.Prelude.{slice_get}
 use Rattle.ldm_types.specs.declared.class.ClassSpec.{ClassSpec}
 use Rattle.ldm_model.specs.State.{Queued, State, empty}
 use Rattle.ldm_model.specs.History.{IsLegal, after}
 use Rattle.ldm_model.specs.declared.event.Entry.{Entry}
 use Rattle.ldm_model.specs.Insert.{insert}
 use Rattle.ldm_class.specs.Rules.{Rules}
+use Rattle.ldm_relay.specs.declared.message.ClassAnswer.{ClassAnswer}
+use Rattle.ldm_relay.specs.declared.message.ClassAnswer.TheVariants as class_answer
 use Rattle.ldm_shared.specs.Passes.{IsSamePass, PassView}
 use Rattle.ldm_intake.specs.declared.end.RecvEnd.{RecvEnd}
 use Rattle.ldm_intake.specs.declared.end.RecvEnd.TheVariants as received
@@ -20,14 +22,13 @@ use Rattle.ldm_chain.specs.declared.node.ChainEnd.{ChainEnd}
 use Rattle.ldm_chain.specs.declared.node.ChainEnd.TheVariants as chain_end
 use Rattle.ldm_chain.specs.declared.node.ChainNode.{ChainNode}
 use Rattle.ldm_chain.specs.Causes as chained
-use Rattle.ldm_chain.specs.Causes.{AreAllTaken, CauseAt, CauseBehind, CauseEach, CausesAll, HadAllCalls, IsDenied}
+use Rattle.ldm_chain.specs.Causes.{AreAllTaken, CauseAt, CauseBehind, CauseEach, CausesAll, HadAllCalls}
 use Rattle.ldm_chain.specs.Linking.{asked_by, host_name}
 use Rattle.ldm_chain.specs.Nodes.{KeepsNodes}
 use Rattle.ldm_chain.proofs.Cursors.{insert-taken, taken-same, taken_places}
-use Rattle.ldm_chain.proofs.NodeCauses.{refused-by}
 use Rattle.ldm_chain_command.specs.Work.{ChainWork}
 use Rattle.ldm_chain_command.specs.Queues.{first_queue}
-use Rattle.ldm_chain_command.specs.Unfed.{AsksFor, FeedCause, IsWornOut, LeavesNothing, ReceiveCause, UnfedCause}
+use Rattle.ldm_chain_command.specs.Unfed.{AsksFor, FeedCause, IsWornOut, ReceiveCause, RefusedCause, UnfedCause}
 use Rattle.ldm_chain_command.specs.Nodes.{AreNew, IsFirst, IsNew}
 
 -- ---- cursors
@@ -68,12 +69,15 @@ worn-of work pass sized had = record {
 
 module _ (rules : Rules) (work : ChainWork) (i max_hereis : ℕ) (class : ClassSpec) (asks : AsksFor work i class) (found from to : PassView) (sized : IsSized work from)
     (sized_too : IsSized work to) (free : AreAllTaken (state_of found) → ⊥) where
-  denied-at : IsDenied (asked_by (host_name i) rules 1 class max_hereis) ⊎ AreAllTaken (state_of found) → LeavesNothing rules work
-  denied-at (inl denied) = record { node = i; class = class; asks = asks; rule = denied.0; left = denied.1 }
-  denied-at (inr taken) = absurd (free taken)
+  refused-at : (answer : ClassAnswer) → chained.RefusedCause answer (asked_by (host_name i) rules 1 class max_hereis) found from → RefusedCause answer rules work
+  refused-at class_answer.Denied cause = record { node = i; class = class; asks = asks; rule = cause.0; left = cause.1 }
+  refused-at class_answer.Busy cause = absurd (free cause.taken)
+  refused-at class_answer.Ok cause = absurd cause
+  refused-at (class_answer.Reclass fewer) cause = absurd cause
+  refused-at class_answer.BadPattern cause = absurd cause
 
   received-at : (end : RecvEnd) → chained.ReceiveCause end (asked_by (host_name i) rules 1 class max_hereis) found from to → ReceiveCause end rules work
-  received-at (received.Refused answer) cause = denied-at (refused-by answer (asked_by (host_name i) rules 1 class max_hereis) found from cause)
+  received-at (received.Refused answer) cause = refused-at answer cause
   received-at (received.BadFrame at) cause = record { node = i; class = class; asks = asks; fewer = cause.fewer; left = cause.left; bad = cause.bad }
   received-at received.Worn cause = worn-of work to sized_too cause
   received-at received.Ended cause = absurd cause

@@ -7,6 +7,8 @@ use Rattle.ldm_class.specs.Access.{reduce}
 use Rattle.ldm_class.specs.Classes.{bad_place}
 use Rattle.ldm_class.specs.Rules.{Rules, rules_for}
 use Rattle.ldm_class.specs.declared.answers.Reduced.TheVariants.{Fewer, Nothing}
+use Rattle.ldm_relay.specs.declared.message.ClassAnswer.{ClassAnswer}
+use Rattle.ldm_relay.specs.declared.message.ClassAnswer.TheVariants as class_answer
 use Rattle.ldm_shared.specs.declared.steps.TheConstants.{MOST_TURNS}
 use Rattle.ldm_intake.specs.declared.end.RecvEnd.{RecvEnd}
 use Rattle.ldm_intake.specs.declared.end.RecvEnd.TheVariants as received
@@ -50,9 +52,14 @@ FeedCause fed.Worn work = IsWornOut work.arena work.slots
 FeedCause fed.OutOfMemory work = Unit {0}
 FeedCause _ work = ⊥
 
+-- the request of a node was declined by this answer; a node finds a cursor place
+abbrev pub RefusedCause : ClassAnswer → Rules → ChainWork → Type 0
+RefusedCause class_answer.Denied rules work = LeavesNothing rules work
+RefusedCause _ rules work = ⊥
+
 -- the receiver of a node ended so
 abbrev pub ReceiveCause : RecvEnd → Rules → ChainWork → Type 0
-ReceiveCause (received.Refused answer) rules work = LeavesNothing rules work
+ReceiveCause (received.Refused answer) rules work = RefusedCause answer rules work
 ReceiveCause (received.BadFrame at) rules work = LeavesUnmeant rules work
 ReceiveCause received.Worn rules work = IsWornOut work.arena work.slots
 ReceiveCause _ rules work = ⊥
