@@ -21,6 +21,7 @@ fn answer<H: Threads + Wait + Sync>(rt: &H, scene: &mut Scene, trial: &mut Trial
         "station" => scene.station(trial),
         "comes" => scene.comes(trial),
         "dials" => scene.dials(trial),
+        "dial_fails" => scene.dial_fails(trial),
         "clock" => scene.clock(trial),
         "statuses" => scene.statuses(trial),
         "fails" => scene.fails(trial),

@@ -14,12 +14,13 @@ pub struct Page {
     pub bytes: Vec<u8>,
 }
 
-/// A station: what its door, log, clock and gate do, the peers at its door, and the links of its dial.
+/// A station: what its door, log, clock and gate do, the peers at its door, and the links of its dial with the connects that fail.
 #[derive(Drop)]
 pub struct Place {
     pub outside: Case,
     pub comes: Vec<Case>,
     pub dials: Vec<Case>,
+    pub dial_fails: Vec<u64>,
 }
 
 /// The files.
@@ -77,7 +78,7 @@ fn station_of(trial: &mut Trial, place: &Place) -> StationScript {
         peers: peers_of(trial, &place.comes),
         door_failing: copied(trial, &place.outside.link_fails),
         links: scripts_of(trial, &place.dials),
-        dial_failing: Vec::new(trial.alloc()),
+        dial_failing: copied(trial, &place.dial_fails),
         log_failing: copied(trial, &place.outside.log_fails),
         instants: copied(trial, &place.outside.instants),
         stopping: copied(trial, &place.outside.stops),

@@ -75,6 +75,7 @@ impl Scene {
             outside: Case::of(trial),
             comes: Vec::new(trial.alloc()),
             dials: Vec::new(trial.alloc()),
+            dial_fails: Vec::new(trial.alloc()),
         };
         push(trial, &mut self.places, place);
     }
@@ -93,6 +94,15 @@ impl Scene {
         let peer = Case::of(trial);
         match self.places.last_mut() {
             Some(place) => push(trial, &mut place.dials, peer),
+            None => trial.refuse("there is no station"),
+        }
+    }
+
+    /// `dial_fails NUMBERS`: the connects of the last station that fail.
+    pub fn dial_fails(&mut self, trial: &mut Trial) {
+        let calls = numbers(trial);
+        match self.places.last_mut() {
+            Some(place) => place.dial_fails = calls,
             None => trial.refuse("there is no station"),
         }
     }
