@@ -45,11 +45,13 @@ where
     <N::StationDial as Dial>::Link: Send,
     requires none_out { (N.tells world.old.net).links.out ≡ false }
     ensures ends { let tells = tells_of K.tells F.tells L.tells (station_tells N.StationDoor.tells N.StationDial.tells N.StationLog.tells N.StationClock.tells N.StationGate.tells) in
-        RunEnds tells (command_of (map string_bytes words.now)) (take_memory (map string_bytes words.now)) result (world_view S.tells E.tells C.tells N.tells N.kept world.old) (world_view S.tells E.tells C.tells N.tells N.kept world.new) }
+        RunEnds tells (command_of (map string_bytes words.now)) (take_memory (map string_bytes words.now)) result
+        (world_view S.tells E.tells C.tells N.tells N.kept world.old) (world_view S.tells E.tells C.tells N.tells N.kept world.new) }
     ensures law { let tells = tells_of K.tells F.tells L.tells (station_tells N.StationDoor.tells N.StationDial.tells N.StationLog.tells N.StationClock.tells N.StationGate.tells) in
         RunObeysLaw tells (command_of (map string_bytes words.now)) (world_view S.tells E.tells C.tells N.tells N.kept world.old) (world_view S.tells E.tells C.tells N.tells N.kept world.new) }
     ensures completes { let tells = tells_of K.tells F.tells L.tells (station_tells N.StationDoor.tells N.StationDial.tells N.StationLog.tells N.StationClock.tells N.StationGate.tells) in
-        RunCompletes tells (command_of (map string_bytes words.now)) result (world_view S.tells E.tells C.tells N.tells N.kept world.old) (world_view S.tells E.tells C.tells N.tells N.kept world.new) }
+        RunCompletes tells (command_of (map string_bytes words.now)) result
+        (world_view S.tells E.tells C.tells N.tells N.kept world.old) (world_view S.tells E.tells C.tells N.tells N.kept world.new) }
     ensures faults_kept { let tells = tells_of K.tells F.tells L.tells (station_tells N.StationDoor.tells N.StationDial.tells N.StationLog.tells N.StationClock.tells N.StationGate.tells) in
         KeepsAllFaults tells (world_view S.tells E.tells C.tells N.tells N.kept world.old) (world_view S.tells E.tells C.tells N.tells N.kept world.new) }
 {
