@@ -113,7 +113,7 @@ answer_broke_notified why asked answered at first pass link link' clock clock' o
       is_notifying = record { answered = answer; turns = tt; opened = may_turn answered };
       ends =
           subst P (sym part)
-          (breaks_same why asked.host [] old new (then_act (beginning first.actor asked answered at) behind) act (notifying_is first.actor (place_of answered) asked notifying refl) (broke.breaks behind));
+          (breaks_same why asked.host [] old new (then_act (beginning first.actor asked answered at) behind) act (notifying_is first.actor (place_of answered) asked notifying refl) (broke.breaks behind tt tt));
       all_sent = subst Q (sym part) tt;
       rows = λ k d within. absurd (omega arith);
       last = cut_last why broke.cut;

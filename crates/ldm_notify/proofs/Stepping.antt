@@ -89,10 +89,11 @@ lost_unlogged asked host k count first last s old new link clock out log log' ga
           instants_part = ([], refl);
           link = keeps_link link unclosed;
         };
+        unmade = ([], refl, tt);
         logged = subst (λ (x : List ℕ). WritesFront log x log') (one_line asked host count first last is) front;
         goes = [];
         idled = refl;
-        goes_part = ([], refl);
+        goes_part = ([], refl, tt);
         beside = record { log = faults; stops = omega arith };
       };
       cause = rose;
@@ -124,10 +125,11 @@ unstepped asked k turns s old new link clock out log gate unclosed worn = record
       instants_part = ([], refl);
       link = keeps_link link unclosed;
     };
+    unmade = ([], refl, tt);
     logged = ([], [], refl, nothing_taken log);
     goes = [];
     idled = refl;
-    goes_part = ([], refl);
+    goes_part = ([], refl, tt);
     beside = record { log = omega arith; stops = omega arith };
   };
   cause = worn.long ∙ worn.turns_are;
@@ -185,7 +187,7 @@ gave_broken why asked k row s first old link clock out new log gate unclosed mak
     let step = stepped_acts asked.host first old k (given_reply row) link clock out log gate refl makes unclosed in
     let breaks = subst (λ (n : ℕ). Breaks [] (moment_of old link clock out) new (deed n)) same ended.breaks in
     let quiet = silent_part asked.host breaks.called (let_go first.actor k row ∷ []) breaks.called_part refl in
-    let rest = breaks_act_of why asked.host [] (moment_of old link clock out) new log gate (ungated (deed first.actor)) breaks quiet in
+    let rest = breaks_act_of why asked.host [] (moment_of old link clock out) new log gate (deed first.actor) breaks quiet (tt, tt) in
     let both = acts_break why asked.host [] [] a b c (step_act first.actor k (given_reply row)) (ungated (deed first.actor)) step rest in
     let turns = turns_act first.actor k s (Gave row ended.handling ∷ []) in
     breaks_same why asked.host [] a c _ _ (gave_act first.actor k s row ended.handling ∙ sym (then_act-none turns)) both

@@ -10,8 +10,9 @@ use Rattle.ldm_sender.specs.declared.end.SendEnd.{SendEnd}
 use Rattle.ldm_sender.specs.declared.end.SendEnd.TheVariants as end
 use Rattle.ldm_sender.specs.Asked.{Asked}
 use Rattle.ldm_sender.specs.Opening.{Answered}
-use Rattle.ldm_sender.specs.Does.{IsPart}
-use Rattle.ldm_sender.specs.Acts.{Situation, Act, Logged, EndsAct, IsAllSent, is_whole}
+use Rattle.ldm_sender.specs.Calls.{MayBeUnmade}
+use Rattle.ldm_sender.specs.Does.{IsPart, IsAllBut}
+use Rattle.ldm_sender.specs.Acts.{Situation, Act, IsStop, Logged, EndsAct, IsAllSent, is_whole}
 use Rattle.ldm_sender.specs.Ending.{IsEndOf, IsLeft, closing_of, session_of}
 use Rattle.ldm_notify.specs.declared.end.NotifyEnd.{NotifyEnd}
 use Rattle.ldm_notify.specs.declared.end.NotifyEnd.TheVariants as note
@@ -35,13 +36,14 @@ AwaitsNone (end.PeerEnd at) = ⊥
 AwaitsNone (end.BadReply at) = ⊥
 AwaitsNone _ = Unit {0}
 
--- A session of notices was made up to an end: all of it where the end is a whole one, and else of each part a front.
+-- A session of notices was made up to an end: all of it where the end is a whole one, and else of each part a front. No product is of it
+-- that no step of the cursor gave.
 pub record NotifiesTo (why : SendEnd) (asked : Asked) (old new : PassView) (before after : SessionRecord) : Type 0 where
   pub notifying : Notifying
   pub is_notifying : IsNotifying asked notifying
-  -- the calls on the queue, and the one that closes the cursor
+  -- the calls on the queue, and the one that closes the cursor; each step of it was made
   pub called : List Entry
-  pub called_part : IsPart (is_whole why) called (entries_of old.actor asked notifying)
+  pub called_part : IsAllBut (is_whole why) MayBeUnmade called (entries_of old.actor asked notifying)
   pub made : Calls old new (called ++ closing_of old.actor why notifying.answered)
   -- each product that the cursor gave is the one of its number
   pub rows : AreRows new (rows_of notifying)
@@ -55,7 +57,7 @@ pub record NotifiesTo (why : SendEnd) (asked : Asked) (old new : PassView) (befo
   pub instants_part : IsPart (is_whole why) instants (instants_of notifying)
   pub answered : AnsweredAll instants before.clock after.clock
   pub goes : List Go
-  pub goes_part : IsPart (is_whole why) goes (goes_of notifying)
+  pub goes_part : IsAllBut (is_whole why) IsStop goes (goes_of notifying)
   pub idled : IdledAll goes before.gate after.gate
   pub logged : Logged why before.log (gap_log asked.host called) after.log
   -- why it ended, and how its last turn did

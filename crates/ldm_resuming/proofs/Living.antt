@@ -1,8 +1,8 @@
 -- The calls of a feeding are those of a life of its cursor.
 use Rattle.std.proofs.Common.{◌≡◌, ◌∙◌, ℕ, ◌+◌, Bool, true, false, List, [], ◌∷◌, ◌++◌, length, All, Option, Some, None, refl, sym, ap, subst, inl, inr, append_assoc, append-nil}
 use Rattle.std.specs.Prelude.{◌⊎◌, ◌&&◌}
-use Rattle.std.proofs.lemmas.Bool.{and_right, false≢true}
-use Rattle.std.proofs.lemmas.List.Elements.{All-nil, All-cons, All-append, All-weaker}
+use Rattle.std.proofs.lemmas.Bool.{and_right}
+use Rattle.std.proofs.lemmas.List.Elements.{All-nil, All-cons, All-head, All-tail, All-append, All-weaker}
 use Rattle.ldm_outside.specs.Session.{SessionRecord}
 use Rattle.ldm_model.specs.declared.event.Event.TheVariants.{OpenCursor}
 use Rattle.ldm_model.specs.declared.event.Reply.TheVariants.{Opened as OpenedAt}
@@ -17,7 +17,8 @@ use Rattle.ldm_shared.specs.Passes.{PassView, HasSeen, Calls}
 use Rattle.ldm_sender.specs.declared.end.SendEnd.{SendEnd}
 use Rattle.ldm_sender.specs.Acts.{is_whole}
 use Rattle.ldm_sender.specs.Asked.{Asked}
-use Rattle.ldm_sender.specs.Does.{IsPart}
+use Rattle.ldm_sender.specs.Calls.{MayBeUnmade}
+use Rattle.ldm_sender.specs.Does.{Each}
 use Rattle.ldm_sender.specs.Ending.{closing_of}
 use Rattle.ldm_sender.specs.Opening.{Opened, feeds_of, from_instant, opens, opening_calls, opening_entries, place_of}
 use Rattle.ldm_upstream.specs.Blocks.{blocks, reads}
@@ -26,6 +27,7 @@ use Rattle.ldm_upstream.specs.Feeds.{Feeds}
 use Rattle.ldm_upstream.specs.Turn.{Given, Handling, Passed, Whole, Declined, InBlocks, Turn, Lost, Gave, Quiet, Alive, handling_entries, turn_entries}
 use Rattle.ldm_upstream.specs.Turns.{entries_of_turns}
 use Rattle.ldm_resuming.specs.Life.{HasLife, calls_of, gives}
+use Rattle.ldm_sender.proofs.Fronts.{all_but_at_most, each_last}
 use Rattle.ldm_resuming.proofs.Giving.{All-front}
 
 -- the call that opened the cursor, and those before it that are made for the same request
@@ -154,23 +156,84 @@ module _ (law : SeenLaw) (old new : PassView) (asked : Asked) (feeding : Feeding
 
 -- ---- of a call that feeds
 
-whole-part : (part whole : List Entry) (b : Bool) → b ≡ true → IsPart b part whole → part ≡ whole
-whole-part part whole true is h = h
-whole-part part whole false is h = absurd (false≢true is)
+-- calls that may be left out give no product, where they are calls of a feeding
+abbrev GivesIfStep : Entry → Type 0
+GivesIfStep entry = MayBeUnmade entry → gives entry.reply ≡ false
+
+module _ (actor k : ℕ) where
+  one-gives : (entry : Entry) → GivesIfStep entry → All GivesIfStep (entry ∷ [])
+  one-gives entry is = All-cons GivesIfStep entry [] is (All-nil GivesIfStep)
+
+  reads-give : (offset : ℕ) (bodies : List (List ℕ)) → All GivesIfStep (reads actor k offset bodies)
+  reads-give offset [] = All-nil GivesIfStep
+  reads-give offset (body ∷ bodies) = All-cons GivesIfStep _ (reads actor k (offset + length body) bodies) (λ _. refl) (reads-give (offset + length body) bodies)
+
+  handling-gives : (given : Given) (handling : Handling) → All GivesIfStep (handling_entries actor k given handling)
+  handling-gives given Passed = All-nil GivesIfStep
+  handling-gives given (Whole at) = reads-give 0 (blocks given.product.body)
+  handling-gives given (Declined at) = All-nil GivesIfStep
+  handling-gives given (InBlocks at blocks_at) = reads-give 0 (blocks given.product.body)
+
+  turn-gives : (turn : Turn) → All GivesIfStep (turn_entries actor k turn)
+  turn-gives (Lost count first last) = one-gives _ (λ left. absurd left)
+  turn-gives (Gave given handling) =
+      All-cons GivesIfStep _ _ (λ left. absurd left) (All-append GivesIfStep (handling_entries actor k given handling) _ (handling-gives given handling) (one-gives _ (λ _. refl)))
+  turn-gives (Quiet end now) = one-gives _ (λ left. absurd left)
+  turn-gives (Alive end now at) = one-gives _ (λ left. absurd left)
+
+  turns-give : (turns : List Turn) → All GivesIfStep (entries_of_turns actor k turns)
+  turns-give [] = All-nil GivesIfStep
+  turns-give (turn ∷ turns) = All-append GivesIfStep (turn_entries actor k turn) (entries_of_turns actor k turns) (turn-gives turn) (turns-give turns)
+
+  last-gives : (last : Last) → All GivesIfStep (last_entries actor k last)
+  last-gives GoesOn = All-nil GivesIfStep
+  last-gives (Stopped end) = one-gives _ (λ left. absurd left)
+  last-gives (Unanswered given at) = one-gives _ (λ left. absurd left)
+
+  calls-give : (feeding : Feeding) → All GivesIfStep (calls_of actor k feeding)
+  calls-give feeding = All-append GivesIfStep (entries_of_turns actor k feeding.turns) (last_entries actor k feeding.last) (turns-give feeding.turns) (last-gives feeding.last)
+
+-- of such calls those that were left out give none
+left-none : (front left : List Entry) → All GivesIfStep (front ++ left) → Each MayBeUnmade left → All (λ (entry : Entry). gives entry.reply ≡ false) left
+left-none [] [] all each = All-nil (λ (entry : Entry). gives entry.reply ≡ false)
+left-none [] (entry ∷ left) all each =
+    All-cons (λ (entry : Entry). gives entry.reply ≡ false) entry left (All-head GivesIfStep entry left all each.0) (left-none [] left (All-tail GivesIfStep entry left all) each.1)
+left-none (entry ∷ front) left all each = left-none front left (All-tail GivesIfStep entry (front ++ left) all) each
+
+-- Behind a call that may not be left out, the other calls are those that were made and those that were left out.
+behind-made : (front called left rest : List Entry) (call : Entry) → Each MayBeUnmade left → (MayBeUnmade call → ⊥) → called ++ left ≡ front ++ call ∷ rest
+    → (more : List Entry) × (called ≡ front ++ call ∷ more) × (more ++ left ≡ rest)
+behind-made [] [] left rest call each not is = absurd (not (subst (Each MayBeUnmade) is each).0)
+behind-made [] (entry ∷ called) left rest call each not is = (called, ap (λ (e : Entry). e ∷ called) (cc is), cc is)
+behind-made (first ∷ front) [] left rest call each not is = absurd (not (each_last MayBeUnmade (first ∷ front) (call ∷ rest) (subst (Each MayBeUnmade) is each)).0)
+behind-made (first ∷ front) (entry ∷ called) left rest call each not is = put (behind-made front called left rest call each not (cc is)) (cc is)
+  where
+    put : (more : List Entry) × (called ≡ front ++ call ∷ more) × (more ++ left ≡ rest) → entry ≡ first
+        → (more : List Entry) × (entry ∷ called ≡ first ∷ (front ++ call ∷ more)) × (more ++ left ≡ rest)
+    put later same = (later.0, (λ i. same i ∷ later.1 i), later.2)
 
 pub fed-life : SeenLaw → (why : SendEnd) (asked : Asked) (ahead : List ℕ) (old new : PassView) (before after : SessionRecord)
-    → (feeds : Feeds why asked ahead old new before after) → HasSeen old → is_whole why ≡ true → (missed : Bool) (k : ℕ) → feeds.feeding.answered ≡ Opened missed k
+    → (feeds : Feeds why asked ahead old new before after) → HasSeen old → (missed : Bool) (k : ℕ) → feeds.feeding.answered ≡ Opened missed k
     → (life : Point) × HasLife new asked feeds.feeding life
-fed-life law why asked ahead old new before after feeds has whole missed k answered =
+fed-life law why asked ahead old new before after feeds has missed k answered =
     let feeding = feeds.feeding in
     let calls = calls_of old.actor k feeding in
     let opening_ones = opening_entries old.actor asked feeding.answered in
     let closing = closing_of old.actor why feeding.answered in
     let at : place_of feeding.answered ≡ k = ap place_of answered in
-    let all : feeds.called ≡ opening_ones ++ calls =
-    whole-part feeds.called (entries_of old.actor asked feeding) (is_whole why) whole feeds.called_part
+    let part = all_but_at_most MayBeUnmade (is_whole why) feeds.called (entries_of old.actor asked feeding) feeds.called_part in
+    let o = opens-last old.actor k asked (resumed asked.class.specs.items) missed in
+    let opened = opens old.actor asked o.start (OpenedAt k) in
+    let opening_are : opening_ones ≡ o.refused ++ opened ∷ [] = ap (opening_entries old.actor asked) answered ∙ o.are in
+    let all : feeds.called ++ part.0 ≡ o.refused ++ opened ∷ calls =
+    part.1
     ∙ append_assoc opening_ones (entries_of_turns old.actor (place_of feeding.answered) feeding.turns) (last_entries old.actor (place_of feeding.answered) feeding.last)
-    ∙ ap (λ (place : ℕ). opening_ones ++ calls_of old.actor place feeding) at in
-    let made : feeds.called ++ closing ≡ opening_ones ++ (calls ++ closing) = ap (λ (es : List Entry). es ++ closing) all ∙ append_assoc opening_ones calls closing in
-    has-life law old new asked feeding missed k calls [] closing has (subst (Calls old new) made feeds.made) answered (append-nil calls)
-    (All-nil (λ (entry : Entry). gives entry.reply ≡ false))
+    ∙ ap (λ (place : ℕ). opening_ones ++ calls_of old.actor place feeding) at
+    ∙ ap (λ (es : List Entry). es ++ calls) opening_are
+    ∙ append_assoc o.refused (opened ∷ []) calls in
+    let behind = behind-made o.refused feeds.called part.0 calls opened part.2 (λ left. left) all in
+    let called : feeds.called ≡ opening_ones ++ behind.0 =
+    behind.1 ∙ sym (append_assoc o.refused (opened ∷ []) behind.0) ∙ ap (λ (es : List Entry). es ++ behind.0) (sym opening_are) in
+    let made : feeds.called ++ closing ≡ opening_ones ++ (behind.0 ++ closing) = ap (λ (es : List Entry). es ++ closing) called ∙ append_assoc opening_ones behind.0 closing in
+    has-life law old new asked feeding missed k behind.0 part.0 closing has (subst (Calls old new) made feeds.made) answered behind.2
+    (left-none behind.0 part.0 (subst (All GivesIfStep) (sym behind.2) (calls-give old.actor k feeding)) part.2)

@@ -1,5 +1,5 @@
 //! What holds of all sessions, cut anywhere, and of those that are resumed.
-ghost use Rattle.std.specs.Prelude.{◌≡◌, ◌++◌, ℕ, ◌<◌, Bool, true, false, List, Contains, None, All};
+ghost use Rattle.std.specs.Prelude.{◌≡◌, ◌++◌, ℕ, ◌<◌, Bool, false, List, Contains, None, All};
 ghost use Rattle.std.specs.List.Sorted.{IsStrictlyIncreasing};
 ghost use mathlib.Core.List.{IsPrefix};
 ghost use Rattle.ldm_types.specs.declared.class.ClassSpec.{ClassSpec};
@@ -8,7 +8,6 @@ ghost use Rattle.ldm_model.specs.declared.event.Entry.{Entry};
 ghost use Rattle.ldm_model.specs.Law.{Point};
 ghost use Rattle.ldm_shared.specs.Passes.{PassView, HasSeen, Calls};
 ghost use Rattle.ldm_sender.specs.declared.end.SendEnd.{SendEnd};
-ghost use Rattle.ldm_sender.specs.Acts.{is_whole};
 ghost use Rattle.ldm_sender.specs.Asked.{Asked};
 ghost use Rattle.ldm_sender.specs.Opening.{Opened, opening_entries};
 ghost use Rattle.ldm_upstream.specs.Feeding.{Feeding};
@@ -68,9 +67,9 @@ pub fn feedings_have_lives()
         HasSeen old → Calls old new (opening_entries old.actor asked feeding.answered ++ (called ++ more)) →
         feeding.answered ≡ Opened missed k → called ++ unmade ≡ calls_of old.actor k feeding →
         All (λ entry. gives entry.reply ≡ false) unmade → (life : Point) × HasLife new asked feeding life }
-    // A call that feeds, at each end at which all is done.
+    // A call that feeds, at each of its ends.
     ensures fed { (why : SendEnd) (asked : Asked) (ahead : List ℕ) (old new : PassView) (before after : SessionRecord) →
-        (feeds : Feeds why asked ahead old new before after) → HasSeen old → is_whole why ≡ true →
+        (feeds : Feeds why asked ahead old new before after) → HasSeen old →
         (missed : Bool) (k : ℕ) → feeds.feeding.answered ≡ Opened missed k → (life : Point) × HasLife new asked feeds.feeding life }
 {
     own_readers();

@@ -10,10 +10,12 @@ use Rattle.ldm_session.specs.Gaps.{gap_log}
 use Rattle.ldm_session.proofs.CallerLemmas.{AnsweredAll-then, Exchanged-then, IdledAll-then, gap_log-append}
 use Rattle.ldm_sender.specs.declared.end.SendEnd.{SendEnd}
 use Rattle.ldm_sender.specs.declared.end.SendEnd.TheVariants as end
+use Rattle.ldm_sender.specs.Calls.{MayBeUnmade}
 use Rattle.ldm_sender.specs.Deeds.{Deed}
-use Rattle.ldm_sender.specs.Does.{Moment, Does, Breaks, IsPart}
-use Rattle.ldm_sender.specs.Acts.{Situation, situation_of, Act, then_act, ungated, KeepsBeside, Acts, Logged, BreaksAct, EndsAct}
+use Rattle.ldm_sender.specs.Does.{Moment, Does, Breaks, IsPart, Each}
+use Rattle.ldm_sender.specs.Acts.{Situation, situation_of, Act, then_act, ungated, KeepsBeside, Acts, IsStop, Logged, BreaksAct, EndsAct}
 use Rattle.ldm_sender.proofs.Doing.{does_then, keeps_link_then}
+use Rattle.ldm_sender.proofs.Fronts.{all_such, all_but_behind, all_but_more}
 
 -- ---- deeds and acts that are the same
 
@@ -90,15 +92,16 @@ logged_then (end.BadReply at) old mid new first second one two = Takes-then old 
 logged_then end.AllBusy old mid new first second one two = Takes-then old mid new first second one two
 logged_then end.OutOfMemory old mid new first second one two = Takes-then old mid new first second one two
 
--- log and gate were not asked, and it broke off
-pub breaks_act_of : (why : SendEnd) (host came : List ℕ) (old new : Moment) (log : SinkRecord) (gate : GateRecord) (act : Act) (breaks : Breaks came old new act.deed)
-    → gap_log host breaks.called ≡ [] → BreaksAct why host came (situation_of old log gate) (situation_of new log gate) act
-breaks_act_of why host came old new log gate act breaks silent = record {
+-- log and gate were not asked, and it broke off in calls that may be left out
+pub breaks_act_of : (why : SendEnd) (host came : List ℕ) (old new : Moment) (log : SinkRecord) (gate : GateRecord) (deed : Deed) (breaks : Breaks came old new deed)
+    → gap_log host breaks.called ≡ [] → Each MayBeUnmade deed.entries → BreaksAct why host came (situation_of old log gate) (situation_of new log gate) (ungated deed)
+breaks_act_of why host came old new log gate deed breaks silent minor = record {
   breaks = breaks;
+  unmade = all_such MayBeUnmade breaks.called deed.entries breaks.called_part minor;
   logged = subst (λ (x : List ℕ). Logged why log x log) (sym silent) (logged_takes why log log [] (Takes-nothing log log refl));
   goes = [];
   idled = refl;
-  goes_part = (act.goes, refl);
+  goes_part = ([], refl, tt);
   beside = record { log = omega arith; stops = omega arith };
 }
 
@@ -143,12 +146,13 @@ acts_break why host came more a b c first second one two =
         instants_part = part_behind first.deed.instants inner.instants second.deed.instants inner.instants_part;
         link = keeps_link_then a.moment.link b.moment.link c.moment.link one.does.link inner.link;
       };
+      unmade = all_but_behind MayBeUnmade false first.deed.entries inner.called second.deed.entries two.unmade;
       logged =
           subst (λ (x : List ℕ). Logged why a.log x c.log) (sym (gap_log-append host first.deed.entries inner.called))
           (logged_then why a.log b.log c.log (gap_log host first.deed.entries) (gap_log host inner.called) one.logged two.logged);
       goes = first.goes ++ two.goes;
       idled = IdledAll-then first.goes two.goes a.gate b.gate c.gate one.idled two.idled;
-      goes_part = part_behind first.goes two.goes second.goes two.goes_part;
+      goes_part = all_but_behind IsStop false first.goes two.goes second.goes two.goes_part;
       beside = beside_then a b c one.beside two.beside;
     }
 
@@ -157,13 +161,13 @@ pub acts_end : (whole : Bool) (why : SendEnd) (host came more : List ℕ) (a b c
 acts_end true why host came more a b c first second one two = acts_then host came more a b c first second one two
 acts_end false why host came more a b c first second one two = acts_break why host came more a b c first second one two
 
--- it breaks off in a first act, behind which another one was to come
+-- it breaks off in a first act, behind which another one was to come that may be left out
 more_behind : {A : Type 0} → (part whole behind : List A) → IsPart false part whole → IsPart false part (whole ++ behind)
 more_behind part whole behind is = (is.0 ++ behind, sym (append_assoc part is.0 behind) ∙ ap (λ xs. xs ++ behind) is.1)
 
 pub breaks_act_before : (why : SendEnd) (host came : List ℕ) (old new : Situation) (first second : Act) → BreaksAct why host came old new first
-    → BreaksAct why host came old new (then_act first second)
-breaks_act_before why host came old new first second breaks =
+    → Each MayBeUnmade second.deed.entries → Each IsStop second.goes → BreaksAct why host came old new (then_act first second)
+breaks_act_before why host came old new first second breaks minor stops =
     let inner = breaks.breaks in
     record {
       breaks = record {
@@ -180,9 +184,10 @@ breaks_act_before why host came old new first second breaks =
         instants_part = more_behind inner.instants first.deed.instants second.deed.instants inner.instants_part;
         link = inner.link;
       };
+      unmade = all_but_more MayBeUnmade inner.called first.deed.entries second.deed.entries breaks.unmade minor;
       logged = breaks.logged;
       goes = breaks.goes;
       idled = breaks.idled;
-      goes_part = more_behind breaks.goes first.goes second.goes breaks.goes_part;
+      goes_part = all_but_more IsStop breaks.goes first.goes second.goes breaks.goes_part stops;
       beside = breaks.beside;
     }

@@ -1,5 +1,6 @@
 mod Starts
 mod Beginning
+pub mod Fronts
 pub mod Doing
 pub mod Acting
 pub mod Messaging

@@ -16,12 +16,13 @@ use Rattle.ldm_session.proofs.CallerLemmas.{AnsweredAll-nothing}
 use Rattle.ldm_sender.specs.declared.end.SendEnd.{SendEnd}
 use Rattle.ldm_sender.specs.declared.end.SendEnd.TheVariants as end
 use Rattle.ldm_sender.specs.Asked.{Asked}
-use Rattle.ldm_sender.specs.Opening.{Answered, Denied, Reclassed, Busy, Opened, class_answer_of, opening_calls, opening_entries}
+use Rattle.ldm_sender.specs.Opening.{Answered, Denied, Reclassed, Busy, Opened, class_answer_of, closing_entries, opening_calls, opening_entries}
 use Rattle.ldm_sender.specs.Answering.{answer_deed}
 use Rattle.ldm_sender.specs.Stopping.{StopsSending}
 use Rattle.ldm_sender.specs.Deeds.{Deed, and_then}
-use Rattle.ldm_sender.specs.Does.{Moment, moment_of, Does, Breaks, KeepsLink}
-use Rattle.ldm_sender.specs.Acts.{Situation, situation_of, Act, then_act, ungated, Acts, BreaksAct, EndsAct, is_whole}
+use Rattle.ldm_sender.specs.Calls.{MayBeUnmade}
+use Rattle.ldm_sender.specs.Does.{Moment, moment_of, Does, Breaks, KeepsLink, Each}
+use Rattle.ldm_sender.specs.Acts.{Situation, situation_of, Act, then_act, ungated, Acts, BreaksAct, EndsAct, IsStop, is_whole}
 use Rattle.ldm_sender.specs.Ending.{IsEndOf, StopsTurns, session_of}
 use Rattle.ldm_sender.proofs.Acting.{acts_of, acts_break, acts_end, breaks_act_of, breaks_act_before}
 use Rattle.ldm_sender.proofs.Doing.{does_then, keeps_link, exchanged_nothing}
@@ -44,6 +45,19 @@ opening_silent host actor asked (Denied rule) = refl
 opening_silent host actor asked (Reclassed class) = refl
 opening_silent host actor asked (Busy missed) = busy_silent host actor asked (resumed asked.class.specs.items) missed
 opening_silent host actor asked (Opened missed k) = opened_silent host actor asked (resumed asked.class.specs.items) missed k
+
+-- ---- and may be left out where they open none
+
+busy_unmade : (actor : ℕ) (asked : Asked) (named : Option (List ℕ)) (missed : Bool) → Each MayBeUnmade (opening_calls actor asked named missed reply.AllBusy)
+busy_unmade actor asked None missed = (tt, tt)
+busy_unmade actor asked (Some signature) false = (tt, tt)
+busy_unmade actor asked (Some signature) true = (tt, (tt, tt))
+
+pub opening_unmade : (actor : ℕ) (asked : Asked) (answered : Answered) → closing_entries actor answered ≡ [] → Each MayBeUnmade (opening_entries actor asked answered)
+opening_unmade actor asked (Denied rule) none = tt
+opening_unmade actor asked (Reclassed class) none = tt
+opening_unmade actor asked (Busy missed) none = busy_unmade actor asked (resumed asked.class.specs.items) missed
+opening_unmade actor asked (Opened missed k) none = absurd (cc none)
 
 -- ---- how the request was answered
 
@@ -155,10 +169,10 @@ cut_cause end.AllBusy answered old mid new same stops = absurd stops
 cut_cause end.Worn answered old mid new same stops = stops
 cut_cause end.OutOfMemory answered old mid new same stops = tt
 
--- what it comes to, whatever was to come behind
+-- what it comes to, whatever was to come behind that may be left out
 pub record AnswerBroke (why : SendEnd) (asked : Asked) (answered : Answered) (at : ℕ) (old new : Situation) : Type 0 where
   pub cut : IsCut why
-  pub breaks : (behind : Act) → BreaksAct why asked.host [] old new (then_act (beginning old.moment.pass.actor asked answered at) behind)
+  pub breaks : (behind : Act) → Each MayBeUnmade behind.deed.entries → Each IsStop behind.goes → BreaksAct why asked.host [] old new (then_act (beginning old.moment.pass.actor asked answered at) behind)
   pub cause : IsEndOf why answered new.moment.pass (session_of old) (session_of new)
 
 pub answer_broke : (why : SendEnd) (asked : Asked) (answered : Answered) (at : ℕ) (first pass : PassView) (link link' : LinkRecord) (clock clock' : ClockRecord) (out' : List ℕ) (log : SinkRecord)
@@ -180,9 +194,9 @@ answer_broke why asked answered at first pass link link' clock clock' out' log g
     let silent : gap_log asked.host breaks.called ≡ [] =
     ap (gap_log asked.host) (none_in_front breaks.called breaks.called_part.0 breaks.called_part.1) in
     let broke = acts_break why asked.host [] [] old mid new (ungated (calls_deed entries)) (ungated answers) opened
-    (breaks_act_of why asked.host [] mid_moment new_moment log gate (ungated answers) breaks silent) in
+    (breaks_act_of why asked.host [] mid_moment new_moment log gate answers breaks silent tt) in
     record {
       cut = stops_cut why mid_moment new_moment stops;
-      breaks = λ behind. breaks_act_before why asked.host [] old new (beginning first.actor asked answered at) behind broke;
+      breaks = λ behind minor stops. breaks_act_before why asked.host [] old new (beginning first.actor asked answered at) behind broke minor stops;
       cause = cut_cause why answered old mid_moment new refl stops;
     }

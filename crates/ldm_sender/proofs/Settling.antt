@@ -1,5 +1,5 @@
 -- What a call that sends comes to at its end, whatever it sent: once its cursor is closed, and the link or not.
-use Rattle.std.proofs.Common.{◌≡◌, ◌∙◌, ℕ, List, [], ◌∷◌, ◌++◌, Bool, true, false, Option, refl, sym, ap, subst, append_assoc, append-nil}
+use Rattle.std.proofs.Common.{◌≡◌, ◌∙◌, ℕ, List, [], ◌∷◌, ◌++◌, Bool, true, false, Option, refl, sym, ap, subst, append-nil}
 use Rattle.ldm_model.specs.declared.event.Event.TheVariants.{Close}
 use Rattle.ldm_model.specs.declared.event.Reply.TheVariants as reply
 use Rattle.ldm_model.specs.declared.event.Entry.{Entry}
@@ -18,11 +18,13 @@ use Rattle.ldm_session.specs.Gaps.{gap_log}
 use Rattle.ldm_sender.specs.declared.end.SendEnd.{SendEnd}
 use Rattle.ldm_sender.specs.declared.end.SendEnd.TheVariants as end
 use Rattle.ldm_sender.specs.Opening.{Answered, Opened, closing_entries}
-use Rattle.ldm_sender.specs.Does.{moment_of, IsPart}
-use Rattle.ldm_sender.specs.Acts.{Situation, situation_of, Act, BreaksAct, EndsAct, Logged, is_whole, IsAllSent}
+use Rattle.ldm_sender.specs.Calls.{MayBeUnmade}
+use Rattle.ldm_sender.specs.Does.{moment_of, IsPart, IsAllBut}
+use Rattle.ldm_sender.specs.Acts.{Situation, situation_of, Act, BreaksAct, EndsAct, IsStop, Logged, is_whole, IsAllSent}
 use Rattle.ldm_sender.specs.Stopping.{KeepsCursor}
 use Rattle.ldm_sender.specs.Ending.{session_of, closing_of, IsLeft, IsEndOf}
 use Rattle.ldm_sender.proofs.Acting.{logged_takes}
+use Rattle.ldm_sender.proofs.Fronts.{all_there}
 
 -- what the outside tells once the link was closed, or not
 abbrev pub after : Situation → Bool → SessionRecord
@@ -34,20 +36,9 @@ begins first link clock log gate = situation_of (moment_of first link clock []) 
 
 -- ---- fronts
 
-pub part_of_whole : {A : Type 0} → (whole : Bool) → (part all : List A) → IsPart whole part all → IsPart false part all
-part_of_whole true part all is = ([], append-nil part ∙ is)
-part_of_whole false part all is = is
-
 pub part_same : {A : Type 0} → (whole : Bool) → (xs : List A) → IsPart whole xs xs
 part_same true xs = refl
 part_same false xs = ([], append-nil xs)
-
-pub part_behind : {A : Type 0} → (whole : Bool) → (before part all : List A) → IsPart whole part all → IsPart whole (before ++ part) (before ++ all)
-part_behind true before part all is = ap (λ xs. before ++ xs) is
-part_behind false before part all is = is_front (ap (λ xs. before ++ xs) is.1)
-  where
-    is_front : before ++ (part ++ is.0) ≡ before ++ all → IsPart false (before ++ part) (before ++ all)
-    is_front so = (is.0, append_assoc before part is.0 ∙ so)
 
 -- ---- the cursor
 
@@ -131,7 +122,7 @@ cause_moves end.OutOfMemory answered pass final before now not_worn cause = caus
 -- An act was done up to an end, and these calls close the cursor: all of it where the end is a whole one, and else of each part a front.
 pub record Settles (why : SendEnd) (host : List ℕ) (act : Act) (closing : List Entry) (given : List ℕ) (old new : PassView) (before after : SessionRecord) : Type 0 where
   pub called : List Entry
-  pub called_part : IsPart (is_whole why) called act.deed.entries
+  pub called_part : IsAllBut (is_whole why) MayBeUnmade called act.deed.entries
   pub made : Calls old new (called ++ closing)
   pub sent : List ℕ
   pub sent_part : IsPart (is_whole why) sent act.deed.bytes
@@ -141,7 +132,7 @@ pub record Settles (why : SendEnd) (host : List ℕ) (act : Act) (closing : List
   pub instants_part : IsPart (is_whole why) instants act.deed.instants
   pub answered : AnsweredAll instants before.clock after.clock
   pub goes : List Go
-  pub goes_part : IsPart (is_whole why) goes act.goes
+  pub goes_part : IsAllBut (is_whole why) IsStop goes act.goes
   pub idled : IdledAll goes before.gate after.gate
   pub logged : Logged why before.log (gap_log host called) after.log
   pub counts : KeepsFaults before after
@@ -158,7 +149,7 @@ settles_whole why host came act closing old new final closed none is ends all_se
     let P : Bool → Type 0 = λ b. IsPart b acts.does.sent act.deed.bytes in
     record {
       called = act.deed.entries;
-      called_part = part_same (is_whole why) act.deed.entries;
+      called_part = all_there MayBeUnmade (is_whole why) act.deed.entries;
       made = calls_trans old.moment.pass new.moment.pass final act.deed.entries closing acts.does.calls calls;
       sent = acts.does.sent;
       sent_part = subst P (sym is) sent;
@@ -168,7 +159,7 @@ settles_whole why host came act closing old new final closed none is ends all_se
       instants_part = part_same (is_whole why) act.deed.instants;
       answered = acts.does.answered;
       goes = act.goes;
-      goes_part = part_same (is_whole why) act.goes;
+      goes_part = all_there IsStop (is_whole why) act.goes;
       idled = acts.idled;
       logged = logged_takes why old.log new.log (gap_log host act.deed.entries) acts.logged;
       counts = record { link = acts.does.link.faults; ends = acts.does.link.ends; log = acts.beside.log; stops = acts.beside.stops };
@@ -182,13 +173,13 @@ settles_broken why host came act closing old new final closed none is ends all_s
     let breaks = broke.breaks in
     let link = record new.moment.link { closed = closed } in
     let sent = subst (λ (x : List ℕ). IsPart false breaks.sent (x ++ act.deed.bytes)) none breaks.sent_part in
-    let P : Bool → Type 0 = λ b. IsPart b breaks.called act.deed.entries in
+    let P : Bool → Type 0 = λ b. IsAllBut b MayBeUnmade breaks.called act.deed.entries in
     let Q : Bool → Type 0 = λ b. IsPart b breaks.sent act.deed.bytes in
     let R : Bool → Type 0 = λ b. IsPart b breaks.instants act.deed.instants in
-    let T : Bool → Type 0 = λ b. IsPart b broke.goes act.goes in
+    let T : Bool → Type 0 = λ b. IsAllBut b IsStop broke.goes act.goes in
     record {
       called = breaks.called;
-      called_part = subst P (sym is) breaks.called_part;
+      called_part = subst P (sym is) broke.unmade;
       made = calls_trans old.moment.pass new.moment.pass final breaks.called closing breaks.calls calls;
       sent = breaks.sent;
       sent_part = subst Q (sym is) sent;
@@ -245,12 +236,13 @@ worn_act true why host came old pass final link clock out log gate act none ends
     instants_part = ([], append-nil act.deed.instants);
     link = ends.does.link;
   };
+  unmade = ([], append-nil (act.deed.entries ++ []) ∙ append-nil act.deed.entries, tt);
   logged =
       subst (λ (es : List Entry). WritesFront old.log (gap_log host es) log) (sym (append-nil act.deed.entries))
       (gap_log host act.deed.entries, [], append-nil (gap_log host act.deed.entries), ends.logged);
   goes = act.goes;
   idled = ends.idled;
-  goes_part = ([], append-nil act.goes);
+  goes_part = ([], append-nil act.goes, tt);
   beside = record { log = ends.beside.log; stops = ends.beside.stops };
 }
 worn_act false why host came old pass final link clock out log gate act none ends = record {
@@ -266,6 +258,7 @@ worn_act false why host came old pass final link clock out log gate act none end
     instants_part = ends.breaks.instants_part;
     link = ends.breaks.link;
   };
+  unmade = ends.unmade;
   logged = logged_worn why old.log log (gap_log host ends.breaks.called) ends.logged;
   goes = ends.goes;
   idled = ends.idled;

@@ -20,12 +20,14 @@ use Rattle.ldm_sender.specs.declared.end.SendEnd.TheVariants as end
 use Rattle.ldm_sender.specs.Asked.{Asked}
 use Rattle.ldm_sender.specs.Opening.{Answered, Denied, Reclassed, Busy, IsAnswerTo, class_answer_of, closing_entries, opening_entries}
 use Rattle.ldm_sender.specs.Answering.{FindsBusy, FindsWornFirst, Declines}
-use Rattle.ldm_sender.specs.Does.{moment_of, Breaks}
+use Rattle.ldm_sender.specs.Calls.{MayBeUnmade}
+use Rattle.ldm_sender.specs.Does.{moment_of, Breaks, Each}
 use Rattle.ldm_sender.specs.Acts.{Situation, situation_of, BreaksAct, EndsAct, IsAllSent, is_whole}
 use Rattle.ldm_sender.specs.Ending.{IsEndOf, IsLeft, closing_of}
 use Rattle.ldm_sender.proofs.Acting.{breaks_act_of, breaks_same}
 use Rattle.ldm_sender.proofs.Doing.{exchanged_nothing, keeps_link, nothing_done}
-use Rattle.ldm_sender.proofs.Opened.{AnswerBroke, answer_broke, beginning, beginning_done, opening_silent}
+use Rattle.ldm_sender.proofs.Fronts.{each_then}
+use Rattle.ldm_sender.proofs.Opened.{AnswerBroke, answer_broke, beginning, beginning_done, opening_silent, opening_unmade}
 use Rattle.ldm_sender.proofs.Settling.{Settles, begins, settles}
 use Rattle.ldm_sender.proofs.Steps.{silent_part, then_act-none}
 
@@ -107,7 +109,7 @@ busy asked old new link link' clock clock' log gate unclosed is found declines =
 broke_in : (why : SendEnd) (asked : Asked) (answered : Answered) (at : ℕ) (old new : Situation) → AnswerBroke why asked answered at old new
     → BreaksAct why asked.host [] old new (beginning old.moment.pass.actor asked answered at)
 broke_in why asked answered at old new broke =
-    breaks_same why asked.host [] old new _ _ (then_act-none (beginning old.moment.pass.actor asked answered at)) (broke.breaks (record { deed = record { entries = []; bytes = []; instants = [] }; goes = [] }))
+    breaks_same why asked.host [] old new _ _ (then_act-none (beginning old.moment.pass.actor asked answered at)) (broke.breaks (record { deed = record { entries = []; bytes = []; instants = [] }; goes = [] }) tt tt)
 
 -- it broke off in the answer
 pub answer_breaks : (why : SendEnd) (asked : Asked) (answered : Answered) (old new : PassView) (link link' : LinkRecord) (clock clock' : ClockRecord) (log : SinkRecord) (gate : GateRecord)
@@ -133,6 +135,10 @@ answer_breaks end.LogFault asked answered old new link link' clock clock' log ga
 answer_breaks (end.BadReply place) asked answered old new link link' clock clock' log gate unclosed is bare calls declines = absurd declines.3
 answer_breaks end.AllBusy asked answered old new link link' clock clock' log gate unclosed is bare calls declines = absurd declines.3
 
+-- calls that open no cursor may be left out
+opening_left : (actor : ℕ) (asked : Asked) (answered : Answered) → closing_entries actor answered ≡ [] → Each MayBeUnmade (opening_entries actor asked answered ++ [])
+opening_left actor asked answered none = each_then MayBeUnmade (opening_entries actor asked answered) [] (opening_unmade actor asked answered none) tt
+
 -- the queue has had all its calls before a cursor was opened
 pub worn_first : (asked : Asked) (old new : PassView) (link : LinkRecord) (clock : ClockRecord) (log : SinkRecord) (gate : GateRecord) → IsNotClosed link
     → reduce asked.rules asked.host asked.class ≡ reduced.Same → FindsWornFirst asked old new → IsUnturned end.Worn asked old new link link clock clock log gate
@@ -154,7 +160,7 @@ worn_first asked old new link clock log gate unclosed same worn =
     } in
     let silent = silent_part asked.host worn.called entries worn.part (opening_silent asked.host old.actor asked answered) in
     ended end.Worn asked answered 0 old new link link clock clock [] log gate (same, worn.may_miss) tt refl
-    (breaks_act_of end.Worn asked.host [] (moment_of old link clock []) (moment_of new link clock []) log gate act broke silent) tt unclosed worn.long
+    (breaks_act_of end.Worn asked.host [] (moment_of old link clock []) (moment_of new link clock []) log gate act.deed broke silent (opening_left old.actor asked answered refl)) tt unclosed worn.long
 
 -- each request has an answer for which no cursor is opened
 record HasAnswer (asked : Asked) : Type 0 where
@@ -178,4 +184,4 @@ short asked pass link clock log gate unclosed =
     let breaks = nothing_done now now act.deed unclosed (calls_none pass) refl refl in
     let silent = silent_part asked.host breaks.called (entries ++ []) breaks.called_part (ap (gap_log asked.host) (append-nil entries) ∙ opening_silent asked.host pass.actor asked has.answered) in
     ended end.OutOfMemory asked has.answered 0 pass pass link link clock clock [] log gate has.is tt (has.none pass.actor)
-    (breaks_act_of end.OutOfMemory asked.host [] now now log gate act breaks silent) tt unclosed tt
+    (breaks_act_of end.OutOfMemory asked.host [] now now log gate act.deed breaks silent (opening_left pass.actor asked has.answered (has.none pass.actor))) tt unclosed tt

@@ -15,11 +15,13 @@ use Rattle.ldm_shared.proofs.Made.{calls_none}
 use Rattle.ldm_session.specs.Gaps.{gap_log}
 use Rattle.ldm_session.specs.Gathering as gathering
 use Rattle.ldm_sender.specs.declared.end.SendEnd.TheVariants as end
+use Rattle.ldm_sender.specs.Calls.{MayBeUnmade}
 use Rattle.ldm_sender.specs.Deeds.{Deed, no_deed}
 use Rattle.ldm_sender.specs.Does.{Moment, moment_of, IsPart, Does}
 use Rattle.ldm_sender.specs.Acts.{Acts, BreaksAct, situation_of}
 use Rattle.ldm_sender.specs.Idling.{quiet_act, alive_act, stop_act}
 use Rattle.ldm_sender.proofs.Doing.{Toward, toward_then, all_done, breaks_then, nothing_done, send_failed, some_sent, keeps_link, exchanged_nothing}
+use Rattle.ldm_sender.proofs.Fronts.{all_such}
 use Rattle.ldm_sender.proofs.Messaging.{gathers, message_deed}
 
 none_before : {A : Type 0} → (part rest : List A) → part ++ rest ≡ [] → part ≡ []
@@ -43,10 +45,11 @@ fails_to_wait host pass clock out left link link' log gate unclosed faults faile
     let breaks = send_failed pass clock out left link link' stop_act.deed unclosed faults failed in
     record {
       breaks = breaks;
+      unmade = all_such MayBeUnmade breaks.called [] breaks.called_part tt;
       logged = no_lines_of host log breaks.called breaks.called_part;
       goes = [];
       idled = refl;
-      goes_part = (go.Stop ∷ [], refl);
+      goes_part = (go.Stop ∷ [], refl, (refl, tt));
       beside = record { log = omega arith; stops = omega arith };
     }
 
@@ -149,9 +152,10 @@ waits_short host pass clock clock' out left out' link link' log gate gate' next 
     let breaks = breaks_then [] [] old mid new message deed asked (nothing_done mid new message still (calls_none pass) refl refl) in
     record {
       breaks = breaks;
+      unmade = all_such MayBeUnmade breaks.called [] breaks.called_part tt;
       logged = no_lines_of host log breaks.called breaks.called_part;
       goes = go.On ∷ [];
       idled = (gate', idles, refl);
-      goes_part = ([], refl);
+      goes_part = ([], refl, tt);
       beside = record { log = omega arith; stops = stops };
     }

@@ -1,14 +1,16 @@
 -- The same of parts of a sending that also ask the gate and write the log: what they do, and how they break off.
 use Rattle.std.specs.Prelude.{◌≡◌, ℕ, ◌≤◌, Bool, true, false, List, [], ◌++◌}
 use Rattle.ldm_outside.specs.declared.gate.Go.{Go}
+use Rattle.ldm_outside.specs.declared.gate.Go.TheVariants as go
 use Rattle.ldm_outside.specs.Gate.{GateRecord}
 use Rattle.ldm_outside.specs.Io.{SinkRecord, Takes, WritesFront}
 use Rattle.ldm_session.specs.Exchange.{IdledAll}
 use Rattle.ldm_session.specs.Gaps.{gap_log}
 use Rattle.ldm_sender.specs.declared.end.SendEnd.{SendEnd}
 use Rattle.ldm_sender.specs.declared.end.SendEnd.TheVariants as end
+use Rattle.ldm_sender.specs.Calls.{MayBeUnmade}
 use Rattle.ldm_sender.specs.Deeds.{Deed, and_then}
-use Rattle.ldm_sender.specs.Does.{Moment, Does, Breaks, IsPart}
+use Rattle.ldm_sender.specs.Does.{Moment, Does, Breaks, IsAllBut}
 
 -- What such a part finds or leaves.
 pub record Situation : Type 0 where
@@ -53,13 +55,18 @@ Logged end.LogFault old lines new = WritesFront old lines new
 Logged end.Worn old lines new = WritesFront old lines new
 Logged _ old lines new = Takes old lines new
 
--- It broke off: of each part a front was done.
+-- the gate says to stop
+abbrev pub IsStop : Go → Type 0
+IsStop answer = answer ≡ go.Stop
+
+-- It broke off: of each part a front was done. Each step of the cursor was made, and the gate was asked wherever it says to go on.
 pub record BreaksAct (why : SendEnd) (host given : List ℕ) (old new : Situation) (act : Act) : Type 0 where
   pub breaks : Breaks given old.moment new.moment act.deed
+  pub unmade : IsAllBut false MayBeUnmade breaks.called act.deed.entries
   pub logged : Logged why old.log (gap_log host breaks.called) new.log
   pub goes : List Go
   pub idled : IdledAll goes old.gate new.gate
-  pub goes_part : IsPart false goes act.goes
+  pub goes_part : IsAllBut false IsStop goes act.goes
   pub beside : KeepsBeside old new
 
 -- ends at which all is done that there was to do

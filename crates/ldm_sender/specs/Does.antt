@@ -1,5 +1,5 @@
 -- How a part of a sending leaves the pass, the link, the clock and what is gathered: it does a deed, or breaks off in it.
-use Rattle.std.specs.Prelude.{◌≡◌, ℕ, ◌≤◌, List, ◌++◌, Bool, true, false}
+use Rattle.std.specs.Prelude.{◌≡◌, ℕ, ◌≤◌, List, [], ◌∷◌, ◌++◌, Bool, true, false}
 use Rattle.ldm_model.specs.declared.event.Entry.{Entry}
 use Rattle.ldm_outside.specs.Clock.{ClockRecord}
 use Rattle.ldm_outside.specs.Link.{LinkRecord, IsNotClosed}
@@ -22,6 +22,16 @@ moment_of pass link clock out = record { pass = pass; link = link; clock = clock
 abbrev pub IsPart : {A : Type 0} → Bool → List A → List A → Type 0
 IsPart true part whole = part ≡ whole
 IsPart {A} false part whole = (rest : List A) × (part ++ rest ≡ whole)
+
+-- each of a list is such
+abbrev pub Each : {A : Type 0} → (A → Type 0) → List A → Type 0
+Each Only [] = Unit {0}
+Each Only (x ∷ xs) = Only x × Each Only xs
+
+-- the whole, or a front of it behind which only such are missing
+abbrev pub IsAllBut : {A : Type 0} → Bool → (A → Type 0) → List A → List A → Type 0
+IsAllBut true Only part whole = part ≡ whole
+IsAllBut {A} false Only part whole = (missing : List A) × (part ++ missing ≡ whole) × Each Only missing
 
 -- The link stays open, and none of its counts falls.
 pub record KeepsLink (old new : LinkRecord) : Type 0 where

@@ -19,8 +19,10 @@ use Rattle.ldm_shared.proofs.Made.{calls_none, calls_trans}
 use Rattle.ldm_sender.specs.declared.end.SendEnd.{SendEnd}
 use Rattle.ldm_sender.specs.Acts.{is_whole}
 use Rattle.ldm_sender.specs.Asked.{asked_of}
+use Rattle.ldm_sender.specs.Calls.{MayBeUnmade}
 use Rattle.ldm_sender.specs.Does.{IsPart}
 use Rattle.ldm_sender.specs.Ending.{closing_of}
+use Rattle.ldm_sender.proofs.Fronts.{front_of}
 use Rattle.ldm_intake.specs.declared.end.RecvEnd.{RecvEnd}
 use Rattle.ldm_intake.specs.Course.{Begins, Comes, Leads}
 use Rattle.ldm_intake.specs.Room.{records_of}
@@ -151,7 +153,7 @@ module _ (client : Client) where
           made = feeds.called ++ closing;
           calls = feeds.made;
           puts = none-put_in client before (feeds.called ++ closing)
-              (puts-append feeds.called closing (puts-part (is_whole why) feeds.called all feeds.called_part (feeding-puts_none old.pass.actor asked feeds.feeding))
+              (puts-append feeds.called closing (puts-part (is_whole why) feeds.called all (front_of MayBeUnmade (is_whole why) feeds.called all feeds.called_part) (feeding-puts_none old.pass.actor asked feeds.feeding))
               (closing-none old.pass.actor why feeds.feeding.answered));
           messages = feeding.messages_of asked feeds.feeding;
           tell = feeding-tells client asked refl refl owed feeds.feeding feeds.is_feeding;
@@ -175,7 +177,7 @@ module _ (client : Client) where
           made = notifies.called ++ closing;
           calls = notifies.made;
           puts = none-put_in client before (notifies.called ++ closing)
-              (puts-append notifies.called closing (puts-part (is_whole end) notifies.called all notifies.called_part (notifying-puts_none old.pass.actor asked notifies.notifying))
+              (puts-append notifies.called closing (puts-part (is_whole end) notifies.called all (front_of MayBeUnmade (is_whole end) notifies.called all notifies.called_part) (notifying-puts_none old.pass.actor asked notifies.notifying))
               (closing-none old.pass.actor end notifies.notifying.answered));
           messages = notifying.messages_of asked notifies.notifying;
           tell = notifying-tells client asked refl refl owed notifies.notifying notifies.is_notifying;

@@ -9,7 +9,8 @@ use Rattle.ldm_outside.specs.Session.{SessionRecord}
 use Rattle.ldm_sender.specs.declared.end.SendEnd.{SendEnd}
 use Rattle.ldm_sender.specs.declared.end.SendEnd.TheVariants as end
 use Rattle.ldm_sender.specs.Acts.{is_whole}
-use Rattle.ldm_sender.specs.Does.{IsPart}
+use Rattle.ldm_sender.specs.Calls.{MayBeUnmade}
+use Rattle.ldm_sender.specs.Does.{IsAllBut}
 use Rattle.ldm_upstream.specs.Feeds.{Feeds}
 use Rattle.ldm_sender.specs.Ending.{closing_of}
 use Rattle.ldm_sender.specs.Asked.{Asked}
@@ -50,7 +51,7 @@ closing-whole : (actor : ℕ) (why : SendEnd) (answered : Answered) → is_whole
 closing-whole actor end.Worn answered whole = absurd (false≢true whole)
 closing-whole actor why answered whole = refl
 
-called-whole : (part whole : List Entry) (b : Bool) → b ≡ true → IsPart b part whole → part ≡ whole
+called-whole : (part whole : List Entry) (b : Bool) → b ≡ true → IsAllBut b MayBeUnmade part whole → part ≡ whole
 called-whole part whole true is h = h
 called-whole part whole false is h = absurd (false≢true is)
 

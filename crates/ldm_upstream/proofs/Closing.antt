@@ -14,7 +14,9 @@ use Rattle.ldm_sender.specs.Opening.{Answered, Opened}
 use Rattle.ldm_sender.specs.Does.{moment_of}
 use Rattle.ldm_sender.specs.Acts.{Situation, situation_of, is_whole}
 use Rattle.ldm_sender.specs.Ending.{session_of, closing_of, IsLeft, IsEndOf}
-use Rattle.ldm_sender.proofs.Settling.{after, begins, cause_closed, part_of_whole, settles, worn_act}
+use Rattle.ldm_upstream.specs.Heard.{IsRefusal}
+use Rattle.ldm_sender.proofs.Fronts.{all_but_at_most}
+use Rattle.ldm_sender.proofs.Settling.{after, begins, cause_closed, settles, worn_act}
 use Rattle.ldm_sender.proofs.Steps.{RowsStay}
 use Rattle.ldm_upstream.specs.Feeding.{codes_of, given_of}
 use Rattle.ldm_upstream.specs.Feeds.{feeding_act, HasFed, HearsNone, Feeds}
@@ -89,7 +91,7 @@ worn_at_close why asked ahead answered old pass final link clock out log gate tu
   all_sent = tt;
   rows = rows_stay law pass final [] (given_of fed.feeding) (calls_some pass final [] worn.makes) fed.rows;
   codes = fed.codes;
-  codes_part = part_of_whole (is_whole why) fed.codes (codes_of fed.feeding) fed.codes_part;
+  codes_part = all_but_at_most IsRefusal (is_whole why) fed.codes (codes_of fed.feeding) fed.codes_part;
   says = record { behind = fed.says.behind; said = fed.says.said; is_behind = tt };
   last = tt;
   cause = worn.long ∙ worn.turns_are;

@@ -22,11 +22,11 @@ use Rattle.ldm_sender.specs.Calls.{later_call}
 use Rattle.ldm_upstream.specs.Turns.{IsDue, IsHandled, size_of}
 use Rattle.ldm_sender.specs.Deeds.{Deed, and_then, records_of}
 use Rattle.ldm_upstream.specs.ProductDeeds.{handling_deed, blocks_deed}
-use Rattle.ldm_sender.specs.Does.{Moment, moment_of, Does, Breaks, IsPart}
+use Rattle.ldm_sender.specs.Does.{Moment, moment_of, Does, Breaks, IsAllBut}
 use Rattle.ldm_upstream.specs.Giving.{HoldsGiven, GivesWhole, GivesBlocks}
 use Rattle.ldm_sender.specs.Stopping.{KeepsCursor, StopsSending}
 use Rattle.ldm_sender.specs.Acts.{is_whole, IsAllSent}
-use Rattle.ldm_upstream.specs.Heard.{HearsOn, HearsLast, IsBehind}
+use Rattle.ldm_upstream.specs.Heard.{IsRefusal, HearsOn, HearsLast, IsBehind}
 use Rattle.ldm_upstream.specs.Offering.{EndsDeed, StopsOffer, Announced, EndsAnnouncing, Offered, IsUnanswered, BreaksOffer, EndsOfferBy, EndsOffer, Offers}
 use Rattle.ldm_sender.proofs.Acting.{deed_is}
 use Rattle.ldm_upstream.proofs.Blocks.{later_again}
@@ -54,7 +54,7 @@ heard_any why next other came codes r free last = λ given earlier heard.
 
 broke : (why : SendEnd) (asked : Asked) (k : ℕ) (given : Given) (s : Standing) (old new : Moment) (r r' : Replies) (handling : Handling) (came : List ℕ) (codes : List Code)
     → ((x : List ℕ) (behind : List Placed) → IsBehind why (after_handling s given handling).next x behind)
-    → IsHandled asked given handling → IsPart false codes (handling_codes s.next handling) → HearsOn came codes r r'
+    → IsHandled asked given handling → IsAllBut false IsRefusal codes (handling_codes s.next handling) → HearsOn came codes r r'
     → Breaks came old new (handling_deed old.pass.actor k s.next given handling) → BreaksOffer why asked k given s old new r
 broke why asked k given s old new r r' handling came codes free is_handled part on breaks = record {
   handling = handling;
@@ -67,7 +67,7 @@ broke why asked k given s old new r r' handling came codes free is_handled part 
 }
 
 pub offer_breaks : (why : SendEnd) (asked : Asked) (k : ℕ) (given : Given) (s : Standing) (first old new : Moment) (r r' : Replies) (handling : Handling) (came : List ℕ) (codes : List Code)
-    → IsHandled asked given handling → IsPart false codes (handling_codes s.next handling) → HearsOn came codes r r'
+    → IsHandled asked given handling → IsAllBut false IsRefusal codes (handling_codes s.next handling) → HearsOn came codes r r'
     → Breaks came first new (handling_deed first.pass.actor k s.next given handling) → first.link.faults ≤ old.link.faults → StopsSending why old new → KeepsCursor why new.pass k
     → EndsOffer why asked k given s first new r
 offer_breaks end.LinkFault asked k given s first old new r r' handling came codes is_handled part on breaks later cause cursor = record {
@@ -119,7 +119,7 @@ offers_whole (Ok done) asked k given s s' old new r due small gives = record {
   holds = gives.0.holds;
 }
 offers_whole (Err why) asked k given s s' old new r due small gives =
-    offer_breaks why asked k given s old old new r r (Whole s'.sent_at) [] [] (due, small) ([], refl) (hears_nothing r) gives.breaks (omega arith) gives.cause gives.cursor
+    offer_breaks why asked k given s old old new r r (Whole s'.sent_at) [] [] (due, small) ([], refl, tt) (hears_nothing r) gives.breaks (omega arith) gives.cause gives.cursor
 
 -- ---- it is announced
 
@@ -141,7 +141,7 @@ offer_unanswered why asked k n given s old new r due large has ended = record {
       came = ended.came;
       breaks = breaks;
       codes = [];
-      codes_part = (handling_codes s.next (Declined ended.at), refl);
+      codes_part = (handling_codes s.next (Declined ended.at), refl, (refl, tt));
       heard = heard_any why s.next (later_call s.next 1) ended.came [] r free heard;
     }
 
@@ -227,5 +227,5 @@ offer_in_blocks (Err why) asked k given s t u pass link link' clock clock' out o
     let joined : Breaks (announced.came ++ []) old new all =
     subst (λ (d : Deed). Breaks (announced.came ++ []) old new d) (announced_blocks pass.actor k s.next t.next given t.sent_at broken.blocks_at next_is) both in
     offer_breaks why asked k given s old mid new r r' (InBlocks t.sent_at broken.blocks_at) announced.came (record { xid = s.next; answer = soon.Ok } ∷ [])
-    (due, large, broken.each) ([], refl) announced.heard (subst (λ (x : List ℕ). Breaks x old new all) (append-nil announced.came) joined) announced.does.link.faults
+    (due, large, broken.each) ([], refl, tt) announced.heard (subst (λ (x : List ℕ). Breaks x old new all) (append-nil announced.came) joined) announced.does.link.faults
     broken.breaks_off.cause broken.breaks_off.cursor

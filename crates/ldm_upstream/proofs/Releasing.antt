@@ -81,7 +81,7 @@ worn_before asked k turns given s s' old mid new link clock out r r' unclosed of
         came = offered.came;
         breaks = subst (λ (x : List ℕ). Breaks x old there (and_then first second)) (append-nil offered.came) both;
         codes = handling_codes s.next offered.handling;
-        codes_part = ([], append-nil (handling_codes s.next offered.handling));
+        codes_part = ([], append-nil (handling_codes s.next offered.handling), tt);
         heard = heard_last end.Worn (after_handling s given offered.handling).next offered.came (handling_codes s.next offered.handling) r r' (λ _ _. tt) offered.heard;
       };
       cause = worn.long ∙ worn.turns_are;

@@ -24,19 +24,20 @@ use Rattle.ldm_sender.specs.declared.standing.Standing.{Standing}
 use Rattle.ldm_sender.specs.Asked.{Asked}
 use Rattle.ldm_upstream.specs.Blocks.{blocks, reads}
 use Rattle.ldm_upstream.specs.Turn.{Given, Handling, Passed, Whole, Declined, InBlocks, Lost, Gave, Quiet, Alive, let_go, given_reply, after_handling, handling_entries, handling_messages, handling_codes}
-use Rattle.ldm_sender.specs.Calls.{stepped, later_call}
+use Rattle.ldm_sender.specs.Calls.{MayBeUnmade, stepped, later_call}
 use Rattle.ldm_upstream.specs.Feeding.{GoesOn, Stopped, Unanswered}
 use Rattle.ldm_sender.specs.Deeds.{records_of}
 use Rattle.ldm_upstream.specs.ProductDeeds.{handling_deed}
-use Rattle.ldm_sender.specs.Does.{Moment, moment_of, Does, Breaks, IsPart}
+use Rattle.ldm_sender.specs.Does.{Moment, moment_of, Does, Breaks, Each, IsAllBut}
 use Rattle.ldm_sender.specs.Stopping.{KeepsCursor}
 use Rattle.ldm_sender.specs.Acts.{situation_of, then_act, ungated, BreaksAct, EndsAct, IsAllSent, is_whole}
-use Rattle.ldm_upstream.specs.Heard.{HearsOn}
+use Rattle.ldm_upstream.specs.Heard.{IsRefusal, HearsOn}
 use Rattle.ldm_upstream.specs.Offering.{StopsOffer, product_deed, Handled, IsUnanswered, BreaksHandling, EndsHandlingBy, Handles}
 use Rattle.ldm_sender.specs.Idling.{quiet_act, alive_act, stop_act, EndsIdle, Idles}
 use Rattle.ldm_upstream.specs.Course.{turns_act, last_act, IsLastOf, AreRows, MakesTurns, EndsTurns, TurnsBy}
 use Rattle.ldm_sender.specs.Ending.{StopsTurns}
 use Rattle.ldm_sender.proofs.Acting.{deed_is, act_is, acts_same, breaks_same, acts_of, breaks_act_of, acts_then, acts_break}
+use Rattle.ldm_sender.proofs.Fronts.{each_then}
 use Rattle.ldm_sender.proofs.Doing.{keeps_link, exchanged_nothing}
 use Rattle.ldm_upstream.proofs.Offers.{heard_last}
 use Rattle.ldm_sender.proofs.Steps.{one_call, RowsStay, step_act, stepped_acts, one_line, silent_part}
@@ -72,7 +73,20 @@ silent_product host actor k given handling =
     gap_log-append host (handling_entries actor k given handling) (let_go actor k given ∷ [])
     ∙ ap (λ (x : List ℕ). x ++ []) (silent_handling host actor k given handling)
 
--- ---- the step
+-- ---- and may be left out
+
+unmade_reads : (actor k offset : ℕ) (parts : List (List ℕ)) → Each MayBeUnmade (reads actor k offset parts)
+unmade_reads actor k offset [] = tt
+unmade_reads actor k offset (part ∷ parts) = (tt, unmade_reads actor k (offset + length part) parts)
+
+unmade_handling : (actor k : ℕ) (given : Given) (handling : Handling) → Each MayBeUnmade (handling_entries actor k given handling)
+unmade_handling actor k given Passed = tt
+unmade_handling actor k given (Whole at) = unmade_reads actor k 0 (blocks given.product.body)
+unmade_handling actor k given (Declined at) = tt
+unmade_handling actor k given (InBlocks at blocks_at) = unmade_reads actor k 0 (blocks given.product.body)
+
+unmade_product : (actor k : ℕ) (given : Given) (handling : Handling) → Each MayBeUnmade (handling_entries actor k given handling ++ let_go actor k given ∷ [])
+unmade_product actor k given handling = each_then MayBeUnmade (handling_entries actor k given handling) (let_go actor k given ∷ []) (unmade_handling actor k given handling) (tt, tt)
 
 -- ---- a loss
 
@@ -123,14 +137,15 @@ lost_unlogged asked host k count first last s old new link clock out log log' ga
           instants_part = ([], refl);
           link = keeps_link link unclosed;
         };
+        unmade = ([], refl, tt);
         logged = subst (λ (x : List ℕ). WritesFront log x log') (one_line asked host count first last is) front;
         goes = [];
         idled = refl;
-        goes_part = ([], refl);
+        goes_part = ([], refl, tt);
         beside = record { log = faults; stops = omega arith };
       };
       codes = [];
-      codes_part = ([], refl);
+      codes_part = ([], refl, tt);
       heard = heard_last end.LogFault s.next [] [] r r (λ _ _. tt) (hears_nothing r);
       cause = rose;
       cursor = (None, cursor);
@@ -163,14 +178,15 @@ unstepped asked k turns s old new link clock out log gate r unclosed worn = reco
       instants_part = ([], refl);
       link = keeps_link link unclosed;
     };
+    unmade = ([], refl, tt);
     logged = ([], [], refl, nothing_taken log);
     goes = [];
     idled = refl;
-    goes_part = ([], refl);
+    goes_part = ([], refl, tt);
     beside = record { log = omega arith; stops = omega arith };
   };
   codes = [];
-  codes_part = ([], refl);
+  codes_part = ([], refl, tt);
   heard = heard_last end.Worn s.next [] [] r r (λ _ _. tt) (hears_nothing r);
   cause = worn.long ∙ worn.turns_are;
   cursor = tt;
@@ -266,7 +282,7 @@ gave_broken why asked k given s first old link clock out new log gate r unclosed
     let step = stepped_acts asked.host first old k (given_reply given) link clock out log gate refl makes unclosed in
     let breaks = subst (λ (n : ℕ). Breaks ended.came (moment_of old link clock out) new (deed n)) same ended.breaks in
     let quiet = silent_part asked.host breaks.called _ breaks.called_part (silent_product asked.host first.actor k given ended.handling) in
-    let rest = breaks_act_of why asked.host ended.came (moment_of old link clock out) new log gate (ungated (deed first.actor)) breaks quiet in
+    let rest = breaks_act_of why asked.host ended.came (moment_of old link clock out) new log gate (deed first.actor) breaks quiet (unmade_product first.actor k given ended.handling) in
     let both = acts_break why asked.host [] ended.came a b c (step_act first.actor k (given_reply given)) (ungated (deed first.actor)) step rest in
     let turns = turns_act first.actor k s (Gave given ended.handling ∷ []) in
     let whole : turns ≡ then_act turns (last_act first.actor k (after_handling s given ended.handling).next GoesOn) =
@@ -294,7 +310,7 @@ ends_whole why asked k given s first old link clock out new log gate r law row u
           subst (λ (w : Bool). EndsAct w why asked.host ended.came a c act) (sym whole)
           (gave_unanswered why asked k given s first old link clock out new log gate r law row unclosed makes ended last cause cursor);
       codes = [];
-      codes_part = subst (λ (w : Bool). IsPart {A = Code} w [] []) (sym whole) refl;
+      codes_part = subst (λ (w : Bool). IsAllBut w IsRefusal [] []) (sym whole) refl;
       heard = ended.heard;
       cause = offer_to_turns why old link clock out first new log gate cause;
       cursor = cursor;
@@ -324,8 +340,8 @@ ends_broken why asked k given s first old link clock out new log gate r law row 
           (gave_broken why asked k given s first old link clock out new log gate r unclosed makes ended);
       codes = ended.codes;
       codes_part =
-          subst (λ (w : Bool). IsPart {A = Code} w ended.codes (all ++ [])) (sym part)
-          (subst (λ (x : List Code). IsPart {A = Code} false ended.codes x) (sym (append-nil all)) ended.codes_part);
+          subst (λ (w : Bool). IsAllBut w IsRefusal ended.codes (all ++ [])) (sym part)
+          (subst (λ (x : List Code). IsAllBut false IsRefusal ended.codes x) (sym (append-nil all)) ended.codes_part);
       heard = ended.heard;
       cause = offer_to_turns why old link clock out first new log gate cause;
       cursor = cursor;
@@ -407,7 +423,7 @@ idle_ended end.LinkFault asked k at s first old link link' clock clock' out out'
       came = [];
       ends = acts_break end.LinkFault asked.host [] [] a b c (step_act first.actor k (reply.End at)) stop_act step ends.0;
       codes = [];
-      codes_part = ([], refl);
+      codes_part = ([], refl, tt);
       heard = heard_last end.LinkFault s.next [] [] r r (λ _ _. tt) (hears_nothing r);
       cause = ends.1;
       cursor = (None, cursor);
@@ -432,7 +448,7 @@ idle_ended end.OutOfMemory asked k at s first old link link' clock clock' out ou
       came = [];
       ends = breaks_same end.OutOfMemory asked.host [] a c _ _ whole both;
       codes = [];
-      codes_part = ([], refl);
+      codes_part = ([], refl, tt);
       heard = heard_last end.OutOfMemory (later_call s.next 1) [] [] r r (λ _ _. tt) (hears_nothing r);
       cause = tt;
       cursor = (None, cursor);

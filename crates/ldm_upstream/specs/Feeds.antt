@@ -12,11 +12,12 @@ use Rattle.ldm_sender.specs.declared.end.SendEnd.{SendEnd}
 use Rattle.ldm_sender.specs.declared.end.SendEnd.TheVariants as end
 use Rattle.ldm_sender.specs.Asked.{Asked}
 use Rattle.ldm_sender.specs.Opening.{Answered}
-use Rattle.ldm_sender.specs.Does.{IsPart}
-use Rattle.ldm_sender.specs.Acts.{Situation, Act, Logged, EndsAct, IsAllSent, is_whole}
+use Rattle.ldm_sender.specs.Calls.{MayBeUnmade}
+use Rattle.ldm_sender.specs.Does.{IsPart, IsAllBut}
+use Rattle.ldm_sender.specs.Acts.{Situation, Act, IsStop, Logged, EndsAct, IsAllSent, is_whole}
 use Rattle.ldm_sender.specs.Ending.{IsEndOf, IsLeft, closing_of, session_of}
 use Rattle.ldm_upstream.specs.Feeding.{Feeding, IsFeeding, stands, entries_of, bytes_of, codes_of, instants_of, goes_of, given_of}
-use Rattle.ldm_upstream.specs.Heard.{SaysLast}
+use Rattle.ldm_upstream.specs.Heard.{IsRefusal, SaysLast}
 use Rattle.ldm_upstream.specs.Course.{IsLastOf, AreRows}
 
 -- at an end before the first turn nothing was heard of the peer
@@ -26,13 +27,14 @@ HearsNone (end.Denied rule) given = given ≡ []
 HearsNone end.AllBusy given = given ≡ []
 HearsNone _ given = Unit {0}
 
--- A feeding was made up to an end: all of it where the end is a whole one, and else of each part a front.
+-- A feeding was made up to an end: all of it where the end is a whole one, and else of each part a front. No product is of it that no
+-- step of the cursor gave, and of none are blocks that the peer did not want.
 pub record Feeds (why : SendEnd) (asked : Asked) (ahead : List ℕ) (old new : PassView) (before after : SessionRecord) : Type 0 where
   pub feeding : Feeding
   pub is_feeding : IsFeeding asked feeding
-  -- the calls on the queue, and the one that closes the cursor
+  -- the calls on the queue, and the one that closes the cursor; each step of it was made
   pub called : List Entry
-  pub called_part : IsPart (is_whole why) called (entries_of old.actor asked feeding)
+  pub called_part : IsAllBut (is_whole why) MayBeUnmade called (entries_of old.actor asked feeding)
   pub made : Calls old new (called ++ closing_of old.actor why feeding.answered)
   -- each product that the cursor gave is the one of its number
   pub rows : AreRows new (given_of feeding)
@@ -45,14 +47,14 @@ pub record Feeds (why : SendEnd) (asked : Asked) (ahead : List ℕ) (old new : P
   pub left : IsLeft why after.link
   -- the replies, which are the first records in what came ahead and what the link gave
   pub codes : List Code
-  pub codes_part : IsPart (is_whole why) codes (codes_of feeding)
+  pub codes_part : IsAllBut (is_whole why) IsRefusal codes (codes_of feeding)
   pub says : SaysLast why (stands feeding).next (ahead ++ given) codes
   -- the clock, the gate and the log
   pub instants : List ℕ
   pub instants_part : IsPart (is_whole why) instants (instants_of feeding)
   pub answered : AnsweredAll instants before.clock after.clock
   pub goes : List Go
-  pub goes_part : IsPart (is_whole why) goes (goes_of feeding)
+  pub goes_part : IsAllBut (is_whole why) IsStop goes (goes_of feeding)
   pub idled : IdledAll goes before.gate after.gate
   pub logged : Logged why before.log (gap_log asked.host called) after.log
   -- why it ended, and how its last turn did
@@ -78,7 +80,7 @@ pub record HasFed (why : SendEnd) (asked : Asked) (ahead : List ℕ) (answered :
   pub all_sent : IsAllSent (is_whole why) new.moment.out
   pub rows : AreRows new.moment.pass (given_of feeding)
   pub codes : List Code
-  pub codes_part : IsPart (is_whole why) codes (codes_of feeding)
+  pub codes_part : IsAllBut (is_whole why) IsRefusal codes (codes_of feeding)
   pub says : SaysLast why (stands feeding).next (ahead ++ came) codes
   pub last : IsLastOf why feeding.last
   pub cause : IsEndOf why feeding.answered new.moment.pass (session_of old) (session_of new)

@@ -15,11 +15,11 @@ use Rattle.ldm_upstream.specs.Turns.{IsHandled}
 use Rattle.ldm_upstream.specs.Feeding.{Unanswered, IsLast}
 use Rattle.ldm_sender.specs.Deeds.{Deed, and_then, calling}
 use Rattle.ldm_upstream.specs.ProductDeeds.{handling_deed}
-use Rattle.ldm_sender.specs.Does.{Moment, Does, Breaks, IsPart}
+use Rattle.ldm_sender.specs.Does.{Moment, Does, Breaks, IsAllBut}
 use Rattle.ldm_upstream.specs.Giving.{HoldsGiven}
 use Rattle.ldm_sender.specs.Stopping.{KeepsCursor}
 use Rattle.ldm_sender.specs.Acts.{is_whole, IsAllSent}
-use Rattle.ldm_upstream.specs.Heard.{HearsOn, HearsLast}
+use Rattle.ldm_upstream.specs.Heard.{IsRefusal, HearsOn, HearsLast}
 
 -- why the offer of a product ends
 abbrev pub StopsOffer : SendEnd → Moment → Moment → Type 0
@@ -87,7 +87,7 @@ pub record BreaksOffer (why : SendEnd) (asked : Asked) (k : ℕ) (given : Given)
   pub came : List ℕ
   pub breaks : Breaks came old new (handling_deed old.pass.actor k standing.next given handling)
   pub codes : List Code
-  pub codes_part : IsPart false codes (handling_codes standing.next handling)
+  pub codes_part : IsAllBut false IsRefusal codes (handling_codes standing.next handling)
   pub heard : HearsLast why (after_handling standing given handling).next came codes replies
 
 abbrev pub EndsOfferBy : Bool → SendEnd → Asked → ℕ → Given → Standing → (old new : Moment) → Replies → Type 0
@@ -126,7 +126,7 @@ pub record BreaksHandling (why : SendEnd) (asked : Asked) (k : ℕ) (given : Giv
   pub came : List ℕ
   pub breaks : Breaks came old new (product_deed old.pass.actor k standing.next given handling)
   pub codes : List Code
-  pub codes_part : IsPart false codes (handling_codes standing.next handling)
+  pub codes_part : IsAllBut false IsRefusal codes (handling_codes standing.next handling)
   pub heard : HearsLast why (after_handling standing given handling).next came codes replies
 
 abbrev pub EndsHandlingBy : Bool → SendEnd → Asked → ℕ → Given → Standing → (old new : Moment) → Replies → Type 0
