@@ -1,11 +1,12 @@
 -- The calls of a feeding are those of a life of its cursor.
-use Rattle.std.proofs.Common.{◌≡◌, ◌∙◌, ℕ, ◌+◌, Bool, true, false, List, [], ◌∷◌, ◌++◌, length, All, Option, Some, None, refl, sym, ap, subst, inl, inr, append_assoc, append-nil}
+use Rattle.std.proofs.Common.{◌≡◌, ◌∙◌, ℕ, ◌+◌, Bool, true, false, List, [], ◌∷◌, ◌++◌, length, All, Option, Some, None, refl, sym, ap, subst, inl, inr, append_assoc}
 use Rattle.std.specs.Prelude.{◌⊎◌, ◌&&◌}
 use Rattle.std.proofs.lemmas.Bool.{and_right}
 use Rattle.std.proofs.lemmas.List.Elements.{All-nil, All-cons, All-head, All-tail, All-append, All-weaker}
 use Rattle.ldm_outside.specs.Session.{SessionRecord}
 use Rattle.ldm_model.specs.declared.event.Event.TheVariants.{OpenCursor}
-use Rattle.ldm_model.specs.declared.event.Reply.TheVariants.{Opened as OpenedAt}
+use Rattle.ldm_model.specs.declared.event.Reply.{Reply}
+use Rattle.ldm_model.specs.declared.event.Reply.TheVariants.{End, Gap, Opened as OpenedAt}
 use Rattle.ldm_model.specs.declared.event.Start.{Start}
 use Rattle.ldm_model.specs.declared.event.Start.TheVariants.{AfterSignature}
 use Rattle.ldm_model.specs.declared.event.Entry.{Entry}
@@ -17,14 +18,15 @@ use Rattle.ldm_shared.specs.Passes.{PassView, HasSeen, Calls}
 use Rattle.ldm_sender.specs.declared.end.SendEnd.{SendEnd}
 use Rattle.ldm_sender.specs.Acts.{is_whole}
 use Rattle.ldm_sender.specs.Asked.{Asked}
-use Rattle.ldm_sender.specs.Calls.{MayBeUnmade}
+use Rattle.ldm_sender.specs.Calls.{MayBeUnmade, stepped}
 use Rattle.ldm_sender.specs.Does.{Each}
 use Rattle.ldm_sender.specs.Ending.{closing_of}
 use Rattle.ldm_sender.specs.Opening.{Opened, feeds_of, from_instant, opens, opening_calls, opening_entries, place_of}
 use Rattle.ldm_upstream.specs.Blocks.{blocks, reads}
 use Rattle.ldm_upstream.specs.Feeding.{Feeding, Last, GoesOn, Stopped, Unanswered, entries_of, last_entries}
 use Rattle.ldm_upstream.specs.Feeds.{Feeds}
-use Rattle.ldm_upstream.specs.Turn.{Given, Handling, Passed, Whole, Declined, InBlocks, Turn, Lost, Gave, Quiet, Alive, handling_entries, turn_entries}
+use Rattle.ldm_upstream.specs.ProductDeeds.{read_entry}
+use Rattle.ldm_upstream.specs.Turn.{Given, Handling, Passed, Whole, Declined, InBlocks, Turn, Lost, Gave, Quiet, Alive, given_reply, handling_entries, let_go, turn_entries}
 use Rattle.ldm_upstream.specs.Turns.{entries_of_turns}
 use Rattle.ldm_resuming.specs.Life.{HasLife, calls_of, gives}
 use Rattle.ldm_sender.proofs.Fronts.{all_but_at_most, each_last}
@@ -42,42 +44,55 @@ opens-last actor k asked None missed = record { refused = []; start = from_insta
 opens-last actor k asked (Some signature) false = record { refused = []; start = AfterSignature (record { 0 = signature }); are = refl }
 opens-last actor k asked (Some signature) true = record { refused = _ ∷ []; start = from_instant asked.class.from; are = refl }
 
--- ---- no call of a feeding closes its cursor
+-- ---- what holds of steps, of reads and of releases holds of all calls of a feeding
 
+module _ (P : Entry → Type 0) (actor k : ℕ) (step : (answer : Reply) → P (stepped actor k answer)) (read : (offset : ℕ) (part : List ℕ) → P (read_entry actor k offset part))
+    (lets_go : (given : Given) → P (let_go actor k given)) where
+  one-call : (entry : Entry) → P entry → All P (entry ∷ [])
+  one-call entry is = All-cons P entry [] is (All-nil P)
+
+  reads-all : (offset : ℕ) (parts : List (List ℕ)) → All P (reads actor k offset parts)
+  reads-all offset [] = All-nil P
+  reads-all offset (part ∷ parts) = All-cons P _ (reads actor k (offset + length part) parts) (read offset part) (reads-all (offset + length part) parts)
+
+  handling-all : (given : Given) (handling : Handling) → All P (handling_entries actor k given handling)
+  handling-all given Passed = All-nil P
+  handling-all given (Whole at) = reads-all 0 (blocks given.product.body)
+  handling-all given (Declined at) = All-nil P
+  handling-all given (InBlocks at blocks_at) = reads-all 0 (blocks given.product.body)
+
+  turn-all : (turn : Turn) → All P (turn_entries actor k turn)
+  turn-all (Lost count first last) = one-call _ (step (Gap count first last))
+  turn-all (Gave given handling) =
+      All-cons P _ _ (step (given_reply given)) (All-append P (handling_entries actor k given handling) _ (handling-all given handling) (one-call _ (lets_go given)))
+  turn-all (Quiet end now) = one-call _ (step (End end))
+  turn-all (Alive end now at) = one-call _ (step (End end))
+
+  turns-all : (turns : List Turn) → All P (entries_of_turns actor k turns)
+  turns-all [] = All-nil P
+  turns-all (turn ∷ turns) = All-append P (turn_entries actor k turn) (entries_of_turns actor k turns) (turn-all turn) (turns-all turns)
+
+  last-all : (last : Last) → All P (last_entries actor k last)
+  last-all GoesOn = All-nil P
+  last-all (Stopped end) = one-call _ (step (End end))
+  last-all (Unanswered given at) = one-call _ (step (given_reply given))
+
+  calls-all : (feeding : Feeding) → All P (calls_of actor k feeding)
+  calls-all feeding = All-append P (entries_of_turns actor k feeding.turns) (last_entries actor k feeding.last) (turns-all feeding.turns) (last-all feeding.last)
+
+-- no call of a feeding closes its cursor
 abbrev StaysOpen : Entry → Type 0
 StaysOpen entry = is_close entry.event ≡ false
 
-module _ (actor k : ℕ) where
-  one-open : (entry : Entry) → StaysOpen entry → All StaysOpen (entry ∷ [])
-  one-open entry still = All-cons StaysOpen entry [] still (All-nil StaysOpen)
+calls-open : (actor k : ℕ) (feeding : Feeding) → All StaysOpen (calls_of actor k feeding)
+calls-open actor k = calls-all StaysOpen actor k (λ answer. refl) (λ offset part. refl) (λ given. refl)
 
-  reads-open : (offset : ℕ) (bodies : List (List ℕ)) → All StaysOpen (reads actor k offset bodies)
-  reads-open offset [] = All-nil StaysOpen
-  reads-open offset (body ∷ bodies) = All-cons StaysOpen _ (reads actor k (offset + length body) bodies) refl (reads-open (offset + length body) bodies)
+-- one that may be left out gives no product
+abbrev GivesIfStep : Entry → Type 0
+GivesIfStep entry = MayBeUnmade entry → gives entry.reply ≡ false
 
-  handling-open : (given : Given) (handling : Handling) → All StaysOpen (handling_entries actor k given handling)
-  handling-open given Passed = All-nil StaysOpen
-  handling-open given (Whole at) = reads-open 0 (blocks given.product.body)
-  handling-open given (Declined at) = All-nil StaysOpen
-  handling-open given (InBlocks at blocks_at) = reads-open 0 (blocks given.product.body)
-
-  turn-open : (turn : Turn) → All StaysOpen (turn_entries actor k turn)
-  turn-open (Lost count first last) = one-open _ refl
-  turn-open (Gave given handling) = All-cons StaysOpen _ _ refl (All-append StaysOpen (handling_entries actor k given handling) _ (handling-open given handling) (one-open _ refl))
-  turn-open (Quiet end now) = one-open _ refl
-  turn-open (Alive end now at) = one-open _ refl
-
-  turns-open : (turns : List Turn) → All StaysOpen (entries_of_turns actor k turns)
-  turns-open [] = All-nil StaysOpen
-  turns-open (turn ∷ turns) = All-append StaysOpen (turn_entries actor k turn) (entries_of_turns actor k turns) (turn-open turn) (turns-open turns)
-
-  last-open : (last : Last) → All StaysOpen (last_entries actor k last)
-  last-open GoesOn = All-nil StaysOpen
-  last-open (Stopped end) = one-open _ refl
-  last-open (Unanswered given at) = one-open _ refl
-
-  calls-open : (feeding : Feeding) → All StaysOpen (calls_of actor k feeding)
-  calls-open feeding = All-append StaysOpen (entries_of_turns actor k feeding.turns) (last_entries actor k feeding.last) (turns-open feeding.turns) (last-open feeding.last)
+calls-give : (actor k : ℕ) (feeding : Feeding) → All GivesIfStep (calls_of actor k feeding)
+calls-give actor k = calls-all GivesIfStep actor k (λ answer left. absurd left) (λ offset part left. refl) (λ given left. refl)
 
 -- ---- the life
 
@@ -156,44 +171,7 @@ module _ (law : SeenLaw) (old new : PassView) (asked : Asked) (feeding : Feeding
 
 -- ---- of a call that feeds
 
--- calls that may be left out give no product, where they are calls of a feeding
-abbrev GivesIfStep : Entry → Type 0
-GivesIfStep entry = MayBeUnmade entry → gives entry.reply ≡ false
-
-module _ (actor k : ℕ) where
-  one-gives : (entry : Entry) → GivesIfStep entry → All GivesIfStep (entry ∷ [])
-  one-gives entry is = All-cons GivesIfStep entry [] is (All-nil GivesIfStep)
-
-  reads-give : (offset : ℕ) (bodies : List (List ℕ)) → All GivesIfStep (reads actor k offset bodies)
-  reads-give offset [] = All-nil GivesIfStep
-  reads-give offset (body ∷ bodies) = All-cons GivesIfStep _ (reads actor k (offset + length body) bodies) (λ _. refl) (reads-give (offset + length body) bodies)
-
-  handling-gives : (given : Given) (handling : Handling) → All GivesIfStep (handling_entries actor k given handling)
-  handling-gives given Passed = All-nil GivesIfStep
-  handling-gives given (Whole at) = reads-give 0 (blocks given.product.body)
-  handling-gives given (Declined at) = All-nil GivesIfStep
-  handling-gives given (InBlocks at blocks_at) = reads-give 0 (blocks given.product.body)
-
-  turn-gives : (turn : Turn) → All GivesIfStep (turn_entries actor k turn)
-  turn-gives (Lost count first last) = one-gives _ (λ left. absurd left)
-  turn-gives (Gave given handling) =
-      All-cons GivesIfStep _ _ (λ left. absurd left) (All-append GivesIfStep (handling_entries actor k given handling) _ (handling-gives given handling) (one-gives _ (λ _. refl)))
-  turn-gives (Quiet end now) = one-gives _ (λ left. absurd left)
-  turn-gives (Alive end now at) = one-gives _ (λ left. absurd left)
-
-  turns-give : (turns : List Turn) → All GivesIfStep (entries_of_turns actor k turns)
-  turns-give [] = All-nil GivesIfStep
-  turns-give (turn ∷ turns) = All-append GivesIfStep (turn_entries actor k turn) (entries_of_turns actor k turns) (turn-gives turn) (turns-give turns)
-
-  last-gives : (last : Last) → All GivesIfStep (last_entries actor k last)
-  last-gives GoesOn = All-nil GivesIfStep
-  last-gives (Stopped end) = one-gives _ (λ left. absurd left)
-  last-gives (Unanswered given at) = one-gives _ (λ left. absurd left)
-
-  calls-give : (feeding : Feeding) → All GivesIfStep (calls_of actor k feeding)
-  calls-give feeding = All-append GivesIfStep (entries_of_turns actor k feeding.turns) (last_entries actor k feeding.last) (turns-give feeding.turns) (last-gives feeding.last)
-
--- of such calls those that were left out give none
+-- of calls that were made and left out, those that were left out give none
 left-none : (front left : List Entry) → All GivesIfStep (front ++ left) → Each MayBeUnmade left → All (λ (entry : Entry). gives entry.reply ≡ false) left
 left-none [] [] all each = All-nil (λ (entry : Entry). gives entry.reply ≡ false)
 left-none [] (entry ∷ left) all each =
