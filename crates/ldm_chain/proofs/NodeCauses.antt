@@ -1,6 +1,5 @@
 -- The cause of a chain's end, at one of its nodes.
 use Rattle.std.proofs.Common.{◌≡◌, ℕ, ◌+◌, List, [], ◌∷◌, inl, inr, refl, sym, subst}
-use Rattle.std.specs.Prelude.{◌⊎◌}
 use Rattle.ldm_class.specs.Rules.{Rules}
 use Rattle.ldm_shared.specs.Passes.{PassView}
 use Rattle.ldm_sender.specs.Asked.{Asked}
@@ -14,7 +13,7 @@ use Rattle.ldm_chain.specs.declared.node.ChainEnd.{ChainEnd}
 use Rattle.ldm_chain.specs.declared.node.ChainEnd.TheVariants as chain_end
 use Rattle.ldm_chain.specs.declared.node.ChainNode.{ChainNode}
 use Rattle.ldm_chain.specs.Breaking.{Breaks, BreaksAt, BreaksEach}
-use Rattle.ldm_chain.specs.Causes.{AreAllTaken, CauseAt, CauseBehind, CauseEach, CausesAll, IsDenied, ReceiveCause, RefusedCause}
+use Rattle.ldm_chain.specs.Causes.{AreAllTaken, CauseAt, CauseBehind, CauseEach, CausesAll, ReceiveCause, RefusedCause}
 use Rattle.ldm_chain.specs.Ending.{end_by}
 use Rattle.ldm_chain.specs.Linking.{Links, asked_by, host_name}
 use Rattle.ldm_chain.specs.Queues.{AreToBeFed, IsChain, as_reduced, products_due}
@@ -44,14 +43,6 @@ breaks-behind i now host rules end from from' all to to' to'' olds news is named
     (inr (now, to'.pass, subst (λ (name : List ℕ). Links (asked_by name rules 1 to.class to.max_hereis) now from from' to.pass to'.pass) named links, behind))
 
 -- ---- causes
-
--- a request is declined since nothing is left, or since all cursors were taken
-pub refused-by : (answer : ClassAnswer) (asked : Asked) (found from : PassView) → RefusedCause answer asked found from → IsDenied asked ⊎ AreAllTaken (state_of found)
-refused-by class_answer.Denied asked found from cause = inl cause
-refused-by class_answer.Busy asked found from cause = inr cause.taken
-refused-by class_answer.Ok asked found from cause = absurd cause
-refused-by (class_answer.Reclass class) asked found from cause = absurd cause
-refused-by class_answer.BadPattern asked found from cause = absurd cause
 
 refused-found : (answer : ClassAnswer) (asked : Asked) (one other from : PassView) → (AreAllTaken (state_of one) → AreAllTaken (state_of other)) → RefusedCause answer asked one from
     → RefusedCause answer asked other from

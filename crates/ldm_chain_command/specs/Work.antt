@@ -40,3 +40,6 @@ pub record ChainOutside : Type 0 where
   pub streams : StreamsRecord
   pub clock : ClockRecord
   pub store : StoreRecord
+
+abbrev pub chain_outside : StreamsRecord → ClockRecord → StoreRecord → ChainOutside
+chain_outside streams clock store = record { streams = streams; clock = clock; store = store }

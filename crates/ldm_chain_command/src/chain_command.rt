@@ -5,7 +5,7 @@ ghost use Rattle.std.specs.List.{AllByRecursion};
 ghost use Rattle.ldm_outside.specs.Io.{SinkRecord};
 ghost use Rattle.ldm_status.specs.Streams.{streams_tells};
 ghost use Rattle.ldm_chain.specs.Queues.{IsForAllTimes};
-ghost use Rattle.ldm_chain_command.specs.Work.{ChainOutside, work_of};
+ghost use Rattle.ldm_chain_command.specs.Work.{chain_outside, work_of};
 ghost use Rattle.ldm_chain_command.specs.Policy.{UntakenCompletes};
 ghost use Rattle.ldm_chain_command.specs.Ending.{ChainEnds};
 ghost use Rattle.ldm_chain_command.specs.Law.{ObeysChainLaw};
@@ -38,8 +38,8 @@ fn feed_and_write<H: Wait, S: Source, K: Sink, C: Clock, F: Store>(
     requires classes { AllByRecursion IsForAllTimes setup.classes.items }
     requires few { length setup.classes.items ≤ 7 }
     ensures ends { (log_before log_after : SinkRecord) →
-        let old : ChainOutside = record { streams = record { source = S.tells source.old; sink = K.tells sink.old; log = log_before }; clock = C.tells clock.old; store = F.tells store.old } in
-        let new : ChainOutside = record { streams = record { source = S.tells source.new; sink = K.tells sink.new; log = log_after }; clock = C.tells clock.new; store = F.tells store.new } in
+        let old = chain_outside (record { source = S.tells source.old; sink = K.tells sink.old; log = log_before }) (C.tells clock.old) (F.tells store.old) in
+        let new = chain_outside (record { source = S.tells source.new; sink = K.tells sink.new; log = log_after }) (C.tells clock.new) (F.tells store.new) in
         ChainEnds result (work_of setup.entry) old new }
     ensures conf { IfErr result (λ why. UntakenCompletes why (option_copied setup.entry.conf) (F.tells store.old) (F.tells store.new)) }
     ensures source_kept { (S.tells source.old).faults ≤ (S.tells source.new).faults }
@@ -75,17 +75,17 @@ pub fn run_chain<H: Wait, S: Source, K: Sink, E: Sink, C: Clock, F: Store>(
 ) -> u8
     requires classes { AllByRecursion IsForAllTimes setup.classes.items }
     requires few { length setup.classes.items ≤ 7 }
-    ensures ends { let old : ChainOutside = record { streams = streams_tells S.tells K.tells E.tells streams.old; clock = C.tells clock.old; store = F.tells store.old } in
-        let new : ChainOutside = record { streams = streams_tells S.tells K.tells E.tells streams.new; clock = C.tells clock.new; store = F.tells store.new } in
+    ensures ends { let old = chain_outside (streams_tells S.tells K.tells E.tells streams.old) (C.tells clock.old) (F.tells store.old) in
+        let new = chain_outside (streams_tells S.tells K.tells E.tells streams.new) (C.tells clock.new) (F.tells store.new) in
         RunsChain (work_of setup.entry) result old new }
-    ensures law { let old : ChainOutside = record { streams = streams_tells S.tells K.tells E.tells streams.old; clock = C.tells clock.old; store = F.tells store.old } in
-        let new : ChainOutside = record { streams = streams_tells S.tells K.tells E.tells streams.new; clock = C.tells clock.new; store = F.tells store.new } in
+    ensures law { let old = chain_outside (streams_tells S.tells K.tells E.tells streams.old) (C.tells clock.old) (F.tells store.old) in
+        let new = chain_outside (streams_tells S.tells K.tells E.tells streams.new) (C.tells clock.new) (F.tells store.new) in
         ObeysChainLaw (work_of setup.entry) old new }
-    ensures completes { let old : ChainOutside = record { streams = streams_tells S.tells K.tells E.tells streams.old; clock = C.tells clock.old; store = F.tells store.old } in
-        let new : ChainOutside = record { streams = streams_tells S.tells K.tells E.tells streams.new; clock = C.tells clock.new; store = F.tells store.new } in
+    ensures completes { let old = chain_outside (streams_tells S.tells K.tells E.tells streams.old) (C.tells clock.old) (F.tells store.old) in
+        let new = chain_outside (streams_tells S.tells K.tells E.tells streams.new) (C.tells clock.new) (F.tells store.new) in
         ChainCompletes (work_of setup.entry) result old new }
-    ensures faults_kept { let old : ChainOutside = record { streams = streams_tells S.tells K.tells E.tells streams.old; clock = C.tells clock.old; store = F.tells store.old } in
-        let new : ChainOutside = record { streams = streams_tells S.tells K.tells E.tells streams.new; clock = C.tells clock.new; store = F.tells store.new } in
+    ensures faults_kept { let old = chain_outside (streams_tells S.tells K.tells E.tells streams.old) (C.tells clock.old) (F.tells store.old) in
+        let new = chain_outside (streams_tells S.tells K.tells E.tells streams.new) (C.tells clock.new) (F.tells store.new) in
         KeepsCounts old new }
 {
     histories_are_lawful();

@@ -1,7 +1,7 @@
 use Rattle.std.proofs.Common.{◌∙◌, ℕ, List, map, refl, subst}
 use Rattle.std.proofs.lemmas.Result.{err_from_is_err_and}
 use Rattle.ldm_outside.specs.Io.{Takes, WritesFront}
-use Rattle.ldm_chain_command.specs.Work.{ChainOutside, IsGoodSize, work_of}
+use Rattle.ldm_chain_command.specs.Work.{chain_outside, IsGoodSize, work_of}
 use Rattle.ldm_chain_command.specs.Nodes.{queue_of}
 use Rattle.ldm_chain_command.proofs.RanLemmas.{chains-of, stops-unfed, text-is}
 use Rattle.ldm_chain_command.proofs.chain_command.feed_and_write.Goals as goal
@@ -10,16 +10,10 @@ pub returns-in_err-write_all-clause-ends : goal.returns-in_err-write_all-clause-
 returns-in_err-write_all-clause-ends g c = λ log_before log_after.
     let p = err_from_is_err_and c.from_residual-in_err-write_all.result c.from_residual-in_err-write_all.ensures.1 in
     let work = work_of c.args.setup in
-    let old : ChainOutside = record {
-      streams = record { source = g.S.Source.tells c.args.source.now; sink = g.K.Sink.tells c.args.sink.now; log = log_before };
-      clock = g.C.Clock.tells c.args.clock.now;
-      store = g.F.Store.tells c.args.store.now;
-    } in
-    let new : ChainOutside = record {
-      streams = record { source = g.S.Source.tells c.take_script.new.source; sink = g.K.Sink.tells c.write_all.new.sink; log = log_after };
-      clock = g.C.Clock.tells c.fed_nodes.new.clock;
-      store = g.F.Store.tells c.take_policy.new.store;
-    } in
+    let old = chain_outside (record { source = g.S.Source.tells c.args.source.now; sink = g.K.Sink.tells c.args.sink.now; log = log_before })
+    (g.C.Clock.tells c.args.clock.now) (g.F.Store.tells c.args.store.now) in
+    let new = chain_outside (record { source = g.S.Source.tells c.take_script.new.source; sink = g.K.Sink.tells c.write_all.new.sink; log = log_after })
+    (g.C.Clock.tells c.fed_nodes.new.clock) (g.F.Store.tells c.take_policy.new.store) in
     let sizes = c.in_ok-check_sizes.ensures.good in
     let good : IsGoodSize work = record { arena = sizes.0; most = sizes.1; slots = sizes.2 } in
     let nodes = c.in_ok-nodes.nodes.items in
@@ -36,16 +30,10 @@ returns-in_err-write_all-clause-ends g c = λ log_before log_after.
 pub returns-clause-ends : goal.returns-clause-ends
 returns-clause-ends g c = λ log_before log_after.
     let work = work_of c.args.setup in
-    let old : ChainOutside = record {
-      streams = record { source = g.S.Source.tells c.args.source.now; sink = g.K.Sink.tells c.args.sink.now; log = log_before };
-      clock = g.C.Clock.tells c.args.clock.now;
-      store = g.F.Store.tells c.args.store.now;
-    } in
-    let new : ChainOutside = record {
-      streams = record { source = g.S.Source.tells c.take_script.new.source; sink = g.K.Sink.tells c.write_all.new.sink; log = log_after };
-      clock = g.C.Clock.tells c.fed_nodes.new.clock;
-      store = g.F.Store.tells c.take_policy.new.store;
-    } in
+    let old = chain_outside (record { source = g.S.Source.tells c.args.source.now; sink = g.K.Sink.tells c.args.sink.now; log = log_before })
+    (g.C.Clock.tells c.args.clock.now) (g.F.Store.tells c.args.store.now) in
+    let new = chain_outside (record { source = g.S.Source.tells c.take_script.new.source; sink = g.K.Sink.tells c.write_all.new.sink; log = log_after })
+    (g.C.Clock.tells c.fed_nodes.new.clock) (g.F.Store.tells c.take_policy.new.store) in
     let sizes = c.in_ok-check_sizes.ensures.good in
     let good : IsGoodSize work = record { arena = sizes.0; most = sizes.1; slots = sizes.2 } in
     let nodes = c.in_ok-nodes.nodes.items in
@@ -61,16 +49,10 @@ pub returns-in_err-nodes-clause-ends : goal.returns-in_err-nodes-clause-ends
 returns-in_err-nodes-clause-ends g c = λ log_before log_after.
     let p = err_from_is_err_and c.from_residual-in_err-nodes.result c.from_residual-in_err-nodes.ensures.1 in
     let work = work_of c.args.setup in
-    let old : ChainOutside = record {
-      streams = record { source = g.S.Source.tells c.args.source.now; sink = g.K.Sink.tells c.args.sink.now; log = log_before };
-      clock = g.C.Clock.tells c.args.clock.now;
-      store = g.F.Store.tells c.args.store.now;
-    } in
-    let new : ChainOutside = record {
-      streams = record { source = g.S.Source.tells c.take_script.new.source; sink = g.K.Sink.tells c.args.sink.now; log = log_after };
-      clock = g.C.Clock.tells c.fed_nodes.new.clock;
-      store = g.F.Store.tells c.take_policy.new.store;
-    } in
+    let old = chain_outside (record { source = g.S.Source.tells c.args.source.now; sink = g.K.Sink.tells c.args.sink.now; log = log_before })
+    (g.C.Clock.tells c.args.clock.now) (g.F.Store.tells c.args.store.now) in
+    let new = chain_outside (record { source = g.S.Source.tells c.take_script.new.source; sink = g.K.Sink.tells c.args.sink.now; log = log_after })
+    (g.C.Clock.tells c.fed_nodes.new.clock) (g.F.Store.tells c.take_policy.new.store) in
     let sizes = c.in_ok-check_sizes.ensures.good in
     let good : IsGoodSize work = record { arena = sizes.0; most = sizes.1; slots = sizes.2 } in
     rw (p.1, p.2)

@@ -1,7 +1,7 @@
 use Rattle.std.proofs.Common.{subst}
 use Rattle.ldm_status.specs.declared.status.Status.{Status}
 use Rattle.ldm_status.specs.Status.{Reports}
-use Rattle.ldm_chain_command.specs.Work.{ChainOutside, work_of}
+use Rattle.ldm_chain_command.specs.Work.{chain_outside, work_of}
 use Rattle.ldm_chain_command.proofs.ChainCompletesLemmas.{chain-completes}
 use Rattle.ldm_chain_command.proofs.ChainLawLemmas.{chain-obeys}
 use Rattle.ldm_chain_command.proofs.chain_command.run_chain.Goals as goal
@@ -18,16 +18,10 @@ pub returns-clause-completes : goal.returns-clause-completes
 returns-clause-completes g c = λ free.
     let streams = c.args.streams.now in
     let ran = c.feed_and_write-ending in
-    let old : ChainOutside = record {
-      streams = record { source = g.S.Source.tells streams.source; sink = g.K.Sink.tells streams.sink; log = g.E.Sink.tells streams.log };
-      clock = g.C.Clock.tells c.args.clock.now;
-      store = g.F.Store.tells c.args.store.now;
-    } in
-    let new : ChainOutside = record {
-      streams = record { source = g.S.Source.tells ran.new.source; sink = g.K.Sink.tells ran.new.sink; log = g.E.Sink.tells c.report.new.log };
-      clock = g.C.Clock.tells ran.new.clock;
-      store = g.F.Store.tells ran.new.store;
-    } in
+    let old = chain_outside (record { source = g.S.Source.tells streams.source; sink = g.K.Sink.tells streams.sink; log = g.E.Sink.tells streams.log })
+    (g.C.Clock.tells c.args.clock.now) (g.F.Store.tells c.args.store.now) in
+    let new = chain_outside (record { source = g.S.Source.tells ran.new.source; sink = g.K.Sink.tells ran.new.sink; log = g.E.Sink.tells c.report.new.log })
+    (g.C.Clock.tells ran.new.clock) (g.F.Store.tells ran.new.store) in
     chain-completes (work_of c.args.setup) old new free ran.result c.report.result (ran.ensures.ends old.streams.log new.streams.log) ran.ensures.conf
     (subst (λ (e : Status). Reports e c.report.result old.streams.log new.streams.log) c.status_of.ensures c.report.ensures.reports)
 
@@ -35,14 +29,8 @@ pub returns-clause-law : goal.returns-clause-law
 returns-clause-law g c =
     let streams = c.args.streams.now in
     let ran = c.feed_and_write-ending in
-    let old : ChainOutside = record {
-      streams = record { source = g.S.Source.tells streams.source; sink = g.K.Sink.tells streams.sink; log = g.E.Sink.tells streams.log };
-      clock = g.C.Clock.tells c.args.clock.now;
-      store = g.F.Store.tells c.args.store.now;
-    } in
-    let new : ChainOutside = record {
-      streams = record { source = g.S.Source.tells ran.new.source; sink = g.K.Sink.tells ran.new.sink; log = g.E.Sink.tells c.report.new.log };
-      clock = g.C.Clock.tells ran.new.clock;
-      store = g.F.Store.tells ran.new.store;
-    } in
+    let old = chain_outside (record { source = g.S.Source.tells streams.source; sink = g.K.Sink.tells streams.sink; log = g.E.Sink.tells streams.log })
+    (g.C.Clock.tells c.args.clock.now) (g.F.Store.tells c.args.store.now) in
+    let new = chain_outside (record { source = g.S.Source.tells ran.new.source; sink = g.K.Sink.tells ran.new.sink; log = g.E.Sink.tells c.report.new.log })
+    (g.C.Clock.tells ran.new.clock) (g.F.Store.tells ran.new.store) in
     chain-obeys c.histories_are_lawful.ensures (work_of c.args.setup) old new ran.result (ran.ensures.ends old.streams.log new.streams.log)
