@@ -14,6 +14,7 @@ import hashlib
 import os
 import pathlib
 import random
+import resource
 import socket
 import struct
 import subprocess
@@ -123,13 +124,17 @@ class Place:
         path.write_bytes(content if isinstance(content, bytes) else content.encode())
         return name
 
-    def start(self, *words, source=os.devnull, output=None, log=None):
-        """A program of these words, which reads that file, and whose output and log go to files."""
+    def start(self, *words, source=os.devnull, output=None, log=None, memory=None):
+        """A program of these words, which reads that file, and whose output and log go to files. It gets so many bytes of memory at most."""
         self.count += 1
         paths = [output or self.folder / f"output.{self.count}", log or self.folder / f"log.{self.count}"]
-        with open(self.folder / source, "rb") as source, open(paths[0], "wb") as output, open(paths[1], "wb") as log:
+        limit = (lambda: resource.setrlimit(resource.RLIMIT_AS, (memory, memory))) if memory else None
+        # a folder can be opened so too, and not read
+        source = os.open(self.folder / source, os.O_RDONLY)
+        with open(paths[0], "wb") as output, open(paths[1], "wb") as log:
             streams = {"stdin": source, "stdout": output, "stderr": log}
-            program = subprocess.Popen([PROGRAM, *map(str, words)], cwd=self.folder, **streams)
+            program = subprocess.Popen([PROGRAM, *map(str, words)], cwd=self.folder, preexec_fn=limit, **streams)
+        os.close(source)
         program.paths = paths
         self.running.append(program)
         return program
@@ -1357,6 +1362,38 @@ def ends_as_it_is_told(place):
     expect(node.ended(), (0, used, b"session 127.0.0.1 ended\nsession 127.0.0.1 stopped\n"), "a node whose worker was idle")
 
 
+def ends_with_each_status(place):
+    """The number that the program ends with is the one that its log line tells: a run for each status that can be had from outside."""
+    node = place.node("ALLOW IDS .*\nACCEPT ANY .* .*\n", *MANY)
+    node.put_all([Product(b"a", b"body")])
+    nowhere = f"{HOST}:{free_port()}"
+    place.file("script", "")
+    place.file("wrong", "x\n")
+    place.file("too long", b"\n" * 67_108_864)
+    place.file("lacks", "EXEC no-such-program-is-here\n")
+    place.file("twice", "IDS\n")
+    expect(place.run("pqinsert", "-q", node.at, "twice").status, 0, "pqinsert")
+    cases = [
+        (["play", 168, 10], {"source": "script"}, 0, ""),
+        (["play"], {}, 64, "usage"),
+        (["play", 168, 10], {"source": "wrong"}, 65, "bad line 1 column 1"),
+        (["crowd", 64, 1, 1], {"source": "too long"}, 66, "stream limit"),
+        (["play", 60, 10], {}, 67, "refused arena 60"),
+        (["pqmon", "-q", nowhere], {}, 69, "net fault"),
+        (["play", 2**30, 1], {"memory": 2**29}, 71, "no memory"),
+        (["pqact", "no-such-file", node.at], {}, 72, "store fault"),
+        (["node", "-p", free_port(), "lacks"], {}, 73, "child fault"),
+        (["play", 168, 10], {"source": "."}, 74, "source fault"),
+        (["pqmon", "-q", node.at], {"output": FULL}, 75, "sink fault"),
+        (["play"], {"log": FULL}, 76, ""),
+        (["pqcat", "-f", "HDS", "-q", node.at], {}, 78, "denied"),
+        (["pqinsert", "-q", node.at, "twice"], {}, 79, "refused"),
+    ]
+    for words, streams, status, log in cases:
+        ran = place.run(*words, **streams)
+        expect((ran.status, ran.log), (status, f"ldm: {log}\n".encode() if log else b""), f"{words} with {streams}")
+
+
 def does_not_begin(place):
     """A node that cannot begin tells why, by its status and a line."""
     port = free_port()
@@ -1539,6 +1576,7 @@ CASES = [
     acts_on_many_files,
     acts_no_more,
     ends_as_it_is_told,
+    ends_with_each_status,
     does_not_begin,
     chains_queues,
 ]
