@@ -19,7 +19,7 @@ use Rattle.ldm_model.specs.History.{IsAnswered, IsLegalFrom, IsLegal}
 use Rattle.ldm_model.specs.Filled.{bytes_of_entry}
 use Rattle.ldm_model.specs.Filling.{Filling, state_filling, body_so_far, place_filled, is_that, is_filling, IsFillingAnswered, ObeysFilling}
 use Rattle.ldm_model.proofs.Rows.{slice_get-last}
-use Rattle.ldm_model.proofs.ReservationCases.{by_fill, by_discard, by_commit}
+use Rattle.ldm_model.proofs.ReservationCases.{by_fill, by_discard, by_commit, overfill-too_many, commit-has_left}
 use Rattle.ldm_model.proofs.Effects.{entry_of}
 use Rattle.ldm_model.proofs.Opened.{bytes_filled-push, filled-bytes}
 use Rattle.ldm_model.proofs.FillingPoints.{with_filled, LivesAt, LivesAt-point, IsLegalFilling-point, IsReserved-lives}
@@ -36,8 +36,8 @@ module _ (f : Filling) (h : LivesAt f) where
   record Answers (actor : ℕ) (e : Event) (o : Outcome) : Type 0 where
     has_reservation : o.reply ≢ reply.NoReservation
     filled : (left : ℕ) → o.reply ≡ reply.Filled left → left + length (body_so_far f ++ bytes_of_entry f.owner f.r (entry_of actor e o)) ≡ f.info.size
-    overfill : (left : ℕ) → o.reply ≡ reply.Overfill left → left + length (body_so_far f) ≡ f.info.size
-    unfilled : (left : ℕ) → o.reply ≡ reply.Unfilled left → left + length (body_so_far f) ≡ f.info.size
+    overfill : (left : ℕ) → o.reply ≡ reply.Overfill left → (left + length (body_so_far f) ≡ f.info.size) × ((bytes : List ℕ) × (e ≡ event.Fill f.r bytes))
+    unfilled : (left : ℕ) → o.reply ≡ reply.Unfilled left → (left + length (body_so_far f) ≡ f.info.size) × ((now : ℕ) × (e ≡ event.Commit f.r now))
     committed : (n time : ℕ) → o.reply ≡ reply.Committed n time → (length (body_so_far f) ≡ f.info.size)
         × (slice_get o.state.rows n ≡ Some (record { product = record { info = f.info; body = body_so_far f }; time = time; place = Some h.place }))
 
@@ -67,7 +67,7 @@ module _ (f : Filling) (h : LivesAt f) where
     overfill = by_its _ (record {
       has_reservation = λ x. absurd cc;
       filled = λ left x. absurd cc;
-      overfill = λ left x. let same : left_of its ≡ left = cc in ap (λ (n : ℕ). n + length (body_so_far f)) (sym same) ∙ left-is;
+      overfill = λ left x. let same : left_of its ≡ left = cc in (ap (λ (n : ℕ). n + length (body_so_far f)) (sym same) ∙ left-is, (bytes, refl));
       unfilled = λ left x. absurd cc;
       committed = λ n time x. absurd cc;
     });
@@ -122,7 +122,7 @@ module _ (f : Filling) (h : LivesAt f) where
       has_reservation = λ x. absurd cc;
       filled = λ left x. absurd cc;
       overfill = λ left x. absurd cc;
-      unfilled = λ left x. let same : left_of its ≡ left = cc in ap (λ (n : ℕ). n + length (body_so_far f)) (sym same) ∙ left-is;
+      unfilled = λ left x. let same : left_of its ≡ left = cc in (ap (λ (n : ℕ). n + length (body_so_far f)) (sym same) ∙ left-is, (now, refl));
       committed = λ n time x. absurd cc;
     });
     duplicate = λ reservation own n. plain _ _ refl;
@@ -154,6 +154,10 @@ module _ (f : Filling) (h : LivesAt f) where
   answered-call actor (event.Discard q) own = at-its (λ a k. Answers a (event.Discard k) (discard (state_filling f) a k)) at_discard actor q own
   answered-call actor e own = absurd (both_ways (actor == f.owner && false) (and_right (actor == f.owner) false refl) own)
 
+  -- what an entry is answered, where its event is known
+  at-event : (entry : Entry) (e : Event) → entry.event ≡ e → (next (state_filling f) entry.actor e).reply ≡ (next (state_filling f) entry.actor entry.event).reply
+  at-event entry e is = ap (λ (it : Event). (next (state_filling f) entry.actor it).reply) (sym is)
+
   answered-entry : (entry : Entry) → IsAnswered (state_filling f) entry → is_filling f entry ≡ true → IsFillingAnswered f entry
   answered-entry entry answered own =
       let call = answered-call entry.actor entry.event own in
@@ -164,8 +168,18 @@ module _ (f : Filling) (h : LivesAt f) where
             ap (λ (bytes : List ℕ). left + length bytes) (bytes_filled-push f.owner f.r f.since entry
             ∙ ap (λ (answer : Reply). body_so_far f ++ bytes_of_entry f.owner f.r (record { actor = entry.actor; event = entry.event; reply = answer })) same)
             ∙ call.filled left (sym same ∙ x);
-        overfill = λ left x. call.overfill left (sym same ∙ x);
-        unfilled = λ left x. call.unfilled left (sym same ∙ x);
+        overfill = λ left x.
+            let done = call.overfill left (sym same ∙ x) in record {
+              is_left = done.0;
+              bytes = done.1.0;
+              is_fill = done.1.1;
+              too_many = overfill-too_many (state_filling f) entry.actor f.r done.1.0 left (at-event entry (event.Fill f.r done.1.0) done.1.1 ∙ sym same ∙ x);
+            };
+        unfilled = λ left x.
+            let done = call.unfilled left (sym same ∙ x) in record {
+              is_left = done.0;
+              some = commit-has_left (state_filling f) entry.actor f.r done.1.0 left (at-event entry (event.Commit f.r done.1.0) done.1.1 ∙ sym same ∙ x);
+            };
         committed = λ n time x. let done = call.committed n time (sym same ∙ x) in record { whole = done.0; place = h.place; made = h.made; row = done.1 };
       }
 

@@ -1,7 +1,7 @@
 -- What the events on reservations lead to, case by case: what holds in each case holds of the event.
-use Rattle.std.proofs.Common.{◌≡◌, ◌∙◌, ℕ, ◌≤◌, List, length, Option, Some, None, refl, sym, ap, arith}
+use Rattle.std.proofs.Common.{◌≡◌, ◌∙◌, ℕ, ◌<◌, ◌≤◌, List, length, Option, Some, None, refl, sym, ap, arith}
 use Rattle.std.specs.Prelude.{◌==◌, nat_lt}
-use Rattle.std.proofs.lemmas.Bool.{cond_both, eqb-true, ltb-false}
+use Rattle.std.proofs.lemmas.Bool.{cond_both, eqb-true, ltb-true, ltb-false}
 use Rattle.std.proofs.lemmas.Option.{cond_some}
 use Rattle.ldm_types.specs.Info.{Metadata}
 use Rattle.ldm_model.specs.declared.event.Reply.TheVariants as reply
@@ -107,3 +107,34 @@ module _ (s : State) (P : Outcome → Type 0) where
               reply = reply.Committed (end_of s) (time_after (last_time s) now);
               state = admit (with_reservation s r None) now (product_of reservation) (Some reservation.place);
             }) P (λ late. cases.time_end reservation e) (λ early. cases.committed reservation e whole)
+
+module _ (s : State) (actor r : ℕ) where
+  -- a call that overfills has more bytes than are left
+  pub overfill-too_many : (bytes : List ℕ) (left : ℕ) → (fill s actor r bytes).reply ≡ reply.Overfill left → left < length bytes
+  unfolding fill
+  overfill-too_many bytes left = on_its s (λ (o : Outcome). o.reply ≡ reply.Overfill left → left < length bytes) actor r (fill_open s r bytes) (λ none x. absurd cc)
+      (λ reservation own. cond_both (nat_lt (left_of reservation) (length bytes)) (unchanged s (reply.Overfill (left_of reservation)))
+      (record { reply = reply.Filled (left_of (with_bytes bytes reservation)); state = with_reservation s r (Some (with_bytes bytes reservation)) })
+      (λ (o : Outcome). o.reply ≡ reply.Overfill left → left < length bytes)
+      (λ more x. let same : left_of reservation ≡ left = cc in let less = ltb-true (left_of reservation) (length bytes) more in omega (arith, same, less))
+      (λ fits x. absurd cc))
+
+  -- a body that is committed too early has bytes left
+  abbrev HasLeft : ℕ → Outcome → Type 0
+  HasLeft left o = o.reply ≡ reply.Unfilled left → 0 < left
+
+  commit_whole-has_left : (now left : ℕ) (reservation : Reservation) (q : Option Queued) → HasLeft left (commit_whole (with_reservation s r None) now reservation q)
+  commit_whole-has_left now left reservation (Some q) = λ x. absurd cc
+  commit_whole-has_left now left reservation None = cond_both (is_last (last_time s)) (unchanged (with_reservation s r None) reply.TimeEnd)
+      (record {
+        reply = reply.Committed (end_of s) (time_after (last_time s) now);
+        state = admit (with_reservation s r None) now (product_of reservation) (Some reservation.place);
+      }) (HasLeft left) (λ late x. absurd cc) (λ early x. absurd cc)
+
+  pub commit-has_left : (now left : ℕ) → HasLeft left (commit s actor r now)
+  unfolding commit
+  commit-has_left now left = on_its s (HasLeft left) actor r (commit_open s r now) (λ none x. absurd cc) (λ reservation own. cond_both (nat_lt 0 (left_of reservation))
+      (unchanged s (reply.Unfilled (left_of reservation)))
+      (commit_whole (with_reservation s r None) now reservation (queued_with reservation.info.signature (queued s))) (HasLeft left)
+      (λ more x. let same : left_of reservation ≡ left = cc in let less = ltb-true 0 (left_of reservation) more in omega (arith, same, less))
+      (λ whole. commit_whole-has_left now left reservation (queued_with reservation.info.signature (queued s))))

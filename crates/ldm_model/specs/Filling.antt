@@ -1,5 +1,5 @@
 -- The law of reservations: from the entry that reserves a region to the one that ends the reservation.
-use Rattle.std.specs.Prelude.{◌≡◌, ◌≢◌, ℕ, ◌+◌, ◌≤◌, ◌==◌, Bool, false, true, ◌&&◌, List, [], ◌∷◌, ◌++◌, length, All, IfSome, Option, Some, None, slice_get}
+use Rattle.std.specs.Prelude.{◌≡◌, ◌≢◌, ℕ, ◌+◌, ◌<◌, ◌≤◌, ◌==◌, Bool, false, true, ◌&&◌, List, [], ◌∷◌, ◌++◌, length, All, IfSome, Option, Some, None, slice_get}
 use Rattle.ldm_types.specs.Info.{Metadata}
 use Rattle.ldm_types.specs.Arena.{AreApart}
 use Rattle.ldm_model.specs.declared.event.Event.{Event}
@@ -87,12 +87,24 @@ pub record CommitsFilled (f : Filling) (entry : Entry) (n time : ℕ) : Type 0 w
   pub row : slice_get (next_entry (state_filling f) entry).state.rows n
       ≡ Some (record { product = record { info = f.info; body = body_so_far f }; time = time; place = Some place })
 
+-- So many bytes of the body are left, and a call was to fill in more.
+pub record IsOverfill (f : Filling) (event : Event) (left : ℕ) : Type 0 where
+  pub is_left : left + length (body_so_far f) ≡ f.info.size
+  pub bytes : List ℕ
+  pub is_fill : event ≡ Fill f.r bytes
+  pub too_many : left < length bytes
+
+-- So many bytes of the body are left, and at least one.
+pub record IsUnfilled (f : Filling) (left : ℕ) : Type 0 where
+  pub is_left : left + length (body_so_far f) ≡ f.info.size
+  pub some : 0 < left
+
 -- What the owner is answered on its reservation.
 pub record IsFillingAnswered (f : Filling) (entry : Entry) : Type 0 where
   pub has_reservation : entry.reply ≢ reply.NoReservation
   pub filled : (left : ℕ) → entry.reply ≡ reply.Filled left → left + length (bytes_filled f.owner f.r (f.since ++ entry ∷ [])) ≡ f.info.size
-  pub overfill : (left : ℕ) → entry.reply ≡ reply.Overfill left → left + length (body_so_far f) ≡ f.info.size
-  pub unfilled : (left : ℕ) → entry.reply ≡ reply.Unfilled left → left + length (body_so_far f) ≡ f.info.size
+  pub overfill : (left : ℕ) → entry.reply ≡ reply.Overfill left → IsOverfill f entry.event left
+  pub unfilled : (left : ℕ) → entry.reply ≡ reply.Unfilled left → IsUnfilled f left
   pub committed : (n time : ℕ) → entry.reply ≡ reply.Committed n time → CommitsFilled f entry n time
 
 -- The law of a history: every reservation is kept so at every point, and its owner answered so at each call on it.

@@ -6,5 +6,5 @@ returns c = λ arena slots history legal. record {
   legal = legal;
   readers = c.fifo.ensures.obeys_law arena slots history legal;
   reservations = c.filled.ensures arena slots history legal;
-  insertions = insertions c.histories_append.ensures.legal c.histories_append.ensures.state c.evictions_make_room.ensures.locked arena slots history legal;
+  insertions = insertions arena slots (c.histories_append.ensures.legal arena slots) (c.histories_append.ensures.state arena slots) c.evictions_make_room.ensures.locked history legal;
 }
