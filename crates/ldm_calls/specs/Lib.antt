@@ -1,3 +1,4 @@
 pub mod OnBook
 pub mod Lines
 pub mod Lawful
+pub mod Rooms

@@ -3,13 +3,12 @@
 use crate::caller::{Caller, Unmade};
 use ldm_book::Book;
 use ldm_model::{
-    CloseReply, CommitReply, DiscardReply, ExpireReply, FillReply, InsertReply, LookReply,
-    OpenReply, ReadReply, ReleaseReply, ReserveNo, ReserveReply, Start, Stat, StepReply,
-    TallyReply, actor_is_possible, bytes_are_possible, commit_is_possible, feed_is_possible,
-    fill_is_possible, info_is_possible, place_is_possible, reservation_is_possible,
-    signature_is_possible, start_is_possible,
+    actor_is_possible, commit_is_possible, feed_is_possible, fill_is_possible, info_is_possible,
+    insert_is_possible, place_is_possible, reservation_is_possible, signature_is_possible,
+    start_is_possible,
 };
-use ldm_types::{Actor, CursorNo, Feed, Info, Micros, Signature};
+use ldm_script::{Answer, Call, body_into};
+use ldm_types::Actor;
 
 impl Caller for Actor {
     ghost use Rattle.ldm_calls.specs.OnBook.{BookAnswers};
@@ -22,100 +21,72 @@ impl Caller for Actor {
 
     ghost unmade = { λ _ _ _. ⊥ };
 
-    fn insert(
+    fn call<'a>(
         &self,
         queue: &mut Book,
-        now: Micros,
-        info: &Info,
-        body: &[u8],
-    ) -> Result<InsertReply, Unmade> {
-        actor_is_possible(*self);
-        let _ = now.get();
-        info_is_possible(info);
-        bytes_are_possible(body);
-        Ok(queue.insert(*self, now, info, body))
-    }
-
-    fn open_cursor(&self, queue: &mut Book, feed: Feed, start: Start) -> Result<OpenReply, Unmade> {
-        actor_is_possible(*self);
-        feed_is_possible(feed);
-        start_is_possible(&start);
-        Ok(queue.open_cursor(*self, feed, start))
-    }
-
-    fn step(&self, queue: &mut Book, k: CursorNo) -> Result<StepReply, Unmade> {
-        actor_is_possible(*self);
-        place_is_possible(k);
-        Ok(queue.step(*self, k))
-    }
-
-    fn read(
-        &self,
-        queue: &mut Book,
-        k: CursorNo,
-        offset: u32,
-        into: &mut [u8],
-    ) -> Result<ReadReply, Unmade> {
-        actor_is_possible(*self);
-        place_is_possible(k);
-        Ok(queue.read(*self, k, offset, into))
-    }
-
-    fn release(&self, queue: &mut Book, k: CursorNo) -> Result<ReleaseReply, Unmade> {
-        actor_is_possible(*self);
-        place_is_possible(k);
-        Ok(queue.release(*self, k))
-    }
-
-    fn close(&self, queue: &mut Book, k: CursorNo) -> Result<CloseReply, Unmade> {
-        actor_is_possible(*self);
-        place_is_possible(k);
-        Ok(queue.close(*self, k))
-    }
-
-    fn look(&self, queue: &mut Book, s: &Signature) -> Result<LookReply, Unmade> {
-        actor_is_possible(*self);
-        signature_is_possible(s);
-        Ok(queue.look(*self, s))
-    }
-
-    fn expire(&self, queue: &mut Book) -> Result<ExpireReply, Unmade> {
-        actor_is_possible(*self);
-        Ok(queue.expire(*self))
-    }
-
-    fn tally(&self, queue: &mut Book, k: CursorNo) -> Result<TallyReply, Unmade> {
-        actor_is_possible(*self);
-        place_is_possible(k);
-        Ok(queue.tally(*self, k))
-    }
-
-    fn stat(&self, queue: &mut Book) -> Result<Stat, Unmade> {
-        actor_is_possible(*self);
-        Ok(queue.stat(*self))
-    }
-
-    fn reserve(&self, queue: &mut Book, info: &Info) -> Result<ReserveReply, Unmade> {
-        actor_is_possible(*self);
-        info_is_possible(info);
-        Ok(queue.reserve(*self, info))
-    }
-
-    fn fill(&self, queue: &mut Book, r: ReserveNo, bytes: &[u8]) -> Result<FillReply, Unmade> {
-        actor_is_possible(*self);
-        fill_is_possible(r, bytes);
-        Ok(queue.fill(*self, r, bytes))
-    }
-
-    fn commit(&self, queue: &mut Book, r: ReserveNo, now: Micros) -> Result<CommitReply, Unmade> {
-        actor_is_possible(*self);
-        commit_is_possible(r, now);
-        Ok(queue.commit(*self, r, now))
-    }
-
-    fn discard(&self, queue: &mut Book, r: ReserveNo) -> Result<DiscardReply, Unmade> {
-        actor_is_possible(*self);
-        reservation_is_possible(r);
-        Ok(queue.discard(*self, r))
+        call: &Call,
+        body_room: &mut [u8],
+        read_room: &'a mut [u8],
+    ) -> Result<Answer<'a>, Unmade> {
+        let actor = *self;
+        actor_is_possible(actor);
+        Ok(match call {
+            Call::Insert { now, info, body } => {
+                let len = body_into(body, body_room);
+                let body = &body_room[..len];
+                insert_is_possible(*now, info, body);
+                Answer::from(queue.insert(actor, *now, info, body))
+            }
+            Call::OpenCursor { feed, start } => {
+                feed_is_possible(*feed);
+                start_is_possible(start);
+                Answer::from(queue.open_cursor(actor, *feed, *start))
+            }
+            Call::Step { k } => {
+                place_is_possible(*k);
+                Answer::from(queue.step(actor, *k))
+            }
+            Call::Read { k, offset, len } => {
+                place_is_possible(*k);
+                let into = &mut read_room[..*len as usize];
+                Answer::from_read(queue.read(actor, *k, *offset, into), into)
+            }
+            Call::Release { k } => {
+                place_is_possible(*k);
+                Answer::from(queue.release(actor, *k))
+            }
+            Call::Close { k } => {
+                place_is_possible(*k);
+                Answer::from(queue.close(actor, *k))
+            }
+            Call::Look { signature } => {
+                signature_is_possible(signature);
+                Answer::from(queue.look(actor, signature))
+            }
+            Call::Expire => Answer::from(queue.expire(actor)),
+            Call::Tally { k } => {
+                place_is_possible(*k);
+                Answer::from(queue.tally(actor, *k))
+            }
+            Call::Stat => Answer::from(queue.stat(actor)),
+            Call::Reserve { info } => {
+                info_is_possible(info);
+                Answer::from(queue.reserve(actor, info))
+            }
+            Call::Fill { r, body } => {
+                let len = body_into(body, body_room);
+                let bytes = &body_room[..len];
+                fill_is_possible(*r, bytes);
+                Answer::from(queue.fill(actor, *r, bytes))
+            }
+            Call::Commit { r, now } => {
+                commit_is_possible(*r, *now);
+                Answer::from(queue.commit(actor, *r, *now))
+            }
+            Call::Discard { r } => {
+                reservation_is_possible(*r);
+                Answer::from(queue.discard(actor, *r))
+            }
+        })
     }
 }

@@ -1,18 +1,13 @@
 //! The room in which lines are answered.
-ghost use Rattle.std.specs.Prelude.{◌≡◌, ◌≤◌, length, IfOk, OnOk, OnErr};
-ghost use Rattle.ldm_script.specs.AnswerView.{reply_of, FitsAnswer};
-ghost use Rattle.ldm_script.specs.Calls.{event_of, IsWholeCall};
+ghost use Rattle.std.specs.Prelude.{◌≡◌, ◌≤◌, length, OnOk, OnErr};
+ghost use Rattle.ldm_script.specs.AnswerView.{reply_of};
 ghost use Rattle.ldm_script.specs.OrderView.{asked_of, IsWhole};
 ghost use Rattle.ldm_script.specs.Resolve.{last_after};
 ghost use Rattle.ldm_script.specs.declared.answer.TheConstants.{LONGEST_ANSWER};
-ghost use Rattle.ldm_script.specs.declared.body.TheConstants.{LONGEST_BODY};
-ghost use Rattle.ldm_script.specs.declared.line.TheConstants.{LONGEST_READ};
 ghost use Rattle.ldm_calls.specs.Lines.{AnswersLine};
 
 use crate::caller::{Caller, Unmade};
-use ldm_script::{
-    Act, Answer, Call, LONGEST_BODY, LONGEST_READ, LastPlaces, Text, body_into, write_answer,
-};
+use ldm_script::{Act, Answer, LONGEST_BODY, LONGEST_READ, LastPlaces, Text, write_answer};
 use ldm_types::OutOfMemory;
 use std::alloc::Global;
 use std::marker::Model;
@@ -70,7 +65,7 @@ impl Room {
             write_answer(&act.unresolved(), &mut self.text);
             return Ok(());
         };
-        let answer = make(caller, queue, &mut self.body, &mut self.read, &call)?;
+        let answer = caller.call(queue, &call, &mut self.body, &mut self.read)?;
         note_place(last, &answer);
         write_answer(&answer, &mut self.text);
         Ok(())
@@ -83,50 +78,6 @@ impl Room {
     {
         self.text.as_slice()
     }
-}
-
-// Makes a call, and answers what the queue does. A body that is inserted is made in `body_room`, and the bytes that are read
-// stand in `read_room`.
-fn make<'a, C: Caller>(
-    caller: &C,
-    queue: &mut C::Queue,
-    body_room: &mut [u8],
-    read_room: &'a mut [u8],
-    call: &Call,
-) -> Result<Answer<'a>, Unmade>
-    requires may { C.may_call caller.now queue.old }
-    requires whole { IsWholeCall call.now }
-    requires body_room { LONGEST_BODY ≤ length body_room.old }
-    requires read_room { LONGEST_READ ≤ length read_room.old }
-    ensures made { IfOk result (λ answer. C.made caller.now queue.old (event_of call.now) (reply_of answer) queue.new) }
-    ensures fits { IfOk result FitsAnswer }
-    ensures unmade { OnErr result (C.unmade caller.now queue.old queue.new) }
-{
-    Ok(match call {
-        Call::Insert { now, info, body } => {
-            let len = body_into(body, body_room);
-            Answer::from(caller.insert(queue, *now, info, &body_room[..len])?)
-        }
-        Call::OpenCursor { feed, start } => Answer::from(caller.open_cursor(queue, *feed, *start)?),
-        Call::Step { k } => Answer::from(caller.step(queue, *k)?),
-        Call::Read { k, offset, len } => {
-            let into = &mut read_room[..*len as usize];
-            Answer::from_read(caller.read(queue, *k, *offset, into)?, into)
-        }
-        Call::Release { k } => Answer::from(caller.release(queue, *k)?),
-        Call::Close { k } => Answer::from(caller.close(queue, *k)?),
-        Call::Look { signature } => Answer::from(caller.look(queue, signature)?),
-        Call::Expire => Answer::from(caller.expire(queue)?),
-        Call::Tally { k } => Answer::from(caller.tally(queue, *k)?),
-        Call::Stat => Answer::from(caller.stat(queue)?),
-        Call::Reserve { info } => Answer::from(caller.reserve(queue, info)?),
-        Call::Fill { r, body } => {
-            let len = body_into(body, body_room);
-            Answer::from(caller.fill(queue, *r, &body_room[..len])?)
-        }
-        Call::Commit { r, now } => Answer::from(caller.commit(queue, *r, *now)?),
-        Call::Discard { r } => Answer::from(caller.discard(queue, *r)?),
-    })
 }
 
 // Notes the place, where the answer is `opened` or `reserved`.

@@ -2,13 +2,8 @@
 ghost use Rattle.std.specs.Prelude.{◌≡◌, ℕ, IfOk, OnErr};
 
 use ldm_calls::{Caller, Unmade};
-use ldm_model::{
-    CloseReply, CommitReply, DiscardReply, ExpireReply, FillReply, InsertReply, LookReply,
-    OpenReply, ReadReply, ReleaseReply, ReserveNo, ReserveReply, Start, Stat, StepReply,
-    TallyReply,
-};
+use ldm_script::{Answer, Call, body_into};
 use ldm_shared::{Pass, Shared, Turn};
-use ldm_types::{CursorNo, Feed, Info, Micros, Signature};
 use std::sync::Wait;
 
 /// Who makes the calls of a shared queue, each in a turn of its own, and waits for it.
@@ -30,72 +25,42 @@ impl<'a, H: Wait> Caller for Turns<'a, H> {
 
     ghost unmade = { λ _ old new. (turns : ℕ) × FindsWorn old new turns };
 
-    fn insert(
+    fn call<'r>(
         &self,
         pass: &mut Pass,
-        now: Micros,
-        info: &Info,
-        body: &[u8],
-    ) -> Result<InsertReply, Unmade> {
-        done(self.shared.insert(self.rt, pass, now, info, body))
-    }
-
-    fn open_cursor(&self, pass: &mut Pass, feed: Feed, start: Start) -> Result<OpenReply, Unmade> {
-        done(self.shared.open_cursor(self.rt, pass, feed, start))
-    }
-
-    fn step(&self, pass: &mut Pass, k: CursorNo) -> Result<StepReply, Unmade> {
-        done(self.shared.step(self.rt, pass, k))
-    }
-
-    fn read(
-        &self,
-        pass: &mut Pass,
-        k: CursorNo,
-        offset: u32,
-        into: &mut [u8],
-    ) -> Result<ReadReply, Unmade> {
-        done(self.shared.read(self.rt, pass, k, offset, into))
-    }
-
-    fn release(&self, pass: &mut Pass, k: CursorNo) -> Result<ReleaseReply, Unmade> {
-        done(self.shared.release(self.rt, pass, k))
-    }
-
-    fn close(&self, pass: &mut Pass, k: CursorNo) -> Result<CloseReply, Unmade> {
-        done(self.shared.close(self.rt, pass, k))
-    }
-
-    fn look(&self, pass: &mut Pass, s: &Signature) -> Result<LookReply, Unmade> {
-        done(self.shared.look(self.rt, pass, s))
-    }
-
-    fn expire(&self, pass: &mut Pass) -> Result<ExpireReply, Unmade> {
-        done(self.shared.expire(self.rt, pass))
-    }
-
-    fn tally(&self, pass: &mut Pass, k: CursorNo) -> Result<TallyReply, Unmade> {
-        done(self.shared.tally(self.rt, pass, k))
-    }
-
-    fn stat(&self, pass: &mut Pass) -> Result<Stat, Unmade> {
-        done(self.shared.stat(self.rt, pass))
-    }
-
-    fn reserve(&self, pass: &mut Pass, info: &Info) -> Result<ReserveReply, Unmade> {
-        done(self.shared.reserve(self.rt, pass, info))
-    }
-
-    fn fill(&self, pass: &mut Pass, r: ReserveNo, bytes: &[u8]) -> Result<FillReply, Unmade> {
-        done(self.shared.fill(self.rt, pass, r, bytes))
-    }
-
-    fn commit(&self, pass: &mut Pass, r: ReserveNo, now: Micros) -> Result<CommitReply, Unmade> {
-        done(self.shared.commit(self.rt, pass, r, now))
-    }
-
-    fn discard(&self, pass: &mut Pass, r: ReserveNo) -> Result<DiscardReply, Unmade> {
-        done(self.shared.discard(self.rt, pass, r))
+        call: &Call,
+        body_room: &mut [u8],
+        read_room: &'r mut [u8],
+    ) -> Result<Answer<'r>, Unmade> {
+        let rt = self.rt;
+        let shared = self.shared;
+        Ok(match call {
+            Call::Insert { now, info, body } => {
+                let len = body_into(body, body_room);
+                Answer::from(done(shared.insert(rt, pass, *now, info, &body_room[..len]))?)
+            }
+            Call::OpenCursor { feed, start } => {
+                Answer::from(done(shared.open_cursor(rt, pass, *feed, *start))?)
+            }
+            Call::Step { k } => Answer::from(done(shared.step(rt, pass, *k))?),
+            Call::Read { k, offset, len } => {
+                let into = &mut read_room[..*len as usize];
+                Answer::from_read(done(shared.read(rt, pass, *k, *offset, into))?, into)
+            }
+            Call::Release { k } => Answer::from(done(shared.release(rt, pass, *k))?),
+            Call::Close { k } => Answer::from(done(shared.close(rt, pass, *k))?),
+            Call::Look { signature } => Answer::from(done(shared.look(rt, pass, signature))?),
+            Call::Expire => Answer::from(done(shared.expire(rt, pass))?),
+            Call::Tally { k } => Answer::from(done(shared.tally(rt, pass, *k))?),
+            Call::Stat => Answer::from(done(shared.stat(rt, pass))?),
+            Call::Reserve { info } => Answer::from(done(shared.reserve(rt, pass, info))?),
+            Call::Fill { r, body } => {
+                let len = body_into(body, body_room);
+                Answer::from(done(shared.fill(rt, pass, *r, &body_room[..len]))?)
+            }
+            Call::Commit { r, now } => Answer::from(done(shared.commit(rt, pass, *r, *now))?),
+            Call::Discard { r } => Answer::from(done(shared.discard(rt, pass, *r))?),
+        })
     }
 }
 

@@ -9,7 +9,7 @@ use crate::order::{BODY_LIMIT, Order, READ_SIZE, Request};
 use ldm_book::Book;
 use ldm_calls::{Caller, Unmade};
 use ldm_model::Start;
-use ldm_script::{Answer, Body, body_into};
+use ldm_script::{Answer, Body, Call};
 use ldm_types::{CursorNo, Feed};
 
 /// Makes the call of an order, and answers what the queue does. A body that is inserted is made in `body_room`, and the bytes
@@ -22,27 +22,47 @@ pub fn call<'a>(
 ) -> Result<Answer<'a>, Unmade>
     requires short { IsShort order.now.request }
     requires body_room { BODY_LIMIT ≤ length body_room.old }
-    requires read_room { length read_room.old ≡ READ_SIZE }
+    requires read_room { READ_SIZE ≤ length read_room.old }
     ensures made { IfOk result (λ answer. BookAnswers order.now.actor book.old (event_of order.now.actor order.now.request) (reply_of answer) book.new) }
     ensures fits { IfOk result FitsAnswer }
     ensures unmade { OnErr result ⊥ }
 {
     let actor = order.actor;
-    let Some(cursor) = CursorNo::new(actor.get()) else {
+    let Some(k) = CursorNo::new(actor.get()) else {
         unreachable!()
     };
-    Ok(match &order.request {
-        Request::Open => Answer::from(actor.open_cursor(book, Feed(u32::MAX), Start::Oldest)?),
-        Request::Insert { info, byte } => {
-            let body = Body::Fill {
-                count: info.size(),
-                byte: *byte,
-            };
-            let len = body_into(&body, body_room);
-            Answer::from(actor.insert(book, info.arrival(), info, &body_room[..len])?)
+    match &order.request {
+        Request::Open => {
+            let feed = Feed(u32::MAX);
+            let start = Start::Oldest;
+            actor.call(
+                book,
+                &Call::OpenCursor { feed, start },
+                body_room,
+                read_room,
+            )
         }
-        Request::Step => Answer::from(actor.step(book, cursor)?),
-        Request::Read => Answer::from_read(actor.read(book, cursor, 0, read_room)?, read_room),
-        Request::Release => Answer::from(actor.release(book, cursor)?),
-    })
+        Request::Insert { info, byte } => {
+            let now = info.arrival();
+            let count = info.size();
+            let body = &Body::Fill { count, byte: *byte };
+            actor.call(
+                book,
+                &Call::Insert { now, info, body },
+                body_room,
+                read_room,
+            )
+        }
+        Request::Step => actor.call(book, &Call::Step { k }, body_room, read_room),
+        Request::Read => {
+            let len = READ_SIZE as u32;
+            actor.call(
+                book,
+                &Call::Read { k, offset: 0, len },
+                body_room,
+                read_room,
+            )
+        }
+        Request::Release => actor.call(book, &Call::Release { k }, body_room, read_room),
+    }
 }
