@@ -43,6 +43,24 @@ few_steps t steps b h =
     let up : 2 ^ steps ≤ 2 ^ height t = pow_mono h in
     omega (arith, up, pow_height t b, square (length (pairs_of t) + 1))
 
+-- a tree of n pairs has at least so many levels that their power of two is above n
+pub full_height : (t : Tree) → length (pairs_of t) + 1 ≤ 2 ^ height t
+full_height Leaf = omega arith
+full_height (Fork k p l r) =
+    over (length (pairs_of l)) (length (pairs_of r)) (length (pairs_of l ++ p ∷ pairs_of r)) (height l) (height r) (omega (arith, length-append (pairs_of l) (p ∷ pairs_of r))) (full_height l) (full_height r) where
+      over : (x y n a c : ℕ) → n ≡ x + (y + 1) → x + 1 ≤ 2 ^ a → y + 1 ≤ 2 ^ c → n + 1 ≤ 2 ^ (max a c + 1)
+      over x y n a c is fa fc =
+          let left : 2 ^ a ≤ 2 ^ max a c = pow_mono (omega arith) in
+          let right : 2 ^ c ≤ 2 ^ max a c = pow_mono (omega arith) in
+          let double : 2 ^ (max a c + 1) ≡ 2 ^ max a c * 2 = pow-add 2 (max a c) 1 in
+          omega (arith, is, fa, fc, left, right, double)
+
+-- so many steps, one for two levels at least
+pub enough_steps : (t : Tree) (steps : ℕ) → height t ≤ 2 * steps → length (pairs_of t) + 1 ≤ (2 ^ steps) ^ 2
+enough_steps t steps h =
+    let up : 2 ^ height t ≤ 2 ^ (steps + steps) = pow_mono (omega (arith, h)) in
+    omega (arith, full_height t, up, pow-add 2 steps steps, square (2 ^ steps))
+
 -- with fewer than 2 ^ 32 pairs there are at most 64 levels
 pub height_low : (t : Tree) → IsBalanced t → length (pairs_of t) < 2 ^ 32 → height t ≤ 64
 height_low t b h =

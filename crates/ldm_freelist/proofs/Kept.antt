@@ -1,5 +1,5 @@
 -- What the value of a set says of its tree, and the answers of its calls.
-use Rattle.std.proofs.Common.{◌≡◌, ◌≢◌, ℕ, true, false, ◌+◌, ◌^◌, ◌<◌, ◌≤◌, Option, Some, None, List, [], ◌∷◌, ◌++◌, length, slice_set, refl, sym, ap, ◌∙◌, subst, arith}
+use Rattle.std.proofs.Common.{◌≡◌, ◌≢◌, ℕ, true, false, ◌+◌, ◌*◌, ◌^◌, ◌<◌, ◌≤◌, Option, Some, None, List, [], ◌∷◌, ◌++◌, length, slice_set, refl, sym, ap, ◌∙◌, subst, arith}
 use Rattle.std.specs.FinSet as set
 use Rattle.std.proofs.lemmas.List.{length-set}
 use Rattle.ldm_freelist.specs.Pairs.{Pairs, IsBest, IsGreatest, first_from_bound}
@@ -10,7 +10,7 @@ use Rattle.ldm_freelist.specs.declared.node_table.Node.{Node}
 use Rattle.ldm_freelist.specs.declared.node_table.TheConstants.{NONE}
 use Rattle.ldm_freelist.proofs.Order.{Rises}
 use Rattle.ldm_freelist.proofs.Best.{first_best, last_greatest, none_greatest}
-use Rattle.ldm_freelist.proofs.Bound.{few_steps}
+use Rattle.ldm_freelist.proofs.Bound.{few_steps, enough_steps}
 use Rattle.ldm_freelist.proofs.Lean.{tree_height}
 use Rattle.ldm_freelist.proofs.Spelled.{number_of_node}
 use Rattle.ldm_freelist.proofs.Insert.{empty_at, some_at}
@@ -45,6 +45,9 @@ module _ (nodes : List Node) (root free : ℕ) (kept : IsKeptAs nodes root free)
 
   pub few : (steps : ℕ) → steps ≤ height_at nodes root → 2 ^ steps ≤ (set.len value.members + 1) ^ 2
   few steps h = subst (λ n. 2 ^ steps ≤ (n + 1) ^ 2) (sym count) (few_steps tree steps tree_is.balanced (omega (arith, h, tree_height nodes root tree tree_is)))
+
+  pub counted : (steps : ℕ) → height_at nodes root ≤ 2 * steps → set.len value.members + 1 ≤ (2 ^ steps) ^ 2
+  counted steps h = subst (λ n. n + 1 ≤ (2 ^ steps) ^ 2) (sym count) (enough_steps tree steps (omega (arith, h, tree_height nodes root tree tree_is)))
 
   pub some_tree : (t : Tree) × IsTree nodes root t
   some_tree = (tree, tree_is)

@@ -1,5 +1,5 @@
 -- The first pair of a tree that does not precede a bound, and the last pair of a tree.
-use Rattle.std.proofs.Common.{◌≡◌, ◌≢◌, ℕ, Bool, true, false, inl, inr, ◌<◌, List, [], ◌∷◌, ◌++◌, length, Option, Some, refl, sym, ap, ◌∙◌, subst, append_assoc, cond, arith}
+use Rattle.std.proofs.Common.{◌≡◌, ◌≢◌, ℕ, Bool, true, false, inl, inr, ◌+◌, ◌<◌, ◌≤◌, List, [], ◌∷◌, ◌++◌, length, Option, Some, refl, sym, ap, ◌∙◌, subst, append_assoc, cond, arith}
 use Rattle.std.specs.List.{AllByRecursion}
 use Rattle.std.specs.Ordering.{is_lt}
 use Rattle.std.specs.declared.cmp.Ordering.{Ordering}
@@ -11,6 +11,7 @@ use Rattle.ldm_freelist.specs.declared.node_table.TheConstants.{NONE}
 use Rattle.ldm_freelist.specs.Tree.{Tree, Fork, pairs_of, Has, IsTree, Finds, IsLast, found_or}
 use Rattle.ldm_freelist.proofs.Sorted.{pairs_total}
 use Rattle.ldm_freelist.proofs.Order.{IsCut, cut}
+use Rattle.ldm_freelist.proofs.Spelled.{height_at-NONE}
 use Rattle.ldm_freelist.proofs.Lean.{tree_height}
 use Rattle.ldm_freelist.proofs.Insert.{empty_at, open_root}
 
@@ -78,6 +79,13 @@ module _ (nodes : List Node) (root : ℕ) (t : Tree) (is : IsTree nodes root t) 
   pub tree_right_lower : (right : ℕ) → right ≡ (node_at nodes root).right → height_at nodes right < height_at nodes root
   tree_right_lower right e = omega (arith, tree_height nodes root (Fork root k l r) open_is, tree_height nodes right r (right_is right e))
 
+  -- neither side is more than two levels lower
+  pub tree_left_near : (left : ℕ) → left ≡ (node_at nodes root).left → height_at nodes root ≤ height_at nodes left + 2
+  tree_left_near left e = omega (arith, tree_height nodes root (Fork root k l r) open_is, tree_height nodes left l (left_is left e), open_is.balanced.0)
+
+  pub tree_right_near : (right : ℕ) → right ≡ (node_at nodes root).right → height_at nodes root ≤ height_at nodes right + 2
+  tree_right_near right e = omega (arith, tree_height nodes root (Fork root k l r) open_is, tree_height nodes right r (right_is right e), open_is.balanced.0)
+
   pub found_right : (bound : ℕ × ℕ) (other answer : Option (ℕ × ℕ)) (right : ℕ) → right ≡ (node_at nodes root).right → is_lt (pair_cmp k bound) ≡ true →
       Finds nodes right bound other answer → answer ≡ found_or (first_from_bound bound (pairs_of t)) other
   found_right bound other answer right e low finds =
@@ -112,3 +120,7 @@ test_of is test holds = ap is_lt (sym is) ∙ sym test ∙ holds
 
 pub told_pair : {a b : ℕ} {p : ℕ × ℕ} → a ≡ p.0 → b ≡ p.1 → Some (a, b) ≡ Some p
 told_pair {a} {b} {p} first second = ap (λ (n : ℕ). let q : Option (ℕ × ℕ) = Some (n, b) in q) first ∙ ap (λ (n : ℕ). let q : Option (ℕ × ℕ) = Some (p.0, n) in q) second
+
+-- where there is no tree there is no level
+pub no_height : (nodes : List Node) (root : ℕ) → root ≡ NONE → height_at nodes root ≡ 0
+no_height nodes root e = ap (height_at nodes) e ∙ height_at-NONE nodes

@@ -1,12 +1,11 @@
 //! A set of free regions.
-ghost use Rattle.std.specs.Prelude.{◌≡◌, ◌+◌, ◌-◌, ◌^◌, ◌<◌, ◌≤◌, ◌≢◌, IfOk, false, true};
+ghost use Rattle.std.specs.Prelude.{◌≡◌, ◌+◌, ◌-◌, ◌^◌, ◌<◌, ◌≤◌, ◌≢◌, IfOk, IfSome, false, true};
 ghost use Rattle.std.specs.FinSet as set;
 ghost use Rattle.ldm_freelist.specs.Pairs.{IsBest, IsGreatest};
 ghost use Rattle.ldm_freelist.specs.Nodes.{height_at};
 ghost use Rattle.ldm_freelist.specs.Tree.{Tree, IsAddable, Adds, IsLow, HasPair, Takes};
 
-use crate::node_table::{NONE, NodeTable, number_before};
-use crate::steps::Steps;
+use crate::node_table::{NONE, NodeTable, Steps, number_before};
 use crate::tree::{detach, first_from, insert, last};
 use ldm_types::OutOfMemory;
 use std::alloc::Global;
@@ -89,6 +88,7 @@ impl FreeSet {
         ensures steps { steps.old ≤ steps.new }
         ensures few { steps.new < 2 ^ 63 }
         ensures logarithm { 2 ^ (steps.new - steps.old) ≤ (set.len self.now.members + 1) ^ 2 }
+        ensures counted { set.len self.now.members + 1 ≤ (2 ^ (steps.new - steps.old)) ^ 2 }
     {
         first_from(&self.table, self.root, need, None, steps)
     }
@@ -102,6 +102,7 @@ impl FreeSet {
         ensures steps { steps.old ≤ steps.new }
         ensures few { steps.new < 2 ^ 63 }
         ensures logarithm { 2 ^ (steps.new - steps.old) ≤ (set.len self.now.members + 1) ^ 2 }
+        ensures counted { IfSome result (λ _. steps.old < steps.new) }
     {
         if self.root == NONE {
             return None;

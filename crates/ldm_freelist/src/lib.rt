@@ -3,8 +3,7 @@
 
 mod free_set;
 mod node_table;
-mod steps;
 mod tree;
 
 pub use free_set::FreeSet;
-pub use steps::Steps;
+pub use node_table::Steps;

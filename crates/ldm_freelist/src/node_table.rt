@@ -1,14 +1,14 @@
-//! A table of the nodes of a search tree, which are named by their places in it.
+//! A table of the nodes of a search tree, which are named by their places in it, and the counter of the steps that
+//! comparing them takes.
 ghost use Rattle.std.specs.Prelude.{◌≡◌, ◌≢◌, ◌+◌, ◌<◌, ◌≤◌, ◌^◌, IfOk, length, slice_set};
 ghost use Rattle.ldm_freelist.specs.Pairs.{pair_cmp};
 ghost use Rattle.ldm_freelist.specs.Nodes.{node_at, pair_at, height_at, CanJoin, joined, leaf_node, free_node, free_nodes, before};
 
-use crate::steps::Steps;
 use ldm_types::OutOfMemory;
 use std::alloc::Global;
 use std::cmp::Ordering;
 use std::marker::Model;
-use std::sync::ledger::Ledger;
+use std::sync::ledger::{Blank, Book, Ledger, Share};
 
 /// The number that names no node.
 pub const NONE: u32 = u32::MAX;
@@ -161,4 +161,43 @@ pub fn number_before(number: u32) -> u32
     ensures { result ≡ before number }
 {
     if number == 0 { NONE } else { number - 1 }
+}
+
+/// How many steps were taken, for contracts alone: it takes no bytes, and to count has no code.
+///
+/// [`NodeTable::compare`] alone counts on it. A caller that counts nothing makes one from a [`Blank`] of one part.
+#[derive(Drop)]
+pub struct Steps<L: Ledger> {
+    book: Book<L>,
+    share: Share<L>,
+}
+
+impl<L: Ledger> Model for Steps<L> {
+    ghost use Rattle.std.specs.Prelude.{ℕ, ◌<◌};
+
+    ghost Value = { ℕ };
+
+    ghost view = { λ steps. steps.book.total };
+
+    ghost invariant = { λ steps. 0 < steps.share.parts };
+}
+
+impl<L: Ledger> Steps<L> {
+    /// A counter at 0.
+    pub fn new(blank: Blank) -> Steps<L>
+        requires name { blank.name ≡ L.name }
+        requires parts { blank.parts ≡ L.parts }
+        requires some { 0 < blank.parts }
+        ensures { result ≡ 0 }
+    {
+        let (book, share) = blank.open::<L>();
+        Steps { book, share }
+    }
+
+    /// Counts one step. Only this module can.
+    fn tick(&mut self)
+        ensures { self.new ≡ self.old + 1 }
+    {
+        self.book.add(&mut self.share, 1);
+    }
 }

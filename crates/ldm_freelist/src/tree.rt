@@ -2,13 +2,12 @@
 //!
 //! At each node the heights of the two sides differ by at most one. The nodes stay where they are in the table, and no
 //! call goes deeper than a tree is high.
-ghost use Rattle.std.specs.Prelude.{◌≡◌, ◌≢◌, ◌+◌, ◌<◌, ◌≤◌, ◌^◌, length};
+ghost use Rattle.std.specs.Prelude.{◌≡◌, ◌≢◌, ◌+◌, ◌*◌, ◌<◌, ◌≤◌, ◌^◌, length};
 ghost use Rattle.ldm_freelist.specs.Nodes.{height_at, pair_at};
 ghost use Rattle.ldm_freelist.specs.Tree.{Tree, Fork, height, root_of, IsTree, IsLoose, Balances, IsAddable, Adds, IsLow, HasPair, Takes, TakesTop, TakesFirst, Finds, IsLast};
 ghost use Rattle.ldm_freelist.specs.Tree.{IsLeaningLeft, IsLeaningRight, RaisesLeft, RaisesLeftInner, RaisesRight, RaisesRightInner};
 
-use crate::node_table::{NONE, NodeTable};
-use crate::steps::Steps;
+use crate::node_table::{NONE, NodeTable, Steps};
 use std::cmp::Ordering;
 use std::sync::ledger::Ledger;
 
@@ -194,7 +193,8 @@ fn take_first(table: &mut NodeTable, root: u32) -> (u32, u32)
     (balance(table, root, left, right), first)
 }
 
-/// The first pair that does not precede `(need, 0)`, or else the other. This takes a step for each level.
+/// The first pair that does not precede `(need, 0)`, or else the other. This takes a step for each level that it goes
+/// down: at most as many as the tree is high, and at least half as many.
 pub fn first_from<L: Ledger>(
     table: &NodeTable,
     root: u32,
@@ -207,6 +207,7 @@ pub fn first_from<L: Ledger>(
     ensures found { Finds table.now root (need, 0) other result }
     ensures steps { steps.old ≤ steps.new }
     ensures few { steps.new ≤ steps.old + height_at table.now root }
+    ensures counted { height_at table.now root + 2 * steps.old ≤ 2 * steps.new }
 {
     if root == NONE {
         return other;

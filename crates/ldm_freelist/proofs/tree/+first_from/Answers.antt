@@ -2,7 +2,7 @@ use Rattle.std.proofs.Common.{ℕ, Option, subst, arith}
 use Rattle.ldm_freelist.specs.Pairs.{pair_cmp}
 use Rattle.ldm_freelist.specs.Nodes.{pair_at}
 use Rattle.ldm_freelist.specs.Tree.{Finds}
-use Rattle.ldm_freelist.proofs.Search.{tree_root_within, tree_root_in_use, tree_left, tree_right, tree_left_lower, tree_right_lower, found_none, found_left, found_right, test_of, told_pair}
+use Rattle.ldm_freelist.proofs.Search.{tree_root_within, tree_root_in_use, tree_left, tree_right, tree_left_lower, tree_right_lower, tree_left_near, tree_right_near, no_height, found_none, found_left, found_right, test_of, told_pair}
 use Rattle.ldm_freelist.proofs.tree.+first_from.Goals as goal
 
 pub returns-then-root-eq-NONE-clause-found : goal.returns-then-root-eq-NONE-clause-found
@@ -67,3 +67,18 @@ returns-else-is_lt-clause-few g t c =
     let is = c.requires.tree in
     let lower = tree_left_lower c.args.table.now c.args.root is.0 is.1 c.if-root-eq-NONE.false c.sides-left.result.0 c.sides-left.ensures.left in
     omega (arith, lower, c.first_from-else-is_lt.ensures.few, c.compare-order.ensures.step)
+
+pub returns-then-root-eq-NONE-clause-counted : goal.returns-then-root-eq-NONE-clause-counted
+returns-then-root-eq-NONE-clause-counted g t c = omega (arith, no_height c.args.table.now c.args.root c.if-root-eq-NONE.true)
+
+pub returns-then-is_lt-clause-counted : goal.returns-then-is_lt-clause-counted
+returns-then-is_lt-clause-counted g t c =
+    let is = c.requires.tree in
+    let near = tree_right_near c.args.table.now c.args.root is.0 is.1 c.if-root-eq-NONE.false c.sides-left.result.1 c.sides-left.ensures.right in
+    omega (arith, near, c.first_from.ensures.counted, c.compare-order.ensures.step)
+
+pub returns-else-is_lt-clause-counted : goal.returns-else-is_lt-clause-counted
+returns-else-is_lt-clause-counted g t c =
+    let is = c.requires.tree in
+    let near = tree_left_near c.args.table.now c.args.root is.0 is.1 c.if-root-eq-NONE.false c.sides-left.result.0 c.sides-left.ensures.left in
+    omega (arith, near, c.first_from-else-is_lt.ensures.counted, c.compare-order.ensures.step)

@@ -1,5 +1,5 @@
 use Rattle.std.proofs.Common.{◌-◌, arith}
-use Rattle.ldm_freelist.proofs.Kept.{root_low, few, some_tree, best}
+use Rattle.ldm_freelist.proofs.Kept.{root_low, few, counted, some_tree, best}
 use Rattle.ldm_freelist.proofs.free_set.FreeSet.best.Goals as goal
 
 pub first_from-requires-clause-tree : goal.first_from-requires-clause-tree
@@ -17,3 +17,7 @@ returns-clause-few g c = omega (arith, root_low c.self.inside.table c.self.insid
 pub returns-clause-logarithm : goal.returns-clause-logarithm
 returns-clause-logarithm g c = few c.self.inside.table c.self.inside.root c.self.inside.free c.self.invariant c.args.self.now c.self.view_is (c.first_from.new.steps - c.args.steps.now)
     (omega (arith, c.first_from.ensures.few))
+
+pub returns-clause-counted : goal.returns-clause-counted
+returns-clause-counted g c = counted c.self.inside.table c.self.inside.root c.self.inside.free c.self.invariant c.args.self.now c.self.view_is (c.first_from.new.steps - c.args.steps.now)
+    (omega (arith, c.first_from.ensures.counted, c.first_from.ensures.steps))
