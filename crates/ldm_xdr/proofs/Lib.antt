@@ -5,3 +5,4 @@ pub mod FieldsAgain
 pub mod MetadataFields
 pub mod Whole
 pub mod Written
+pub mod Faulty

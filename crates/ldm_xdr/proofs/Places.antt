@@ -1,5 +1,5 @@
 -- Bytes among which a test finds none: in joined lists, in zeros, and in the texts of metadata.
-use Rattle.std.proofs.Common.{◌≡◌, ℕ, ◌≤◌, Bool, false, eqb, ltb, List, ◌++◌, length, get_or, Some, None, refl, sym, arith, replicate, inl, inr}
+use Rattle.std.proofs.Common.{◌≡◌, ℕ, ◌<◌, ◌≤◌, Bool, false, eqb, ltb, List, ◌++◌, length, get_or, Some, None, refl, sym, arith, replicate, inl, inr}
 use Rattle.std.specs.Prelude.{position}
 use Rattle.std.specs.List.{prefix_len}
 use Rattle.std.proofs.Math.Bool.{not}
@@ -20,6 +20,12 @@ all_clear test bytes none =
       | inl lt ↦ let some = cond-true (ltb (clear test bytes) (length bytes)) (Some (clear test bytes)) None (lt-ltb _ _ lt) in absurd cc
       | inr ge ↦ omega (arith, prefix_len-le-length (λ byte. not (test byte)) bytes)
     ]
+
+-- the test fails at each place
+pub none_at : (test : ℕ → Bool) (bytes : List ℕ) → position test bytes ≡ None → (k : ℕ) → k < length bytes → test (get_or bytes k 0) ≡ false
+none_at test bytes none k lt =
+    let n = all_clear test bytes none in
+    not-true (test (get_or bytes k 0)) (prefix_len_passes (λ byte. not (test byte)) bytes k 0 (omega (arith, n, lt)))
 
 from_clear : (test : ℕ → Bool) (bytes : List ℕ) → length bytes ≤ clear test bytes → position test bytes ≡ None
 from_clear test bytes le = cond-false (ltb (clear test bytes) (length bytes)) (Some (clear test bytes)) None (le-ltb _ _ le)

@@ -4,3 +4,5 @@ pub mod FieldReads
 pub mod Spelling
 pub mod Reading
 pub mod Writing
+pub mod Faults
+pub mod Examples

@@ -8,6 +8,7 @@
 //! No call takes memory.
 #![tactic(auto)]
 
+mod examples;
 mod fault;
 mod fields;
 mod laws;
@@ -15,9 +16,10 @@ mod length;
 mod reading;
 mod writing;
 
+pub use examples::worked_examples;
 pub use fault::XdrFault;
 pub use fields::Fields;
-pub use laws::{no_spelling_begins_another, spelling_has_metadata_len};
+pub use laws::{finds_the_first_fault, no_spelling_begins_another, spelling_has_metadata_len};
 pub use length::{LONGEST_METADATA, info_len};
 pub use reading::read_info;
 pub use writing::write_info;
