@@ -12,3 +12,5 @@ pub mod RoundTrip
 pub mod Askable
 pub mod SplitLemmas
 pub mod CutLemmas
+pub mod Stopping
+pub mod StoppingLines

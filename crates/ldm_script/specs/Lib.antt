@@ -9,6 +9,7 @@ pub mod FieldsView
 pub mod FieldReads
 pub mod Order
 pub mod Grammar
+pub mod Faults
 pub mod Answer
 pub mod AnswerView
 pub mod OrderView

@@ -11,7 +11,9 @@
 mod answer;
 mod body;
 mod call;
+mod examples;
 mod fields;
+mod laws;
 mod line;
 mod number;
 mod order;
@@ -25,6 +27,8 @@ mod write;
 pub use answer::{Answer, LONGEST_ANSWER, Text, text_into, write_answer, write_reply};
 pub use body::{Body, LONGEST_BODY, body_into};
 pub use call::Call;
+pub use examples::worked_examples;
+pub use laws::finds_the_first_fault;
 pub use line::{BadLine, LONGEST_LINE, LONGEST_READ, read_line};
 pub use number::read_number;
 pub use order::{Act, LastPlaces, Order, Place, ReservePlace};
