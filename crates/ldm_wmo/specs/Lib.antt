@@ -1,0 +1,14 @@
+pub mod Headings
+pub mod Lines
+pub mod Bulletins
+pub mod Items
+pub mod Scanning
+pub mod Streams
+pub mod Spelling
+pub mod Writing
+pub mod ScannerView
+pub mod ItemView
+pub mod Taking
+pub mod Stages
+pub mod Courses
+pub mod Samples

@@ -1,0 +1,47 @@
+//! What is found in a stream.
+ghost use Rattle.std.specs.Prelude.{◌≡◌};
+ghost use Rattle.ldm_wmo.specs.Items.{found_at};
+ghost use Rattle.ldm_wmo.specs.ItemView.{found_of};
+
+use crate::bulletin::{Reading, read_bulletin};
+use crate::heading::LONGEST_HEADING;
+use arrayvec::ArrayVec;
+
+/// What is found in a stream. A place is a number of bytes, counted from the stream's first.
+#[derive(Debug, Drop)]
+pub enum Item<'a> {
+    /// A bulletin.
+    Bulletin {
+        /// Where it begins.
+        at: u64,
+        /// Its number, which its source counts up.
+        seqno: u32,
+        /// Its heading: TTAAii CCCC YYGGgg, and perhaps BBB.
+        heading: ArrayVec<u8, LONGEST_HEADING>,
+        /// All its bytes, from its first to the closing 3.
+        bytes: &'a [u8],
+    },
+    /// A candidate that is no bulletin.
+    Bad {
+        /// Where it begins.
+        at: u64,
+    },
+}
+
+/// What a candidate is that begins there and has these bytes.
+pub(crate) fn item_at(at: u64, bytes: &[u8]) -> Item<'_>
+    ensures { found_of result ≡ found_at at bytes.now }
+{
+    let Some(Reading { seqno, heading }) = read_bulletin(bytes) else {
+        return Item::Bad { at };
+    };
+    match ArrayVec::try_from(heading) {
+        Ok(heading) => Item::Bulletin {
+            at,
+            seqno,
+            heading,
+            bytes,
+        },
+        Err(_) => unreachable!(),
+    }
+}
