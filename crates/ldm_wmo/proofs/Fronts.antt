@@ -83,8 +83,8 @@ ends_same : (byte i j k : ℕ) → (i ≡ j → k ≡ LARGEST_BULLETIN) → (byt
 ends_same byte i j k same last = elim (cases_Bool (byte == 3)) [
   | inl is ↦ rw is refl
   | inr other ↦
-    let full : (i == j) ≡ true = rw other at last in
-    rw (other, same (eqb-true i j full), eq-eqb LARGEST_BULLETIN LARGEST_BULLETIN refl) refl
+      let full : (i == j) ≡ true = rw other at last in
+      rw (other, same (eqb-true i j full), eq-eqb LARGEST_BULLETIN LARGEST_BULLETIN refl) refl
 ]
 
 abbrev pub room_of : List ℕ → ℕ
@@ -168,13 +168,13 @@ has_taken old mid new piece n m first second ends =
         within = both.within;
       }
       | inr not ↦
-        let all : length piece ≤ n + m = not_below (n + m) (length piece) (λ short. both_ways (is_complete new) not (ends short)) in
-        let none : drop (n + m) piece ≡ [] = drop_all (n + m) piece all in
-        record {
-          after_is = sym (both.rest ∙ ap (after new) none);
-          count_is = sym (both.count ∙ ap (λ (r : List ℕ). n + m + bytes_taken new r) none ∙ omega arith);
-          within = both.within;
-        }
+          let all : length piece ≤ n + m = not_below (n + m) (length piece) (λ short. both_ways (is_complete new) not (ends short)) in
+          let none : drop (n + m) piece ≡ [] = drop_all (n + m) piece all in
+          record {
+            after_is = sym (both.rest ∙ ap (after new) none);
+            count_is = sym (both.count ∙ ap (λ (r : List ℕ). n + m + bytes_taken new r) none ∙ omega arith);
+            within = both.within;
+          }
     ]
 
 -- ---- the same of a scanner that is seen so

@@ -49,11 +49,11 @@ not_taken (Within at) s byte unended other =
 not_taken (Complete at) s byte unended other = absurd cc
 
 -- a byte behind a candidate that was forgotten ends none
-outside_open : (place byte : ℕ) → is_complete (after_byte (outside place) byte) ≡ false
+pub outside_open : (place byte : ℕ) → is_complete (after_byte (outside place) byte) ≡ false
 unfolding after_byte
 outside_open place byte = elim (cases_Bool (byte == 1)) [ inl is ↦ rw is refl | inr isnt ↦ rw isnt refl ]
 
-outside_passed : (place byte : ℕ) → passed (outside place) byte ≡ after_byte (outside place) byte
+pub outside_passed : (place byte : ℕ) → passed (outside place) byte ≡ after_byte (outside place) byte
 outside_passed place byte = next_same (after_byte (outside place) byte) (outside_open place byte)
 
 takes_open : (s : Scanning) (byte : ℕ) → is_complete s ≡ false → is_complete (after_byte s byte) ≡ false → takes s byte ≡ true
@@ -83,23 +83,23 @@ pushed s (byte ∷ bytes) unended =
     elim (cases_Bool (is_complete t)) [
       | inl ended ↦ elim (cases_Bool (takes s byte)) [
         | inl taken ↦
-          let here : passed s byte ≡ next_of t = rw taken refl in
-          pushed_by s t byte bytes 1 (after_complete t bytes ended) (rw (taken, taken_complete t bytes ended) refl)
-          (ap (λ (r : Scanning). given t ++ items_in r bytes) here) (ap (λ (r : Scanning). in_hand r bytes) here)
+            let here : passed s byte ≡ next_of t = rw taken refl in
+            pushed_by s t byte bytes 1 (after_complete t bytes ended) (rw (taken, taken_complete t bytes ended) refl)
+            (ap (λ (r : Scanning). given t ++ items_in r bytes) here) (ap (λ (r : Scanning). in_hand r bytes) here)
         | inr left ↦
-          let out : next_of t ≡ outside t.place = next_outside t ended in
-          let here : passed s byte ≡ passed (next_of t) byte = rw (left, out) (sym (outside_passed t.place byte)) in
-          let none : given (after_byte (next_of t) byte) ≡ [] = rw out (given_none (after_byte (outside t.place) byte) (outside_open t.place byte)) in
-          pushed_by s t byte bytes 0 (after_complete t bytes ended) (rw left refl)
-          (rw (none, here) refl) (ap (λ (r : Scanning). in_hand r bytes) here)
+            let out : next_of t ≡ outside t.place = next_outside t ended in
+            let here : passed s byte ≡ passed (next_of t) byte = rw (left, out) (sym (outside_passed t.place byte)) in
+            let none : given (after_byte (next_of t) byte) ≡ [] = rw out (given_none (after_byte (outside t.place) byte) (outside_open t.place byte)) in
+            pushed_by s t byte bytes 0 (after_complete t bytes ended) (rw left refl)
+            (rw (none, here) refl) (ap (λ (r : Scanning). in_hand r bytes) here)
       ]
       | inr on ↦
-        let taken : takes s byte ≡ true = takes_open s byte unended on in
-        let here : passed s byte ≡ t = rw taken (next_same t on) in
-        let more = pushed t bytes on in
-        let n = bytes_taken t bytes in
-        let count : bytes_taken s (byte ∷ bytes) ≡ suc n = rw taken (omega arith) in
-        pushed_by s (after t bytes) byte bytes (suc n) refl count
-        (rw (given_none t on) (ap (λ (r : Scanning). items_in r bytes) here ∙ more.items))
-        (ap (λ (r : Scanning). in_hand r bytes) here ∙ more.in_hand_is)
+          let taken : takes s byte ≡ true = takes_open s byte unended on in
+          let here : passed s byte ≡ t = rw taken (next_same t on) in
+          let more = pushed t bytes on in
+          let n = bytes_taken t bytes in
+          let count : bytes_taken s (byte ∷ bytes) ≡ suc n = rw taken (omega arith) in
+          pushed_by s (after t bytes) byte bytes (suc n) refl count
+          (rw (given_none t on) (ap (λ (r : Scanning). items_in r bytes) here ∙ more.items))
+          (ap (λ (r : Scanning). in_hand r bytes) here ∙ more.in_hand_is)
     ]

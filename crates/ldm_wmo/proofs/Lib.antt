@@ -6,3 +6,7 @@ mod Fronts
 mod BulletinLemmas
 mod WriteLemmas
 mod Joined
+mod Spelled
+mod Candidates
+mod Written
+mod Holding

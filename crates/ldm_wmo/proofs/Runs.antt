@@ -22,9 +22,9 @@ goes_none s rest = (refl, omega arith)
 pub goes_on : (s t u : Scanning) (byte : ℕ) (run rest : List ℕ) → takes s byte ≡ true → after_byte s byte ≡ t → Goes t run u rest → Goes s (byte ∷ run) u rest
 unfolding after bytes_taken
 goes_on s t u byte run rest taken is more = (
-      ap (λ (r : Scanning). after r (run ++ rest)) is ∙ more.0,
-      rw (taken, is) (ap (λ n. 1 + n) more.1 ∙ omega arith),
-    )
+  ap (λ (r : Scanning). after r (run ++ rest)) is ∙ more.0,
+  rw (taken, is) (ap (λ n. 1 + n) more.1 ∙ omega arith),
+)
 
 and_split : (a b : Bool) → (a && b) ≡ true → (a ≡ true) × (b ≡ true)
 and_split true b h = (refl, h)
@@ -41,7 +41,7 @@ or_split false b h = (refl, h)
 abbrev pub has_no_1 : List ℕ → Bool
 has_no_1 bytes = list_all (λ b. not (b == 1)) bytes
 
-passes_one : (p : ℕ) (c : List ℕ) (byte : ℕ) → (byte == 1) ≡ false → after_byte (at_stage p c Outside) byte ≡ at_stage (place (p + 1)) c Outside
+pub passes_one : (p : ℕ) (c : List ℕ) (byte : ℕ) → (byte == 1) ≡ false → after_byte (at_stage p c Outside) byte ≡ at_stage (place (p + 1)) c Outside
 unfolding after_byte
 passes_one p c byte other = rw other refl
 
@@ -61,7 +61,7 @@ passes_run p c (byte ∷ run) rest small none =
     (subst (λ k. Goes (at_stage (place (p + 1)) c Outside) run (at_stage k c Outside) rest) same more)
 
 -- a byte of a candidate that stays open
-within_one : (p : ℕ) (c : List ℕ) (a byte : ℕ) → is_mark byte ≡ false → length c + 1 < LARGEST_BULLETIN
+pub within_one : (p : ℕ) (c : List ℕ) (a byte : ℕ) → is_mark byte ≡ false → length c + 1 < LARGEST_BULLETIN
     → after_byte (at_stage p c (Within a)) byte ≡ at_stage (place (p + 1)) (c ++ byte ∷ []) (Within a)
 unfolding after_byte
 within_one p c a byte none room =
@@ -69,7 +69,7 @@ within_one p c a byte none room =
     let not_last : (length c + 1 == LARGEST_BULLETIN) ≡ false = ne_eqb (length c + 1) LARGEST_BULLETIN (omega arith) in
     rw (parts.0, parts.1, not_last) refl
 
-taken_within : (p : ℕ) (c : List ℕ) (a byte : ℕ) → (byte == 1) ≡ false → takes (at_stage p c (Within a)) byte ≡ true
+pub taken_within : (p : ℕ) (c : List ℕ) (a byte : ℕ) → (byte == 1) ≡ false → takes (at_stage p c (Within a)) byte ≡ true
 taken_within p c a byte other = rw other refl
 
 -- bytes of a candidate that stays open
@@ -124,7 +124,7 @@ pub ends_before : (p : ℕ) (c : List ℕ) (a byte : ℕ) (rest : List ℕ) → 
 unfolding after after_byte bytes_taken
 ends_before p c a byte rest is = (rw is (after_complete (at_stage p c (Complete a)) rest refl), rw is refl)
 
-last_one : (p : ℕ) (c : List ℕ) (a byte : ℕ) → (byte == 1) ≡ false → (byte == 3 || length c + 1 == LARGEST_BULLETIN) ≡ true
+pub last_one : (p : ℕ) (c : List ℕ) (a byte : ℕ) → (byte == 1) ≡ false → (byte == 3 || length c + 1 == LARGEST_BULLETIN) ≡ true
     → after_byte (at_stage p c (Within a)) byte ≡ at_stage (place (p + 1)) (c ++ byte ∷ []) (Complete a)
 unfolding after_byte
 last_one p c a byte other last = rw (other, last) refl

@@ -13,7 +13,7 @@ use Rattle.ldm_wmo.specs.Spelling.{heading_spelling, text_spelling}
 use Rattle.ldm_wmo.specs.Writing.{digits_of, fault_of, parts_of, written, written_so}
 use Rattle.ldm_wmo.proofs.Forms.{other_lengths}
 
-fits_length : (form bytes : List ℕ) → fits form bytes ≡ true → length bytes ≡ length form
+pub fits_length : (form bytes : List ℕ) → fits form bytes ≡ true → length bytes ≡ length form
 fits_length form bytes fit = elim (cases_eq (length form) (length bytes)) [
   | inl same ↦ sym same
   | inr other ↦ absurd (both_ways (fits form bytes) (other_lengths form bytes other) fit)
@@ -24,8 +24,8 @@ pub heading_length : (heading : List ℕ) → is_heading heading ≡ true → le
 heading_length heading is = elim (cases_Bool (fits short_form heading)) [
   | inl short ↦ let len = fits_length short_form heading short in omega arith
   | inr other ↦
-    let long : fits long_form heading ≡ true = rw other at is in
-    let len = fits_length long_form heading long in omega arith
+      let long : fits long_form heading ≡ true = rw other at is in
+      let len = fits_length long_form heading long in omega arith
 ]
 
 pub written_length : (digits heading text : List ℕ) → length (written_so digits heading text) ≡ 14 + length digits + length heading + length text

@@ -1,7 +1,11 @@
 //! What holds of all streams. These functions do nothing: their contracts are the laws.
-ghost use Rattle.std.specs.Prelude.{◌≡◌, ℕ, List, ◌++◌, false, drop};
-ghost use Rattle.ldm_wmo.specs.Scanning.{Scanning, after, bytes_taken, is_complete, next_of};
-ghost use Rattle.ldm_wmo.specs.Streams.{given, in_hand, items_in};
+ghost use Rattle.std.specs.Prelude.{◌≡◌, ◌<◌, ◌+◌, ◌^◌, ℕ, List, ◌∷◌, ◌++◌, None, Some, false, drop, length};
+ghost use Rattle.ldm_wmo.specs.Bulletins.{bulletin_of};
+ghost use Rattle.ldm_wmo.specs.Spelling.{Holds, IsBulletin};
+ghost use Rattle.ldm_wmo.specs.Scanning.{Scanning, after, bytes_taken, is_complete, next_of, outside, place};
+ghost use Rattle.ldm_wmo.specs.Items.{Bulletin};
+ghost use Rattle.ldm_wmo.specs.Writing.{fault_of, written};
+ghost use Rattle.ldm_wmo.specs.Streams.{cut_at_end, given, in_hand, items_in, items_of};
 
 /// How the stream is cut into pieces makes no difference: what two pieces make is what both make as one.
 pub fn pieces_join()
@@ -17,4 +21,22 @@ pub fn pushes_scan_the_stream()
         items_in s piece ≡ given (after s piece) ++ items_in (next_of (after s piece)) (drop (bytes_taken s piece) piece) }
     ensures in_hand { (s : Scanning) (piece : List ℕ) → is_complete s ≡ false →
         in_hand s piece ≡ in_hand (next_of (after s piece)) (drop (bytes_taken s piece) piece) }
+{}
+
+/// The bytes that are a bulletin, by its parts, are read as one.
+pub fn bulletins_are_read()
+    ensures read { (bytes : List ℕ) (seqno : ℕ) (heading : List ℕ) → IsBulletin bytes seqno heading
+        → bulletin_of bytes ≡ Some (record { seqno = seqno; heading = heading }) }
+{}
+
+/// A written bulletin is found as itself, and the stream goes on behind it.
+pub fn written_bulletins_are_found()
+    ensures found { (at seqno : ℕ) (heading text rest : List ℕ) → at < 2 ^ 64 → fault_of seqno heading text ≡ None →
+        items_in (outside at) (written seqno heading text ++ rest)
+        ≡ Bulletin at seqno heading (written seqno heading text) ∷ items_in (outside (place (at + length (written seqno heading text)))) rest }
+{}
+
+/// What is found in a stream is what it holds: bytes outside candidates, candidates that end, and perhaps one that is cut.
+pub fn streams_are_read()
+    ensures holds { (stream : List ℕ) → Holds 0 stream (items_of stream) (cut_at_end stream) }
 {}

@@ -19,7 +19,10 @@ pub use examples::worked_examples;
 pub use fault::WriteFault;
 pub use heading::LONGEST_HEADING;
 pub use item::Item;
-pub use laws::{pieces_join, pushes_scan_the_stream};
+pub use laws::{
+    bulletins_are_read, pieces_join, pushes_scan_the_stream, streams_are_read,
+    written_bulletins_are_found,
+};
 pub use scanner::Scanner;
 pub use stage::LARGEST_BULLETIN;
 pub use write::{LARGEST_SEQNO, write_bulletin};

@@ -10,8 +10,8 @@ use crate::bulletin::START;
 use crate::course::{Course, course_in};
 use crate::item::{Item, item_at};
 use crate::stage::{LARGEST_BULLETIN, Stage};
-use memchr::memchr;
 use ldm_types::OutOfMemory;
+use memchr::memchr;
 use std::alloc::Global;
 use std::marker::Model;
 

@@ -87,12 +87,7 @@ fn shown_digits(seqno: u32, digits: &[u8; 5]) -> &[u8]
 }
 
 // Appends the parts of a bulletin, or some of them where memory ends.
-fn append(
-    digits: &[u8],
-    heading: &[u8],
-    text: &[u8],
-    out: &mut Vec<u8>,
-) -> Result<(), AllocError>
+fn append(digits: &[u8], heading: &[u8], text: &[u8], out: &mut Vec<u8>) -> Result<(), AllocError>
     ensures ok { OnOk result (out.new.items ≡ out.old.items ++ written_so digits.now heading.now text.now) }
     ensures behind { take (length out.old.items) out.new.items ≡ out.old.items }
 {

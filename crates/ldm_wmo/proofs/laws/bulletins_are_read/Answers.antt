@@ -1,0 +1,5 @@
+use Rattle.ldm_wmo.proofs.Spelled.{bulletin_read}
+use Rattle.ldm_wmo.proofs.laws.bulletins_are_read.Goals as goal
+
+pub returns : goal.returns
+returns c = record { read = bulletin_read }
