@@ -1,0 +1,5 @@
+pub mod Place
+pub mod PlaceOrder
+pub mod Totals
+pub mod PlaceView
+pub mod TotalView

@@ -1,0 +1,5 @@
+//! Hourly totals of products.
+#![tactic(auto)]
+
+mod place;
+mod total;

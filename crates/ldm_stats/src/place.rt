@@ -1,0 +1,135 @@
+//! What products are counted by.
+ghost use Rattle.std.specs.Prelude.{◌≡◌, ◌≤◌, Some, refl};
+ghost use Rattle.std.specs.Ordering.{eq_by_cmp};
+ghost use Rattle.std.specs.Cmp.{partial_equiv_from_equiv, eq_by_cmp_equiv, partial_order_from_total};
+ghost use Rattle.ldm_stats.specs.Place.{place_cmp};
+ghost use Rattle.ldm_stats.specs.Totals.{hour_of as hour_counted, place_of};
+ghost use Rattle.ldm_stats.specs.PlaceOrder.{places_total};
+
+use arrayvec::ArrayVec;
+use ldm_types::{Feed, Info, LONGEST_ORIGIN, Micros};
+use std::alloc::AllocError;
+use std::cmp::Ordering;
+use std::marker::Model;
+
+/// The hour of the greatest instant.
+pub const LAST_HOUR: u32 = 1_193_046;
+
+// In microseconds.
+const HOUR: u64 = 3_600_000_000;
+
+/// An hour, a feed and an origin. They are ordered by hour, then by feed, then by the bytes of the origin.
+#[derive(Debug, Drop)]
+pub struct Place {
+    hour: u32,
+    feed: Feed,
+    origin: ArrayVec<u8, LONGEST_ORIGIN>,
+}
+
+impl Model for Place {
+    ghost use Rattle.ldm_stats.specs.Place.{Place as PlaceSeen};
+
+    ghost Value = { PlaceSeen };
+
+    ghost use Rattle.ldm_stats.specs.PlaceView.{place_view, IsPlace};
+
+    ghost view = { place_view };
+
+    ghost invariant = { IsPlace };
+}
+
+impl Place {
+    /// That of a product.
+    pub fn of(info: &Info) -> Place
+        ensures { result ≡ place_of (record { time = 0; info = info.now }) }
+    {
+        let mut origin = ArrayVec::new();
+        if origin.try_extend_from_slice(info.origin()).is_err() {
+            unreachable!();
+        }
+        Place {
+            hour: hour_of(info.arrival()),
+            feed: info.feed(),
+            origin,
+        }
+    }
+
+    /// In hours since the beginning of 1970, UTC.
+    pub fn hour(&self) -> u32
+        ensures value { result ≡ self.now.hour }
+        ensures bound { self.now.hour ≤ LAST_HOUR }
+    {
+        self.hour
+    }
+
+    pub fn feed(&self) -> Feed
+        ensures { result.0 ≡ self.now.feed }
+    {
+        self.feed
+    }
+
+    pub fn origin(&self) -> &[u8]
+        ensures { result.now ≡ self.now.origin }
+    {
+        self.origin.as_slice()
+    }
+}
+
+/// The hour of an instant, counted from the beginning of 1970, UTC.
+pub fn hour_of(instant: Micros) -> u32
+    ensures value { result ≡ hour_counted instant }
+    ensures bound { result ≤ LAST_HOUR }
+{
+    (instant.get() / HOUR) as u32
+}
+
+impl Clone for Place {
+    ghost is_clone = { λ place copy. copy ≡ place };
+
+    fn clone(&self) -> Result<Place, AllocError> {
+        Ok(Place {
+            hour: self.hour,
+            feed: self.feed,
+            origin: self.origin.clone()?,
+        })
+    }
+}
+
+impl PartialEq for Place {
+    ghost eq = { eq_by_cmp place_cmp };
+
+    ghost laws = { partial_equiv_from_equiv (eq_by_cmp_equiv places_total) };
+
+    fn eq(&self, other: &Place) -> bool {
+        self.cmp(other) == Ordering::Equal
+    }
+}
+
+impl Eq for Place {
+    ghost laws = { eq_by_cmp_equiv places_total };
+}
+
+impl PartialOrd for Place {
+    ghost partial_cmp = { λ one other. Some (place_cmp one other) };
+
+    ghost laws = { partial_order_from_total places_total };
+
+    fn partial_cmp(&self, other: &Place) -> Option<Ordering> {
+        Some(self.cmp(other))
+    }
+}
+
+impl Ord for Place {
+    ghost cmp = { place_cmp };
+
+    ghost total = { places_total };
+
+    ghost matches_partial_cmp = { λ one other. refl };
+
+    ghost matches_eq = { λ one other. refl };
+
+    fn cmp(&self, other: &Place) -> Ordering {
+        let by_text = self.feed.0.cmp(&other.feed.0).then(self.origin().cmp(other.origin()));
+        self.hour.cmp(&other.hour).then(by_text)
+    }
+}
