@@ -1,0 +1,5 @@
+pub mod Places
+pub mod Joins
+pub mod Outside
+pub mod Laws
+pub mod Stands

@@ -1,5 +1,9 @@
 pub mod Place
 pub mod PlaceOrder
 pub mod Totals
+pub mod Joining
+pub mod Table
 pub mod PlaceView
 pub mod TotalView
+pub mod KeptView
+pub mod TableView

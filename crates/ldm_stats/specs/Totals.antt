@@ -1,8 +1,6 @@
 -- What a list of products adds up to: for each hour, feed and origin the number of products, their bytes and their
 -- greatest latency.
-use Rattle.std.specs.Prelude.{ℕ, ◌+◌, ◌-◌, ◌/◌, nat_lt, max, List, [], ◌∷◌, length, map, filter, sum_by, Option, Some, None}
-use Rattle.std.specs.Map.{lookup, values_of}
-use Rattle.std.specs.BTreeMap.{is_at}
+use Rattle.std.specs.Prelude.{ℕ, ◌+◌, ◌-◌, ◌/◌, nat_lt, max, List, [], ◌∷◌, length, map, filter, sum_by}
 use Rattle.std.specs.Ordering.{eq_by_cmp}
 use Rattle.std.specs.FinMap.{put}
 use Rattle.ldm_types.specs.Info.{Metadata}
@@ -64,24 +62,3 @@ totals_at products (place ∷ places) = put place_cmp place (total_of (at_place 
 -- the totals of the kept products, in ascending order of hour, feed and origin
 abbrev pub totals : ℕ → List Product → List (Place × Total)
 totals window products = let within = kept window products in totals_at within (map place_of within)
-
--- what totals have at a place
-abbrev pub total_at : Place → List (Place × Total) → Option Total
-total_at place entries = lookup (is_at (place_cmp place)) entries
-
--- how many products they count
-abbrev pub count_of : List (Place × Total) → ℕ
-count_of entries = sum_by (λ total. total.count) (values_of entries)
-
--- two totals together
-abbrev pub plus : Total → Total → Total
-plus one other = record { count = one.count + other.count; bytes = one.bytes + other.bytes; latency = max one.latency other.latency }
-
-abbrev pub joined : Option Total → Option Total → Option Total
-joined None other = other
-joined (Some one) None = Some one
-joined (Some one) (Some other) = Some (plus one other)
-
--- those that lie within so many hours up to an hour
-abbrev pub within : ℕ → ℕ → List (Place × Total) → List (Place × Total)
-within window hour entries = filter (λ entry. nat_lt hour (entry.0.hour + window)) entries

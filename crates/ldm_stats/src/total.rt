@@ -1,6 +1,7 @@
 //! What products add up to.
 ghost use Rattle.std.specs.Prelude.{◌≡◌, ◌+◌, ◌^◌, ◌<◌, [], ◌∷◌};
-ghost use Rattle.ldm_stats.specs.Totals.{plus, total_of};
+ghost use Rattle.ldm_stats.specs.Totals.{total_of};
+ghost use Rattle.ldm_stats.specs.Joining.{plus};
 
 use ldm_types::{Info, Micros};
 use std::marker::Model;

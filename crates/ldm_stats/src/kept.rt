@@ -1,0 +1,131 @@
+//! Totals by their places.
+ghost use Rattle.std.specs.Prelude.{◌≡◌, ◌+◌, ◌^◌, ◌<◌, ◌≤◌, [], ◌∷◌, length, IfOk, OnOk, OnErr, Some, MatchBool};
+ghost use Rattle.ldm_stats.specs.Place.{Place as PlaceSeen};
+ghost use Rattle.ldm_stats.specs.Totals.{Total as TotalSeen};
+ghost use Rattle.ldm_stats.specs.Joining.{count_of, joined, total_at, within, BeginsOutside, IsAscending, IsJoined};
+
+use crate::place::Place;
+use crate::total::Total;
+use ldm_types::OutOfMemory;
+use std::alloc::Global;
+use std::collections::BTreeMap;
+use std::marker::Model;
+
+/// A total for each of some places, in ascending order of the places.
+#[derive(Debug, Drop)]
+pub struct Kept {
+    map: BTreeMap<Place, Total>,
+    // how many products they count
+    count: u64,
+}
+
+impl Model for Kept {
+    ghost use Rattle.std.specs.Prelude.{List};
+    ghost use Rattle.ldm_stats.specs.Place.{Place as PlaceSeen};
+    ghost use Rattle.ldm_stats.specs.Totals.{Total as TotalSeen};
+
+    ghost Value = { List (PlaceSeen × TotalSeen) };
+
+    ghost use Rattle.ldm_stats.specs.KeptView.{kept_view, IsKept};
+
+    ghost view = { kept_view };
+
+    ghost invariant = { IsKept };
+}
+
+impl Kept {
+    /// It takes no memory.
+    pub fn new(alloc: Global) -> Kept
+        ensures { result ≡ [] }
+    {
+        Kept {
+            map: BTreeMap::new(alloc),
+            count: 0,
+        }
+    }
+
+    /// How many products they count.
+    pub fn count(&self) -> u64
+        ensures { result ≡ count_of self.now }
+    {
+        self.count
+    }
+
+    /// The same once more.
+    pub fn copy(&self) -> Result<Kept, OutOfMemory>
+        ensures { IfOk result (λ copy. copy ≡ self.now) }
+    {
+        Ok(Kept {
+            map: self.map.clone()?,
+            count: self.count,
+        })
+    }
+
+    /// Adds to the total of a place.
+    pub fn join(&mut self, place: Place, total: Total) -> Result<(), OutOfMemory>
+        requires { count_of self.old + total.count < 2 ^ 32 }
+        ensures totals { OnOk result (IsJoined self.old ((place, total) ∷ []) self.new) }
+        ensures count { OnOk result (count_of self.new ≡ count_of self.old + total.count) }
+        ensures kept { OnErr result (self.new ≡ self.old) }
+    {
+        let both = self.with(&place, total);
+        self.map.insert(place, both)?;
+        self.count += u64::from(total.count());
+        Ok(())
+    }
+
+    // A total with that of a place.
+    fn with(&self, place: &Place, total: Total) -> Total
+        requires { count_of self.now + total.count < 2 ^ 32 }
+        ensures { Some result ≡ joined (total_at place.now self.now) (Some total) }
+    {
+        match self.map.get(place) {
+            Some(before) => before.plus(total),
+            None => total,
+        }
+    }
+
+    /// Adds each of the others.
+    pub fn join_all(&mut self, others: &Kept) -> Result<(), OutOfMemory>
+        requires { count_of self.old + count_of others.now < 2 ^ 32 }
+        ensures totals { OnOk result (IsJoined self.old others.now self.new) }
+        ensures count { OnOk result (count_of self.new ≡ count_of self.old + count_of others.now) }
+    {
+        for (place, total) in &others.map {
+            self.join(place.clone()?, *total)?;
+        }
+        Ok(())
+    }
+
+    /// Lets those go that do not lie within so many hours up to an hour.
+    pub fn let_go(&mut self, window: u32, hour: u32)
+        requires { window ≤ 8760 }
+        ensures totals { self.new ≡ within window hour self.old }
+        ensures ascending { IsAscending self.new }
+    {
+        while self.begins_outside(window, hour) {
+            self.let_first_go();
+        }
+    }
+
+    // Whether the first does not lie within so many hours up to an hour.
+    fn begins_outside(&self, window: u32, hour: u32) -> bool
+        requires { window ≤ 8760 }
+        ensures outside { MatchBool result (BeginsOutside window hour self.now) (within window hour self.now ≡ self.now) }
+        ensures ascending { IsAscending self.now }
+    {
+        match self.map.first_key_value() {
+            Some((place, _)) => place.hour() + window <= hour,
+            None => false,
+        }
+    }
+
+    fn let_first_go(&mut self)
+        requires { 0 < length self.old }
+        ensures { (first : PlaceSeen × TotalSeen) × (self.old ≡ first ∷ self.new) }
+    {
+        if let Some((_, total)) = self.map.pop_first() {
+            self.count -= u64::from(total.count());
+        }
+    }
+}
