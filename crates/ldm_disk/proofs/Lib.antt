@@ -1,0 +1,5 @@
+pub mod CrashLemmas
+mod Pieces
+mod MemMoments
+mod Torn
+mod MemFiles
