@@ -58,8 +58,8 @@ abbrev pub CutsFile : Result (Unit {0}) Failed → ℕ → FileRecord → FileRe
 CutsFile (Ok done) len old new = (new.bytes ≡ cut_to len old.bytes) × Goes (step_of_cut len old.bytes) old new
 CutsFile (Err failed) len old new = Goes (step_of_cut len old.bytes) old new
 
--- What one call of `sync` did to the file: it reads as before, and nothing is pending any more. After one that failed the file
--- may read as any that a crash might leave before.
+-- What one call of `sync` did to the file: it reads as before, and nothing is pending any more. After one that failed
+-- the file may read as any that a crash might leave before.
 abbrev pub SyncsFile : Result (Unit {0}) Failed → FileRecord → FileRecord → Type 0
 SyncsFile (Ok done) old new = (new.bytes ≡ old.bytes) × SettlesFile old new
 SyncsFile (Err failed) old new = Goes Stays old new

@@ -1,4 +1,5 @@
--- What contracts see of a disk in memory: its file as it reads, and what a crash may leave of it, now and at each moment before.
+-- What contracts see of a disk in memory: its file as it reads, and what a crash may leave of it, now and at each
+-- moment before.
 use Rattle.std.specs.Prelude.{◌≡◌, ◌⊎◌, ℕ, ◌+◌, ◌-◌, ◌^◌, ◌==◌, Bool, true, false, ◌&&◌, ◌||◌, zero, suc, List, [], ◌∷◌, ◌++◌, length, map, drop, min, max, bytes_eq, nat_le, Option, Some, None, Result, Ok, Err}
 use Rattle.std.specs.List.{list_any}
 use Rattle.ldm_outside.specs.declared.fault.Failed.{Failed}
@@ -10,8 +11,8 @@ use Rattle.ldm_disk.specs.declared.schedule.DiskCall.TheVariants as calls
 use Rattle.ldm_disk.specs.Told.{FileRecord, DiskRecord}
 use Rattle.ldm_disk.specs.Model.{written_at, cut_to}
 
--- What a crash may leave: each byte that stays, in its place, with no byte where it may be any, as past the end of this list; and
--- the lengths that the file may have.
+-- What a crash may leave: each byte that stays, in its place, with no byte where it may be any, as past the end of
+-- this list; and the lengths that the file may have.
 pub record Fragile : Type 0 where
   pub stays : List (Option ℕ)
   pub lengths : List ℕ
@@ -79,7 +80,8 @@ told_by_file s = record {
   bytes = s.bytes;
   moment = length s.past;
   may_leave = λ left. bytes_eq left s.bytes || leaves s.now left;
-  left_since = λ since left. (bytes_eq left s.bytes || leaves s.now left) || list_any (λ moment. leaves moment left) (drop since s.past);
+  left_since = λ since left.
+      (bytes_eq left s.bytes || leaves s.now left) || list_any (λ moment. leaves moment left) (drop since s.past);
 }
 
 abbrev pub told_by_disk : MemDiskState → DiskRecord
@@ -136,8 +138,8 @@ is_from (Some first) number = nat_le first number
 abbrev pub next_fails : ScheduleState → Bool
 next_fails s = list_any (λ number. number == raised s.made) s.failing || is_from s.stop (raised s.made)
 
--- Whether a call goes on: it is counted and noted, and where its number is one of those that fail it fails. Without memory for what it
--- is to keep it fails too, and then it may not be noted.
+-- Whether a call goes on: it is counted and noted, and where its number is one of those that fail it fails. Without
+-- memory for what it is to keep it fails too, and then it may not be noted.
 abbrev pub Begins : Bool → DiskCall → ScheduleState → ScheduleState → Type 0
 Begins true call old new =
     (next_fails old ≡ false) × (new ≡ record old { made = raised old.made; calls = old.calls ++ call ∷ [] })

@@ -1,9 +1,9 @@
--- What a call may do to the file that a crash leaves: between two syncs each written range, and the part past the old end, may
--- hold any bytes, and the length may be the old or the new one. All other bytes stay.
+-- What a call may do to the file that a crash leaves: between two syncs each written range, and the part past the old
+-- end, may hold any bytes, and the length may be the old or the new one. All other bytes stay.
 use Rattle.std.specs.Prelude.{◌≡◌, ◌⊎◌, ℕ, ◌+◌, ◌-◌, ◌<◌, ◌≤◌, List, [], ◌∷◌, ◌++◌, length, take, drop, replicate, min, max, slice_index}
 
--- the bytes after a piece was written at a place: zeros fill what lies between the old end and the place, and an empty piece
--- changes nothing
+-- the bytes after a piece was written at a place: zeros fill what lies between the old end and the place, and an empty
+-- piece changes nothing
 abbrev pub written_at : ℕ → List ℕ → List ℕ → List ℕ
 written_at at [] bytes = bytes
 written_at at (byte ∷ piece) bytes =
@@ -13,8 +13,8 @@ written_at at (byte ∷ piece) bytes =
 abbrev pub cut_to : ℕ → List ℕ → List ℕ
 cut_to len bytes = take len bytes ++ replicate (len - length bytes) 0
 
--- Between two files: bytes from `start` on and before `end` may be any, and so may those past the old end; the others stay. The
--- length is the old one, or `len`.
+-- Between two files: bytes from `start` on and before `end` may be any, and so may those past the old end; the others
+-- stay. The length is the old one, or `len`.
 pub record Torn (start end len : ℕ) (before after : List ℕ) : Type 0 where
   pub stays : (place : ℕ) → place < length before → place < length after → (place < start) ⊎ (end ≤ place) →
       slice_index after place ≡ slice_index before place

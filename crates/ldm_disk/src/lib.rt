@@ -1,8 +1,8 @@
 //! Files that keep what was written through a crash: the trait [`Disk`], and a disk in memory.
 //!
-//! A [`Disk`] has one file, which is read and written at places. Until a sync, a crash may leave any bytes where something was
-//! written, and the old length or the new one. Contracts speak of the files that a crash may leave at each moment, during a call
-//! too: see `specs/Model.antt` and `specs/Moments.antt`.
+//! A [`Disk`] has one file, which is read and written at places. Until a sync, a crash may leave any bytes where
+//! something was written, and the old length or the new one. Contracts speak of the files that a crash may leave at
+//! each moment, during a call too: see `specs/Model.antt` and `specs/Moments.antt`.
 #![tactic(auto)]
 
 mod disk;
@@ -12,7 +12,7 @@ mod mem_file;
 mod schedule;
 
 pub use disk::Disk;
-pub use laws::{crashes_add_up, crashes_keep};
+pub use laws::{crashes_add_up, crashes_keep, worked_examples};
 pub use mem_disk::MemDisk;
 pub use mem_file::MemFile;
 pub use schedule::DiskCall;

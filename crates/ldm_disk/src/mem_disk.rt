@@ -9,7 +9,8 @@ use ldm_outside::{Failed, Got};
 use std::alloc::Global;
 use std::marker::Model;
 
-/// A disk in memory. It has one file, whatever the path. Its calls are numbered from 1, and those of the numbers in a list fail.
+/// A disk in memory. It has one file, whatever the path. Its calls are numbered from 1, and those of the numbers in a
+/// list fail.
 ///
 /// A call that fails changes nothing in the file. A call without memory for what it is to keep fails too.
 #[derive(Drop)]
@@ -29,8 +30,8 @@ impl Model for MemDisk {
 }
 
 impl MemDisk {
-    /// A disk whose file has these bytes, of which nothing is pending, and whose calls of the given numbers fail. The numbers are
-    /// in any order.
+    /// A disk whose file has these bytes, of which nothing is pending, and whose calls of the given numbers fail. The
+    /// numbers are in any order.
     pub fn new(alloc: Global, bytes: Vec<u8>, failing: Vec<u64>) -> MemDisk
         ensures { result ≡ first_disk bytes.items failing.items }
     {
@@ -51,7 +52,8 @@ impl MemDisk {
 
     /// A crash: a new disk with a file that a crash now may leave, and whose calls do not fail. It takes no memory.
     ///
-    /// Of the files that may be left it has one that suits no caller: the old length, and other bytes wherever something was written.
+    /// Of the files that may be left it has one that suits no caller: the old length, and other bytes wherever
+    /// something was written.
     pub fn crash(self) -> MemDisk
         ensures left { (told_by_file self.file).may_leave result.file.bytes ≡ true }
         ensures unused { result ≡ first_disk result.file.bytes result.schedule.failing }
@@ -135,10 +137,12 @@ impl Disk for MemDisk {
     }
 
     fn write_at(&mut self, at: u64, piece: &[u8]) -> Result<(), Failed>
-        ensures written { FileChanges (WritesFile result at piece.now) (told_by_disk self.old).file (told_by_disk self.new).file }
+        ensures written { FileChanges (WritesFile result at piece.now)
+            (told_by_disk self.old).file (told_by_disk self.new).file }
         ensures failed { Rises result (told_by_disk self.old) (told_by_disk self.new) }
         ensures kept { KeepsDisk (told_by_disk self.old) (told_by_disk self.new) }
-        ensures planned { ChangesAsPlanned result (DiskCall.Write at (length piece.now)) (file_written at piece.now) self.old self.new }
+        ensures planned { ChangesAsPlanned result (DiskCall.Write at (length piece.now)) (file_written at piece.now)
+            self.old self.new }
     {
         let call = DiskCall::Write {
             at,

@@ -62,7 +62,8 @@ fn note(
     ensures noted { OnOk result (since.new.items ≡ since.old.items ++ change ∷ []) }
     ensures base { OnOk result (synced.new.items ≡ base_of seen.now synced.old.items since.old.items) }
     ensures since_kept { OnErr result (since.new.items ≡ since.old.items) }
-    ensures base_kept { OnErr result (base_of seen.now synced.new.items since.old.items ≡ base_of seen.now synced.old.items since.old.items) }
+    ensures base_kept { OnErr result (base_of seen.now synced.new.items since.old.items
+        ≡ base_of seen.now synced.old.items since.old.items) }
 {
     if since.is_empty() {
         *synced = seen.to_vec(*synced.allocator())?;
@@ -87,7 +88,8 @@ fn put(bytes: &mut Vec<u8>, at: usize, end: usize, piece: &[u8]) -> Result<(), A
 
 // What a crash may leave of a change: other bytes where it wrote.
 fn spoil(bytes: &mut [u8], change: Change)
-    ensures fits { (stays : List (Option ℕ)) → fits stays bytes.old ≡ true → fits (loosened change.start change.end stays) bytes.new ≡ true }
+    ensures fits { (stays : List (Option ℕ)) → fits stays bytes.old ≡ true →
+        fits (loosened change.start change.end stays) bytes.new ≡ true }
     ensures len { length bytes.new ≡ length bytes.old }
 {
     let end = change.end.min(bytes.len());
@@ -116,8 +118,8 @@ impl MemFile {
         self.seen.as_slice()
     }
 
-    /// Reads bytes at a place into the front of the buffer, and answers how many; `None` at the end of the file or past it, where
-    /// the buffer is not empty.
+    /// Reads bytes at a place into the front of the buffer, and answers how many; `None` at the end of the file or
+    /// past it, where the buffer is not empty.
     pub(crate) fn read(&self, at: u64, into: &mut [u8]) -> Option<usize>
         ensures front { IfSome result (λ n. take n into.new ≡ take n (drop at self.now.bytes)) }
         ensures count { IfSome result (λ n. (n ≤ length into.new) × (0 < length into.new → 0 < n)) }
@@ -142,7 +144,8 @@ impl MemFile {
     pub(crate) fn write_at(&mut self, at: u64, piece: &[u8]) -> Result<(), AllocError>
         ensures written { OnOk result (self.new ≡ file_written at piece.now self.old) }
         ensures kept { OnErr result (self.new ≡ self.old) }
-        ensures goes { OnOk result (Goes (step_of_write at piece.now self.old.bytes) (told_by_file self.old) (told_by_file self.new)) }
+        ensures goes { OnOk result (Goes (step_of_write at piece.now self.old.bytes)
+            (told_by_file self.old) (told_by_file self.new)) }
     {
         let at = at as usize;
         if piece.is_empty() {
@@ -168,7 +171,8 @@ impl MemFile {
     pub(crate) fn cut(&mut self, len: u64) -> Result<(), AllocError>
         ensures cut { OnOk result (self.new ≡ file_cut len self.old) }
         ensures kept { OnErr result (self.new ≡ self.old) }
-        ensures goes { OnOk result (Goes (step_of_cut len self.old.bytes) (told_by_file self.old) (told_by_file self.new)) }
+        ensures goes { OnOk result (Goes (step_of_cut len self.old.bytes)
+            (told_by_file self.old) (told_by_file self.new)) }
     {
         let len = len as usize;
         let change = Change {
@@ -201,7 +205,8 @@ impl MemFile {
         Ok(())
     }
 
-    /// A file that a crash may leave: of the length after the last sync, with other bytes wherever something was written.
+    /// A file that a crash may leave: of the length after the last sync, with other bytes wherever something was
+    /// written.
     pub(crate) fn crash(self) -> Vec<u8>
         ensures { leaves self.now result.items ≡ true }
     {
