@@ -32,25 +32,23 @@ module _ (size : CrowdSize) (old new : StreamsRecord) (free : CrowdUnhindered si
   whole_taken taken whole = whole_at_end free.text taken old.source new.source free.told whole.taken whole.at_end
 
   -- why it can stop nonetheless
-  stops_for : (why : CrowdFault) → CrowdStops why size old new → (status_of_crowd_stop why ≡ status.NoMemory) ⊎ (status_of_crowd_stop why ≡ status.Worn)
+  stops_for : (why : CrowdFault) → CrowdStops why size old new → status_of_crowd_stop why ≡ status.NoMemory
   stops_for (stop.NotMade (fault.BadArena arena)) ends = absurd (ends.0.1 free.good_size.arena)
   stops_for (stop.NotMade (fault.BadSlots slots)) ends = absurd (ends.0.2 free.good_size.slots)
   stops_for (stop.NotMade (fault.BadPasses passes)) ends = absurd (ends.0.3 free.good_size.workers)
-  stops_for (stop.NotMade fault.OutOfMemory) ends = inl refl
+  stops_for (stop.NotMade fault.OutOfMemory) ends = refl
   stops_for (stop.ScriptFault untaken.StreamLimit) ends = absurd (omega (arith, short_taken ends.1.text ends.1.taken, ends.1.stops))
   stops_for (stop.ScriptFault untaken.SourceFault) ends = absurd (free.source_works ends.1.stops.1)
-  stops_for (stop.ScriptFault untaken.OutOfMemory) ends = inl refl
+  stops_for (stop.ScriptFault untaken.OutOfMemory) ends = refl
   stops_for (stop.PlayFault (unplayed.BadLine line column)) ends =
       let same = sym free.good_lines ∙ ap (script_of size.workers) (whole_taken ends.0.text ends.0.taken) ∙ ends.0.unplayed in
       cc
-  stops_for (stop.PlayFault unplayed.Worn) ends = inr refl
-  stops_for (stop.PlayFault unplayed.OutOfMemory) ends = inl refl
+  stops_for (stop.PlayFault unplayed.OutOfMemory) ends = refl
   stops_for stop.SinkFault ends = absurd (free.sink_works ends.2)
 
-  pub crowd_completes : (ending : Result (Unit {0}) CrowdFault) (code : ℕ) → CrowdEnds ending size old new → Reports (status_of_crowd ending) code old.log new.log → (code ≡ 0) ⊎ ((code ≡ 71) ⊎ (code ≡ 77))
+  pub crowd_completes : (ending : Result (Unit {0}) CrowdFault) (code : ℕ) → CrowdEnds ending size old new → Reports (status_of_crowd ending) code old.log new.log → (code ≡ 0) ⊎ (code ≡ 71)
   crowd_completes (Ok done) code ends reports = elim reports [ inl told ↦ inl told.0 | inr failed ↦ absurd (free.log_works failed.1) ]
   crowd_completes (Err why) code ends reports = elim reports [
-    | inl told ↦
-        elim (stops_for why ends) [ inl no_memory ↦ inr (inl (told.0 ∙ ap code_of no_memory)) | inr worn ↦ inr (inr (told.0 ∙ ap code_of worn)) ]
+    | inl told ↦ inr (told.0 ∙ ap code_of (stops_for why ends))
     | inr failed ↦ absurd (free.log_works failed.1)
   ]

@@ -1,5 +1,5 @@
 -- What workers with open gates leave: for `HasPlayed`, and why a text is not played to its end.
-use Rattle.std.proofs.Common.{◌≡◌, ℕ, List, [], ◌∷◌, map, Some, None, Ok, refl, subst, arith, zero, suc, inl, inr}
+use Rattle.std.proofs.Common.{◌≡◌, ℕ, ◌≤◌, List, [], ◌∷◌, length, map, Some, None, Ok, refl, subst, arith, zero, suc, inl, inr}
 use Rattle.ldm_outside.specs.Count.{Rose}
 use Rattle.ldm_outside.specs.Gate.{GateRecord}
 use Rattle.ldm_model.specs.declared.event.Entry.{Entry}
@@ -8,14 +8,16 @@ use Rattle.ldm_script.specs.Order.{Asked}
 use Rattle.ldm_calls.specs.Lawful.{IsLawful}
 use Rattle.ldm_book.specs.View.{BookView}
 use Rattle.ldm_book.specs.Stands.{StandsFor}
+use Rattle.ldm_shared.specs.Limits.{IsGoodPasses}
 use Rattle.ldm_shared.specs.Passes.{SharedView, PassView, IsLast}
+use Rattle.ldm_crowd.specs.declared.orders.TheConstants.{MOST_SCRIPT}
 use Rattle.ldm_crowd.specs.declared.outcome.CrowdEnd.{CrowdEnd}
 use Rattle.ldm_crowd.specs.declared.outcome.CrowdEnd.TheVariants as crowd_end
 use Rattle.ldm_crowd.specs.Script.{script_of}
 use Rattle.ldm_crowd.specs.Crowd.{CrowdEnds, HasCome, Outcome, gate_of}
 use Rattle.ldm_crowd.specs.Interleaving.{IsBegun}
-use Rattle.ldm_crowd_command.specs.CrowdEnding.{IsWornOut}
 use Rattle.ldm_crowd_command.specs.CrowdStep.{HasPlayed}
+use Rattle.ldm_crowd_command.proofs.CrowdBoundLemmas.{never_all}
 
 -- what the last pass has seen is a legal history of its queue
 last_legal : (shared : SharedView) (last : PassView) → IsLast shared last → IsLegal shared.arena shared.slots last.seen
@@ -39,10 +41,11 @@ module _ (shared : SharedView) (workers : ℕ) (text : List ℕ) (script : List 
       let ended = subst (λ (e : CrowdEnd). CrowdEnds e script outcome) done ends in
       record { script = script; read = read; lawful = lawful shared.arena shared.slots last.seen (last_legal shared last is); interleaving = ended.0; stands = stands; answered = ended.1 }
 
-  pub worn_out : end ≡ crowd_end.Worn → CrowdEnds end script outcome → IsWornOut (record { arena = shared.arena; slots = shared.slots; workers = workers }) text
-  worn_out worn ends =
+  -- the queue never has had all its calls
+  pub never_worn : IsGoodPasses workers → length text ≤ MOST_SCRIPT → length script ≡ workers → end ≡ crowd_end.Worn → CrowdEnds end script outcome → ⊥
+  never_worn good short count worn ends =
       let ended = subst (λ (e : CrowdEnd). CrowdEnds e script outcome) worn ends in
-      record { script = script; read = read; history = last.seen; legal = last_legal shared last is; begun = begun_of script outcome ended.0; all_calls = ended.1 }
+      omega (arith, never_all workers text script last.seen good short read count (begun_of script outcome ended.0), ended.1)
 
 -- what an open gate tells
 abbrev pub open_tells : {G : Type 0} → G → GateRecord

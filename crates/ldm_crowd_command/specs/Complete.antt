@@ -20,7 +20,6 @@ pub record CrowdUnhindered (size : CrowdSize) (old new : StreamsRecord) : Type 0
   pub sink_works : ¬ (Rose old.sink.faults new.sink.faults)
   pub log_works : ¬ (Rose old.log.faults new.log.faults)
 
--- A crowd that nothing hinders ends with 0, with 71 for want of memory, or with 77 once the queue had all the calls that it
--- can have.
+-- A crowd that nothing hinders ends with 0, or with 71 for want of memory.
 abbrev pub CrowdCompletes : CrowdSize → ℕ → StreamsRecord → StreamsRecord → Type 0
-CrowdCompletes size code old new = CrowdUnhindered size old new → (code ≡ 0) ⊎ ((code ≡ 71) ⊎ (code ≡ 77))
+CrowdCompletes size code old new = CrowdUnhindered size old new → (code ≡ 0) ⊎ (code ≡ 71)

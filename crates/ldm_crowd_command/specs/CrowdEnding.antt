@@ -1,17 +1,15 @@
 -- How the crowd of a script ends, and what stands then.
-use Rattle.std.specs.Prelude.{◌≡◌, ℕ, List, length, Result, Ok, Err}
+use Rattle.std.specs.Prelude.{◌≡◌, ℕ, List, Result, Ok, Err}
 use Rattle.ldm_outside.specs.Count.{Rose}
 use Rattle.ldm_outside.specs.Io.{SourceRecord, Takes, WritesFront}
 use Rattle.ldm_status.specs.Streams.{StreamsRecord, IsUntouched}
 use Rattle.ldm_model.specs.declared.event.Entry.{Entry}
-use Rattle.ldm_model.specs.History.{IsLegal}
 use Rattle.ldm_script.specs.Order.{Asked}
 use Rattle.ldm_calls.specs.Lawful.{IsLawful}
 use Rattle.ldm_book.specs.Limits.{IsGoodArena, IsGoodSlots}
 use Rattle.ldm_shared.specs.Limits.{IsGoodPasses, IsFaultOf}
-use Rattle.ldm_shared.specs.declared.steps.TheConstants.{MOST_TURNS}
 use Rattle.ldm_crowd.specs.Script.{script_of}
-use Rattle.ldm_crowd.specs.Interleaving.{IsInterleaving, IsBegun, crowd_text}
+use Rattle.ldm_crowd.specs.Interleaving.{IsInterleaving, crowd_text}
 use Rattle.ldm_crowd.specs.declared.orders.OrdersFault.{OrdersFault}
 use Rattle.ldm_crowd.specs.declared.orders.OrdersFault.TheVariants as orders_fault
 use Rattle.ldm_crowd_command.specs.declared.crowd_command.CrowdFault.{CrowdFault}
@@ -44,20 +42,10 @@ pub record IsAnsweredBy (size : CrowdSize) (text answers : List ℕ) : Type 0 wh
   pub interleaving : IsInterleaving script history
   pub answers_are : answers ≡ crowd_text size.arena size.slots script history
 
--- The queue had all the calls that it can have: each worker made those of its actor's first lines.
-pub record IsWornOut (size : CrowdSize) (text : List ℕ) : Type 0 where
-  pub script : List (List Asked)
-  pub read : script_of size.workers text ≡ Ok script
-  pub history : List Entry
-  pub legal : IsLegal size.arena size.slots history
-  pub begun : IsBegun script history
-  pub all_calls : length history ≡ MOST_TURNS
-
 -- Why a text was not played to its end.
 abbrev pub IsUnplayed : PlayFault → CrowdSize → List ℕ → Type 0
 -- a line is outside the grammar, or of an actor without a worker
 IsUnplayed (unplayed.BadLine line column) size text = script_of size.workers text ≡ Err (orders_fault.BadLine line column)
-IsUnplayed unplayed.Worn size text = IsWornOut size text
 IsUnplayed unplayed.OutOfMemory size text = Unit {0}
 
 -- A script was taken whole and played, and these are the answers to it.

@@ -27,7 +27,6 @@ status_of_untaken untaken.OutOfMemory = status.NoMemory
 -- the status where a script was not played to its end
 abbrev pub status_of_unplayed : PlayFault → Status
 status_of_unplayed (unplayed.BadLine line column) = status.BadLine line column
-status_of_unplayed unplayed.Worn = status.Worn
 status_of_unplayed unplayed.OutOfMemory = status.NoMemory
 
 -- the status of why a crowd stopped

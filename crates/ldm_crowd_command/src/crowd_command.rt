@@ -35,8 +35,6 @@ use std::thread::Threads;
 pub enum PlayFault {
     /// The first line that is outside the grammar: its number, from 1, and the column of its first fault.
     BadLine { line: u32, column: u32 },
-    /// The queue has had all the calls that it can have.
-    Worn,
     /// There is no memory.
     OutOfMemory,
 }
@@ -146,8 +144,9 @@ fn play_text<H: Threads + Wait + Sync>(
     let crowd = ldm_crowd::crowd(rt, alloc, &orders, shared, passes, gates);
     match crowd.end {
         CrowdEnd::Done => Ok(crowd),
-        CrowdEnd::Worn => Err(PlayFault::Worn),
         CrowdEnd::OutOfMemory => Err(PlayFault::OutOfMemory),
+        // a script has fewer lines than a queue can have calls
+        CrowdEnd::Worn => unreachable!(),
         // an open gate never stops
         CrowdEnd::Stopped => unreachable!(),
     }
@@ -221,8 +220,8 @@ fn run_crowd<H: Threads + Wait + Sync, S: Source, K: Sink>(
 ///
 /// The script is taken whole before any line of it is looked at. Where no thread can be made, the workers run one after
 /// another. The clause `ends` gives each status its cause, and what was read and written then: see `CrowdRuns`. The clause
-/// `law` says that the answers are those of a history that obeys the law of the queue: see `CrowdWritesLawful`. The clause
-/// `completes` says when all is written: see `CrowdUnhindered`.
+/// `law` says that the answers are those of a history that obeys the law of the queue, or for what cause there are none: see
+/// `ObeysCrowdLaw`. The clause `completes` says when all is written: see `CrowdUnhindered`.
 pub fn crowd<H: Threads + Wait + Sync, S: Source, K: Sink, E: Sink>(
     rt: &H,
     alloc: Global,
@@ -232,7 +231,7 @@ pub fn crowd<H: Threads + Wait + Sync, S: Source, K: Sink, E: Sink>(
     streams: &mut Streams<S, K, E>,
 ) -> u8
     ensures ends { CrowdRuns (record { arena = arena; slots = slots; workers = workers }) result (streams_tells S.tells K.tells E.tells streams.old) (streams_tells S.tells K.tells E.tells streams.new) }
-    ensures law { ObeysCrowdLaw (record { arena = arena; slots = slots; workers = workers }) (streams_tells S.tells K.tells E.tells streams.old) (streams_tells S.tells K.tells E.tells streams.new) }
+    ensures law { ObeysCrowdLaw (record { arena = arena; slots = slots; workers = workers }) result (streams_tells S.tells K.tells E.tells streams.old) (streams_tells S.tells K.tells E.tells streams.new) }
     ensures completes { CrowdCompletes (record { arena = arena; slots = slots; workers = workers }) result
         (streams_tells S.tells K.tells E.tells streams.old) (streams_tells S.tells K.tells E.tells streams.new) }
     ensures faults_kept { KeepsFaults (streams_tells S.tells K.tells E.tells streams.old) (streams_tells S.tells K.tells E.tells streams.new) }

@@ -5,7 +5,9 @@
 #![tactic(auto)]
 
 mod crowd_command;
+mod laws;
 mod statuses;
 mod whole_script;
 
 pub use crowd_command::crowd;
+pub use laws::answers_are_of_a_history;

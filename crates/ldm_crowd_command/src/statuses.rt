@@ -32,7 +32,6 @@ impl From<PlayFault> for Status {
                 line: u64::from(line),
                 column,
             },
-            PlayFault::Worn => Status::Worn,
             PlayFault::OutOfMemory => Status::NoMemory,
         }
     }
