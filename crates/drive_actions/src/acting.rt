@@ -87,8 +87,8 @@ fn run<H: Wait>(rt: &H, trial: &mut Trial, failing: Failing, failing_lines: Vec<
     faults
 }
 
-/// `act STORE LAUNCHER LOG NAME=VALUE ..`: the entries `conf=` act on the products of a queue until the gate says to stop, and the calls of
-/// these numbers fail.
+/// `act STORE LAUNCHER LOG NAME=VALUE ..`: the entries `conf=` act on the products of a queue until the gate says to
+/// stop, and the calls of these numbers fail.
 pub fn act_case<H: Wait>(rt: &H, trial: &mut Trial) {
     let failing = Failing {
         store: numbers(trial),
@@ -114,8 +114,8 @@ fn run_failing<H: Wait>(rt: &H, trial: &mut Trial, what: &str, call: u64) -> u64
     run(rt, trial, failing, failing_lines)
 }
 
-/// `every_act store|launcher|log NAME=VALUE ..`: the same once for each call, which fails: how many there are, and the MD5 of all answers,
-/// each with a newline.
+/// `every_act store|launcher|log NAME=VALUE ..`: the same once for each call, which fails: how many there are, and the
+/// MD5 of all answers, each with a newline.
 pub fn every_act<H: Wait>(rt: &H, trial: &mut Trial) {
     let what = trial.word();
     let words = trial.rest();

@@ -39,8 +39,9 @@ fn chosen_by(trial: &mut Trial, text: &[u8], product: &Inserted) -> Option<Vec<C
     choose(trial.alloc(), &entries, &product.info, product.time).ok()
 }
 
-/// What the entries of a text do with a product. An entry that acts is told by its place, a colon and its words, joined by
-/// commas; one whose group is no day by `!` and the group, and one whose word is no text by `?` and the word's place.
+/// What the entries of a text do with a product. An entry that acts is told by its place, a colon and its words, joined
+/// by commas; one whose group is no day by `!` and the group, and one whose word is no text by `?` and the word's
+/// place.
 pub fn acts(trial: &mut Trial) {
     let Some(product) = product_of(trial) else {
         return trial.refuse("no product");

@@ -1,5 +1,5 @@
-//! Cases of pqact.conf: the entries of a text, what they do with a product, actions that are carried out, and entries that act on the
-//! products of a queue.
+//! Cases of pqact.conf: the entries of a text, what they do with a product, actions that are carried out, and entries
+//! that act on the products of a queue.
 #![tactic(auto)]
 
 mod acting;

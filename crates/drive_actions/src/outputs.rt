@@ -153,8 +153,8 @@ pub fn tell_children(trial: &mut Trial, launcher: &MemLauncher) {
     }
 }
 
-// Takes the steps of a case over a store and a launcher whose calls of these numbers fail, and tells what stands: how often they
-// failed.
+// Takes the steps of a case over a store and a launcher whose calls of these numbers fail, and tells what stands: how
+// often they failed.
 fn run(trial: &mut Trial, failing: Vec<u64>, failing_launches: Vec<u64>, most: usize) -> u64 {
     let alloc = trial.alloc();
     let mut store = MemStore::new(alloc, Vec::new(alloc), failing);
@@ -176,8 +176,8 @@ fn run(trial: &mut Trial, failing: Vec<u64>, failing_launches: Vec<u64>, most: u
     store.faults().saturating_add(launcher.faults())
 }
 
-/// The steps of a case, over a store and a launcher whose calls of the given numbers fail, and of which a write takes at most so many
-/// bytes.
+/// The steps of a case, over a store and a launcher whose calls of the given numbers fail, and of which a write takes
+/// at most so many bytes.
 pub fn outputs(trial: &mut Trial) {
     let failing = numbers(trial);
     let failing_launches = numbers(trial);
@@ -197,8 +197,8 @@ fn run_failing(trial: &mut Trial, is_launch: bool, call: u64, most: usize) -> u6
     }
 }
 
-/// The steps of a case once for each call of the store or the launcher, which fails: how many there are, and the MD5 of all answers, each
-/// with a newline.
+/// The steps of a case once for each call of the store or the launcher, which fails: how many there are, and the MD5 of
+/// all answers, each with a newline.
 pub fn every(trial: &mut Trial, is_launch: bool) {
     let most = trial.small() as usize;
     let steps = trial.rest();

@@ -1,5 +1,5 @@
-//! Whole runs of the program over a world in memory, for the commands that reach beyond the streams: a driver, whose cases are in
-//! `stdin`.
+//! Whole runs of the program over a world in memory, for the commands that reach beyond the streams: a driver, whose
+//! cases are in `stdin`.
 #![tactic(auto)]
 
 mod parts;

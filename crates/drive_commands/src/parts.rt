@@ -14,7 +14,8 @@ pub struct Page {
     pub bytes: Vec<u8>,
 }
 
-/// A station: what its door, log, clock and gate do, the peers at its door, and the links of its dial with the connects that fail.
+/// A station: what its door, log, clock and gate do, the peers at its door, and the links of its dial with the connects
+/// that fail.
 #[derive(Drop)]
 pub struct Place {
     pub outside: Case,
@@ -107,7 +108,8 @@ pub fn instants_in(trial: &mut Trial) -> Vec<Micros> {
     instants
 }
 
-/// The words of a command line, which are all that is left of the case: text with a blank between two, in which `''` is the empty one.
+/// The words of a command line, which are all that is left of the case: text with a blank between two, in which `''` is
+/// the empty one.
 pub fn words_in(trial: &mut Trial) -> Vec<String> {
     let mut words = Vec::new(trial.alloc());
     let line = trial.rest();

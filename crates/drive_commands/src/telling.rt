@@ -11,8 +11,8 @@ use ldm_outside::{
 /// A world in memory.
 pub type MemWorld = World<MemSource, MemSink, MemSink, MemClock, MemStore, MemLauncher, MemNet>;
 
-/// Tells the status, what was written to the sink and to the log, and then what else was touched: the peers that were asked with
-/// what they were sent, the programs, and the stations.
+/// Tells the status, what was written to the sink and to the log, and then what else was touched: the peers that were
+/// asked with what they were sent, the programs, and the stations.
 pub fn tell_run(trial: &mut Trial, status: u8, world: &MemWorld) {
     trial.tell_value(&status);
     trial.tell(" ");

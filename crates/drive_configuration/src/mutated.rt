@@ -76,8 +76,8 @@ fn end_of(alloc: Global, kept: &Kept, state: &mut u64) -> End {
     }
 }
 
-/// Reads the last ldmd.conf so many times, each time with up to three other bytes changed. Each text is read, or refused at a line
-/// and not for want of memory; told is how many were, and whether there are both kinds.
+/// Reads the last ldmd.conf so many times, each time with up to three other bytes changed. Each text is read, or
+/// refused at a line and not for want of memory; told is how many were, and whether there are both kinds.
 pub fn read(kept: &Kept, trial: &mut Trial) {
     let mut state = trial.number();
     let times = trial.small();

@@ -1,5 +1,5 @@
-//! Cases of sessions over links in memory: what one who tells of products sends and logs, what one who watches sends and writes, what
-//! a server responds to records, and what it does with a connection.
+//! Cases of sessions over links in memory: what one who tells of products sends and logs, what one who watches sends
+//! and writes, what a server responds to records, and what it does with a connection.
 #![tactic(auto)]
 
 mod notices;

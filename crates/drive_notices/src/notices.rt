@@ -14,8 +14,8 @@ use ldm_session::LONGEST_NAME;
 use ldm_shared::{Pass, Shared};
 use std::sync::Wait;
 
-/// `notify NAME=VALUE ..`: a request for notices is answered as call 1, and products are told of. Tells its end, whether
-/// the link is closed, what was sent and logged, and the place that a cursor gets which is opened then.
+/// `notify NAME=VALUE ..`: a request for notices is answered as call 1, and products are told of. Tells its end,
+/// whether the link is closed, what was sent and logged, and the place that a cursor gets which is opened then.
 pub fn notify_case<H: Wait>(rt: &H, trial: &mut Trial) {
     let case = Case::of(trial);
     let Some(policy) = policy_of(trial.alloc(), &case) else {

@@ -10,8 +10,9 @@ use ldm_respond::{RespondFault, Responded, respond};
 use ldm_shared::{Pass, Shared};
 use std::sync::Wait;
 
-/// `respond NAME=VALUE ..`: a server responds to records with the contents `streams=`, one after another, whatever each comes to.
-/// Tells how the connection would go on behind each, the bytes that the peer is owed, and the products that are queued then.
+/// `respond NAME=VALUE ..`: a server responds to records with the contents `streams=`, one after another, whatever each
+/// comes to. Tells how the connection would go on behind each, the bytes that the peer is owed, and the products that
+/// are queued then.
 pub fn respond_case<H: Wait>(rt: &H, trial: &mut Trial) {
     let case = Case::of(trial);
     let Some((shared, mut pass, mut other)) = queue_of(trial.alloc(), &case) else {

@@ -14,8 +14,8 @@ use ldm_session::LONGEST_NAME;
 use ldm_shared::{Pass, Shared};
 use std::sync::Wait;
 
-/// `serve NAME=VALUE ..`: a server serves a connection. Tells its end, whether the link is closed, what was sent and logged, and the
-/// products that are queued then.
+/// `serve NAME=VALUE ..`: a server serves a connection. Tells its end, whether the link is closed, what was sent and
+/// logged, and the products that are queued then.
 pub fn serve_case<H: Wait>(rt: &H, trial: &mut Trial) {
     let case = Case::of(trial);
     let Some(conf) = conf_of(trial.alloc(), &case) else {

@@ -7,7 +7,8 @@ use ldm_drive::Trial;
 use ldm_drive_sessions::{Case, link_of, log_of, tell_answer, tell_place, tell_sent};
 use ldm_watch::{WatchEnd, watch};
 
-/// `watch NAME=VALUE ..`: one asks to be told of the products of a class. Tells its end, what it sent, and the lines that it wrote.
+/// `watch NAME=VALUE ..`: one asks to be told of the products of a class. Tells its end, what it sent, and the lines
+/// that it wrote.
 pub fn watch_case(trial: &mut Trial) {
     let case = Case::of(trial);
     let Ok(class) = Class::build(trial.alloc(), &case.class) else {

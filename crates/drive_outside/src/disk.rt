@@ -33,8 +33,8 @@ fn next_path(rt: HostRuntime, trial: &mut Trial) -> String {
     path_of(rt, trial, name)
 }
 
-/// `disk rewrite NAME`, `disk read LIMIT NAME ..`, `disk append NAME PIECE`, `disk folder NAME`, `disk turns NAME COUNT`,
-/// `disk long COUNT` for a name of so many bytes, `disk forget`.
+/// `disk rewrite NAME`, `disk read LIMIT NAME ..`, `disk append NAME PIECE`, `disk folder NAME`, `disk turns NAME
+/// COUNT`, `disk long COUNT` for a name of so many bytes, `disk forget`.
 pub fn disk(rt: HostRuntime, trial: &mut Trial) {
     let mut store = RealStore::new(rt);
     match trial.word() {

@@ -5,7 +5,8 @@ use ldm_drive::Trial;
 use ldm_drive_outside::{ask, idle, tell_go, tell_word};
 use std::rt::HostRuntime;
 
-/// `time`: an idle call of the gate of the system, which stops after one, takes most of its time by the clock of the system.
+/// `time`: an idle call of the gate of the system, which stops after one, takes most of its time by the clock of the
+/// system.
 pub fn time(rt: HostRuntime, trial: &mut Trial) {
     let mut clock = RealClock::new(rt);
     let mut gate = RealGate::new(rt, Some(1));

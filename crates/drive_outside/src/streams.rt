@@ -100,7 +100,8 @@ fn read_of<R: Read + Drop>(trial: &mut Trial, reader: R) {
     tell_count(trial, "ends", source.ends());
 }
 
-/// `sink bytes WHOLE PIECE ..`, `sink script ANSWERS WHOLE PIECE ..`: one call for each piece, and then WHOLE is written whole.
+/// `sink bytes WHOLE PIECE ..`, `sink script ANSWERS WHOLE PIECE ..`: one call for each piece, and then WHOLE is
+/// written whole.
 pub fn sink(trial: &mut Trial) {
     if trial.word() == "bytes" {
         let mut sink = RealSink::new(Vec::new(trial.alloc()));

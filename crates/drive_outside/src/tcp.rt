@@ -378,8 +378,8 @@ fn call(rt: HostRuntime, trial: &mut Trial) {
     }
 }
 
-/// `tcp talk`, `tcp reset`, `tcp wait`, `tcp half`, `tcp unanswered`, `tcp stations`, `tcp busy`, `tcp sessions COUNT`, `tcp visit PORT`,
-/// `tcp call HOST PORT`.
+/// `tcp talk`, `tcp reset`, `tcp wait`, `tcp half`, `tcp unanswered`, `tcp stations`, `tcp busy`, `tcp sessions COUNT`,
+/// `tcp visit PORT`, `tcp call HOST PORT`.
 pub fn tcp(rt: HostRuntime, trial: &mut Trial) {
     match trial.word() {
         "talk" => talks(rt, trial),

@@ -75,8 +75,8 @@ fn tell_stays(trial: &mut Trial, order: &Order, line: &[u8])
     }
 }
 
-/// `ident BYTES`: how these bytes are spelled, and what an insertion with that ident is read as: its ident, and whether it is
-/// written as it was.
+/// `ident BYTES`: how these bytes are spelled, and what an insertion with that ident is read as: its ident, and whether
+/// it is written as it was.
 pub fn ident(trial: &mut Trial) {
     let bytes = trial.bytes();
     if bytes.len() > 255 {

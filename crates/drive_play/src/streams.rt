@@ -10,8 +10,8 @@ use std::str::from_utf8;
 use std::sync::Wait;
 use std::thread::Threads;
 
-/// How a stream in memory behaves: the most bytes that a call moves, and the number of the call that fails, from 1, if one
-/// does.
+/// How a stream in memory behaves: the most bytes that a call moves, and the number of the call that fails, from 1, if
+/// one does.
 #[derive(Clone, Copy)]
 pub struct Plan {
     most: usize,

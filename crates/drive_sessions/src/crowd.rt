@@ -25,8 +25,9 @@ const PASSES: u32 = 6;
 // How often a pass looks whether the others are ready, or done, before it goes on without them.
 const LOOKS: u32 = 1_000_000_000;
 
-/// `crowd COUNT NAME=VALUE ..`: two passes insert so many products each, of drawn sizes, while four feed. Tells of each feeding whether it
-/// was sent whole bodies alone, each product at most once and those of one pass in order, and was told of all others as losses.
+/// `crowd COUNT NAME=VALUE ..`: two passes insert so many products each, of drawn sizes, while four feed. Tells of each
+/// feeding whether it was sent whole bodies alone, each product at most once and those of one pass in order, and was
+/// told of all others as losses.
 pub fn crowd<H: Threads + Wait + Sync>(rt: &H, trial: &mut Trial) {
     let count = trial.small();
     let case = Case::of(trial);
@@ -60,8 +61,8 @@ fn told_by_all<H: Threads + Wait + Sync>(
     Ok(work.told.into_inner())
 }
 
-// What the threads share: how many products are inserted by each that inserts, how many feeders have come to the end of the empty
-// queue, how many of those that insert are done, and what became of each feeding.
+// What the threads share: how many products are inserted by each that inserts, how many feeders have come to the end of
+// the empty queue, how many of those that insert are done, and what became of each feeding.
 #[derive(Drop)]
 struct Work {
     alloc: Global,
@@ -150,7 +151,8 @@ fn info_of(who: u8, n: u32) -> Option<Info> {
     .ok()
 }
 
-// A gate that tells that its feeder is ready, and says to stop once all was inserted and the cursor came to the end once more.
+// A gate that tells that its feeder is ready, and says to stop once all was inserted and the cursor came to the end
+// once more.
 #[derive(Drop)]
 struct LastGate<'a> {
     work: &'a Work,
@@ -236,8 +238,8 @@ fn feed_all<H: Wait>(
     Some(end == FeedEnd::Stopped && given.saturating_add(lost_in(log.written())) == all)
 }
 
-// How many products were sent behind the answer to the request; nothing where a body is not that of its number, or where the products of
-// one pass do not rise.
+// How many products were sent behind the answer to the request; nothing where a body is not that of its number, or
+// where the products of one pass do not rise.
 fn given_in(sent: &[u8]) -> Option<u64> {
     let (_, mut rest) = sent.split_at_checked(32)?;
     let mut given = 0u64;

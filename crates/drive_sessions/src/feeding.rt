@@ -14,8 +14,8 @@ use ldm_shared::{Pass, Shared};
 use ldm_upstream::feed;
 use std::sync::Wait;
 
-/// `feed NAME=VALUE ..`: a feeder answers a request as call 1, and feeds. Tells its end, whether the link is closed, what it sent and
-/// logged, and the place that a cursor gets which is opened then.
+/// `feed NAME=VALUE ..`: a feeder answers a request as call 1, and feeds. Tells its end, whether the link is closed,
+/// what it sent and logged, and the place that a cursor gets which is opened then.
 pub fn feed_case<H: Wait>(rt: &H, trial: &mut Trial) {
     let case = Case::of(trial);
     let Some(policy) = policy_of(trial.alloc(), &case) else {

@@ -11,9 +11,9 @@ use ldm_signature::sign;
 use ldm_types::{Micros, Signature};
 use std::sync::Wait;
 
-/// `mutated SEED COUNT NAME=VALUE ..`: so many drawn streams, each made of one of `streams=` by a change or two, and each in drawn
-/// pieces, are pushed to a receiver with a queue of its own. Tells how many ended in which way, and a digest over all answers: each is that
-/// of the digest before it and the answer that `receive` tells.
+/// `mutated SEED COUNT NAME=VALUE ..`: so many drawn streams, each made of one of `streams=` by a change or two, and
+/// each in drawn pieces, are pushed to a receiver with a queue of its own. Tells how many ended in which way, and a
+/// digest over all answers: each is that of the digest before it and the answer that `receive` tells.
 pub fn mutated<H: Wait>(rt: &H, trial: &mut Trial) {
     let mut draws = Draws {
         state: trial.number(),

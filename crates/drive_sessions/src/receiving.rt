@@ -13,8 +13,8 @@ use ldm_shared::{Pass, Shared};
 use ldm_types::Signature;
 use std::sync::Wait;
 
-/// `receive NAME=VALUE ..`: a receiver asks for a class, and takes what the link gives. Tells its end, the last product, what it sent and
-/// logged, and the products that are queued then.
+/// `receive NAME=VALUE ..`: a receiver asks for a class, and takes what the link gives. Tells its end, the last
+/// product, what it sent and logged, and the products that are queued then.
 pub fn receive_case<H: Wait>(rt: &H, trial: &mut Trial) {
     let case = Case::of(trial);
     let Some((shared, mut pass, mut other)) = queue_of(trial.alloc(), &case) else {

@@ -38,8 +38,8 @@ impl Seats {
         Ok(Seats { cursors, limit: 1 })
     }
 
-    /// A case: `new`, `seat ACTOR FEED POSITION`, `lose N FEED`, and with `ACTOR K` `seen`, `hold` and a number, `let_go`, `tell`,
-    /// `to_end` and a number, `leave`.
+    /// A case: `new`, `seat ACTOR FEED POSITION`, `lose N FEED`, and with `ACTOR K` `seen`, `hold` and a number,
+    /// `let_go`, `tell`, `to_end` and a number, `leave`.
     pub fn answer(&mut self, trial: &mut Trial) {
         match trial.word() {
             "new" => self.begin(trial),

@@ -14,7 +14,8 @@ pub fn mixed(n: u64) -> u64 {
     n ^ n >> 31
 }
 
-/// The sum of answers with one more: 31 times what it was, and the answer. No answer counts as 0, and a number as one more.
+/// The sum of answers with one more: 31 times what it was, and the answer. No answer counts as 0, and a number as one
+/// more.
 pub fn with_answer(sum: u64, answer: Option<u64>) -> u64 {
     let added = match answer {
         Some(number) => number.wrapping_add(1),

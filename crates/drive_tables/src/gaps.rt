@@ -54,7 +54,8 @@ pub struct Gaps {
     room: u32,
     ghost roomy: { tree.room ≡ room },
     ghost counted: { sets.len tree.members ≡ count },
-    ghost agree: { (place : ℕ) → slice_index_or has.items place false ≡ sets.contains tree.members (8 * (place / 2048), 8 * (place % 2048)) },
+    ghost agree: { (place : ℕ)
+        → slice_index_or has.items place false ≡ sets.contains tree.members (8 * (place / 2048), 8 * (place % 2048)) },
 }
 
 impl Gaps {
@@ -70,8 +71,8 @@ impl Gaps {
         })
     }
 
-    /// A case: `new ROOM PLACES`, `toggle EXTENT OFFSET`, `best NEED`, `greatest`, `row COUNT`, `toggles COUNT`, `orders`, `many
-    /// COUNT`.
+    /// A case: `new ROOM PLACES`, `toggle EXTENT OFFSET`, `best NEED`, `greatest`, `row COUNT`, `toggles COUNT`,
+    /// `orders`, `many COUNT`.
     pub fn answer(&mut self, trial: &mut Trial) {
         match trial.word() {
             "new" => self.begin(trial),
@@ -166,8 +167,8 @@ impl Gaps {
         sum
     }
 
-    // Puts the pairs of so many places in, in no order, finds each as the least and takes it out: how many are in, are found,
-    // and are left.
+    // Puts the pairs of so many places in, in no order, finds each as the least and takes it out: how many are in, are
+    // found, and are left.
     fn many(&mut self, trial: &mut Trial) {
         let count = trial.small();
         for number in 0..u64::from(count) {

@@ -121,8 +121,8 @@ impl Owners {
         self.owns.get(owner as usize).copied().unwrap_or(false)
     }
 
-    // Random turns of 8 owners, of which each gives its region back or is given one: the sum of the starts, of the longest
-    // gaps, and of those that would be there if only the marked owners kept theirs.
+    // Random turns of 8 owners, of which each gives its region back or is given one: the sum of the starts, of the
+    // longest gaps, and of those that would be there if only the marked owners kept theirs.
     fn turns(&mut self, seed: u64, count: u64) -> u64 {
         let (mut state, mut sum) = (seed, 0);
         for _ in 0..count {

@@ -165,8 +165,8 @@ impl Times {
         Some(())
     }
 
-    // Puts a product of each number below so many in, finds each by number and by time, and takes each out: how many were
-    // found, and what is left.
+    // Puts a product of each number below so many in, finds each by number and by time, and takes each out: how many
+    // were found, and what is left.
     fn many(&mut self, trial: &mut Trial) {
         let count = trial.small();
         if self.put_each(count).is_none() {

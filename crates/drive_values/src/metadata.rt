@@ -4,8 +4,8 @@ use crate::values::{info_of, tell_info};
 use ldm_drive::Trial;
 use ldm_xdr::{info_len, read_info, write_info};
 
-/// `write_info FIELDS`: how many bytes these metadata take, how many are written into a buffer of bytes 7, and these with
-/// the byte behind them.
+/// `write_info FIELDS`: how many bytes these metadata take, how many are written into a buffer of bytes 7, and these
+/// with the byte behind them.
 pub fn write_metadata(trial: &mut Trial) {
     let Some(info) = info_of(trial) else {
         return;

@@ -58,8 +58,8 @@ pub fn read_as_call(trial: &mut Trial) {
     tell_read(trial, &record, 0);
 }
 
-/// `reply PROCEDURE RECORD`: the content of a record as a reply to a call of that procedure, and how it is written again;
-/// or the fault.
+/// `reply PROCEDURE RECORD`: the content of a record as a reply to a call of that procedure, and how it is written
+/// again; or the fault.
 pub fn read_as_reply(trial: &mut Trial) {
     let procedure = trial.small();
     if procedure == 0 {
@@ -69,8 +69,8 @@ pub fn read_as_reply(trial: &mut Trial) {
     tell_read(trial, &record, procedure);
 }
 
-/// `refusal RECORD`: the content of a record as a reply to a call that was not carried out, and how it is written again; or
-/// the fault.
+/// `refusal RECORD`: the content of a record as a reply to a call that was not carried out, and how it is written
+/// again; or the fault.
 pub fn read_as_refusal(trial: &mut Trial) {
     let record = trial.bytes();
     match read_refusal(record.get(4..).unwrap_or(&[])) {
@@ -131,8 +131,8 @@ pub fn made_message(trial: &mut Trial) {
     }
 }
 
-/// `room PROCEDURE BODY`: the record of a HEREIS, a PUT or a BLKDATA, that is written with room for the body, and then gets
-/// it.
+/// `room PROCEDURE BODY`: the record of a HEREIS, a PUT or a BLKDATA, that is written with room for the body, and then
+/// gets it.
 pub fn with_room(trial: &mut Trial) {
     let procedure = trial.small();
     let body = trial.bytes();
@@ -196,8 +196,8 @@ fn filled(alloc: Global, call: &CallWithBody, body: &[u8]) -> Option<Vec<u8>>
     Some(out)
 }
 
-/// `head PROCEDURE SIZE`: the record of a HEREIS, a PUT or a BLKDATA up to a body of that size, and how many bytes of padding
-/// follow the body.
+/// `head PROCEDURE SIZE`: the record of a HEREIS, a PUT or a BLKDATA up to a body of that size, and how many bytes of
+/// padding follow the body.
 pub fn head(trial: &mut Trial) {
     let procedure = trial.small();
     let size = trial.small();

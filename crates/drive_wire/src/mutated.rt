@@ -1,5 +1,5 @@
-//! Records in which bytes were changed, cut off or added: each is read or named, and a message that is read is written as
-//! it was.
+//! Records in which bytes were changed, cut off or added: each is read or named, and a message that is read is written
+//! as it was.
 
 use crate::draws::Draws;
 use crate::messages::{is_written, read};

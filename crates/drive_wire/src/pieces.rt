@@ -61,8 +61,9 @@ fn cut_at(alloc: Global, limit: u32, stream: &[u8], place: usize) -> Option<Cut>
     })
 }
 
-/// `cuts LIMIT STREAM`: the stream in two pieces, cut at each place. For each cut `.`, or `p` where a record is pending at
-/// the cut, or `!` where one is pending at the end or other contents come out than at the cut before; then the contents.
+/// `cuts LIMIT STREAM`: the stream in two pieces, cut at each place. For each cut `.`, or `p` where a record is pending
+/// at the cut, or `!` where one is pending at the end or other contents come out than at the cut before; then the
+/// contents.
 pub fn cuts(trial: &mut Trial) {
     let limit = trial.small();
     let stream = trial.bytes();
@@ -151,8 +152,8 @@ fn read_pieces(
     Some(rest.len())
 }
 
-/// `random_pieces SEED COUNT`: so many drawn records, given in drawn pieces of up to 21 bytes, at most ten pieces a record.
-/// Whether the contents that come out are those that were drawn, what is left, and whether a record is pending.
+/// `random_pieces SEED COUNT`: so many drawn records, given in drawn pieces of up to 21 bytes, at most ten pieces a
+/// record. Whether the contents that come out are those that were drawn, what is left, and whether a record is pending.
 pub fn random_pieces(trial: &mut Trial) {
     let mut draws = Draws::behind(trial.number());
     let count = trial.small();

@@ -27,8 +27,10 @@ struct Found {
 
 // Adds the record in hand where it is complete, and forgets it.
 fn take_whole(alloc: Global, stream: &mut Stream, found: &mut Vec<Found>) -> Result<(), AllocError>
-    ensures found { OnOk result (all_of found.new.items ≡ all_of found.old.items ++ given stream.old.begins stream.old.records) }
-    ensures stream { OnOk result (position_of stream.new ≡ forgets stream.old.begins stream.old.came stream.old.records) }
+    ensures found { OnOk result
+        (all_of found.new.items ≡ all_of found.old.items ++ given stream.old.begins stream.old.records) }
+    ensures stream { OnOk result
+        (position_of stream.new ≡ forgets stream.old.begins stream.old.came stream.old.records) }
     ensures ready { OnOk result (is_whole stream.new.records ≡ false) }
 {
     if let Some(content) = stream.records.whole() {
@@ -52,11 +54,13 @@ fn read_on(
 ) -> Result<(), RpcFault>
     requires ready { is_whole stream.old.records ≡ false }
     requires few { stream.old.came + length piece.now < 2 ^ 64 }
-    ensures records { OnOk result (all_of found.new.items ≡ all_of found.old.items ++ records_in (position_of stream.old) piece.now) }
+    ensures records { OnOk result
+        (all_of found.new.items ≡ all_of found.old.items ++ records_in (position_of stream.old) piece.now) }
     ensures in_hand { OnOk result (position_of stream.new ≡ in_hand (position_of stream.old) piece.now) }
     ensures ready { OnOk result (is_whole stream.new.records ≡ false) }
     ensures limit { OnOk result (stream.new.records.limit ≡ stream.old.records.limit) }
-    ensures refused { IfErr result (λ fault. EndsBy fault stream.old stream.new (all_of found.old.items) (all_of found.new.items) piece.now) }
+    ensures refused { IfErr result
+        (λ fault. EndsBy fault stream.old stream.new (all_of found.old.items) (all_of found.new.items) piece.now) }
 {
     let mut rest = piece;
     while !rest.is_empty() {
@@ -73,8 +77,8 @@ fn read_on(
     Ok(())
 }
 
-/// `places LIMIT STREAM`: the records of a stream, each with its place, and where the record in hand at the end begins; or,
-/// behind the records that came out before, the place of a record that is refused, and the fault.
+/// `places LIMIT STREAM`: the records of a stream, each with its place, and where the record in hand at the end begins;
+/// or, behind the records that came out before, the place of a record that is refused, and the fault.
 pub fn places(trial: &mut Trial) {
     let limit = trial.small();
     let bytes = trial.bytes();

@@ -3,8 +3,8 @@
 use ldm_drive::Trial;
 use ldm_rpc::Records;
 
-/// `records LIMIT STEP ..`: what a reader of records of at most that many bytes answers to each step. A step is `whole`,
-/// `next`, `pending`, or the bytes of a piece that is pushed.
+/// `records LIMIT STEP ..`: what a reader of records of at most that many bytes answers to each step. A step is
+/// `whole`, `next`, `pending`, or the bytes of a piece that is pushed.
 pub fn steps(trial: &mut Trial) {
     let limit = trial.small();
     let mut records = Records::create(trial.alloc(), limit);

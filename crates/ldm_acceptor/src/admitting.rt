@@ -105,12 +105,15 @@ fn serve_peer<H: Wait, D: Door, I: Dial, E: Sink, C: Clock, G: Gate>(
     ensures dial { station.new.dial ≡ station.old.dial }
     ensures counts { KeepsFaults
         (session_tells D.Link.tells E.tells C.tells G.tells link.old station.old.log station.old.clock station.old.gate)
-        (session_tells D.Link.tells E.tells C.tells G.tells link.new station.new.log station.new.clock station.new.gate) }
+        (session_tells D.Link.tells E.tells C.tells G.tells link.new station.new.log station.new.clock
+        station.new.gate) }
     ensures serves { ServesAll result (record { rules = conf.now.policy; host = host.now; actor = pass.old.actor })
         (moment_of pass.old
-        (session_tells D.Link.tells E.tells C.tells G.tells link.old station.old.log station.old.clock station.old.gate))
+        (session_tells D.Link.tells E.tells C.tells G.tells link.old station.old.log station.old.clock
+        station.old.gate))
         (moment_of pass.new
-        (session_tells D.Link.tells E.tells C.tells G.tells link.new station.new.log station.new.clock station.new.gate)) }
+        (session_tells D.Link.tells E.tells C.tells G.tells link.new station.new.log station.new.clock
+        station.new.gate)) }
 {
     let Station {
         log,

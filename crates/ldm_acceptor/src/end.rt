@@ -9,8 +9,8 @@ use ldm_sender::SendEnd;
 use ldm_serve::ServeEnd;
 use ldm_worker_log::{NodeStop, SessionEnd};
 
-/// The end of a session that was served: where the connection became a feeding, a receiving or a session of notices, the end of
-/// that.
+/// The end of a session that was served: where the connection became a feeding, a receiving or a session of notices,
+/// the end of that.
 pub fn end_of_serving(end: &ServeEnd) -> SessionEnd
     ensures { result ≡ end_of_serving end.now }
 {

@@ -29,7 +29,8 @@ pub fn what_is_told_of_visits()
         (works : Works Done rules sessions old new) →
         works.ending ≡ Some (LastVisit visit) →
         (before : List ℕ) × Takes old.station.log (before ++ session_line visit.host Stopped) new.station.log }
-    // Every link that came was given back, in order: none is out, and one is told of each visit, where the door tells them.
+    // Every link that came was given back, in order: none is out, and one is told of each visit, where the door tells
+    // them.
     ensures given_back { (stop : NodeStop) (rules : Rules) (sessions : ℕ) (old new : Moment)
         (works : Works stop rules sessions old new) →
         (links : List LinkBack) × (length links ≡ length (all_visits works))

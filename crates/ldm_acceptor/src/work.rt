@@ -13,12 +13,12 @@ use ldm_worker_log::NodeStop;
 use std::alloc::Global;
 use std::sync::Wait;
 
-/// Lets peers in by the door of a station and serves them by the rules of a configuration, one after another, until it has held so
-/// many sessions.
+/// Lets peers in by the door of a station and serves them by the rules of a configuration, one after another, until it
+/// has held so many sessions.
 ///
-/// Behind each session it gives the link back and writes a line. It stops before where the door is closed or fails, where the gate
-/// stopped a session, where its log fails, and where the queue has had all its calls. For want of memory a session ends, and not
-/// the worker.
+/// Behind each session it gives the link back and writes a line. It stops before where the door is closed or fails,
+/// where the gate stopped a session, where its log fails, and where the queue has had all its calls. For want of memory
+/// a session ends, and not the worker.
 pub fn work_door<H: Wait, D: Door, I: Dial, E: Sink, C: Clock, G: Gate>(
     rt: &H,
     alloc: Global,
@@ -38,7 +38,8 @@ pub fn work_door<H: Wait, D: Door, I: Dial, E: Sink, C: Clock, G: Gate>(
     ensures sessions { Works result conf.now.policy sessions
         (moment pass.old (station_tells D.tells I.tells E.tells C.tells G.tells station.old))
         (moment pass.new (station_tells D.tells I.tells E.tells C.tells G.tells station.new)) }
-    ensures causes { StopCause result sessions pass.new (station_tells D.tells I.tells E.tells C.tells G.tells station.old)
+    ensures causes { StopCause result sessions pass.new
+        (station_tells D.tells I.tells E.tells C.tells G.tells station.old)
         (station_tells D.tells I.tells E.tells C.tells G.tells station.new) }
 {
     for held in 0..sessions {

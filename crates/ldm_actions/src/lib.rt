@@ -1,8 +1,8 @@
-//! What actions do to files and programs: a product's body is written at the end of a file, or given to a program that runs on, or a
-//! program is started.
+//! What actions do to files and programs: a product's body is written at the end of a file, or given to a program that
+//! runs on, or a program is started.
 //!
-//! What stands after an action, by what stood before it, is a definition: `specs/Effects.antt`. What may stand where one fails is
-//! `specs/Parts.antt`.
+//! What stands after an action, by what stood before it, is a definition: `specs/Effects.antt`. What may stand where
+//! one fails is `specs/Parts.antt`.
 #![tactic(auto)]
 
 mod action;

@@ -2,7 +2,8 @@
 ghost use Rattle.std.specs.Prelude.{◌≡◌, ◌-◌, ◌<◌, [], None, drop, if◌then◌else◌, length, string_bytes, take};
 ghost use Rattle.ldm_outside.specs.Store.{FlushesFile};
 ghost use Rattle.ldm_actions.specs.Kept.{number_under};
-ghost use Rattle.ldm_actions.specs.OpenFiles.{BeginsFile, KeepsFiles, KeepsOr, OpensNew, OpensWithRoom, UsesFile, file_side, with_room_open};
+ghost use Rattle.ldm_actions.specs.OpenFiles.{BeginsFile, KeepsFiles, KeepsOr, OpensNew};
+ghost use Rattle.ldm_actions.specs.OpenFiles.{OpensWithRoom, UsesFile, file_side, with_room_open};
 
 use crate::answers::Begun;
 use crate::limits::MOST_OPEN;
@@ -66,7 +67,8 @@ fn open_with_room<F: Store>(files: &mut Recent, store: &mut F, path: String) -> 
 fn use_new<F: Store>(files: &mut Recent, store: &mut F, path: &str) -> Begun
     requires keeps { KeepsFiles (file_side files.old (F.tells store.old)) }
     requires unknown { number_under path.now files.old ≡ None }
-    ensures { UsesFile result path.now (file_side files.old (F.tells store.old)) (file_side files.new (F.tells store.new)) }
+    ensures { UsesFile result path.now (file_side files.old (F.tells store.old))
+        (file_side files.new (F.tells store.new)) }
 {
     let Ok(path) = String::from_str(files.alloc(), path) else {
         return Begun::OutOfMemory;
@@ -80,7 +82,8 @@ fn use_new<F: Store>(files: &mut Recent, store: &mut F, path: &str) -> Begun
 // Has the file of a path open, as the one that was used last.
 fn use_file<F: Store>(files: &mut Recent, store: &mut F, path: &str) -> Begun
     requires { KeepsFiles (file_side files.old (F.tells store.old)) }
-    ensures { UsesFile result path.now (file_side files.old (F.tells store.old)) (file_side files.new (F.tells store.new)) }
+    ensures { UsesFile result path.now (file_side files.old (F.tells store.old))
+        (file_side files.new (F.tells store.new)) }
 {
     match files.raise(path) {
         Some(_) => Begun::Ready,

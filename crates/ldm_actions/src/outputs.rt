@@ -1,7 +1,8 @@
 //! Outputs: files that are kept open and programs that run on, from one action to the next.
 ghost use Rattle.std.specs.Prelude.{◌≡◌, IfOk};
 ghost use Rattle.ldm_actions.specs.Hands.{action_of};
-ghost use Rattle.ldm_actions.specs.Outputs.{Begins, BeginsHand, Closes, Finishes, Gives, HasHand, KeepsOfAny, KeepsUnlessSpent, no_outputs, standing};
+ghost use Rattle.ldm_actions.specs.Outputs.{Begins, BeginsHand, Closes, Finishes, Gives, HasHand};
+ghost use Rattle.ldm_actions.specs.Outputs.{KeepsOfAny, KeepsUnlessSpent, no_outputs, standing};
 
 use crate::action::Action;
 use crate::answers::{Begun, Done, Fault};
@@ -17,8 +18,9 @@ use std::marker::Model;
 /// [`MOST_PIPED`](crate::MOST_PIPED) programs running from one action to the next, and remembers the action in hand.
 ///
 /// An action is begun by [`begin`](Outputs::begin), is given the body by [`piece`](Outputs::piece), and is finished by
-/// [`finish`](Outputs::finish). Each call has to be lent the store and the launcher that all calls before were lent, and nobody
-/// else may shut what is kept there. After a fault it is spent: each call answers that fault again and touches nothing.
+/// [`finish`](Outputs::finish). Each call has to be lent the store and the launcher that all calls before were lent,
+/// and nobody else may shut what is kept there. After a fault it is spent: each call answers that fault again and
+/// touches nothing.
 #[derive(Drop)]
 pub struct Outputs {
     files: Recent,
@@ -146,8 +148,8 @@ impl Outputs {
         }
     }
 
-    /// Shuts all files, and then shuts the input of each program and waits for it: the longest unused first. An action that is
-    /// in hand is forgotten, and what it wrote stands.
+    /// Shuts all files, and then shuts the input of each program and waits for it: the longest unused first. An action
+    /// that is in hand is forgotten, and what it wrote stands.
     pub fn close_all<F: Store, L: Launcher>(&mut self, store: &mut F, launcher: &mut L) -> Done
         requires { KeepsUnlessSpent (standing self.old (F.tells store.old) (L.tells launcher.old)) }
         ensures closed { Closes result

@@ -8,7 +8,8 @@ use ldm_outside::{ChildNo, Failed, Launcher};
 use std::alloc::{AllocError, Global};
 use std::marker::Model;
 
-/// A program and what it is told: at least one word, of which the first names the program. Contracts see each word as its bytes.
+/// A program and what it is told: at least one word, of which the first names the program. Contracts see each word as
+/// its bytes.
 #[derive(Drop)]
 pub struct Program {
     words: Vec<String>,

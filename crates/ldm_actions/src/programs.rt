@@ -4,7 +4,9 @@ ghost use Rattle.ldm_outside.specs.Launcher.{IsTaking};
 ghost use Rattle.ldm_actions.specs.Effects.{Child, closed, finished_by, with_first_over, with_new, with_room};
 ghost use Rattle.ldm_actions.specs.Kept.{number_under};
 ghost use Rattle.ldm_actions.specs.Parts.{finish_parts_by, room_parts};
-ghost use Rattle.ldm_actions.specs.Programs.{BeginsProgram, ChangesOr, EndsChild, KeepsPrograms, by_program, by_program_parts, closing_parts, first_parts, full_parts, last_parts, program_side, start_parts, with_last_over, with_program};
+ghost use Rattle.ldm_actions.specs.Programs.{BeginsProgram, ChangesOr, EndsChild, KeepsPrograms, by_program};
+ghost use Rattle.ldm_actions.specs.Programs.{by_program_parts, closing_parts, first_parts, full_parts, last_parts};
+ghost use Rattle.ldm_actions.specs.Programs.{program_side, start_parts, with_last_over, with_program};
 ghost use Rattle.ldm_actions.specs.World.{command_of};
 
 use crate::answers::Begun;

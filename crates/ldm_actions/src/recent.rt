@@ -1,5 +1,6 @@
 //! Things under names, in the order of their use.
-ghost use Rattle.std.specs.Prelude.{◌≡◌, ◌<◌, ◌≤◌, ℕ, List, [], ◌∷◌, IfOk, bytes_eq, length, position, string_bytes, vec_len, vec_capacity};
+ghost use Rattle.std.specs.Prelude.{◌≡◌, ◌<◌, ◌≤◌, ℕ, List, [], ◌∷◌, IfOk, bytes_eq, length};
+ghost use Rattle.std.specs.Prelude.{position, string_bytes, vec_len, vec_capacity};
 ghost use Rattle.ldm_actions.specs.Kept.{IsMovedToFront, IsNewest, TakesNewest, TakesOldest, number_under, raised};
 
 use std::alloc::{AllocError, Global};

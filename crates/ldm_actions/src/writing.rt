@@ -5,8 +5,8 @@ ghost use Rattle.ldm_actions.specs.Writing.{AppendsAll, FeedsAll};
 
 use ldm_outside::{ChildNo, Failed, FileNo, Launcher, Put, Store};
 
-/// Writes a whole piece at the end of an open file: all of it at once, then each time what the store left of it. An empty piece
-/// takes no call.
+/// Writes a whole piece at the end of an open file: all of it at once, then each time what the store left of it. An
+/// empty piece takes no call.
 ///
 /// [`Failed`] comes at the first call that fails, after a front of the piece was written.
 pub fn append_all<F: Store>(store: &mut F, file: FileNo, piece: &[u8]) -> Result<(), Failed>

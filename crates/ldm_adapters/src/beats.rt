@@ -4,10 +4,11 @@ use std::alloc::{AllocError, Global};
 use std::sync::Arc;
 use std::sync::atomic::{AtomicBool, AtomicU64, Ordering};
 
-/// What the stations of a net share: how often bytes came over one of their links. A product may be queued then, so the gates of
-/// those stations that feed look sooner.
+/// What the stations of a net share: how often bytes came over one of their links. A product may be queued then, so the
+/// gates of those stations that feed look sooner.
 ///
-/// Only a station whose door let a peer in feeds. Who asks for products at a dial waits its whole time before it asks again.
+/// Only a station whose door let a peer in feeds. Who asks for products at a dial waits its whole time before it asks
+/// again.
 #[derive(Drop)]
 pub struct Beats {
     count: Arc<AtomicU64>,

@@ -116,7 +116,9 @@ impl Running {
         requires { 0 < length words.now }
         ensures number { IfOk result (λ child. child.0 ≡ self.old.next) }
         ensures next { OnOk result (self.new.next ≡ self.old.next + 1) }
-        ensures children { OnOk result (self.new.children.entries ≡ with_number self.old.next (new_running words.now piped) self.old.children.entries) }
+        ensures children { OnOk result
+            (self.new.children.entries ≡ with_number self.old.next
+            (new_running words.now piped) self.old.children.entries) }
         ensures next_kept { OnErr result (self.new.next ≡ self.old.next) }
         ensures children_kept { OnErr result (self.new.children.entries ≡ self.old.children.entries) }
     {
@@ -179,11 +181,11 @@ fn shut_input(children: &mut BTreeMap<usize, RealChild>, child: ChildNo)
 
 /// The programs of the system. It does not tell what they were given.
 ///
-/// A program is found as the system's search path says. One that is not piped has nothing to read; what a program writes
-/// goes where this program's own output goes. A program that a signal ended has the status 128 and the signal's number.
-/// A program that ended is collected by the next call of `start` or `wait`, whichever program that is for, and its status is
-/// kept until it is waited for. Nothing is kept of a program that was waited for, and of one that was detached no more than what
-/// collects it once it ended.
+/// A program is found as the system's search path says. One that is not piped has nothing to read; what a program
+/// writes goes where this program's own output goes. A program that a signal ended has the status 128 and the signal's
+/// number. A program that ended is collected by the next call of `start` or `wait`, whichever program that is for, and
+/// its status is kept until it is waited for. Nothing is kept of a program that was waited for, and of one that was
+/// detached no more than what collects it once it ended.
 #[derive(Drop)]
 pub struct RealLauncher {
     rt: HostRuntime,

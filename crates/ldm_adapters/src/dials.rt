@@ -15,7 +15,8 @@ use std::str;
 
 /// A dial over TCP. It tells nothing of whom it was asked for.
 ///
-/// A host is an address, or a name that the system looks up; its addresses are tried in turn, each within a limit of time.
+/// A host is an address, or a name that the system looks up; its addresses are tried in turn, each within a limit of
+/// time.
 #[derive(Drop)]
 pub struct RealDial {
     rt: HostRuntime,

@@ -66,8 +66,8 @@ fn is_fifo(rt: HostRuntime, path: &str) -> bool {
     }
 }
 
-// Opens the file under the path, to be written at its end. A FIFO is refused, since the opening of one that nobody reads would
-// wait for ever.
+// Opens the file under the path, to be written at its end. A FIFO is refused, since the opening of one that nobody
+// reads would wait for ever.
 fn open(rt: HostRuntime, path: &str) -> io::Result<File> {
     if is_fifo(rt, path) {
         return Err(io::Error::from(ErrorKind::Unsupported));
@@ -102,7 +102,8 @@ impl OpenFiles {
     fn open(&mut self, rt: HostRuntime, path: &str) -> io::Result<FileNo>
         ensures number { IfOk result (λ file. file.0 ≡ self.old.next) }
         ensures next { OnOk result (self.new.next ≡ self.old.next + 1) }
-        ensures files { OnOk result (self.new.files.entries ≡ with_number self.old.next path.now self.old.files.entries) }
+        ensures files { OnOk result
+            (self.new.files.entries ≡ with_number self.old.next path.now self.old.files.entries) }
         ensures next_kept { OnErr result (self.new.next ≡ self.old.next) }
         ensures files_kept { OnErr result (self.new.files.entries ≡ self.old.files.entries) }
     {
@@ -126,8 +127,8 @@ fn read_front(rt: HostRuntime, alloc: Global, path: &str, most: u64) -> io::Resu
 
 /// The files of the system. It does not tell what they have.
 ///
-/// Reading stops one byte behind the limit. A file that is opened is made where it is missing, with its folders. Nothing is
-/// kept of a file that was shut.
+/// Reading stops one byte behind the limit. A file that is opened is made where it is missing, with its folders.
+/// Nothing is kept of a file that was shut.
 #[derive(Drop)]
 pub struct RealStore {
     rt: HostRuntime,

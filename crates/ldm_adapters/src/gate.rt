@@ -21,8 +21,9 @@ pub const BUSY_MILLISECONDS: u64 = 1;
 /// A gate that lets every call of an actor pass. An idle call sleeps for [`IDLE_MILLISECONDS`]; after so many of these,
 /// where a number was given, it stops. It tells after how many more.
 ///
-/// A gate with no number, of a station whose door let a peer in, sleeps no longer than [`BUSY_MILLISECONDS`] where bytes came over
-/// any link of its net since its last idle call, and ends its sleep within [`LOOK_MILLISECONDS`] where they come meanwhile.
+/// A gate with no number, of a station whose door let a peer in, sleeps no longer than [`BUSY_MILLISECONDS`] where
+/// bytes came over any link of its net since its last idle call, and ends its sleep within [`LOOK_MILLISECONDS`] where
+/// they come meanwhile.
 #[derive(Drop)]
 pub struct RealGate {
     rt: HostRuntime,
@@ -65,7 +66,8 @@ impl RealGate {
         }
     }
 
-    // Sleeps for one idle call, or until it is worth looking at the queue again. Answers how often bytes had come before.
+    // Sleeps for one idle call, or until it is worth looking at the queue again. Answers how often bytes had come
+    // before.
     fn rest(&self) -> u64 {
         let heard = self.heard();
         if heard != self.seen {

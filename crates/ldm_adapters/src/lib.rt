@@ -1,9 +1,9 @@
 //! The outside of the program as it really is: the system's streams, files, programs, clock and sockets, as the traits
 //! of `ldm_outside`.
 //!
-//! Each form does what its trait says by a call or two of the system, counts an error of the system as a fault, and makes
-//! a call again where a signal interrupted it. None tells what it holds, has left or was sent: what the
-//! system does with bytes is trusted.
+//! Each form does what its trait says by a call or two of the system, counts an error of the system as a fault, and
+//! makes a call again where a signal interrupted it. None tells what it holds, has left or was sent: what the system
+//! does with bytes is trusted.
 #![tactic(auto)]
 
 mod beats;

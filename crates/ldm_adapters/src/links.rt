@@ -16,8 +16,8 @@ pub const SILENT_SECONDS: u64 = 120;
 /// How long a link waits for its peer to take bytes, in seconds.
 pub const STALLED_SECONDS: u64 = 120;
 
-/// How long a dial and a link wait for a peer: a call that waited so long has failed. Each is above 0; where one is 0, no link
-/// is made.
+/// How long a dial and a link wait for a peer: a call that waited so long has failed. Each is above 0; where one is 0,
+/// no link is made.
 #[derive(Clone, Copy, Debug)]
 pub struct Timeouts {
     /// For one address of a host to answer.
@@ -41,8 +41,8 @@ impl Timeouts {
 
 /// A link over TCP. It tells no bytes.
 ///
-/// A peer that vanishes is a fault, and no signal comes; so is one that is waited for too long. A closed link is shut down in
-/// both directions.
+/// A peer that vanishes is a fault, and no signal comes; so is one that is waited for too long. A closed link is shut
+/// down in both directions.
 #[derive(Drop)]
 pub struct RealLink {
     stream: TcpStream,
@@ -57,8 +57,8 @@ impl RealLink {
     ghost use Rattle.ldm_outside.specs.Link.{IsFresh};
     ghost use Rattle.ldm_adapters.specs.Told.{told_by_link};
 
-    /// A link of the stream, which waits no longer than this, and sends each piece at once where the system can. Each piece that
-    /// comes is a beat.
+    /// A link of the stream, which waits no longer than this, and sends each piece at once where the system can. Each
+    /// piece that comes is a beat.
     pub(crate) fn new(
         stream: TcpStream,
         timeouts: Timeouts,

@@ -136,7 +136,8 @@ impl Net for RealNet {
     ghost kept = { λ s. s.kept.items };
 
     fn stations(&mut self, port: u16, count: u32, idles: Option<u32>) -> Manned<RealStation>
-        ensures given { StationsGive told_by_station result count idles (told_by_dial self.old.dial) (told_by_dial self.new.dial) }
+        ensures given { StationsGive told_by_station result count idles (told_by_dial self.old.dial)
+            (told_by_dial self.new.dial) }
         ensures kept { self.new.kept.items ≡ self.old.kept.items }
     {
         match man(self.rt, port, count, self.timeouts, idles) {

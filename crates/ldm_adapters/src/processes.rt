@@ -36,8 +36,8 @@ impl Process {
 
 /// Processes under the numbers of a launcher's children.
 ///
-/// A process that ended is collected, so that the system can forget it. Its status is kept until it is asked for, but for a
-/// process that was detached.
+/// A process that ended is collected, so that the system can forget it. Its status is kept until it is asked for, but
+/// for a process that was detached.
 #[derive(Drop)]
 pub(crate) struct Processes {
     running: Vec<Process>,

@@ -1,6 +1,7 @@
 //! Streams of the system, as sources and sinks. They hold no byte back: a call of theirs is a call of the reader or the
 //! writer, which is made again where a signal interrupted it.
-ghost use Rattle.std.specs.Prelude.{◌≡◌, ◌≢◌, ◌≤◌, ◌<◌, ◌==◌, ◌||◌, not, length, take, MatchResult, IfOk, IfErr, OnErr, if◌then◌else◌};
+ghost use Rattle.std.specs.Prelude.{◌≡◌, ◌≢◌, ◌≤◌, ◌<◌, ◌==◌, ◌||◌, not, length, take};
+ghost use Rattle.std.specs.Prelude.{MatchResult, IfOk, IfErr, OnErr, if◌then◌else◌};
 ghost use Rattle.std.specs.IoError.{error_kind};
 ghost use Rattle.std.specs.Io.{ReadsAtMost, WritesAtMost};
 ghost use Rattle.std.specs.Io.KnownBytes.{Appends, Consumes, IsAtEnd, Keeps};
@@ -64,7 +65,9 @@ impl<R: Read> Source for RealSource<R> {
 
     fn read(&mut self, into: &mut [u8]) -> Got
         requires { 0 < length into.old }
-        ensures given { ReadGives result into.new (record { left = None; faults = self.old.faults; ends = self.old.ends }) (record { left = None; faults = self.new.faults; ends = self.new.ends }) }
+        ensures given { ReadGives result into.new
+            (record { left = None; faults = self.old.faults; ends = self.old.ends })
+            (record { left = None; faults = self.new.faults; ends = self.new.ends }) }
         ensures faults_kept { self.old.faults ≤ self.new.faults }
         ensures known { IfSome (R.remaining self.old.reader) (λ left. ReadGives result into.new
             (record { left = Some left; faults = self.old.faults; ends = self.old.ends })
@@ -110,7 +113,8 @@ impl<W: Write> Sink for RealSink<W> {
     ghost tells = { λ s. record { written = None; faults = s.faults } };
 
     fn write(&mut self, piece: &[u8]) -> Put
-        ensures taken { WriteGives result piece.now (record { written = None; faults = self.old.faults }) (record { written = None; faults = self.new.faults }) }
+        ensures taken { WriteGives result piece.now (record { written = None; faults = self.old.faults })
+            (record { written = None; faults = self.new.faults }) }
         ensures faults_kept { self.old.faults ≤ self.new.faults }
         ensures known { IfSome (W.contents self.old.writer) (λ before. WriteGives result piece.now
             (record { written = Some before; faults = self.old.faults })
@@ -139,7 +143,8 @@ fn told_of_read(answer: io::Result<usize>) -> Got
 // What a writer's answer, at a piece of so many bytes, means of a sink: to take nothing of a piece that is not empty
 // is to fail.
 fn told_of_write(answer: io::Result<usize>, len: usize) -> Put
-    ensures { MatchResult answer (λ n. result ≡ (if not (n == 0) || len == 0 then Put.Took n else Put.Failed)) (λ _. result ≡ Put.Failed) }
+    ensures { MatchResult answer (λ n. result ≡ (if not (n == 0) || len == 0 then Put.Took n else Put.Failed))
+        (λ _. result ≡ Put.Failed) }
 {
     match answer {
         Ok(0) if len > 0 => Put::Failed,

@@ -1,5 +1,6 @@
 //! The book: the queue of one thread.
-ghost use Rattle.std.specs.Prelude.{◌≡◌, ◌+◌, ◌<◌, ◌≤◌, ◌++◌, ◌∷◌, [], ℕ, None, Some, true, false, is_some, length, drop, filter, take, set, slice_index_or, IfOk, IfErr, IfSome, IsSome, MatchOption};
+ghost use Rattle.std.specs.Prelude.{◌≡◌, ◌+◌, ◌<◌, ◌≤◌, ◌++◌, ◌∷◌, [], ℕ, None, Some, true, false, is_some, length};
+ghost use Rattle.std.specs.Prelude.{drop, filter, take, set, slice_index_or, IfOk, IfErr, IfSome, IsSome, MatchOption};
 ghost use Rattle.std.specs.List.{All, list_any};
 ghost use Rattle.std.specs.Option.{option_map};
 ghost use Rattle.ldm_cursor.specs.Places.{count_held, cursor_at, is_held};
@@ -19,7 +20,8 @@ ghost use Rattle.ldm_model.specs.Fill.{fill as fill_of, discard as discard_of};
 ghost use Rattle.ldm_model.specs.Commit.{commit as commit_of};
 ghost use Rattle.ldm_xdr.specs.Spelling.{Fits};
 ghost use Rattle.ldm_book.specs.Lookup.{kept_with};
-ghost use Rattle.ldm_book.specs.Products.{AreRising, LieApart, has_number, if_reserved_by, kept_extent, reservation_at, room_for};
+ghost use Rattle.ldm_book.specs.Products.{AreRising, LieApart, has_number, if_reserved_by};
+ghost use Rattle.ldm_book.specs.Products.{kept_extent, reservation_at, room_for};
 ghost use Rattle.ldm_book.specs.Spans.{held_span, held_spans, is_some_part, reserved_span, span_of};
 ghost use Rattle.ldm_book.specs.Making.{IsTimely, MakesRoom, Puts, Reserves, reserving, start_at, with_committed};
 ghost use Rattle.ldm_book.specs.Reserved.{kept_place, reservation_of};
@@ -70,12 +72,14 @@ impl Model for Book {
 impl Book {
     ghost use Rattle.ldm_book.specs.Stands.{StandsFor};
     ghost use Rattle.ldm_book.specs.Answers.{KeepsPlaces, KeepsReserved, Follows};
-    ghost use Rattle.ldm_model.specs.Answers.{IfRefused, IfNothing, IfNotOpened, IfNotStepped, IfNotReleased, IfNotClosed};
-    ghost use Rattle.ldm_model.specs.Answers.{IfNotReserved, IfNotFilled, IfNotEnded, IfEndedOnly, IfNotDiscarded};
-    ghost use Rattle.ldm_model.specs.Answers.{reserve_answer, fill_answer, commit_answer, discard_answer};
-    ghost use Rattle.ldm_model.specs.Answers.{insert_answer, look_answer, expire_answer, stat_answer, open_answer, step_answer};
-    ghost use Rattle.ldm_model.specs.Answers.{read_answer, release_answer, close_answer, tally_answer, asked_bytes, bytes_read};
-    ghost use Rattle.ldm_book.specs.Readers.{AreAhead, first_of, held_products, occupied, products, unheld_numbers, without_product};
+    ghost use Rattle.ldm_model.specs.Answers.{IfRefused, IfNothing, IfNotOpened, IfNotStepped, IfNotReleased};
+    ghost use Rattle.ldm_model.specs.Answers.{IfNotClosed, IfNotReserved, IfNotFilled, IfNotEnded, IfEndedOnly};
+    ghost use Rattle.ldm_model.specs.Answers.{IfNotDiscarded, reserve_answer, fill_answer, commit_answer};
+    ghost use Rattle.ldm_model.specs.Answers.{discard_answer, insert_answer, look_answer, expire_answer};
+    ghost use Rattle.ldm_model.specs.Answers.{stat_answer, open_answer, step_answer, read_answer, release_answer};
+    ghost use Rattle.ldm_model.specs.Answers.{close_answer, tally_answer, asked_bytes, bytes_read};
+    ghost use Rattle.ldm_book.specs.Readers.{AreAhead, first_of, held_products, occupied};
+    ghost use Rattle.ldm_book.specs.Readers.{products, unheld_numbers, without_product};
     ghost use Rattle.ldm_book.specs.Limits.{IsGoodArena, IsGoodSlots, IsFaultOf};
 
     /// An empty queue with an arena of so many bytes and so many product slots. It takes all the memory that
@@ -99,8 +103,8 @@ impl Book {
         })
     }
 
-    /// Whether there is a queue of such an arena and of so many slots: what [`Book::create`] tests first. It takes no memory,
-    /// and does not fail for want of it.
+    /// Whether there is a queue of such an arena and of so many slots: what [`Book::create`] tests first. It takes no
+    /// memory, and does not fail for want of it.
     pub fn check_sizes(arena: u64, slots: u32) -> Result<(), CreateFault>
         ensures limits { IfOk result (λ _. IsGoodArena arena × IsGoodSlots slots) }
         ensures faults { IfErr result (IsFaultOf arena slots) }
@@ -124,7 +128,8 @@ impl Book {
     /// where that is later.
     pub fn insert(&mut self, actor: Actor, now: Micros, info: &Info, body: &[u8]) -> InsertReply
         requires { length body.now ≡ info.now.size }
-        ensures answers { (s : State) → StandsFor self.old s → Follows (insert_answer result) self.new (insert_of s now (record { info = info.now; body = body.now })) }
+        ensures answers { (s : State) → StandsFor self.old s
+            → Follows (insert_answer result) self.new (insert_of s now (record { info = info.now; body = body.now })) }
         ensures refused { IfRefused result (self.new ≡ self.old) }
         ensures places { KeepsPlaces self.old self.new }
         ensures reserved { KeepsReserved self.old self.new }
@@ -155,7 +160,8 @@ impl Book {
     /// The queued product of that signature, if there is one.
     // It changes nothing, and takes `&mut self` so that all events of a queue have one form.
     pub fn look(&mut self, actor: Actor, s: &Signature) -> LookReply
-        ensures answers { (state : State) → StandsFor self.old state → Follows (look_answer result) self.new (look_of state s.now.0) }
+        ensures answers { (state : State) → StandsFor self.old state
+            → Follows (look_answer result) self.new (look_of state s.now.0) }
         ensures unchanged { self.new ≡ self.old }
     {
         let _ = actor;
@@ -200,7 +206,8 @@ impl Book {
     ///
     /// The cases are tested in this order: all places taken, then the product that it is to begin behind not queued.
     pub fn open_cursor(&mut self, actor: Actor, feed: Feed, start: Start) -> OpenReply
-        ensures answers { (s : State) → StandsFor self.old s → Follows (open_answer result) self.new (open_of s actor feed.0 start) }
+        ensures answers { (s : State) → StandsFor self.old s
+            → Follows (open_answer result) self.new (open_of s actor feed.0 start) }
         ensures refused { IfNotOpened result (self.new ≡ self.old) }
         ensures products { self.new ≡ record self.old { cursors = self.new.cursors } }
     {
@@ -216,10 +223,11 @@ impl Book {
         }
     }
 
-    /// Goes on with a cursor: tells the losses that it was not told yet, or gives the next product, which the cursor holds
-    /// from then on, or comes to the end.
+    /// Goes on with a cursor: tells the losses that it was not told yet, or gives the next product, which the cursor
+    /// holds from then on, or comes to the end.
     pub fn step(&mut self, actor: Actor, k: CursorNo) -> StepReply
-        ensures answers { (s : State) → StandsFor self.old s → Follows (step_answer result) self.new (step_of s actor k) }
+        ensures answers { (s : State) → StandsFor self.old s
+            → Follows (step_answer result) self.new (step_of s actor k) }
         ensures refused { IfNotStepped result (self.new ≡ self.old) }
         ensures products { self.new ≡ record self.old { cursors = self.new.cursors } }
     {
@@ -249,11 +257,13 @@ impl Book {
         }
     }
 
-    /// Reads the body of the product that a cursor holds, from that offset on: as many bytes as the buffer has room for,
-    /// or as are left, to the front of the buffer. The bytes behind them stay as they were.
+    /// Reads the body of the product that a cursor holds, from that offset on: as many bytes as the buffer has room
+    /// for, or as are left, to the front of the buffer. The bytes behind them stay as they were.
     // It changes nothing either.
     pub fn read(&mut self, actor: Actor, k: CursorNo, offset: u32, into: &mut [u8]) -> ReadReply
-        ensures answers { (s : State) → StandsFor self.old s → Follows (read_answer result into.new) self.new (read_of s actor k offset (asked_bytes (length into.old))) }
+        ensures answers { (s : State) → StandsFor self.old s
+            → Follows (read_answer result into.new) self.new
+            (read_of s actor k offset (asked_bytes (length into.old))) }
         ensures unchanged { self.new ≡ self.old }
         ensures few { bytes_read result ≤ length into.old }
         ensures rest { drop (bytes_read result) into.new ≡ drop (bytes_read result) into.old }
@@ -279,7 +289,8 @@ impl Book {
 
     /// Ends the hold of a cursor.
     pub fn release(&mut self, actor: Actor, k: CursorNo) -> ReleaseReply
-        ensures answers { (s : State) → StandsFor self.old s → Follows (release_answer result) self.new (release_of s actor k) }
+        ensures answers { (s : State) → StandsFor self.old s
+            → Follows (release_answer result) self.new (release_of s actor k) }
         ensures refused { IfNotReleased result (self.new ≡ self.old) }
         ensures products { self.new ≡ record self.old { cursors = self.new.cursors } }
     {
@@ -295,7 +306,8 @@ impl Book {
 
     /// Closes a cursor. If it held a product, that hold ends.
     pub fn close(&mut self, actor: Actor, k: CursorNo) -> CloseReply
-        ensures answers { (s : State) → StandsFor self.old s → Follows (close_answer result) self.new (close_of s actor k) }
+        ensures answers { (s : State) → StandsFor self.old s
+            → Follows (close_answer result) self.new (close_of s actor k) }
         ensures refused { IfNotClosed result (self.new ≡ self.old) }
         ensures products { self.new ≡ record self.old { cursors = self.new.cursors } }
     {
@@ -309,7 +321,8 @@ impl Book {
     /// Counts what a cursor was given, what it lost, and what is left for it.
     // It changes nothing either.
     pub fn tally(&mut self, actor: Actor, k: CursorNo) -> TallyReply
-        ensures answers { (s : State) → StandsFor self.old s → Follows (tally_answer result) self.new (tally_of s actor k) }
+        ensures answers { (s : State) → StandsFor self.old s
+            → Follows (tally_answer result) self.new (tally_of s actor k) }
         ensures unchanged { self.new ≡ self.old }
     {
         if !self.cursors.owned(actor, k) {
@@ -324,14 +337,15 @@ impl Book {
         }
     }
 
-    /// Reserves a region for a product with these metadata, and writes them there: its body comes later, in pieces. The region
-    /// is held from then on, until the reservation is committed or discarded, and takes a slot.
+    /// Reserves a region for a product with these metadata, and writes them there: its body comes later, in pieces. The
+    /// region is held from then on, until the reservation is committed or discarded, and takes a slot.
     ///
-    /// The cases are tested in this order: larger than the arena, a duplicate of a queued product, all 64 places taken, locked.
-    /// Else room is made and used as in [`Book::insert`], and the reservation has the least empty place. Two reservations may
-    /// have one signature.
+    /// The cases are tested in this order: larger than the arena, a duplicate of a queued product, all 64 places taken,
+    /// locked. Else room is made and used as in [`Book::insert`], and the reservation has the least empty place. Two
+    /// reservations may have one signature.
     pub fn reserve(&mut self, actor: Actor, info: &Info) -> ReserveReply
-        ensures answers { (s : State) → StandsFor self.old s → Follows (reserve_answer result) self.new (reserve_of s actor info.now) }
+        ensures answers { (s : State) → StandsFor self.old s
+            → Follows (reserve_answer result) self.new (reserve_of s actor info.now) }
         ensures refused { IfNotReserved result (self.new ≡ self.old) }
         ensures places { KeepsPlaces self.old self.new }
         ensures reserved { KeepsReserved self.old self.new }
@@ -360,7 +374,8 @@ impl Book {
     /// Fills bytes of the body into a reserved region, behind those that were filled in before. More than are left are
     /// refused, and none of them is written.
     pub fn fill(&mut self, actor: Actor, r: ReserveNo, bytes: &[u8]) -> FillReply
-        ensures answers { (s : State) → StandsFor self.old s → Follows (fill_answer result) self.new (fill_of s actor r bytes.now) }
+        ensures answers { (s : State) → StandsFor self.old s
+            → Follows (fill_answer result) self.new (fill_of s actor r bytes.now) }
         ensures refused { IfNotFilled result (self.new ≡ self.old) }
         ensures products { self.new ≡ record self.old { bytes = self.new.bytes; reservations = self.new.reservations } }
         ensures places { KeepsPlaces self.old self.new }
@@ -381,16 +396,18 @@ impl Book {
         FillReply::Filled { left: left - count }
     }
 
-    /// Makes a reservation whose body is whole a product of the queue, at the moment `now`. It lies where it was filled in: no
-    /// byte is copied.
+    /// Makes a reservation whose body is whole a product of the queue, at the moment `now`. It lies where it was filled
+    /// in: no byte is copied.
     ///
-    /// The cases are tested in this order: no reservation of the actor at the place, bytes left, a duplicate of a queued
-    /// product, no insertion time left. In the first two nothing changes, in the others the reservation ends. Number and
-    /// insertion time are those of an insertion at that moment.
+    /// The cases are tested in this order: no reservation of the actor at the place, bytes left, a duplicate of a
+    /// queued product, no insertion time left. In the first two nothing changes, in the others the reservation ends.
+    /// Number and insertion time are those of an insertion at that moment.
     pub fn commit(&mut self, actor: Actor, r: ReserveNo, now: Micros) -> CommitReply
-        ensures answers { (s : State) → StandsFor self.old s → Follows (commit_answer result) self.new (commit_of s actor r now) }
+        ensures answers { (s : State) → StandsFor self.old s
+            → Follows (commit_answer result) self.new (commit_of s actor r now) }
         ensures refused { IfNotEnded result (self.new ≡ self.old) }
-        ensures ended { IfEndedOnly result (self.new ≡ record self.old { reservations = set self.old.reservations r None }) }
+        ensures ended { IfEndedOnly result
+            (self.new ≡ record self.old { reservations = set self.old.reservations r None }) }
         ensures places { KeepsPlaces self.old self.new }
         ensures reserved { KeepsReserved self.old self.new }
         ensures apart { LieApart self.new.arena (occupied self.new) }
@@ -417,7 +434,8 @@ impl Book {
 
     /// Gives a reservation up: its region and its slot are free from then on.
     pub fn discard(&mut self, actor: Actor, r: ReserveNo) -> DiscardReply
-        ensures answers { (s : State) → StandsFor self.old s → Follows (discard_answer result) self.new (discard_of s actor r) }
+        ensures answers { (s : State) → StandsFor self.old s
+            → Follows (discard_answer result) self.new (discard_of s actor r) }
         ensures refused { IfNotDiscarded result (self.new ≡ self.old) }
         ensures places { KeepsPlaces self.old self.new }
         ensures reserved { KeepsReserved self.old self.new }
@@ -531,7 +549,8 @@ impl Book {
     fn span_at(&self, place: u32) -> Span
         requires place { place < CursorNo.COUNT + ReserveNo.COUNT }
         requires many { CursorNo.COUNT ≤ place → length self.now.cursors ≡ CursorNo.COUNT }
-        ensures span { result ≡ slice_index_or (held_spans self.now.rows self.now.cursors self.now.reservations) place (span_of None) }
+        ensures span { result ≡ slice_index_or (held_spans self.now.rows self.now.cursors self.now.reservations) place
+            (span_of None) }
         ensures cursors { length self.now.cursors ≡ CursorNo.COUNT }
         ensures reservations { CursorNo.COUNT ≤ place → length self.now.reservations ≡ ReserveNo.COUNT }
     {
@@ -542,10 +561,12 @@ impl Book {
         }
     }
 
-    // Writes where the held products and the reserved regions lie, by their places, to the front of the spans. How many they are.
+    // Writes where the held products and the reserved regions lie, by their places, to the front of the spans. How many
+    // they are.
     fn gather_held(&self, spans: &mut [Span]) -> usize
         requires { length spans.old ≡ CursorNo.COUNT + ReserveNo.COUNT }
-        ensures spans { take result spans.new ≡ filter is_some_part (held_spans self.now.rows self.now.cursors self.now.reservations) }
+        ensures spans { take result spans.new ≡ filter is_some_part
+            (held_spans self.now.rows self.now.cursors self.now.reservations) }
         ensures few { result ≤ length spans.old }
     {
         let mut count = 0;
@@ -584,8 +605,8 @@ impl Book {
         has_gap(&spans[..count], need, self.arena.len() as u64)
     }
 
-    // Evicts as many of the oldest products that nobody holds as it takes until there is room for so many bytes, and no more.
-    // `None` exactly where all of them would not make room; nothing changes then.
+    // Evicts as many of the oldest products that nobody holds as it takes until there is room for so many bytes, and no
+    // more. `None` exactly where all of them would not make room; nothing changes then.
     fn make_room(&mut self, need: u64) -> Option<u64>
         requires some { 0 < need }
         requires need { need ≤ self.old.arena }
@@ -650,9 +671,11 @@ impl Book {
 
     // The actor's reservation at a place, if it has one there.
     fn reservation(&self, actor: Actor, r: ReserveNo) -> Option<Place>
-        ensures own { option_map (λ place. reservation_of (kept_place place)) result ≡ if_reserved_by actor (reservation_at self.now.reservations r) }
+        ensures own { option_map (λ place. reservation_of (kept_place place)) result ≡ if_reserved_by actor
+            (reservation_at self.now.reservations r) }
         ensures part { IfSome result (λ place. (kept_place place).filled ≤ (kept_place place).product.size) }
-        ensures within { IfSome result (λ place. (kept_place place).product.place + kept_extent (kept_place place).product ≤ self.now.arena) }
+        ensures within { IfSome result
+            (λ place. (kept_place place).product.place + kept_extent (kept_place place).product ≤ self.now.arena) }
         ensures small { length self.now.bytes ≡ self.now.arena }
         ensures apart { LieApart self.now.arena (occupied self.now) }
     {
@@ -674,10 +697,12 @@ impl Book {
 
     // Makes a whole reservation a product.
     fn admit(&mut self, r: ReserveNo, time: Micros)
-        requires some { (v : KeptReservation) × (reservation_at self.old.reservations r ≡ Some v) × (kept_with v.product.signature self.old.rows ≡ None) }
+        requires some { (v : KeptReservation) × (reservation_at self.old.reservations r ≡ Some v)
+            × (kept_with v.product.signature self.old.rows ≡ None) }
         requires timely { IsTimely self.old.last time }
         requires instant { time ≤ Micros.MAX }
-        ensures committed { (v : KeptReservation) → reservation_at self.old.reservations r ≡ Some v → self.new ≡ with_committed self.old r time v }
+        ensures committed { (v : KeptReservation) → reservation_at self.old.reservations r ≡ Some v
+            → self.new ≡ with_committed self.old r time v }
         ensures apart { LieApart self.new.arena (occupied self.new) }
     {
         self.products.commit(r, self.admitted, time);
@@ -688,7 +713,8 @@ impl Book {
 
 // The insertion time at the moment `now`, unless the last one is the greatest instant.
 fn time_after(last: Option<Micros>, now: Micros) -> Option<Micros>
-    ensures time { MatchOption result (is_last last ≡ true) (λ time. (is_last last ≡ false) × (time ≡ time_of last now)) }
+    ensures time { MatchOption result (is_last last ≡ true)
+        (λ time. (is_last last ≡ false) × (time ≡ time_of last now)) }
     ensures timely { IfSome result (IsTimely last) }
     ensures instant { IfSome result (λ time. time ≤ Micros.MAX) }
 {

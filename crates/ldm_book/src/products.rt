@@ -1,5 +1,6 @@
 //! The products and the reservations of a queue, each in a slot of its own.
-ghost use Rattle.std.specs.Prelude.{◌≡◌, ◌%◌, ◌+◌, ◌^◌, ◌<◌, ◌≤◌, ℕ, count_by, None, Some, [], is_none, is_some, length, position, replicate, IfOk, IfSome, IsSome, MatchOption};
+ghost use Rattle.std.specs.Prelude.{◌≡◌, ◌%◌, ◌+◌, ◌^◌, ◌<◌, ◌≤◌, ℕ, count_by, None, Some, [], is_none, is_some};
+ghost use Rattle.std.specs.Prelude.{length, position, replicate, IfOk, IfSome, IsSome, MatchOption};
 ghost use Rattle.std.specs.List.{All, Any, find};
 ghost use Rattle.std.specs.Option.{option_map};
 ghost use Rattle.ldm_types.specs.Arena.{gaps, longest};
@@ -7,8 +8,9 @@ ghost use Rattle.ldm_model.specs.Product.{extent_of};
 ghost use Rattle.ldm_model.specs.Stat.{extents};
 ghost use Rattle.ldm_model.specs.Answers.{look_answer};
 ghost use Rattle.ldm_book.specs.Lookup.{kept_with, look_kept};
-ghost use Rattle.ldm_book.specs.Products.{at_number, awaits, committed, is_later, kept_number, AreRising, LieApart, occupied_in, reservation_at};
-ghost use Rattle.ldm_book.specs.Products.{room_for, with_more, with_reservation, with_row, without};
+ghost use Rattle.ldm_book.specs.Products.{at_number, awaits, committed, is_later, kept_number};
+ghost use Rattle.ldm_book.specs.Products.{AreRising, LieApart, occupied_in, reservation_at, room_for};
+ghost use Rattle.ldm_book.specs.Products.{with_more, with_reservation, with_row, without};
 ghost use Rattle.ldm_book.specs.Making.{new_reservation};
 ghost use Rattle.ldm_book.specs.Reserved.{kept_place, reservation_of};
 ghost use Rattle.ldm_book.specs.RowKept.{row_kept};
@@ -27,8 +29,8 @@ use ldm_types::{
 use std::alloc::Global;
 use std::marker::Model;
 
-/// The products that are queued, in the order of their numbers, and the reservations. Each has a slot, and its region in the
-/// arena is owned by that slot.
+/// The products that are queued, in the order of their numbers, and the reservations. Each has a slot, and its region
+/// in the arena is owned by that slot.
 ///
 /// `create` takes all memory; the other calls take none, and do not walk over the slots.
 #[derive(Drop)]
@@ -65,7 +67,9 @@ impl Products {
         requires least { SMALLEST_ARENA ≤ arena }
         requires greatest { arena ≤ LARGEST_ARENA }
         requires slots { slots ≤ MOST_SLOTS }
-        ensures { IfOk result (λ products. products ≡ record { arena = arena; slots = slots; rows = []; reservations = replicate ReserveNo.COUNT None }) }
+        ensures { IfOk result
+            (λ products. products
+            ≡ record { arena = arena; slots = slots; rows = []; reservations = replicate ReserveNo.COUNT None }) }
     {
         let mut free = Vec::with_capacity(alloc, slots as usize)?;
         for behind in 0..slots {
@@ -203,7 +207,8 @@ impl Products {
         requires later { All (λ k. (k.number < n) × (k.time < time)) self.old.rows }
         ensures place { result ≡ room_for self.old (extent_of info.now) }
         ensures within { MatchOption result (Unit {0}) (λ place. place + extent_of info.now ≤ self.old.arena) }
-        ensures rows { MatchOption result (self.new ≡ self.old) (λ place. self.new ≡ with_row self.old (kept_of n time place info.now)) }
+        ensures rows { MatchOption result (self.new ≡ self.old)
+            (λ place. self.new ≡ with_row self.old (kept_of n time place info.now)) }
         ensures apart { LieApart self.new.arena (occupied_in self.new) }
     {
         let slot = *self.free.last()?;
@@ -253,21 +258,23 @@ impl Products {
 
     /// The reservation of a place, if it is open.
     pub(crate) fn reservation(&self, r: ReserveNo) -> Option<Place>
-        ensures at { option_map (λ place. reservation_of (kept_place place)) result ≡ reservation_at self.now.reservations r }
+        ensures at { option_map (λ place. reservation_of (kept_place place)) result
+            ≡ reservation_at self.now.reservations r }
         ensures many { length self.now.reservations ≡ ReserveNo.COUNT }
     {
         self.reserved.at(r)
     }
 
-    /// Reserves a region for a product with these metadata, at an empty reservation place: with a free slot, at the start of the
-    /// shortest gap that is long enough, the lowest where several are equally short. Answers where it begins. `None` exactly
-    /// where no slot is free or no gap is long enough.
+    /// Reserves a region for a product with these metadata, at an empty reservation place: with a free slot, at the
+    /// start of the shortest gap that is long enough, the lowest where several are equally short. Answers where it
+    /// begins. `None` exactly where no slot is free or no gap is long enough.
     pub(crate) fn reserve(&mut self, actor: Actor, r: ReserveNo, info: &Info) -> Option<u64>
         requires { reservation_at self.old.reservations r ≡ None }
         ensures place { result ≡ room_for self.old (extent_of info.now) }
         ensures within { MatchOption result (Unit {0}) (λ place. place + extent_of info.now ≤ self.old.arena) }
         ensures bound { MatchOption result (Unit {0}) (λ place. r < length self.old.reservations) }
-        ensures reserved { MatchOption result (self.new ≡ self.old) (λ place. self.new ≡ with_reservation self.old r (Some (new_reservation actor info.now place))) }
+        ensures reserved { MatchOption result (self.new ≡ self.old)
+            (λ place. self.new ≡ with_reservation self.old r (Some (new_reservation actor info.now place))) }
         ensures apart { LieApart self.new.arena (occupied_in self.new) }
     {
         let slot = *self.free.last()?;
@@ -289,8 +296,10 @@ impl Products {
 
     /// Counts so many bytes of a reservation's body as filled in.
     pub(crate) fn fill(&mut self, r: ReserveNo, count: u32)
-        requires { (v : KeptReservation) × (reservation_at self.old.reservations r ≡ Some v) × (v.filled + count ≤ v.product.size) }
-        ensures { (v : KeptReservation) → reservation_at self.old.reservations r ≡ Some v → self.new ≡ with_reservation self.old r (Some (with_more count v)) }
+        requires { (v : KeptReservation) × (reservation_at self.old.reservations r ≡ Some v)
+            × (v.filled + count ≤ v.product.size) }
+        ensures { (v : KeptReservation) → reservation_at self.old.reservations r ≡ Some v
+            → self.new ≡ with_reservation self.old r (Some (with_more count v)) }
     {
         let Some(mut place) = self.reserved.at(r) else {
             unreachable!()
@@ -299,12 +308,14 @@ impl Products {
         self.reserved.set(r, Some(place));
     }
 
-    /// Makes a reservation the product of that number, inserted at that time. It keeps its slot and its region, and its place is
-    /// empty from then on.
+    /// Makes a reservation the product of that number, inserted at that time. It keeps its slot and its region, and its
+    /// place is empty from then on.
     pub(crate) fn commit(&mut self, r: ReserveNo, n: u64, time: Micros)
-        requires some { (v : KeptReservation) × (reservation_at self.old.reservations r ≡ Some v) × (kept_with v.product.signature self.old.rows ≡ None) }
+        requires some { (v : KeptReservation) × (reservation_at self.old.reservations r ≡ Some v)
+            × (kept_with v.product.signature self.old.rows ≡ None) }
         requires later { All (λ k. (k.number < n) × (k.time < time)) self.old.rows }
-        ensures committed { (v : KeptReservation) → reservation_at self.old.reservations r ≡ Some v → self.new ≡ with_reservation (with_row self.old (committed n time v)) r None }
+        ensures committed { (v : KeptReservation) → reservation_at self.old.reservations r ≡ Some v
+            → self.new ≡ with_reservation (with_row self.old (committed n time v)) r None }
         ensures apart { LieApart self.new.arena (occupied_in self.new) }
     {
         let Some(place) = self.reserved.at(r) else {

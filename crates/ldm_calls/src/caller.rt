@@ -26,8 +26,8 @@ pub trait Caller {
     /// A call was not made: from the queue to the one that is left.
     ghost unmade: { Self → Self.Queue → Self.Queue → Type 0 };
 
-    /// Makes a call, and answers what the queue does. A body that is inserted or filled in is made at the front of `body_room`,
-    /// and the bytes that are read stand at the front of `read_room`.
+    /// Makes a call, and answers what the queue does. A body that is inserted or filled in is made at the front of
+    /// `body_room`, and the bytes that are read stand at the front of `read_room`.
     fn call<'a>(
         &self,
         queue: &mut Self::Queue,

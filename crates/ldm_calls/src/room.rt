@@ -15,7 +15,8 @@ use std::marker::Model;
 // Room for the bytes of the longest read.
 const READ_ROOM: usize = LONGEST_READ as usize;
 
-/// Room for the body of an insertion or a filling, for the bytes of a read, and for an answer line. Contracts see the line.
+/// Room for the body of an insertion or a filling, for the bytes of a read, and for an answer line. Contracts see the
+/// line.
 #[derive(Drop)]
 pub struct Room {
     body: Vec<u8>,
@@ -45,9 +46,9 @@ impl Room {
         })
     }
 
-    /// Does what a line asks for: makes its call, writes the answer line with its newline, and notes in `last` the place that
-    /// the actor was answered `opened` or `reserved`. Where `.` names no place yet, no call is made, and the answer is `nocursor`
-    /// or `noreservation`.
+    /// Does what a line asks for: makes its call, writes the answer line with its newline, and notes in `last` the
+    /// place that the actor was answered `opened` or `reserved`. Where `.` names no place yet, no call is made, and the
+    /// answer is `nocursor` or `noreservation`.
     pub fn answer<C: Caller>(
         &mut self,
         caller: &C,
@@ -57,7 +58,8 @@ impl Room {
     ) -> Result<(), Unmade>
         requires may { C.may_call caller.now queue.old }
         requires whole { IsWhole act.now }
-        ensures answered { OnOk result (AnswersLine (C.made caller.now) (asked_of act.now) queue.old last.old queue.new last.new self.new) }
+        ensures answered { OnOk result
+            (AnswersLine (C.made caller.now) (asked_of act.now) queue.old last.old queue.new last.new self.new) }
         ensures unmade { OnErr result (C.unmade caller.now queue.old queue.new) }
         ensures kept { OnErr result (last.new ≡ last.old) }
     {

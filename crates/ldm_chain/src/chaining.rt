@@ -38,9 +38,11 @@ fn link_all<H: Wait, C: Clock>(
     requires few { i + length nodes.old ≤ 8 }
     ensures from { KeepsNode from.old from.new }
     ensures kept { KeepsNodes nodes.old nodes.new }
-    ensures done { result ≡ ChainEnd.Done → (instants : List ℕ) × AnsweredAll instants (C.tells clock.old) (C.tells clock.new)
+    ensures done { result ≡ ChainEnd.Done → (instants : List ℕ)
+        × AnsweredAll instants (C.tells clock.old) (C.tells clock.new)
         × LinksEach i policy.now from.old.pass from.new.pass nodes.old nodes.new instants }
-    ensures broken { (result ≡ ChainEnd.Done → ⊥) → BreaksEach i policy.now result from.old.pass from.new.pass nodes.old nodes.new }
+    ensures broken { (result ≡ ChainEnd.Done → ⊥)
+        → BreaksEach i policy.now result from.old.pass from.new.pass nodes.old nodes.new }
 {
     let Some((to, behind)) = nodes.split_first_mut() else {
         return ChainEnd::Done;
@@ -53,12 +55,13 @@ fn link_all<H: Wait, C: Clock>(
     }
 }
 
-/// Feeds each node, but the first one, from the one before it, in one process: in turn, and each time all that is queued there and is
-/// due. Node i asks as host `nodei`, under the ALLOW rules of the policy.
+/// Feeds each node, but the first one, from the one before it, in one process: in turn, and each time all that is
+/// queued there and is due. Node i asks as host `nodei`, under the ALLOW rules of the policy.
 ///
 /// A chain that ends before each node was fed has the cause of its end at one of the nodes.
 ///
-/// The clock is asked once for each node, before that node is fed. Its answer is the moment of each product that the node takes.
+/// The clock is asked once for each node, before that node is fed. Its answer is the moment of each product that the
+/// node takes.
 pub fn chain<H: Wait, C: Clock>(
     rt: &H,
     alloc: Global,
@@ -70,9 +73,11 @@ pub fn chain<H: Wait, C: Clock>(
     requires chain { IsChain nodes.old }
     requires few { length nodes.old ≤ 8 }
     ensures kept { KeepsNodes nodes.old nodes.new }
-    ensures done { result ≡ ChainEnd.Done → (instants : List ℕ) × AnsweredAll instants (C.tells clock.old) (C.tells clock.new)
+    ensures done { result ≡ ChainEnd.Done → (instants : List ℕ)
+        × AnsweredAll instants (C.tells clock.old) (C.tells clock.new)
         × LinksAll 1 policy.now nodes.old nodes.new instants }
-    ensures queues { result ≡ ChainEnd.Done → (instants : List ℕ) × AnsweredAll instants (C.tells clock.old) (C.tells clock.new)
+    ensures queues { result ≡ ChainEnd.Done → (instants : List ℕ)
+        × AnsweredAll instants (C.tells clock.old) (C.tells clock.new)
         × QueuesAll 1 policy.now nodes.old nodes.new instants }
     ensures cause { CausesAll 1 policy.now result nodes.old nodes.new }
 {

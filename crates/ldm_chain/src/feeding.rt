@@ -51,7 +51,8 @@ fn feed_over<H: Wait, B: Begun>(
     requires name { length host.now ≤ LONGEST_NAME }
     requires open { mirror.old.closed ≡ false }
     ensures kept { IsSamePass pass.old pass.new }
-    ensures fed { Fed result (asked_by host.now policy.now xid class.now max_hereis) pass.old pass.new mirror.old mirror.new }
+    ensures fed { Fed result
+        (asked_by host.now policy.now xid class.now max_hereis) pass.old pass.new mirror.old mirror.new }
 {
     let ask = Feedme {
         xid,
@@ -93,9 +94,11 @@ fn fewer_of(
     }
 }
 
-// Builds the class that the receiver took over. It built the same one, so a pattern that means nothing has ended it before.
+// Builds the class that the receiver took over. It built the same one, so a pattern that means nothing has ended it
+// before.
 fn build_fewer(alloc: Global, fewer: &ClassSpec) -> Result<Class, Break>
-    ensures { MatchResult result (λ class. (class ≡ fewer.now) × (bad_place fewer.now.specs.items ≡ None)) (λ why. IsUnbuilt fewer.now why) }
+    ensures { MatchResult result (λ class. (class ≡ fewer.now) × (bad_place fewer.now.specs.items ≡ None))
+        (λ why. IsUnbuilt fewer.now why) }
 {
     match Class::build(alloc, fewer) {
         Ok(class) => Ok(class),
@@ -120,9 +123,11 @@ fn feed_fewer<H: Wait, B: Begun>(
     requires of { IsPassOf shared.now pass.old }
     requires name { length host.now ≤ LONGEST_NAME }
     requires open { mirror.old.closed ≡ false }
-    requires left { (fewer : ClassSpec) × (reduce (rules_for false policy.now) host.now class.now ≡ reduced.Fewer fewer) }
+    requires left { (fewer : ClassSpec)
+        × (reduce (rules_for false policy.now) host.now class.now ≡ reduced.Fewer fewer) }
     ensures kept { IsSamePass pass.old pass.new }
-    ensures fed { CameRest result (asked_by host.now policy.now 1 class.now max_hereis) pass.old pass.new mirror.old mirror.new }
+    ensures fed { CameRest result
+        (asked_by host.now policy.now 1 class.now max_hereis) pass.old pass.new mirror.old mirror.new }
 {
     let fewer = match fewer_of(alloc, policy, host, class) {
         Ok(fewer) => fewer,
@@ -157,7 +162,8 @@ fn feed_class<H: Wait, B: Begun>(
     requires name { length host.now ≤ LONGEST_NAME }
     requires open { mirror.old.closed ≡ false }
     ensures kept { IsSamePass pass.old pass.new }
-    ensures fed { Came result B.begun (asked_by host.now policy.now 1 class.now max_hereis) pass.old pass.new mirror.old mirror.new }
+    ensures fed { Came result B.begun
+        (asked_by host.now policy.now 1 class.now max_hereis) pass.old pass.new mirror.old mirror.new }
 {
     let end = feed_over(
         rt, alloc, shared, pass, mirror, policy, host, 1, class, max_hereis, now,
@@ -173,8 +179,8 @@ fn feed_class<H: Wait, B: Begun>(
     )
 }
 
-// How a feeder ends a chain that could not go on. A mirror fails where its receiver is over, which decides before, or where it has no
-// room for more.
+// How a feeder ends a chain that could not go on. A mirror fails where its receiver is over, which decides before, or
+// where it has no room for more.
 fn broken_off(end: FeedEnd) -> Break
     ensures { result ≡ broken_off end }
 {
@@ -194,8 +200,8 @@ fn by_feeder(fed: Option<Break>) -> Option<Break>
     }
 }
 
-// How a node's feeding ends a chain whose receiver ended by what it was told. A feeder has done then all that there was to do. One that
-// could not go on would say nothing of what it told, so that its end would count; this does not come.
+// How a node's feeding ends a chain whose receiver ended by what it was told. A feeder has done then all that there was
+// to do. One that could not go on would say nothing of what it told, so that its end would count; this does not come.
 fn by_told_of(over: RecvEnd, end: FeedEnd) -> Break
     ensures { result ≡ by_told_of over end }
 {
@@ -257,8 +263,12 @@ fn reflect<'a, 'p, H: Wait, B: Begun>(
     ensures kept { IsSamePass pass.old pass.new }
     ensures lender { result.pass.ghost_name ≡ lent.entry.pass.ghost_name }
     ensures next { IsSamePass lent.entry.pass.now result.pass.now }
-    ensures links { IfNone end.new (Links (asked_by host.now policy.now 1 class.now max_hereis) now pass.old pass.new lent.entry.pass.now result.pass.now) }
-    ensures broken { IfSome end.new (λ why. Breaks why (asked_by host.now policy.now 1 class.now max_hereis) pass.old pass.new lent.entry.pass.now result.pass.now) }
+    ensures links { IfNone end.new
+        (Links (asked_by host.now policy.now 1 class.now max_hereis) now pass.old pass.new lent.entry.pass.now
+        result.pass.now) }
+    ensures broken { IfSome end.new
+        (λ why. Breaks why (asked_by host.now policy.now 1 class.now max_hereis) pass.old pass.new lent.entry.pass.now
+        result.pass.now) }
 {
     // The bound of the arena is known then, and that the class can be written.
     let _arena = shared.arena();
@@ -288,7 +298,9 @@ fn asker(
     class: &Class,
     max_hereis: u32,
 ) -> Result<(Receiver<'_>, Vec<u8>), OutOfMemory>
-    ensures { IfOk result (λ made. (made.0 ≡ before_stream (asking class.now max_hereis) false) × (made.1.items ≡ records_of (request_of (asking class.now max_hereis)))) }
+    ensures { IfOk result
+        (λ made. (made.0 ≡ before_stream (asking class.now max_hereis) false)
+        × (made.1.items ≡ records_of (request_of (asking class.now max_hereis)))) }
 {
     let mut receiver = Receiver::request(alloc, class, None, max_hereis)?;
     let mut request = Vec::new(alloc);
@@ -311,8 +323,12 @@ pub(crate) fn feed_next<H: Wait>(
     requires name { length host.now ≤ LONGEST_NAME }
     ensures from { KeepsNode from.old from.new }
     ensures to { KeepsNode to.old to.new }
-    ensures links { IfNone result (Links (asked_by host.now policy.now 1 to.old.class to.old.max_hereis) now from.old.pass from.new.pass to.old.pass to.new.pass) }
-    ensures broken { IfSome result (λ why. Breaks why (asked_by host.now policy.now 1 to.old.class to.old.max_hereis) from.old.pass from.new.pass to.old.pass to.new.pass) }
+    ensures links { IfNone result
+        (Links (asked_by host.now policy.now 1 to.old.class to.old.max_hereis) now from.old.pass from.new.pass
+        to.old.pass to.new.pass) }
+    ensures broken { IfSome result
+        (λ why. Breaks why (asked_by host.now policy.now 1 to.old.class to.old.max_hereis) from.old.pass from.new.pass
+        to.old.pass to.new.pass) }
 {
     let (receiver, request) = match asker(alloc, &to.class, to.max_hereis) {
         Ok(asked) => asked,

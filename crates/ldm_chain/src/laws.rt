@@ -21,14 +21,17 @@ use ldm_sole_reader::one_pass_is_fed_all;
 /// What a node leaves that was fed from the one before it, whole, where each of the two queues has one pass.
 pub fn a_link_passes_on()
     // Its queue is what the products of the node before make of it that are due under the class as the rules leave it.
-    ensures queue { (asked : Asked) (now : ℕ) (old new before after : PassView) → Links asked now old new before after → asked.xid ≡ 1 →
+    ensures queue { (asked : Asked) (now : ℕ) (old new before after : PassView) → Links asked now old new before after
+        → asked.xid ≡ 1 →
         IsOnlyPass old → IsOnlyPass before → IsForAllTimes asked.class →
         state_of after ≡ fed_from (state_of old) asked now (state_of before) }
     // The queue of the node before is as it was.
-    ensures unchanged { (asked : Asked) (now : ℕ) (old new before after : PassView) → Links asked now old new before after → asked.xid ≡ 1 →
+    ensures unchanged { (asked : Asked) (now : ℕ) (old new before after : PassView)
+        → Links asked now old new before after → asked.xid ≡ 1 →
         IsOnlyPass old → IsOnlyPass before → IsForAllTimes asked.class → state_of new ≡ state_of old }
     // Its pass is still the only one of its queue.
-    ensures only { (asked : Asked) (now : ℕ) (old new before after : PassView) → Links asked now old new before after → asked.xid ≡ 1 →
+    ensures only { (asked : Asked) (now : ℕ) (old new before after : PassView) → Links asked now old new before after
+        → asked.xid ≡ 1 →
         IsOnlyPass old → IsOnlyPass before → IsForAllTimes asked.class → IsOnlyPass after }
 {
     the_setting_is_met();
@@ -42,7 +45,8 @@ pub fn a_link_passes_on()
 
 /// Why a chain ended while a node was fed from the one before it, where each of the two queues has one pass.
 pub fn a_break_has_a_cause()
-    ensures { (end : ChainEnd) (asked : Asked) (old new before after : PassView) → BreaksAt end asked old new before after → asked.xid ≡ 1 →
+    ensures { (end : ChainEnd) (asked : Asked) (old new before after : PassView)
+        → BreaksAt end asked old new before after → asked.xid ≡ 1 →
         IsOnlyPass old → IsOnlyPass before → CauseAt end asked old new after }
 {
     the_setting_is_met();

@@ -1,7 +1,7 @@
 //! Queues that are fed one from the other in one process.
 //!
-//! [`Mirror`] is a link that owns the receiver of the next queue: what it is sent is pushed into the receiver, and what the receiver
-//! replies is what it gives.
+//! [`Mirror`] is a link that owns the receiver of the next queue: what it is sent is pushed into the receiver, and what
+//! the receiver replies is what it gives.
 #![tactic(auto)]
 
 mod chaining;

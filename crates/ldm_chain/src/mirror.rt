@@ -19,8 +19,8 @@ use std::alloc::Global;
 use std::marker::{Brand, Model, PhantomData};
 use std::sync::Wait;
 
-/// How a mirror began, which contracts alone know: it stands for the type of each mirror, so that it is known whatever a mirror was
-/// lent to.
+/// How a mirror began, which contracts alone know: it stands for the type of each mirror, so that it is known whatever
+/// a mirror was lent to.
 pub trait Begun {
     ghost use Rattle.ldm_chain.specs.Beginning.{Beginning};
 
@@ -47,15 +47,15 @@ pub struct Returned<'a> {
     pub end: Option<RecvEnd>,
 }
 
-/// A link that owns the receiver of a queue: what it is sent is pushed into the receiver, all at one moment, and what the receiver
-/// replies is what it gives.
+/// A link that owns the receiver of a queue: what it is sent is pushed into the receiver, all at one moment, and what
+/// the receiver replies is what it gives.
 ///
-/// A send in whose push the receiver ends takes its piece; each later one fails. So does a send of more than there is room for: a
-/// mirror takes fewer bytes than a stream may have, in all. What is logged is forgotten.
+/// A send in whose push the receiver ends takes its piece; each later one fails. So does a send of more than there is
+/// room for: a mirror takes fewer bytes than a stream may have, in all. What is logged is forgotten.
 ///
-/// Where no reply waits, receiving fails if the receiver is over. Else it waits for ever, as on a link whose peer has no more to say:
-/// a feeder asks only where a reply is owed, and a receiver that goes on replied when it took the announcement. That a feeder
-/// therefore never waits is not proved.
+/// Where no reply waits, receiving fails if the receiver is over. Else it waits for ever, as on a link whose peer has
+/// no more to say: a feeder asks only where a reply is owed, and a receiver that goes on replied when it took the
+/// announcement. That a feeder therefore never waits is not proved.
 #[derive(Drop)]
 pub struct Mirror<'a, 'p, H, B: Begun> {
     rt: &'a H,
@@ -95,8 +95,8 @@ impl<'a, 'p, H, B: Begun> Mirror<'a, 'p, H, B> {
     ghost use Rattle.ldm_chain.specs.MirrorView.{all_read};
     ghost use Rattle.ldm_chain.specs.Reflecting.{Reflects};
 
-    /// A mirror before the first byte of a stream. `request` is the record of the request that the receiver begins with, as
-    /// [`Receiver::begin`] wrote it.
+    /// A mirror before the first byte of a stream. `request` is the record of the request that the receiver begins
+    /// with, as [`Receiver::begin`] wrote it.
     pub fn over(
         rt: &'a H,
         alloc: Global,
@@ -112,7 +112,15 @@ impl<'a, 'p, H, B: Begun> Mirror<'a, 'p, H, B> {
         requires first { B.begun.first ≡ at_first receiver.receiving lent.pass.now }
         requires moment { B.begun.now ≡ now }
         requires name { B.begun.name ≡ lent.pass.ghost_name }
-        ensures { result ≡ record { passed = []; faults = 0; closed = false; waiting = request.items; receiver = receiver.entry; pass = lent.entry.pass.now } }
+        ensures { result ≡ record {
+          passed = [];
+          faults = 0;
+          closed = false;
+          waiting = request.items;
+          receiver
+              = receiver.entry;
+          pass = lent.entry.pass.now;
+        } }
     {
         let Lent { pass } = lent;
         Mirror {

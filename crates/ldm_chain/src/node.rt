@@ -25,8 +25,8 @@ pub enum ChainEnd {
     Done,
     /// The feeder of a node ended so: `Worn`, or `OutOfMemory`.
     Feed(FeedEnd),
-    /// The receiver of a node ended so: `Refused` with `Denied` or with `Busy`, `BadFrame` by a pattern of a narrower class that means
-    /// nothing, or `Worn`.
+    /// The receiver of a node ended so: `Refused` with `Denied` or with `Busy`, `BadFrame` by a pattern of a narrower
+    /// class that means nothing, or `Worn`.
     Receive(RecvEnd),
     /// There is no memory.
     OutOfMemory,

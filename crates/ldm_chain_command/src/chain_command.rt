@@ -38,10 +38,13 @@ fn feed_and_write<H: Wait, S: Source, K: Sink, C: Clock, F: Store>(
     requires classes { AllByRecursion IsForAllTimes setup.classes.items }
     requires few { length setup.classes.items ≤ 7 }
     ensures ends { (log_before log_after : SinkRecord) →
-        let old = chain_outside (record { source = S.tells source.old; sink = K.tells sink.old; log = log_before }) (C.tells clock.old) (F.tells store.old) in
-        let new = chain_outside (record { source = S.tells source.new; sink = K.tells sink.new; log = log_after }) (C.tells clock.new) (F.tells store.new) in
+        let old = chain_outside (record { source = S.tells source.old; sink = K.tells sink.old; log = log_before })
+        (C.tells clock.old) (F.tells store.old) in
+        let new = chain_outside (record { source = S.tells source.new; sink = K.tells sink.new; log = log_after })
+        (C.tells clock.new) (F.tells store.new) in
         ChainEnds result (work_of setup.entry) old new }
-    ensures conf { IfErr result (λ why. UntakenCompletes why (option_copied setup.entry.conf) (F.tells store.old) (F.tells store.new)) }
+    ensures conf { IfErr result
+        (λ why. UntakenCompletes why (option_copied setup.entry.conf) (F.tells store.old) (F.tells store.new)) }
     ensures source_kept { (S.tells source.old).faults ≤ (S.tells source.new).faults }
     ensures sink_kept { (K.tells sink.old).faults ≤ (K.tells sink.new).faults }
     ensures store_kept { (F.tells store.old).faults ≤ (F.tells store.new).faults }
@@ -56,15 +59,16 @@ fn feed_and_write<H: Wait, S: Source, K: Sink, C: Clock, F: Store>(
     Ok(())
 }
 
-/// Plays the script of the source on a queue and answers no line; puts the queued products that have a feedtype into the queue of node 0, in
-/// order and each at its own insertion time; feeds each node from the one before it, by the ALLOW rules of the configuration; and writes for
-/// each node from 1 on a line with its number, a line for each queued product in order, and how full its queue is. Answers the number that
-/// the program ends with, and writes its line to the log.
+/// Plays the script of the source on a queue and answers no line; puts the queued products that have a feedtype into
+/// the queue of node 0, in order and each at its own insertion time; feeds each node from the one before it, by the
+/// ALLOW rules of the configuration; and writes for each node from 1 on a line with its number, a line for each queued
+/// product in order, and how full its queue is. Answers the number that the program ends with, and writes its line to
+/// the log.
 ///
-/// The sizes are looked at first, then the configuration is taken, and then the script, whole. Nothing is written unless each node was
-/// fed. The clause `ends` gives each status its cause, and what was read and written then: see `RunsChain`. The clause `law` says that the
-/// queues that are written obey the law of the queue: see `ChainWritesLawful`. The clause `completes` says when each node is fed and all
-/// is written: see `ChainUnhindered`.
+/// The sizes are looked at first, then the configuration is taken, and then the script, whole. Nothing is written
+/// unless each node was fed. The clause `ends` gives each status its cause, and what was read and written then: see
+/// `RunsChain`. The clause `law` says that the queues that are written obey the law of the queue: see
+/// `ChainWritesLawful`. The clause `completes` says when each node is fed and all is written: see `ChainUnhindered`.
 pub fn run_chain<H: Wait, S: Source, K: Sink, E: Sink, C: Clock, F: Store>(
     rt: &H,
     alloc: Global,
@@ -75,17 +79,25 @@ pub fn run_chain<H: Wait, S: Source, K: Sink, E: Sink, C: Clock, F: Store>(
 ) -> u8
     requires classes { AllByRecursion IsForAllTimes setup.classes.items }
     requires few { length setup.classes.items ≤ 7 }
-    ensures ends { let old = chain_outside (streams_tells S.tells K.tells E.tells streams.old) (C.tells clock.old) (F.tells store.old) in
-        let new = chain_outside (streams_tells S.tells K.tells E.tells streams.new) (C.tells clock.new) (F.tells store.new) in
+    ensures ends { let old = chain_outside (streams_tells S.tells K.tells E.tells streams.old) (C.tells clock.old)
+        (F.tells store.old) in
+        let new = chain_outside (streams_tells S.tells K.tells E.tells streams.new) (C.tells clock.new)
+        (F.tells store.new) in
         RunsChain (work_of setup.entry) result old new }
-    ensures law { let old = chain_outside (streams_tells S.tells K.tells E.tells streams.old) (C.tells clock.old) (F.tells store.old) in
-        let new = chain_outside (streams_tells S.tells K.tells E.tells streams.new) (C.tells clock.new) (F.tells store.new) in
+    ensures law { let old = chain_outside (streams_tells S.tells K.tells E.tells streams.old) (C.tells clock.old)
+        (F.tells store.old) in
+        let new = chain_outside (streams_tells S.tells K.tells E.tells streams.new) (C.tells clock.new)
+        (F.tells store.new) in
         ObeysChainLaw (work_of setup.entry) old new }
-    ensures completes { let old = chain_outside (streams_tells S.tells K.tells E.tells streams.old) (C.tells clock.old) (F.tells store.old) in
-        let new = chain_outside (streams_tells S.tells K.tells E.tells streams.new) (C.tells clock.new) (F.tells store.new) in
+    ensures completes { let old = chain_outside (streams_tells S.tells K.tells E.tells streams.old) (C.tells clock.old)
+        (F.tells store.old) in
+        let new = chain_outside (streams_tells S.tells K.tells E.tells streams.new) (C.tells clock.new)
+        (F.tells store.new) in
         ChainCompletes (work_of setup.entry) result old new }
-    ensures faults_kept { let old = chain_outside (streams_tells S.tells K.tells E.tells streams.old) (C.tells clock.old) (F.tells store.old) in
-        let new = chain_outside (streams_tells S.tells K.tells E.tells streams.new) (C.tells clock.new) (F.tells store.new) in
+    ensures faults_kept { let old = chain_outside (streams_tells S.tells K.tells E.tells streams.old)
+        (C.tells clock.old) (F.tells store.old) in
+        let new = chain_outside (streams_tells S.tells K.tells E.tells streams.new) (C.tells clock.new)
+        (F.tells store.new) in
         KeepsCounts old new }
 {
     histories_are_lawful();

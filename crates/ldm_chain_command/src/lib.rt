@@ -1,7 +1,8 @@
 //! The command `chain`: a script, and queues that are fed one from the other.
 //!
-//! [`run_chain`] plays a script on a queue, puts what is queued then into the queue of the first node of a chain, has `ldm_chain` feed
-//! each node from the one before it, and writes what stands in their queues. Its contract says how that ends.
+//! [`run_chain`] plays a script on a queue, puts what is queued then into the queue of the first node of a chain, has
+//! `ldm_chain` feed each node from the one before it, and writes what stands in their queues. Its contract says how
+//! that ends.
 #![tactic(auto)]
 
 mod chain_command;

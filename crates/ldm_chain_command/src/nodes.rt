@@ -112,7 +112,9 @@ fn all_nodes(
 ) -> Result<Vec<ChainNode>, OutOfMemory>
     requires arena { IsGoodArena arena }
     requires slots { IsGoodSlots slots }
-    ensures { IfOk result (λ nodes. (others : List Node) × (nodes.items ≡ first ∷ others) × AreNew arena slots max_hereis classes.items others) }
+    ensures { IfOk result
+        (λ nodes. (others : List Node) × (nodes.items ≡ first ∷ others)
+        × AreNew arena slots max_hereis classes.items others) }
 {
     let mut nodes = Vec::new(alloc);
     nodes.push(first)?;
@@ -138,8 +140,11 @@ pub fn fed_nodes<H: Wait, C: Clock>(
     requires classes { AllByRecursion IsForAllTimes setup.classes.items }
     requires few { length setup.classes.items ≤ 7 }
     requires short { length script.now ≤ LONGEST_SCRIPT }
-    ensures fed { IfOk result (λ nodes. AreFed (work_of setup.entry) policy.now script.now nodes.items (C.tells clock.old) (C.tells clock.new)) }
-    ensures unfed { IfErr result (λ why. AreNotFed why (work_of setup.entry) policy.now script.now (C.tells clock.old) (C.tells clock.new)) }
+    ensures fed { IfOk result
+        (λ nodes. AreFed (work_of setup.entry) policy.now script.now nodes.items (C.tells clock.old)
+        (C.tells clock.new)) }
+    ensures unfed { IfErr result
+        (λ why. AreNotFed why (work_of setup.entry) policy.now script.now (C.tells clock.old) (C.tells clock.new)) }
 {
     let ChainSetup {
         conf: _,

@@ -16,9 +16,12 @@ pub fn take_policy<F: Store>(
     store: &mut F,
     conf: Option<&str>,
 ) -> Result<Policy, ChainFault>
-    ensures taken { IfOk result (λ policy. TakesRules (option_copied conf.entry) policy (F.tells store.old) (F.tells store.new)) }
-    ensures untaken { IfErr result (λ why. IsUntaken why (option_copied conf.entry) (F.tells store.old) (F.tells store.new)) }
-    ensures completes { IfErr result (λ why. UntakenCompletes why (option_copied conf.entry) (F.tells store.old) (F.tells store.new)) }
+    ensures taken { IfOk result
+        (λ policy. TakesRules (option_copied conf.entry) policy (F.tells store.old) (F.tells store.new)) }
+    ensures untaken { IfErr result
+        (λ why. IsUntaken why (option_copied conf.entry) (F.tells store.old) (F.tells store.new)) }
+    ensures completes { IfErr result
+        (λ why. UntakenCompletes why (option_copied conf.entry) (F.tells store.old) (F.tells store.new)) }
     ensures faults_kept { (F.tells store.old).faults ≤ (F.tells store.new).faults }
     ensures long_kept { (F.tells store.old).long ≤ (F.tells store.new).long }
 {

@@ -1,6 +1,7 @@
 //! The statuses of the ends of a chain.
 ghost use Rattle.std.specs.Prelude.{◌≡◌};
-ghost use Rattle.ldm_chain_command.specs.Statuses.{status_of_chain, status_of_end, status_of_fed, status_of_received, status_of_stop, status_of_untaken};
+ghost use Rattle.ldm_chain_command.specs.Statuses.{status_of_chain, status_of_end, status_of_fed};
+ghost use Rattle.ldm_chain_command.specs.Statuses.{status_of_received, status_of_stop, status_of_untaken};
 
 use crate::fault::ChainFault;
 use ldm_chain::ChainEnd;

@@ -62,7 +62,8 @@ fn book_of(alloc: Global, node: ChainNode) -> Result<Book, OutOfMemory>
 // Adds the line that names a node, a line for each queued product that has a feedtype, and how full the queue is.
 fn add_book(text: &mut Vec<u8>, i: u8, book: &mut Book) -> Result<(), OutOfMemory>
     requires { (s : State) × HasPlaces s × StandsFor book.old s }
-    ensures { OnOk result ((s : State) → HasPlaces s → StandsFor book.old s → text.new.items ≡ text.old.items ++ listed_text i s) }
+    ensures { OnOk result
+        ((s : State) → HasPlaces s → StandsFor book.old s → text.new.items ≡ text.old.items ++ listed_text i s) }
 {
     let Some(actor) = Actor::new(0) else {
         unreachable!()
@@ -91,7 +92,9 @@ fn write_node(i: u8, line: &mut Text)
 fn add_products(text: &mut Vec<u8>, mut left: u64, book: &mut Book) -> Result<(), OutOfMemory>
     requires stands { (s : State) × HasPlaces s × StandsFor book.old s }
     requires count { (s : State) → StandsFor book.old s → left ≡ length (queued s) }
-    ensures { OnOk result ((s : State) → HasPlaces s → StandsFor book.old s → text.new.items ≡ text.old.items ++ flat_map product_line (listed s)) }
+    ensures { OnOk result
+        ((s : State) → HasPlaces s → StandsFor book.old s
+        → text.new.items ≡ text.old.items ++ flat_map product_line (listed s)) }
 {
     let k = begin(book);
     let mut line = Text::new();

@@ -78,7 +78,8 @@ impl Class {
     /// `BadPattern` comes only where a pattern is not UTF-8, the grammar of `regex` reads none in it, or it nests
     /// deeper than 250. A pattern that is read and would take more than `regex` allows one is `OutOfMemory`.
     pub fn build(alloc: Global, spec: &ClassSpec) -> Result<Class, ClassFault>
-        ensures { MatchResult result (λ class. (class ≡ spec.now) × (bad_place spec.now.specs.items ≡ None)) (IsClassFaultOf spec.now.specs.items) }
+        ensures { MatchResult result (λ class. (class ≡ spec.now) × (bad_place spec.now.specs.items ≡ None))
+            (IsClassFaultOf spec.now.specs.items) }
     {
         let searches = searches_of(alloc, spec.specs.as_slice())?;
         Ok(Class {

@@ -10,8 +10,8 @@ use ldm_types::{Feed, Info, OutOfMemory};
 use std::alloc::Global;
 use std::marker::Model;
 
-/// What a policy says of one host, asked for many products. The rules that are about the host are found once, what their
-/// searches need is kept for the next product, and no call fails. Contracts see the rules and the host.
+/// What a policy says of one host, asked for many products. The rules that are about the host are found once, what
+/// their searches need is kept for the next product, and no call fails. Contracts see the rules and the host.
 #[derive(Drop)]
 pub struct HostPolicy<'p> {
     rules: &'p [Rule],

@@ -1,8 +1,9 @@
 //! Classes of products, as sites ask for them, and the rules of access: which products a host may be fed, and which
 //! it may push.
 //!
-//! Patterns are those of the crate `regex` on bytes. They are built once, where a class is built or a rule added. A session that
-//! asks for many products has a `ClassMatcher` and a `HostPolicy`, which search without taking memory again.
+//! Patterns are those of the crate `regex` on bytes. They are built once, where a class is built or a rule added. A
+//! session that asks for many products has a `ClassMatcher` and a `HostPolicy`, which search without taking memory
+//! again.
 #![tactic(auto)]
 
 mod answers;

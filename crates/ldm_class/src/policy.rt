@@ -2,7 +2,8 @@
 ghost use Rattle.std.specs.Prelude.{◌≡◌, [], ◌∷◌, ◌++◌, Ok, None, IfOk, MatchResult};
 ghost use Rattle.std.specs.Option.{option_copied, option_to_list};
 ghost use Rattle.ldm_class.specs.Access.{verdict, reduce};
-ghost use Rattle.ldm_class.specs.Rules.{no_rules, open_rule, allow_rule, accept_rule, with_allow, with_accept, rules_for};
+ghost use Rattle.ldm_class.specs.Rules.{no_rules, open_rule, allow_rule, accept_rule};
+ghost use Rattle.ldm_class.specs.Rules.{with_allow, with_accept, rules_for};
 ghost use Rattle.ldm_class.specs.PolicyFaults.{IsFaultFrom, allow_patterns, bad_from};
 
 use crate::answers::{Reduced, Verdict};
@@ -106,8 +107,11 @@ impl Policy {
         ok: Option<&[u8]>,
         not: Option<&[u8]>,
     ) -> Result<(), PolicyFault>
-        ensures { let patterns = allow_patterns host.now (option_copied ok.entry) (option_copied not.entry) in MatchResult result
-            (λ _. (self.new ≡ with_allow self.old (allow_rule feed.0 host.now (option_copied ok.entry) (option_copied not.entry))) × (bad_from 0 patterns ≡ None))
+        ensures { let patterns = allow_patterns host.now (option_copied ok.entry)
+            (option_copied not.entry) in MatchResult result
+            (λ _. (self.new ≡ with_allow self.old
+            (allow_rule feed.0 host.now (option_copied ok.entry) (option_copied not.entry)))
+            × (bad_from 0 patterns ≡ None))
             (λ fault. (self.new ≡ self.old) × IsFaultFrom 0 patterns fault) }
     {
         self.allow.reserve(1)?;
@@ -128,7 +132,8 @@ impl Policy {
         host: &[u8],
     ) -> Result<(), PolicyFault>
         ensures { let patterns = pattern.now ∷ host.now ∷ [] in MatchResult result
-            (λ _. (self.new ≡ with_accept self.old (accept_rule feed.0 pattern.now host.now)) × (bad_from 0 patterns ≡ None))
+            (λ _. (self.new ≡ with_accept self.old (accept_rule feed.0 pattern.now host.now))
+            × (bad_from 0 patterns ≡ None))
             (λ fault. (self.new ≡ self.old) × IsFaultFrom 0 patterns fault) }
     {
         self.accept.reserve(1)?;
@@ -171,8 +176,8 @@ impl Policy {
 
     /// What is left of a class that a host wants to push, by the ACCEPT rules, or else to be fed, by the ALLOW rules.
     ///
-    /// The feedtypes of each specification are met with those of all rules that are about the host, and one that
-    /// has none left is dropped. A specification of feed NONE with the pattern `SIG=` and 32 hexadecimal digits is kept,
+    /// The feedtypes of each specification are met with those of all rules that are about the host, and one that has
+    /// none left is dropped. A specification of feed NONE with the pattern `SIG=` and 32 hexadecimal digits is kept,
     /// and does not count when nothing else is left.
     pub fn reduce(
         &self,
@@ -218,8 +223,10 @@ fn build_allow(
     ok: Option<&[u8]>,
     not: Option<&[u8]>,
 ) -> Result<Rule, PolicyFault>
-    ensures { let patterns = allow_patterns host.now (option_copied ok.entry) (option_copied not.entry) in MatchResult result
-        (λ rule. (rule ≡ allow_rule feed.0 host.now (option_copied ok.entry) (option_copied not.entry)) × (bad_from 0 patterns ≡ None))
+    ensures { let patterns = allow_patterns host.now (option_copied ok.entry)
+        (option_copied not.entry) in MatchResult result
+        (λ rule. (rule ≡ allow_rule feed.0 host.now (option_copied ok.entry) (option_copied not.entry))
+        × (bad_from 0 patterns ≡ None))
         (IsFaultFrom 0 patterns) }
 {
     let host = build(alloc, host, 0)?;
@@ -238,8 +245,10 @@ fn build_both(
     ok: Option<&[u8]>,
     not: Option<&[u8]>,
 ) -> Result<(Option<Pattern>, Option<Pattern>), PolicyFault>
-    ensures { let patterns = option_to_list (option_copied ok.entry) ++ option_to_list (option_copied not.entry) in MatchResult result
-        (λ built. (built.0 ≡ option_copied ok.entry) × (built.1 ≡ option_copied not.entry) × (bad_from 1 patterns ≡ None))
+    ensures { let patterns = option_to_list (option_copied ok.entry) ++ option_to_list
+        (option_copied not.entry) in MatchResult result
+        (λ built. (built.0 ≡ option_copied ok.entry) × (built.1 ≡ option_copied not.entry)
+        × (bad_from 1 patterns ≡ None))
         (IsFaultFrom 1 patterns) }
 {
     let Some(ok) = ok else {

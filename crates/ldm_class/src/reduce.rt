@@ -3,7 +3,8 @@ ghost use Rattle.std.specs.Prelude.{◌≡◌, ◌↔◌, ℕ, List, true, IfOk}
 ghost use Rattle.std.specs.List.{list_any, list_all};
 ghost use Rattle.ldm_types.specs.Feed.{feeds_meet};
 ghost use Rattle.ldm_types.specs.declared.class.Spec.{Spec};
-ghost use Rattle.ldm_class.specs.Access.{feeds_for, first_rule, is_about, is_within, left_of, narrowed, or_none, reduce, reduced};
+ghost use Rattle.ldm_class.specs.Access.{feeds_for, first_rule, is_about, is_within};
+ghost use Rattle.ldm_class.specs.Access.{left_of, narrowed, or_none, reduce, reduced};
 
 use crate::answers::Reduced;
 use crate::rule::Rule;
@@ -117,5 +118,6 @@ fn narrowed(spec: &Spec, feeds: Feed) -> Option<Spec>
 
 /// What [`Policy::reduce`](crate::Policy::reduce) calls the same is what it leaves whole.
 pub fn same_is_left_whole()
-    ensures { (feeds : ℕ) (specs : List Spec) → (list_all (is_within feeds) specs ≡ true) ↔ (left_of feeds specs ≡ specs) }
+    ensures { (feeds : ℕ) (specs : List Spec)
+        → (list_all (is_within feeds) specs ≡ true) ↔ (left_of feeds specs ≡ specs) }
 {}

@@ -24,8 +24,9 @@ pub enum ConfNotTaken {
 
 /// The configuration that the file under the path means, with the files of the store that it includes.
 ///
-/// The store is as before, but for the count of faults that rose with `Store`, or the count of long files that rose with `Long`. Where the
-/// store tells its files, each answer but want of memory is that of these files, unless the store failed: see `CompletesConf`.
+/// The store is as before, but for the count of faults that rose with `Store`, or the count of long files that rose
+/// with `Long`. Where the store tells its files, each answer but want of memory is that of these files, unless the
+/// store failed: see `CompletesConf`.
 pub fn take_conf<F: Store>(alloc: Global, store: &mut F, path: &str) -> Result<Conf, ConfNotTaken>
     ensures takes { TakesConf result path.now (F.tells store.old) (F.tells store.new) }
     ensures completes { CompletesConf result path.now (F.tells store.old) (F.tells store.new) }

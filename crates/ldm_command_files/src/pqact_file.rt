@@ -14,7 +14,8 @@ use std::alloc::Global;
 pub enum EntriesNotTaken {
     /// The first faulty entry, of any kind but `OutOfMemory`.
     Bad(PqactFault),
-    /// The file has more than [`LONGEST_CONFIGURATION`](ldm_text::LONGEST_CONFIGURATION) bytes, and the store's count of long files rose.
+    /// The file has more than [`LONGEST_CONFIGURATION`](ldm_text::LONGEST_CONFIGURATION) bytes, and the store's count
+    /// of long files rose.
     TooLong,
     /// The file could not be read, and the store's count of faults rose.
     Store,
@@ -24,8 +25,9 @@ pub enum EntriesNotTaken {
 
 /// The entries of the pqact.conf under the path.
 ///
-/// The store is as before, but for the count of faults that rose with `Store`, or the count of long files that rose with `TooLong`. Where the
-/// store tells its files, each answer but want of memory is that of these files, unless the store failed: see `CompletesEntries`.
+/// The store is as before, but for the count of faults that rose with `Store`, or the count of long files that rose
+/// with `TooLong`. Where the store tells its files, each answer but want of memory is that of these files, unless the
+/// store failed: see `CompletesEntries`.
 pub fn take_entries<F: Store>(
     alloc: Global,
     store: &mut F,

@@ -23,8 +23,12 @@ pub(crate) fn feed_chain<
     L: Launcher,
     N: Net,
 >(rt: &H, alloc: Global, words: ChainWords<'_>, world: &mut World<S, K, E, C, F, L, N>) -> u8
-    ensures { let tells = tells_of K.tells F.tells L.tells (station_tells N.StationDoor.tells N.StationDial.tells N.StationLog.tells N.StationClock.tells N.StationGate.tells) in
-        Done tells (form.Chain (chain_view words.entry)) result (world_view S.tells E.tells C.tells N.tells N.kept world.old) (world_view S.tells E.tells C.tells N.tells N.kept world.new) }
+    ensures { let tells = tells_of K.tells F.tells L.tells
+        (station_tells N.StationDoor.tells N.StationDial.tells N.StationLog.tells N.StationClock.tells
+        N.StationGate.tells) in
+        Done tells (form.Chain (chain_view words.entry)) result
+        (world_view S.tells E.tells C.tells N.tells N.kept world.old)
+        (world_view S.tells E.tells C.tells N.tells N.kept world.new) }
 {
     let setup = ChainSetup {
         conf: words.conf,

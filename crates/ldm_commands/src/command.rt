@@ -1,6 +1,7 @@
 //! The words of the program as a command.
 ghost use Rattle.std.specs.Prelude.{◌≡◌, true, IfSome, MatchOption, MatchResult, None, Some, map, string_bytes};
-ghost use Rattle.ldm_commands.specs.Command.{command_of, crowd_of, exercise_of, has_options, take_memory, play_of, with_options};
+ghost use Rattle.ldm_commands.specs.Command.{command_of, crowd_of, exercise_of, has_options};
+ghost use Rattle.ldm_commands.specs.Command.{take_memory, play_of, with_options};
 ghost use Rattle.ldm_commands.specs.Doing.{IsUnread};
 ghost use Rattle.ldm_commands.specs.Views.{IsWithin, form_of};
 
@@ -48,11 +49,12 @@ pub enum Command<'a> {
     Pqmon(Address),
 }
 
-/// Reads the words behind the program's name. [`WordsFault::Usage`] comes exactly where they are no form of a command, and
-/// [`WordsFault::OutOfMemory`] only at the words of a chain and of a command that has options.
+/// Reads the words behind the program's name. [`WordsFault::Usage`] comes exactly where they are no form of a command,
+/// and [`WordsFault::OutOfMemory`] only at the words of a chain and of a command that has options.
 pub fn read_command<'a>(alloc: Global, words: &'a [String]) -> Result<Command<'a>, WordsFault>
     ensures { let said = map string_bytes words.entry.now in let form = command_of said in
-        MatchResult result (λ command. (form ≡ Some (form_of command)) × IsWithin (form_of command)) (IsUnread form (take_memory said)) }
+        MatchResult result (λ command. (form ≡ Some (form_of command)) × IsWithin (form_of command))
+        (IsUnread form (take_memory said)) }
 {
     let [first, others @ ..] = words else {
         return Err(WordsFault::Usage);
@@ -78,7 +80,8 @@ fn read_with_options<'a>(
     words: &'a [String],
 ) -> Result<Command<'a>, WordsFault>
     ensures { let form = with_options word.now (map string_bytes words.entry.now) in
-        MatchResult result (λ command. (form ≡ Some (form_of command)) × IsWithin (form_of command)) (IsUnread form (has_options word.now)) }
+        MatchResult result (λ command. (form ≡ Some (form_of command)) × IsWithin (form_of command))
+        (IsUnread form (has_options word.now)) }
 {
     if word == b"node".as_slice() {
         Ok(Command::Node(read_node(alloc, words)?))

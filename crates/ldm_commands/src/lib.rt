@@ -1,7 +1,7 @@
 //! The words of the program, and what they ask for.
 //!
-//! [`run_ldm`] reads the words as a command and calls the public function of that command. Its contract says how that ends, by
-//! cases on the words.
+//! [`run_ldm`] reads the words as a command and calls the public function of that command. Its contract says how that
+//! ends, by cases on the words.
 #![tactic(auto)]
 
 mod chain;

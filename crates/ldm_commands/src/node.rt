@@ -28,8 +28,12 @@ pub(crate) fn run_words<
 where
     <N::StationDoor as Door>::Link: Send,
     <N::StationDial as Dial>::Link: Send,
-    ensures { let tells = tells_of K.tells F.tells L.tells (station_tells N.StationDoor.tells N.StationDial.tells N.StationLog.tells N.StationClock.tells N.StationGate.tells) in
-        Done tells (form.Node (node_view words.now)) result (world_view S.tells E.tells C.tells N.tells N.kept world.old) (world_view S.tells E.tells C.tells N.tells N.kept world.new) }
+    ensures { let tells = tells_of K.tells F.tells L.tells
+        (station_tells N.StationDoor.tells N.StationDial.tells N.StationLog.tells N.StationClock.tells
+        N.StationGate.tells) in
+        Done tells (form.Node (node_view words.now)) result
+        (world_view S.tells E.tells C.tells N.tells N.kept world.old)
+        (world_view S.tells E.tells C.tells N.tells N.kept world.new) }
 {
     let setup = NodeSetup {
         arena: words.arena,

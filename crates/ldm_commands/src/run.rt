@@ -24,12 +24,12 @@ use std::alloc::Global;
 use std::sync::Wait;
 use std::thread::Threads;
 
-/// Does what the words ask for, the program's name apart, and answers the number that the program ends with. A crowd and a node
-/// start threads and wait.
+/// Does what the words ask for, the program's name apart, and answers the number that the program ends with. A crowd
+/// and a node start threads and wait.
 ///
-/// The clause `ends` gives each status its cause, and what was read, written, sent, started and kept then: see `RunEnds`. The clause `law`
-/// says that what a command writes of its own queue are answers of a history that obeys the law of the queue: see `RunObeysLaw`. The clause
-/// `completes` says when all is read and answered: see `RunCompletes`.
+/// The clause `ends` gives each status its cause, and what was read, written, sent, started and kept then: see
+/// `RunEnds`. The clause `law` says that what a command writes of its own queue are answers of a history that obeys the
+/// law of the queue: see `RunObeysLaw`. The clause `completes` says when all is read and answered: see `RunCompletes`.
 pub fn run_ldm<
     H: Threads + Wait + Sync,
     S: Source,
@@ -44,16 +44,29 @@ where
     <N::StationDoor as Door>::Link: Send,
     <N::StationDial as Dial>::Link: Send,
     requires none_out { (N.tells world.old.net).links.out ≡ false }
-    ensures ends { let tells = tells_of K.tells F.tells L.tells (station_tells N.StationDoor.tells N.StationDial.tells N.StationLog.tells N.StationClock.tells N.StationGate.tells) in
+    ensures ends { let tells = tells_of K.tells F.tells L.tells
+        (station_tells N.StationDoor.tells N.StationDial.tells N.StationLog.tells N.StationClock.tells
+        N.StationGate.tells) in
         RunEnds tells (command_of (map string_bytes words.now)) (take_memory (map string_bytes words.now)) result
-        (world_view S.tells E.tells C.tells N.tells N.kept world.old) (world_view S.tells E.tells C.tells N.tells N.kept world.new) }
-    ensures law { let tells = tells_of K.tells F.tells L.tells (station_tells N.StationDoor.tells N.StationDial.tells N.StationLog.tells N.StationClock.tells N.StationGate.tells) in
-        RunObeysLaw tells (command_of (map string_bytes words.now)) (world_view S.tells E.tells C.tells N.tells N.kept world.old) (world_view S.tells E.tells C.tells N.tells N.kept world.new) }
-    ensures completes { let tells = tells_of K.tells F.tells L.tells (station_tells N.StationDoor.tells N.StationDial.tells N.StationLog.tells N.StationClock.tells N.StationGate.tells) in
+        (world_view S.tells E.tells C.tells N.tells N.kept world.old)
+        (world_view S.tells E.tells C.tells N.tells N.kept world.new) }
+    ensures law { let tells = tells_of K.tells F.tells L.tells
+        (station_tells N.StationDoor.tells N.StationDial.tells N.StationLog.tells N.StationClock.tells
+        N.StationGate.tells) in
+        RunObeysLaw tells (command_of (map string_bytes words.now))
+        (world_view S.tells E.tells C.tells N.tells N.kept world.old)
+        (world_view S.tells E.tells C.tells N.tells N.kept world.new) }
+    ensures completes { let tells = tells_of K.tells F.tells L.tells
+        (station_tells N.StationDoor.tells N.StationDial.tells N.StationLog.tells N.StationClock.tells
+        N.StationGate.tells) in
         RunCompletes tells (command_of (map string_bytes words.now)) result
-        (world_view S.tells E.tells C.tells N.tells N.kept world.old) (world_view S.tells E.tells C.tells N.tells N.kept world.new) }
-    ensures faults_kept { let tells = tells_of K.tells F.tells L.tells (station_tells N.StationDoor.tells N.StationDial.tells N.StationLog.tells N.StationClock.tells N.StationGate.tells) in
-        KeepsAllFaults tells (world_view S.tells E.tells C.tells N.tells N.kept world.old) (world_view S.tells E.tells C.tells N.tells N.kept world.new) }
+        (world_view S.tells E.tells C.tells N.tells N.kept world.old)
+        (world_view S.tells E.tells C.tells N.tells N.kept world.new) }
+    ensures faults_kept { let tells = tells_of K.tells F.tells L.tells
+        (station_tells N.StationDoor.tells N.StationDial.tells N.StationLog.tells N.StationClock.tells
+        N.StationGate.tells) in
+        KeepsAllFaults tells (world_view S.tells E.tells C.tells N.tells N.kept world.old)
+        (world_view S.tells E.tells C.tells N.tells N.kept world.new) }
 {
     match read_command(alloc, words) {
         Ok(command) => run(rt, alloc, command, world),
@@ -78,8 +91,11 @@ where
     <N::StationDial as Dial>::Link: Send,
     requires none_out { (N.tells world.old.net).links.out ≡ false }
     requires within { IsWithin (form_of command) }
-    ensures { let tells = tells_of K.tells F.tells L.tells (station_tells N.StationDoor.tells N.StationDial.tells N.StationLog.tells N.StationClock.tells N.StationGate.tells) in
-        Done tells (form_of command.entry) result (world_view S.tells E.tells C.tells N.tells N.kept world.old) (world_view S.tells E.tells C.tells N.tells N.kept world.new) }
+    ensures { let tells = tells_of K.tells F.tells L.tells
+        (station_tells N.StationDoor.tells N.StationDial.tells N.StationLog.tells N.StationClock.tells
+        N.StationGate.tells) in
+        Done tells (form_of command.entry) result (world_view S.tells E.tells C.tells N.tells N.kept world.old)
+        (world_view S.tells E.tells C.tells N.tells N.kept world.new) }
 {
     match command {
         Command::Play { arena, slots } => play(alloc, arena, slots, &mut world.streams),

@@ -26,8 +26,12 @@ pub(crate) fn tell_figures<S: Source, K: Sink, E: Sink, C: Clock, F: Store, L: L
     world: &mut World<S, K, E, C, F, L, N>,
 ) -> u8
     requires { (N.tells world.old.net).links.out ≡ false }
-    ensures { let tells = tells_of K.tells F.tells L.tells (station_tells N.StationDoor.tells N.StationDial.tells N.StationLog.tells N.StationClock.tells N.StationGate.tells) in
-        Done tells (form.Pqmon (address_view peer.now)) result (world_view S.tells E.tells C.tells N.tells N.kept world.old) (world_view S.tells E.tells C.tells N.tells N.kept world.new) }
+    ensures { let tells = tells_of K.tells F.tells L.tells
+        (station_tells N.StationDoor.tells N.StationDial.tells N.StationLog.tells N.StationClock.tells
+        N.StationGate.tells) in
+        Done tells (form.Pqmon (address_view peer.now)) result
+        (world_view S.tells E.tells C.tells N.tells N.kept world.old)
+        (world_view S.tells E.tells C.tells N.tells N.kept world.new) }
 {
     pqmon(
         alloc,
@@ -51,8 +55,12 @@ pub(crate) fn act_on_products<
     N: Net,
 >(rt: &H, alloc: Global, words: &ActWords<'_>, world: &mut World<S, K, E, C, F, L, N>) -> u8
     requires { (N.tells world.old.net).links.out ≡ false }
-    ensures { let tells = tells_of K.tells F.tells L.tells (station_tells N.StationDoor.tells N.StationDial.tells N.StationLog.tells N.StationClock.tells N.StationGate.tells) in
-        Done tells (form.Pqact (act_view words.now)) result (world_view S.tells E.tells C.tells N.tells N.kept world.old) (world_view S.tells E.tells C.tells N.tells N.kept world.new) }
+    ensures { let tells = tells_of K.tells F.tells L.tells
+        (station_tells N.StationDoor.tells N.StationDial.tells N.StationLog.tells N.StationClock.tells
+        N.StationGate.tells) in
+        Done tells (form.Pqact (act_view words.now)) result
+        (world_view S.tells E.tells C.tells N.tells N.kept world.old)
+        (world_view S.tells E.tells C.tells N.tells N.kept world.new) }
 {
     pqact(
         rt,
@@ -82,8 +90,12 @@ pub(crate) fn write_bodies<
     N: Net,
 >(rt: &H, alloc: Global, words: &ReceivingWords, world: &mut World<S, K, E, C, F, L, N>) -> u8
     requires { (N.tells world.old.net).links.out ≡ false }
-    ensures { let tells = tells_of K.tells F.tells L.tells (station_tells N.StationDoor.tells N.StationDial.tells N.StationLog.tells N.StationClock.tells N.StationGate.tells) in
-        Done tells (form.Pqcat (receiving_view words.now)) result (world_view S.tells E.tells C.tells N.tells N.kept world.old) (world_view S.tells E.tells C.tells N.tells N.kept world.new) }
+    ensures { let tells = tells_of K.tells F.tells L.tells
+        (station_tells N.StationDoor.tells N.StationDial.tells N.StationLog.tells N.StationClock.tells
+        N.StationGate.tells) in
+        Done tells (form.Pqcat (receiving_view words.now)) result
+        (world_view S.tells E.tells C.tells N.tells N.kept world.old)
+        (world_view S.tells E.tells C.tells N.tells N.kept world.new) }
 {
     pqcat(
         rt,
@@ -106,8 +118,12 @@ pub(crate) fn tell_products<S: Source, K: Sink, E: Sink, C: Clock, F: Store, L: 
     world: &mut World<S, K, E, C, F, L, N>,
 ) -> u8
     requires { (N.tells world.old.net).links.out ≡ false }
-    ensures { let tells = tells_of K.tells F.tells L.tells (station_tells N.StationDoor.tells N.StationDial.tells N.StationLog.tells N.StationClock.tells N.StationGate.tells) in
-        Done tells (form.Notifyme (receiving_view words.now)) result (world_view S.tells E.tells C.tells N.tells N.kept world.old) (world_view S.tells E.tells C.tells N.tells N.kept world.new) }
+    ensures { let tells = tells_of K.tells F.tells L.tells
+        (station_tells N.StationDoor.tells N.StationDial.tells N.StationLog.tells N.StationClock.tells
+        N.StationGate.tells) in
+        Done tells (form.Notifyme (receiving_view words.now)) result
+        (world_view S.tells E.tells C.tells N.tells N.kept world.old)
+        (world_view S.tells E.tells C.tells N.tells N.kept world.new) }
 {
     notifyme(
         alloc,
@@ -128,8 +144,12 @@ pub(crate) fn put_files<S: Source, K: Sink, E: Sink, C: Clock, F: Store, L: Laun
     world: &mut World<S, K, E, C, F, L, N>,
 ) -> u8
     requires { (N.tells world.old.net).links.out ≡ false }
-    ensures { let tells = tells_of K.tells F.tells L.tells (station_tells N.StationDoor.tells N.StationDial.tells N.StationLog.tells N.StationClock.tells N.StationGate.tells) in
-        Done tells (form.Pqinsert (insert_view words.now)) result (world_view S.tells E.tells C.tells N.tells N.kept world.old) (world_view S.tells E.tells C.tells N.tells N.kept world.new) }
+    ensures { let tells = tells_of K.tells F.tells L.tells
+        (station_tells N.StationDoor.tells N.StationDial.tells N.StationLog.tells N.StationClock.tells
+        N.StationGate.tells) in
+        Done tells (form.Pqinsert (insert_view words.now)) result
+        (world_view S.tells E.tells C.tells N.tells N.kept world.old)
+        (world_view S.tells E.tells C.tells N.tells N.kept world.new) }
 {
     let insertion = Insertion {
         host: words.peer.host.as_slice(),

@@ -24,7 +24,8 @@ pub struct CommandText<'a> {
 /// The text of a command, if it is UTF-8 and has a part.
 #[tactic(auto, using(crate::proofs::Commands::has_part))]
 pub fn read_command(word: &[u8]) -> Option<CommandText<'_>>
-    ensures { MatchOption result (is_command word.now ≡ false) (λ command. (is_command word.now ≡ true) × (command.text.now ≡ word.now)) }
+    ensures { MatchOption result (is_command word.now ≡ false)
+        (λ command. (is_command word.now ≡ true) × (command.text.now ≡ word.now)) }
 {
     if is_blank_text(word) {
         return None;
@@ -37,7 +38,8 @@ pub fn read_command(word: &[u8]) -> Option<CommandText<'_>>
 
 /// The text of a word, if it is UTF-8.
 pub fn text_of(word: &[u8]) -> Option<&str>
-    ensures { MatchOption result (is_utf8 word.now ≡ false) (λ text. (is_utf8 word.now ≡ true) × (text.now ≡ word.now)) }
+    ensures { MatchOption result (is_utf8 word.now ≡ false)
+        (λ text. (is_utf8 word.now ≡ true) × (text.now ≡ word.now)) }
 {
     match str::from_utf8(word) {
         Ok(text) => Some(text),

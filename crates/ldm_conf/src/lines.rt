@@ -61,7 +61,8 @@ impl<'a> Lines<'a> {
     /// Takes the next line.
     pub fn take(&mut self) -> Option<Line<'a>>
         requires { room_of self.old < 2 ^ 32 }
-        ensures taken { MatchOption result (left_of self.old ≡ []) (λ line. left_of self.old ≡ line_view line ∷ left_of self.new) }
+        ensures taken { MatchOption result (left_of self.old ≡ [])
+            (λ line. left_of self.old ≡ line_view line ∷ left_of self.new) }
         ensures place { IfSome result (λ line. line.depth ≡ self.old.depth) }
         ensures depth { self.new.depth ≡ self.old.depth }
         ensures room { room_of self.new ≤ room_of self.old }

@@ -3,7 +3,8 @@ ghost use Rattle.std.specs.Prelude.{◌≡◌, Ok, MatchResult};
 ghost use Rattle.std.specs.Option.{option_copied};
 ghost use Rattle.ldm_class.specs.Rules.{allow_rule};
 ghost use Rattle.ldm_conf.specs.Confs as confs;
-ghost use Rattle.ldm_conf.specs.Statements.{statement_of, said, adding, feed_of, allowing, accepting, requesting, executing, including};
+ghost use Rattle.ldm_conf.specs.Statements.{statement_of, said, adding, feed_of, allowing};
+ghost use Rattle.ldm_conf.specs.Statements.{accepting, requesting, executing, including};
 ghost use Rattle.ldm_conf.specs.Kept.{lent};
 ghost use Rattle.ldm_conf.specs.LineFaults.{IsKindOf};
 ghost use Rattle.ldm_conf.specs.DirectiveViews.{statement_view};
@@ -22,7 +23,8 @@ use ldm_types::Feed;
 
 /// What a line says. Its patterns are not looked at.
 pub fn read_statement(line: &[u8]) -> Result<Statement<'_>, ConfKind>
-    ensures { MatchResult result (λ statement. statement_of line.now ≡ Ok (statement_view statement)) (IsKindOf (statement_of line.now)) }
+    ensures { MatchResult result (λ statement. statement_of line.now ≡ Ok (statement_view statement))
+        (IsKindOf (statement_of line.now)) }
 {
     let text = to_word(Comments::Hash, without_return(line));
     if text.is_empty() {
@@ -42,7 +44,8 @@ pub fn read_statement(line: &[u8]) -> Result<Statement<'_>, ConfKind>
 
 // What a line says by the words behind its keyword.
 fn read_words_of<'a>(keyword: Keyword, words: &[&'a [u8]]) -> Result<Statement<'a>, ConfKind>
-    ensures { let meaning = said keyword (lent words.now) in MatchResult result (λ statement. meaning ≡ Ok (statement_view statement)) (IsKindOf meaning) }
+    ensures { let meaning = said keyword (lent words.now) in MatchResult result
+        (λ statement. meaning ≡ Ok (statement_view statement)) (IsKindOf meaning) }
 {
     match keyword {
         Keyword::Allow => read_allow(words),
@@ -54,7 +57,8 @@ fn read_words_of<'a>(keyword: Keyword, words: &[&'a [u8]]) -> Result<Statement<'
 }
 
 fn read_allow<'a>(words: &[&'a [u8]]) -> Result<Statement<'a>, ConfKind>
-    ensures { let meaning = allowing (lent words.now) in MatchResult result (λ statement. meaning ≡ Ok (statement_view statement)) (IsKindOf meaning) }
+    ensures { let meaning = allowing (lent words.now) in MatchResult result
+        (λ statement. meaning ≡ Ok (statement_view statement)) (IsKindOf meaning) }
 {
     match words {
         [feedtype, host] => allow(feedtype, host, None, None),
@@ -70,7 +74,8 @@ fn allow<'a>(
     ok: Option<&'a [u8]>,
     not: Option<&'a [u8]>,
 ) -> Result<Statement<'a>, ConfKind>
-    ensures { let meaning = adding feedtype.now (λ feed. confs.Allow (allow_rule feed host.now (option_copied ok.entry) (option_copied not.entry))) in
+    ensures { let meaning = adding feedtype.now
+        (λ feed. confs.Allow (allow_rule feed host.now (option_copied ok.entry) (option_copied not.entry))) in
         MatchResult result (λ statement. meaning ≡ Ok (statement_view statement)) (IsKindOf meaning) }
 {
     let feed = read_feedtype(feedtype)?;
@@ -83,7 +88,8 @@ fn allow<'a>(
 }
 
 fn read_accept<'a>(words: &[&'a [u8]]) -> Result<Statement<'a>, ConfKind>
-    ensures { let meaning = accepting (lent words.now) in MatchResult result (λ statement. meaning ≡ Ok (statement_view statement)) (IsKindOf meaning) }
+    ensures { let meaning = accepting (lent words.now) in MatchResult result
+        (λ statement. meaning ≡ Ok (statement_view statement)) (IsKindOf meaning) }
 {
     let [feedtype, pattern, host] = words else {
         return Err(ConfKind::Fields);
@@ -97,7 +103,8 @@ fn read_accept<'a>(words: &[&'a [u8]]) -> Result<Statement<'a>, ConfKind>
 }
 
 fn read_request<'a>(words: &[&'a [u8]]) -> Result<Statement<'a>, ConfKind>
-    ensures { let meaning = requesting (lent words.now) in MatchResult result (λ statement. meaning ≡ Ok (statement_view statement)) (IsKindOf meaning) }
+    ensures { let meaning = requesting (lent words.now) in MatchResult result
+        (λ statement. meaning ≡ Ok (statement_view statement)) (IsKindOf meaning) }
 {
     let [feedtype, pattern, address] = words else {
         return Err(ConfKind::Fields);
@@ -117,7 +124,8 @@ fn read_request<'a>(words: &[&'a [u8]]) -> Result<Statement<'a>, ConfKind>
 }
 
 fn read_exec<'a>(words: &[&'a [u8]]) -> Result<Statement<'a>, ConfKind>
-    ensures { let meaning = executing (lent words.now) in MatchResult result (λ statement. meaning ≡ Ok (statement_view statement)) (IsKindOf meaning) }
+    ensures { let meaning = executing (lent words.now) in MatchResult result
+        (λ statement. meaning ≡ Ok (statement_view statement)) (IsKindOf meaning) }
 {
     let [command] = words else {
         return Err(ConfKind::Fields);
@@ -129,7 +137,8 @@ fn read_exec<'a>(words: &[&'a [u8]]) -> Result<Statement<'a>, ConfKind>
 }
 
 fn read_include<'a>(words: &[&'a [u8]]) -> Result<Statement<'a>, ConfKind>
-    ensures { let meaning = including (lent words.now) in MatchResult result (λ statement. meaning ≡ Ok (statement_view statement)) (IsKindOf meaning) }
+    ensures { let meaning = including (lent words.now) in MatchResult result
+        (λ statement. meaning ≡ Ok (statement_view statement)) (IsKindOf meaning) }
 {
     let [path] = words else {
         return Err(ConfKind::Fields);

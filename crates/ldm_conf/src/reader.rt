@@ -1,5 +1,6 @@
 //! Reading file by file, and line by line.
-ghost use Rattle.std.specs.Prelude.{◌≡◌, ◌<◌, ◌≤◌, ◌^◌, [], true, Ok, Err, length, IfOk, IfSome, MatchResult, MatchOption};
+ghost use Rattle.std.specs.Prelude.{◌≡◌, ◌<◌, ◌≤◌, ◌^◌, [], true, Ok, Err, length};
+ghost use Rattle.std.specs.Prelude.{IfOk, IfSome, MatchResult, MatchOption};
 ghost use Rattle.ldm_conf.specs.declared.fault.ConfKind.TheVariants as kind;
 ghost use Rattle.ldm_conf.specs.Causes.{HasCause, IsIn, ReadsConf, first_too_long};
 ghost use Rattle.ldm_conf.specs.Confs.{conf_view};
@@ -22,14 +23,17 @@ use ldm_text::LONGEST_CONFIGURATION;
 use std::alloc::Global;
 
 /// The configuration that an ldmd.conf of these bytes means, with the files of the store that it includes; or its first
-/// fault, in the order in which lines are read. The lines of a file that is included stand where its INCLUDE line stands.
+/// fault, in the order in which lines are read. The lines of a file that is included stand where its INCLUDE line
+/// stands.
 ///
 /// Files are numbered in the order in which they are read, and this one has the number 0. `Depth`, `Store` and `Long`
 /// stand at the INCLUDE line, and `Long` of this file stands at file 0, line 0. `OutOfMemory` may come at any line, and
 /// nothing is said of its place.
 pub fn read_conf<F: Store>(alloc: Global, bytes: &[u8], store: &mut F) -> Result<Conf, ConfFault>
-    ensures too_long { LONGEST_CONFIGURATION < length bytes.now → (result ≡ Err first_too_long) × (F.tells store.new ≡ F.tells store.old) }
-    ensures reads { length bytes.now ≤ LONGEST_CONFIGURATION → ReadsConf result bytes.now (F.tells store.old) (F.tells store.new) }
+    ensures too_long { LONGEST_CONFIGURATION < length bytes.now → (result ≡ Err first_too_long)
+        × (F.tells store.new ≡ F.tells store.old) }
+    ensures reads { length bytes.now ≤ LONGEST_CONFIGURATION
+        → ReadsConf result bytes.now (F.tells store.old) (F.tells store.new) }
 {
     if bytes.len() > LONGEST_CONFIGURATION {
         return Err(nowhere(ConfKind::Long));
@@ -71,8 +75,10 @@ impl Reader {
     ) -> Result<(), ConfFault>
         requires { room_of lines < 2 ^ 32 }
         ensures { MatchResult result
-            (λ _. Passes (F.tells store.old) (state_of self.old) (left_of lines.entry) (state_of self.new) [] × (F.tells store.new ≡ F.tells store.old))
-            (λ fault. HasCause (EndsIn (F.tells store.old) (state_of self.old) (left_of lines.entry)) fault.kind fault (F.tells store.old) (F.tells store.new)) }
+            (λ _. Passes (F.tells store.old) (state_of self.old) (left_of lines.entry) (state_of self.new) []
+            × (F.tells store.new ≡ F.tells store.old))
+            (λ fault. HasCause (EndsIn (F.tells store.old) (state_of self.old) (left_of lines.entry)) fault.kind fault
+            (F.tells store.old) (F.tells store.new)) }
     {
         while let Some((line, path)) = self.read_to_include(alloc, &mut lines)? {
             let bytes = self.include(alloc, store, line, path)?;
@@ -94,12 +100,14 @@ impl Reader {
         ensures read { MatchResult result
             (λ found. MatchOption found
             (GoesOn (state_of self.old) (left_of lines.old) (state_of self.new) [])
-            (λ include. GoesTo (state_of self.old) (left_of lines.old) (state_of self.new) (line_view include.0) include.1.now (left_of lines.new)))
+            (λ include. GoesTo (state_of self.old) (left_of lines.old) (state_of self.new)
+            (line_view include.0) include.1.now (left_of lines.new)))
             (FailsIn (state_of self.old) (left_of lines.old)) }
         ensures place { IfOk result (λ found. IfSome found (λ include. include.0.depth ≡ lines.old.depth)) }
         ensures depth { lines.new.depth ≡ lines.old.depth }
         ensures room { room_of lines.new ≤ room_of lines.old }
-        ensures shorter { IfOk result (λ found. IfSome found (λ _. length_left lines.new.rest < length_left lines.old.rest)) }
+        ensures shorter { IfOk result
+            (λ found. IfSome found (λ _. length_left lines.new.rest < length_left lines.old.rest)) }
     {
         while let Some(line) = lines.take() {
             match self.read_line(alloc, line.text) {
@@ -142,7 +150,8 @@ impl Reader {
             (λ bytes. (may_include self.now.files (line_view line.entry) ≡ true)
             × IsIn (F.tells store.old) (record { path = path.now; bytes = bytes.items })
             × (F.tells store.new ≡ F.tells store.old))
-            (λ fault. HasCause (λ end. wanting self.now.files (line_view line.entry) path.now ≡ end) fault.kind fault (F.tells store.old) (F.tells store.new)) }
+            (λ fault. HasCause (λ end. wanting self.now.files (line_view line.entry) path.now ≡ end) fault.kind fault
+            (F.tells store.old) (F.tells store.new)) }
     {
         if line.depth >= DEEPEST_INCLUDE || self.files >= MOST_FILES {
             return Err(line.fault(ConfKind::Depth));

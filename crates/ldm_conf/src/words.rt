@@ -13,7 +13,8 @@ pub struct BadWords;
 
 /// All words of a text.
 pub fn read_words(text: &[u8]) -> Result<ArrayVec<&[u8], MOST_WORDS>, BadWords>
-    ensures { MatchResult result (λ words. AreWords words.items (words_of Comments.Hash text.now)) (λ _. IsBad (words_of Comments.Hash text.now)) }
+    ensures { MatchResult result (λ words. AreWords words.items (words_of Comments.Hash text.now))
+        (λ _. IsBad (words_of Comments.Hash text.now)) }
 {
     let mut words = ArrayVec::new();
     let mut rest = to_word(Comments::Hash, text);

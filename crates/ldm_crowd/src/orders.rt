@@ -1,5 +1,6 @@
 //! The orders of a script, dealt out to the actors.
-ghost use Rattle.std.specs.Prelude.{◌≡◌, ◌<◌, ◌≤◌, ◌++◌, [], List, length, map, slice_index_or, Ok, IfOk, IfErr, OnOk, IsOk};
+ghost use Rattle.std.specs.Prelude.{◌≡◌, ◌<◌, ◌≤◌, ◌++◌, [], List, length, map};
+ghost use Rattle.std.specs.Prelude.{slice_index_or, Ok, IfOk, IfErr, OnOk, IsOk};
 ghost use Rattle.ldm_types.specs.declared.numbers.TheConstants.Actor.{COUNT};
 ghost use Rattle.ldm_script.specs.Grammar.{read_line as reading};
 ghost use Rattle.ldm_script.specs.Order.{Order as Ordered};
@@ -92,7 +93,9 @@ fn deal_all<'a>(
     requires text { length text.now ≤ MOST_SCRIPT }
     requires actors { actors ≤ COUNT }
     requires none { AreDealt actors [] parts.old }
-    ensures dealt { OnOk result ((done : List Ordered) × AreDealt actors done parts.new × (orders_from actors 1 (lines_of text.now) ≡ Ok done)) }
+    ensures dealt { OnOk result
+        ((done : List Ordered) × AreDealt actors done parts.new
+        × (orders_from actors 1 (lines_of text.now) ≡ Ok done)) }
     ensures faults { IfErr result (IsFaultOf actors text.now) }
 {
     let mut number = 1;
@@ -117,7 +120,9 @@ fn deal<'a>(
 ) -> Result<(), OrdersFault>
     requires actors { actors ≤ COUNT }
     requires parts { (done : List Ordered) × AreDealt actors done parts.old }
-    ensures dealt { OnOk result ((done : List Ordered) → AreDealt actors done parts.old → AreDealt actors (done ++ orders_in actors line.now) parts.new) }
+    ensures dealt { OnOk result
+        ((done : List Ordered) → AreDealt actors done parts.old
+        → AreDealt actors (done ++ orders_in actors line.now) parts.new) }
     ensures read { OnOk result (IsOk (reading actors line.now)) }
     ensures faults { IfErr result (IsFaultOfLine actors number line.now) }
 {

@@ -5,7 +5,8 @@ ghost use Rattle.ldm_crowd.specs.Ends.{or_end};
 use ldm_book::Book;
 use ldm_shared::Pass;
 
-/// How a crowd ended. Where workers ended in different ways, it is the end of the first actor that did not play all its lines.
+/// How a crowd ended. Where workers ended in different ways, it is the end of the first actor that did not play all its
+/// lines.
 #[derive(Clone, Copy, Debug, PartialEq, Eq)]
 pub enum CrowdEnd {
     /// All lines were played.
@@ -27,7 +28,8 @@ pub struct Crowd<G> {
     pub pass: Pass,
     /// The gates that were handed in, in order.
     pub gates: Vec<G>,
-    /// For each actor, in order, a line for each line that it played: the actor, a blank, and the answer line with its newline.
+    /// For each actor, in order, a line for each line that it played: the actor, a blank, and the answer line with its
+    /// newline.
     pub answers: Vec<Vec<u8>>,
     /// How it ended.
     pub end: CrowdEnd,

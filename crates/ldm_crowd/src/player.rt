@@ -57,7 +57,8 @@ impl<'a, G: Gate> Work<Worker<G>> for Playing<'a> {
 
     ghost begins = { λ work pass worker. Begins (script_in work.orders.now) pass worker.player };
 
-    ghost works = { λ work old_pass old new_pass new. Plays G.tells (script_in work.orders.now) old_pass old.player new_pass new.player };
+    ghost works = { λ work old_pass old new_pass new. Plays G.tells
+        (script_in work.orders.now) old_pass old.player new_pass new.player };
 
     fn work<H: Wait>(&self, rt: &H, shared: &Shared, pass: &mut Pass, own: &mut Worker<G>) {
         own.player
@@ -101,7 +102,8 @@ impl<G: Gate> Player<G> {
         requires unopened { self.old.last ≡ no_places }
         requires unanswered { self.old.answers.items ≡ [] }
         ensures same { IsSamePass pass.old pass.new }
-        ensures ended { PlayerEnds (end_of_result result) (asked_lines lines.now) pass.new self.new.answers.items (G.tells self.old.gate) (G.tells self.new.gate) }
+        ensures ended { PlayerEnds (end_of_result result) (asked_lines lines.now) pass.new self.new.answers.items
+            (G.tells self.old.gate) (G.tells self.new.gate) }
         ensures stops_kept { (G.tells self.old.gate).stops ≤ (G.tells self.new.gate).stops }
     {
         for i in 0..lines.len() {
@@ -111,8 +113,8 @@ impl<G: Gate> Player<G> {
         Ok(())
     }
 
-    // Plays the line of that number: takes room for its answer, asks the gate, makes the call, writes the answer, and tells the
-    // gate.
+    // Plays the line of that number: takes room for its answer, asks the gate, makes the call, writes the answer, and
+    // tells the gate.
     fn play_line<H: Wait>(
         &mut self,
         rt: &H,
@@ -152,7 +154,8 @@ impl<G: Gate> Player<G> {
 fn append_answer(answers: &mut Vec<u8>, actor: Actor, line: &[u8])
     requires short { length line.now ≤ LONGEST_ANSWER }
     requires room { vec_len answers.old + ANSWER_ROOM ≤ vec_capacity answers.old }
-    ensures { (reply : Reply) → line.now ≡ answer_line reply → answers.new.items ≡ answers.old.items ++ crowd_line actor reply }
+    ensures { (reply : Reply) → line.now ≡ answer_line reply
+        → answers.new.items ≡ answers.old.items ++ crowd_line actor reply }
 {
     let mut digits = Buffer::new();
     append(answers, digits.format(actor.get()).as_bytes());

@@ -25,14 +25,15 @@ use std::alloc::Global;
 use std::sync::Wait;
 use std::thread::Threads;
 
-/// Plays a script on a shared queue: each actor's lines in order, by a worker of its own. Worker i asks its gate before the
-/// call of each line, by its actor and the line's number from 0, makes the call with pass i, keeps the answer, and tells the gate.
+/// Plays a script on a shared queue: each actor's lines in order, by a worker of its own. Worker i asks its gate before
+/// the call of each line, by its actor and the line's number from 0, makes the call with pass i, keeps the answer, and
+/// tells the gate.
 ///
-/// The passes are all that the queue was made with, and no call was made with them; the script was read for as many actors; and
-/// there are as many gates. Where no thread can be made the workers run one after another.
+/// The passes are all that the queue was made with, and no call was made with them; the script was read for as many
+/// actors; and there are as many gates. Where no thread can be made the workers run one after another.
 ///
-/// The memory that calls need is taken before the first line of any actor, and that for an answer before its line is played: so each
-/// line that was played has its answer, however the crowd ends.
+/// The memory that calls need is taken before the first line of any actor, and that for an answer before its line is
+/// played: so each line that was played has its answer, however the crowd ends.
 pub fn crowd<H: Threads + Wait + Sync, G: Gate + Send>(
     rt: &H,
     alloc: Global,

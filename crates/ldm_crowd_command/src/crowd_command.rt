@@ -134,9 +134,11 @@ fn play_text<H: Threads + Wait + Sync>(
     requires workers { workers ≡ shared.passes }
     requires good { IsGoodPasses workers }
     requires passes { passes.items ≡ map (new_pass shared) (range_with_len 0 workers) }
-    ensures played { IfOk result (λ crowd. HasPlayed (record { arena = shared.arena; slots = shared.slots; workers = workers })
+    ensures played { IfOk result
+        (λ crowd. HasPlayed (record { arena = shared.arena; slots = shared.slots; workers = workers })
         text.now crowd.pass.seen crowd.book (map (λ text. text.items) crowd.answers.items)) }
-    ensures unplayed { IfErr result (λ why. IsUnplayed why (record { arena = shared.arena; slots = shared.slots; workers = workers }) text.now) }
+    ensures unplayed { IfErr result
+        (λ why. IsUnplayed why (record { arena = shared.arena; slots = shared.slots; workers = workers }) text.now) }
 {
     let orders = Orders::read(alloc, text, workers)?;
     histories_are_lawful();
@@ -154,7 +156,8 @@ fn play_text<H: Threads + Wait + Sync>(
 
 // Writes texts, one behind another.
 fn write_texts<K: Sink>(texts: &[Vec<u8>], sink: &mut K) -> Result<(), SinkFailed>
-    ensures written { WritesAll result (concat (map (λ text. text.items) texts.now)) (K.tells sink.old) (K.tells sink.new) }
+    ensures written { WritesAll result (concat (map (λ text. text.items) texts.now)) (K.tells sink.old)
+        (K.tells sink.new) }
     ensures faults_kept { (K.tells sink.old).faults ≤ (K.tells sink.new).faults }
 {
     for text in texts {
@@ -165,7 +168,8 @@ fn write_texts<K: Sink>(texts: &[Vec<u8>], sink: &mut K) -> Result<(), SinkFaile
 
 // Writes how full the queue is, as an answer line.
 fn write_stat<K: Sink>(book: &mut Book, sink: &mut K) -> Result<(), SinkFailed>
-    ensures written { (s : State) → StandsFor book.old s → WritesAll result (answer_line (stat_of s).reply) (K.tells sink.old) (K.tells sink.new) }
+    ensures written { (s : State) → StandsFor book.old s
+        → WritesAll result (answer_line (stat_of s).reply) (K.tells sink.old) (K.tells sink.new) }
     ensures faults_kept { (K.tells sink.old).faults ≤ (K.tells sink.new).faults }
 {
     let Some(actor) = Actor::new(0) else {
@@ -183,7 +187,8 @@ fn write_answers<K: Sink>(
     sink: &mut K,
 ) -> Result<(), SinkFailed>
     ensures written { (s : State) → StandsFor book.old s
-        → WritesAll result (concat (map (λ text. text.items) answers.now) ++ answer_line (stat_of s).reply) (K.tells sink.old) (K.tells sink.new) }
+        → WritesAll result (concat (map (λ text. text.items) answers.now) ++ answer_line (stat_of s).reply)
+        (K.tells sink.old) (K.tells sink.new) }
     ensures faults_kept { (K.tells sink.old).faults ≤ (K.tells sink.new).faults }
 {
     write_texts(answers, sink)?;
@@ -215,13 +220,13 @@ fn run_crowd<H: Threads + Wait + Sync, S: Source, K: Sink>(
 }
 
 /// Plays a script on a new queue with an arena of so many bytes and so many slots, which as many workers share: each
-/// actor's lines in order, by a worker of its own. All answers are written at the end, actor by actor, and last the answer
-/// to a `stat`. Answers the number that the program ends with, and writes its line to the log.
+/// actor's lines in order, by a worker of its own. All answers are written at the end, actor by actor, and last the
+/// answer to a `stat`. Answers the number that the program ends with, and writes its line to the log.
 ///
 /// The script is taken whole before any line of it is looked at. Where no thread can be made, the workers run one after
-/// another. The clause `ends` gives each status its cause, and what was read and written then: see `CrowdRuns`. The clause
-/// `law` says that the answers are those of a history that obeys the law of the queue, or for what cause there are none: see
-/// `ObeysCrowdLaw`. The clause `completes` says when all is written: see `CrowdUnhindered`.
+/// another. The clause `ends` gives each status its cause, and what was read and written then: see `CrowdRuns`. The
+/// clause `law` says that the answers are those of a history that obeys the law of the queue, or for what cause there
+/// are none: see `ObeysCrowdLaw`. The clause `completes` says when all is written: see `CrowdUnhindered`.
 pub fn crowd<H: Threads + Wait + Sync, S: Source, K: Sink, E: Sink>(
     rt: &H,
     alloc: Global,
@@ -230,11 +235,14 @@ pub fn crowd<H: Threads + Wait + Sync, S: Source, K: Sink, E: Sink>(
     workers: u32,
     streams: &mut Streams<S, K, E>,
 ) -> u8
-    ensures ends { CrowdRuns (record { arena = arena; slots = slots; workers = workers }) result (streams_tells S.tells K.tells E.tells streams.old) (streams_tells S.tells K.tells E.tells streams.new) }
-    ensures law { ObeysCrowdLaw (record { arena = arena; slots = slots; workers = workers }) result (streams_tells S.tells K.tells E.tells streams.old) (streams_tells S.tells K.tells E.tells streams.new) }
+    ensures ends { CrowdRuns (record { arena = arena; slots = slots; workers = workers }) result
+        (streams_tells S.tells K.tells E.tells streams.old) (streams_tells S.tells K.tells E.tells streams.new) }
+    ensures law { ObeysCrowdLaw (record { arena = arena; slots = slots; workers = workers }) result
+        (streams_tells S.tells K.tells E.tells streams.old) (streams_tells S.tells K.tells E.tells streams.new) }
     ensures completes { CrowdCompletes (record { arena = arena; slots = slots; workers = workers }) result
         (streams_tells S.tells K.tells E.tells streams.old) (streams_tells S.tells K.tells E.tells streams.new) }
-    ensures faults_kept { KeepsFaults (streams_tells S.tells K.tells E.tells streams.old) (streams_tells S.tells K.tells E.tells streams.new) }
+    ensures faults_kept { KeepsFaults (streams_tells S.tells K.tells E.tells streams.old)
+        (streams_tells S.tells K.tells E.tells streams.new) }
 {
     let ending = run_crowd(
         rt,

@@ -50,7 +50,8 @@ pub struct Cursor {
 
 impl Cursor {
     ghost use Rattle.ldm_cursor.specs.Kept.{kept_of};
-    ghost use Rattle.ldm_cursor.specs.Places.{HasCountsBelow, after_hold, after_loss, after_release, after_tell, new_cursor, numbers_of};
+    ghost use Rattle.ldm_cursor.specs.Places.{HasCountsBelow, after_hold, after_loss, after_release};
+    ghost use Rattle.ldm_cursor.specs.Places.{after_tell, new_cursor, numbers_of};
 
     /// A cursor that was given nothing and lost nothing.
     pub fn new(actor: Actor, feed: Feed, position: u64) -> Cursor

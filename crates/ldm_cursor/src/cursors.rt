@@ -1,9 +1,11 @@
 //! The cursors of a queue.
-ghost use Rattle.std.specs.Prelude.{◌≡◌, ℕ, ◌^◌, ◌<◌, ◌≤◌, ◌↔◌, IsTrue, IsSome, IsSomeAnd, IfOk, IfSome, MatchOption, None, length, map, replicate};
+ghost use Rattle.std.specs.Prelude.{◌≡◌, ℕ, ◌^◌, ◌<◌, ◌≤◌, ◌↔◌, IsTrue, IsSome, IsSomeAnd, IfOk};
+ghost use Rattle.std.specs.Prelude.{IfSome, MatchOption, None, length, map, replicate};
 ghost use Rattle.std.specs.Option.{option_map};
 ghost use Rattle.ldm_cursor.specs.Kept.{IsKept, kept_of, place_of, places_of};
-ghost use Rattle.ldm_cursor.specs.Places.{CountsBelow, after_hold, after_move, after_release, after_tell, count_held, cursor_at, held_at, held_of};
-ghost use Rattle.ldm_cursor.specs.Places.{is_held, is_last_hold, least_empty, new_cursor, numbers_of, with_change, with_cursor, with_loss, without_cursor};
+ghost use Rattle.ldm_cursor.specs.Places.{CountsBelow, after_hold, after_move, after_release, after_tell, count_held};
+ghost use Rattle.ldm_cursor.specs.Places.{cursor_at, held_at, held_of, is_held, is_last_hold, least_empty, new_cursor};
+ghost use Rattle.ldm_cursor.specs.Places.{numbers_of, with_change, with_cursor, with_loss, without_cursor};
 
 use crate::cursor::Cursor;
 use crate::marks::Marks;
@@ -53,7 +55,8 @@ impl Cursors {
     /// taken; nothing changes then.
     pub fn seat(&mut self, actor: Actor, feed: Feed, position: u64) -> Option<CursorNo>
         ensures place { result ≡ least_empty self.old }
-        ensures seated { MatchOption result (self.new ≡ self.old) (λ k. self.new ≡ with_cursor self.old k (new_cursor actor feed.0 position)) }
+        ensures seated { MatchOption result (self.new ≡ self.old)
+            (λ k. self.new ≡ with_cursor self.old k (new_cursor actor feed.0 position)) }
         ensures many { length self.new ≡ CursorNo.COUNT }
     {
         let k = self.taken.first_unmarked()?;

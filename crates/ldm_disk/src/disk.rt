@@ -10,7 +10,8 @@ use ldm_outside::{Failed, Got};
 /// or the new one. A call that failed may have been done in part: a write from the first byte of the piece on, a cut
 /// as a whole. After an `attach` or a `sync` that failed, the file may read as any that a crash might have left.
 pub trait Disk {
-    ghost use Rattle.ldm_disk.specs.Calls.{FileChanges, KeepsFile, Attaches, LenGives, ReadGives, WritesFile, CutsFile, SyncsFile, Rises, KeepsDisk};
+    ghost use Rattle.ldm_disk.specs.Calls.{FileChanges, KeepsFile, Attaches, LenGives, ReadGives};
+    ghost use Rattle.ldm_disk.specs.Calls.{WritesFile, CutsFile, SyncsFile, Rises, KeepsDisk};
 
     /// What it tells: how often it failed, whether a file is attached, and of the file, if it tells this: its bytes,
     /// which moment it is, and what a crash may leave now, or may have left since a moment. A count stands still at

@@ -20,8 +20,8 @@ pub fn crashes_add_up()
         LeavesOnly (Passes test) mid new → LeavesOnly (Passes test) old new }
 {}
 
-/// Worked examples of the model, worked out by hand: what a write and a cut make of a file, and which files a crash may leave after
-/// them.
+/// Worked examples of the model, worked out by hand: what a write and a cut make of a file, and which files a crash may
+/// leave after them.
 pub fn worked_examples()
     ensures over { written_at 1 (7 ∷ 8 ∷ []) (1 ∷ 2 ∷ 3 ∷ 4 ∷ []) ≡ 1 ∷ 7 ∷ 8 ∷ 4 ∷ [] }
     ensures across_the_end { written_at 1 (7 ∷ 8 ∷ []) (1 ∷ 2 ∷ []) ≡ 1 ∷ 7 ∷ 8 ∷ [] }
@@ -43,5 +43,4 @@ pub fn worked_examples()
     ensures cut { leaves (file_cut 1 (first_file (1 ∷ 2 ∷ 3 ∷ []))).now (1 ∷ []) ≡ true }
     ensures not_half_cut { leaves (file_cut 1 (first_file (1 ∷ 2 ∷ 3 ∷ []))).now (1 ∷ 2 ∷ []) ≡ false }
     ensures not_changed_by_a_cut { leaves (file_cut 1 (first_file (1 ∷ 2 ∷ 3 ∷ []))).now (1 ∷ 9 ∷ 3 ∷ []) ≡ false }
-{
-}
+{}

@@ -85,8 +85,10 @@ impl MemDisk {
 }
 
 impl Disk for MemDisk {
-    ghost use Rattle.ldm_disk.specs.Calls.{FileChanges, KeepsFile, Attaches, LenGives, ReadGives, WritesFile, CutsFile, SyncsFile, Rises, KeepsDisk};
-    ghost use Rattle.ldm_disk.specs.MemDisk.{SyncsAsPlanned, ChangesAsPlanned, LenAsPlanned, ReadsAsPlanned, file_written, file_cut};
+    ghost use Rattle.ldm_disk.specs.Calls.{FileChanges, KeepsFile, Attaches, LenGives, ReadGives};
+    ghost use Rattle.ldm_disk.specs.Calls.{WritesFile, CutsFile, SyncsFile, Rises, KeepsDisk};
+    ghost use Rattle.ldm_disk.specs.MemDisk.{SyncsAsPlanned, ChangesAsPlanned, LenAsPlanned};
+    ghost use Rattle.ldm_disk.specs.MemDisk.{ReadsAsPlanned, file_written, file_cut};
     ghost use Rattle.ldm_disk.specs.Consistent.{always_consistent};
 
     ghost tells = { told_by_disk };

@@ -1,6 +1,8 @@
 //! The file of a disk in memory, and what a crash may leave of it.
-ghost use Rattle.std.specs.Prelude.{◌≡◌, ◌<◌, ◌≤◌, ◌+◌, ◌-◌, ◌++◌, ◌∷◌, [], true, List, ℕ, Option, length, take, drop, min, OnOk, OnErr, IfSome, IfNone};
-ghost use Rattle.ldm_disk.specs.MemDisk.{first_file, file_written, file_cut, FileSynced, fits, loosened, leaves, told_by_file};
+ghost use Rattle.std.specs.Prelude.{◌≡◌, ◌<◌, ◌≤◌, ◌+◌, ◌-◌, ◌++◌, ◌∷◌, [], true, List, ℕ, Option};
+ghost use Rattle.std.specs.Prelude.{length, take, drop, min, OnOk, OnErr, IfSome, IfNone};
+ghost use Rattle.ldm_disk.specs.MemDisk.{first_file, file_written, file_cut, FileSynced};
+ghost use Rattle.ldm_disk.specs.MemDisk.{fits, loosened, leaves, told_by_file};
 ghost use Rattle.ldm_disk.specs.Model.{written_at, step_of_write, step_of_cut};
 ghost use Rattle.ldm_disk.specs.Moments.{Goes};
 ghost use Rattle.ldm_disk.specs.Calls.{SettlesFile};
@@ -49,7 +51,8 @@ impl Model for MemFile {
 
     ghost view = { λ s. file_of s.seen.items s.synced.items s.since.items s.past.items };
 
-    ghost invariant = { λ s. leaves (file_of s.seen.items s.synced.items s.since.items s.past.items).now s.seen.items ≡ true };
+    ghost invariant = { λ s. leaves (file_of s.seen.items s.synced.items s.since.items s.past.items).now s.seen.items
+        ≡ true };
 }
 
 // Notes a change that is to come. Where it is the first since a sync, it keeps the bytes as they are.

@@ -11,17 +11,22 @@ ghost use Rattle.ldm_intake.specs.Receiving.{Receiving};
 ghost use Rattle.ldm_downstream.specs.Complete.{Accepts, AcceptsReplied, Completes};
 ghost use Rattle.ldm_downstream.specs.Receives.{ReceivesAll};
 
-/// A stream that is accepted is received to its end, unless the queue can have no call more, the memory ends, or a fault came.
+/// A stream that is accepted is received to its end, unless the queue can have no call more, the memory ends, or a
+/// fault came.
 pub fn accepted_streams_are_received()
     ensures complete { (end : RecvEnd) (last : Option (List ℕ)) (s : Receiving) (ahead : List ℕ) (old new : PassView)
-        (before after : SessionRecord) → ReceivesAll end last s ahead old new before after → Completes end s ahead old new before after }
+        (before after : SessionRecord) → ReceivesAll end last s ahead old new before after
+        → Completes end s ahead old new before after }
     // A stream that is accepted whatever the queue replies is accepted with what it replied.
-    ensures whatever { (s : Receiving) (stream : List ℕ) (old new : PassView) → Accepts s stream → AcceptsReplied s stream old new }
+    ensures whatever { (s : Receiving) (stream : List ℕ) (old new : PassView) → Accepts s stream
+        → AcceptsReplied s stream old new }
 {}
 
-/// However a stream is cut into pieces, the same records come, each at the same place, and the same is in hand behind them: only the
-/// moments are those of the pieces.
+/// However a stream is cut into pieces, the same records come, each at the same place, and the same is in hand behind
+/// them: only the moments are those of the pieces.
 pub fn pieces_make_no_difference()
-    ensures records { (pieces : List Piece) → length (joined pieces) ≤ LONGEST_STREAM → untimed (arrivals beginning pieces) ≡ records_in beginning (joined pieces) }
-    ensures in_hand { (pieces : List Piece) → length (joined pieces) ≤ LONGEST_STREAM → hand beginning pieces ≡ in_hand beginning (joined pieces) }
+    ensures records { (pieces : List Piece) → length (joined pieces) ≤ LONGEST_STREAM
+        → untimed (arrivals beginning pieces) ≡ records_in beginning (joined pieces) }
+    ensures in_hand { (pieces : List Piece) → length (joined pieces) ≤ LONGEST_STREAM
+        → hand beginning pieces ≡ in_hand beginning (joined pieces) }
 {}

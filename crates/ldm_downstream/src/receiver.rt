@@ -51,15 +51,17 @@ impl<'a> Receiver<'a> {
     ghost use Rattle.ldm_downstream.specs.Received.{GoesOnAt, at_stream_end};
     ghost use Rattle.ldm_downstream.specs.Pushing.{PushesAt, Finishes, FailsAt, EndsAt, answer_of};
 
-    /// A receiver that asks for the products of a class, behind the last one that was received, if there is one. Products of more than
-    /// `max_hereis` bytes are to come in blocks.
+    /// A receiver that asks for the products of a class, behind the last one that was received, if there is one.
+    /// Products of more than `max_hereis` bytes are to come in blocks.
     pub fn request(
         alloc: Global,
         class: &'a Class,
         last: Option<Signature>,
         max_hereis: u32,
     ) -> Result<Receiver<'a>, OutOfMemory>
-        ensures { IfOk result (λ receiver. receiver ≡ before_stream (requesting class.now (option_map (λ signature. signature.0) last) max_hereis) true) }
+        ensures { IfOk result
+            (λ receiver. receiver ≡ before_stream
+            (requesting class.now (option_map (λ signature. signature.0) last) max_hereis) true) }
     {
         let intake = Intake::request(alloc, class, last, max_hereis)?;
         Ok(Receiver {
@@ -69,7 +71,8 @@ impl<'a> Receiver<'a> {
         })
     }
 
-    /// A receiver of what a host pushes, whose offer of a class was accepted: those products that the ACCEPT rules let it push.
+    /// A receiver of what a host pushes, whose offer of a class was accepted: those products that the ACCEPT rules let
+    /// it push.
     pub fn accept(
         alloc: Global,
         class: &'a Class,
@@ -88,7 +91,8 @@ impl<'a> Receiver<'a> {
 
     /// Appends the record of the request that it begins with, where it is still owed.
     pub fn begin(&mut self, out: &mut Vec<u8>) -> Result<(), OutOfMemory>
-        ensures ok { OnOk result (out.new.items ≡ out.old.items ++ cond self.old.owes (records_of (request_of self.old.receiving)) []) }
+        ensures ok { OnOk result
+            (out.new.items ≡ out.old.items ++ cond self.old.owes (records_of (request_of self.old.receiving)) []) }
         ensures once { OnOk result (self.new ≡ record self.old { owes = false }) }
         ensures err { OnErr result (out.new.items ≡ out.old.items) }
         ensures unchanged { OnErr result (self.new ≡ self.old) }
@@ -107,10 +111,11 @@ impl<'a> Receiver<'a> {
         self.stream.intake().last()
     }
 
-    /// Takes a piece of the stream that came at the moment `now`. Appends what the peer is owed to `out`, and log lines to `notes`.
+    /// Takes a piece of the stream that came at the moment `now`. Appends what the peer is owed to `out`, and log lines
+    /// to `notes`.
     ///
-    /// A reservation that is open is given up where this ends the receiving. Once it is over, each push answers the same and does
-    /// nothing.
+    /// A reservation that is open is given up where this ends the receiving. Once it is over, each push answers the
+    /// same and does nothing.
     pub fn push<H: Wait>(
         &mut self,
         shared: &Shared,
@@ -125,7 +130,8 @@ impl<'a> Receiver<'a> {
         ensures kept { IsSamePass pass.old pass.new }
         ensures answer { result ≡ answer_of self.new.end }
         ensures pushes { PushesAt self.old.end (record { now = now; bytes = piece.now }) self.old self.new
-            (moment self.old.receiving pass.old out.old notes.old) (moment self.new.receiving pass.new out.new notes.new) }
+            (moment self.old.receiving pass.old out.old notes.old)
+            (moment self.new.receiving pass.new out.new notes.new) }
     {
         if self.end.is_none() {
             self.end = self.stream.push(shared, rt, pass, piece, now, out, notes);
@@ -133,7 +139,8 @@ impl<'a> Receiver<'a> {
         self.answer()
     }
 
-    /// The end of the stream. A reservation that is open is given up. Where the receiver is over already, its end is answered.
+    /// The end of the stream. A reservation that is open is given up. Where the receiver is over already, its end is
+    /// answered.
     pub fn end<H: Wait>(self, shared: &Shared, rt: &H, pass: &mut Pass) -> RecvEnd
         requires { IsPassOf shared.now pass.old }
         ensures kept { IsSamePass pass.old pass.new }
@@ -157,7 +164,8 @@ impl<'a> Receiver<'a> {
     pub(crate) fn close<H: Wait>(&mut self, shared: &Shared, rt: &H, pass: &mut Pass) -> RecvEnd
         requires { IsPassOf shared.now pass.old }
         ensures kept { IsSamePass pass.old pass.new }
-        ensures finishes { Finishes (at_stream_end self.old.hand self.old.receiving) result self.old self.new pass.old pass.new }
+        ensures finishes { Finishes
+            (at_stream_end self.old.hand self.old.receiving) result self.old self.new pass.old pass.new }
         ensures goes_on { GoesOnAt self.old.end self.old.hand }
     {
         let end = self.stream.at_end();

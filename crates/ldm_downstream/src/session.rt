@@ -33,8 +33,8 @@ pub struct Received {
     pub last: Option<Signature>,
 }
 
-/// Asks a peer for the products of a class, behind the last one that was received, if there is one, and receives what it feeds until
-/// the end of the stream, or until something ends it.
+/// Asks a peer for the products of a class, behind the last one that was received, if there is one, and receives what
+/// it feeds until the end of the stream, or until something ends it.
 pub fn receive<H: Wait, K: Link, E: Sink, C: Clock>(
     rt: &H,
     alloc: Global,
@@ -51,12 +51,16 @@ pub fn receive<H: Wait, K: Link, E: Sink, C: Clock>(
     requires not_closed { IsNotClosed (K.tells link.old) }
     ensures kept { IsSamePass pass.old pass.new }
     ensures still_open { IsNotClosed (K.tells link.new) }
-    ensures counts { KeepsFaults (ungated_tells K.tells E.tells C.tells link.old log.old clock.old) (ungated_tells K.tells E.tells C.tells link.new log.new clock.new) }
+    ensures counts { KeepsFaults (ungated_tells K.tells E.tells C.tells link.old log.old clock.old)
+        (ungated_tells K.tells E.tells C.tells link.new log.new clock.new) }
     ensures receives { ReceivesAll result.end (option_map (λ signature. signature.0) result.last)
         (requesting class.now (option_map (λ signature. signature.0) last) max_hereis) [] pass.old pass.new
-        (ungated_tells K.tells E.tells C.tells link.old log.old clock.old) (ungated_tells K.tells E.tells C.tells link.new log.new clock.new) }
-    ensures completes { Completes result.end (requesting class.now (option_map (λ signature. signature.0) last) max_hereis) [] pass.old pass.new
-        (ungated_tells K.tells E.tells C.tells link.old log.old clock.old) (ungated_tells K.tells E.tells C.tells link.new log.new clock.new) }
+        (ungated_tells K.tells E.tells C.tells link.old log.old clock.old)
+        (ungated_tells K.tells E.tells C.tells link.new log.new clock.new) }
+    ensures completes { Completes result.end
+        (requesting class.now (option_map (λ signature. signature.0) last) max_hereis) [] pass.old pass.new
+        (ungated_tells K.tells E.tells C.tells link.old log.old clock.old)
+        (ungated_tells K.tells E.tells C.tells link.new log.new clock.new) }
 {
     match Session::request(alloc, class, last, max_hereis) {
         Ok(mut session) => {
@@ -73,11 +77,11 @@ pub fn receive<H: Wait, K: Link, E: Sink, C: Clock>(
     }
 }
 
-/// Receives what a host pushes, whose offer of a class was accepted, until the end of the stream, or until something ends it: those
-/// products that the ACCEPT rules let it push.
+/// Receives what a host pushes, whose offer of a class was accepted, until the end of the stream, or until something
+/// ends it: those products that the ACCEPT rules let it push.
 ///
-/// The link may have given bytes that nobody looked at, with the offer or behind it: these are `ahead`. They are the first piece, where
-/// there are some, and places count from the first of them.
+/// The link may have given bytes that nobody looked at, with the offer or behind it: these are `ahead`. They are the
+/// first piece, where there are some, and places count from the first of them.
 pub fn receive_pushed<H: Wait, K: Link, E: Sink, C: Clock>(
     rt: &H,
     alloc: Global,
@@ -95,11 +99,15 @@ pub fn receive_pushed<H: Wait, K: Link, E: Sink, C: Clock>(
     requires not_closed { IsNotClosed (K.tells link.old) }
     ensures kept { IsSamePass pass.old pass.new }
     ensures still_open { IsNotClosed (K.tells link.new) }
-    ensures counts { KeepsFaults (ungated_tells K.tells E.tells C.tells link.old log.old clock.old) (ungated_tells K.tells E.tells C.tells link.new log.new clock.new) }
-    ensures receives { ReceivesAll result.end (option_map (λ signature. signature.0) result.last) (accepting class.now policy.now host.now) ahead.now pass.old pass.new
-        (ungated_tells K.tells E.tells C.tells link.old log.old clock.old) (ungated_tells K.tells E.tells C.tells link.new log.new clock.new) }
+    ensures counts { KeepsFaults (ungated_tells K.tells E.tells C.tells link.old log.old clock.old)
+        (ungated_tells K.tells E.tells C.tells link.new log.new clock.new) }
+    ensures receives { ReceivesAll result.end (option_map (λ signature. signature.0) result.last)
+        (accepting class.now policy.now host.now) ahead.now pass.old pass.new
+        (ungated_tells K.tells E.tells C.tells link.old log.old clock.old)
+        (ungated_tells K.tells E.tells C.tells link.new log.new clock.new) }
     ensures completes { Completes result.end (accepting class.now policy.now host.now) ahead.now pass.old pass.new
-        (ungated_tells K.tells E.tells C.tells link.old log.old clock.old) (ungated_tells K.tells E.tells C.tells link.new log.new clock.new) }
+        (ungated_tells K.tells E.tells C.tells link.old log.old clock.old)
+        (ungated_tells K.tells E.tells C.tells link.new log.new clock.new) }
 {
     if ahead.is_empty() {
         match Session::accept(alloc, class, policy, host) {
@@ -140,9 +148,12 @@ fn receive_behind<H: Wait, K: Link, E: Sink, C: Clock>(
     requires not_closed { IsNotClosed (K.tells link.old) }
     ensures kept { IsSamePass pass.old pass.new }
     ensures still_open { IsNotClosed (K.tells link.new) }
-    ensures counts { KeepsFaults (ungated_tells K.tells E.tells C.tells link.old log.old clock.old) (ungated_tells K.tells E.tells C.tells link.new log.new clock.new) }
-    ensures receives { ReceivesAll result.end (option_map (λ signature. signature.0) result.last) (accepting class.now policy.now host.now) ahead.now pass.old pass.new
-        (ungated_tells K.tells E.tells C.tells link.old log.old clock.old) (ungated_tells K.tells E.tells C.tells link.new log.new clock.new) }
+    ensures counts { KeepsFaults (ungated_tells K.tells E.tells C.tells link.old log.old clock.old)
+        (ungated_tells K.tells E.tells C.tells link.new log.new clock.new) }
+    ensures receives { ReceivesAll result.end (option_map (λ signature. signature.0) result.last)
+        (accepting class.now policy.now host.now) ahead.now pass.old pass.new
+        (ungated_tells K.tells E.tells C.tells link.old log.old clock.old)
+        (ungated_tells K.tells E.tells C.tells link.new log.new clock.new) }
 {
     let now = clock.now();
     match Session::accept(alloc, class, policy, host) {
@@ -175,8 +186,12 @@ impl<'a> Session<'a> {
         last: Option<Signature>,
         max_hereis: u32,
     ) -> Result<Session<'a>, OutOfMemory>
-        ensures receiver { IfOk result (λ session. session.taker.receiver ≡ before_stream (requesting class.now (option_map (λ signature. signature.0) last) max_hereis) false) }
-        ensures owed { IfOk result (λ session. session.taker.out.items ≡ records_of (request_of (requesting class.now (option_map (λ signature. signature.0) last) max_hereis))) }
+        ensures receiver { IfOk result
+            (λ session. session.taker.receiver ≡ before_stream
+            (requesting class.now (option_map (λ signature. signature.0) last) max_hereis) false) }
+        ensures owed { IfOk result
+            (λ session. session.taker.out.items ≡ records_of
+            (request_of (requesting class.now (option_map (λ signature. signature.0) last) max_hereis))) }
         ensures no_notes { IfOk result (λ session. session.taker.notes.items ≡ []) }
         ensures room { IfOk result (λ session. 0 < vec_len session.piece) }
     {
@@ -193,7 +208,8 @@ impl<'a> Session<'a> {
         policy: &'a Policy,
         host: &[u8],
     ) -> Result<Session<'a>, OutOfMemory>
-        ensures receiver { IfOk result (λ session. session.taker.receiver ≡ before_stream (accepting class.now policy.now host.now) false) }
+        ensures receiver { IfOk result
+            (λ session. session.taker.receiver ≡ before_stream (accepting class.now policy.now host.now) false) }
         ensures ready { IfOk result (λ session. IsReady session.taker.out.items session.taker.notes.items) }
         ensures room { IfOk result (λ session. 0 < vec_len session.piece) }
     {
@@ -221,9 +237,12 @@ impl<'a> Session<'a> {
         requires room { 0 < vec_len self.old.piece }
         ensures kept { IsSamePass pass.old pass.new }
         ensures still_open { IsNotClosed (K.tells link.new) }
-        ensures counts { KeepsFaults (ungated_tells K.tells E.tells C.tells link.old log.old clock.old) (ungated_tells K.tells E.tells C.tells link.new log.new clock.new) }
-        ensures runs_out { RunsOut result [] self.new.taker.receiver pass.new beginning (at_first self.old.taker.receiver.receiving pass.old)
-            (ungated_tells K.tells E.tells C.tells link.old log.old clock.old) (ungated_tells K.tells E.tells C.tells link.new log.new clock.new) }
+        ensures counts { KeepsFaults (ungated_tells K.tells E.tells C.tells link.old log.old clock.old)
+            (ungated_tells K.tells E.tells C.tells link.new log.new clock.new) }
+        ensures runs_out { RunsOut result [] self.new.taker.receiver pass.new beginning
+            (at_first self.old.taker.receiver.receiving pass.old)
+            (ungated_tells K.tells E.tells C.tells link.old log.old clock.old)
+            (ungated_tells K.tells E.tells C.tells link.new log.new clock.new) }
     {
         match self.taker.ask(rt, shared, pass, link, log) {
             Some(end) => end,
@@ -250,10 +269,14 @@ impl<'a> Session<'a> {
         requires room { 0 < vec_len self.old.piece }
         ensures kept { IsSamePass pass.old pass.new }
         ensures still_open { IsNotClosed (K.tells link.new) }
-        ensures counts { KeepsFaults (ungated_tells K.tells E.tells C.tells link.old log.old clock.old) (ungated_tells K.tells E.tells C.tells link.new log.new clock.new) }
-        ensures runs_out { (ahead : List ℕ) (begins : SessionRecord) → HasCome ahead (record { now = now; bytes = first.now }) begins (ungated_tells K.tells E.tells C.tells link.old log.old clock.old)
+        ensures counts { KeepsFaults (ungated_tells K.tells E.tells C.tells link.old log.old clock.old)
+            (ungated_tells K.tells E.tells C.tells link.new log.new clock.new) }
+        ensures runs_out { (ahead : List ℕ) (begins : SessionRecord)
+            → HasCome ahead (record { now = now; bytes = first.now }) begins
+            (ungated_tells K.tells E.tells C.tells link.old log.old clock.old)
             → KeepsFaults begins (ungated_tells K.tells E.tells C.tells link.old log.old clock.old)
-            → RunsOut result ahead self.new.taker.receiver pass.new self.old.taker.receiver.hand (settled self.old.taker.receiver.receiving pass.old) begins
+            → RunsOut result ahead self.new.taker.receiver pass.new self.old.taker.receiver.hand
+            (settled self.old.taker.receiver.receiving pass.old) begins
             (ungated_tells K.tells E.tells C.tells link.new log.new clock.new) }
     {
         match self.taker.take(rt, shared, pass, link, log, first, now) {
@@ -279,11 +302,14 @@ impl<'a> Session<'a> {
         requires room { 0 < vec_len self.old.piece }
         ensures kept { IsSamePass pass.old pass.new }
         ensures still_open { IsNotClosed (K.tells link.new) }
-        ensures counts { KeepsFaults (ungated_tells K.tells E.tells C.tells link.old log.old clock.old) (ungated_tells K.tells E.tells C.tells link.new log.new clock.new) }
+        ensures counts { KeepsFaults (ungated_tells K.tells E.tells C.tells link.old log.old clock.old)
+            (ungated_tells K.tells E.tells C.tells link.new log.new clock.new) }
         ensures runs_out { (ahead : List ℕ) (p : Position) (first : Standing) (begins : SessionRecord)
-            → RunsOn ahead self.old.taker.receiver pass.old p first begins (ungated_tells K.tells E.tells C.tells link.old log.old clock.old)
+            → RunsOn ahead self.old.taker.receiver pass.old p first begins
+            (ungated_tells K.tells E.tells C.tells link.old log.old clock.old)
             → KeepsFaults begins (ungated_tells K.tells E.tells C.tells link.old log.old clock.old)
-            → RunsOut result ahead self.new.taker.receiver pass.new p first begins (ungated_tells K.tells E.tells C.tells link.new log.new clock.new) }
+            → RunsOut result ahead self.new.taker.receiver pass.new p first begins
+            (ungated_tells K.tells E.tells C.tells link.new log.new clock.new) }
     {
         for _ in rt.forever() {
             match self.turn(rt, shared, pass, link, log, clock) {
@@ -311,11 +337,14 @@ impl<'a> Session<'a> {
         requires room { 0 < vec_len self.old.piece }
         ensures kept { IsSamePass pass.old pass.new }
         ensures still_open { IsNotClosed (K.tells link.new) }
-        ensures counts { KeepsFaults (ungated_tells K.tells E.tells C.tells link.old log.old clock.old) (ungated_tells K.tells E.tells C.tells link.new log.new clock.new) }
+        ensures counts { KeepsFaults (ungated_tells K.tells E.tells C.tells link.old log.old clock.old)
+            (ungated_tells K.tells E.tells C.tells link.new log.new clock.new) }
         ensures ready { IfNone result (IsReady self.new.taker.out.items self.new.taker.notes.items) }
         ensures room { 0 < vec_len self.new.piece }
-        ensures rounds { Rounds result [] self.new.taker.receiver pass.new self.old.taker.receiver.hand (settled self.old.taker.receiver.receiving pass.old)
-            (ungated_tells K.tells E.tells C.tells link.old log.old clock.old) (ungated_tells K.tells E.tells C.tells link.new log.new clock.new) }
+        ensures rounds { Rounds result [] self.new.taker.receiver pass.new self.old.taker.receiver.hand
+            (settled self.old.taker.receiver.receiving pass.old)
+            (ungated_tells K.tells E.tells C.tells link.old log.old clock.old)
+            (ungated_tells K.tells E.tells C.tells link.new log.new clock.new) }
     {
         match link.recv(self.piece.as_mut_slice()) {
             Got::Bytes(count) => {

@@ -1,5 +1,6 @@
 //! What takes the bytes of a stream: its records, one after another.
-ghost use Rattle.std.specs.Prelude.{◌≡◌, ◌≤◌, ◌<◌, ◌+◌, ◌∷◌, [], ℕ, true, false, IfOk, IfNone, IfSome, MatchOption, OnOk, OnErr, None, Some, List, length};
+ghost use Rattle.std.specs.Prelude.{◌≡◌, ◌≤◌, ◌<◌, ◌+◌, ◌∷◌, [], ℕ, true, false, IfOk, IfNone};
+ghost use Rattle.std.specs.Prelude.{IfSome, MatchOption, OnOk, OnErr, None, Some, List, length};
 ghost use Rattle.std.specs.Option.{option_copied, option_map};
 ghost use Rattle.ldm_rpc.specs.Reading.{is_faulty};
 ghost use Rattle.ldm_rpc.specs.Streams.{Position};
@@ -76,7 +77,8 @@ impl<'a> Stream<'a> {
         }
     }
 
-    /// Takes a piece that came at the moment `now`, and gives up the reservation that is open where that ends the receiving.
+    /// Takes a piece that came at the moment `now`, and gives up the reservation that is open where that ends the
+    /// receiving.
     pub(crate) fn push<H: Wait>(
         &mut self,
         shared: &Shared,
@@ -91,7 +93,8 @@ impl<'a> Stream<'a> {
         requires sound { is_faulty self.old.hand.reading ≡ false }
         ensures kept { IsSamePass pass.old pass.new }
         ensures pushes { Pushes result (record { now = now; bytes = piece.now }) self.old.hand self.new.hand
-            (moment self.old.receiving pass.old out.old notes.old) (moment self.new.receiving pass.new out.new notes.new) }
+            (moment self.old.receiving pass.old out.old notes.old)
+            (moment self.new.receiving pass.new out.new notes.new) }
         ensures goes_on { GoesOnAt result self.new.hand }
     {
         match self.take_piece(shared, rt, pass, piece, now, out, notes) {
@@ -137,7 +140,8 @@ impl<'a> Stream<'a> {
         requires sound { is_faulty self.old.hand.reading ≡ false }
         ensures kept { IsSamePass pass.old pass.new }
         ensures passes { Passes result (record { now = now; bytes = piece.now }) self.old.hand self.new.hand
-            (moment self.old.receiving pass.old out.old notes.old) (moment self.new.receiving pass.new out.new notes.new) }
+            (moment self.old.receiving pass.old out.old notes.old)
+            (moment self.new.receiving pass.new out.new notes.new) }
     {
         let room = LONGEST_STREAM - self.came;
         let taken = room.min(piece.len() as u64) as usize;
@@ -164,7 +168,8 @@ impl<'a> Stream<'a> {
         requires room { self.old.hand.came + length bytes.now ≤ LONGEST_STREAM }
         ensures kept { IsSamePass pass.old pass.new }
         ensures runs { Runs result now bytes.now self.old.hand self.new.hand
-            (moment self.old.receiving pass.old out.old notes.old) (moment self.new.receiving pass.new out.new notes.new) }
+            (moment self.old.receiving pass.old out.old notes.old)
+            (moment self.new.receiving pass.new out.new notes.new) }
     {
         // What is kept is known here.
         let _ = &self.intake;
@@ -180,9 +185,9 @@ impl<'a> Stream<'a> {
         None
     }
 
-    // Takes the record that these bytes complete first, or all of them where they complete none, and answers how many bytes that
-    // are. A record that lies whole in the bytes is read where it lies. Where that ends the receiving, the end is written: it has
-    // room for a class, which is not to be moved for each record.
+    // Takes the record that these bytes complete first, or all of them where they complete none, and answers how many
+    // bytes that are. A record that lies whole in the bytes is read where it lies. Where that ends the receiving, the
+    // end is written: it has room for a class, which is not to be moved for each record.
     fn take_first<H: Wait>(
         &mut self,
         shared: &Shared,
@@ -200,7 +205,8 @@ impl<'a> Stream<'a> {
         requires going { end.old ≡ None }
         ensures kept { IsSamePass pass.old pass.new }
         ensures turns { Turns (turned result end.new) now bytes.now self.old.hand self.new.hand
-            (moment self.old.receiving pass.old out.old notes.old) (moment self.new.receiving pass.new out.new notes.new) }
+            (moment self.old.receiving pass.old out.old notes.old)
+            (moment self.new.receiving pass.new out.new notes.new) }
     {
         let Some(found) = self.records.whole_in(bytes) else {
             return self.take_pushed(shared, rt, pass, bytes, now, out, notes, end);
@@ -224,7 +230,8 @@ impl<'a> Stream<'a> {
         count
     }
 
-    // The same, of a record that is joined in a buffer: one of more than one fragment, or that does not lie whole in these bytes.
+    // The same, of a record that is joined in a buffer: one of more than one fragment, or that does not lie whole in
+    // these bytes.
     fn take_pushed<H: Wait>(
         &mut self,
         shared: &Shared,
@@ -242,7 +249,8 @@ impl<'a> Stream<'a> {
         requires going { end.old ≡ None }
         ensures kept { IsSamePass pass.old pass.new }
         ensures turns { Turns (turned result end.new) now bytes.now self.old.hand self.new.hand
-            (moment self.old.receiving pass.old out.old notes.old) (moment self.new.receiving pass.new out.new notes.new) }
+            (moment self.old.receiving pass.old out.old notes.old)
+            (moment self.new.receiving pass.new out.new notes.new) }
     {
         let count = match self.records.push(bytes) {
             Ok(count) => count,
@@ -294,7 +302,8 @@ fn take_content<H: Wait>(
     requires of { IsPassOf shared.now pass.old }
     requires going { end.old ≡ None }
     ensures kept { IsSamePass pass.old pass.new }
-    ensures finds { Finds end.new now at (option_copied content.entry) (moment intake.old pass.old out.old notes.old) (moment intake.new pass.new out.new notes.new) }
+    ensures finds { Finds end.new now at (option_copied content.entry) (moment intake.old pass.old out.old notes.old)
+        (moment intake.new pass.new out.new notes.new) }
 {
     let Some(content) = content else {
         return;
@@ -309,7 +318,8 @@ fn take_content<H: Wait>(
     }
 }
 
-// What has a class in place stands in functions of its own, so that nothing on the path of a feed's record has room for one.
+// What has a class in place stands in functions of its own, so that nothing on the path of a feed's record has room for
+// one.
 
 #[cold]
 #[inline(never)]

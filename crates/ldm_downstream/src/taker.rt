@@ -37,8 +37,12 @@ impl<'a> Taker<'a> {
         last: Option<Signature>,
         max_hereis: u32,
     ) -> Result<Taker<'a>, OutOfMemory>
-        ensures receiver { IfOk result (λ taker. taker.receiver ≡ before_stream (requesting class.now (option_map (λ signature. signature.0) last) max_hereis) false) }
-        ensures owed { IfOk result (λ taker. taker.out.items ≡ records_of (request_of (requesting class.now (option_map (λ signature. signature.0) last) max_hereis))) }
+        ensures receiver { IfOk result
+            (λ taker. taker.receiver ≡ before_stream
+            (requesting class.now (option_map (λ signature. signature.0) last) max_hereis) false) }
+        ensures owed { IfOk result
+            (λ taker. taker.out.items ≡ records_of
+            (request_of (requesting class.now (option_map (λ signature. signature.0) last) max_hereis))) }
         ensures no_notes { IfOk result (λ taker. taker.notes.items ≡ []) }
     {
         let mut receiver = Receiver::request(alloc, class, last, max_hereis)?;
@@ -58,7 +62,8 @@ impl<'a> Taker<'a> {
         policy: &'a Policy,
         host: &[u8],
     ) -> Result<Taker<'a>, OutOfMemory>
-        ensures receiver { IfOk result (λ taker. taker.receiver ≡ before_stream (accepting class.now policy.now host.now) false) }
+        ensures receiver { IfOk result
+            (λ taker. taker.receiver ≡ before_stream (accepting class.now policy.now host.now) false) }
         ensures ready { IfOk result (λ taker. IsReady taker.out.items taker.notes.items) }
     {
         Ok(Taker {
@@ -84,11 +89,14 @@ impl<'a> Taker<'a> {
         requires no_notes { self.old.notes.items ≡ [] }
         ensures kept { IsSamePass pass.old pass.new }
         ensures still_open { IsNotClosed (K.tells link.new) }
-        ensures faults_kept { ((K.tells link.old).faults ≤ (K.tells link.new).faults) × ((E.tells log.old).faults ≤ (E.tells log.new).faults) }
+        ensures faults_kept { ((K.tells link.old).faults ≤ (K.tells link.new).faults)
+            × ((E.tells log.old).faults ≤ (E.tells log.new).faults) }
         ensures ends_kept { (K.tells link.new).ends ≡ (K.tells link.old).ends }
         ensures ready { IfNone result (IsReady self.new.out.items self.new.notes.items) }
-        ensures rounds { (clock : ClockRecord) → Rounds result [] self.new.receiver pass.new beginning (at_first self.old.receiver.receiving pass.old)
-            (outside_of (K.tells link.old) (E.tells log.old) clock) (outside_of (K.tells link.new) (E.tells log.new) clock) }
+        ensures rounds { (clock : ClockRecord)
+            → Rounds result [] self.new.receiver pass.new beginning (at_first self.old.receiver.receiving pass.old)
+            (outside_of (K.tells link.old) (E.tells log.old) clock)
+            (outside_of (K.tells link.new) (E.tells log.new) clock) }
     {
         match self.write(link, log) {
             Some(fault) => Some(self.receiver.fail(shared, rt, pass, fault)),
@@ -113,13 +121,16 @@ impl<'a> Taker<'a> {
         requires ready { IsReady self.old.out.items self.old.notes.items }
         ensures kept { IsSamePass pass.old pass.new }
         ensures still_open { IsNotClosed (K.tells link.new) }
-        ensures faults_kept { ((K.tells link.old).faults ≤ (K.tells link.new).faults) × ((E.tells log.old).faults ≤ (E.tells log.new).faults) }
+        ensures faults_kept { ((K.tells link.old).faults ≤ (K.tells link.new).faults)
+            × ((E.tells log.old).faults ≤ (E.tells log.new).faults) }
         ensures ends_kept { (K.tells link.new).ends ≡ (K.tells link.old).ends }
         ensures live { IfNone result (self.new.receiver.end ≡ None) }
         ensures ready { IfNone result (IsReady self.new.out.items self.new.notes.items) }
         ensures takes { (ahead : List ℕ) (begins : SessionRecord) (clock : ClockRecord)
-            → HasCome ahead (record { now = now; bytes = piece.now }) begins (outside_of (K.tells link.old) (E.tells log.old) clock)
-            → Rounds result ahead self.new.receiver pass.new self.old.receiver.hand (settled self.old.receiver.receiving pass.old) begins
+            → HasCome ahead (record { now = now; bytes = piece.now }) begins
+            (outside_of (K.tells link.old) (E.tells log.old) clock)
+            → Rounds result ahead self.new.receiver pass.new self.old.receiver.hand
+            (settled self.old.receiver.receiving pass.old) begins
             (outside_of (K.tells link.new) (E.tells log.new) clock) }
     {
         self.receiver.push(shared, rt, pass, piece, now, &mut self.out, &mut self.notes);
@@ -132,10 +143,12 @@ impl<'a> Taker<'a> {
     // Sends what the peer is owed, and writes the log lines.
     fn write<K: Link, E: Sink>(&mut self, link: &mut K, log: &mut E) -> Option<RecvEnd>
         requires { IsNotClosed (K.tells link.old) }
-        ensures writes { WritesAt result self.old.out.items self.old.notes.items (K.tells link.old) (K.tells link.new) (E.tells log.old) (E.tells log.new) }
+        ensures writes { WritesAt result self.old.out.items self.old.notes.items (K.tells link.old) (K.tells link.new)
+            (E.tells log.old) (E.tells log.new) }
         ensures empty { IfNone result ((self.new.out.items ≡ []) × (self.new.notes.items ≡ [])) }
         ensures same { self.new.receiver ≡ self.old.receiver }
-        ensures faults_kept { ((K.tells link.old).faults ≤ (K.tells link.new).faults) × ((E.tells log.old).faults ≤ (E.tells log.new).faults) }
+        ensures faults_kept { ((K.tells link.old).faults ≤ (K.tells link.new).faults)
+            × ((E.tells log.old).faults ≤ (E.tells log.new).faults) }
         ensures ends_kept { (K.tells link.new).ends ≡ (K.tells link.old).ends }
         ensures still_open { IsNotClosed (K.tells link.new) }
     {

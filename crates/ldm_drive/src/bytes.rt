@@ -2,8 +2,8 @@
 
 use std::alloc::Global;
 
-/// The bytes of a word in hexadecimal digits, where it spells some and there is memory for them. `-` is no bytes. A word may be
-/// parts with `_` between them, and a part may say how often its bytes stand there: `80_16x00` is 17 bytes.
+/// The bytes of a word in hexadecimal digits, where it spells some and there is memory for them. `-` is no bytes. A
+/// word may be parts with `_` between them, and a part may say how often its bytes stand there: `80_16x00` is 17 bytes.
 pub fn bytes_in(alloc: Global, word: &str) -> Option<Vec<u8>> {
     let mut bytes = Vec::new(alloc);
     if word == "-" {
@@ -29,8 +29,8 @@ fn add_times(bytes: &mut Vec<u8>, times: u32, unit: &[u8]) -> Option<()> {
     Some(())
 }
 
-/// The bytes of text in which `\n`, `\r`, `\t`, `\0` and `\\` stand for one byte each, and `\xHH` for the byte of these two
-/// hexadecimal digits, where it spells some and there is memory for them.
+/// The bytes of text in which `\n`, `\r`, `\t`, `\0` and `\\` stand for one byte each, and `\xHH` for the byte of these
+/// two hexadecimal digits, where it spells some and there is memory for them.
 pub fn text_in(alloc: Global, text: &str) -> Option<Vec<u8>> {
     let mut bytes = Vec::new(alloc);
     let mut rest = text;

@@ -4,8 +4,8 @@ use crate::trial::Trial;
 use std::io;
 use std::io::{BufRead, BufReader};
 
-/// Reads cases from standard input, has `answer` tell the answer of each, and prints it. A case that is refused, or of which words
-/// are left, is answered by `bad case` and the reason.
+/// Reads cases from standard input, has `answer` tell the answer of each, and prints it. A case that is refused, or of
+/// which words are left, is answered by `bad case` and the reason.
 pub fn drive<R: Input + Print + AllocGlobal, F: FnMut(&mut Trial)>(
     rt: &R,
     mut answer: F,

@@ -4,8 +4,9 @@ use crate::bytes::{bytes_in, text_in};
 use std::alloc::Global;
 use std::fmt::{Debug, Display};
 
-/// A line of standard input, of which some words were taken, and its answer as far as it is told. A word that does not read
-/// refuses the case, and is the least value of its type: the answer is then `bad case` and the first reason, whatever is told.
+/// A line of standard input, of which some words were taken, and its answer as far as it is told. A word that does not
+/// read refuses the case, and is the least value of its type: the answer is then `bad case` and the first reason,
+/// whatever is told.
 #[derive(Drop)]
 pub struct Trial<'a> {
     alloc: Global,
@@ -141,8 +142,8 @@ impl<'a> Trial<'a> {
         self.text_in(if word == "-" { "" } else { word })
     }
 
-    /// The bytes of a word in hexadecimal digits. `-` is no bytes. A word may be parts with `_` between them, and a part may
-    /// say how often its bytes stand there: `80_16x00` is 17 bytes.
+    /// The bytes of a word in hexadecimal digits. `-` is no bytes. A word may be parts with `_` between them, and a
+    /// part may say how often its bytes stand there: `80_16x00` is 17 bytes.
     pub fn bytes_in(&mut self, word: &str) -> Vec<u8> {
         match bytes_in(self.alloc, word) {
             Some(bytes) => bytes,
@@ -153,8 +154,8 @@ impl<'a> Trial<'a> {
         }
     }
 
-    /// The bytes of text in which `\n`, `\r`, `\t`, `\0` and `\\` stand for one byte each, and `\xHH` for the byte of these
-    /// two hexadecimal digits.
+    /// The bytes of text in which `\n`, `\r`, `\t`, `\0` and `\\` stand for one byte each, and `\xHH` for the byte of
+    /// these two hexadecimal digits.
     pub fn text_in(&mut self, text: &str) -> Vec<u8> {
         match text_in(self.alloc, text) {
             Some(bytes) => bytes,
@@ -202,7 +203,8 @@ impl<'a> Trial<'a> {
         }
     }
 
-    /// Adds bytes as Rust writes a text, with quotes and escapes. Bytes that are no text are `x` and their hexadecimal digits.
+    /// Adds bytes as Rust writes a text, with quotes and escapes. Bytes that are no text are `x` and their hexadecimal
+    /// digits.
     pub fn tell_shown(&mut self, bytes: &[u8]) {
         match str::from_utf8(bytes) {
             Ok(text) => self.tell_debug(&text),

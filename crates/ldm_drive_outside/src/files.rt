@@ -59,7 +59,8 @@ fn rewrite_one<F: Store>(store: &mut F, path: &str) -> u64 {
     end(store, file)
 }
 
-/// Opens a file, writes `ab`, empties it, writes `cd`, flushes and shuts it: `at` is the number of the call that failed, or 0.
+/// Opens a file, writes `ab`, empties it, writes `cd`, flushes and shuts it: `at` is the number of the call that
+/// failed, or 0.
 pub fn rewrite<F: Store>(trial: &mut Trial, store: &mut F, path: &str) {
     tell_count(trial, "at", rewrite_one(store, path));
 }

@@ -1,5 +1,5 @@
-//! What the drivers of the outside share: the words of a case and of its answer, and the calls of the traits that are made of the
-//! forms in memory and of those of the system alike.
+//! What the drivers of the outside share: the words of a case and of its answer, and the calls of the traits that are
+//! made of the forms in memory and of those of the system alike.
 #![tactic(auto)]
 
 mod files;

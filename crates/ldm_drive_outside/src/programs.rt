@@ -51,7 +51,8 @@ pub fn shut<L: Launcher>(launcher: &mut L, child: ChildNo) -> Result<(), Failed>
 /// Lets a child run on alone. Every other child stays as it was.
 pub fn detach<L: Launcher>(launcher: &mut L, child: ChildNo)
     requires { IsNotWaitedFor child (L.tells launcher.old) }
-    ensures { (other : ChildNo) → other.0 ≢ child.0 → IsTaking other (L.tells launcher.old) → IsTaking other (L.tells launcher.new) }
+    ensures { (other : ChildNo) → other.0 ≢ child.0 → IsTaking other (L.tells launcher.old)
+        → IsTaking other (L.tells launcher.new) }
 {
     launcher.detach(child);
 }

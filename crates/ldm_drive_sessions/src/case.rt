@@ -18,7 +18,8 @@ pub struct Case {
     pub later: Vec<Item>,
     /// `cursors=`: how many cursors are open besides.
     pub cursors: u64,
-    /// `reserved=`: how many reservations are open besides. `held=`: 1 where the first product is held by a cursor besides.
+    /// `reserved=`: how many reservations are open besides. `held=`: 1 where the first product is held by a cursor
+    /// besides.
     pub reserved: u64,
     pub held: u64,
     /// `host=`: the peer. `conf=`: the text of an ldmd.conf with the rules of access.
@@ -34,8 +35,8 @@ pub struct Case {
     pub count: u64,
     /// `streams=`: streams that are changed, or the contents of records, with `,` between two.
     pub streams: Vec<Vec<u8>>,
-    /// `given=`: what the link gives; `pieces=`: the lengths of its pieces; `open=`: 1 where it does not end behind them, and
-    /// fails there; `sends=`: the most bytes that it takes at once.
+    /// `given=`: what the link gives; `pieces=`: the lengths of its pieces; `open=`: 1 where it does not end behind
+    /// them, and fails there; `sends=`: the most bytes that it takes at once.
     pub given: Vec<u8>,
     pub pieces: Vec<u64>,
     pub is_open: bool,
@@ -52,8 +53,9 @@ pub struct Case {
 const LATEST: u64 = 4_294_967_295_999_999;
 
 impl Case {
-    /// A queue of 65,536 bytes and 100 slots with nothing in it, host `h`, everything allowed, all feedtypes and instants, products
-    /// of up to 16,384 bytes whole, a link that gives nothing and ends, a gate that stops at once, a clock that answers 0.
+    /// A queue of 65,536 bytes and 100 slots with nothing in it, host `h`, everything allowed, all feedtypes and
+    /// instants, products of up to 16,384 bytes whole, a link that gives nothing and ends, a gate that stops at once, a
+    /// clock that answers 0.
     pub fn new(trial: &mut Trial) -> Case {
         let alloc = trial.alloc();
         let mut case = Case {

@@ -7,7 +7,8 @@ use ldm_shared::{Pass, Shared};
 use ldm_types::Actor;
 use std::sync::Wait;
 
-/// A gate whose idle calls of the given numbers, from 1, are answered Stop. At the first of them another pass inserts products.
+/// A gate whose idle calls of the given numbers, from 1, are answered Stop. At the first of them another pass inserts
+/// products.
 #[derive(Drop)]
 pub struct BusyGate<'a, H: Wait> {
     rt: &'a H,

@@ -17,9 +17,9 @@ pub struct Item {
     pub body: Vec<u8>,
 }
 
-/// The products of a word, with `;` between two, each `TIME/BYTE/FEED/IDENT/BODY`: the time of its insertion, which is its
-/// arrival too; the byte that its signature repeats, as a number; feedtypes; ident, which is text; and body. Its origin is `h`, and its
-/// sequence number 1.
+/// The products of a word, with `;` between two, each `TIME/BYTE/FEED/IDENT/BODY`: the time of its insertion, which is
+/// its arrival too; the byte that its signature repeats, as a number; feedtypes; ident, which is text; and body. Its
+/// origin is `h`, and its sequence number 1.
 pub fn items_in(trial: &mut Trial, word: &str) -> Vec<Item> {
     let mut items = Vec::new(trial.alloc());
     for part in word.split(';') {

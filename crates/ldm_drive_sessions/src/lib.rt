@@ -1,5 +1,5 @@
-//! What the drivers of sessions share: the words of a case, the queue, the rules and the outside that a case says, and what a session
-//! left as words of an answer.
+//! What the drivers of sessions share: the words of a case, the queue, the rules and the outside that a case says, and
+//! what a session left as words of an answer.
 #![tactic(auto)]
 
 mod case;

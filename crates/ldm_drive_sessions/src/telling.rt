@@ -22,7 +22,8 @@ enum Last {
     Run,
 }
 
-/// Adds bytes in the form in which a case has them: hexadecimal digits, where many equal bytes stand as `COUNTxDIGITS`; `-` for none.
+/// Adds bytes in the form in which a case has them: hexadecimal digits, where many equal bytes stand as `COUNTxDIGITS`;
+/// `-` for none.
 pub fn tell_bytes(trial: &mut Trial, bytes: &[u8]) {
     let mut last = Last::Nothing;
     let mut run: Option<Run> = None;

@@ -10,8 +10,8 @@ use std::alloc::Global;
 use std::sync::Wait;
 use std::thread::Threads;
 
-/// Plays a script of four actors, and answers whether all its lines were played. `None` where a line is outside the grammar or
-/// there is no memory.
+/// Plays a script of four actors, and answers whether all its lines were played. `None` where a line is outside the
+/// grammar or there is no memory.
 pub fn plays_all<H: Threads + Wait + Sync>(rt: &H, alloc: Global, text: &[u8]) -> Option<bool>
     requires { length text.now ≤ MOST_SCRIPT }
 {

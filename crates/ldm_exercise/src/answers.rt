@@ -31,7 +31,8 @@ impl Answers {
         requires room { self.old.tally.replies + 1 < 2 ^ 32 }
         requires fits { FitsAnswer answer.now }
         ensures counted { self.new.tally.replies ≡ self.old.tally.replies + 1 }
-        ensures kept { (replies : List Reply) → Keeps self.old replies → Keeps self.new (replies ++ reply_of answer.now ∷ []) }
+        ensures kept { (replies : List Reply) → Keeps self.old replies
+            → Keeps self.new (replies ++ reply_of answer.now ∷ []) }
     {
         write_answer(answer, line);
         self.digest.update(line.as_slice());

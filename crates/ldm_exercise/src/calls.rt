@@ -12,8 +12,8 @@ use ldm_model::Start;
 use ldm_script::{Answer, Body, Call};
 use ldm_types::{CursorNo, Feed};
 
-/// Makes the call of an order, and answers what the queue does. A body that is inserted is made in `body_room`, and the bytes
-/// that are read stand in `read_room`.
+/// Makes the call of an order, and answers what the queue does. A body that is inserted is made in `body_room`, and the
+/// bytes that are read stand in `read_room`.
 pub fn call<'a>(
     order: &Order,
     book: &mut Book,
@@ -23,7 +23,9 @@ pub fn call<'a>(
     requires short { IsShort order.now.request }
     requires body_room { BODY_LIMIT ≤ length body_room.old }
     requires read_room { READ_SIZE ≤ length read_room.old }
-    ensures made { IfOk result (λ answer. BookAnswers order.now.actor book.old (event_of order.now.actor order.now.request) (reply_of answer) book.new) }
+    ensures made { IfOk result
+        (λ answer. BookAnswers order.now.actor book.old (event_of order.now.actor order.now.request)
+        (reply_of answer) book.new) }
     ensures fits { IfOk result FitsAnswer }
     ensures unmade { OnErr result ⊥ }
 {

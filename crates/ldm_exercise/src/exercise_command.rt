@@ -59,14 +59,14 @@ fn run_exercise<K: Sink>(
     }
 }
 
-/// Draws a script of so many orders from a number, plays it on a new queue with an arena of 1,048,576 bytes and 1,024 slots, and
-/// writes a summary of three lines: the words, how many answers there are of each kind, and the MD5 of all answer lines.
-/// Answers the number that the program ends with, and writes its line to the log.
+/// Draws a script of so many orders from a number, plays it on a new queue with an arena of 1,048,576 bytes and 1,024
+/// slots, and writes a summary of three lines: the words, how many answers there are of each kind, and the MD5 of all
+/// answer lines. Answers the number that the program ends with, and writes its line to the log.
 ///
-/// Nothing is read. All memory is taken before the first call of the queue, and nothing is written before the last one. The
-/// clause `ends` gives each status its cause, and what was written then: see `Exercises`. The clause `law` says that the answers
-/// are those of a history that obeys the law of the queue: see `SumsUpLawful`. The clause `completes` says when the summary is
-/// written.
+/// Nothing is read. All memory is taken before the first call of the queue, and nothing is written before the last one.
+/// The clause `ends` gives each status its cause, and what was written then: see `Exercises`. The clause `law` says
+/// that the answers are those of a history that obeys the law of the queue: see `SumsUpLawful`. The clause `completes`
+/// says when the summary is written.
 pub fn exercise<S, K: Sink, E: Sink>(
     alloc: Global,
     number: u64,
@@ -74,10 +74,18 @@ pub fn exercise<S, K: Sink, E: Sink>(
     streams: &mut Streams<S, K, E>,
 ) -> u8
     requires { count ≤ MOST_DRAWN }
-    ensures ends { (source : S → SourceRecord) → Exercises number count result (streams_tells source K.tells E.tells streams.old) (streams_tells source K.tells E.tells streams.new) }
-    ensures law { (source : S → SourceRecord) → ObeysExerciseLaw number count (streams_tells source K.tells E.tells streams.old) (streams_tells source K.tells E.tells streams.new) }
-    ensures completes { (source : S → SourceRecord) → ExerciseCompletes result (streams_tells source K.tells E.tells streams.old) (streams_tells source K.tells E.tells streams.new) }
-    ensures faults_kept { (source : S → SourceRecord) → KeepsFaults (streams_tells source K.tells E.tells streams.old) (streams_tells source K.tells E.tells streams.new) }
+    ensures ends { (source : S → SourceRecord)
+        → Exercises number count result (streams_tells source K.tells E.tells streams.old)
+        (streams_tells source K.tells E.tells streams.new) }
+    ensures law { (source : S → SourceRecord)
+        → ObeysExerciseLaw number count (streams_tells source K.tells E.tells streams.old)
+        (streams_tells source K.tells E.tells streams.new) }
+    ensures completes { (source : S → SourceRecord)
+        → ExerciseCompletes result (streams_tells source K.tells E.tells streams.old)
+        (streams_tells source K.tells E.tells streams.new) }
+    ensures faults_kept { (source : S → SourceRecord)
+        → KeepsFaults (streams_tells source K.tells E.tells streams.old)
+        (streams_tells source K.tells E.tells streams.new) }
 {
     histories_are_lawful();
     let ending = run_exercise(alloc, number, count, &mut streams.sink);

@@ -1,7 +1,7 @@
 //! The command `exercise`: a script that the command makes itself, played on a queue, and summed up in three lines.
 //!
-//! [`exercise`] draws the orders of the script from a number, plays them on a new queue, and writes how many answers there
-//! are of each kind, and a digest of all. Its contract says how that ends.
+//! [`exercise`] draws the orders of the script from a number, plays them on a new queue, and writes how many answers
+//! there are of each kind, and a digest of all. Its contract says how that ends.
 #![tactic(auto)]
 
 mod answers;

@@ -73,7 +73,8 @@ pub fn draw_order(i: u32, draws: &mut Draws) -> Order
 // Draws the product that order `i` inserts.
 fn draw_insertion(i: u32, draws: &mut Draws) -> Request
     requires { i < MOST_DRAWN }
-    ensures request { (actor : ℕ) → asked_of actor result ≡ inserting i (drawn draws.old.state) (drawn (after_draw draws.old.state)) }
+    ensures request { (actor : ℕ)
+        → asked_of actor result ≡ inserting i (drawn draws.old.state) (drawn (after_draw draws.old.state)) }
     ensures state { draws.new.state ≡ after_draw (after_draw draws.old.state) }
     ensures short { IsShort result }
 {

@@ -76,7 +76,8 @@ impl Player {
         requires short { IsShort order.now.request }
         requires room { self.old.answers.tally.replies + 1 < 2 ^ 32 }
         ensures counted { self.new.answers.tally.replies ≡ self.old.answers.tally.replies + 1 }
-        ensures played { (e : Exercised) → HasPlayed self.old e → HasPlayed self.new (and_played e (order_of order.now)) }
+        ensures played { (e : Exercised) → HasPlayed self.old e
+            → HasPlayed self.new (and_played e (order_of order.now)) }
     {
         let mut read = [0u8; READ_SIZE];
         // a book answers every call

@@ -33,7 +33,8 @@ fn play_openings(player: &mut Player)
 fn play_drawn(player: &mut Player, number: u64, count: u32)
     requires few { count ≤ MOST_DRAWN }
     requires counted { player.old.answers.tally.replies ≡ ACTORS }
-    ensures played { (e : Exercised) → HasPlayed player.old e → HasPlayed player.new (played_on e (orders_drawn number count).orders) }
+    ensures played { (e : Exercised) → HasPlayed player.old e
+        → HasPlayed player.new (played_on e (orders_drawn number count).orders) }
 {
     let mut draws = Draws { state: number };
     for i in 0..count {
@@ -42,8 +43,8 @@ fn play_drawn(player: &mut Player, number: u64, count: u32)
     }
 }
 
-/// Plays the script of `exercise NUMBER COUNT` on a new queue, and answers what is kept of the answers. All memory is taken
-/// before the first call of the queue.
+/// Plays the script of `exercise NUMBER COUNT` on a new queue, and answers what is kept of the answers. All memory is
+/// taken before the first call of the queue.
 pub fn play_script(alloc: Global, number: u64, count: u32) -> Result<Answers, OutOfMemory>
     requires { count ≤ MOST_DRAWN }
     ensures kept { IfOk result (λ answers. Keeps answers (exercised number count).replies) }

@@ -53,7 +53,8 @@ fn put_first_line(out: &mut Summary, number: u64, count: u32)
 // Appends the digest of the answer lines.
 fn put_digest(out: &mut Summary, digest: Md5)
     requires room { array_vec_len out.old ≤ FIRST_ROOM + COUNTS_ROOM }
-    ensures text { (replies : List Reply) → Holds digest (answer_text replies) → out.new.items ≡ out.old.items ++ digest_line replies }
+    ensures text { (replies : List Reply) → Holds digest (answer_text replies)
+        → out.new.items ≡ out.old.items ++ digest_line replies }
 {
     put(out, b"answers ");
     let digits = write_hex(&Signature(digest.finalize()));

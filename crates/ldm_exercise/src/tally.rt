@@ -12,8 +12,8 @@ use itoa::Buffer;
 use ldm_script::{Answer, put};
 use std::marker::Model;
 
-/// How many answers there are of each kind that is told, the sum of the evictions of the admitted, and that of the counts of
-/// the gaps.
+/// How many answers there are of each kind that is told, the sum of the evictions of the admitted, and that of the
+/// counts of the gaps.
 #[derive(Debug, Drop)]
 pub struct Tally {
     replies: u32,

@@ -32,8 +32,10 @@ pub use text::feed_text;
 /// number, `~` and a term, or an expression in parentheses, of which [`MOST_OPEN`] may be open at once. A number is
 /// decimal digits, or `0x` and hexadecimal digits; zeros may lead either. Spaces and tabs may stand between the parts.
 pub fn read_feed(text: &[u8]) -> Result<Feed, FeedFault>
-    ensures set { MatchResult result (λ feed. feed_set text.now ≡ Ok (set_of feed.0)) (λ fault. feed_set text.now ≡ Err fault) }
-    ensures number { MatchResult result (λ feed. feed_number text.now ≡ Some feed.0) (λ _. feed_number text.now ≡ None) }
+    ensures set { MatchResult result (λ feed. feed_set text.now ≡ Ok (set_of feed.0))
+        (λ fault. feed_set text.now ≡ Err fault) }
+    ensures number { MatchResult result (λ feed. feed_number text.now ≡ Some feed.0)
+        (λ _. feed_number text.now ≡ None) }
     ensures members { IfOk result (λ feed. HasMembers feed.0 (feed_set text.now)) }
     ensures expression { MatchResult result (λ feed. Spells Expression MOST_OPEN (parts 0 text.now) (set_of feed.0))
         (λ _. (set : FeedSet) → Spells Expression MOST_OPEN (parts 0 text.now) set → ⊥) }
@@ -43,7 +45,8 @@ pub fn read_feed(text: &[u8]) -> Result<Feed, FeedFault>
 }
 
 fn read(text: &[u8]) -> Result<Feed, FeedFault>
-    ensures { MatchResult result (λ feed. feed_set text.now ≡ Ok (set_of feed.0)) (λ fault. feed_set text.now ≡ Err fault) }
+    ensures { MatchResult result (λ feed. feed_set text.now ≡ Ok (set_of feed.0))
+        (λ fault. feed_set text.now ≡ Err fault) }
 {
     let mut reader = Reader::new();
     let mut at = 0;
@@ -74,11 +77,13 @@ fn take_part(reader: &mut Reader, text: &[u8], at: usize) -> Result<usize, FeedF
 
 /// A text is read exactly where the grammar's rules make an expression of its parts, and as the set that they give it.
 pub fn reads_the_grammar()
-    ensures { (text : List ℕ) (set : FeedSet) → (feed_set text ≡ Ok set) ↔ Spells Expression MOST_OPEN (parts 0 text) set }
+    ensures { (text : List ℕ) (set : FeedSet)
+        → (feed_set text ≡ Ok set) ↔ Spells Expression MOST_OPEN (parts 0 text) set }
 {}
 
 /// A fault stands at the first part that cannot continue an expression, by the grammar's rules, or at the end of a
 /// text that ends too early.
 pub fn finds_the_first_fault()
-    ensures { (text : List ℕ) (fault : FeedFault) → feed_set text ≡ Err fault → IsFirstFault (length text) (parts 0 text) fault }
+    ensures { (text : List ℕ) (fault : FeedFault) → feed_set text ≡ Err fault
+        → IsFirstFault (length text) (parts 0 text) fault }
 {}

@@ -2,7 +2,8 @@
 //! comparing them takes.
 ghost use Rattle.std.specs.Prelude.{◌≡◌, ◌≢◌, ◌+◌, ◌<◌, ◌≤◌, ◌^◌, IfOk, length, slice_set};
 ghost use Rattle.ldm_freelist.specs.Pairs.{pair_cmp};
-ghost use Rattle.ldm_freelist.specs.Nodes.{node_at, pair_at, height_at, CanJoin, joined, leaf_node, free_node, free_nodes, before};
+ghost use Rattle.ldm_freelist.specs.Nodes.{node_at, pair_at, height_at, CanJoin, joined};
+ghost use Rattle.ldm_freelist.specs.Nodes.{leaf_node, free_node, free_nodes, before};
 
 use ldm_types::OutOfMemory;
 use std::alloc::Global;

@@ -25,12 +25,12 @@ use ldm_types::OutOfMemory;
 use std::alloc::Global;
 use std::sync::Wait;
 
-/// Asks a peer for the products of a class, and receives what it feeds. After each piece that came it sends what the peer is owed, writes
-/// the log lines of the receiving, and has the handler handle what is queued by then.
+/// Asks a peer for the products of a class, and receives what it feeds. After each piece that came it sends what the
+/// peer is owed, writes the log lines of the receiving, and has the handler handle what is queued by then.
 ///
-/// A piece that ends the receiving is handled too, and then that is the end. Where the handler has enough or was stopped, or the link or
-/// the log failed, it ends at once: a reservation that is open stays so. Pieces have at most [`LONGEST_PIECE`] bytes, and the clock is
-/// asked once for each.
+/// A piece that ends the receiving is handled too, and then that is the end. Where the handler has enough or was
+/// stopped, or the link or the log failed, it ends at once: a reservation that is open stays so. Pieces have at most
+/// [`LONGEST_PIECE`] bytes, and the clock is asked once for each.
 pub fn gather<H: Wait, K: Link, E: Sink, C: Clock, A, B, W: Handler<A, B>>(
     rt: &H,
     alloc: Global,
@@ -52,17 +52,25 @@ pub fn gather<H: Wait, K: Link, E: Sink, C: Clock, A, B, W: Handler<A, B>>(
     ensures kept { IsSamePass pass.old pass.new }
     ensures still_open { IsNotClosed (K.tells link.new) }
     ensures counts { KeepsCounts
-        (lent_of (scene_of handler.old first.old second.old pass.old (E.tells log.old)) (K.tells link.old) (C.tells clock.old))
-        (lent_of (scene_of handler.new first.new second.new pass.new (E.tells log.new)) (K.tells link.new) (C.tells clock.new)) }
+        (lent_of (scene_of handler.old first.old second.old pass.old (E.tells log.old)) (K.tells link.old)
+        (C.tells clock.old))
+        (lent_of (scene_of handler.new first.new second.new pass.new (E.tells log.new)) (K.tells link.new)
+        (C.tells clock.new)) }
     ensures gathers { GathersAll W.handles result (requesting class.now None max_hereis)
-        (lent_of (scene_of handler.old first.old second.old pass.old (E.tells log.old)) (K.tells link.old) (C.tells clock.old))
-        (lent_of (scene_of handler.new first.new second.new pass.new (E.tells log.new)) (K.tells link.new) (C.tells clock.new)) }
+        (lent_of (scene_of handler.old first.old second.old pass.old (E.tells log.old)) (K.tells link.old)
+        (C.tells clock.old))
+        (lent_of (scene_of handler.new first.new second.new pass.new (E.tells log.new)) (K.tells link.new)
+        (C.tells clock.new)) }
     ensures cause { HasCause result
-        (lent_of (scene_of handler.old first.old second.old pass.old (E.tells log.old)) (K.tells link.old) (C.tells clock.old))
-        (lent_of (scene_of handler.new first.new second.new pass.new (E.tells log.new)) (K.tells link.new) (C.tells clock.new)) }
+        (lent_of (scene_of handler.old first.old second.old pass.old (E.tells log.old)) (K.tells link.old)
+        (C.tells clock.old))
+        (lent_of (scene_of handler.new first.new second.new pass.new (E.tells log.new)) (K.tells link.new)
+        (C.tells clock.new)) }
     ensures completes { Completes result (requesting class.now None max_hereis)
-        (lent_of (scene_of handler.old first.old second.old pass.old (E.tells log.old)) (K.tells link.old) (C.tells clock.old))
-        (lent_of (scene_of handler.new first.new second.new pass.new (E.tells log.new)) (K.tells link.new) (C.tells clock.new)) }
+        (lent_of (scene_of handler.old first.old second.old pass.old (E.tells log.old)) (K.tells link.old)
+        (C.tells clock.old))
+        (lent_of (scene_of handler.new first.new second.new pass.new (E.tells log.new)) (K.tells link.new)
+        (C.tells clock.new)) }
 {
     let (mut receiver, mut buffers) = match begin(alloc, class, max_hereis) {
         Ok(begun) => (begun.receiver, begun.buffers),
@@ -99,8 +107,10 @@ struct Begun<'a> {
 }
 
 fn begin<'a>(alloc: Global, class: &'a Class, max_hereis: u32) -> Result<Begun<'a>, OutOfMemory>
-    ensures receiver { IfOk result (λ begun. begun.receiver ≡ before_stream (requesting class.now None max_hereis) false) }
-    ensures owed { IfOk result (λ begun. begun.buffers.out.items ≡ records_of (request_of (requesting class.now None max_hereis))) }
+    ensures receiver { IfOk result
+        (λ begun. begun.receiver ≡ before_stream (requesting class.now None max_hereis) false) }
+    ensures owed { IfOk result
+        (λ begun. begun.buffers.out.items ≡ records_of (request_of (requesting class.now None max_hereis))) }
     ensures no_notes { IfOk result (λ begun. begun.buffers.notes.items ≡ []) }
     ensures room { IfOk result (λ begun. 0 < vec_len begun.buffers.piece) }
 {
@@ -141,12 +151,18 @@ fn run<H: Wait, K: Link, E: Sink, C: Clock, A, B, W: Handler<A, B>>(
     ensures kept { IsSamePass pass.old pass.new }
     ensures still_open { IsNotClosed (K.tells link.new) }
     ensures counts { KeepsCounts
-        (lent_of (scene_of handler.old first.old second.old pass.old (E.tells log.old)) (K.tells link.old) (C.tells clock.old))
-        (lent_of (scene_of handler.new first.new second.new pass.new (E.tells log.new)) (K.tells link.new) (C.tells clock.new)) }
+        (lent_of (scene_of handler.old first.old second.old pass.old (E.tells log.old)) (K.tells link.old)
+        (C.tells clock.old))
+        (lent_of (scene_of handler.new first.new second.new pass.new (E.tells log.new)) (K.tells link.new)
+        (C.tells clock.new)) }
     ensures live { IfNone result (receiver.new.end ≡ None) }
     ensures runs { Runs W.handles result
-        (moment_of receiver.old (lent_of (scene_of handler.old first.old second.old pass.old (E.tells log.old)) (K.tells link.old) (C.tells clock.old)))
-        (moment_of receiver.new (lent_of (scene_of handler.new first.new second.new pass.new (E.tells log.new)) (K.tells link.new) (C.tells clock.new))) }
+        (moment_of receiver.old
+        (lent_of (scene_of handler.old first.old second.old pass.old (E.tells log.old)) (K.tells link.old)
+        (C.tells clock.old)))
+        (moment_of receiver.new
+        (lent_of (scene_of handler.new first.new second.new pass.new (E.tells log.new)) (K.tells link.new)
+        (C.tells clock.new))) }
 {
     for _ in rt.forever() {
         match turn(

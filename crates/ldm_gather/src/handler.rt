@@ -10,7 +10,8 @@ use std::sync::Wait;
 
 /// What handles the products that are queued: it reads the queue by a cursor, which holds nothing between two calls.
 ///
-/// It is lent two things of the caller's, `first` and `second`, such as what it writes to. One who needs fewer takes `()`.
+/// It is lent two things of the caller's, `first` and `second`, such as what it writes to. One who needs fewer takes
+/// `()`.
 pub trait Handler<A, B> {
     ghost use Rattle.ldm_gather.specs.declared.end.Handled.{Handled};
     ghost use Rattle.ldm_gather.specs.Scene.{Scene, IfOn, scene_of};

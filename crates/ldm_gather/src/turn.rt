@@ -60,15 +60,21 @@ pub(crate) fn turn<H: Wait, K: Link, E: Sink, C: Clock, A, B, W: Handler<A, B>>(
     ensures kept { IsSamePass pass.old pass.new }
     ensures still_open { IsNotClosed (K.tells link.new) }
     ensures counts { KeepsCounts
-        (lent_of (scene_of handler.old first.old second.old pass.old (E.tells log.old)) (K.tells link.old) (C.tells clock.old))
-        (lent_of (scene_of handler.new first.new second.new pass.new (E.tells log.new)) (K.tells link.new) (C.tells clock.new)) }
+        (lent_of (scene_of handler.old first.old second.old pass.old (E.tells log.old)) (K.tells link.old)
+        (C.tells clock.old))
+        (lent_of (scene_of handler.new first.new second.new pass.new (E.tells log.new)) (K.tells link.new)
+        (C.tells clock.new)) }
     ensures ready { IfGoesOn result (IsReady buffers.new.out.items buffers.new.notes.items) }
     ensures room { 0 < vec_len buffers.new.piece }
     ensures still_has_cursor { IfGoesOn result (HasCursor pass.new (W.cursor handler.new) None) }
     ensures may_again { IfGoesOn result (W.begins handler.new first.new second.new) }
     ensures turns { Turns W.handles result
-        (moment_of receiver.old (lent_of (scene_of handler.old first.old second.old pass.old (E.tells log.old)) (K.tells link.old) (C.tells clock.old)))
-        (moment_of receiver.new (lent_of (scene_of handler.new first.new second.new pass.new (E.tells log.new)) (K.tells link.new) (C.tells clock.new))) }
+        (moment_of receiver.old
+        (lent_of (scene_of handler.old first.old second.old pass.old (E.tells log.old)) (K.tells link.old)
+        (C.tells clock.old)))
+        (moment_of receiver.new
+        (lent_of (scene_of handler.new first.new second.new pass.new (E.tells log.new)) (K.tells link.new)
+        (C.tells clock.new))) }
 {
     let count = match link.recv(buffers.piece.as_mut_slice()) {
         Got::Bytes(count) => count,
@@ -100,7 +106,8 @@ fn tell<K: Link, E: Sink>(
     notes: &mut Vec<u8>,
 ) -> Option<RecvEnd>
     requires { IsNotClosed (K.tells link.old) }
-    ensures tells { TellsBy result out.old.items notes.old.items (K.tells link.old) (K.tells link.new) (E.tells log.old) (E.tells log.new) }
+    ensures tells { TellsBy result out.old.items notes.old.items (K.tells link.old) (K.tells link.new) (E.tells log.old)
+        (E.tells log.new) }
     ensures ready { IfNone result (IsReady out.new.items notes.new.items) }
     ensures link_kept { (K.tells link.old).faults ≤ (K.tells link.new).faults }
     ensures ends_kept { (K.tells link.old).ends ≤ (K.tells link.new).ends }

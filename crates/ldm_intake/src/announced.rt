@@ -37,7 +37,8 @@ impl Intake<'_> {
     ) -> MessageEnd
         requires { IsPassOf shared.now pass.old }
         ensures { TakesRecord result (comingsoon self.old now soon.now.xid soon.now.info soon.now.block_size)
-            (stands self.old pass.old out.old.items notes.old.items) (stands self.new pass.new out.new.items notes.new.items) }
+            (stands self.old pass.old out.old.items notes.old.items)
+            (stands self.new pass.new out.new.items notes.new.items) }
     {
         if !self.is_idle() || soon.block_size as usize != LARGEST_BLOCK {
             return MessageEnd::Bad;
@@ -60,7 +61,8 @@ impl Intake<'_> {
     fn decline(&mut self, soon: &Comingsoon, out: &mut Vec<u8>)
         requires { HasReplyRoom out.old }
         ensures passed_by { self.new ≡ with_last self.old soon.now.info }
-        ensures replied { out.new.items ≡ out.old.items ++ records_of (sent.ComingsoonReply soon.now.xid soon_answer.DontSend ∷ []) }
+        ensures replied { out.new.items ≡ out.old.items ++ records_of
+            (sent.ComingsoonReply soon.now.xid soon_answer.DontSend ∷ []) }
     {
         put_soon(out, soon.xid, SoonAnswer::DontSend);
         self.pass_by(&soon.info);
@@ -81,7 +83,8 @@ impl Intake<'_> {
         requires reply_room { HasReplyRoom out.old }
         requires note_room { HasNoteRoom notes.old }
         ensures { TakesRecord (end_of_turn result) (comingsoon_wanted self.old now soon.now.xid soon.now.info)
-            (stands self.old pass.old out.old.items notes.old.items) (stands self.new pass.new out.new.items notes.new.items) }
+            (stands self.old pass.old out.old.items notes.old.items)
+            (stands self.new pass.new out.new.items notes.new.items) }
     {
         calls_made();
         match shared.reserve(rt, pass, &soon.info) {
@@ -105,8 +108,10 @@ impl Intake<'_> {
         requires of { IsPassOf shared.now pass.old }
         requires reply_room { HasReplyRoom out.old }
         requires note_room { HasNoteRoom notes.old }
-        ensures { TakesRecord (end_of_turn result) (reserved self.old now soon.now.xid soon.now.info (reserve_answer reply))
-            (stands self.old pass.old out.old.items notes.old.items) (stands self.new pass.new out.new.items notes.new.items) }
+        ensures { TakesRecord (end_of_turn result)
+            (reserved self.old now soon.now.xid soon.now.info (reserve_answer reply))
+            (stands self.old pass.old out.old.items notes.old.items)
+            (stands self.new pass.new out.new.items notes.new.items) }
     {
         match reply {
             ReserveReply::Reserved { r, .. } => {
@@ -136,7 +141,8 @@ impl Intake<'_> {
         requires reply_room { HasReplyRoom out.old }
         requires note_room { HasNoteRoom notes.old }
         ensures { TakesRecord (end_of_turn result) (accepts self.old now soon.now.xid soon.now.info r)
-            (stands self.old pass.old out.old.items notes.old.items) (stands self.new pass.new out.new.items notes.new.items) }
+            (stands self.old pass.old out.old.items notes.old.items)
+            (stands self.new pass.new out.new.items notes.new.items) }
     {
         if soon.info.size() == 0 {
             return self.commit_empty(shared, rt, pass, soon, r, now, out, notes);
@@ -165,8 +171,10 @@ impl Intake<'_> {
         requires of { IsPassOf shared.now pass.old }
         requires reply_room { HasReplyRoom out.old }
         requires note_room { HasNoteRoom notes.old }
-        ensures { TakesRecord (end_of_turn result) (commits self.old now (sent.ComingsoonReply soon.now.xid soon_answer.Ok ∷ []) soon.now.info r)
-            (stands self.old pass.old out.old.items notes.old.items) (stands self.new pass.new out.new.items notes.new.items) }
+        ensures { TakesRecord (end_of_turn result)
+            (commits self.old now (sent.ComingsoonReply soon.now.xid soon_answer.Ok ∷ []) soon.now.info r)
+            (stands self.old pass.old out.old.items notes.old.items)
+            (stands self.new pass.new out.new.items notes.new.items) }
     {
         match shared.commit(rt, pass, r, now) {
             Turn::Done(reply) => {

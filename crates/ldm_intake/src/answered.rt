@@ -26,13 +26,15 @@ pub(crate) fn number_of_request(again: bool) -> u32
     if again { 2 } else { 1 }
 }
 
-// None of these calls the queue or logs: what they do is the same whatever the pass has seen and whatever stands in the log.
+// None of these calls the queue or logs: what they do is the same whatever the pass has seen and whatever stands in the
+// log.
 impl Intake<'_> {
-    /// Takes one record while the reply to a request is owed: asks for a narrower class where one is offered, by a message that it
-    /// appends to `out`. It makes no call of the queue, and logs nothing.
+    /// Takes one record while the reply to a request is owed: asks for a narrower class where one is offered, by a
+    /// message that it appends to `out`. It makes no call of the queue, and logs nothing.
     pub fn take_answer(&mut self, content: &[u8], out: &mut Vec<u8>) -> AnswerEnd
         requires { is_feeding self.old.phase ≡ false }
-        ensures took { (now : ℕ) (pass : PassView) (notes : List ℕ) → TakesAnswer result (record_course self.old now content.now)
+        ensures took { (now : ℕ) (pass : PassView) (notes : List ℕ)
+            → TakesAnswer result (record_course self.old now content.now)
             (stands self.old pass out.old.items notes) (stands self.new pass out.new.items notes) }
     {
         match self.request_owed() {
@@ -49,7 +51,9 @@ impl Intake<'_> {
         again: bool,
         out: &mut Vec<u8>,
     ) -> AnswerEnd
-        ensures { (pass : PassView) (notes : List ℕ) → TakesAnswer result (reply_course self.old asked.now again (reply_of (number_of procedure.Feedme) content.now))
+        ensures { (pass : PassView) (notes : List ℕ)
+            → TakesAnswer result (reply_course self.old asked.now again
+            (reply_of (number_of procedure.Feedme) content.now))
             (stands self.old pass out.old.items notes) (stands self.new pass out.new.items notes) }
     {
         match read_answer(content) {
@@ -72,7 +76,8 @@ impl Intake<'_> {
         answer: ClassAnswer,
         out: &mut Vec<u8>,
     ) -> AnswerEnd
-        ensures { (pass : PassView) (notes : List ℕ) → TakesAnswer result (Comes (by_answer self.old asked.now again answer))
+        ensures { (pass : PassView) (notes : List ℕ)
+            → TakesAnswer result (Comes (by_answer self.old asked.now again answer))
             (stands self.old pass out.old.items notes) (stands self.new pass out.new.items notes) }
     {
         match answer {
@@ -85,7 +90,8 @@ impl Intake<'_> {
         }
     }
 
-    // A narrower class is offered: it is asked for, at most once, and where it is another than the one that was asked for.
+    // A narrower class is offered: it is asked for, at most once, and where it is another than the one that was asked
+    // for.
     fn reclassed(
         &mut self,
         asked: &ClassSpec,
@@ -93,7 +99,8 @@ impl Intake<'_> {
         class: ClassSpec,
         out: &mut Vec<u8>,
     ) -> AnswerEnd
-        ensures { (pass : PassView) (notes : List ℕ) → TakesAnswer result (Comes (reclassed self.old asked.now again class))
+        ensures { (pass : PassView) (notes : List ℕ)
+            → TakesAnswer result (Comes (reclassed self.old asked.now again class))
             (stands self.old pass out.old.items notes) (stands self.new pass out.new.items notes) }
     {
         if again || is_same_class(&class, asked) {

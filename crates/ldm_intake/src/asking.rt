@@ -27,7 +27,8 @@ fn resuming(signature: Signature) -> Spec
     }
 }
 
-/// The class that is asked for: with the specification of the last product at its end, where there is one and there is room.
+/// The class that is asked for: with the specification of the last product at its end, where there is one and there is
+/// room.
 pub fn asked_class(class: &ClassSpec, last: Option<Signature>) -> ClassSpec
     ensures { result ≡ asked_class class.now (option_map (λ signature. signature.0) last) }
 {

@@ -29,7 +29,8 @@ impl Intake<'_> {
         notes: &mut Vec<u8>,
     ) -> MessageEnd
         requires { IsPassOf shared.now pass.old }
-        ensures { (out : List ℕ) → TakesRecord result (blkdata self.old now part.now.signature.0 part.now.number part.now.block.now)
+        ensures { (out : List ℕ)
+            → TakesRecord result (blkdata self.old now part.now.signature.0 part.now.number part.now.block.now)
             (stands self.old pass.old out notes.old.items) (stands self.new pass.new out notes.new.items) }
     {
         let Some(pending) = self.awaited() else {
@@ -86,7 +87,8 @@ impl Intake<'_> {
     ) -> Turn<()>
         requires of { IsPassOf shared.now pass.old }
         requires room { HasNoteRoom notes.old }
-        ensures { (out : List ℕ) → TakesRecord (end_of_turn result) (commits self.old now [] pending.now.info pending.now.r)
+        ensures { (out : List ℕ)
+            → TakesRecord (end_of_turn result) (commits self.old now [] pending.now.info pending.now.r)
             (stands self.old pass.old out notes.old.items) (stands self.new pass.new out notes.new.items) }
     {
         match shared.commit(rt, pass, pending.r, now) {

@@ -1,5 +1,6 @@
 //! Worked examples.
-ghost use Rattle.ldm_intake.specs.Examples.{LastBlock, RefusedCommit, OtherBlocks, OnePending, OtherBlockSize, NotWanted, NoBody, Refusals, Requests, Narrower, GivenUp};
+ghost use Rattle.ldm_intake.specs.Examples.{LastBlock, RefusedCommit, OtherBlocks, OnePending, OtherBlockSize};
+ghost use Rattle.ldm_intake.specs.Examples.{NotWanted, NoBody, Refusals, Requests, Narrower, GivenUp};
 
 /// What the definition of receiving says of single messages. It does nothing.
 pub fn worked_examples()

@@ -20,9 +20,9 @@ use std::alloc::Global;
 use std::marker::Model;
 use std::sync::Wait;
 
-/// Takes the records of a stream into a queue, one after another: what is asked of the queue, what the peer is owed and what is
-/// logged is that of `record_course`. The reply to a request, which may have a class, is taken by `take_answer`, and each message of
-/// the feed by `take_message`.
+/// Takes the records of a stream into a queue, one after another: what is asked of the queue, what the peer is owed and
+/// what is logged is that of `record_course`. The reply to a request, which may have a class, is taken by
+/// `take_answer`, and each message of the feed by `take_message`.
 #[derive(Drop)]
 pub struct Intake<'a> {
     pub(crate) alloc: Global,
@@ -52,7 +52,8 @@ impl<'a> Intake<'a> {
         last: Option<Signature>,
         max_hereis: u32,
     ) -> Result<Intake<'a>, OutOfMemory>
-        ensures { IfOk result (λ intake. intake ≡ requesting class.now (option_map (λ signature. signature.0) last) max_hereis) }
+        ensures { IfOk result
+            (λ intake. intake ≡ requesting class.now (option_map (λ signature. signature.0) last) max_hereis) }
     {
         let lent = class.matcher(alloc)?;
         let asked = asked_class(class.spec(), last);

@@ -1,4 +1,5 @@
-//! What the records of a stream do to a receiving and to the queue: the definition of receiving, and what code needs of it.
+//! What the records of a stream do to a receiving and to the queue: the definition of receiving, and what code needs of
+//! it.
 #![tactic(auto)]
 
 mod announced;

@@ -18,8 +18,8 @@ use ldm_types::Micros;
 use std::sync::Wait;
 
 impl Intake<'_> {
-    /// Takes one record of a feed that has begun, which was complete at the moment `now`: asks the queue what `record_course` says,
-    /// and appends the messages that the peer is owed to `out`, and the log lines to `notes`.
+    /// Takes one record of a feed that has begun, which was complete at the moment `now`: asks the queue what
+    /// `record_course` says, and appends the messages that the peer is owed to `out`, and the log lines to `notes`.
     ///
     /// Memory is taken before the queue is called, so what it answered is never lost.
     #[tactic(auto, using(crate::proofs::FeedCourses::takes_call, crate::proofs::FeedCourses::takes_other))]
@@ -37,7 +37,8 @@ impl Intake<'_> {
         requires feeding { is_feeding self.old.phase ≡ true }
         ensures kept { IsSamePass pass.old pass.new }
         ensures took { TakesRecord result (record_course self.old now content.now)
-            (stands self.old pass.old out.old.items notes.old.items) (stands self.new pass.new out.new.items notes.new.items) }
+            (stands self.old pass.old out.old.items notes.old.items)
+            (stands self.new pass.new out.new.items notes.new.items) }
     {
         match read_feed_call(content) {
             Some(FeedCall::Hereis(product)) => self.hereis(shared, rt, pass, &product, now, notes),
@@ -95,7 +96,8 @@ impl Intake<'_> {
         requires of { IsPassOf shared.now pass.old }
         requires sized { length product.now.body.now ≡ product.now.info.size }
         requires room { HasNoteRoom notes.old }
-        ensures { (out : List ℕ) → TakesRecord (end_of_turn result) (hereis_wanted self.old now product.now.info product.now.body.now)
+        ensures { (out : List ℕ)
+            → TakesRecord (end_of_turn result) (hereis_wanted self.old now product.now.info product.now.body.now)
             (stands self.old pass.old out notes.old.items) (stands self.new pass.new out notes.new.items) }
     {
         match shared.insert(rt, pass, now, &product.info, product.body) {

@@ -11,7 +11,8 @@ use ldm_types::{ClassSpec, Info, OutOfMemory};
 impl Intake<'_> {
     // The class that was asked for, and whether it was asked for by the second FEEDME, where the reply is owed.
     pub(crate) fn request_owed(&self) -> Option<(ClassSpec, bool)>
-        ensures { MatchOption result (self.now.phase ≡ phase.Feeding) (λ asked. self.now.phase ≡ phase.Asked asked.0 asked.1) }
+        ensures { MatchOption result (self.now.phase ≡ phase.Feeding)
+            (λ asked. self.now.phase ≡ phase.Asked asked.0 asked.1) }
     {
         match &self.phase {
             Phase::Asked { class, again } => Some((class.copy(), *again)),
@@ -28,7 +29,8 @@ impl Intake<'_> {
 
     // A narrower class was asked for, and is in force.
     pub(crate) fn narrow(&mut self, class: Class)
-        ensures { self.new ≡ record self.old { wanting = record self.old.wanting { class = class }; phase = phase.Asked class true } }
+        ensures { self.new ≡ record
+            self.old { wanting = record self.old.wanting { class = class }; phase = phase.Asked class true } }
     {
         let asked = class.spec().copy();
         self.wanted.offer(class);

@@ -15,7 +15,8 @@ use ldm_relay::{FeedmeReply, Message, Procedure, read_reply};
 /// The reply to a FEEDME that the content of a record is, if it is one.
 pub fn read_answer(content: &[u8]) -> Option<FeedmeReply>
     ensures { MatchOption result
-        ((s : Receiving) (class : ClassSpec) (again : Bool) → reply_course s class again (reply_of (number_of procedure.Feedme) content.now) ≡ Comes Bad)
+        ((s : Receiving) (class : ClassSpec) (again : Bool)
+        → reply_course s class again (reply_of (number_of procedure.Feedme) content.now) ≡ Comes Bad)
         (λ reply. reply_of (number_of procedure.Feedme) content.now ≡ Ok (sent.FeedmeReply reply.xid reply.answer)) }
 {
     match read_reply(content, Procedure::Feedme.number()) {

@@ -9,8 +9,8 @@ use std::marker::Model;
 
 /// Which products are wanted: the class in force wants them, and the peer may push them.
 ///
-/// What the searches of the class that was lent need is kept. A class that the peer offered in its place is owned: each of its
-/// searches takes memory and gives it back.
+/// What the searches of the class that was lent need is kept. A class that the peer offered in its place is owned: each
+/// of its searches takes memory and gives it back.
 #[derive(Drop)]
 pub struct Wanted<'a> {
     lent: ClassMatcher<'a>,

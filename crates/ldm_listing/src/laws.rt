@@ -6,5 +6,6 @@ ghost use Rattle.ldm_listing.specs.Listing.{HasPlaces};
 
 /// After every legal history there are 64 cursor places, and each open one is of an actor.
 pub fn cursors_have_actors()
-    ensures { (arena slots : ℕ) (history : List Entry) → IsLegal arena slots history → HasPlaces (after arena slots history) }
+    ensures { (arena slots : ℕ) (history : List Entry) → IsLegal arena slots history
+        → HasPlaces (after arena slots history) }
 {}

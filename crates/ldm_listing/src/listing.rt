@@ -43,8 +43,8 @@ fn free_place(book: &mut Book)
     }
 }
 
-/// Opens a cursor that is to be given all queued products that have a feedtype. For that it closes the cursor of the first place,
-/// whoever has it. Answers the place of the new cursor.
+/// Opens a cursor that is to be given all queued products that have a feedtype. For that it closes the cursor of the
+/// first place, whoever has it. Answers the place of the new cursor.
 pub fn begin(book: &mut Book) -> CursorNo
     requires { (s : State) × HasPlaces s × StandsFor book.old s }
     ensures { (s : State) → HasPlaces s → StandsFor book.old s → IsReading book.new s.rows result (listed s) }
@@ -59,7 +59,8 @@ pub fn begin(book: &mut Book) -> CursorNo
 /// The next product, which the cursor holds from then on.
 pub fn next(book: &mut Book, k: CursorNo) -> Option<Listed>
     requires { (rows : List Row) × (rest : List Queued) × IsReading book.old rows k rest }
-    ensures { (rows : List Row) (rest : List Queued) → IsReading book.old rows k rest → IsNext result book.new rows k rest }
+    ensures { (rows : List Row) (rest : List Queued) → IsReading book.old rows k rest
+        → IsNext result book.new rows k rest }
 {
     match book.step(lister(), k) {
         StepReply::Product { n, time, info } => Some(Listed { n, time, info }),
@@ -71,7 +72,8 @@ pub fn next(book: &mut Book, k: CursorNo) -> Option<Listed>
 
 /// Reads the whole body of the product that the cursor holds.
 pub fn read_body(book: &mut Book, k: CursorNo, into: &mut [u8])
-    ensures body { (rows : List Row) (q : Queued) (rest : List Queued) → IsHolding book.old rows k q rest → AreSized rows →
+    ensures body { (rows : List Row) (q : Queued) (rest : List Queued) → IsHolding book.old rows k q rest
+        → AreSized rows →
         q.product.info.size < 2 ^ 32 → length into.old ≡ q.product.info.size → into.new ≡ q.product.body }
     ensures unchanged { book.new ≡ book.old }
 {
@@ -80,7 +82,8 @@ pub fn read_body(book: &mut Book, k: CursorNo, into: &mut [u8])
 
 /// Lets the product go that the cursor holds.
 pub fn let_go(book: &mut Book, k: CursorNo)
-    ensures { (rows : List Row) (q : Queued) (rest : List Queued) → IsHolding book.old rows k q rest → IsReading book.new rows k rest }
+    ensures { (rows : List Row) (q : Queued) (rest : List Queued) → IsHolding book.old rows k q rest
+        → IsReading book.new rows k rest }
 {
     let _ = book.release(lister(), k);
 }

@@ -1,7 +1,7 @@
 //! The products of a script, in a queue.
 //!
-//! [`take_script`] takes a script whole, [`play_script`] plays it on a book and answers no line, and [`put_products`] puts what is queued
-//! in a book then into a shared queue.
+//! [`take_script`] takes a script whole, [`play_script`] plays it on a book and answers no line, and [`put_products`]
+//! puts what is queued in a book then into a shared queue.
 #![tactic(auto)]
 
 mod playing;

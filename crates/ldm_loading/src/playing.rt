@@ -73,8 +73,8 @@ fn new_book(alloc: Global, arena: u64, slots: u32) -> Result<Book, PlayFault>
     }
 }
 
-/// Plays a script on a new book with an arena of so many bytes and so many slots, line by line, and answers no line. The book is as the
-/// script leaves it, cursors and reservations included.
+/// Plays a script on a new book with an arena of so many bytes and so many slots, line by line, and answers no line.
+/// The book is as the script leaves it, cursors and reservations included.
 pub fn play_script(alloc: Global, arena: u64, slots: u32, text: &[u8]) -> Result<Book, PlayFault>
     requires arena { IsGoodArena arena }
     requires slots { IsGoodSlots slots }

@@ -47,9 +47,9 @@ fn queued_in(book: &mut Book) -> u64
     book.stat(actor).queued
 }
 
-/// Inserts the queued products of a book that have a feedtype into a shared queue, in the order of their numbers, each at its own insertion
-/// time. Whatever the queue answers, it goes on. Nobody else has a pass of the queue. The cursor of the first place of the book is
-/// closed.
+/// Inserts the queued products of a book that have a feedtype into a shared queue, in the order of their numbers, each
+/// at its own insertion time. Whatever the queue answers, it goes on. Nobody else has a pass of the queue. The cursor
+/// of the first place of the book is closed.
 pub fn put_products<H: Wait>(
     rt: &H,
     alloc: Global,
@@ -64,8 +64,11 @@ pub fn put_products<H: Wait>(
     requires seen { HasSeen pass.old }
     ensures kept { IsSamePass pass.old pass.new }
     ensures seen { HasSeen pass.new }
-    ensures put { OnOk result ((arena slots : ℕ) (history : List Entry) → IsLegal arena slots history → StandsFor book.old (after arena slots history)
-        → after pass.new.arena pass.new.slots pass.new.seen ≡ inserted_all (listed (after arena slots history)) (after pass.old.arena pass.old.slots pass.old.seen)) }
+    ensures put { OnOk result
+        ((arena slots : ℕ) (history : List Entry) → IsLegal arena slots history
+        → StandsFor book.old (after arena slots history)
+        → after pass.new.arena pass.new.slots pass.new.seen ≡ inserted_all (listed (after arena slots history))
+        (after pass.old.arena pass.old.slots pass.old.seen)) }
     ensures fault { IfErr result (IsPutFault pass.new) }
 {
     cursors_have_actors();
@@ -98,7 +101,9 @@ fn put<H: Wait>(
     requires seen { HasSeen pass.old }
     ensures kept { IsSamePass pass.old pass.new }
     ensures seen { HasSeen pass.new }
-    ensures put { OnOk result ((rows : List Row) (q : Queued) (behind : List Queued) → IsHolding book.old rows k q behind → IsListed listed.now q → AreSized rows
+    ensures put { OnOk result
+        ((rows : List Row) (q : Queued) (behind : List Queued) → IsHolding book.old rows k q behind
+        → IsListed listed.now q → AreSized rows
         → PutsOne book.new rows k q behind pass.old pass.new) }
     ensures fault { IfErr result (IsPutFault pass.new) }
 {

@@ -101,8 +101,8 @@ pub enum Reply {
     },
     /// The last insertion time is the greatest instant.
     TimeEnd,
-    /// Evicting every product that no cursor holds would not make room. `held` regions are held: those of the products that
-    /// cursors hold, and the reserved ones.
+    /// Evicting every product that no cursor holds would not make room. `held` regions are held: those of the products
+    /// that cursors hold, and the reserved ones.
     Locked {
         held: u64,
     },
@@ -172,8 +172,9 @@ pub enum Reply {
         lost: u64,
         left: u64,
     },
-    /// How many products were admitted and are queued, and how many regions are held; the sum of the extents of the queued
-    /// products and the open reservations, and the extent of the longest gap, 0 where there is none. Both in bytes.
+    /// How many products were admitted and are queued, and how many regions are held; the sum of the extents of the
+    /// queued products and the open reservations, and the extent of the longest gap, 0 where there is none. Both in
+    /// bytes.
     Stat {
         admitted: u64,
         queued: u64,

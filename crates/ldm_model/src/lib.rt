@@ -1,10 +1,10 @@
 //! What the queue is, as definitions that contracts cite, and the events and replies that they speak of.
 //!
 //! The definitions stand in `specs/`: products, states, gaps and the best fit, eviction, insertion, cursors with
-//! opening, stepping, reading, releasing and closing, looking, expiring, counting, reservations with reserving, filling,
-//! committing and discarding, one event and legal histories, and the laws that every history obeys. `Event`, `Reply` and
-//! `Entry` are types of the definitions: no running call makes a value of them. What a call of a queue answers has a type of
-//! its own, and `specs/Answers.antt` says which reply it is.
+//! opening, stepping, reading, releasing and closing, looking, expiring, counting, reservations with reserving,
+//! filling, committing and discarding, one event and legal histories, and the laws that every history obeys. `Event`,
+//! `Reply` and `Entry` are types of the definitions: no running call makes a value of them. What a call of a queue
+//! answers has a type of its own, and `specs/Answers.antt` says which reply it is.
 #![tactic(auto)]
 
 mod bytes;

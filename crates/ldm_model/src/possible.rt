@@ -1,5 +1,5 @@
-//! What the types of the arguments of a call say: the event is one that a call can be given. A caller who owes this of a call
-//! asks these functions, which do nothing.
+//! What the types of the arguments of a call say: the event is one that a call can be given. A caller who owes this of
+//! a call asks these functions, which do nothing.
 ghost use Rattle.std.specs.Prelude.{◌≡◌, ◌<◌, length};
 ghost use Rattle.ldm_types.specs.Info.{AreBytes, IsFeed, IsMetadata, IsSignature};
 ghost use Rattle.ldm_model.specs.History.{IsPlace, IsPossible, IsStart};

@@ -14,8 +14,8 @@ pub enum InsertReply {
     Duplicate { n: u64 },
     /// The last insertion time is the greatest instant.
     TimeEnd,
-    /// Evicting every product that no cursor holds would not make room. `held` regions are held: those of the products that
-    /// cursors hold, and the reserved ones.
+    /// Evicting every product that no cursor holds would not make room. `held` regions are held: those of the products
+    /// that cursors hold, and the reserved ones.
     Locked { held: u64 },
 }
 
@@ -37,10 +37,11 @@ pub enum StepReply {
     NoCursor,
     /// The cursor holds product `n`.
     Holding { n: u64 },
-    /// `count` products of the cursor's feedtypes, at or past its position, were evicted and were not told until now. The
-    /// least of their numbers is `first`, the greatest `last`.
+    /// `count` products of the cursor's feedtypes, at or past its position, were evicted and were not told until now.
+    /// The least of their numbers is `first`, the greatest `last`.
     Gap { count: u64, first: u64, last: u64 },
-    /// The first queued product at or past the position whose feedtypes meet the cursor's. The cursor holds it from now on.
+    /// The first queued product at or past the position whose feedtypes meet the cursor's. The cursor holds it from now
+    /// on.
     Product { n: u64, time: Micros, info: Info },
     /// There is no such product. The position is the end now, which is `at`: how many products were admitted.
     End { at: u64 },
@@ -131,8 +132,8 @@ pub enum ReserveReply {
     Duplicate { n: u64 },
     /// All 64 reservation places are taken.
     AllReserved,
-    /// Evicting every product that no cursor holds would not make room. `held` regions are held: those of the products that
-    /// cursors hold, and the reserved ones.
+    /// Evicting every product that no cursor holds would not make room. `held` regions are held: those of the products
+    /// that cursors hold, and the reserved ones.
     Locked { held: u64 },
     /// The reservation has place `r`, the least that was empty; `evicted` products made room for it.
     Reserved { r: ReserveNo, evicted: u64 },

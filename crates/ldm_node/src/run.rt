@@ -29,16 +29,18 @@ use std::alloc::Global;
 use std::sync::Wait;
 use std::thread::Threads;
 
-/// Runs a node: asks the net once for a station for each worker, and has each worker do its work until all have stopped.
+/// Runs a node: asks the net once for a station for each worker, and has each worker do its work until all have
+/// stopped.
 ///
-/// Worker i has station i and the pass of actor i. The first workers let peers in, as many as the options say, and behind them one
-/// asks by each request of the configuration, in order. So there is one station fewer than passes: the last pass rests.
+/// Worker i has station i and the pass of actor i. The first workers let peers in, as many as the options say, and
+/// behind them one asks by each request of the configuration, in order. So there is one station fewer than passes: the
+/// last pass rests.
 ///
-/// The passes are all that the queue was made with, and no call was made with them. All memory for the workers is taken before the
-/// first begins. Where no thread can be made they work one after another.
+/// The passes are all that the queue was made with, and no call was made with them. All memory for the workers is taken
+/// before the first begins. Where no thread can be made they work one after another.
 ///
-/// The workers share the configuration, so its type has to be one that threads may share. That is a fact of the type, and its caller
-/// shows it.
+/// The workers share the configuration, so its type has to be one that threads may share. That is a fact of the type,
+/// and its caller shows it.
 pub fn node<H: Threads + Wait + Sync, N: Net>(
     rt: &H,
     alloc: Global,
@@ -58,14 +60,20 @@ where
     ensures stands { StandsFor result.book (after shared.arena shared.slots result.pass.seen) }
     ensures law { ObeysLaw shared.arena shared.slots result.pass.seen }
     ensures kept { N.kept net.new ≡ N.kept net.old }
-    ensures worked { Mans (station_tells N.StationDoor.tells N.StationDial.tells N.StationLog.tells N.StationClock.tells N.StationGate.tells)
-        (plan_of (conf_view conf) options.now.workers options.now.sessions) options.now.idles shared (N.tells net.old) (N.tells net.new)
+    ensures worked { Mans
+        (station_tells N.StationDoor.tells N.StationDial.tells N.StationLog.tells N.StationClock.tells
+        N.StationGate.tells)
+        (plan_of (conf_view conf) options.now.workers options.now.sessions) options.now.idles shared (N.tells net.old)
+        (N.tells net.new)
         (record { pass = result.pass; stations = result.stations.items; end = result.end }) }
-    ensures causes { NodeCause result.end (plan_of (conf_view conf) options.now.workers options.now.sessions) (N.tells net.old) (N.tells net.new)
-        (map (station_tells N.StationDoor.tells N.StationDial.tells N.StationLog.tells N.StationClock.tells N.StationGate.tells) result.stations.items)
+    ensures causes { NodeCause result.end (plan_of (conf_view conf) options.now.workers options.now.sessions)
+        (N.tells net.old) (N.tells net.new)
+        (map (station_tells N.StationDoor.tells N.StationDial.tells N.StationLog.tells N.StationClock.tells
+        N.StationGate.tells) result.stations.items)
         result.pass }
     ensures completes { Completes result.end (N.tells net.old) (N.tells net.new)
-        (map (station_tells N.StationDoor.tells N.StationDial.tells N.StationLog.tells N.StationClock.tells N.StationGate.tells) result.stations.items) }
+        (map (station_tells N.StationDoor.tells N.StationDial.tells N.StationLog.tells N.StationClock.tells
+        N.StationGate.tells) result.stations.items) }
 {
     fifo();
     let NodeOptions {
@@ -119,7 +127,8 @@ where
     requires passes { passes.items ≡ map (new_pass shared) (range_with_len 0 shared.passes) }
     requires count { vec_len stations + 1 ≡ shared.passes }
     requires shareable { IsSync Configuration.the_row }
-    requires none_out { All (λ station. NoneOut (station_tells D.tells I.tells E.tells C.tells G.tells station)) stations.items }
+    requires none_out { All
+        (λ station. NoneOut (station_tells D.tells I.tells E.tells C.tells G.tells station)) stations.items }
     ensures last { IsLast shared result.pass }
     ensures stands { StandsFor result.book (after shared.arena shared.slots result.pass.seen) }
     ensures staffs { Staffs (station_tells D.tells I.tells E.tells C.tells G.tells)

@@ -38,16 +38,20 @@ impl From<AllocError> for StartFault {
     }
 }
 
-/// Starts commands in order, without a pipe, and answers their numbers. At the first that fails it stops: those before it run on.
+/// Starts commands in order, without a pipe, and answers their numbers. At the first that fails it stops: those before
+/// it run on.
 pub(crate) fn start_commands<L: Launcher>(
     alloc: Global,
     launcher: &mut L,
     commands: &[Command],
 ) -> Result<Vec<ChildNo>, StartFault>
-    ensures numbers { IfOk result (λ children. children.items ≡ numbers_from (L.tells launcher.old).next (map command_view commands.now)) }
-    ensures started { IfOk result (λ _. L.tells launcher.new ≡ with_commands (map command_view commands.now) (L.tells launcher.old)) }
+    ensures numbers { IfOk result
+        (λ children. children.items ≡ numbers_from (L.tells launcher.old).next (map command_view commands.now)) }
+    ensures started { IfOk result
+        (λ _. L.tells launcher.new ≡ with_commands (map command_view commands.now) (L.tells launcher.old)) }
     ensures running { IfOk result (λ children. AllRun children.items (L.tells launcher.new)) }
-    ensures stopped { IfErr result (λ why. StopsStarting why (map command_view commands.now) (L.tells launcher.old) (L.tells launcher.new)) }
+    ensures stopped { IfErr result
+        (λ why. StopsStarting why (map command_view commands.now) (L.tells launcher.old) (L.tells launcher.new)) }
     ensures faults_kept { (L.tells launcher.old).faults ≤ (L.tells launcher.new).faults }
 {
     let mut children = Vec::with_capacity(alloc, commands.len())?;

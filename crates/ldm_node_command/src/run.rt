@@ -35,14 +35,16 @@ use std::alloc::Global;
 use std::sync::Wait;
 use std::thread::Threads;
 
-/// Runs a node: takes its configuration, makes its queue, starts the commands of the configuration, and has the workers of the node do their
-/// work until all have stopped. Then the net keeps the stations, the commands are waited for, and the line of the queue is written to the
-/// sink. Answers the number that the program ends with, and writes its line to the log.
+/// Runs a node: takes its configuration, makes its queue, starts the commands of the configuration, and has the workers
+/// of the node do their work until all have stopped. Then the net keeps the stations, the commands are waited for, and
+/// the line of the queue is written to the sink. Answers the number that the program ends with, and writes its line to
+/// the log.
 ///
-/// Each step comes only where all before it went well, but what comes behind the workers' work comes at each of its ends. Where a command
-/// cannot be started, those before it run on, and nobody waits for them. The clause `ends` gives each status its cause, and what was done
-/// then: see `NodeEnds`. Where the log of a worker failed the number is [`LOG_FAULT`](ldm_status::LOG_FAULT), and no line is written to the
-/// log. The clause `commands` says which children a launcher tells that tells any.
+/// Each step comes only where all before it went well, but what comes behind the workers' work comes at each of its
+/// ends. Where a command cannot be started, those before it run on, and nobody waits for them. The clause `ends` gives
+/// each status its cause, and what was done then: see `NodeEnds`. Where the log of a worker failed the number is
+/// [`LOG_FAULT`](ldm_status::LOG_FAULT), and no line is written to the log. The clause `commands` says which children a
+/// launcher tells that tells any.
 pub fn run_node<H: Threads + Wait + Sync, K: Sink, E: Sink, F: Store, L: Launcher, N: Net>(
     rt: &H,
     alloc: Global,
@@ -56,24 +58,110 @@ pub fn run_node<H: Threads + Wait + Sync, K: Sink, E: Sink, F: Store, L: Launche
 where
     <N::StationDoor as Door>::Link: Send,
     <N::StationDial as Dial>::Link: Send,
-    ensures ends { NodeRuns (station_tells N.StationDoor.tells N.StationDial.tells N.StationLog.tells N.StationClock.tells N.StationGate.tells)
+    ensures ends { NodeRuns
+        (station_tells N.StationDoor.tells N.StationDial.tells N.StationLog.tells N.StationClock.tells
+        N.StationGate.tells)
         (setup_of setup.now) result
-        (record { sink = K.tells sink.old; log = E.tells log.old; store = F.tells store.old; launcher = L.tells launcher.old; net = N.tells net.old; kept = N.kept net.old })
-        (record { sink = K.tells sink.new; log = E.tells log.new; store = F.tells store.new; launcher = L.tells launcher.new; net = N.tells net.new; kept = N.kept net.new }) }
-    ensures law { ObeysNodeLaw (station_tells N.StationDoor.tells N.StationDial.tells N.StationLog.tells N.StationClock.tells N.StationGate.tells)
+        (record {
+          sink = K.tells sink.old;
+          log = E.tells log.old;
+          store = F.tells store.old;
+          launcher = L.tells
+              launcher.old;
+          net = N.tells net.old;
+          kept = N.kept net.old;
+        })
+        (record {
+          sink = K.tells sink.new;
+          log = E.tells log.new;
+          store = F.tells store.new;
+          launcher = L.tells
+              launcher.new;
+          net = N.tells net.new;
+          kept = N.kept net.new;
+        }) }
+    ensures law { ObeysNodeLaw
+        (station_tells N.StationDoor.tells N.StationDial.tells N.StationLog.tells N.StationClock.tells
+        N.StationGate.tells)
         (setup_of setup.now)
-        (record { sink = K.tells sink.old; log = E.tells log.old; store = F.tells store.old; launcher = L.tells launcher.old; net = N.tells net.old; kept = N.kept net.old })
-        (record { sink = K.tells sink.new; log = E.tells log.new; store = F.tells store.new; launcher = L.tells launcher.new; net = N.tells net.new; kept = N.kept net.new }) }
-    ensures completes { NodeCompletes (station_tells N.StationDoor.tells N.StationDial.tells N.StationLog.tells N.StationClock.tells N.StationGate.tells)
+        (record {
+          sink = K.tells sink.old;
+          log = E.tells log.old;
+          store = F.tells store.old;
+          launcher = L.tells
+              launcher.old;
+          net = N.tells net.old;
+          kept = N.kept net.old;
+        })
+        (record {
+          sink = K.tells sink.new;
+          log = E.tells log.new;
+          store = F.tells store.new;
+          launcher = L.tells
+              launcher.new;
+          net = N.tells net.new;
+          kept = N.kept net.new;
+        }) }
+    ensures completes { NodeCompletes
+        (station_tells N.StationDoor.tells N.StationDial.tells N.StationLog.tells N.StationClock.tells
+        N.StationGate.tells)
         (setup_of setup.now) result
-        (record { sink = K.tells sink.old; log = E.tells log.old; store = F.tells store.old; launcher = L.tells launcher.old; net = N.tells net.old; kept = N.kept net.old })
-        (record { sink = K.tells sink.new; log = E.tells log.new; store = F.tells store.new; launcher = L.tells launcher.new; net = N.tells net.new; kept = N.kept net.new }) }
+        (record {
+          sink = K.tells sink.old;
+          log = E.tells log.old;
+          store = F.tells store.old;
+          launcher = L.tells
+              launcher.old;
+          net = N.tells net.old;
+          kept = N.kept net.old;
+        })
+        (record {
+          sink = K.tells sink.new;
+          log = E.tells log.new;
+          store = F.tells store.new;
+          launcher = L.tells
+              launcher.new;
+          net = N.tells net.new;
+          kept = N.kept net.new;
+        }) }
     ensures commands { TellsCommands (setup_of setup.now) result
-        (record { sink = K.tells sink.old; log = E.tells log.old; store = F.tells store.old; launcher = L.tells launcher.old; net = N.tells net.old; kept = N.kept net.old })
-        (record { sink = K.tells sink.new; log = E.tells log.new; store = F.tells store.new; launcher = L.tells launcher.new; net = N.tells net.new; kept = N.kept net.new }) }
+        (record {
+          sink = K.tells sink.old;
+          log = E.tells log.old;
+          store = F.tells store.old;
+          launcher = L.tells
+              launcher.old;
+          net = N.tells net.old;
+          kept = N.kept net.old;
+        })
+        (record {
+          sink = K.tells sink.new;
+          log = E.tells log.new;
+          store = F.tells store.new;
+          launcher = L.tells
+              launcher.new;
+          net = N.tells net.new;
+          kept = N.kept net.new;
+        }) }
     ensures faults_kept { KeepsFaults
-        (record { sink = K.tells sink.old; log = E.tells log.old; store = F.tells store.old; launcher = L.tells launcher.old; net = N.tells net.old; kept = N.kept net.old })
-        (record { sink = K.tells sink.new; log = E.tells log.new; store = F.tells store.new; launcher = L.tells launcher.new; net = N.tells net.new; kept = N.kept net.new }) }
+        (record {
+          sink = K.tells sink.old;
+          log = E.tells log.old;
+          store = F.tells store.old;
+          launcher = L.tells
+              launcher.old;
+          net = N.tells net.old;
+          kept = N.kept net.old;
+        })
+        (record {
+          sink = K.tells sink.new;
+          log = E.tells log.new;
+          store = F.tells store.new;
+          launcher = L.tells
+              launcher.new;
+          net = N.tells net.new;
+          kept = N.kept net.new;
+        }) }
 {
     let ending = run(rt, alloc, setup, sink, store, launcher, net);
     report(ending, log)
@@ -93,10 +181,25 @@ where
     <N::StationDoor as Door>::Link: Send,
     <N::StationDial as Dial>::Link: Send,
     ensures ends { (log_before log_after : SinkRecord) →
-        NodeEnds (station_tells N.StationDoor.tells N.StationDial.tells N.StationLog.tells N.StationClock.tells N.StationGate.tells) result
+        NodeEnds (station_tells N.StationDoor.tells N.StationDial.tells N.StationLog.tells N.StationClock.tells
+        N.StationGate.tells) result
         (setup_of setup.now)
-        (record { sink = K.tells sink.old; log = log_before; store = F.tells store.old; launcher = L.tells launcher.old; net = N.tells net.old; kept = N.kept net.old })
-        (record { sink = K.tells sink.new; log = log_after; store = F.tells store.new; launcher = L.tells launcher.new; net = N.tells net.new; kept = N.kept net.new }) }
+        (record {
+          sink = K.tells sink.old;
+          log = log_before;
+          store = F.tells store.old;
+          launcher = L.tells launcher.old;
+          net = N.tells net.old;
+          kept = N.kept net.old;
+        })
+        (record {
+          sink = K.tells sink.new;
+          log = log_after;
+          store = F.tells store.new;
+          launcher = L.tells launcher.new;
+          net = N.tells net.new;
+          kept = N.kept net.new;
+        }) }
     ensures sink_kept { (K.tells sink.old).faults ≤ (K.tells sink.new).faults }
     ensures store_kept { (F.tells store.old).faults ≤ (F.tells store.new).faults }
     ensures long_kept { (F.tells store.old).long ≤ (F.tells store.new).long }
@@ -124,15 +227,18 @@ fn make_queue(
 ) -> Result<(Shared, Vec<Pass>), CreateFault>
     ensures made { IfOk result (λ made. IsMade (setup_of setup.now) (conf_view conf.now) made.0) }
     ensures passes { IfOk result (λ made. made.1.items ≡ map (new_pass made.0) (range_with_len 0 made.0.passes)) }
-    ensures count { IfOk result (λ made. made.0.passes ≡ setup.now.options.workers + length conf.now.requests.items + 1) }
+    ensures count { IfOk result
+        (λ made. made.0.passes ≡ setup.now.options.workers + length conf.now.requests.items + 1) }
     ensures good { IfOk result (λ _. IsGoodSize (setup_of setup.now) (conf_view conf.now)) }
-    ensures fault { IfErr result (IsFaultOf setup.now.arena setup.now.slots (passes_for (setup_of setup.now) (conf_view conf.now))) }
+    ensures fault { IfErr result
+        (IsFaultOf setup.now.arena setup.now.slots (passes_for (setup_of setup.now) (conf_view conf.now))) }
 {
     let passes = count_passes(setup.options.workers, conf.requests.len());
     Shared::create(alloc, setup.arena, setup.slots, passes)
 }
 
-// Runs the node on its queue, and has the net keep the stations. Answers why it stopped, and the queue as all calls left it.
+// Runs the node on its queue, and has the net keep the stations. Answers why it stopped, and the queue as all calls
+// left it.
 fn man<H: Threads + Wait + Sync, N: Net>(
     rt: &H,
     alloc: Global,
@@ -149,7 +255,8 @@ where
     requires passes { passes.items ≡ map (new_pass shared) (range_with_len 0 shared.passes) }
     requires count { shared.passes ≡ setup.now.options.workers + length conf.requests.items + 1 }
     ensures works { (history : List Entry)
-        × Works (station_tells N.StationDoor.tells N.StationDial.tells N.StationLog.tells N.StationClock.tells N.StationGate.tells) result.0
+        × Works (station_tells N.StationDoor.tells N.StationDial.tells N.StationLog.tells N.StationClock.tells
+        N.StationGate.tells) result.0
         (setup_of setup.now) (conf_view conf) history (N.tells net.old) (N.tells net.new) (N.kept net.new)
         × StandsFor result.1 (after setup.now.arena setup.now.slots history) }
     ensures net_kept { (N.tells net.old).faults ≤ (N.tells net.new).faults }

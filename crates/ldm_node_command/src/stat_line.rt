@@ -13,7 +13,8 @@ use ldm_types::Actor;
 
 /// Writes how full the queue is: `stat ADMITTED QUEUED HELD USED LARGEST`.
 pub(crate) fn write_stat<K: Sink>(book: &mut Book, sink: &mut K) -> Result<(), SinkFailed>
-    ensures written { (s : State) → StandsFor book.old s → WritesAll result (answer_line (stat_of s).reply) (K.tells sink.old) (K.tells sink.new) }
+    ensures written { (s : State) → StandsFor book.old s
+        → WritesAll result (answer_line (stat_of s).reply) (K.tells sink.old) (K.tells sink.new) }
     ensures faults_kept { (K.tells sink.old).faults ≤ (K.tells sink.new).faults }
 {
     let Some(actor) = Actor::new(0) else {

@@ -1,6 +1,7 @@
 //! The statuses of the ends of a node.
 ghost use Rattle.std.specs.Prelude.{◌≡◌, ◌≤◌};
-ghost use Rattle.ldm_node_command.specs.Statuses.{Tells, status_behind, status_of_fault, status_of_node, status_of_queue};
+ghost use Rattle.ldm_node_command.specs.Statuses.{Tells, status_behind, status_of_fault};
+ghost use Rattle.ldm_node_command.specs.Statuses.{status_of_node, status_of_queue};
 
 use crate::commands::StartFault;
 use crate::ending::{NodeFault, Ran};
@@ -10,8 +11,8 @@ use ldm_shared::CreateFault;
 use ldm_status::{LOG_FAULT, Status};
 use ldm_worker_log::NodeStop;
 
-/// Writes the line of an ending to the log, and answers the number that the program ends with. Where the log of a worker failed there is no
-/// line, and the number is [`LOG_FAULT`].
+/// Writes the line of an ending to the log, and answers the number that the program ends with. Where the log of a
+/// worker failed there is no line, and the number is [`LOG_FAULT`].
 pub(crate) fn report<E: Sink>(ending: Result<Ran, NodeFault>, log: &mut E) -> u8
     ensures tells { Tells (status_of_node ending) result (E.tells log.old) (E.tells log.new) }
     ensures faults_kept { (E.tells log.old).faults ≤ (E.tells log.new).faults }

@@ -43,8 +43,10 @@ pub(crate) fn turns<H: Wait, K: Link, E: Sink, C: Clock, G: Gate>(
     ensures still_open { IsNotClosed (K.tells link.new) }
     ensures turns { (asked : Asked) → IsAskedOf asked class.old rules.old
         → EndsTurns result asked reader.now.k standing.old
-        (situation_of (moment_of pass.old (K.tells link.old) (C.tells clock.old) out.old.items) (E.tells log.old) (G.tells gate.old))
-        (situation_of (moment_of pass.new (K.tells link.new) (C.tells clock.new) out.new.items) (E.tells log.new) (G.tells gate.new)) }
+        (situation_of (moment_of pass.old (K.tells link.old) (C.tells clock.old) out.old.items) (E.tells log.old)
+        (G.tells gate.old))
+        (situation_of (moment_of pass.new (K.tells link.new) (C.tells clock.new) out.new.items) (E.tells log.new)
+        (G.tells gate.new)) }
 {
     products_stay();
     for _ in rt.forever() {

@@ -19,12 +19,18 @@ pub fn worked_examples()
     // Its body is not read.
     ensures calls { replies_of (entries_of 3 sample_asked (notifying_of (Gave sample (Told 8) ∷ []) (Stopped 1)))
         ≡ reply.Opened 5 ∷ reply.Product 0 100 sample_info ∷ reply.Released 0 ∷ reply.End 1 ∷ [] }
-    ensures passed { messages_of sample_asked (notifying_of (Gave sample Passed ∷ []) GoesOn) ≡ sent.NotifymeReply 1 class_answer.Ok ∷ [] }
-    ensures asks_the_clock { instants_of (notifying_of (Gave sample (Told 8) ∷ Quiet 1 9 ∷ Alive 1 10 11 ∷ []) (Stopped 1))
+    ensures passed { messages_of sample_asked (notifying_of (Gave sample Passed ∷ []) GoesOn)
+        ≡ sent.NotifymeReply 1 class_answer.Ok ∷ [] }
+    ensures asks_the_clock { instants_of
+        (notifying_of (Gave sample (Told 8) ∷ Quiet 1 9 ∷ Alive 1 10 11 ∷ []) (Stopped 1))
         ≡ 7 ∷ 8 ∷ 9 ∷ 10 ∷ 11 ∷ [] }
-    ensures asks_the_gate { goes_of (notifying_of (Quiet 1 9 ∷ Alive 1 10 11 ∷ []) (Stopped 1)) ≡ go.On ∷ go.On ∷ go.Stop ∷ [] }
+    ensures asks_the_gate { goes_of (notifying_of (Quiet 1 9 ∷ Alive 1 10 11 ∷ []) (Stopped 1)) ≡ go.On ∷ go.On
+        ∷ go.Stop ∷ [] }
     // Calls are numbered one after another.
-    ensures numbered { messages_of sample_asked (notifying_of (Gave sample (Told 8) ∷ Alive 1 10 11 ∷ Gave sample (Told 12) ∷ []) GoesOn)
-        ≡ sent.NotifymeReply 1 class_answer.Ok ∷ sent.Notification 1 sample_info ∷ sent.Isalive 2 ∷ sent.Notification 3 sample_info ∷ [] }
-    ensures losses { gap_log sample_asked.host (entries_of 3 sample_asked (notifying_of (Lost 2 4 6 ∷ []) (Stopped 1))) ≡ codes "gap h 2 4 6\n" }
+    ensures numbered { messages_of sample_asked
+        (notifying_of (Gave sample (Told 8) ∷ Alive 1 10 11 ∷ Gave sample (Told 12) ∷ []) GoesOn)
+        ≡ sent.NotifymeReply 1 class_answer.Ok ∷ sent.Notification 1 sample_info ∷ sent.Isalive 2
+        ∷ sent.Notification 3 sample_info ∷ [] }
+    ensures losses { gap_log sample_asked.host (entries_of 3 sample_asked (notifying_of (Lost 2 4 6 ∷ []) (Stopped 1)))
+        ≡ codes "gap h 2 4 6\n" }
 {}

@@ -42,7 +42,8 @@ pub(crate) fn handle<H: Wait, K: Link, C: Clock>(
     ensures same_rules { rules.new ≡ rules.old }
     ensures handles { (asked : Asked) → IsAskedOf asked class.old rules.old
         → Handles result asked reader.now.k (row_of held) standing.old standing.new
-        (moment_of pass.old (K.tells link.old) (C.tells clock.old) out.old.items) (moment_of pass.new (K.tells link.new) (C.tells clock.new) out.new.items) }
+        (moment_of pass.old (K.tells link.old) (C.tells clock.old) out.old.items)
+        (moment_of pass.new (K.tells link.new) (C.tells clock.new) out.new.items) }
 {
     tell_if_due(&held, ask, class, rules, standing, out, clock)?;
     if let Turn::Worn { .. } = reader.release(shared, rt, pass, held) {

@@ -1,7 +1,8 @@
-//! One who tells of products: the end of a session that was asked for notices (NOTIFYME), and sends one for each product that is due.
+//! One who tells of products: the end of a session that was asked for notices (NOTIFYME), and sends one for each
+//! product that is due.
 //!
-//! [`notify`] answers a request and tells of products. What a session of notices is stands in `specs/`, as plain data: see `Notifying`;
-//! and what the call says at each of its ends: see `Notifies`.
+//! [`notify`] answers a request and tells of products. What a session of notices is stands in `specs/`, as plain data:
+//! see `Notifying`; and what the call says at each of its ends: see `Notifies`.
 #![tactic(auto)]
 
 mod course;

@@ -26,9 +26,11 @@ pub(crate) fn tell_if_due<C: Clock>(
     requires { class.old ≡ ask.now.class }
     ensures same_class { class.new ≡ class.old }
     ensures same_rules { rules.new ≡ rules.old }
-    ensures tells { (asked : Asked) (pass : PassView) (link : LinkRecord) → IsAskedOf asked class.old rules.old → IsNotClosed link
+    ensures tells { (asked : Asked) (pass : PassView) (link : LinkRecord) → IsAskedOf asked class.old rules.old
+        → IsNotClosed link
         → Tells result asked (row_of held.now) standing.old standing.new
-        (moment_of pass link (C.tells clock.old) out.old.items) (moment_of pass link (C.tells clock.new) out.new.items) }
+        (moment_of pass link (C.tells clock.old) out.old.items)
+        (moment_of pass link (C.tells clock.new) out.new.items) }
 {
     if !is_due(class, rules, ask.class.to, held.time, &held.info) {
         return Ok(());

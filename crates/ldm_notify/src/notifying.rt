@@ -50,11 +50,14 @@ fn notify_turns<H: Wait, K: Link, E: Sink, C: Clock, G: Gate>(
     requires not_closed { IsNotClosed (K.tells link.old) }
     ensures kept { IsSamePass pass.old pass.new }
     ensures still_open { IsNotClosed (K.tells link.new) }
-    ensures notified { (asked : Asked) (missed : Bool) (first : PassView) → IsAskedOf asked class.old rules.old → asked.xid ≡ ask.now.xid
-        → IsAnswerTo asked (Opened missed reader.now.k) → Makes first pass.old (opening_entries first.actor asked (Opened missed reader.now.k)) → out.old.items ≡ []
+    ensures notified { (asked : Asked) (missed : Bool) (first : PassView) → IsAskedOf asked class.old rules.old
+        → asked.xid ≡ ask.now.xid
+        → IsAnswerTo asked (Opened missed reader.now.k)
+        → Makes first pass.old (opening_entries first.actor asked (Opened missed reader.now.k)) → out.old.items ≡ []
         → HasNotified result asked (Opened missed reader.now.k)
         (situation_of (moment_of first (K.tells link.old) (C.tells clock.old) []) (E.tells log.old) (G.tells gate.old))
-        (situation_of (moment_of pass.new (K.tells link.new) (C.tells clock.new) out.new.items) (E.tells log.new) (G.tells gate.new)) }
+        (situation_of (moment_of pass.new (K.tells link.new) (C.tells clock.new) out.new.items) (E.tells log.new)
+        (G.tells gate.new)) }
     ensures cursor { KeepsCursor result pass.new reader.now.k }
 {
     let at = match answer_class(ask.xid, ClassAnswer::Ok, out, link, clock) {
@@ -103,9 +106,12 @@ fn notify_cursor<H: Wait, K: Link, E: Sink, C: Clock, G: Gate>(
     requires name { length rules.old.host ≤ LONGEST_NAME }
     requires not_closed { IsNotClosed (K.tells link.old) }
     ensures kept { IsSamePass pass.old pass.new }
-    ensures notified { (asked : Asked) (missed : Bool) (first : PassView) → IsAskedOf asked class.old rules.old → asked.xid ≡ ask.now.xid
-        → IsAnswerTo asked (Opened missed reader.k) → Makes first pass.old (opening_entries first.actor asked (Opened missed reader.k)) → out.old.items ≡ []
-        → NotifiesTo result asked first pass.new (session_tells K.tells E.tells C.tells G.tells link.old log.old clock.old gate.old)
+    ensures notified { (asked : Asked) (missed : Bool) (first : PassView) → IsAskedOf asked class.old rules.old
+        → asked.xid ≡ ask.now.xid
+        → IsAnswerTo asked (Opened missed reader.k)
+        → Makes first pass.old (opening_entries first.actor asked (Opened missed reader.k)) → out.old.items ≡ []
+        → NotifiesTo result asked first pass.new
+        (session_tells K.tells E.tells C.tells G.tells link.old log.old clock.old gate.old)
         (session_tells K.tells E.tells C.tells G.tells link.new log.new clock.new gate.new)
         × KeepsFaults (session_tells K.tells E.tells C.tells G.tells link.old log.old clock.old gate.old)
         (session_tells K.tells E.tells C.tells G.tells link.new log.new clock.new gate.new) }
@@ -126,8 +132,8 @@ fn notify_cursor<H: Wait, K: Link, E: Sink, C: Clock, G: Gate>(
     end
 }
 
-// Tells of the products of a class of which all is left to the host. All memory but that of notices is taken before the cursor is
-// opened.
+// Tells of the products of a class of which all is left to the host. All memory but that of notices is taken before the
+// cursor is opened.
 fn notify_class<H: Wait, K: Link, E: Sink, G: Gate, C: Clock>(
     rt: &H,
     alloc: Global,
@@ -149,7 +155,8 @@ fn notify_class<H: Wait, K: Link, E: Sink, G: Gate, C: Clock>(
     requires same { reduce (rules_for false policy.now) host.now ask.now.class ≡ reduced.Same }
     ensures kept { IsSamePass pass.old pass.new }
     ensures notified { NotifiesTo result (asked_of host.now policy.now ask.now) pass.old pass.new
-        (session_tells K.tells E.tells C.tells G.tells link.old log.old clock.old gate.old) (session_tells K.tells E.tells C.tells G.tells link.new log.new clock.new gate.new)
+        (session_tells K.tells E.tells C.tells G.tells link.old log.old clock.old gate.old)
+        (session_tells K.tells E.tells C.tells G.tells link.new log.new clock.new gate.new)
         × KeepsFaults (session_tells K.tells E.tells C.tells G.tells link.old log.old clock.old gate.old)
         (session_tells K.tells E.tells C.tells G.tells link.new log.new clock.new gate.new) }
 {
@@ -206,7 +213,8 @@ fn notify_asked<H: Wait, K: Link, E: Sink, G: Gate, C: Clock>(
     requires not_closed { IsNotClosed (K.tells link.old) }
     ensures kept { IsSamePass pass.old pass.new }
     ensures notified { NotifiesTo result (asked_of host.now policy.now ask.now) pass.old pass.new
-        (session_tells K.tells E.tells C.tells G.tells link.old log.old clock.old gate.old) (session_tells K.tells E.tells C.tells G.tells link.new log.new clock.new gate.new)
+        (session_tells K.tells E.tells C.tells G.tells link.old log.old clock.old gate.old)
+        (session_tells K.tells E.tells C.tells G.tells link.new log.new clock.new gate.new)
         × KeepsFaults (session_tells K.tells E.tells C.tells G.tells link.old log.old clock.old gate.old)
         (session_tells K.tells E.tells C.tells G.tells link.new log.new clock.new gate.new) }
 {
@@ -230,10 +238,11 @@ fn notify_asked<H: Wait, K: Link, E: Sink, G: Gate, C: Clock>(
     }
 }
 
-/// Answers a peer's NOTIFYME and tells it of products: a notice of each product that is due goes out, in the order of the queue, until
-/// the gate says to stop or something ends it. Losses are log lines.
+/// Answers a peer's NOTIFYME and tells it of products: a notice of each product that is due goes out, in the order of
+/// the queue, until the gate says to stop or something ends it. Losses are log lines.
 ///
-/// The cursor that was opened is closed at every end but [`NotifyEnd::Worn`], and the link at [`NotifyEnd::Stopped`] alone.
+/// The cursor that was opened is closed at every end but [`NotifyEnd::Worn`], and the link at [`NotifyEnd::Stopped`]
+/// alone.
 pub fn notify<H: Wait, K: Link, E: Sink, G: Gate, C: Clock>(
     rt: &H,
     alloc: Global,
@@ -256,7 +265,8 @@ pub fn notify<H: Wait, K: Link, E: Sink, G: Gate, C: Clock>(
     ensures counts { KeepsFaults (session_tells K.tells E.tells C.tells G.tells link.old log.old clock.old gate.old)
         (session_tells K.tells E.tells C.tells G.tells link.new log.new clock.new gate.new) }
     ensures notified { Notifies result (asked_of host.now policy.now ask.now) pass.old pass.new
-        (session_tells K.tells E.tells C.tells G.tells link.old log.old clock.old gate.old) (session_tells K.tells E.tells C.tells G.tells link.new log.new clock.new gate.new) }
+        (session_tells K.tells E.tells C.tells G.tells link.old log.old clock.old gate.old)
+        (session_tells K.tells E.tells C.tells G.tells link.new log.new clock.new gate.new) }
 {
     notify_end(notify_asked(
         rt, alloc, shared, pass, link, log, gate, clock, host, ask, class, policy,

@@ -46,8 +46,10 @@ pub(crate) fn turn<H: Wait, K: Link, E: Sink, C: Clock, G: Gate>(
     ensures same_rules { rules.new ≡ rules.old }
     ensures turns { (asked : Asked) → IsAskedOf asked class.old rules.old
         → TurnsBy result asked reader.now.k standing.old standing.new
-        (situation_of (moment_of pass.old (K.tells link.old) (C.tells clock.old) out.old.items) (E.tells log.old) (G.tells gate.old))
-        (situation_of (moment_of pass.new (K.tells link.new) (C.tells clock.new) out.new.items) (E.tells log.new) (G.tells gate.new)) }
+        (situation_of (moment_of pass.old (K.tells link.old) (C.tells clock.old) out.old.items) (E.tells log.old)
+        (G.tells gate.old))
+        (situation_of (moment_of pass.new (K.tells link.new) (C.tells clock.new) out.new.items) (E.tells log.new)
+        (G.tells gate.new)) }
 {
     products_stay();
     match reader.step(shared, rt, pass) {

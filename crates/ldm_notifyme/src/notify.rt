@@ -21,12 +21,13 @@ pub enum NotifymeEnd {
     Watched(WatchEnd),
 }
 
-/// Asks a node to be told of the products of a class, and writes a line for each that it tells of: `notice ARRIVAL SIG FEED SEQNO ORIGIN
-/// IDENT SIZE`. It goes on until the end of the stream, or until something ends it, or to the end of so many notices where a count is given.
-/// Answers the number that the program ends with, and writes its line to the log.
+/// Asks a node to be told of the products of a class, and writes a line for each that it tells of: `notice ARRIVAL SIG
+/// FEED SEQNO ORIGIN IDENT SIZE`. It goes on until the end of the stream, or until something ends it, or to the end of
+/// so many notices where a count is given. Answers the number that the program ends with, and writes its line to the
+/// log.
 ///
-/// It connects once, and gives the link back. The clause `ends` gives each status its cause, and what was sent, given and written then: see
-/// `Notifies`.
+/// It connects once, and gives the link back. The clause `ends` gives each status its cause, and what was sent, given
+/// and written then: see `Notifies`.
 pub fn notifyme<N: Dial, K: Sink, E: Sink>(
     alloc: Global,
     net: &mut N,
@@ -39,8 +40,10 @@ pub fn notifyme<N: Dial, K: Sink, E: Sink>(
 ) -> u8
     requires none_out { (N.tells net.old).links.out ≡ false }
     requires counted { ForSome count (λ n. 0 < n) }
-    ensures ends { Notifies result (record { peer = record { host = host.now; port = port }; class = class.now; count = count })
-        (mon_tells N.tells K.tells E.tells net.old sink.old log.old) (mon_tells N.tells K.tells E.tells net.new sink.new log.new) }
+    ensures ends { Notifies result
+        (record { peer = record { host = host.now; port = port }; class = class.now; count = count })
+        (mon_tells N.tells K.tells E.tells net.old sink.old log.old)
+        (mon_tells N.tells K.tells E.tells net.new sink.new log.new) }
     ensures none_out { (N.tells net.new).links.out ≡ false }
     ensures counts_kept { KeepsCounts (mon_tells N.tells K.tells E.tells net.old sink.old log.old)
         (mon_tells N.tells K.tells E.tells net.new sink.new log.new) }
@@ -61,7 +64,8 @@ fn reach<N: Dial, K: Sink>(
 ) -> NotifymeEnd
     requires none_out { (N.tells net.old).links.out ≡ false }
     requires counted { ForSome count (λ n. 0 < n) }
-    ensures ends { NotifymeEnds result (record { peer = record { host = host.now; port = port }; class = class.now; count = count })
+    ensures ends { NotifymeEnds result
+        (record { peer = record { host = host.now; port = port }; class = class.now; count = count })
         (N.tells net.old) (N.tells net.new) (K.tells sink.old) (K.tells sink.new) }
     ensures none_out { (N.tells net.new).links.out ≡ false }
     ensures faults_kept { (N.tells net.old).faults ≤ (N.tells net.new).faults }
@@ -89,7 +93,8 @@ fn hold<N: Dial, K: Sink>(
     requires is_out { (N.tells net.old).links.out ≡ true }
     requires not_closed { IsNotClosed (N.Link.tells link) }
     requires counted { ForSome count (λ n. 0 < n) }
-    ensures holds { Holds result class.now count (N.Link.tells link) (N.tells net.old) (N.tells net.new) (K.tells sink.old) (K.tells sink.new) }
+    ensures holds { Holds result class.now count (N.Link.tells link) (N.tells net.old) (N.tells net.new)
+        (K.tells sink.old) (K.tells sink.new) }
     ensures none_out { (N.tells net.new).links.out ≡ false }
     ensures faults_kept { (N.tells net.old).faults ≤ (N.tells net.new).faults }
     ensures ended_kept { (N.tells net.old).links.ended ≤ (N.tells net.new).links.ended }

@@ -22,19 +22,21 @@ pub trait Dial {
     /// What leads to a host.
     type Link: Link;
 
-    /// What it tells: how often it failed, whom it was asked for, if it tells this, and its links: whether one is out, how
-    /// many were given back that had ended and that had failed, and what passed on each, if it tells this. A count
+    /// What it tells: how often it failed, whom it was asked for, if it tells this, and its links: whether one is out,
+    /// how many were given back that had ended and that had failed, and what passed on each, if it tells this. A count
     /// stands still at the end of `u64`.
     ghost tells: { Self → DialRecord };
 
     /// Connects to a port of a host, which is a name or an address.
     fn connect(&mut self, host: &[u8], port: u16) -> Dialled<Self::Link>
         requires { (tells self.old).links.out ≡ false }
-        ensures dialled { ConnectGives Self.Link.tells result (record { host = host.now; port = port }) (tells self.old) (tells self.new) };
+        ensures dialled { ConnectGives Self.Link.tells result (record { host = host.now; port = port }) (tells self.old)
+            (tells self.new) };
 
     /// Takes a link back, which needs no memory.
     ///
-    /// What the dial tells is of the link that it is handed: to hand it the last that it connected is the caller's part.
+    /// What the dial tells is of the link that it is handed: to hand it the last that it connected is the caller's
+    /// part.
     fn give_back(&mut self, link: Self::Link)
         requires { (tells self.old).links.out ≡ true }
         ensures given_back { DialTakesBack (Self.Link.tells link) (tells self.old) (tells self.new) };

@@ -26,8 +26,9 @@ pub enum GateCall {
 pub trait Gate {
     ghost use Rattle.ldm_outside.specs.Gate.{LetsPass, Idles, IsLastCall, with_calls};
 
-    /// What it tells: how often it answered [`Go::Stop`]; after how many idle calls more it stops, if it tells this; and the
-    /// calls that it let pass and that it was told of, if it tells these. The count stands still at the end of `u64`.
+    /// What it tells: how often it answered [`Go::Stop`]; after how many idle calls more it stops, if it tells this;
+    /// and the calls that it let pass and that it was told of, if it tells these. The count stands still at the end of
+    /// `u64`.
     ///
     /// A gate that counts its calls is not `Copy`: a copy would count for itself.
     ghost tells: { Self → GateRecord };

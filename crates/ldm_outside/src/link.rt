@@ -29,9 +29,9 @@ pub struct Passed {
 pub trait Link {
     ghost use Rattle.ldm_outside.specs.Link.{RecvGives, SendGives, Closes};
 
-    /// What it tells: what passed, byte by byte and both ways in one order, and the bytes that it has left to give, if it
-    /// tells these; how often it failed and was at its end; and whether it was closed. A count stands still at the end
-    /// of `u64`.
+    /// What it tells: what passed, byte by byte and both ways in one order, and the bytes that it has left to give, if
+    /// it tells these; how often it failed and was at its end; and whether it was closed. A count stands still at the
+    /// end of `u64`.
     ghost tells: { Self → LinkRecord };
 
     /// Receives some bytes into the front of the buffer, which has room for one at least.

@@ -132,7 +132,8 @@ impl Dial for MemDial {
 
     fn connect(&mut self, host: &[u8], port: u16) -> Dialled<MemLink>
         requires { self.old.links.out ≡ false }
-        ensures dialled { ConnectGives told_by_link result (record { host = host.now; port = port }) (told_by_dial self.old) (told_by_dial self.new) }
+        ensures dialled { ConnectGives told_by_link result (record { host = host.now; port = port })
+            (told_by_dial self.old) (told_by_dial self.new) }
         ensures planned { ConnectsAsPlanned result (record { host = host.now; port = port }) self.old self.new }
     {
         let fails = self.calls.next();
@@ -165,7 +166,8 @@ impl Dial for MemDial {
 
 // Keeps whom a call was for, behind the others. Without memory they stay as they were.
 fn keep_asked(asked: &mut Vec<DialCall>, host: &[u8], port: u16) -> Result<(), AllocError>
-    ensures ok { OnOk result (map asked_by asked.new.items ≡ map asked_by asked.old.items ++ record { host = host.now; port = port } ∷ []) }
+    ensures ok { OnOk result
+        (map asked_by asked.new.items ≡ map asked_by asked.old.items ++ record { host = host.now; port = port } ∷ []) }
     ensures err { OnErr result (asked.new.items ≡ asked.old.items) }
 {
     asked.reserve(1)?;

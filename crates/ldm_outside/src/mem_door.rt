@@ -172,8 +172,10 @@ fn next_peer(
     lending: &mut Lending,
 ) -> Option<MemPeer>
     requires { lending.old.out ≡ false }
-    ensures peer { MatchOption result (waiting.new.items ≡ waiting.old.items) (λ peer. waiting.old.items ≡ peer ∷ waiting.new.items) }
-    ensures host { MatchOption result (hosts.new.items ≡ hosts.old.items) (λ peer. map (λ h. h.items) hosts.new.items ≡ map (λ h. h.items) hosts.old.items ++ peer.host.items ∷ []) }
+    ensures peer { MatchOption result (waiting.new.items ≡ waiting.old.items)
+        (λ peer. waiting.old.items ≡ peer ∷ waiting.new.items) }
+    ensures host { MatchOption result (hosts.new.items ≡ hosts.old.items)
+        (λ peer. map (λ h. h.items) hosts.new.items ≡ map (λ h. h.items) hosts.old.items ++ peer.host.items ∷ []) }
     ensures out { MatchOption result (lending.new ≡ lending.old) (λ _. lending.new ≡ lent lending.old) }
 {
     hosts.reserve(1).ok()?;

@@ -1,5 +1,6 @@
 //! A launcher in memory, which starts no program and fails at chosen calls.
-ghost use Rattle.std.specs.Prelude.{◌≡◌, ◌≤◌, ◌<◌, ◌++◌, ◌∷◌, [], map, length, string_bytes, is_ok, IfOk, OnOk, OnErr, if◌then◌else◌};
+ghost use Rattle.std.specs.Prelude.{◌≡◌, ◌≤◌, ◌<◌, ◌++◌, ◌∷◌, [], map, length, string_bytes};
+ghost use Rattle.std.specs.Prelude.{is_ok, IfOk, OnOk, OnErr, if◌then◌else◌};
 ghost use Rattle.ldm_outside.specs.Memory.{with_most};
 ghost use Rattle.ldm_outside.specs.Numbered.{at_number, with_number};
 ghost use Rattle.ldm_outside.specs.Launcher.{spelled, new_child, new_running, is_piped as piped_of, with_shut};
@@ -158,7 +159,9 @@ impl Started {
     // Adds a child that was given no byte.
     fn add(&mut self, words: &[String], piped: bool) -> Result<ChildNo, AllocError>
         ensures number { IfOk result (λ child. child.0 ≡ length self.old.ever.items) }
-        ensures now { OnOk result (self.new.now.entries ≡ with_number (length self.old.ever.items) (new_running words.now piped) self.old.now.entries) }
+        ensures now { OnOk result
+            (self.new.now.entries ≡ with_number (length self.old.ever.items)
+            (new_running words.now piped) self.old.now.entries) }
         ensures ever { OnOk result (self.new.ever.items ≡ self.old.ever.items ++ new_child words.now piped ∷ []) }
         ensures now_kept { OnErr result (self.new.now.entries ≡ self.old.now.entries) }
         ensures ever_kept { OnErr result (self.new.ever.items ≡ self.old.ever.items) }
@@ -196,8 +199,8 @@ fn shut_input(running: &mut BTreeMap<usize, MemRunning>, child: ChildNo)
 /// A launcher in memory: it starts no program, keeps what each child was given, and answers the statuses that it was
 /// made with. Its calls are numbered from 1, and those of the numbers in a list fail; `detach` has no number.
 ///
-/// A write to a child that is not piped fails, and so does a call without memory for what it is to keep. A write takes as
-/// much of the piece as the limit allows.
+/// A write to a child that is not piped fails, and so does a call without memory for what it is to keep. A write takes
+/// as much of the piece as the limit allows.
 #[derive(Drop)]
 pub struct MemLauncher {
     started: Started,
@@ -220,8 +223,8 @@ impl Model for MemLauncher {
 }
 
 impl MemLauncher {
-    /// A launcher whose child of number i ends with the i-th of these statuses, or with 0 behind the last, and whose calls
-    /// of the given numbers fail. The numbers are in any order.
+    /// A launcher whose child of number i ends with the i-th of these statuses, or with 0 behind the last, and whose
+    /// calls of the given numbers fail. The numbers are in any order.
     pub fn new(alloc: Global, statuses: Vec<u32>, failing: Vec<u64>) -> MemLauncher
         ensures { result ≡ first_launcher statuses.items failing.items }
     {
@@ -258,8 +261,10 @@ impl MemLauncher {
 }
 
 impl Launcher for MemLauncher {
-    ghost use Rattle.ldm_outside.specs.Launcher.{StartsChild, IsTaking, FeedsChild, ShutsInput, IsNotWaitedFor, WaitsForChild, DetachesChild};
-    ghost use Rattle.ldm_outside.specs.MemLauncher.{told_by_launcher, StartsChildAsPlanned, FeedsChildAsPlanned, ShutsInputAsPlanned, WaitsAsPlanned, DetachesAsPlanned};
+    ghost use Rattle.ldm_outside.specs.Launcher.{StartsChild, IsTaking, FeedsChild, ShutsInput};
+    ghost use Rattle.ldm_outside.specs.Launcher.{IsNotWaitedFor, WaitsForChild, DetachesChild};
+    ghost use Rattle.ldm_outside.specs.MemLauncher.{told_by_launcher, StartsChildAsPlanned, FeedsChildAsPlanned};
+    ghost use Rattle.ldm_outside.specs.MemLauncher.{ShutsInputAsPlanned, WaitsAsPlanned, DetachesAsPlanned};
 
     ghost tells = { told_by_launcher };
 

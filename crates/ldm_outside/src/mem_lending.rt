@@ -68,11 +68,12 @@ impl Lending {
         self.failed
     }
 
-    /// Takes the next of those for whom a link is to be made, which is out from now on. Where there is none, or no memory
-    /// for the link, everything stays as it was.
+    /// Takes the next of those for whom a link is to be made, which is out from now on. Where there is none, or no
+    /// memory for the link, everything stays as it was.
     pub(crate) fn lend_next<T>(&mut self, waiting: &mut VecDeque<T>) -> Option<T>
         requires { self.old.out ≡ false }
-        ensures next { MatchOption result (waiting.new.items ≡ waiting.old.items) (λ next. waiting.old.items ≡ next ∷ waiting.new.items) }
+        ensures next { MatchOption result (waiting.new.items ≡ waiting.old.items)
+            (λ next. waiting.old.items ≡ next ∷ waiting.new.items) }
         ensures out { MatchOption result (self.new ≡ self.old) (λ _. self.new ≡ lent self.old) }
     {
         if waiting.is_empty() || self.back.reserve(1).is_err() {

@@ -1,5 +1,6 @@
 //! Nets in memory, which hand out the stations of a list.
-ghost use Rattle.std.specs.Prelude.{◌≡◌, false, true, ◌<◌, ◌≤◌, [], ◌∷◌, length, take, drop, map, IfSome, IfNone, vec_len};
+ghost use Rattle.std.specs.Prelude.{◌≡◌, false, true, ◌<◌, ◌≤◌, [], ◌∷◌, length};
+ghost use Rattle.std.specs.Prelude.{take, drop, map, IfSome, IfNone, vec_len};
 ghost use Rattle.std.specs.VecDeque.{deque_len};
 ghost use Rattle.ldm_outside.specs.MemNet.{first_station};
 
@@ -118,8 +119,10 @@ impl Dial for MemNet {
 
     fn connect(&mut self, host: &[u8], port: u16) -> Dialled<MemLink>
         requires { self.old.dial.links.out ≡ false }
-        ensures dialled { ConnectGives told_by_link result (record { host = host.now; port = port }) (told_by_dial self.old.dial) (told_by_dial self.new.dial) }
-        ensures planned { ConnectsAsPlanned result (record { host = host.now; port = port }) self.old.dial self.new.dial }
+        ensures dialled { ConnectGives told_by_link result (record { host = host.now; port = port })
+            (told_by_dial self.old.dial) (told_by_dial self.new.dial) }
+        ensures planned { ConnectsAsPlanned result
+            (record { host = host.now; port = port }) self.old.dial self.new.dial }
         ensures rest { self.new ≡ record self.old { dial = self.new.dial } }
     {
         self.dial.connect(host, port)
@@ -127,8 +130,10 @@ impl Dial for MemNet {
 
     fn give_back(&mut self, link: MemLink)
         requires { self.old.dial.links.out ≡ true }
-        ensures given_back { DialTakesBack (told_by_link link) (told_by_dial self.old.dial) (told_by_dial self.new.dial) }
-        ensures planned { self.new ≡ record self.old { dial = record self.old.dial { links = after_back link self.old.dial.links } } }
+        ensures given_back { DialTakesBack (told_by_link link) (told_by_dial self.old.dial)
+            (told_by_dial self.new.dial) }
+        ensures planned { self.new
+            ≡ record self.old { dial = record self.old.dial { links = after_back link self.old.dial.links } } }
     {
         self.dial.give_back(link);
     }
@@ -152,9 +157,11 @@ impl Net for MemNet {
     ghost kept = { λ s. s.kept };
 
     fn stations(&mut self, port: u16, count: u32, idles: Option<u32>) -> Manned<MemStation>
-        ensures given { StationsGive told_by_station result count idles (told_by_dial self.old.dial) (told_by_dial self.new.dial) }
+        ensures given { StationsGive told_by_station result count idles (told_by_dial self.old.dial)
+            (told_by_dial self.new.dial) }
         ensures kept { self.new.kept ≡ self.old.kept }
-        ensures planned { StationsAsPlanned result (record { port = port; count = count; idles = idles }) self.old self.new }
+        ensures planned { StationsAsPlanned result
+            (record { port = port; count = count; idles = idles }) self.old self.new }
     {
         self.asked = Some(StationsCall { port, count, idles });
         if self.dial.count_call() || self.ready.len() < count as usize {

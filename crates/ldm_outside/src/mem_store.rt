@@ -1,5 +1,6 @@
 //! A store in memory, which fails at chosen calls.
-ghost use Rattle.std.specs.Prelude.{◌≡◌, ◌<◌, ◌≤◌, ◌++◌, ◌∷◌, [], bytes_eq, length, vec_len, vec_capacity, IfOk, OnOk, OnErr, is_ok, if◌then◌else◌};
+ghost use Rattle.std.specs.Prelude.{◌≡◌, ◌<◌, ◌≤◌, ◌++◌, ◌∷◌, [], bytes_eq, length, vec_len};
+ghost use Rattle.std.specs.Prelude.{vec_capacity, IfOk, OnOk, OnErr, is_ok, if◌then◌else◌};
 ghost use Rattle.ldm_outside.specs.Memory.{with_most};
 ghost use Rattle.ldm_outside.specs.Numbered.{with_number};
 ghost use Rattle.ldm_outside.specs.Store.{with_made, with_changed};
@@ -61,7 +62,8 @@ impl MemFile {
     }
 
     fn append(&mut self, bytes: &[u8]) -> Result<(), AllocError>
-        ensures { self.new ≡ (if is_ok result then record self.old { bytes = self.old.bytes ++ bytes.now } else self.old) }
+        ensures { self.new ≡ (if is_ok result then record self.old { bytes = self.old.bytes ++ bytes.now } else
+            self.old) }
     {
         self.bytes.extend_from_slice(bytes)
     }
@@ -82,7 +84,8 @@ fn find(files: &[MemFile], path: &str) -> Option<usize>
 
 // Adds the bytes to the file under the path.
 fn append(files: &mut Vec<MemFile>, path: &str, bytes: &[u8]) -> Result<(), AllocError>
-    ensures appended { OnOk result (files.new.items ≡ with_changed path.now (λ before. before ++ bytes.now) files.old.items) }
+    ensures appended { OnOk result
+        (files.new.items ≡ with_changed path.now (λ before. before ++ bytes.now) files.old.items) }
     ensures kept { OnErr result (files.new.items ≡ files.old.items) }
 {
     match find(files, path) {
@@ -143,7 +146,8 @@ impl Opened {
     // Notes that the file under the path was opened.
     fn add(&mut self, path: &str) -> Result<FileNo, AllocError>
         ensures number { IfOk result (λ file. file.0 ≡ length self.old.ever.items) }
-        ensures now { OnOk result (self.new.now.entries ≡ with_number (length self.old.ever.items) path.now self.old.now.entries) }
+        ensures now { OnOk result
+            (self.new.now.entries ≡ with_number (length self.old.ever.items) path.now self.old.now.entries) }
         ensures ever { OnOk result (self.new.ever.items ≡ self.old.ever.items ++ path.now ∷ []) }
         ensures now_kept { OnErr result (self.new.now.entries ≡ self.old.now.entries) }
         ensures ever_kept { OnErr result (self.new.ever.items ≡ self.old.ever.items) }
@@ -186,7 +190,8 @@ fn make(files: &mut Vec<MemFile>, path: &str, file: MemFile)
 // Opens the file under the path, and makes it where there is none.
 fn open(opened: &mut Opened, files: &mut Vec<MemFile>, path: &str) -> Result<FileNo, AllocError>
     ensures number { IfOk result (λ file. file.0 ≡ length opened.old.ever.items) }
-    ensures now { OnOk result (opened.new.now.entries ≡ with_number (length opened.old.ever.items) path.now opened.old.now.entries) }
+    ensures now { OnOk result
+        (opened.new.now.entries ≡ with_number (length opened.old.ever.items) path.now opened.old.now.entries) }
     ensures ever { OnOk result (opened.new.ever.items ≡ opened.old.ever.items ++ path.now ∷ []) }
     ensures made { OnOk result (files.new.items ≡ with_made path.now files.old.items) }
     ensures now_kept { OnErr result (opened.new.now.entries ≡ opened.old.now.entries) }
@@ -218,8 +223,8 @@ fn read(alloc: Global, files: &[MemFile], path: &str, limit: u64) -> FileRead
 
 /// A store in memory. Its calls are numbered from 1, and those of the numbers in a list fail.
 ///
-/// Reading a file that it has not fails, and so does a call without memory for what it is to keep. A write takes as much
-/// of the piece as the limit allows. Where two files are under one path the first counts.
+/// Reading a file that it has not fails, and so does a call without memory for what it is to keep. A write takes as
+/// much of the piece as the limit allows. Where two files are under one path the first counts.
 #[derive(Drop)]
 pub struct MemStore {
     files: Vec<MemFile>,
@@ -296,8 +301,11 @@ impl MemStore {
 }
 
 impl Store for MemStore {
-    ghost use Rattle.ldm_outside.specs.Store.{ReadsFile, OpensFile, IsOpen, EmptiesFile, WritesFile, FlushesFile, ShutsFile};
-    ghost use Rattle.ldm_outside.specs.MemStore.{told_by_store, ReadsFileAsPlanned, OpensFileAsPlanned, EmptiesFileAsPlanned, WritesFileAsPlanned, ShutsFileAsPlanned, BeginsCall};
+    ghost use Rattle.ldm_outside.specs.Store.{ReadsFile, OpensFile, IsOpen, EmptiesFile};
+    ghost use Rattle.ldm_outside.specs.Store.{WritesFile, FlushesFile, ShutsFile};
+    ghost use Rattle.ldm_outside.specs.MemStore.{told_by_store, ReadsFileAsPlanned, OpensFileAsPlanned};
+    ghost use Rattle.ldm_outside.specs.MemStore.{EmptiesFileAsPlanned, WritesFileAsPlanned, ShutsFileAsPlanned};
+    ghost use Rattle.ldm_outside.specs.MemStore.{BeginsCall};
 
     ghost tells = { told_by_store };
 

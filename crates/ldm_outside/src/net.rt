@@ -51,7 +51,8 @@ pub trait Net: Dial {
     type StationGate: Gate + Send;
 
     /// The stations that it keeps, in order.
-    ghost kept: { Self → List (Station Self.StationDoor Self.StationDial Self.StationLog Self.StationClock Self.StationGate) };
+    ghost kept: { Self → List
+        (Station Self.StationDoor Self.StationDial Self.StationLog Self.StationClock Self.StationGate) };
 
     /// Hands out so many new stations, whose doors let in what comes to that port. The gate of a station stops after so
     /// many idle calls, or never where no number is given, if it tells this.
@@ -70,7 +71,8 @@ pub trait Net: Dial {
         >,
     >
         ensures given { StationsGive
-            (station_tells Self.StationDoor.tells Self.StationDial.tells Self.StationLog.tells Self.StationClock.tells Self.StationGate.tells)
+            (station_tells Self.StationDoor.tells Self.StationDial.tells Self.StationLog.tells Self.StationClock.tells
+            Self.StationGate.tells)
             result count idles (Self.tells self.old) (Self.tells self.new) }
         ensures kept { kept self.new ≡ kept self.old };
 

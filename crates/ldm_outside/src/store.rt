@@ -25,14 +25,15 @@ pub enum FileRead {
 
 /// Files under paths.
 ///
-/// A call that answers `Failed` changed nothing but the count of faults: a write took nothing, a file that was not to be
-/// shut is not shut, and the caller may try again.
+/// A call that answers `Failed` changed nothing but the count of faults: a write took nothing, a file that was not to
+/// be shut is not shut, and the caller may try again.
 pub trait Store {
-    ghost use Rattle.ldm_outside.specs.Store.{ReadsFile, OpensFile, IsOpen, EmptiesFile, WritesFile, FlushesFile, ShutsFile};
+    ghost use Rattle.ldm_outside.specs.Store.{ReadsFile, OpensFile, IsOpen, EmptiesFile};
+    ghost use Rattle.ldm_outside.specs.Store.{WritesFile, FlushesFile, ShutsFile};
 
-    /// What it tells: the files that are open now, with their numbers and paths, and the number that comes next; how often
-    /// it failed and found a file too long; and if it tells these, all files that it ever opened and all that there are. A
-    /// count stands still at the end of `u64`.
+    /// What it tells: the files that are open now, with their numbers and paths, and the number that comes next; how
+    /// often it failed and found a file too long; and if it tells these, all files that it ever opened and all that
+    /// there are. A count stands still at the end of `u64`.
     ghost tells: { Self → StoreRecord };
 
     /// Reads the file under the path, which may have so many bytes at most.

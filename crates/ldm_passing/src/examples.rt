@@ -7,13 +7,15 @@ ghost use Rattle.ldm_upstream.specs.Examples.{sample, sample_signature, feeding_
 ghost use Rattle.ldm_upstream.specs.Turn as turn;
 ghost use Rattle.ldm_upstream.specs.Feeding.{Unanswered};
 ghost use Rattle.ldm_passing.specs.Codes.{Agree};
-ghost use Rattle.ldm_passing.specs.Examples.{first, second, other_signature, inserts, reserves, fills, commits, code, only_row};
+ghost use Rattle.ldm_passing.specs.Examples.{first, second, other_signature, inserts};
+ghost use Rattle.ldm_passing.specs.Examples.{reserves, fills, commits, code, only_row};
 ghost use Rattle.ldm_passing.specs.Handed as way;
 ghost use Rattle.ldm_passing.specs.Handed.{handed, last_of};
 ghost use Rattle.ldm_passing.specs.Queue.{passed_all};
 ghost use Rattle.ldm_passing.specs.Takings.{TakesProduct, BeginsFirst};
 
-/// Worked examples of the definitions, worked out by hand: the products have 4 bytes, `ABCD`, and the reservation place 5.
+/// Worked examples of the definitions, worked out by hand: the products have 4 bytes, `ABCD`, and the reservation place
+/// 5.
 pub fn worked_examples()
     // What is not due does not go; what was announced last may have no reply.
     ensures goes { handed (feeding_of (turn.Gave sample turn.Passed ∷ turn.Gave sample (turn.Whole 8) ∷ turn.Alive 1 9 9
@@ -24,7 +26,8 @@ pub fn worked_examples()
     ensures none_more { last_of (Some sample_signature) [] ≡ Some sample_signature }
     // A product is taken by an insertion, whatever the queue replies to it, and not by two.
     ensures whole { TakesProduct 3 (400 ∷ 500 ∷ []) (first way.Whole) (inserts 500 (reply.Duplicate 0) ∷ []) }
-    ensures once { ¬ (TakesProduct 3 (500 ∷ []) (first way.Whole) (inserts 500 reply.TimeEnd ∷ inserts 500 reply.TimeEnd ∷ [])) }
+    ensures once { ¬ (TakesProduct 3 (500 ∷ []) (first way.Whole)
+        (inserts 500 reply.TimeEnd ∷ inserts 500 reply.TimeEnd ∷ [])) }
     ensures in_time { ¬ (TakesProduct 3 (400 ∷ []) (first way.Whole) (inserts 500 (reply.Duplicate 0) ∷ [])) }
     // It is taken by a reservation that is refused, where it was declined, and by all of its blocks, where it was not.
     ensures declined { TakesProduct 3 [] (first way.Declined) (reserves (reply.Duplicate 0) ∷ []) }

@@ -6,8 +6,8 @@ use crate::pattern::Pattern;
 use regex::bytes::Matcher as Search;
 use std::marker::Model;
 
-/// Searches for one pattern. What a search needs is kept for the next one, and no search fails. Contracts see the bytes of
-/// the pattern.
+/// Searches for one pattern. What a search needs is kept for the next one, and no search fails. Contracts see the bytes
+/// of the pattern.
 #[derive(Drop)]
 pub struct Matcher<'p> {
     pub(crate) pattern: &'p Pattern,

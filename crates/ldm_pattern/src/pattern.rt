@@ -54,7 +54,8 @@ impl Model for Pattern {
 impl Pattern {
     /// The pattern of these bytes.
     pub fn build(alloc: Global, source: &[u8]) -> Result<Pattern, Refusal>
-        ensures { MatchResult result (λ pattern. (pattern ≡ source.now) × IsSome (pattern_meaning source.now)) (IsRefusedFor source.now) }
+        ensures { MatchResult result (λ pattern. (pattern ≡ source.now) × IsSome (pattern_meaning source.now))
+            (IsRefusedFor source.now) }
     {
         let Ok(text) = str::from_utf8(source) else {
             return Err(Refusal::Meaningless);

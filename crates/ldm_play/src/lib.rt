@@ -1,7 +1,7 @@
 //! The command `play`: a script, played on a queue.
 //!
-//! [`play`] reads the script of its streams line by line, and answers each line before it looks at the next. Its contract says
-//! how that ends.
+//! [`play`] reads the script of its streams line by line, and answers each line before it looks at the next. Its
+//! contract says how that ends.
 #![tactic(auto)]
 
 mod pending;

@@ -57,7 +57,8 @@ fn play_ended<K: Sink>(
     sink: &mut K,
 ) -> Result<(), LineFault>
     ensures played { (p : Playing) → StandsForPlay player.old p
-        → LineGives result p (play_line pending.old.number p (pending.old.bytes ++ end.now)) player.new (K.tells sink.old) (K.tells sink.new) }
+        → LineGives result p (play_line pending.old.number p (pending.old.bytes ++ end.now)) player.new
+        (K.tells sink.old) (K.tells sink.new) }
     ensures number { pending.new.number ≡ pending.old.number }
     ensures faults_kept { (K.tells sink.old).faults ≤ (K.tells sink.new).faults }
 {
@@ -79,7 +80,8 @@ fn end_line<K: Sink>(
 ) -> Result<(), LineFault>
     requires { pending.old.number + 1 < 2 ^ 64 }
     ensures played { (p : Playing) → StandsForPlay player.old p
-        → LineGives result p (play_line pending.old.number p (pending.old.bytes ++ end.now)) player.new (K.tells sink.old) (K.tells sink.new) }
+        → LineGives result p (play_line pending.old.number p (pending.old.bytes ++ end.now)) player.new
+        (K.tells sink.old) (K.tells sink.new) }
     ensures next { OnOk result (pending.new ≡ fresh_line (pending.old.number + 1)) }
     ensures faults_kept { (K.tells sink.old).faults ≤ (K.tells sink.new).faults }
 {
@@ -96,7 +98,8 @@ fn play_piece<K: Sink>(
     sink: &mut K,
 ) -> Result<(), LineFault>
     requires { pending.old.number + length piece.now < 2 ^ 64 }
-    ensures played { (p : Playing) (script : List ℕ) (before : SinkRecord) → GoesOn p script player.old pending.old before (K.tells sink.old) →
+    ensures played { (p : Playing) (script : List ℕ) (before : SinkRecord)
+        → GoesOn p script player.old pending.old before (K.tells sink.old) →
         PieceGives result p (script ++ piece.now) player.new pending.new before (K.tells sink.new) }
     ensures number { OnOk result (pending.new.number ≤ pending.old.number + length piece.now) }
     ensures faults_kept { (K.tells sink.old).faults ≤ (K.tells sink.new).faults }
@@ -114,7 +117,8 @@ fn play_piece<K: Sink>(
 
 // Plays the last line of a script, which no newline ends.
 fn play_last<K: Sink>(player: &mut Player, pending: &Pending, sink: &mut K) -> Result<(), LineFault>
-    ensures played { (p : Playing) (script : List ℕ) (before : SinkRecord) → GoesOn p script player.old pending.now before (K.tells sink.old) →
+    ensures played { (p : Playing) (script : List ℕ) (before : SinkRecord)
+        → GoesOn p script player.old pending.now before (K.tells sink.old) →
         EndGives result p script before (K.tells sink.new) }
     ensures faults_kept { (K.tells sink.old).faults ≤ (K.tells sink.new).faults }
 {
@@ -191,18 +195,22 @@ fn play_new<S: Source, K: Sink>(
 /// the number that the program ends with, and writes its line to the log.
 ///
 /// All memory is taken before the first read. The clause `ends` gives each status its cause, and what was read and
-/// written then: see `Plays`. The clause `law` says that the answers are those of a history that obeys the law of the queue:
-/// see `WritesLawful`. The clause `completes` says when a play comes to its end: see `Unhindered`.
+/// written then: see `Plays`. The clause `law` says that the answers are those of a history that obeys the law of the
+/// queue: see `WritesLawful`. The clause `completes` says when a play comes to its end: see `Unhindered`.
 pub fn play<S: Source, K: Sink, E: Sink>(
     alloc: Global,
     arena: u64,
     slots: u32,
     streams: &mut Streams<S, K, E>,
 ) -> u8
-    ensures ends { Plays (record { arena = arena; slots = slots }) result (streams_tells S.tells K.tells E.tells streams.old) (streams_tells S.tells K.tells E.tells streams.new) }
-    ensures law { ObeysPlayLaw (record { arena = arena; slots = slots }) (streams_tells S.tells K.tells E.tells streams.old) (streams_tells S.tells K.tells E.tells streams.new) }
-    ensures completes { Completes (record { arena = arena; slots = slots }) result (streams_tells S.tells K.tells E.tells streams.old) (streams_tells S.tells K.tells E.tells streams.new) }
-    ensures faults_kept { KeepsFaults (streams_tells S.tells K.tells E.tells streams.old) (streams_tells S.tells K.tells E.tells streams.new) }
+    ensures ends { Plays (record { arena = arena; slots = slots }) result
+        (streams_tells S.tells K.tells E.tells streams.old) (streams_tells S.tells K.tells E.tells streams.new) }
+    ensures law { ObeysPlayLaw (record { arena = arena; slots = slots })
+        (streams_tells S.tells K.tells E.tells streams.old) (streams_tells S.tells K.tells E.tells streams.new) }
+    ensures completes { Completes (record { arena = arena; slots = slots }) result
+        (streams_tells S.tells K.tells E.tells streams.old) (streams_tells S.tells K.tells E.tells streams.new) }
+    ensures faults_kept { KeepsFaults (streams_tells S.tells K.tells E.tells streams.old)
+        (streams_tells S.tells K.tells E.tells streams.new) }
 {
     histories_are_lawful();
     let ending = play_new(alloc, arena, slots, &mut streams.source, &mut streams.sink);

@@ -52,18 +52,19 @@ impl Player {
         })
     }
 
-    /// Plays the line of that number in the script, without its newline: what it asks for is done, and its answer goes to
-    /// the sink as one piece.
+    /// Plays the line of that number in the script, without its newline: what it asks for is done, and its answer goes
+    /// to the sink as one piece.
     ///
-    /// The clause says how it ends: all done and answered; a line outside the grammar, at which nothing is written; or a
-    /// sink that failed, at which a front of the answer is written.
+    /// The clause says how it ends: all done and answered; a line outside the grammar, at which nothing is written; or
+    /// a sink that failed, at which a front of the answer is written.
     pub fn play_line<K: Sink>(
         &mut self,
         number: u64,
         line: &[u8],
         sink: &mut K,
     ) -> Result<(), LineFault>
-        ensures played { (p : Playing) → StandsForPlay self.old p → LineGives result p (play_line number p line.now) self.new (K.tells sink.old) (K.tells sink.new) }
+        ensures played { (p : Playing) → StandsForPlay self.old p
+            → LineGives result p (play_line number p line.now) self.new (K.tells sink.old) (K.tells sink.new) }
         ensures faults_kept { (K.tells sink.old).faults ≤ (K.tells sink.new).faults }
     {
         let order = match read_line(line, Actor::COUNT) {

@@ -86,7 +86,8 @@ fn act_by<H: Wait, F: Store, L: Launcher, E: Sink, G: Gate>(
     requires cursor { HasCursor pass.old reader.k None }
     requires outputs { pqact.old.outputs ≡ no_outputs }
     requires keeps { KeepsUnlessSpent (standing pqact.old.outputs (F.tells store.old) (L.tells launcher.old)) }
-    ensures acts { (first : PassView) → Grows first pass.old opening (reply.Opened reader.k) → ActsOpened result pqact.old.entries
+    ensures acts { (first : PassView) → Grows first pass.old opening (reply.Opened reader.k)
+        → ActsOpened result pqact.old.entries
         (situation_of first (F.tells store.old) (L.tells launcher.old) (E.tells log.old) (G.tells gate.old))
         (situation_of pass.new (F.tells store.new) (L.tells launcher.new) (E.tells log.new) (G.tells gate.new)) }
 {
@@ -102,12 +103,13 @@ fn act_by<H: Wait, F: Store, L: Launcher, E: Sink, G: Gate>(
     }
 }
 
-/// Opens a cursor for all feedtypes at the oldest product, and acts on every product up to the end of the queue. There it asks the
-/// gate: where this says to go on, it acts on what came meanwhile, and where it says to stop, that is the end. Then it shuts all files,
-/// shuts the input of each program and waits for it, and closes the cursor.
+/// Opens a cursor for all feedtypes at the oldest product, and acts on every product up to the end of the queue. There
+/// it asks the gate: where this says to go on, it acts on what came meanwhile, and where it says to stop, that is the
+/// end. Then it shuts all files, shuts the input of each program and waits for it, and closes the cursor.
 ///
-/// Outputs are closed at every end at which they are not spent, and the cursor at every end but [`ActEnd::Worn`]. Where the actions
-/// ended well and a call of the store or the launcher failed when outputs were closed, that fault is the end.
+/// Outputs are closed at every end at which they are not spent, and the cursor at every end but [`ActEnd::Worn`]. Where
+/// the actions ended well and a call of the store or the launcher failed when outputs were closed, that fault is the
+/// end.
 pub fn act<H: Wait, F: Store, L: Launcher, E: Sink, G: Gate>(
     rt: &H,
     alloc: Global,

@@ -30,13 +30,15 @@ fn give_piece<H: Wait, F: Store, L: Launcher>(
     requires holds { (body : List ℕ) × Holds pass.old reader.now.k held.now body }
     requires within { offset + length piece.old ≤ held.now.info.size }
     requires keeps { KeepsUnlessSpent (standing outputs.old (F.tells store.old) (L.tells launcher.old)) }
-    requires in_hand { (hand : InHand) × HasInHand (Some hand) (standing outputs.old (F.tells store.old) (L.tells launcher.old)) }
+    requires in_hand { (hand : InHand)
+        × HasInHand (Some hand) (standing outputs.old (F.tells store.old) (L.tells launcher.old)) }
     ensures kept { IsSamePass pass.old pass.new }
     ensures keeps { KeepsUnlessSpent (standing outputs.new (F.tells store.new) (L.tells launcher.new)) }
     ensures reads { (hand : InHand) (body : List ℕ) → Holds pass.old reader.now.k held.now body
         → HasInHand (Some hand) (standing outputs.old (F.tells store.old) (L.tells launcher.old))
         → Reads result reader.now.k held.now hand body (take (length piece.old) (drop offset body)) pass.old pass.new
-        (standing outputs.old (F.tells store.old) (L.tells launcher.old)) (standing outputs.new (F.tells store.new) (L.tells launcher.new)) }
+        (standing outputs.old (F.tells store.old) (L.tells launcher.old))
+        (standing outputs.new (F.tells store.new) (L.tells launcher.new)) }
 {
     if let Turn::Worn { .. } = reader.read(shared, rt, pass, held, offset, piece) {
         return Err(ActEnd::Worn);
@@ -60,13 +62,15 @@ pub(crate) fn give_body<H: Wait, F: Store, L: Launcher>(
     requires holds { (body : List ℕ) × Holds pass.old reader.now.k held.now body }
     requires room { 0 < length buffer.old }
     requires keeps { KeepsUnlessSpent (standing outputs.old (F.tells store.old) (L.tells launcher.old)) }
-    requires in_hand { (hand : InHand) × HasInHand (Some hand) (standing outputs.old (F.tells store.old) (L.tells launcher.old)) }
+    requires in_hand { (hand : InHand)
+        × HasInHand (Some hand) (standing outputs.old (F.tells store.old) (L.tells launcher.old)) }
     ensures kept { IsSamePass pass.old pass.new }
     ensures keeps { KeepsUnlessSpent (standing outputs.new (F.tells store.new) (L.tells launcher.new)) }
     ensures reads { (hand : InHand) (body : List ℕ) → Holds pass.old reader.now.k held.now body
         → HasInHand (Some hand) (standing outputs.old (F.tells store.old) (L.tells launcher.old))
         → Reads result reader.now.k held.now hand body body pass.old pass.new
-        (standing outputs.old (F.tells store.old) (L.tells launcher.old)) (standing outputs.new (F.tells store.new) (L.tells launcher.new)) }
+        (standing outputs.old (F.tells store.old) (L.tells launcher.old))
+        (standing outputs.new (F.tells store.new) (L.tells launcher.new)) }
 {
     let size = held.info.size() as usize;
     let mut offset = 0;

@@ -48,7 +48,8 @@ fn carry_out<H: Wait, F: Store, L: Launcher>(
     ensures keeps { KeepsUnlessSpent (standing outputs.new (F.tells store.new) (L.tells launcher.new)) }
     ensures does { (body : List ℕ) → Holds pass.old reader.now.k held.now body
         → DoesAll result reader.now.k held.now body ((action_of action.now, body) ∷ []) pass.old pass.new
-        (standing outputs.old (F.tells store.old) (L.tells launcher.old)) (standing outputs.new (F.tells store.new) (L.tells launcher.new)) }
+        (standing outputs.old (F.tells store.old) (L.tells launcher.old))
+        (standing outputs.new (F.tells store.new) (L.tells launcher.new)) }
 {
     begun(outputs.begin(store, launcher, action))?;
     if takes_body(action) {
@@ -80,7 +81,8 @@ pub(crate) fn carry_all<H: Wait, F: Store, L: Launcher>(
     ensures keeps { KeepsUnlessSpent (standing outputs.new (F.tells store.new) (L.tells launcher.new)) }
     ensures does { (body : List ℕ) → Holds pass.old reader.now.k held.now body
         → DoesAll result reader.now.k held.now body (deeds_by body chosen.items) pass.old pass.new
-        (standing outputs.old (F.tells store.old) (L.tells launcher.old)) (standing outputs.new (F.tells store.new) (L.tells launcher.new)) }
+        (standing outputs.old (F.tells store.old) (L.tells launcher.old))
+        (standing outputs.new (F.tells store.new) (L.tells launcher.new)) }
 {
     for it in chosen {
         if let Decision::Act(action) = it.decision {

@@ -20,7 +20,8 @@ use ldm_shared::{Pass, Shared, Turn};
 use std::alloc::Global;
 use std::sync::Wait;
 
-// A product that is held: the log has a line for each entry that acts and does nothing, what the others do is done, and it is let go.
+// A product that is held: the log has a line for each entry that acts and does nothing, what the others do is done, and
+// it is let go.
 pub(crate) fn handle<H: Wait, F: Store, L: Launcher, E: Sink>(
     alloc: Global,
     shared: &Shared,
@@ -42,7 +43,8 @@ pub(crate) fn handle<H: Wait, F: Store, L: Launcher, E: Sink>(
     ensures kept { IsSamePass pass.old pass.new }
     ensures keeps { KeepsUnlessSpent (standing outputs.new (F.tells store.new) (L.tells launcher.new)) }
     ensures handles { (body : List ℕ) → Holds pass.old reader.now.k held body
-        → HandlesBy result reader.now.k (deeds_for entries.now (given_of held body)) (notes_of held.info.ident (chosen_for entries.now (given_of held body)))
+        → HandlesBy result reader.now.k (deeds_for entries.now (given_of held body))
+        (notes_of held.info.ident (chosen_for entries.now (given_of held body)))
         (sight_of pass.old (standing outputs.old (F.tells store.old) (L.tells launcher.old)) (E.tells log.old))
         (sight_of pass.new (standing outputs.new (F.tells store.new) (L.tells launcher.new)) (E.tells log.new)) }
 {

@@ -1,7 +1,7 @@
 //! Acting on products: what the entries of a pqact.conf choose for each product of a queue is done.
 //!
-//! [`Pqact`] keeps the entries and the outputs. [`Pqact::pending`] acts on every product of a cursor up to the end of the queue. What
-//! that comes to, at each of its ends, is `ActsOn` in `specs/Acting.antt`.
+//! [`Pqact`] keeps the entries and the outputs. [`Pqact::pending`] acts on every product of a cursor up to the end of
+//! the queue. What that comes to, at each of its ends, is `ActsOn` in `specs/Acting.antt`.
 #![tactic(auto)]
 
 mod acting;

@@ -20,9 +20,9 @@ use std::sync::Wait;
 
 /// Acts on products by the entries of a pqact.conf. Its outputs stay open and running from one call to the next.
 ///
-/// Each call has to be lent the store and the launcher that all calls before were lent, and nobody else may shut what is kept there.
-/// After a fault of the store or the launcher the outputs are spent: they touch nothing more, and the first action that comes to them
-/// answers that fault again.
+/// Each call has to be lent the store and the launcher that all calls before were lent, and nobody else may shut what
+/// is kept there. After a fault of the store or the launcher the outputs are spent: they touch nothing more, and the
+/// first action that comes to them answers that fault again.
 #[derive(Drop)]
 pub struct Pqact {
     alloc: Global,
@@ -59,10 +59,12 @@ impl Pqact {
         })
     }
 
-    /// Acts on every product of the cursor up to the end of the queue, and then answers [`ActEnd::Stopped`]. The cursor holds nothing.
+    /// Acts on every product of the cursor up to the end of the queue, and then answers [`ActEnd::Stopped`]. The cursor
+    /// holds nothing.
     ///
-    /// An entry that acts and does nothing is a line of the log: `nodate IDENT GROUP` where it asks for the date of a group that is no
-    /// day, `nottext IDENT WORD` where a word is no UTF-8. A loss is the line `gap pqact COUNT FIRST LAST`.
+    /// An entry that acts and does nothing is a line of the log: `nodate IDENT GROUP` where it asks for the date of a
+    /// group that is no day, `nottext IDENT WORD` where a word is no UTF-8. A loss is the line `gap pqact COUNT FIRST
+    /// LAST`.
     pub fn pending<H: Wait, F: Store, L: Launcher, E: Sink>(
         &mut self,
         shared: &Shared,
@@ -81,7 +83,8 @@ impl Pqact {
         ensures keeps { KeepsUnlessSpent (standing self.new.outputs (F.tells store.new) (L.tells launcher.new)) }
         ensures acts { ActsOn result self.old.entries reader.now.k
             (sight_of pass.old (standing self.old.outputs (F.tells store.old) (L.tells launcher.old)) (E.tells log.old))
-            (sight_of pass.new (standing self.new.outputs (F.tells store.new) (L.tells launcher.new)) (E.tells log.new)) }
+            (sight_of pass.new (standing self.new.outputs (F.tells store.new) (L.tells launcher.new))
+            (E.tells log.new)) }
     {
         turns(
             self.alloc,

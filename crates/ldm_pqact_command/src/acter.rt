@@ -12,10 +12,11 @@ use ldm_shared::{Pass, Shared};
 use std::marker::Model;
 use std::sync::Wait;
 
-/// Does with each product of a cursor what the entries of a pqact.conf choose. Where it has a count, it has enough once the cursor was given
-/// so many products.
+/// Does with each product of a cursor what the entries of a pqact.conf choose. Where it has a count, it has enough once
+/// the cursor was given so many products.
 ///
-/// It is lent the store and the launcher of its outputs: the same ones at each call, and nobody else may shut what is kept there.
+/// It is lent the store and the launcher of its outputs: the same ones at each call, and nobody else may shut what is
+/// kept there.
 #[derive(Drop)]
 pub struct Acter {
     reader: Reader,
@@ -38,7 +39,14 @@ impl Acter {
 
     /// Acts on the products of this cursor.
     pub fn create(reader: Reader, count: Option<u64>, pqact: Pqact) -> Acter
-        ensures { result ≡ record { k = reader.k; count = count; entries = pqact.entries; outputs = pqact.outputs; why = None } }
+        ensures { result ≡ record {
+          k = reader.k;
+          count = count;
+          entries = pqact.entries;
+          outputs = pqact.outputs;
+          why
+              = None;
+        } }
     {
         Acter {
             reader,
@@ -55,11 +63,12 @@ impl Acter {
         self.why
     }
 
-    /// Shuts all files, and then shuts the input of each program and waits for it. Outputs that are spent touch nothing more, and answer
-    /// their fault again.
+    /// Shuts all files, and then shuts the input of each program and waits for it. Outputs that are spent touch nothing
+    /// more, and answer their fault again.
     pub fn close<F: Store, L: Launcher>(self, store: &mut F, launcher: &mut L) -> Done
         requires { KeepsUnlessSpent (standing self.outputs (F.tells store.old) (L.tells launcher.old)) }
-        ensures closed { ClosesOutputs result (standing self.outputs (F.tells store.old) (L.tells launcher.old)) (F.tells store.new) (L.tells launcher.new) }
+        ensures closed { ClosesOutputs result (standing self.outputs (F.tells store.old) (L.tells launcher.old))
+            (F.tells store.new) (L.tells launcher.new) }
     {
         let mut pqact = self.pqact;
         pqact.close(store, launcher)

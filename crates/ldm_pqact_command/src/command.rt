@@ -7,7 +7,8 @@ ghost use Rattle.ldm_reader.specs.Reader.{HasCursor};
 ghost use Rattle.ldm_pqact.specs.Acted.{opening};
 ghost use Rattle.ldm_pqact_command.specs.declared.limits.TheConstants.{ARENA, PASSES, SLOTS};
 ghost use Rattle.ldm_pqact_command.specs.Handling.{ActBegins};
-ghost use Rattle.ldm_pqact_command.specs.PqactRuns.{ActEnds, Holds, KeepsCounts, Pqacts, PqactEnds, Reaches, ReachesNot, order_of, pqact_lent};
+ghost use Rattle.ldm_pqact_command.specs.PqactRuns.{ActEnds, Holds, KeepsCounts, Pqacts, PqactEnds};
+ghost use Rattle.ldm_pqact_command.specs.PqactRuns.{Reaches, ReachesNot, order_of, pqact_lent};
 
 use crate::acter::Acter;
 use crate::end::{PqactEnd, ended, report};
@@ -25,13 +26,14 @@ use ldm_types::Feed;
 use std::alloc::Global;
 use std::sync::Wait;
 
-/// Asks a node for the products of a class, and does with each what the entries of the pqact.conf under the path choose: with all products,
-/// or until so many were acted on. Answers the number that the program ends with, and writes its line to the log.
+/// Asks a node for the products of a class, and does with each what the entries of the pqact.conf under the path
+/// choose: with all products, or until so many were acted on. Answers the number that the program ends with, and writes
+/// its line to the log.
 ///
-/// It receives into a queue of its own, and acts on what is queued after each piece that came; so where there is a count, more products than
-/// these may be acted on. A product that was evicted before that is told by the line `gap pqact COUNT FIRST LAST` of the log. It connects
-/// once. At the end it gives the link back, and then shuts all files, and shuts the input of each program and waits for it. The clause
-/// `ends` gives each status its cause: see `Pqacts`.
+/// It receives into a queue of its own, and acts on what is queued after each piece that came; so where there is a
+/// count, more products than these may be acted on. A product that was evicted before that is told by the line `gap
+/// pqact COUNT FIRST LAST` of the log. It connects once. At the end it gives the link back, and then shuts all files,
+/// and shuts the input of each program and waits for it. The clause `ends` gives each status its cause: see `Pqacts`.
 pub fn pqact<H: Wait, N: Dial, F: Store, L: Launcher, E: Sink, C: Clock>(
     rt: &H,
     alloc: Global,
@@ -184,7 +186,8 @@ fn open<H: Wait>(rt: &H, shared: &Shared, pass: &mut Pass) -> Reader
     requires alone { shared.now.passes ≡ PASSES }
     requires first { pass.old ≡ new_pass shared.now 0 }
     ensures kept { IsSamePass pass.old pass.new }
-    ensures opened { Makes (new_pass shared.now 0) pass.new (entry_of (new_pass shared.now 0) opening (reply.Opened result.k) ∷ []) }
+    ensures opened { Makes (new_pass shared.now 0) pass.new
+        (entry_of (new_pass shared.now 0) opening (reply.Opened result.k) ∷ []) }
     ensures cursor { HasCursor pass.new result.k None }
 {
     one_pass();

@@ -1,6 +1,7 @@
 //! How `pqact` ends.
 ghost use Rattle.std.specs.Prelude.{◌≡◌, ◌≤◌, IsSome};
-ghost use Rattle.ldm_pqact_command.specs.Statuses.{IfStopped, IsEndOf, ReportsIf, after_closing, receive_status, status_of, stop_status};
+ghost use Rattle.ldm_pqact_command.specs.Statuses.{IfStopped, IsEndOf, ReportsIf, after_closing};
+ghost use Rattle.ldm_pqact_command.specs.Statuses.{receive_status, status_of, stop_status};
 
 use crate::stop::ActStop;
 use ldm_actions::Done;
@@ -98,7 +99,8 @@ fn status_of(end: PqactEnd) -> Option<Status>
     }
 }
 
-/// Writes the log line of an end, and answers the number that the program ends with. Where the log failed there is no line.
+/// Writes the log line of an end, and answers the number that the program ends with. Where the log failed there is no
+/// line.
 pub(crate) fn report<E: Sink>(end: PqactEnd, log: &mut E) -> u8
     ensures reports { ReportsIf (status_of end) result (E.tells log.old) (E.tells log.new) }
     ensures faults_kept { (E.tells log.old).faults ≤ (E.tells log.new).faults }

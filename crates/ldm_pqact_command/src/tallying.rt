@@ -11,8 +11,8 @@ use ldm_reader::Reader;
 use ldm_shared::{Pass, Shared, Turn, own_readers};
 use std::sync::Wait;
 
-/// Asks the cursor how many products it was given, where there is a count: it has enough where these are as many. It is stopped where the
-/// queue has had all its calls.
+/// Asks the cursor how many products it was given, where there is a count: it has enough where these are as many. It is
+/// stopped where the queue has had all its calls.
 pub(crate) fn tally<H: Wait>(
     rt: &H,
     shared: &Shared,

@@ -11,8 +11,8 @@ use crate::words::Word;
 pub enum ActionKind {
     /// The body is appended to a file, or takes the place of what the file has (`-overwrite`).
     File,
-    /// The same as [`ActionKind::File`]: LDM writes such a file through a buffer of the C library, and this project's files have
-    /// none.
+    /// The same as [`ActionKind::File`]: LDM writes such a file through a buffer of the C library, and this project's
+    /// files have none.
     StdioFile,
     /// The body is written to the standard input of a program, which may go on for the next product.
     Pipe,

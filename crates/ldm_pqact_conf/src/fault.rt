@@ -9,8 +9,8 @@ use thiserror::Error;
 /// number of words is found last.
 #[derive(Clone, Copy, Debug, PartialEq, Eq, Error)]
 pub enum PqactKind {
-    /// A field is missing, a quote is left open, a quoted word is followed by anything but a blank, a tab or the end, the
-    /// action takes another number of words, or a line begins with a tab and no entry is before it.
+    /// A field is missing, a quote is left open, a quoted word is followed by anything but a blank, a tab or the end,
+    /// the action takes another number of words, or a line begins with a tab and no entry is before it.
     #[error("its fields do not read")]
     Fields,
     /// The feedtype is no feed expression.

@@ -84,7 +84,8 @@ fn is_else(pattern: &[u8]) -> bool
 // Takes the options off the front of the words of an action.
 fn take_options(action: ActionKind, words: &mut Vec<Word>) -> Result<Options, PqactKind>
     ensures { MatchResult result
-        (λ options. (options_of action words.old.items ≡ Ok options) × (words.new.items ≡ drop (dashes words.old.items) words.old.items))
+        (λ options. (options_of action words.old.items ≡ Ok options)
+        × (words.new.items ≡ drop (dashes words.old.items) words.old.items))
         (IsKindOf (options_of action words.old.items)) }
 {
     let count = count_dashed(words.as_slice());

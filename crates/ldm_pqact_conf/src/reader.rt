@@ -1,5 +1,6 @@
 //! Reading line by line.
-ghost use Rattle.std.specs.Prelude.{◌≡◌, ◌+◌, ◌-◌, ◌^◌, ◌<◌, ◌≤◌, List, ℕ, [], ◌∷◌, None, Ok, length, IfOk, MatchResult};
+ghost use Rattle.std.specs.Prelude.{◌≡◌, ◌+◌, ◌-◌, ◌^◌, ◌<◌, ◌≤◌, List, ℕ, []};
+ghost use Rattle.std.specs.Prelude.{◌∷◌, None, Ok, length, IfOk, MatchResult};
 ghost use Rattle.ldm_pqact_conf.specs.Causes.{IsFaultOf};
 ghost use Rattle.ldm_pqact_conf.specs.Entries.{pqact_entries};
 ghost use Rattle.ldm_pqact_conf.specs.Kept.{Reading, meaning, GoesOn, IsStray, Ends, IsEndFault, begun, kept};
@@ -19,7 +20,8 @@ use std::marker::Model;
 /// `OutOfMemory` may come at any entry. Each other fault is that of the text.
 pub fn read_pqact(alloc: Global, bytes: &[u8]) -> Result<Entries, PqactFault>
     requires { length bytes.now ≤ LONGEST_CONFIGURATION }
-    ensures { MatchResult result (λ entries. pqact_entries bytes.now ≡ Ok entries) (IsFaultOf (pqact_entries bytes.now)) }
+    ensures { MatchResult result (λ entries. pqact_entries bytes.now ≡ Ok entries)
+        (IsFaultOf (pqact_entries bytes.now)) }
 {
     let mut reader = Reader::new(alloc);
     let mut rest = Some(bytes);
@@ -108,7 +110,8 @@ impl Reader {
     // The first line of the next entry. The one before it has ended.
     fn begin(&mut self, line: &[u8]) -> Result<(), PqactFault>
         requires { self.old.next < 2 ^ 32 - 1 }
-        ensures { MatchResult result (λ _. self.new ≡ begun self.old line.now) (λ fault. fault.kind ≡ PqactKind.OutOfMemory) }
+        ensures { MatchResult result (λ _. self.new ≡ begun self.old line.now)
+            (λ fault. fault.kind ≡ PqactKind.OutOfMemory) }
     {
         self.text.clear();
         match self.text.extend_from_slice(line) {
@@ -136,7 +139,8 @@ impl Reader {
 
     // Keeps what the entry means that has not ended yet.
     fn keep(&mut self, entry: Entry) -> Result<(), PqactFault>
-        ensures { MatchResult result (λ _. self.new ≡ kept self.old entry) (λ fault. fault.kind ≡ PqactKind.OutOfMemory) }
+        ensures { MatchResult result (λ _. self.new ≡ kept self.old entry)
+            (λ fault. fault.kind ≡ PqactKind.OutOfMemory) }
     {
         let line = entry.line;
         match self.entries.push(entry) {

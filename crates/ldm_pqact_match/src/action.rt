@@ -5,8 +5,8 @@ ghost use Rattle.ldm_pqact_conf.specs.Actions.{takes};
 use ldm_pqact_conf::{ActionKind, Options};
 use std::marker::Model;
 
-/// What is done with a product. Contracts see its kind, its options and its words, each word a list of bytes. It has as many words
-/// as its kind takes.
+/// What is done with a product. Contracts see its kind, its options and its words, each word a list of bytes. It has as
+/// many words as its kind takes.
 #[derive(Drop)]
 pub struct Action {
     pub(crate) kind: ActionKind,

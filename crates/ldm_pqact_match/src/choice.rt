@@ -14,9 +14,9 @@ use std::alloc::Global;
 
 /// The entries that act on a product that was inserted at that time, in file order, and what each does.
 ///
-/// An entry matches a product where its feedtype meets the product's and its pattern is found in the ident. Every entry that
-/// matches acts, and so does each `_ELSE_` entry whose feedtype meets where no earlier entry matched. A product that no
-/// feedtype meets costs no search and no memory.
+/// An entry matches a product where its feedtype meets the product's and its pattern is found in the ident. Every entry
+/// that matches acts, and so does each `_ELSE_` entry whose feedtype meets where no earlier entry matched. A product
+/// that no feedtype meets costs no search and no memory.
 pub fn choose(
     alloc: Global,
     entries: &Entries,

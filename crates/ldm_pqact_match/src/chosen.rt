@@ -12,8 +12,8 @@ pub const LAST_PLACE: u32 = u32::MAX;
 pub enum Decision {
     /// The action is done.
     Act(Action),
-    /// A form asks for the date of a group whose part of the ident is no day: it is not one or two digits of a value from 1
-    /// to 31. Nothing is done.
+    /// A form asks for the date of a group whose part of the ident is no day: it is not one or two digits of a value
+    /// from 1 to 31. Nothing is done.
     NoDate {
         /// The number of the first such group, from 1, in the order of the words.
         group: u32,

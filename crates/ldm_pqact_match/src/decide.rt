@@ -16,7 +16,8 @@ use std::alloc::Global;
 
 /// What an entry does, by what the forms in its words stand for.
 pub fn decide(alloc: Global, entry: &Entry, sources: &Sources<'_>) -> Result<Decision, OutOfMemory>
-    ensures { IfOk result (λ decision. decision ≡ decision_by entry.now (words_text (meanings_of sources.now) entry.now.words)) }
+    ensures { IfOk result
+        (λ decision. decision ≡ decision_by entry.now (words_text (meanings_of sources.now) entry.now.words)) }
 {
     match substitute_all(alloc, entry.words(), sources) {
         Ok(texts) => with_texts(alloc, entry, texts),

@@ -2,7 +2,8 @@
 ghost use Rattle.std.specs.Prelude.{◌≡◌, ◌≤◌, nat_eq, length, IfSome, MatchOption, []};
 ghost use Rattle.std.specs.List.{starts_with};
 ghost use Rattle.std.specs.Option.{option_map};
-ghost use Rattle.ldm_pqact_match.specs.Forms.{mark_spelling, mark_at, part_spelling, part_at, group_at, date_form_at, form_at};
+ghost use Rattle.ldm_pqact_match.specs.Forms.{mark_spelling, mark_at, part_spelling};
+ghost use Rattle.ldm_pqact_match.specs.Forms.{part_at, group_at, date_form_at, form_at};
 ghost use Rattle.ldm_pqact_match.specs.Reading.{HasFront};
 
 use ldm_pattern::GroupNo;

@@ -5,10 +5,12 @@ ghost use Rattle.ldm_pqact_conf.specs.Entries.{EntryView};
 ghost use Rattle.ldm_pqact_match.specs.Choice.{decision_for};
 ghost use Rattle.ldm_pqact_match.specs.Days.{first_no_day, groups_asked, is_day, refused_group};
 
-/// An entry is refused as `NoDate` exactly where its forms ask for the date of a group whose part of the ident is no day: it is not
-/// one or two digits of a value from 1 to 31. It is told by the first such group in the order of the words.
+/// An entry is refused as `NoDate` exactly where its forms ask for the date of a group whose part of the ident is no
+/// day: it is not one or two digits of a value from 1 to 31. It is told by the first such group in the order of the
+/// words.
 pub fn no_date_is_no_day()
-    ensures { (info : Metadata) (time : ℕ) (entry : EntryView) → refused_group (decision_for info time entry) ≡ first_no_day info entry }
+    ensures { (info : Metadata) (time : ℕ) (entry : EntryView)
+        → refused_group (decision_for info time entry) ≡ first_no_day info entry }
 {}
 
 /// Worked examples of days, and of the groups that words ask for.
@@ -23,5 +25,6 @@ pub fn worked_examples_of_days()
     ensures empty { is_day [] ≡ false }
     ensures sign { is_day (codes "+7") ≡ false }
     ensures letter { is_day (codes "1a") ≡ false }
-    ensures asked { groups_asked (codes "a(\\3:dd)\\1" ∷ codes "%d(\\2:hh)(\\3:x)(\\0:dd)" ∷ codes "(\\9:mmm)" ∷ []) ≡ 3 ∷ 2 ∷ 9 ∷ [] }
+    ensures asked { groups_asked (codes "a(\\3:dd)\\1" ∷ codes "%d(\\2:hh)(\\3:x)(\\0:dd)" ∷ codes "(\\9:mmm)" ∷ []) ≡ 3
+        ∷ 2 ∷ 9 ∷ [] }
 {}

@@ -66,8 +66,8 @@ impl Moment {
         self.time.second
     }
 
-    /// The date that a day of the month stands for: the nearest to the day of the moment that is that day of the previous,
-    /// this or the next month.
+    /// The date that a day of the month stands for: the nearest to the day of the moment that is that day of the
+    /// previous, this or the next month.
     pub fn nearest(&self, day: u8) -> Option<Day>
         requires { day ≤ 31 }
         ensures { result ≡ nearest self.now.date day }

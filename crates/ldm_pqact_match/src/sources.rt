@@ -1,6 +1,7 @@
 //! What the forms in a word stand for.
 ghost use Rattle.std.specs.Prelude.{◌≡◌, ◌∷◌, ◌++◌, ◌≤◌, IfOk, IfSome, MatchResult};
-ghost use Rattle.ldm_pqact_match.specs.Substitution.{group_text, mark_text, part_text, piece_text, month_name, date_said, day_said, possible_day};
+ghost use Rattle.ldm_pqact_match.specs.Substitution.{group_text, mark_text, part_text, piece_text};
+ghost use Rattle.ldm_pqact_match.specs.Substitution.{month_name, date_said, day_said, possible_day};
 ghost use Rattle.ldm_pqact_match.specs.Views.{meanings_of};
 ghost use Rattle.ldm_pqact_match.specs.Reading.{IsStopOf, Appends};
 

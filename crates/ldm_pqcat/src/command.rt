@@ -22,12 +22,12 @@ use ldm_types::Feed;
 use std::alloc::Global;
 use std::sync::Wait;
 
-/// Asks a node for the products of a class, and writes their bodies to the sink, one behind the other: all of them, or so many. Answers the
-/// number that the program ends with, and writes its line to the log.
+/// Asks a node for the products of a class, and writes their bodies to the sink, one behind the other: all of them, or
+/// so many. Answers the number that the program ends with, and writes its line to the log.
 ///
-/// It receives into a queue of its own, and writes what is queued after each piece that came. A product that was evicted before it was
-/// written is told by the line `gap pqcat COUNT FIRST LAST` of the log. It connects once, and gives the link back. The clause `ends` gives
-/// each status its cause: see `Cats`.
+/// It receives into a queue of its own, and writes what is queued after each piece that came. A product that was
+/// evicted before it was written is told by the line `gap pqcat COUNT FIRST LAST` of the log. It connects once, and
+/// gives the link back. The clause `ends` gives each status its cause: see `Cats`.
 pub fn pqcat<H: Wait, N: Dial, K: Sink, E: Sink, C: Clock>(
     rt: &H,
     alloc: Global,
@@ -43,11 +43,13 @@ pub fn pqcat<H: Wait, N: Dial, K: Sink, E: Sink, C: Clock>(
     requires none_out { (N.tells net.old).links.out ≡ false }
     requires counted { ForSome count (λ n. 0 < n) }
     ensures ends { Cats K.tells result (record { host = host.now; port = port }) class.now count
-        (cat_lent (N.tells net.old) sink.old (E.tells log.old) (C.tells clock.old)) (cat_lent (N.tells net.new) sink.new (E.tells log.new) (C.tells clock.new)) }
+        (cat_lent (N.tells net.old) sink.old (E.tells log.old) (C.tells clock.old))
+        (cat_lent (N.tells net.new) sink.new (E.tells log.new) (C.tells clock.new)) }
     ensures none_out { (N.tells net.new).links.out ≡ false }
     ensures sink_kept { (K.tells sink.old).faults ≤ (K.tells sink.new).faults }
     ensures counts_kept { KeepsCounts
-        (cat_lent (N.tells net.old) sink.old (E.tells log.old) (C.tells clock.old)) (cat_lent (N.tells net.new) sink.new (E.tells log.new) (C.tells clock.new)) }
+        (cat_lent (N.tells net.old) sink.old (E.tells log.old) (C.tells clock.old))
+        (cat_lent (N.tells net.new) sink.new (E.tells log.new) (C.tells clock.new)) }
 {
     let end = cat(rt, alloc, net, sink, log, clock, host, port, class, count);
     report(end, log)
@@ -69,11 +71,13 @@ fn cat<H: Wait, N: Dial, K: Sink, E: Sink, C: Clock>(
     requires none_out { (N.tells net.old).links.out ≡ false }
     requires counted { ForSome count (λ n. 0 < n) }
     ensures ends { CatEnds K.tells result (record { host = host.now; port = port }) class.now count
-        (cat_lent (N.tells net.old) sink.old (E.tells log.old) (C.tells clock.old)) (cat_lent (N.tells net.new) sink.new (E.tells log.new) (C.tells clock.new)) }
+        (cat_lent (N.tells net.old) sink.old (E.tells log.old) (C.tells clock.old))
+        (cat_lent (N.tells net.new) sink.new (E.tells log.new) (C.tells clock.new)) }
     ensures none_out { (N.tells net.new).links.out ≡ false }
     ensures sink_kept { (K.tells sink.old).faults ≤ (K.tells sink.new).faults }
     ensures counts_kept { KeepsCounts
-        (cat_lent (N.tells net.old) sink.old (E.tells log.old) (C.tells clock.old)) (cat_lent (N.tells net.new) sink.new (E.tells log.new) (C.tells clock.new)) }
+        (cat_lent (N.tells net.old) sink.old (E.tells log.old) (C.tells clock.old))
+        (cat_lent (N.tells net.new) sink.new (E.tells log.new) (C.tells clock.new)) }
 {
     let Ok((shared, passes)) = Shared::create(alloc, ARENA, SLOTS, PASSES) else {
         return CatEnd::NoMemory;
@@ -107,11 +111,13 @@ fn cat_from<H: Wait, N: Dial, K: Sink, E: Sink, C: Clock>(
     requires none_out { (N.tells net.old).links.out ≡ false }
     requires counted { ForSome count (λ n. 0 < n) }
     ensures ends { CatEnds K.tells result (record { host = host.now; port = port }) class.now count
-        (cat_lent (N.tells net.old) sink.old (E.tells log.old) (C.tells clock.old)) (cat_lent (N.tells net.new) sink.new (E.tells log.new) (C.tells clock.new)) }
+        (cat_lent (N.tells net.old) sink.old (E.tells log.old) (C.tells clock.old))
+        (cat_lent (N.tells net.new) sink.new (E.tells log.new) (C.tells clock.new)) }
     ensures none_out { (N.tells net.new).links.out ≡ false }
     ensures sink_kept { (K.tells sink.old).faults ≤ (K.tells sink.new).faults }
     ensures counts_kept { KeepsCounts
-        (cat_lent (N.tells net.old) sink.old (E.tells log.old) (C.tells clock.old)) (cat_lent (N.tells net.new) sink.new (E.tells log.new) (C.tells clock.new)) }
+        (cat_lent (N.tells net.old) sink.old (E.tells log.old) (C.tells clock.old))
+        (cat_lent (N.tells net.new) sink.new (E.tells log.new) (C.tells clock.new)) }
 {
     let reader = open(rt, shared, pass);
     match Cat::create(alloc, reader, count) {
@@ -127,7 +133,8 @@ fn open<H: Wait>(rt: &H, shared: &Shared, pass: &mut Pass) -> Reader
     requires alone { shared.now.passes ≡ PASSES }
     requires first { pass.old ≡ new_pass shared.now 0 }
     ensures kept { IsSamePass pass.old pass.new }
-    ensures opened { Makes (new_pass shared.now 0) pass.new (entry_of (new_pass shared.now 0) opening (reply.Opened result.k) ∷ []) }
+    ensures opened { Makes (new_pass shared.now 0) pass.new
+        (entry_of (new_pass shared.now 0) opening (reply.Opened result.k) ∷ []) }
     ensures cursor { HasCursor pass.new result.k None }
 {
     one_pass();
@@ -159,13 +166,16 @@ fn dial<H: Wait, N: Dial, K: Sink, E: Sink, C: Clock>(
     requires may { CatBegins cat }
     requires none_out { (N.tells net.old).links.out ≡ false }
     ensures asks { ReachesNot result (record { host = host.now; port = port })
-        (cat_lent (N.tells net.old) sink.old (E.tells log.old) (C.tells clock.old)) (cat_lent (N.tells net.new) sink.new (E.tells log.new) (C.tells clock.new))
+        (cat_lent (N.tells net.old) sink.old (E.tells log.old) (C.tells clock.old))
+        (cat_lent (N.tells net.new) sink.new (E.tells log.new) (C.tells clock.new))
         ⊎ Reaches K.tells result (record { host = host.now; port = port }) class.now cat pass.old
-        (cat_lent (N.tells net.old) sink.old (E.tells log.old) (C.tells clock.old)) (cat_lent (N.tells net.new) sink.new (E.tells log.new) (C.tells clock.new)) }
+        (cat_lent (N.tells net.old) sink.old (E.tells log.old) (C.tells clock.old))
+        (cat_lent (N.tells net.new) sink.new (E.tells log.new) (C.tells clock.new)) }
     ensures none_out { (N.tells net.new).links.out ≡ false }
     ensures sink_kept { (K.tells sink.old).faults ≤ (K.tells sink.new).faults }
     ensures counts_kept { KeepsCounts
-        (cat_lent (N.tells net.old) sink.old (E.tells log.old) (C.tells clock.old)) (cat_lent (N.tells net.new) sink.new (E.tells log.new) (C.tells clock.new)) }
+        (cat_lent (N.tells net.old) sink.old (E.tells log.old) (C.tells clock.old))
+        (cat_lent (N.tells net.new) sink.new (E.tells log.new) (C.tells clock.new)) }
 {
     match net.connect(host, port) {
         Dialled::Linked(link) => hold(
@@ -195,11 +205,13 @@ fn hold<H: Wait, N: Dial, K: Sink, E: Sink, C: Clock>(
     requires is_out { (N.tells net.old).links.out ≡ true }
     requires not_closed { IsNotClosed (N.Link.tells link) }
     ensures holds { Holds K.tells result class.now cat pass.old (N.Link.tells link)
-        (cat_lent (N.tells net.old) sink.old (E.tells log.old) (C.tells clock.old)) (cat_lent (N.tells net.new) sink.new (E.tells log.new) (C.tells clock.new)) }
+        (cat_lent (N.tells net.old) sink.old (E.tells log.old) (C.tells clock.old))
+        (cat_lent (N.tells net.new) sink.new (E.tells log.new) (C.tells clock.new)) }
     ensures none_out { (N.tells net.new).links.out ≡ false }
     ensures sink_kept { (K.tells sink.old).faults ≤ (K.tells sink.new).faults }
     ensures counts_kept { KeepsCounts
-        (cat_lent (N.tells net.old) sink.old (E.tells log.old) (C.tells clock.old)) (cat_lent (N.tells net.new) sink.new (E.tells log.new) (C.tells clock.new)) }
+        (cat_lent (N.tells net.old) sink.old (E.tells log.old) (C.tells clock.old))
+        (cat_lent (N.tells net.new) sink.new (E.tells log.new) (C.tells clock.new)) }
 {
     products_stay();
     let end = gather(

@@ -77,7 +77,8 @@ fn status_of(end: CatEnd) -> Option<Status>
     }
 }
 
-/// Writes the log line of an end, and answers the number that the program ends with. Where the log failed there is no line.
+/// Writes the log line of an end, and answers the number that the program ends with. Where the log failed there is no
+/// line.
 pub(crate) fn report<E: Sink>(end: CatEnd, log: &mut E) -> u8
     ensures reports { ReportsIf (status_of end) result (E.tells log.old) (E.tells log.new) }
     ensures faults_kept { (E.tells log.old).faults ≤ (E.tells log.new).faults }

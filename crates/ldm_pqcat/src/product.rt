@@ -26,7 +26,8 @@ fn write_piece<H: Wait, K: Sink>(
     requires within { offset + length piece.old ≤ held.now.info.size }
     ensures kept { IsSamePass pass.old pass.new }
     ensures reads { (body : List ℕ) → Holds pass.old reader.now.k held.now body
-        → Reads result reader.now.k held.now body (take (length piece.old) (drop offset body)) pass.old pass.new (K.tells sink.old) (K.tells sink.new) }
+        → Reads result reader.now.k held.now body (take (length piece.old) (drop offset body)) pass.old pass.new
+        (K.tells sink.old) (K.tells sink.new) }
 {
     if let Turn::Worn { .. } = reader.read(shared, rt, pass, held, offset, piece) {
         return Err(CatStop::Worn);

@@ -46,7 +46,8 @@ fn turn<H: Wait, K: Sink, E: Sink>(
     ensures kept { IsSamePass pass.old pass.new }
     ensures log_kept { (E.tells log.old).faults ≤ (E.tells log.new).faults }
     ensures shows { Shows result reader.now.k left.old left.new
-        (sight_of pass.old (K.tells sink.old) (E.tells log.old)) (sight_of pass.new (K.tells sink.new) (E.tells log.new)) }
+        (sight_of pass.old (K.tells sink.old) (E.tells log.old))
+        (sight_of pass.new (K.tells sink.new) (E.tells log.new)) }
 {
     products_stay();
     match reader.step(shared, rt, pass) {
@@ -85,7 +86,8 @@ pub(crate) fn show_all<H: Wait, K: Sink, E: Sink>(
     ensures kept { IsSamePass pass.old pass.new }
     ensures log_kept { (E.tells log.old).faults ≤ (E.tells log.new).faults }
     ensures shows { Shows result reader.now.k left.old left.new
-        (sight_of pass.old (K.tells sink.old) (E.tells log.old)) (sight_of pass.new (K.tells sink.new) (E.tells log.new)) }
+        (sight_of pass.old (K.tells sink.old) (E.tells log.old))
+        (sight_of pass.new (K.tells sink.new) (E.tells log.new)) }
     ensures ends { IsEnd result }
 {
     products_stay();

@@ -13,8 +13,10 @@ pub fn worked_examples()
     ensures lines { lines_of sample_steps ≡ codes "admitted 0 100 0\ntoolong\nduplicate 0\n" }
     // The file that is too long has a number, and no PUT.
     ensures calls { calls_of sample_files 0 0 sample_files.files sample_steps
-        ≡ put_call 1 (metadata_of sample_files (record { number = 0; path = codes "f" }) (codes "abc") 100) (codes "abc")
-        ++ (put_call 2 (metadata_of sample_files (record { number = 2; path = codes "h" }) (codes "abc") 200) (codes "abc") ++ []) }
+        ≡ put_call 1 (metadata_of sample_files (record { number = 0; path = codes "f" }) (codes "abc") 100)
+        (codes "abc")
+        ++ (put_call 2 (metadata_of sample_files (record { number = 2; path = codes "h" }) (codes "abc") 200)
+        (codes "abc") ++ []) }
     ensures refused { are_refused sample_steps ≡ true }
     ensures ident { ident_of sample_files (codes "g") ≡ codes "g" }
     ensures owed { AreOwed sample_files.files sample_answers }

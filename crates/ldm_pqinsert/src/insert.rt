@@ -13,12 +13,13 @@ use crate::taking::take_files;
 use ldm_outside::{Clock, Dial, Dialled, Sink, Store};
 use std::alloc::Global;
 
-/// Puts files into the queue of a node, one after another, and writes what became of each as a line. Answers the number that the program
-/// ends with, and writes its line to the log.
+/// Puts files into the queue of a node, one after another, and writes what became of each as a line. Answers the number
+/// that the program ends with, and writes its line to the log.
 ///
-/// It connects once. Each file is read whole, sent by one PUT, and let go of before the next one is read. Its line is the answer of the
-/// queue as a script has it, or `toolong` for a file of more than [`LARGEST_FILE`](crate::LARGEST_FILE) bytes, which is not sent. The first
-/// fault ends the run, and so does a node that does not let the caller insert. The link is given back before the log is written.
+/// It connects once. Each file is read whole, sent by one PUT, and let go of before the next one is read. Its line is
+/// the answer of the queue as a script has it, or `toolong` for a file of more than
+/// [`LARGEST_FILE`](crate::LARGEST_FILE) bytes, which is not sent. The first fault ends the run, and so does a node
+/// that does not let the caller insert. The link is given back before the log is written.
 ///
 /// There are fewer than 2^32 files, and [`Info::new`](ldm_types::Info::new) accepts the origin with the ident of each.
 pub fn pqinsert<F: Store, N: Dial, K: Sink, E: Sink, C: Clock>(
@@ -34,10 +35,13 @@ pub fn pqinsert<F: Store, N: Dial, K: Sink, E: Sink, C: Clock>(
     requires names { AreNamed (inserting insertion.now) }
     requires few { AreFew (inserting insertion.now) }
     ensures ends { Inserts result (inserting insertion.now)
-        (insert_tells (outside_tells F.tells N.tells K.tells C.tells store.old net.old sink.old clock.old) (E.tells log.old))
-        (insert_tells (outside_tells F.tells N.tells K.tells C.tells store.new net.new sink.new clock.new) (E.tells log.new)) }
+        (insert_tells (outside_tells F.tells N.tells K.tells C.tells store.old net.old sink.old clock.old)
+        (E.tells log.old))
+        (insert_tells (outside_tells F.tells N.tells K.tells C.tells store.new net.new sink.new clock.new)
+        (E.tells log.new)) }
     ensures none_out { (N.tells net.new).links.out ≡ false }
-    ensures counts_kept { KeepsCounts (outside_tells F.tells N.tells K.tells C.tells store.old net.old sink.old clock.old)
+    ensures counts_kept { KeepsCounts
+        (outside_tells F.tells N.tells K.tells C.tells store.old net.old sink.old clock.old)
         (outside_tells F.tells N.tells K.tells C.tells store.new net.new sink.new clock.new) }
     ensures log_kept { (E.tells log.old).faults ≤ (E.tells log.new).faults }
 {

@@ -10,11 +10,15 @@ ghost use Rattle.ldm_pqinsert.specs.Told.{AreTold, Cause, RefusedCause};
 /// What is told of the files of a run, and of its end.
 pub fn what_is_told_of_files()
     // Where all files were taken: what was sent, answered and written over all of them.
-    ensures whole { (refused : Bool) (all : Inserting) (old new : Moment) (takes : TakesAll refused all old new) → AreTold all all.files takes.steps old new }
+    ensures whole { (refused : Bool) (all : Inserting) (old new : Moment) (takes : TakesAll refused all old new)
+        → AreTold all all.files takes.steps old new }
     // Where the run ended at a file: the same of those before it.
-    ensures before { (why : InsertFault) (all : Inserting) (old new : Moment) (stops : StopsAt why all old new) → AreTold all stops.before stops.steps old stops.mid }
+    ensures before { (why : InsertFault) (all : Inserting) (old new : Moment) (stops : StopsAt why all old new)
+        → AreTold all stops.before stops.steps old stops.mid }
     // Some file was refused where the queue did not admit one that was sent, or a file is too long.
-    ensures refused { (all : Inserting) (old new : Moment) (takes : TakesAll true all old new) → RefusedCause takes.steps old new }
+    ensures refused { (all : Inserting) (old new : Moment) (takes : TakesAll true all old new)
+        → RefusedCause takes.steps old new }
     // Which count rose.
-    ensures causes { (ending : Result Bool InsertFault) (all : Inserting) (old new : Outside) → InsertEnds ending all old new → Cause ending old new }
+    ensures causes { (ending : Result Bool InsertFault) (all : Inserting) (old new : Outside)
+        → InsertEnds ending all old new → Cause ending old new }
 {}

@@ -18,7 +18,8 @@ pub(crate) fn metadata_of(
 ) -> Info
     requires named { IsNamed (inserting insertion.now) path.now }
     requires short { length body.now ≤ LARGEST_FILE }
-    ensures value { result ≡ metadata_of (inserting insertion.now) (record { number = number; path = path.now }) body.now arrival }
+    ensures value { result ≡ metadata_of (inserting insertion.now)
+        (record { number = number; path = path.now }) body.now arrival }
     ensures short { IsShortProduct result (length body.now) }
 {
     let ident = ident_of(insertion, path);

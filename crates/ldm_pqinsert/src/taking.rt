@@ -30,7 +30,8 @@ pub(crate) fn take_files<F: Store, L: Link, K: Sink, C: Clock>(
     requires not_closed { IsNotClosed (L.tells link.old) }
     requires names { AreNamed (inserting insertion.now) }
     requires few { AreFew (inserting insertion.now) }
-    ensures runs { RunsOver result (inserting insertion.now) (hands_tell F.tells L.tells K.tells C.tells store.old link.old sink.old clock.old)
+    ensures runs { RunsOver result (inserting insertion.now)
+        (hands_tell F.tells L.tells K.tells C.tells store.old link.old sink.old clock.old)
         (hands_tell F.tells L.tells K.tells C.tells store.new link.new sink.new clock.new) }
     ensures counts { KeepsHands (hands_tell F.tells L.tells K.tells C.tells store.old link.old sink.old clock.old)
         (hands_tell F.tells L.tells K.tells C.tells store.new link.new sink.new clock.new) }
@@ -68,7 +69,8 @@ fn take_file<F: Store, L: Link, K: Sink, C: Clock>(
 ) -> Result<bool, InsertFault>
     requires not_closed { IsNotClosed (L.tells link.old) }
     requires named { IsNamed (inserting insertion.now) path.now }
-    ensures takes { TakesOne result (inserting insertion.now) (record { number = number; path = path.now }) puts.old puts.new
+    ensures takes { TakesOne result (inserting insertion.now)
+        (record { number = number; path = path.now }) puts.old puts.new
         (hands_tell F.tells L.tells K.tells C.tells store.old link.old sink.old clock.old)
         (hands_tell F.tells L.tells K.tells C.tells store.new link.new sink.new clock.new) }
     ensures counts { KeepsHands (hands_tell F.tells L.tells K.tells C.tells store.old link.old sink.old clock.old)
@@ -109,7 +111,9 @@ fn put_file<L: Link, K: Sink, C: Clock>(
     requires not_closed { IsNotClosed (L.tells link.old) }
     requires named { IsNamed (inserting insertion.now) path.now }
     requires short { length body.now ≤ LARGEST_FILE }
-    ensures puts { (answered : Result PutAnswer NoReply) × Sends answered (inserting insertion.now) (record { number = number; path = path.now }) body.now puts.old puts.new
+    ensures puts { (answered : Result PutAnswer NoReply)
+        × Sends answered (inserting insertion.now)
+        (record { number = number; path = path.now }) body.now puts.old puts.new
         (wire_tells L.tells C.tells link.old clock.old) (wire_tells L.tells C.tells link.new clock.new)
         × Tells result answered (K.tells sink.old) (K.tells sink.new) }
     ensures faults_kept { (L.tells link.old).faults ≤ (L.tells link.new).faults }
@@ -136,7 +140,8 @@ fn send_file<L: Link, C: Clock>(
     requires not_closed { IsNotClosed (L.tells link.old) }
     requires named { IsNamed (inserting insertion.now) path.now }
     requires short { length body.now ≤ LARGEST_FILE }
-    ensures sends { Sends result (inserting insertion.now) (record { number = number; path = path.now }) body.now puts.old puts.new
+    ensures sends { Sends result (inserting insertion.now)
+        (record { number = number; path = path.now }) body.now puts.old puts.new
         (wire_tells L.tells C.tells link.old clock.old) (wire_tells L.tells C.tells link.new clock.new) }
     ensures faults_kept { (L.tells link.old).faults ≤ (L.tells link.new).faults }
     ensures ends_kept { (L.tells link.old).ends ≤ (L.tells link.new).ends }

@@ -5,7 +5,8 @@ ghost use Rattle.ldm_model.specs.declared.event.Event.TheVariants as event;
 ghost use Rattle.ldm_model.specs.declared.event.Reply.TheVariants as reply;
 ghost use Rattle.ldm_shared.specs.Passes.{IsPassOf, IsSamePass, Grows, FindsWorn};
 ghost use Rattle.ldm_shared.specs.Turns.{IfDone, IfWorn};
-ghost use Rattle.ldm_reader.specs.Reader.{HasCursor, Holds, HasOpened, HasStepped, GivesSome, IfNotQueued, NamesProduct, opening_reply, came_reply};
+ghost use Rattle.ldm_reader.specs.Reader.{HasCursor, Holds, HasOpened, HasStepped, GivesSome};
+ghost use Rattle.ldm_reader.specs.Reader.{IfNotQueued, NamesProduct, opening_reply, came_reply};
 
 use ldm_model::{CloseReply, OpenReply, ReadReply, ReleaseReply, Start, StepReply};
 use ldm_shared::{Pass, Shared, Turn};
@@ -42,8 +43,8 @@ pub enum Opening {
 /// What a step of a reader that holds nothing led to.
 #[derive(Debug, Drop)]
 pub enum Came {
-    /// `count` products were evicted before it was given them, and it was not told until now: the least of their numbers and
-    /// the greatest.
+    /// `count` products were evicted before it was given them, and it was not told until now: the least of their
+    /// numbers and the greatest.
     Gap { count: u64, first: u64, last: u64 },
     /// It was given this product, and holds it.
     Product(Held),
@@ -62,7 +63,8 @@ impl Reader {
     ) -> Turn<Opening>
         requires { IsPassOf shared.now pass.old }
         ensures kept { IsSamePass pass.old pass.new }
-        ensures done { IfDone result (λ opening. Grows pass.old pass.new (event.OpenCursor feed start) (opening_reply opening)) }
+        ensures done { IfDone result
+            (λ opening. Grows pass.old pass.new (event.OpenCursor feed start) (opening_reply opening)) }
         ensures cursor { IfDone result (HasOpened pass.new) }
         ensures named { IfDone result (λ opening. IfNotQueued opening (NamesProduct start)) }
         ensures worn { IfWorn result (FindsWorn pass.old pass.new) }
@@ -102,9 +104,12 @@ impl Reader {
         requires holds { (body : List ℕ) × Holds pass.old self.now.k held.now body }
         requires within { offset + length into.old ≤ held.now.info.size }
         ensures kept { IsSamePass pass.old pass.new }
-        ensures done { IfDone result (λ _. Grows pass.old pass.new (event.Read self.now.k offset (length into.new)) (reply.Bytes into.new)) }
-        ensures bytes { (body : List ℕ) → Holds pass.old self.now.k held.now body → IfDone result (λ _. into.new ≡ take (length into.old) (drop offset body)) }
-        ensures holds { (body : List ℕ) → Holds pass.old self.now.k held.now body → IfDone result (λ _. Holds pass.new self.now.k held.now body) }
+        ensures done { IfDone result
+            (λ _. Grows pass.old pass.new (event.Read self.now.k offset (length into.new)) (reply.Bytes into.new)) }
+        ensures bytes { (body : List ℕ) → Holds pass.old self.now.k held.now body
+            → IfDone result (λ _. into.new ≡ take (length into.old) (drop offset body)) }
+        ensures holds { (body : List ℕ) → Holds pass.old self.now.k held.now body
+            → IfDone result (λ _. Holds pass.new self.now.k held.now body) }
         ensures worn { IfWorn result (FindsWorn pass.old pass.new) }
     {
         // The size is read since its bound is known then.

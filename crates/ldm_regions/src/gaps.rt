@@ -30,7 +30,12 @@ pub struct Gaps {
 impl Gaps {
     /// No gap, with room for that many.
     pub fn create(alloc: Global, room: u32) -> Result<Gaps, OutOfMemory>
-        ensures { IfOk result (λ gaps. gaps ≡ record { extents = record { room = room; members = set.empty }; fronts = record { room = room; members = set.empty } }) }
+        ensures { IfOk result
+            (λ gaps. gaps ≡ record {
+              extents = record { room = room; members = set.empty };
+              fronts
+                  = record { room = room; members = set.empty };
+            }) }
     {
         Ok(Gaps {
             extents: FreeSet::create(alloc, room)?,
@@ -40,10 +45,14 @@ impl Gaps {
 
     /// Puts a gap in, unless it is empty.
     pub fn add(&mut self, gap: Gap)
-        requires extents { gap.start < gap.end → (set.contains self.old.extents.members (by_extent gap) ≡ false) × (set.len self.old.extents.members < self.old.extents.room) }
-        requires fronts { gap.start < gap.end → (set.contains self.old.fronts.members (by_front gap) ≡ false) × (set.len self.old.fronts.members < self.old.fronts.room) }
-        ensures extents { self.new.extents ≡ record self.old.extents { members = with_gap by_extent self.old.extents.members gap } }
-        ensures fronts { self.new.fronts ≡ record self.old.fronts { members = with_gap by_front self.old.fronts.members gap } }
+        requires extents { gap.start < gap.end → (set.contains self.old.extents.members (by_extent gap) ≡ false)
+            × (set.len self.old.extents.members < self.old.extents.room) }
+        requires fronts { gap.start < gap.end → (set.contains self.old.fronts.members (by_front gap) ≡ false)
+            × (set.len self.old.fronts.members < self.old.fronts.room) }
+        ensures extents { self.new.extents
+            ≡ record self.old.extents { members = with_gap by_extent self.old.extents.members gap } }
+        ensures fronts { self.new.fronts
+            ≡ record self.old.fronts { members = with_gap by_front self.old.fronts.members gap } }
     {
         if gap.start < gap.end {
             self.extents.add(gap.end - gap.start, gap.start);
@@ -55,8 +64,10 @@ impl Gaps {
     pub fn remove(&mut self, gap: Gap)
         requires extents { gap.start < gap.end → set.contains self.old.extents.members (by_extent gap) ≡ true }
         requires fronts { gap.start < gap.end → set.contains self.old.fronts.members (by_front gap) ≡ true }
-        ensures extents { self.new.extents ≡ record self.old.extents { members = without_gap by_extent self.old.extents.members gap } }
-        ensures fronts { self.new.fronts ≡ record self.old.fronts { members = without_gap by_front self.old.fronts.members gap } }
+        ensures extents { self.new.extents
+            ≡ record self.old.extents { members = without_gap by_extent self.old.extents.members gap } }
+        ensures fronts { self.new.fronts
+            ≡ record self.old.fronts { members = without_gap by_front self.old.fronts.members gap } }
     {
         if gap.start < gap.end {
             self.extents.remove(gap.end - gap.start, gap.start);

@@ -50,7 +50,9 @@ pub fn unlink(nodes: &mut [Node], owner: u32)
 /// The extent of the longest space between the regions of marked owners, 0 where there is none.
 pub fn longest_space_if(nodes: &[Node], arena: u64, marks: &[bool]) -> u64
     requires { IsRing nodes.now (length marks.now) arena }
-    ensures { result ≡ longest (spaces 0 (filter (λ u. slice_index_or marks.now u.owner false) (in_order nodes.now (length marks.now))) arena) }
+    ensures { result ≡ longest
+        (spaces 0 (filter (λ u. slice_index_or marks.now u.owner false) (in_order nodes.now (length marks.now)))
+        arena) }
 {
     let mut longest = 0u64;
     let mut from = 0;

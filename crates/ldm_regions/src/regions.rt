@@ -37,7 +37,12 @@ impl Model for Regions {
 
     ghost coded = { layout_code };
 
-    ghost view = { λ r. record { arena = r.arena; slots = r.slots; owned = map.from_entries (each entry_of (in_order r.nodes.items r.slots)) } };
+    ghost view = { λ r. record {
+      arena = r.arena;
+      slots = r.slots;
+      owned = map.from_entries
+          (each entry_of (in_order r.nodes.items r.slots));
+    } };
 
     ghost invariant = { λ r. IsKept r.nodes.items r.arena r.slots r.gaps.extents r.gaps.fronts };
 }
@@ -79,7 +84,8 @@ impl Regions {
         requires owner { owner < self.old.slots }
         requires none { map.get self.old.owned owner ≡ None }
         ensures place { result ≡ fit need (occupied self.old.owned) self.old.arena }
-        ensures owned { MatchOption result (self.new ≡ self.old) (λ start. self.new ≡ with_region self.old owner (record { start = start; extent = need })) }
+        ensures owned { MatchOption result (self.new ≡ self.old)
+            (λ start. self.new ≡ with_region self.old owner (record { start = start; extent = need })) }
         ensures tiles { Tiles self.new }
     {
         let gap = self.gaps.best(need)?;

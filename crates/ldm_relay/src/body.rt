@@ -62,24 +62,28 @@ pub struct BodyPlace {
 }
 
 /// Appends the record of a call, with zero bytes in the place of its body, and answers where these lie. Who writes the
-/// body there has the record of the call with that body, as [`write_message`](crate::write_message) appends it: so a body
-/// that comes in parts is copied into the record, and nowhere else.
+/// body there has the record of the call with that body, as [`write_message`](crate::write_message) appends it: so a
+/// body that comes in parts is copied into the record, and nowhere else.
 ///
 /// A body must leave the content within [`LARGEST_CONTENT`](crate::LARGEST_CONTENT), and a block must have at most
 /// [`LARGEST_BLOCK`](crate::LARGEST_BLOCK) bytes. After an `Err`, `out` is as before.
 pub fn write_with_room(call: &CallWithBody, out: &mut Vec<u8>) -> Result<BodyPlace, OutOfMemory>
     requires { CanCarry call.now }
-    ensures zeros { OnOk result (out.new.items ≡ out.old.items ++ record_of (written (with_body call.now (replicate (body_len call.now) 0)))) }
+    ensures zeros { OnOk result
+        (out.new.items ≡ out.old.items ++ record_of (written (with_body call.now (replicate (body_len call.now) 0)))) }
     // Whatever bytes are then written there, what was appended is the record of the call with these bytes.
     ensures filled { IfOk result (λ place. (body : List ℕ) → length body ≡ body_len call.now
         → put_at place.start body out.new.items ≡ out.old.items ++ record_of (written (with_body call.now body))) }
-    ensures place { IfOk result (λ place. (place.len ≡ body_len call.now) × (place.start + place.len ≤ length out.new.items)) }
+    ensures place { IfOk result
+        (λ place. (place.len ≡ body_len call.now) × (place.start + place.len ≤ length out.new.items)) }
     // With any such body it is within the bounds of the law that it is read again, and one record of a stream.
     ensures fits { (body : List ℕ) → length body ≡ body_len call.now → Fits (with_body call.now body) }
-    ensures record_fits { (body : List ℕ) → length body ≡ body_len call.now → RecordFits LARGEST_CONTENT (in_one (written (with_body call.now body))) }
+    ensures record_fits { (body : List ℕ) → length body ≡ body_len call.now
+        → RecordFits LARGEST_CONTENT (in_one (written (with_body call.now body))) }
     ensures err { OnErr result (out.new.items ≡ out.old.items) }
     // Memory is asked for only where there is no room.
-    ensures enough { HasRoom out.old (record_of (written (with_body call.now (replicate (body_len call.now) 0)))) → IsOk result }
+    ensures enough { HasRoom out.old (record_of (written (with_body call.now (replicate (body_len call.now) 0))))
+        → IsOk result }
 {
     let len = call_len(call);
     out.reserve(4 + len)?;
@@ -104,9 +108,9 @@ fn put_zeroed(out: &mut Vec<u8>, call: &CallWithBody) -> usize
     start
 }
 
-/// Appends the record of a call up to where its body begins, and answers how many zero bytes follow the body: 0 to 3. Who
-/// sends what was appended, then the body, then so many zero bytes, has sent the record of the call with that body, as
-/// [`write_message`](crate::write_message) appends it: so a body may be larger than any buffer.
+/// Appends the record of a call up to where its body begins, and answers how many zero bytes follow the body: 0 to 3.
+/// Who sends what was appended, then the body, then so many zero bytes, has sent the record of the call with that body,
+/// as [`write_message`](crate::write_message) appends it: so a body may be larger than any buffer.
 ///
 /// A body must leave the content within [`LARGEST_CONTENT`](crate::LARGEST_CONTENT), and a block must have at most
 /// [`LARGEST_BLOCK`](crate::LARGEST_BLOCK) bytes. No memory is taken for the body. After an `Err`, `out` is as before.
@@ -114,11 +118,13 @@ pub fn write_head(call: &CallWithBody, out: &mut Vec<u8>) -> Result<usize, OutOf
     requires { CanCarry call.now }
     // With each body of that length, what stands there is what `write_message` appends.
     ensures ok { IfOk result (λ padding. (body : List ℕ) → length body ≡ body_len call.now
-        → out.new.items ++ (body ++ replicate padding 0) ≡ out.old.items ++ record_of (written (with_body call.now body))) }
+        → out.new.items ++ (body ++ replicate padding 0) ≡ out.old.items ++ record_of
+        (written (with_body call.now body))) }
     ensures padding { IfOk result (λ padding. body_len call.now + padding ≡ pad4 (body_len call.now)) }
     // With any such body it is within the bounds of the law that it is read again, and one record of a stream.
     ensures fits { (body : List ℕ) → length body ≡ body_len call.now → Fits (with_body call.now body) }
-    ensures record_fits { (body : List ℕ) → length body ≡ body_len call.now → RecordFits LARGEST_CONTENT (in_one (written (with_body call.now body))) }
+    ensures record_fits { (body : List ℕ) → length body ≡ body_len call.now
+        → RecordFits LARGEST_CONTENT (in_one (written (with_body call.now body))) }
     ensures err { OnErr result (out.new.items ≡ out.old.items) }
     // Memory is asked for only where there is no room for the header of the fragment and the content up to the body.
     ensures enough { vec_len out.old + 4 + length (front_of call.now) ≤ vec_capacity out.old → IsOk result }

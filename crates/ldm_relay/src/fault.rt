@@ -44,10 +44,11 @@ pub enum RelayFault {
 }
 
 impl RelayFault {
-    /// The refusal that a call with this fault is owed, as [`read_call`](crate::read_call) answers it: `None` where it is
-    /// no call that could be answered.
+    /// The refusal that a call with this fault is owed, as [`read_call`](crate::read_call) answers it: `None` where it
+    /// is no call that could be answered.
     ///
-    /// A call of another program is told so, and a call of another version of this one is told the version that there is.
+    /// A call of another program is told so, and a call of another version of this one is told the version that there
+    /// is.
     pub fn refusal(self) -> Option<Refused>
         ensures refusal { result ≡ refusal_owed self }
         // So it can be written, and is read again.

@@ -19,8 +19,8 @@ use ldm_xdr::Fields;
 
 /// A call of a feed. It borrows the bytes that it carries.
 ///
-/// A [`Message`](crate::Message) has room for a class, some 8,700 bytes, and this has not: who takes a feed does not move such
-/// room for each record.
+/// A [`Message`](crate::Message) has room for a class, some 8,700 bytes, and this has not: who takes a feed does not
+/// move such room for each record.
 #[derive(Drop)]
 pub enum FeedCall<'a> {
     Hereis(Hereis<'a>),
@@ -29,11 +29,12 @@ pub enum FeedCall<'a> {
     Isalive(Isalive),
 }
 
-/// The call of a feed that is the whole content of a record, `None` where the content is another message or none. It takes no
-/// memory.
+/// The call of a feed that is the whole content of a record, `None` where the content is another message or none. It
+/// takes no memory.
 #[tactic(auto, using(crate::proofs::FeedCalls::whole_is_other, crate::proofs::Sized::fits_sized), unfolding(crate::specs::Reading::call_of, crate::specs::Reading::whole))]
 pub fn read_feed_call(bytes: &[u8]) -> Option<FeedCall<'_>>
-    ensures read { MatchOption result (IsNoFeedCall (call_of bytes.now)) (λ call. call_of bytes.now ≡ Ok (feed_sent_of call)) }
+    ensures read { MatchOption result (IsNoFeedCall (call_of bytes.now))
+        (λ call. call_of bytes.now ≡ Ok (feed_sent_of call)) }
     ensures sized { IfSome result (λ call. IsSized (feed_sent_of call)) }
     // So what is written of it is read again as the same message.
     ensures fits { IfSome result (λ call. Fits (feed_sent_of call)) }

@@ -96,7 +96,8 @@ pub(crate) fn read_reply_header(fields: &mut Fields) -> Result<u32, usize>
 // Goes past a credential or verifier.
 #[tactic(auto, unfolding(crate::specs::Headers::authentication_in))]
 fn pass_authentication(fields: &mut Fields) -> Result<(), usize>
-    ensures { MatchResult result (λ _. authentication_in fields.old ≡ Ok fields.new) (λ bad. authentication_in fields.old ≡ Err bad) }
+    ensures { MatchResult result (λ _. authentication_in fields.old ≡ Ok fields.new)
+        (λ bad. authentication_in fields.old ≡ Err bad) }
 {
     fields.exactly(NO_AUTHENTICATION)?;
     fields.pass(LONGEST_AUTHENTICATION)

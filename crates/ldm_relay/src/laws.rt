@@ -8,7 +8,8 @@ ghost use Rattle.ldm_relay.specs.declared.fault.RelayFault.TheVariants.{BadMessa
 ghost use Rattle.ldm_relay.specs.Sent as sent;
 ghost use Rattle.ldm_relay.specs.Procedure.{number_of, procedure_of};
 ghost use Rattle.ldm_relay.specs.Fits.{Fits, RefusalFits, AuthenticationFits};
-ghost use Rattle.ldm_relay.specs.Spelling.{written, call_header, accepted_header, reply_header, Authentication, call_header_with, reply_header_with};
+ghost use Rattle.ldm_relay.specs.Spelling.{written, call_header, accepted_header, reply_header};
+ghost use Rattle.ldm_relay.specs.Spelling.{Authentication, call_header_with, reply_header_with};
 ghost use Rattle.ldm_relay.specs.Reading.{kind_of, read_as, call_of, reply_of, refusal_of};
 
 /// What is written is read again as the same message: a call as a call, a reply as a reply to its procedure, and a
@@ -37,9 +38,13 @@ pub fn a_refusal_is_no_result()
 /// A credential and a verifier of at most 400 bytes make no difference, whatever their bytes and their padding are: the
 /// call or reply is read as the same message.
 pub fn credentials_are_passed_over()
-    ensures call { (xid : ℕ) (p : Procedure) (credential verifier : Authentication) (body : List ℕ) (m : Sent) → xid < 2 ^ 32
+    ensures call { (xid : ℕ) (p : Procedure) (credential verifier : Authentication) (body : List ℕ) (m : Sent)
+        → xid < 2 ^ 32
         → AuthenticationFits credential → AuthenticationFits verifier
-        → call_of (call_header xid p ++ body) ≡ Ok m → call_of (call_header_with xid p credential verifier ++ body) ≡ Ok m }
-    ensures reply { (xid number : ℕ) (verifier : Authentication) (body : List ℕ) (m : Sent) → xid < 2 ^ 32 → AuthenticationFits verifier
-        → reply_of number (reply_header xid ++ body) ≡ Ok m → reply_of number (reply_header_with xid verifier ++ body) ≡ Ok m }
+        → call_of (call_header xid p ++ body) ≡ Ok m
+        → call_of (call_header_with xid p credential verifier ++ body) ≡ Ok m }
+    ensures reply { (xid number : ℕ) (verifier : Authentication) (body : List ℕ) (m : Sent) → xid < 2 ^ 32
+        → AuthenticationFits verifier
+        → reply_of number (reply_header xid ++ body) ≡ Ok m
+        → reply_of number (reply_header_with xid verifier ++ body) ≡ Ok m }
 {}

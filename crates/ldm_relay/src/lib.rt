@@ -1,8 +1,8 @@
 //! The messages that nodes exchange: remote procedure calls and replies (RFC 5531) with bodies in XDR (RFC 4506), in
 //! this project's profile.
 //!
-//! [`read_call`] and [`read_reply`] read the content of one record, and [`write_message`] writes a whole record. What is
-//! read borrows the record: no body is copied, and reading takes no memory.
+//! [`read_call`] and [`read_reply`] read the content of one record, and [`write_message`] writes a whole record. What
+//! is read borrows the record: no body is copied, and reading takes no memory.
 #![tactic(auto)]
 
 mod body;

@@ -8,18 +8,19 @@ pub const LARGEST_BLOCK: usize = 16_384;
 /// The most bytes of the content of a record.
 pub const LARGEST_CONTENT: usize = 1_073_742_848;
 
-/// The limit of a reader of records that reads calls, or replies with a class: the peer that asked a feeder reads the answer
-/// to its FEEDME and then the feed with it, and so does who sends HIYA, NOTIFYME, QSTAT or PUT. A RECLASS alone has up to
-/// 8,500 bytes, and 400 more with a verifier.
+/// The limit of a reader of records that reads calls, or replies with a class: the peer that asked a feeder reads the
+/// answer to its FEEDME and then the feed with it, and so does who sends HIYA, NOTIFYME, QSTAT or PUT. A RECLASS alone
+/// has up to 8,500 bytes, and 400 more with a verifier.
 pub const LARGEST_RECORD: u32 = LARGEST_CONTENT as u32;
 
-/// The limit of the reader of records of a feeder, which reads replies to its COMINGSOON alone. They have 28 bytes, and up
-/// to 400 more with a verifier.
+/// The limit of the reader of records of a feeder, which reads replies to its COMINGSOON alone. They have 28 bytes, and
+/// up to 400 more with a verifier.
 pub const LARGEST_REPLY: u32 = 1_024;
 
 /// A call or a reply. It borrows the bytes that it carries.
 ///
-/// A reply has the number that the caller gave its call, the `xid`. A message without a reply of its own is not answered.
+/// A reply has the number that the caller gave its call, the `xid`. A message without a reply of its own is not
+/// answered.
 #[derive(Debug, Drop)]
 pub enum Message<'a> {
     Feedme(Feedme),

@@ -1,8 +1,9 @@
 //! Reading replies.
 ghost use Rattle.std.specs.Prelude.{IfOk, Some};
 ghost use Rattle.ldm_relay.specs.MessageView.{sent_of};
-ghost use Rattle.ldm_relay.specs.Replies.{accepted_in, result_in, feedme_reply_in, hiya_reply_in, comingsoon_reply_in, notifyme_reply_in};
-ghost use Rattle.ldm_relay.specs.Replies.{figures_in, stat_in, qstat_reply_in, admitted_in, too_big_in, put_answer_in, put_reply_in};
+ghost use Rattle.ldm_relay.specs.Replies.{accepted_in, result_in, feedme_reply_in, hiya_reply_in};
+ghost use Rattle.ldm_relay.specs.Replies.{comingsoon_reply_in, notifyme_reply_in, figures_in, stat_in};
+ghost use Rattle.ldm_relay.specs.Replies.{qstat_reply_in, admitted_in, too_big_in, put_answer_in, put_reply_in};
 ghost use Rattle.ldm_xdr.specs.FieldReads.{Gives};
 ghost use Rattle.ldm_relay.specs.Writable.{IsWritable};
 ghost use Rattle.ldm_relay.specs.Fits.{StatFits, PutAnswerFits, Fits};

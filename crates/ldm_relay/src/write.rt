@@ -6,8 +6,10 @@ ghost use Rattle.ldm_types.specs.Info.{pad4};
 ghost use Rattle.ldm_xdr.specs.Spelling.{spelling, number, unsigned, hyper, padded, opaque};
 ghost use Rattle.ldm_relay.specs.Sent as sent;
 ghost use Rattle.ldm_relay.specs.MessageView.{sent_of};
-ghost use Rattle.ldm_relay.specs.Spelling.{instant_bytes, spec_bytes, class_bytes, class_answer_bytes, soon_answer_bytes, figures_bytes, stat_bytes};
-ghost use Rattle.ldm_relay.specs.Spelling.{put_answer_bytes, refusal_bytes, no_authentication, call_header, accepted_header, reply_header, written, record_of};
+ghost use Rattle.ldm_relay.specs.Spelling.{instant_bytes, spec_bytes, class_bytes, class_answer_bytes};
+ghost use Rattle.ldm_relay.specs.Spelling.{soon_answer_bytes, figures_bytes, stat_bytes, put_answer_bytes};
+ghost use Rattle.ldm_relay.specs.Spelling.{refusal_bytes, no_authentication, call_header, accepted_header};
+ghost use Rattle.ldm_relay.specs.Spelling.{reply_header, written, record_of};
 ghost use Rattle.ldm_relay.specs.Bodies.{body_len, with_body, front_of};
 ghost use Rattle.ldm_relay.specs.Writable.{IsWritable};
 ghost use Rattle.ldm_relay.specs.Appends.{HasRoom, Appends};
@@ -153,7 +155,8 @@ fn put_product_front(out: &mut Vec<u8>, xid: u32, procedure: Procedure, info: &I
 #[tactic(auto, using(crate::proofs::Appending::appending))]
 fn put_block_front(out: &mut Vec<u8>, xid: u32, signature: Signature, number: u32, len: u32)
     requires { HasRoom out.old (call_header xid Procedure.Blkdata ++ (signature.0 ++ unsigned number ++ unsigned len)) }
-    ensures { Appends out.old out.new (call_header xid Procedure.Blkdata ++ (signature.0 ++ unsigned number ++ unsigned len)) }
+    ensures { Appends out.old out.new
+        (call_header xid Procedure.Blkdata ++ (signature.0 ++ unsigned number ++ unsigned len)) }
 {
     put_call_header(out, xid, Procedure::Blkdata);
     put(out, &signature.0);

@@ -13,11 +13,13 @@ ghost use Rattle.ldm_requester.specs.Works.{Works};
 pub fn what_is_told_of_tries()
     // The dial was asked once by each, for the host and the port of the request, where it tells whom it was asked for.
     ensures asked { (stop : NodeStop) (request : RequestView) (old new : Moment) (works : Works stop request old new) →
-        TellsMore (λ before. before ++ asked_by request (all_tries works)) old.station.dial.asked new.station.dial.asked }
+        TellsMore (λ before. before ++ asked_by request (all_tries works)) old.station.dial.asked
+        new.station.dial.asked }
     // Where the gate stopped the worker, its log took one line of each, in order.
     ensures logged { (request : RequestView) (old new : Moment) (works : Works Done request old new) →
         (own : List (List ℕ)) × Takes old.station.log (log_of request (all_tries works) own) new.station.log }
     // Each session begins behind the last product of the one before.
-    ensures resumed { (stop : NodeStop) (request : RequestView) (old new : Moment) (works : Works stop request old new) →
+    ensures resumed { (stop : NodeStop) (request : RequestView) (old new : Moment)
+        (works : Works stop request old new) →
         Follow old.last (all_tries works) }
 {}

@@ -19,8 +19,8 @@ use ldm_worker_log::{NodeStop, write_unreached};
 use std::alloc::Global;
 use std::sync::Wait;
 
-/// Dials the host of a request, and holds a session with it, behind the last product of the one before. Answers why the worker
-/// stops, where it does.
+/// Dials the host of a request, and holds a session with it, behind the last product of the one before. Answers why the
+/// worker stops, where it does.
 pub fn try_once<H: Wait, D: Door, I: Dial, E: Sink, C: Clock, G: Gate>(
     rt: &H,
     alloc: Global,

@@ -16,9 +16,10 @@ use std::sync::Wait;
 
 /// Asks the host of a request for the products of its class, time and again, until the gate says to stop.
 ///
-/// It dials the host, and receives what comes over the link, behind the last product of the session before. It gives the link
-/// back, writes the line of the session, and asks the gate. Where the dial fails, it writes a line of that. It stops too where its
-/// log fails, and where the queue has had all its calls. For want of memory a session ends, and not the worker.
+/// It dials the host, and receives what comes over the link, behind the last product of the session before. It gives
+/// the link back, writes the line of the session, and asks the gate. Where the dial fails, it writes a line of that. It
+/// stops too where its log fails, and where the queue has had all its calls. For want of memory a session ends, and not
+/// the worker.
 pub fn work_request<H: Wait, D: Door, I: Dial, E: Sink, C: Clock, G: Gate>(
     rt: &H,
     alloc: Global,

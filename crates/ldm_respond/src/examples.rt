@@ -1,5 +1,6 @@
 //! Worked examples.
-ghost use Rattle.ldm_respond.specs.Examples.{Accepted, AcceptedLength, Reclassed, Denied, NoRules, Known, Inserted, Faults, OutOfPlace};
+ghost use Rattle.ldm_respond.specs.Examples.{Accepted, AcceptedLength, Reclassed, Denied};
+ghost use Rattle.ldm_respond.specs.Examples.{NoRules, Known, Inserted, Faults, OutOfPlace};
 
 /// What the definition says of single records. It does nothing.
 #[tactic(auto, unfolding(ldm_relay::specs::Spelling::written, ldm_relay::specs::Spelling::reply_header, ldm_relay::specs::Spelling::accepted_header, ldm_relay::specs::Spelling::no_authentication, ldm_xdr::specs::Spelling::number))]

@@ -40,7 +40,8 @@ pub(crate) fn hiya(
     offer: Hiya,
     out: &mut Vec<u8>,
 ) -> Result<Responded, RespondFault>
-    ensures { (pass : PassView) (clock : ClockRecord) → Responds result (to_hiya policy.now host.now offer.xid offer.class)
+    ensures { (pass : PassView) (clock : ClockRecord)
+        → Responds result (to_hiya policy.now host.now offer.xid offer.class)
         (stands pass clock out.old.items) (stands pass clock out.new.items) }
 {
     match Class::build(alloc, &offer.class) {

@@ -24,6 +24,7 @@ pub fn rules_are_kept()
         Begins actor (answering (respond rules host content) now) made → Contains (events_of made) Stat →
         list_any (is_about host) rules.allow ≡ true }
     ensures tells_figures { (rules : Rules) (host content : List ℕ) (now actor : ℕ) (made : List Entry)
-        (messages : List Sent) (xid : ℕ) (stat : figures.Stat) → Leads actor (answering (respond rules host content) now) made messages →
+        (messages : List Sent) (xid : ℕ) (stat : figures.Stat)
+        → Leads actor (answering (respond rules host content) now) made messages →
         Contains messages (sent.QstatReply xid (Some stat)) → list_any (is_about host) rules.allow ≡ true }
 {}

@@ -17,7 +17,8 @@ pub enum Responded {
     Notifies { ask: Notifyme, class: Class },
     /// The record is refused.
     Refused,
-    /// The ACCEPT rules leave nothing of what the peer offered: the number of the first rule about the host, or 0 for none.
+    /// The ACCEPT rules leave nothing of what the peer offered: the number of the first rule about the host, or 0 for
+    /// none.
     Denied { rule: u64 },
 }
 

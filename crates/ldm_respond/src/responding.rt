@@ -16,11 +16,11 @@ use ldm_shared::{Pass, Shared};
 use std::alloc::Global;
 use std::sync::Wait;
 
-/// Responds to a record with that content from a host: asks the queue what [the definition](../specs/Respond.antt) says, appends
-/// the records that the peer is owed, and tells how the connection goes on.
+/// Responds to a record with that content from a host: asks the queue what [the definition](../specs/Respond.antt)
+/// says, appends the records that the peer is owed, and tells how the connection goes on.
 ///
-/// Memory is taken before the clock and the queue are asked, so what the queue answered is never lost. The body of a product goes
-/// from the record into the queue without a copy between.
+/// Memory is taken before the clock and the queue are asked, so what the queue answered is never lost. The body of a
+/// product goes from the record into the queue without a copy between.
 pub fn respond<H: Wait, C: Clock>(
     rt: &H,
     alloc: Global,

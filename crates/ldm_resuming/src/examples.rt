@@ -4,24 +4,30 @@ ghost use Rattle.ldm_model.specs.Law.{given};
 ghost use Rattle.ldm_model.specs.declared.event.Reply.TheVariants as reply;
 ghost use Rattle.ldm_passing.specs.Examples.{inserts, reserves, fills, commits};
 ghost use Rattle.ldm_resuming.specs.Behind.{IsBehind, IsNextBehind};
-ghost use Rattle.ldm_resuming.specs.Examples.{resumed_life, resumed_session, session_with, sample_feeding, asks_before, sample_row, givings};
+ghost use Rattle.ldm_resuming.specs.Examples.{resumed_life, resumed_session, session_with};
+ghost use Rattle.ldm_resuming.specs.Examples.{sample_feeding, asks_before, sample_row, givings};
 ghost use Rattle.ldm_resuming.specs.Life.{calls_of};
 ghost use Rattle.ldm_resuming.specs.Offered.{count_settled, is_due_row, numbers_of, offered, products_left};
 ghost use Rattle.ldm_resuming.specs.Resumed.{last_number};
 
-/// Worked examples of the definitions, worked out by hand. The products of the sample session have the numbers 0, 3, 5 and 7 in
-/// the feeder's queue; product 3 is not due.
+/// Worked examples of the definitions, worked out by hand. The products of the sample session have the numbers 0, 3, 5
+/// and 7 in the feeder's queue; product 3 is not due.
 pub fn worked_examples()
-    // A product is settled by its insertion, whatever the queue replies, by a commit, or by a reservation that is refused; not by a
-    // region or by blocks.
-    ensures settled { count_settled (inserts 500 (reply.Duplicate 0) ∷ reserves (reply.Duplicate 0) ∷ reserves (reply.Reserved 5 0)
+    // A product is settled by its insertion, whatever the queue replies, by a commit, or by a reservation that is
+    // refused; not by a region or by blocks.
+    ensures settled { count_settled
+        (inserts 500 (reply.Duplicate 0) ∷ reserves (reply.Duplicate 0) ∷ reserves (reply.Reserved 5 0)
         ∷ fills (65 ∷ 66 ∷ 67 ∷ 68 ∷ []) ∷ commits 500 ∷ reserves (reply.Reserved 5 0) ∷ []) ≡ 3 }
     // Cut behind the announcement of product 7, the session offered the two before it.
-    ensures cut { offered (session_with (inserts 500 (reply.Duplicate 0) ∷ reserves (reply.Duplicate 0) ∷ reserves (reply.Reserved 5 0) ∷ []))
+    ensures cut { offered
+        (session_with (inserts 500 (reply.Duplicate 0) ∷ reserves (reply.Duplicate 0) ∷ reserves (reply.Reserved 5 0)
+        ∷ []))
         ≡ 0 ∷ 5 ∷ [] }
-    ensures left { numbers_of (products_left (session_with (inserts 500 (reply.Duplicate 0) ∷ reserves (reply.Duplicate 0) ∷ [])))
+    ensures left { numbers_of
+        (products_left (session_with (inserts 500 (reply.Duplicate 0) ∷ reserves (reply.Duplicate 0) ∷ [])))
         ≡ 7 ∷ [] }
-    ensures whole { offered (session_with (inserts 500 (reply.Duplicate 0) ∷ reserves (reply.Duplicate 0) ∷ reserves (reply.Reserved 5 0)
+    ensures whole { offered
+        (session_with (inserts 500 (reply.Duplicate 0) ∷ reserves (reply.Duplicate 0) ∷ reserves (reply.Reserved 5 0)
         ∷ fills (65 ∷ 66 ∷ 67 ∷ 68 ∷ []) ∷ commits 500 ∷ [])) ≡ 0 ∷ 5 ∷ 7 ∷ [] }
     ensures nothing { offered (session_with []) ≡ [] }
     // What was inserted too late is not due, and neither is what was not admitted.
@@ -35,7 +41,8 @@ pub fn worked_examples()
     ensures none_more { last_number (Some 9) [] ≡ Some 9 }
 {}
 
-/// A session that goes on behind product 0, through the queue. Product 1 was evicted before its cursor was given product 2.
+/// A session that goes on behind product 0, through the queue. Product 1 was evicted before its cursor was given
+/// product 2.
 pub fn worked_example_of_resuming()
     ensures given { given resumed_life ≡ 2 ∷ [] }
     ensures behind { IsBehind resumed_session 0 }

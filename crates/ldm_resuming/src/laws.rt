@@ -39,7 +39,8 @@ pub fn cut_sessions_resume()
     // The receiver goes on behind the last of them.
     ensures last { (s : Session) → IsSession s →
         s.passing.came_to.receiving.last ≡ last_of s.passing.begins.last (offered_products s) }
-    // A product that is larger than what is to come whole, and has a byte, was offered only where its last block came or it was declined.
+    // A product that is larger than what is to come whole, and has a byte, was offered only where its last block came
+    // or it was declined.
     ensures in_blocks { (s : Session) → IsSession s → (product : Handed) → Contains (offered_products s) product →
         s.passing.asked.max_hereis < product.given.product.info.size → 0 < product.given.product.info.size →
         CameOrDeclined s.passing product.given.product }
@@ -48,8 +49,10 @@ pub fn cut_sessions_resume()
     // It passes over none that stayed queued.
     ensures passes_over { (s : Session) (n : ℕ) → IsSession s → IsBehind s n → All (IsNextBehind s n) (offered s) }
     // Sessions that go on behind the last product of those before offer none twice.
-    ensures rising { (sessions : List Session) → AreResumed None sessions → IsStrictlyIncreasing (all_offered sessions) }
-    // A receiver that asks for a class behind the last product that it has taken goes on so, while the feeder finds that product.
+    ensures rising { (sessions : List Session) → AreResumed None sessions
+        → IsStrictlyIncreasing (all_offered sessions) }
+    // A receiver that asks for a class behind the last product that it has taken goes on so, while the feeder finds
+    // that product.
     ensures resumed { (class : ClassSpec) (sessions : List Session) → CanName class → FollowInTurn class sessions →
         AllFind None sessions → AreResumed None sessions }
 {
@@ -62,15 +65,18 @@ pub fn cut_sessions_resume()
 
 /// How the life of a cursor, of which the sessions speak, comes to be.
 pub fn feedings_have_lives()
-    // A pass that made the calls of a feeding, and perhaps broke off behind the last one that gave a product, and then made others.
-    ensures called { (old new : PassView) (asked : Asked) (feeding : Feeding) (missed : Bool) (k : ℕ) (called unmade more : List Entry) →
+    // A pass that made the calls of a feeding, and perhaps broke off behind the last one that gave a product, and then
+    // made others.
+    ensures called { (old new : PassView) (asked : Asked) (feeding : Feeding) (missed : Bool) (k : ℕ)
+        (called unmade more : List Entry) →
         HasSeen old → Calls old new (opening_entries old.actor asked feeding.answered ++ (called ++ more)) →
         feeding.answered ≡ Opened missed k → called ++ unmade ≡ calls_of old.actor k feeding →
         All (λ entry. gives entry.reply ≡ false) unmade → (life : Point) × HasLife new asked feeding life }
     // A call that feeds, at each of its ends.
     ensures fed { (why : SendEnd) (asked : Asked) (ahead : List ℕ) (old new : PassView) (before after : SessionRecord) →
         (feeds : Feeds why asked ahead old new before after) → HasSeen old →
-        (missed : Bool) (k : ℕ) → feeds.feeding.answered ≡ Opened missed k → (life : Point) × HasLife new asked feeds.feeding life }
+        (missed : Bool) (k : ℕ) → feeds.feeding.answered ≡ Opened missed k → (life : Point)
+        × HasLife new asked feeds.feeding life }
 {
     own_readers();
 }

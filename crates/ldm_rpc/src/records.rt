@@ -1,11 +1,13 @@
 //! The records of a stream that comes in pieces.
-ghost use Rattle.std.specs.Prelude.{◌≡◌, ◌^◌, ◌≤◌, ◌<◌, ℕ, IfOk, IfErr, IfNone, IfSome, OnErr, Err, List, Some, length, true, false, []};
+ghost use Rattle.std.specs.Prelude.{◌≡◌, ◌^◌, ◌≤◌, ◌<◌, ℕ, IfOk, IfErr, IfNone, IfSome};
+ghost use Rattle.std.specs.Prelude.{OnErr, Err, List, Some, length, true, false, []};
 ghost use Rattle.std.specs.Vec.{vec_capacity};
 ghost use Rattle.ldm_rpc.specs.declared.records.TheConstants.{LARGEST_KEPT};
 ghost use Rattle.std.specs.Option.{option_copied};
 ghost use Rattle.ldm_rpc.specs.declared.fault.RpcFault.{RpcFault};
 ghost use Rattle.ldm_rpc.specs.declared.stage.Stage.TheVariants.{Faulty};
-ghost use Rattle.ldm_rpc.specs.Reading.{after, after_byte, after_header, begun, bytes_taken, is_faulty, is_open, is_pending, is_whole, next_of, whole_of};
+ghost use Rattle.ldm_rpc.specs.Reading.{after, after_byte, after_header, begun, bytes_taken, is_faulty};
+ghost use Rattle.ldm_rpc.specs.Reading.{is_open, is_pending, is_whole, next_of, whole_of};
 ghost use Rattle.ldm_rpc.specs.Spelling.{BeginsSingle};
 ghost use Rattle.ldm_rpc.specs.Taking.{IsFaultOf, TakesFront, answer_at};
 
@@ -18,8 +20,8 @@ use std::marker::Model;
 /// The largest buffer that is kept from one record to the next, in bytes. A larger one is given back, so that one large
 /// record does not keep its memory for the rest of a session.
 ///
-/// A buffer grows by doubling, so a content of up to 2 MiB comes to less than 4 MiB: records with products of 1 MiB take
-/// memory once, and not for each record anew.
+/// A buffer grows by doubling, so a content of up to 2 MiB comes to less than 4 MiB: records with products of 1 MiB
+/// take memory once, and not for each record anew.
 pub const LARGEST_KEPT: usize = 4_194_304;
 
 /// A reader of records (RFC 5531, section 11), to which a stream is given in pieces of any size.
@@ -70,7 +72,8 @@ impl Records {
         ensures moves { IfOk result (λ n. 0 < length piece.now → 0 < n) }
         ensures ends { IfOk result (λ n. n < length piece.now → is_whole self.new ≡ true) }
         ensures fault { IfErr result (IsFaultOf self.old piece.now self.new) }
-        ensures stays { (fault : RpcFault) → self.old.stage ≡ Faulty fault → (result ≡ Err fault) × (self.new ≡ self.old) }
+        ensures stays { (fault : RpcFault) → self.old.stage ≡ Faulty fault → (result ≡ Err fault)
+            × (self.new ≡ self.old) }
     {
         let mut taken = 0;
         while taken < piece.len() && self.is_open() {
@@ -106,19 +109,22 @@ impl Records {
         }
     }
 
-    /// The record of one fragment that lies whole at the front of a piece, where the reader is before the first byte of a
-    /// record. `None` exactly where the reader is elsewhere, or the piece begins with no such record that is within the
-    /// limit.
+    /// The record of one fragment that lies whole at the front of a piece, where the reader is before the first byte of
+    /// a record. `None` exactly where the reader is elsewhere, or the piece begins with no such record that is within
+    /// the limit.
     ///
-    /// It takes no memory and copies nothing. Before the next record the reader stands as it stands now: the caller goes on
-    /// behind the bytes that this one takes, and neither pushes them nor calls [`Records::next`].
+    /// It takes no memory and copies nothing. Before the next record the reader stands as it stands now: the caller
+    /// goes on behind the bytes that this one takes, and neither pushes them nor calls [`Records::next`].
     pub fn whole_in<'a>(&self, piece: &'a [u8]) -> Option<InPlace<'a>>
         ensures content { IfSome result (λ found. whole_of (after self.now piece.now) ≡ Some found.content.now) }
-        ensures taken { IfSome result (λ found. (found.taken ≡ bytes_taken self.now piece.now) × (found.taken ≤ length piece.now) × (0 < found.taken)) }
+        ensures taken { IfSome result
+            (λ found. (found.taken ≡ bytes_taken self.now piece.now) × (found.taken ≤ length piece.now)
+            × (0 < found.taken)) }
         ensures stays { IfSome result (λ found. next_of (after self.now piece.now) ≡ self.now) }
         ensures within { IfSome result (λ found. length found.content.now ≤ self.now.limit) }
         ensures begins { IfSome result (λ found. BeginsSingle self.now.limit piece.now found.content.now) }
-        ensures none { IfNone result (self.now ≡ begun self.now.limit → (content : List ℕ) → ¬ BeginsSingle self.now.limit piece.now content) }
+        ensures none { IfNone result
+            (self.now ≡ begun self.now.limit → (content : List ℕ) → ¬ BeginsSingle self.now.limit piece.now content) }
     {
         if !self.is_begun() {
             return None;

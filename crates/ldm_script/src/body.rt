@@ -198,7 +198,8 @@ fn is_digit(byte: u8) -> bool
 }
 
 fn read_fill(count: &[u8], byte: &[u8]) -> Option<Body<'static>>
-    ensures value { option_map bytes_of result ≡ filled (number_up_to LONGEST_BODY count.now) (result_ok (decode_sized byte.now 1)) }
+    ensures value { option_map bytes_of result ≡ filled (number_up_to LONGEST_BODY count.now)
+        (result_ok (decode_sized byte.now 1)) }
     ensures fits { IfSome result IsBody }
 {
     let count = read_number(count, u64::from(LONGEST_BODY))?;

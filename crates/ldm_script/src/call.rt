@@ -63,8 +63,8 @@ pub enum Call<'a> {
 }
 
 impl Act<'_> {
-    /// The call that is asked for, where `last` has what `.` stands for. `None` exactly where that is named, and there is none
-    /// yet: the answer is [`Act::unresolved`] then, without a call.
+    /// The call that is asked for, where `last` has what `.` stands for. `None` exactly where that is named, and there
+    /// is none yet: the answer is [`Act::unresolved`] then, without a call.
     pub fn call(&self, last: LastPlaces) -> Option<Call<'_>>
         requires { IsWhole self.now }
         ensures event { option_map event_of result ≡ resolved last (asked_of self.now) }

@@ -9,7 +9,8 @@ ghost use Rattle.ldm_script.specs.Word.{word_of_text, start_word_of_text};
 ghost use Rattle.ldm_script.specs.Texts.{text_up_to};
 ghost use Rattle.ldm_script.specs.Bodies.{body_of};
 ghost use Rattle.ldm_script.specs.OrderView.{bytes_of, IsBody};
-ghost use Rattle.ldm_script.specs.Grammar.{four_bytes as four_bytes_of, instant_of, signature_of, feed_of, place_of, reserve_place_of};
+ghost use Rattle.ldm_script.specs.Grammar.{four_bytes as four_bytes_of, instant_of, signature_of};
+ghost use Rattle.ldm_script.specs.Grammar.{feed_of, place_of, reserve_place_of};
 ghost use Rattle.ldm_script.specs.Fields.{field, no_more};
 ghost use Rattle.ldm_script.specs.FieldReads.{TakesField, Gives};
 ghost use Rattle.ldm_script.specs.declared.line.TheConstants.{LONGEST_LINE};
@@ -70,7 +71,8 @@ impl<'a> Fields<'a> {
 
     /// The next field.
     pub fn next(&mut self) -> Result<Field<'a>, usize>
-        ensures field { MatchResult result (λ found. TakesField self.old found.text.now found.left self.new) (λ bad. (self.old ≡ None) × (bad ≡ 0)) }
+        ensures field { MatchResult result (λ found. TakesField self.old found.text.now found.left self.new)
+            (λ bad. (self.old ≡ None) × (bad ≡ 0)) }
         ensures short { IfOk result (λ found. length found.text.now ≤ LONGEST_LINE) }
     {
         let Some(rest) = self.rest else {

@@ -1,9 +1,9 @@
 //! Script lines and answer lines.
 //!
-//! [`read_line`] reads a line as an order, or tells the column of its first fault, and [`write_line`] writes an order as a
-//! line. [`body_into`] writes the bytes of a body that a line spells, [`write_answer`] an answer of the queue, and
-//! [`text_into`] the spelling of an origin or an ident; [`put`] and [`put_number`] make other short lines. Contracts see
-//! orders and answers as what the model of the queue speaks of.
+//! [`read_line`] reads a line as an order, or tells the column of its first fault, and [`write_line`] writes an order
+//! as a line. [`body_into`] writes the bytes of a body that a line spells, [`write_answer`] an answer of the queue, and
+//! [`text_into`] the spelling of an origin or an ident; [`put`] and [`put_number`] make other short lines. Contracts
+//! see orders and answers as what the model of the queue speaks of.
 //!
 //! Only `write_line` takes memory.
 #![tactic(auto)]

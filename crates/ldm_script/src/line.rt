@@ -4,10 +4,11 @@ ghost use Rattle.std.specs.Option.{option_map};
 ghost use Rattle.ldm_model.specs.declared.event.Event.{Event};
 ghost use Rattle.ldm_script.specs.Order.{OnCursor};
 ghost use Rattle.ldm_script.specs.FieldReads.{Gives};
-ghost use Rattle.ldm_script.specs.Grammar.{read_line as reading, read_order as order_at, read_act as act_at, read_insert as insert_at, read_open as open_at};
-ghost use Rattle.ldm_script.specs.Grammar.{read_start as start_at, read_read as read_at, read_look as look_at, read_on_cursor as on_cursor_at};
-ghost use Rattle.ldm_script.specs.Grammar.{read_reserve as reserve_at, read_fill as fill_at, read_commit as commit_at, read_discard as discard_at};
-ghost use Rattle.ldm_script.specs.Grammar.{read_details as details_at, metadata};
+ghost use Rattle.ldm_script.specs.Grammar.{read_line as reading, read_order as order_at, read_act as act_at};
+ghost use Rattle.ldm_script.specs.Grammar.{read_insert as insert_at, read_open as open_at, read_start as start_at};
+ghost use Rattle.ldm_script.specs.Grammar.{read_read as read_at, read_look as look_at, read_on_cursor as on_cursor_at};
+ghost use Rattle.ldm_script.specs.Grammar.{read_reserve as reserve_at, read_fill as fill_at, read_commit as commit_at};
+ghost use Rattle.ldm_script.specs.Grammar.{read_discard as discard_at, read_details as details_at, metadata};
 ghost use Rattle.ldm_types.specs.Info.{texts_fault};
 ghost use Rattle.ldm_script.specs.OrderView.{order_of, asked_of, bytes_of, details_of, IsBody, IsWhole, IsWritable};
 ghost use Rattle.md5.specs.Md5.{md5};
@@ -29,8 +30,8 @@ pub const LONGEST_READ: u32 = 4_096;
 /// A line is outside the grammar.
 #[derive(Clone, Copy, Debug, PartialEq, Eq)]
 pub struct BadLine {
-    /// The column, from 1, of the first field that cannot be read; one past the line's length for a field that is missing; of
-    /// the blank in front of a field too many; and 65,537 where the line is too long.
+    /// The column, from 1, of the first field that cannot be read; one past the line's length for a field that is
+    /// missing; of the blank in front of a field too many; and 65,537 where the line is too long.
     pub column: u32,
 }
 
@@ -40,7 +41,8 @@ pub struct BadLine {
 #[tactic(auto, unfolding(crate::specs::Grammar::read_line))]
 pub fn read_line(line: &[u8], actors: u32) -> Result<Option<Order<'_>>, BadLine>
     requires { actors ≤ 64 }
-    ensures read { MatchResult result (λ order. reading actors line.now ≡ Ok (option_map order_of order)) (λ bad. reading actors line.now ≡ Err bad.column) }
+    ensures read { MatchResult result (λ order. reading actors line.now ≡ Ok (option_map order_of order))
+        (λ bad. reading actors line.now ≡ Err bad.column) }
     ensures whole { IfOk result (λ found. IfSome found (λ order. IsWhole order.act)) }
     ensures writable { IfOk result (λ found. IfSome found (λ order. IsWritable order.act)) }
     ensures actor { IfOk result (λ found. IfSome found (λ order. order.actor < actors)) }
@@ -66,7 +68,8 @@ pub fn read_line(line: &[u8], actors: u32) -> Result<Option<Order<'_>>, BadLine>
 #[tactic(auto, unfolding(crate::specs::Grammar::read_order))]
 fn read_order(mut fields: Fields<'_>, actors: u32) -> Result<Order<'_>, usize>
     requires { actors ≤ 64 }
-    ensures read { MatchResult result (λ order. order_at actors fields.entry ≡ Ok (order_of order)) (λ bad. order_at actors fields.entry ≡ Err bad) }
+    ensures read { MatchResult result (λ order. order_at actors fields.entry ≡ Ok (order_of order))
+        (λ bad. order_at actors fields.entry ≡ Err bad) }
     ensures whole { IfOk result (λ order. IsWhole order.act) }
     ensures actor { IfOk result (λ order. order.actor < actors) }
 {
@@ -80,7 +83,8 @@ fn read_order(mut fields: Fields<'_>, actors: u32) -> Result<Order<'_>, usize>
 
 // What stands behind the word.
 fn read_act(word: LineWord, fields: Fields<'_>) -> Result<Act<'_>, usize>
-    ensures read { MatchResult result (λ act. act_at word fields.entry ≡ Ok (asked_of act)) (λ bad. act_at word fields.entry ≡ Err bad) }
+    ensures read { MatchResult result (λ act. act_at word fields.entry ≡ Ok (asked_of act))
+        (λ bad. act_at word fields.entry ≡ Err bad) }
     ensures whole { IfOk result IsWhole }
 {
     match word {
@@ -117,7 +121,8 @@ fn read_act(word: LineWord, fields: Fields<'_>) -> Result<Act<'_>, usize>
 
 #[tactic(auto, unfolding(crate::specs::Grammar::read_insert))]
 fn read_insert(mut fields: Fields<'_>) -> Result<Act<'_>, usize>
-    ensures read { MatchResult result (λ act. insert_at fields.entry ≡ Ok (asked_of act)) (λ bad. insert_at fields.entry ≡ Err bad) }
+    ensures read { MatchResult result (λ act. insert_at fields.entry ≡ Ok (asked_of act))
+        (λ bad. insert_at fields.entry ≡ Err bad) }
     ensures whole { IfOk result IsWhole }
 {
     let now = fields.instant()?;
@@ -186,7 +191,8 @@ fn signature_of(read: Option<Signature>, body: &Body) -> Signature
 
 #[tactic(auto, unfolding(crate::specs::Grammar::read_open))]
 fn read_open(mut fields: Fields<'_>) -> Result<Act<'_>, usize>
-    ensures read { MatchResult result (λ act. open_at fields.entry ≡ Ok (asked_of act)) (λ bad. open_at fields.entry ≡ Err bad) }
+    ensures read { MatchResult result (λ act. open_at fields.entry ≡ Ok (asked_of act))
+        (λ bad. open_at fields.entry ≡ Err bad) }
     ensures whole { IfOk result IsWhole }
 {
     let feed = fields.feed()?;
@@ -220,7 +226,8 @@ fn read_on_cursor(mut fields: Fields) -> Result<Place, usize>
 
 #[tactic(auto, unfolding(crate::specs::Grammar::read_read))]
 fn read_read(mut fields: Fields<'_>) -> Result<Act<'_>, usize>
-    ensures read { MatchResult result (λ act. read_at fields.entry ≡ Ok (asked_of act)) (λ bad. read_at fields.entry ≡ Err bad) }
+    ensures read { MatchResult result (λ act. read_at fields.entry ≡ Ok (asked_of act))
+        (λ bad. read_at fields.entry ≡ Err bad) }
     ensures whole { IfOk result IsWhole }
 {
     let k = fields.place()?;
@@ -232,7 +239,8 @@ fn read_read(mut fields: Fields<'_>) -> Result<Act<'_>, usize>
 
 #[tactic(auto, unfolding(crate::specs::Grammar::read_look))]
 fn read_look(mut fields: Fields<'_>) -> Result<Act<'_>, usize>
-    ensures read { MatchResult result (λ act. look_at fields.entry ≡ Ok (asked_of act)) (λ bad. look_at fields.entry ≡ Err bad) }
+    ensures read { MatchResult result (λ act. look_at fields.entry ≡ Ok (asked_of act))
+        (λ bad. look_at fields.entry ≡ Err bad) }
     ensures whole { IfOk result IsWhole }
 {
     let signature = fields.signature()?;
@@ -242,7 +250,8 @@ fn read_look(mut fields: Fields<'_>) -> Result<Act<'_>, usize>
 
 #[tactic(auto, unfolding(crate::specs::Grammar::read_reserve))]
 fn read_reserve(mut fields: Fields<'_>) -> Result<Act<'_>, usize>
-    ensures read { MatchResult result (λ act. reserve_at fields.entry ≡ Ok (asked_of act)) (λ bad. reserve_at fields.entry ≡ Err bad) }
+    ensures read { MatchResult result (λ act. reserve_at fields.entry ≡ Ok (asked_of act))
+        (λ bad. reserve_at fields.entry ≡ Err bad) }
     ensures whole { IfOk result IsWhole }
 {
     let arrival = fields.instant()?;
@@ -256,7 +265,8 @@ fn read_reserve(mut fields: Fields<'_>) -> Result<Act<'_>, usize>
 
 #[tactic(auto, unfolding(crate::specs::Grammar::read_fill), using(crate::proofs::Bodies::body_small))]
 fn read_fill(mut fields: Fields<'_>) -> Result<Act<'_>, usize>
-    ensures read { MatchResult result (λ act. fill_at fields.entry ≡ Ok (asked_of act)) (λ bad. fill_at fields.entry ≡ Err bad) }
+    ensures read { MatchResult result (λ act. fill_at fields.entry ≡ Ok (asked_of act))
+        (λ bad. fill_at fields.entry ≡ Err bad) }
     ensures whole { IfOk result IsWhole }
 {
     let r = fields.reserve_place()?;
@@ -267,7 +277,8 @@ fn read_fill(mut fields: Fields<'_>) -> Result<Act<'_>, usize>
 
 #[tactic(auto, unfolding(crate::specs::Grammar::read_commit))]
 fn read_commit(mut fields: Fields<'_>) -> Result<Act<'_>, usize>
-    ensures read { MatchResult result (λ act. commit_at fields.entry ≡ Ok (asked_of act)) (λ bad. commit_at fields.entry ≡ Err bad) }
+    ensures read { MatchResult result (λ act. commit_at fields.entry ≡ Ok (asked_of act))
+        (λ bad. commit_at fields.entry ≡ Err bad) }
     ensures whole { IfOk result IsWhole }
 {
     let r = fields.reserve_place()?;
@@ -278,7 +289,8 @@ fn read_commit(mut fields: Fields<'_>) -> Result<Act<'_>, usize>
 
 #[tactic(auto, unfolding(crate::specs::Grammar::read_discard))]
 fn read_discard(mut fields: Fields<'_>) -> Result<Act<'_>, usize>
-    ensures read { MatchResult result (λ act. discard_at fields.entry ≡ Ok (asked_of act)) (λ bad. discard_at fields.entry ≡ Err bad) }
+    ensures read { MatchResult result (λ act. discard_at fields.entry ≡ Ok (asked_of act))
+        (λ bad. discard_at fields.entry ≡ Err bad) }
     ensures whole { IfOk result IsWhole }
 {
     let r = fields.reserve_place()?;

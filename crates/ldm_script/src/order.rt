@@ -20,10 +20,11 @@ pub enum Place {
 }
 
 impl Place {
-    /// The cursor that is named, where `last` is the place that the actor opened last. `None` exactly where that is named,
-    /// and there is none yet.
+    /// The cursor that is named, where `last` is the place that the actor opened last. `None` exactly where that is
+    /// named, and there is none yet.
     pub fn cursor(self, last: Option<CursorNo>) -> Option<CursorNo>
-        ensures { (places : LastPlaces) (on_cursor : ℕ → Event) → places.opened ≡ last → resolved places (OnCursor self on_cursor) ≡ option_map on_cursor result }
+        ensures { (places : LastPlaces) (on_cursor : ℕ → Event) → places.opened ≡ last
+            → resolved places (OnCursor self on_cursor) ≡ option_map on_cursor result }
     {
         match self {
             Place::At(k) => Some(k),
@@ -42,10 +43,11 @@ pub enum ReservePlace {
 }
 
 impl ReservePlace {
-    /// The reservation that is named, where `last` is the place that the actor reserved last. `None` exactly where that is
-    /// named, and there is none yet.
+    /// The reservation that is named, where `last` is the place that the actor reserved last. `None` exactly where that
+    /// is named, and there is none yet.
     pub fn reservation(self, last: Option<ReserveNo>) -> Option<ReserveNo>
-        ensures { (places : LastPlaces) (on_reservation : ℕ → Event) → places.reserved ≡ last → resolved places (OnReservation self on_reservation) ≡ option_map on_reservation result }
+        ensures { (places : LastPlaces) (on_reservation : ℕ → Event) → places.reserved ≡ last
+            → resolved places (OnReservation self on_reservation) ≡ option_map on_reservation result }
     {
         match self {
             ReservePlace::At(r) => Some(r),
@@ -54,8 +56,8 @@ impl ReservePlace {
     }
 }
 
-/// What `.` stands for, for one actor: the place that it was last answered `opened`, and the one that it was last answered
-/// `reserved`. `None` before that.
+/// What `.` stands for, for one actor: the place that it was last answered `opened`, and the one that it was last
+/// answered `reserved`. `None` before that.
 #[derive(Clone, Copy, Debug, PartialEq, Eq)]
 pub struct LastPlaces {
     pub opened: Option<CursorNo>,

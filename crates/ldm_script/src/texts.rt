@@ -1,5 +1,6 @@
 //! Texts in lines: origins and idents.
-ghost use Rattle.std.specs.Prelude.{◌≡◌, ◌≤◌, ◌<◌, ◌+◌, ◌*◌, ◌++◌, ◌==◌, ◌∷◌, false, [], IfSome, length, bytes_eq, slice_index, decimal};
+ghost use Rattle.std.specs.Prelude.{◌≡◌, ◌≤◌, ◌<◌, ◌+◌, ◌*◌, ◌++◌, ◌==◌, ◌∷◌, false, []};
+ghost use Rattle.std.specs.Prelude.{IfSome, length, bytes_eq, slice_index, decimal};
 ghost use Rattle.std.specs.List.{list_any, flat_map};
 ghost use Rattle.std.specs.Option.{option_map};
 ghost use Rattle.arrayvec.specs.ArrayVec.{array_vec_len};

@@ -12,7 +12,8 @@ ghost use Rattle.ldm_script.specs.Grammar.{four_bytes, instant_of, read_line};
 ghost use Rattle.ldm_script.specs.OrderView.{bytes_of, order_of, IsWritable};
 ghost use Rattle.ldm_script.specs.Spelling.{spelling, start_text, place_text, reserve_place_text, IsReadBack};
 ghost use Rattle.ldm_script.specs.Word.{word_text};
-ghost use Rattle.ldm_script.specs.Writing.{carried, front_text, back_text, FrontReadsBack, BackReadsBack, InfoReadsBack, ProductReadsBack, StartReadsBack, IsPlace, IsReservePlace};
+ghost use Rattle.ldm_script.specs.Writing.{carried, front_text, back_text, FrontReadsBack, BackReadsBack};
+ghost use Rattle.ldm_script.specs.Writing.{InfoReadsBack, ProductReadsBack, StartReadsBack, IsPlace, IsReservePlace};
 ghost use Rattle.ldm_script.specs.declared.body.TheConstants.{LONGEST_BODY};
 ghost use Rattle.ldm_script.specs.declared.order.Order.{Order as ReadOrder};
 
@@ -31,8 +32,8 @@ use ldm_types::{Feed, Info, Micros, OutOfMemory, Signature};
 /// Appends the canonical spelling of an order: one line, without its newline.
 ///
 /// Hexadecimal digits are in lower case, SIG is 32 of them, FEED is as [`ldm_feedtype::feed_text`] writes it, BODY is
-/// `-` or digits, and K and R are as in the order. Where the line has at most [`crate::LONGEST_LINE`] bytes, it is read as
-/// the same order. For want of memory nothing is appended.
+/// `-` or digits, and K and R are as in the order. Where the line has at most [`crate::LONGEST_LINE`] bytes, it is read
+/// as the same order. For want of memory nothing is appended.
 pub fn write_line(order: &Order, out: &mut Vec<u8>) -> Result<(), OutOfMemory>
     requires { IsWritable order.now.act }
     ensures written { OnOk result (out.new.items ≡ out.old.items ++ spelling order.now) }
@@ -50,7 +51,8 @@ pub fn write_line(order: &Order, out: &mut Vec<u8>) -> Result<(), OutOfMemory>
 
 /// An order that some line is read as can be written.
 pub fn what_is_read_can_be_written()
-    ensures { (actors : ℕ) (line : List ℕ) (order : ReadOrder) → read_line actors line ≡ Ok (Some (order_of order)) → IsWritable order.act }
+    ensures { (actors : ℕ) (line : List ℕ) (order : ReadOrder) → read_line actors line ≡ Ok (Some (order_of order))
+        → IsWritable order.act }
 {}
 
 // The line up to the body that it carries; the whole line of another order.
@@ -92,7 +94,8 @@ fn put_act(act: &Act, out: &mut Text)
 
 fn put_insert(now: Micros, info: &Info, out: &mut Text)
     requires { array_vec_len out.old ≤ 100 }
-    ensures text { out.new.items ≡ out.old.items ++ (codes "insert" ++ blank_number now ++ product_text info.now ++ codes " ") }
+    ensures text { out.new.items ≡ out.old.items
+        ++ (codes "insert" ++ blank_number now ++ product_text info.now ++ codes " ") }
     ensures now { instant_of (decimal now) ≡ Some now }
     ensures product { ProductReadsBack info.now }
 {
@@ -104,7 +107,8 @@ fn put_insert(now: Micros, info: &Info, out: &mut Text)
 
 fn put_open(feed: Feed, start: &Start, out: &mut Text)
     requires { array_vec_len out.old ≤ 100 }
-    ensures text { out.new.items ≡ out.old.items ++ (codes "open" ++ blank_field (feed_digits feed.0) ++ blank_field (start_text start.now)) }
+    ensures text { out.new.items ≡ out.old.items
+        ++ (codes "open" ++ blank_field (feed_digits feed.0) ++ blank_field (start_text start.now)) }
     ensures feed { feed_number (feed_digits feed.0) ≡ Some feed.0 }
     ensures start { StartReadsBack start.now }
 {
@@ -115,7 +119,8 @@ fn put_open(feed: Feed, start: &Start, out: &mut Text)
 
 fn put_read(k: Place, offset: u32, len: u32, out: &mut Text)
     requires { array_vec_len out.old ≤ 100 }
-    ensures text { out.new.items ≡ out.old.items ++ (codes "read" ++ blank_field (place_text k) ++ blank_number offset ++ blank_number len) }
+    ensures text { out.new.items ≡ out.old.items
+        ++ (codes "read" ++ blank_field (place_text k) ++ blank_number offset ++ blank_number len) }
     ensures place { IsPlace k }
     ensures offset { four_bytes (decimal offset) ≡ Some offset }
 {
@@ -153,7 +158,8 @@ fn put_fill(r: ReservePlace, out: &mut Text)
 
 fn put_commit(r: ReservePlace, now: Micros, out: &mut Text)
     requires { array_vec_len out.old ≤ 100 }
-    ensures text { out.new.items ≡ out.old.items ++ (codes "commit" ++ blank_field (reserve_place_text r) ++ blank_number now) }
+    ensures text { out.new.items ≡ out.old.items
+        ++ (codes "commit" ++ blank_field (reserve_place_text r) ++ blank_number now) }
     ensures place { IsReservePlace r }
     ensures now { instant_of (decimal now) ≡ Some now }
 {

@@ -18,8 +18,8 @@ use ldm_shared::{Pass, Shared, Turn};
 use ldm_types::Micros;
 use std::sync::Wait;
 
-/// Opens the cursor of a class: behind the product that it names, where it names one and that is queued; else at the instant that
-/// it asks for. None where all cursors are taken.
+/// Opens the cursor of a class: behind the product that it names, where it names one and that is queued; else at the
+/// instant that it asks for. None where all cursors are taken.
 pub fn open_for<H: Wait>(
     rt: &H,
     shared: &Shared,
@@ -47,8 +47,8 @@ pub fn open_for<H: Wait>(
     }
 }
 
-/// Answers a request, a FEEDME or a NOTIFYME: their replies are spelled alike. Sends the answer with all that is gathered, and tells
-/// the instant after it.
+/// Answers a request, a FEEDME or a NOTIFYME: their replies are spelled alike. Sends the answer with all that is
+/// gathered, and tells the instant after it.
 pub fn answer_class<K: Link, C: Clock>(
     xid: u32,
     answer: ClassAnswer,
@@ -59,7 +59,8 @@ pub fn answer_class<K: Link, C: Clock>(
     requires { IsNotClosed (K.tells link.old) }
     ensures still_open { IsNotClosed (K.tells link.new) }
     ensures answers { (pass : PassView) → AnswersClass result xid answer
-        (moment_of pass (K.tells link.old) (C.tells clock.old) out.old.items) (moment_of pass (K.tells link.new) (C.tells clock.new) out.new.items) }
+        (moment_of pass (K.tells link.old) (C.tells clock.old) out.old.items)
+        (moment_of pass (K.tells link.new) (C.tells clock.new) out.new.items) }
     ensures empty { OnOk result (out.new.items ≡ []) }
 {
     let message = Message::FeedmeReply(FeedmeReply { xid, answer });

@@ -20,7 +20,9 @@ pub fn decline<K: Link, C: Clock>(
 ) -> Result<(), SendEnd>
     requires { IsNotClosed (K.tells link.old) }
     ensures still_open { IsNotClosed (K.tells link.new) }
-    ensures declines { (pass : PassView) → Declines result xid answer pass (K.tells link.old) (C.tells clock.old) (K.tells link.new) (C.tells clock.new) }
+    ensures declines { (pass : PassView)
+        → Declines result xid answer pass (K.tells link.old) (C.tells clock.old) (K.tells link.new)
+        (C.tells clock.new) }
 {
     let mut out = room_to_gather(alloc)?;
     answer_class(xid, answer, &mut out, link, clock)?;

@@ -6,8 +6,8 @@ ghost use Rattle.ldm_sender.specs.Due.{is_due};
 use ldm_class::{ClassMatcher, HostPolicy};
 use ldm_types::{Info, Micros};
 
-/// Whether a product that was inserted at that time is due: that is no later than `to`, up to which the class asks; the class wants it;
-/// and the rules let the host have it.
+/// Whether a product that was inserted at that time is due: that is no later than `to`, up to which the class asks; the
+/// class wants it; and the rules let the host have it.
 pub fn is_due(
     class: &mut ClassMatcher<'_>,
     rules: &mut HostPolicy<'_>,

@@ -5,8 +5,8 @@ use ldm_session::NoReply;
 use ldm_types::OutOfMemory;
 use std::alloc::AllocError;
 
-/// How the sending end of a session ends. One who tells of products awaits no reply, so it meets neither [`SendEnd::PeerEnd`] nor
-/// [`SendEnd::BadReply`].
+/// How the sending end of a session ends. One who tells of products awaits no reply, so it meets neither
+/// [`SendEnd::PeerEnd`] nor [`SendEnd::BadReply`].
 #[derive(Clone, Copy, Debug, PartialEq, Eq)]
 pub enum SendEnd {
     /// The cursor came to the end of the queue, and the gate said to stop. The link is closed.

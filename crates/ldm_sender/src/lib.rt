@@ -1,9 +1,11 @@
-//! What the sending ends of a session have in common: the feeder, which gives the products that are due, and one who tells of them.
+//! What the sending ends of a session have in common: the feeder, which gives the products that are due, and one who
+//! tells of them.
 //!
-//! [`is_due`] tells which products these are. A request is answered by [`decline`], or by [`open_for`], which opens a cursor for it, and
-//! [`answer_class`]. Where a session stands between two messages is a [`Standing`], which [`count_call`] moves on; at the end of the queue
-//! [`wait_idle`] asks the gate and says that the session is there where nothing was sent for long. What these come to is told as plain
-//! data: see `Deeds`, `Does` and `Acts` in `specs/`.
+//! [`is_due`] tells which products these are. A request is answered by [`decline`], or by [`open_for`], which opens a
+//! cursor for it, and [`answer_class`]. Where a session stands between two messages is a [`Standing`], which
+//! [`count_call`] moves on; at the end of the queue [`wait_idle`] asks the gate and says that the session is there
+//! where nothing was sent for long. What these come to is told as plain data: see `Deeds`, `Does` and `Acts` in
+//! `specs/`.
 #![tactic(auto)]
 
 mod answer;

@@ -23,8 +23,9 @@ use ldm_types::OutOfMemory;
 use std::alloc::Global;
 use std::sync::Wait;
 
-/// Serves a connection of a host, by the rules of a configuration: answers its calls, one after another, until one of them makes it a
-/// feeding, a receiving or a session of notices, and goes on with that to its end; or until something else ends it.
+/// Serves a connection of a host, by the rules of a configuration: answers its calls, one after another, until one of
+/// them makes it a feeding, a receiving or a session of notices, and goes on with that to its end; or until something
+/// else ends it.
 ///
 /// The link is closed where the gate stopped a feeding or a session of notices, and else left open.
 pub fn serve<H: Wait, K: Link, E: Sink, G: Gate, C: Clock>(
@@ -109,7 +110,9 @@ impl Server {
         requires empty { self.old.out.items ≡ [] }
         requires room { 0 < vec_len self.old.piece }
         ensures kept { IsSamePass pass.old pass.new }
-        ensures runs { Runs (Some result) (record { rules = policy.now; host = host.now; actor = pass.old.actor }) self.old.serving [] self.new.serving
+        ensures runs { Runs (Some result)
+            (record { rules = policy.now; host = host.now; actor = pass.old.actor }) self.old.serving []
+            self.new.serving
             (moment_of pass.old (session_tells K.tells E.tells C.tells G.tells link.old log.old clock.old gate.old))
             (moment_of pass.new (session_tells K.tells E.tells C.tells G.tells link.new log.new clock.new gate.new)) }
     {
@@ -149,7 +152,9 @@ impl Server {
         ensures sound { IfNone result (HasRoom self.new.serving 0) }
         ensures empty { IfNone result (self.new.out.items ≡ []) }
         ensures room { 0 < vec_len self.new.piece }
-        ensures runs { Runs result (record { rules = policy.now; host = host.now; actor = pass.old.actor }) self.old.serving [] self.new.serving
+        ensures runs { Runs result
+            (record { rules = policy.now; host = host.now; actor = pass.old.actor }) self.old.serving []
+            self.new.serving
             (moment_of pass.old (session_tells K.tells E.tells C.tells G.tells link.old log.old clock.old gate.old))
             (moment_of pass.new (session_tells K.tells E.tells C.tells G.tells link.new log.new clock.new gate.new)) }
     {

@@ -50,7 +50,9 @@ fn go_on_feeding<H: Wait, K: Link, E: Sink, G: Gate, C: Clock>(
         (session_tells K.tells E.tells C.tells G.tells link.new log.new clock.new gate.new) }
     ensures still_open { IfNone result (IsNotClosed (K.tells link.new)) }
     ensures left { IfSome result (λ end. LeavesLink end (K.tells link.new)) }
-    ensures goes { (at : ℕ) → Goes result (responded.Feeds ask.now class.now) at (record { rules = policy.now; host = host.now; actor = pass.old.actor }) ahead.now
+    ensures goes { (at : ℕ)
+        → Goes result (responded.Feeds ask.now class.now) at
+        (record { rules = policy.now; host = host.now; actor = pass.old.actor }) ahead.now
         (moment_of pass.old (session_tells K.tells E.tells C.tells G.tells link.old log.old clock.old gate.old))
         (moment_of pass.new (session_tells K.tells E.tells C.tells G.tells link.new log.new clock.new gate.new)) }
 {
@@ -99,9 +101,9 @@ fn go_on_notifying<H: Wait, K: Link, E: Sink, G: Gate, C: Clock>(
     }
 }
 
-/// Goes on behind a record that begins there: feeds, tells of products, or receives, up to the end of that; or is over. `ahead` are the
-/// bytes behind the record that came already. None where a part of the class is left to the host: the peer was told that part, and the
-/// next record is to be read.
+/// Goes on behind a record that begins there: feeds, tells of products, or receives, up to the end of that; or is over.
+/// `ahead` are the bytes behind the record that came already. None where a part of the class is left to the host: the
+/// peer was told that part, and the next record is to be read.
 pub(crate) fn go_on<H: Wait, K: Link, E: Sink, G: Gate, C: Clock>(
     rt: &H,
     alloc: Global,
@@ -127,7 +129,8 @@ pub(crate) fn go_on<H: Wait, K: Link, E: Sink, G: Gate, C: Clock>(
         (session_tells K.tells E.tells C.tells G.tells link.new log.new clock.new gate.new) }
     ensures still_open { IfNone result (IsNotClosed (K.tells link.new)) }
     ensures left { IfSome result (λ end. LeavesLink end (K.tells link.new)) }
-    ensures goes { Goes result next at (record { rules = policy.now; host = host.now; actor = pass.old.actor }) ahead.now
+    ensures goes { Goes result next at
+        (record { rules = policy.now; host = host.now; actor = pass.old.actor }) ahead.now
         (moment_of pass.old (session_tells K.tells E.tells C.tells G.tells link.old log.old clock.old gate.old))
         (moment_of pass.new (session_tells K.tells E.tells C.tells G.tells link.new log.new clock.new gate.new)) }
 {

@@ -1,4 +1,5 @@
-//! Serving one connection: its calls are read one behind the other and answered, until one of them makes it something else or ends it.
+//! Serving one connection: its calls are read one behind the other and answered, until one of them makes it something
+//! else or ends it.
 #![tactic(auto)]
 
 mod connection;

@@ -80,8 +80,8 @@ impl Serving {
         self.records.pending()
     }
 
-    /// Takes bytes, and answers the records that they complete, one behind the other, up to one that the session does not outlive.
-    /// What the peer is owed is appended to `out`.
+    /// Takes bytes, and answers the records that they complete, one behind the other, up to one that the session does
+    /// not outlive. What the peer is owed is appended to `out`.
     pub fn answer<H: Wait, C: Clock>(
         &mut self,
         rt: &H,
@@ -98,7 +98,8 @@ impl Serving {
         requires sound { is_faulty self.old.reading ≡ false }
         requires room { self.old.came + length bytes.now < 2 ^ 64 }
         ensures kept { IsSamePass pass.old pass.new }
-        ensures serves { Serves result (record { rules = policy.now; host = host.now; actor = pass.old.actor }) self.old bytes.now self.new
+        ensures serves { Serves result
+            (record { rules = policy.now; host = host.now; actor = pass.old.actor }) self.old bytes.now self.new
             (stands pass.old (C.tells clock.old) out.old.items) (stands pass.new (C.tells clock.new) out.new.items) }
     {
         // What is kept is known here.
@@ -113,8 +114,8 @@ impl Serving {
         Answered::On
     }
 
-    // Takes the record that these bytes complete first, or all of them where they complete none, and answers it. Tells how many
-    // bytes that are, or how the record ends the session.
+    // Takes the record that these bytes complete first, or all of them where they complete none, and answers it. Tells
+    // how many bytes that are, or how the record ends the session.
     fn answer_first<H: Wait, C: Clock>(
         &mut self,
         rt: &H,
@@ -131,7 +132,8 @@ impl Serving {
         requires some { 0 < length bytes.now }
         requires room { self.old.came + length bytes.now < 2 ^ 64 }
         ensures kept { IsSamePass pass.old pass.new }
-        ensures turns { Turns result (record { rules = policy.now; host = host.now; actor = pass.old.actor }) self.old bytes.now self.new
+        ensures turns { Turns result
+            (record { rules = policy.now; host = host.now; actor = pass.old.actor }) self.old bytes.now self.new
             (stands pass.old (C.tells clock.old) out.old.items) (stands pass.new (C.tells clock.new) out.new.items) }
     {
         let at = self.begins;
@@ -172,7 +174,8 @@ fn answer_content<H: Wait, C: Clock>(
 ) -> Answered
     requires { IsPassOf shared.now pass.old }
     ensures kept { IsSamePass pass.old pass.new }
-    ensures finds { Finds result (record { rules = policy.now; host = host.now; actor = pass.old.actor }) at (option_copied content.entry)
+    ensures finds { Finds result (record { rules = policy.now; host = host.now; actor = pass.old.actor }) at
+        (option_copied content.entry)
         (stands pass.old (C.tells clock.old) out.old.items) (stands pass.new (C.tells clock.new) out.new.items) }
 {
     let Some(content) = content else {

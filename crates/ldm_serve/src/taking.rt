@@ -43,7 +43,8 @@ pub(crate) fn take<H: Wait, K: Link, E: Sink, G: Gate, C: Clock>(
     ensures still_open { IfNone result (IsNotClosed (K.tells link.new)) }
     ensures sound { IfNone result (HasRoom serving.new 0) }
     ensures empty { IfNone result (out.new.items ≡ []) }
-    ensures runs { Runs result (record { rules = policy.now; host = host.now; actor = pass.old.actor }) serving.old piece.now serving.new
+    ensures runs { Runs result
+        (record { rules = policy.now; host = host.now; actor = pass.old.actor }) serving.old piece.now serving.new
         (moment_of pass.old (session_tells K.tells E.tells C.tells G.tells link.old log.old clock.old gate.old))
         (moment_of pass.new (session_tells K.tells E.tells C.tells G.tells link.new log.new clock.new gate.new)) }
 {
@@ -59,8 +60,8 @@ pub(crate) fn take<H: Wait, K: Link, E: Sink, G: Gate, C: Clock>(
     None
 }
 
-// Takes some bytes from the front: all, or those up to a record that the session may not outlive. What is owed is sent before the
-// connection goes on behind that. Tells how many bytes that are, or the end.
+// Takes some bytes from the front: all, or those up to a record that the session may not outlive. What is owed is sent
+// before the connection goes on behind that. Tells how many bytes that are, or the end.
 fn take_some<H: Wait, K: Link, E: Sink, G: Gate, C: Clock>(
     rt: &H,
     alloc: Global,
@@ -86,7 +87,8 @@ fn take_some<H: Wait, K: Link, E: Sink, G: Gate, C: Clock>(
     ensures still_open { IfOk result (λ count. IsNotClosed (K.tells link.new)) }
     ensures advances { IfOk result (λ count. Advances count serving.old bytes.now serving.new) }
     ensures empty { IfOk result (λ count. out.new.items ≡ []) }
-    ensures takes { Takes result (record { rules = policy.now; host = host.now; actor = pass.old.actor }) serving.old bytes.now serving.new
+    ensures takes { Takes result
+        (record { rules = policy.now; host = host.now; actor = pass.old.actor }) serving.old bytes.now serving.new
         (moment_of pass.old (session_tells K.tells E.tells C.tells G.tells link.old log.old clock.old gate.old))
         (moment_of pass.new (session_tells K.tells E.tells C.tells G.tells link.new log.new clock.new gate.new)) }
 {

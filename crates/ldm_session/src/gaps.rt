@@ -13,8 +13,8 @@ use ldm_script::{Text, put, put_number, text_into};
 /// The most bytes of the name of a host in a log line.
 pub const LONGEST_NAME: usize = 255;
 
-/// Writes the line of a loss to the log: `gap HOST COUNT FIRST LAST`. So many products for the host were evicted before it was given
-/// them; the least of their numbers and the greatest.
+/// Writes the line of a loss to the log: `gap HOST COUNT FIRST LAST`. So many products for the host were evicted before
+/// it was given them; the least of their numbers and the greatest.
 pub fn write_gap<E: Sink>(
     log: &mut E,
     host: &[u8],

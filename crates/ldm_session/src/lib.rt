@@ -1,6 +1,6 @@
-//! What the sending ends of sessions share: messages that are gathered, the line of a loss, and when a session that has nothing to
-//! send says that it is there. The definitions in `specs/` say besides what a link, a clock and a gate went through over many calls, and
-//! which replies an announcer is owed.
+//! What the sending ends of sessions share: messages that are gathered, the line of a loss, and when a session that has
+//! nothing to send says that it is there. The definitions in `specs/` say besides what a link, a clock and a gate went
+//! through over many calls, and which replies an announcer is owed.
 #![tactic(auto)]
 
 mod gaps;

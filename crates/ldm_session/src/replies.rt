@@ -32,9 +32,8 @@ pub enum NoReply {
 
 /// A reader of the replies to announcements (COMINGSOON), which are heard one at a time.
 ///
-/// It takes all its memory at once, but for the content of the record in hand, which has at most [`LARGEST_REPLY`] bytes: 4,096 bytes,
-/// or as many as the link gave ahead.
-/// After a [`NoReply`] it is of no more use.
+/// It takes all its memory at once, but for the content of the record in hand, which has at most [`LARGEST_REPLY`]
+/// bytes: 4,096 bytes, or as many as the link gave ahead. After a [`NoReply`] it is of no more use.
 #[derive(Drop)]
 pub struct Replies {
     records: Records,
@@ -61,8 +60,8 @@ impl Replies {
         })
     }
 
-    /// Hears the reply to the announcement of that number, which is the next record that the link gives. It receives no more than
-    /// that takes, but what comes with the reply waits for the next call.
+    /// Hears the reply to the announcement of that number, which is the next record that the link gives. It receives no
+    /// more than that takes, but what comes with the reply waits for the next call.
     ///
     /// A peer that goes on to send fragments without bytes is heard without end.
     pub fn hear<H: Wait, K: Link>(
@@ -88,7 +87,8 @@ impl Replies {
 
     // Looks at what waits: the reply, or None where more has to come for it.
     fn read(&mut self, xid: u32) -> Result<Option<SoonAnswer>, NoReply>
-        ensures read { (given : List ℕ) (codes : List Code) → Heard given codes self.old → Reads result xid given codes self.new }
+        ensures read { (given : List ℕ) (codes : List Code) → Heard given codes self.old
+            → Reads result xid given codes self.new }
         ensures own { IfErr result IsOwn }
     {
         match self.push() {
@@ -136,7 +136,8 @@ impl Replies {
 
 // What a record says to the announcement of that number, if it is the reply to it.
 fn reply_in(content: &[u8], xid: u32) -> Option<SoonAnswer>
-    ensures { MatchOption result ((answer : SoonAnswer) → ¬ (IsReplyTo xid answer content.now)) (λ answer. IsReplyTo xid answer content.now) }
+    ensures { MatchOption result ((answer : SoonAnswer) → ¬ (IsReplyTo xid answer content.now))
+        (λ answer. IsReplyTo xid answer content.now) }
 {
     match read_reply(content, Procedure::Comingsoon.number()) {
         Ok(Message::ComingsoonReply(reply)) if reply.xid == xid => Some(reply.answer),

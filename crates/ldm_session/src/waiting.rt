@@ -11,7 +11,8 @@ use std::marker::Model;
 // The most bytes that are received at once, where no more came ahead.
 const LARGEST_PIECE: usize = 4_096;
 
-// A fixed buffer with bytes that nobody looked at yet: those of one piece, or those that came ahead. Contracts see these.
+// A fixed buffer with bytes that nobody looked at yet: those of one piece, or those that came ahead. Contracts see
+// these.
 #[derive(Drop)]
 pub(crate) struct Waiting {
     buffer: Vec<u8>,

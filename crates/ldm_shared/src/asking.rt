@@ -37,8 +37,8 @@ impl<R> Asks<R> for Brand {
 }
 
 impl Shared {
-    // Makes a call of a pass: takes the turn, asks the book, and gives the turn back. The buffer is that of a read, and empty
-    // elsewhere; the event is for the proof alone.
+    // Makes a call of a pass: takes the turn, asks the book, and gives the turn back. The buffer is that of a read, and
+    // empty elsewhere; the event is for the proof alone.
     pub(crate) fn call<C: Asks<R>, H: Wait, E, R, F: FnOnce(&mut Book, Actor, &mut [u8]) -> R>(
         &self,
         rt: &H,
@@ -50,11 +50,14 @@ impl Shared {
         requires of { IsPassOf self.now pass.old }
         requires possible { IsPossible C.event }
         requires may { F.IsAlwaysCallable ask }
-        requires answers { (b : _) (actor : _) (i : _) (answer : _) (b' : _) (i' : _) → F.post ask b actor i answer b' i' → i.now ≡ into.old
+        requires answers { (b : _) (actor : _) (i : _) (answer : _) (b' : _) (i' : _)
+            → F.post ask b actor i answer b' i' → i.now ≡ into.old
             → (s : State) → StandsFor b.now s → Follows (C.reply answer i'.now) b'.now (next s actor C.event) }
         ensures kept { IsSamePass pass.old pass.new }
         ensures done { IfDone result (λ answer. Grows pass.old pass.new C.event (C.reply answer into.new)) }
-        ensures asked { IfDone result (λ answer. (b : _) × (actor : _) × (i : _) × (b' : _) × (i' : _) × F.post ask b actor i answer b' i' × (i.now ≡ into.old) × (i'.now ≡ into.new)) }
+        ensures asked { IfDone result
+            (λ answer. (b : _) × (actor : _) × (i : _) × (b' : _) × (i' : _) × F.post ask b actor i answer b' i'
+            × (i.now ≡ into.old) × (i'.now ≡ into.new)) }
         ensures worn { IfWorn result (FindsWorn pass.old pass.new) }
         ensures unasked { IfWorn result (λ _. into.new ≡ into.old) }
     {

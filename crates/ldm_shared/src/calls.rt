@@ -1,9 +1,10 @@
 //! The calls of the shared queue. Each asks the book something in a turn of its own.
 ghost use Rattle.std.specs.Prelude.{◌≡◌, ◌≤◌, ◌^◌, drop, length};
 ghost use Rattle.ldm_model.specs.declared.event.Event.TheVariants as event;
-ghost use Rattle.ldm_model.specs.Answers.{insert_answer, look_answer, expire_answer, stat_answer, open_answer, step_answer, read_answer, release_answer, close_answer, tally_answer};
-ghost use Rattle.ldm_model.specs.Answers.{reserve_answer, fill_answer, commit_answer, discard_answer};
-ghost use Rattle.ldm_model.specs.Answers.{asked_bytes, bytes_read};
+ghost use Rattle.ldm_model.specs.Answers.{insert_answer, look_answer, expire_answer, stat_answer, open_answer};
+ghost use Rattle.ldm_model.specs.Answers.{step_answer, read_answer, release_answer, close_answer, tally_answer};
+ghost use Rattle.ldm_model.specs.Answers.{reserve_answer, fill_answer, commit_answer, discard_answer, asked_bytes};
+ghost use Rattle.ldm_model.specs.Answers.{bytes_read};
 ghost use Rattle.ldm_shared.specs.Passes.{IsPassOf, IsSamePass, Grows, FindsWorn};
 ghost use Rattle.ldm_shared.specs.Turns.{IfDone, IfWorn};
 
@@ -35,7 +36,8 @@ impl Shared {
         requires of { IsPassOf self.now pass.old }
         requires size { length body.now ≡ info.now.size }
         ensures kept { IsSamePass pass.old pass.new }
-        ensures done { IfDone result (λ reply. Grows pass.old pass.new (event.Insert now info.now body.now) (insert_answer reply)) }
+        ensures done { IfDone result
+            (λ reply. Grows pass.old pass.new (event.Insert now info.now body.now) (insert_answer reply)) }
         ensures worn { IfWorn result (FindsWorn pass.old pass.new) }
     {
         insert_is_possible(now, info, body);
@@ -54,7 +56,8 @@ impl Shared {
     ) -> Turn<OpenReply>
         requires { IsPassOf self.now pass.old }
         ensures kept { IsSamePass pass.old pass.new }
-        ensures done { IfDone result (λ reply. Grows pass.old pass.new (event.OpenCursor feed start) (open_answer reply)) }
+        ensures done { IfDone result
+            (λ reply. Grows pass.old pass.new (event.OpenCursor feed start) (open_answer reply)) }
         ensures worn { IfWorn result (FindsWorn pass.old pass.new) }
     {
         feed_is_possible(feed);
@@ -64,8 +67,8 @@ impl Shared {
         })
     }
 
-    /// Goes on with a cursor: tells the losses that it was not told yet, or gives the next product, which the cursor holds
-    /// from then on, or comes to the end.
+    /// Goes on with a cursor: tells the losses that it was not told yet, or gives the next product, which the cursor
+    /// holds from then on, or comes to the end.
     pub fn step<H: Wait>(&self, rt: &H, pass: &mut Pass, k: CursorNo) -> Turn<StepReply>
         requires { IsPassOf self.now pass.old }
         ensures kept { IsSamePass pass.old pass.new }
@@ -78,8 +81,8 @@ impl Shared {
         })
     }
 
-    /// Reads the body of the product that a cursor holds, from that offset on: as many bytes as the buffer has room for,
-    /// or as are left, to the front of the buffer. The bytes behind them stay as they were.
+    /// Reads the body of the product that a cursor holds, from that offset on: as many bytes as the buffer has room
+    /// for, or as are left, to the front of the buffer. The bytes behind them stay as they were.
     pub fn read<H: Wait>(
         &self,
         rt: &H,
@@ -90,7 +93,9 @@ impl Shared {
     ) -> Turn<ReadReply>
         requires { IsPassOf self.now pass.old }
         ensures kept { IsSamePass pass.old pass.new }
-        ensures done { IfDone result (λ reply. Grows pass.old pass.new (event.Read k offset (asked_bytes (length into.old))) (read_answer reply into.new)) }
+        ensures done { IfDone result
+            (λ reply. Grows pass.old pass.new (event.Read k offset (asked_bytes (length into.old)))
+            (read_answer reply into.new)) }
         ensures worn { IfWorn result (FindsWorn pass.old pass.new) }
         ensures few { IfDone result (λ reply. bytes_read reply ≤ length into.old) }
         ensures rest { IfDone result (λ reply. drop (bytes_read reply) into.new ≡ drop (bytes_read reply) into.old) }
@@ -178,12 +183,13 @@ impl Shared {
         })
     }
 
-    /// Reserves a region for a product with these metadata, at the least empty reservation place. The cases are those of
-    /// [`ldm_book::Book::reserve`].
+    /// Reserves a region for a product with these metadata, at the least empty reservation place. The cases are those
+    /// of [`ldm_book::Book::reserve`].
     pub fn reserve<H: Wait>(&self, rt: &H, pass: &mut Pass, info: &Info) -> Turn<ReserveReply>
         requires { IsPassOf self.now pass.old }
         ensures kept { IsSamePass pass.old pass.new }
-        ensures done { IfDone result (λ reply. Grows pass.old pass.new (event.Reserve info.now) (reserve_answer reply)) }
+        ensures done { IfDone result
+            (λ reply. Grows pass.old pass.new (event.Reserve info.now) (reserve_answer reply)) }
         ensures worn { IfWorn result (FindsWorn pass.old pass.new) }
     {
         info_is_possible(info);

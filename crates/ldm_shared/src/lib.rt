@@ -1,8 +1,8 @@
 //! The queue of many threads.
 //!
-//! A [`Shared`] is lent to every thread, and each thread has a [`Pass`] of its own. Contracts see a pass as an actor and the
-//! history that it has seen. There is one history of all calls, and each call says where it stands in it: behind all that the
-//! pass had seen, with the reply of the queue at that point.
+//! A [`Shared`] is lent to every thread, and each thread has a [`Pass`] of its own. Contracts see a pass as an actor
+//! and the history that it has seen. There is one history of all calls, and each call says where it stands in it:
+//! behind all that the pass had seen, with the reply of the queue at that point.
 #![tactic(auto)]
 
 mod asking;

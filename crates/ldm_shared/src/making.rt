@@ -22,11 +22,11 @@ use ldm_types::Actor;
 use std::alloc::Global;
 
 impl Shared {
-    /// A queue with an arena of so many bytes and so many product slots, which that many passes can call. Pass i is of actor i.
-    /// It takes all the memory that the queue will ever use.
+    /// A queue with an arena of so many bytes and so many product slots, which that many passes can call. Pass i is of
+    /// actor i. It takes all the memory that the queue will ever use.
     ///
-    /// In this project's profile there are 1 to 64 passes. A fault of the arena or of the slots is told before one of the
-    /// passes, and want of memory after all.
+    /// In this project's profile there are 1 to 64 passes. A fault of the arena or of the slots is told before one of
+    /// the passes, and want of memory after all.
     pub fn create(
         alloc: Global,
         arena: u64,
@@ -34,7 +34,8 @@ impl Shared {
         passes: u32,
     ) -> Result<(Shared, Vec<Pass>), CreateFault>
         ensures made { IfOk result (λ made. made.1.items ≡ map (new_pass made.0) (range_with_len 0 passes)) }
-        ensures sizes { IfOk result (λ made. (made.0.arena ≡ arena) × (made.0.slots ≡ slots) × (made.0.passes ≡ passes)) }
+        ensures sizes { IfOk result
+            (λ made. (made.0.arena ≡ arena) × (made.0.slots ≡ slots) × (made.0.passes ≡ passes)) }
         ensures limits { IfOk result (λ _. IsGoodArena arena × IsGoodSlots slots × IsGoodPasses passes) }
         ensures faults { IfErr result (IsFaultOf arena slots passes) }
     {
@@ -64,7 +65,8 @@ impl Shared {
         requires stands { StandsFor book (empty sizes.arena sizes.slots) }
         requires arena { IsGoodArena sizes.arena }
         requires passes { 0 < sizes.passes }
-        ensures sizes { IfOk result (λ made. (made.0.arena ≡ sizes.arena) × (made.0.slots ≡ sizes.slots) × (made.0.passes ≡ sizes.passes)) }
+        ensures sizes { IfOk result
+            (λ made. (made.0.arena ≡ sizes.arena) × (made.0.slots ≡ sizes.slots) × (made.0.passes ≡ sizes.passes)) }
         ensures seat { IfOk result (λ made. (made.1.table_id ≡ made.0.queue) × (made.1.me ≡ (opening sizes, []))) }
         ensures fault { IfErr result (λ fault. fault ≡ CreateFault.OutOfMemory) }
     {
@@ -85,7 +87,8 @@ impl Shared {
     // A pass of the first actor that the seat answers for, which the seat does not answer for any more.
     fn deal(&self, seat: &mut Seat<Option<Book>, View>, actor: Actor) -> Pass
         requires ready { IsReady self.now seat.old }
-        requires sizes { (seat.old.me.0.arena ≡ self.now.arena) × (seat.old.me.0.slots ≡ self.now.slots) × (seat.old.me.0.passes ≡ self.now.passes) }
+        requires sizes { (seat.old.me.0.arena ≡ self.now.arena) × (seat.old.me.0.slots ≡ self.now.slots)
+            × (seat.old.me.0.passes ≡ self.now.passes) }
         requires unseen { seat.old.me.0.seen ≡ [] }
         requires first { (others : List ℕ) × (seat.old.me.0.actors ≡ actor ∷ others) }
         ensures same { IsSame seat.old seat.new }

@@ -79,8 +79,8 @@ impl Shared {
         (actor, seat)
     }
 
-    /// Ends the queue, once all its passes are back. The pass that is left has seen the whole history, and the book stands for
-    /// the state after it.
+    /// Ends the queue, once all its passes are back. The pass that is left has seen the whole history, and the book
+    /// stands for the state after it.
     pub fn finish(self, passes: Vec<Pass>) -> (Book, Pass)
         requires { AreAllOf self passes.items }
         ensures last { IsLast self result.1 }

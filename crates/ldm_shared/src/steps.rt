@@ -1,5 +1,6 @@
 //! Taking the turn, asking the book, and giving the turn back.
-ghost use Rattle.std.specs.Prelude.{◌≡◌, ◌≢◌, ◌<◌, ◌≤◌, ◌==◌, ◌+◌, ◌%◌, ◌^◌, ◌++◌, ◌⊎◌, [], ◌∷◌, ℕ, false, length, None, Some, MatchBool};
+ghost use Rattle.std.specs.Prelude.{◌≡◌, ◌≢◌, ◌<◌, ◌≤◌, ◌==◌, ◌+◌, ◌%◌, ◌^◌, ◌++◌, ◌⊎◌};
+ghost use Rattle.std.specs.Prelude.{[], ◌∷◌, ℕ, false, length, None, Some, MatchBool};
 ghost use Rattle.ldm_model.specs.History.{after, next_entry, IsLegal, IsPossible};
 ghost use Rattle.ldm_book.specs.Stands.{StandsFor};
 ghost use Rattle.ldm_book.specs.View.{BookView};
@@ -51,10 +52,12 @@ impl Shared {
         requires ready { IsReady self.now seat.old }
         requires even { word % 2 ≡ 0 }
         requires room { word + 1 < 2 ^ 64 }
-        requires may { (((actor : ℕ) × (seat.old.me.0.actors ≡ actor ∷ [])) × (word < WORN)) ⊎ AnswersForAll seat.old.me.0 }
+        requires may { (((actor : ℕ) × (seat.old.me.0.actors ≡ actor ∷ [])) × (word < WORN))
+            ⊎ AnswersForAll seat.old.me.0 }
         ensures same { IsSame seat.old seat.new }
         ensures sees { Sees seat.old.me.0 result seat.new.me.0 }
-        ensures taken { MatchBool (result == word) (HasTaken seat.new.me.0 seat.new.me.1) ((seat.new.me.0.turn ≡ false) × (seat.new.me.1 ≡ [])) }
+        ensures taken { MatchBool (result == word) (HasTaken seat.new.me.0 seat.new.me.1)
+            ((seat.new.me.0.turn ≡ false) × (seat.new.me.1 ≡ [])) }
     {
         self.table
             .shared
@@ -123,10 +126,10 @@ impl Shared {
 
     // Waits for the turn, and takes it with the book.
     //
-    // No caller sleeps on while the turn is free. One that goes to sleep first says so, and then sees that the turn is taken; it
-    // sleeps only while that is still said. Who gives the turn back makes it unsaid, and wakes one. The caller that is woken
-    // speaks for those that sleep still, when it has the turn or sleeps again; until then nobody else is woken. The README has
-    // the whole argument.
+    // No caller sleeps on while the turn is free. One that goes to sleep first says so, and then sees that the turn is
+    // taken; it sleeps only while that is still said. Who gives the turn back makes it unsaid, and wakes one. The
+    // caller that is woken speaks for those that sleep still, when it has the turn or sleeps again; until then nobody
+    // else is woken. The README has the whole argument.
     pub(crate) fn take<H: Wait>(&self, rt: &H, seat: &mut Seat<Option<Book>, View>) -> Turn<()>
         requires ready { IsReady self.now seat.old }
         requires one { (actor : ℕ) × (seat.old.me.0.actors ≡ actor ∷ []) }
@@ -174,7 +177,8 @@ impl Shared {
         requires may { F.IsAlwaysCallable ask }
         ensures same { IsSame seat.old seat.new }
         ensures view { seat.new.me.0 ≡ seat.old.me.0 }
-        ensures asked { (b : _) × (i : _) × (b' : _) × (i' : _) × F.post ask b actor i result b' i' × (i.now ≡ into.old) × (i'.now ≡ into.new)
+        ensures asked { (b : _) × (i : _) × (b' : _) × (i' : _) × F.post ask b actor i result b' i' × (i.now ≡ into.old)
+            × (i'.now ≡ into.new)
             × HasTheTurn self.now seat.old b.now × HasTheTurn self.now seat.new b'.now }
     {
         let Some(book) = seat.slot_mut(&self.table.shared, 0) else {
@@ -183,14 +187,17 @@ impl Shared {
         ask(book, actor, into)
     }
 
-    // Ends a call: adds its entry, gives the turn back with the book as the call left it, and wakes one that waits for it.
+    // Ends a call: adds its entry, gives the turn back with the book as the call left it, and wakes one that waits for
+    // it.
     fn end<C: Called>(&self, seat: &mut Seat<Option<Book>, View>)
-        requires turn { (book : BookView) × HasTheTurn self.now seat.old book × StandsFor book (after seat.old.me.0.arena seat.old.me.0.slots (seat.old.me.0.seen ++ C.entry ∷ [])) }
+        requires turn { (book : BookView) × HasTheTurn self.now seat.old book
+            × StandsFor book (after seat.old.me.0.arena seat.old.me.0.slots (seat.old.me.0.seen ++ C.entry ∷ [])) }
         requires own { seat.old.me.0.actors ≡ C.entry.actor ∷ [] }
         requires few { length seat.old.me.0.seen < MOST_TURNS }
         requires legal { IsLegal seat.old.me.0.arena seat.old.me.0.slots (seat.old.me.0.seen ++ C.entry ∷ []) }
         ensures same { IsSame seat.old seat.new }
-        ensures added { seat.new.me ≡ (record seat.old.me.0 { seen = seat.old.me.0.seen ++ C.entry ∷ []; turn = false }, []) }
+        ensures added { seat.new.me
+            ≡ (record seat.old.me.0 { seen = seat.old.me.0.seen ++ C.entry ∷ []; turn = false }, []) }
     {
         self.table.shared.fetch_add::<Add<C>>(seat, TURNS, 1);
         if self.take_over(seat) {
@@ -206,14 +213,17 @@ impl Shared {
         answer: &R,
         into: &[u8],
     )
-        requires turn { (book : BookView) × HasTheTurn self.now seat.old book × Follows C.entry.reply book (next_entry (after seat.old.me.0.arena seat.old.me.0.slots seat.old.me.0.seen) C.entry) }
+        requires turn { (book : BookView) × HasTheTurn self.now seat.old book
+            × Follows C.entry.reply book
+            (next_entry (after seat.old.me.0.arena seat.old.me.0.slots seat.old.me.0.seen) C.entry) }
         requires own { seat.old.me.0.actors ≡ C.entry.actor ∷ [] }
         requires few { length seat.old.me.0.seen < MOST_TURNS }
         requires history { IsHistory seat.old.me.0 }
         requires actor { C.entry.actor ≡ actor }
         requires possible { IsPossible C.entry.event }
         ensures same { IsSame seat.old seat.new }
-        ensures added { seat.new.me ≡ (record seat.old.me.0 { seen = seat.old.me.0.seen ++ C.entry ∷ []; turn = false }, []) }
+        ensures added { seat.new.me
+            ≡ (record seat.old.me.0 { seen = seat.old.me.0.seen ++ C.entry ∷ []; turn = false }, []) }
         ensures history { IsHistory seat.new.me.0 }
     {
         let _ = actor.get();

@@ -1,6 +1,7 @@
 //! Chains of slots: the slots of a chain lead from one to the next by their numbers.
 ghost use Rattle.std.specs.Prelude.{◌≡◌, ◌<◌, ◌^◌, length, replicate, IfOk, None};
-ghost use Rattle.ldm_sigindex.specs.Chains.{IsChain, IsKept, IsPlace, IsSought, chain_from, home_of, links_of, table_of};
+ghost use Rattle.ldm_sigindex.specs.Chains.{IsChain, IsKept, IsPlace, IsSought};
+ghost use Rattle.ldm_sigindex.specs.Chains.{chain_from, home_of, links_of, table_of};
 
 use ldm_types::Signature;
 use std::alloc::{AllocError, Global};

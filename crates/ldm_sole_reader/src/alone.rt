@@ -10,8 +10,8 @@ ghost use Rattle.ldm_sole_reader.specs.Alone.{AreRowsOf, due_of, due_rows, is_lo
 
 use ldm_reader::products_stay;
 
-/// A feeding of a queue that nobody else calls meanwhile gives just the products that are queued when it begins, those that are
-/// due, in order; and then the queue is as it was.
+/// A feeding of a queue that nobody else calls meanwhile gives just the products that are queued when it begins, those
+/// that are due, in order; and then the queue is as it was.
 pub fn a_sole_reader_is_given_all()
     // where it is asked for all times and names no product to go on behind, and goes on to the end
     ensures given { (arena slots actor : ℕ) (front behind : List Entry) (asked : Asked) (feeding : Feeding) →

@@ -7,8 +7,8 @@ ghost use Rattle.ldm_sole_reader.specs.Alone.{due_rows, is_lost, offered_in, off
 ghost use Rattle.ldm_sole_reader.specs.Examples.{sample_queue, first_product, asks_up_to, sample_feeding};
 ghost use Rattle.ldm_sole_reader.specs.Examples.{sample_calls, calls_of, answers_of};
 
-/// Worked examples of the definitions, worked out by hand. The queue has two products, and the first of them is of the feed
-/// that is asked for.
+/// Worked examples of the definitions, worked out by hand. The queue has two products, and the first of them is of the
+/// feed that is asked for.
 pub fn worked_examples()
     // The queue answers the calls of a feeding that gives the first product, waits once, and stops.
     ensures answers { answers_of sample_calls ≡ replies sample_queue (calls_of sample_calls) }
@@ -18,6 +18,7 @@ pub fn worked_examples()
     ensures offers { offered_in (Gave first_product (Declined 8)) ≡ first_product ∷ [] }
     ensures offers_blocks { offered_in (Gave first_product (InBlocks 8 (9 ∷ []))) ≡ first_product ∷ [] }
     ensures passes { offered_in (Gave first_product Passed) ≡ [] }
-    ensures offers_last { offered_of (sample_feeding (Alive 2 9 10 ∷ []) (Unanswered first_product 11)) ≡ first_product ∷ [] }
+    ensures offers_last { offered_of (sample_feeding (Alive 2 9 10 ∷ []) (Unanswered first_product 11)) ≡ first_product
+        ∷ [] }
     ensures losses { map is_lost (Lost 1 4 4 ∷ Quiet 2 9 ∷ Gave first_product Passed ∷ []) ≡ true ∷ false ∷ false ∷ [] }
 {}

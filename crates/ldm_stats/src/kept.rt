@@ -111,7 +111,8 @@ impl Kept {
     // Whether the first does not lie within so many hours up to an hour.
     fn begins_outside(&self, window: u32, hour: u32) -> bool
         requires { window ≤ 8760 }
-        ensures outside { MatchBool result (BeginsOutside window hour self.now) (within window hour self.now ≡ self.now) }
+        ensures outside { MatchBool result (BeginsOutside window hour self.now)
+            (within window hour self.now ≡ self.now) }
         ensures ascending { IsAscending self.now }
     {
         match self.map.first_key_value() {

@@ -16,8 +16,8 @@ pub const MOST_HOURS: u32 = 8_760;
 
 /// Totals of products for each hour, feed and origin, of the latest hours.
 ///
-/// An hour is that of a product's arrival, in UTC. The latest one is the greatest hour that was given. The table holds totals
-/// alone: a product costs a search among them, and hours that fall behind cost what they held.
+/// An hour is that of a product's arrival, in UTC. The latest one is the greatest hour that was given. The table holds
+/// totals alone: a product costs a search among them, and hours that fall behind cost what they held.
 #[derive(Debug, Drop)]
 pub struct Stats {
     window: u32,
@@ -38,7 +38,8 @@ impl Model for Stats {
 }
 
 impl Stats {
-    /// A table that keeps so many hours, and has no product yet. None where the hours are 0 or more than [`MOST_HOURS`].
+    /// A table that keeps so many hours, and has no product yet. None where the hours are 0 or more than
+    /// [`MOST_HOURS`].
     ///
     /// It takes no memory.
     pub fn create(alloc: Global, hours: u32) -> Option<Stats>

@@ -22,12 +22,14 @@ pub enum Status {
     Usage,
     /// A line of a script is outside the grammar: its number, from 1, and the column of its first fault.
     BadLine { line: u64, column: u32 },
-    /// A peer's stream ended before an owed reply, after `at` bytes; or the record that begins at byte `at` of it is not lawful there.
+    /// A peer's stream ended before an owed reply, after `at` bytes; or the record that begins at byte `at` of it is
+    /// not lawful there.
     BadFrame { at: u64 },
-    /// A line of an ldmd.conf is faulty, or the file is too long: the number of the file, from 0, that of the line in it, and the number of the
-    /// kind of fault.
+    /// A line of an ldmd.conf is faulty, or the file is too long: the number of the file, from 0, that of the line in
+    /// it, and the number of the kind of fault.
     BadConf { file: u32, line: u32, kind: u32 },
-    /// An entry of a pqact.conf is faulty, or the file is too long: its first line, and the number of the kind of fault.
+    /// An entry of a pqact.conf is faulty, or the file is too long: its first line, and the number of the kind of
+    /// fault.
     BadPqact { line: u32, kind: u32 },
     /// As many bytes of a script or of a stream were taken as are too many.
     StreamLimit,

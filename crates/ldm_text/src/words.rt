@@ -1,6 +1,7 @@
 //! The words of a text, one after another.
 ghost use Rattle.std.specs.Prelude.{◌≡◌, ◌<◌, ◌≤◌, length, MatchOption, false};
-ghost use Rattle.ldm_text.specs.Words.{words_of, words_from, begins_in_comment, none_left, may_end, BeginsInWord, HasWord, Between, Quoted};
+ghost use Rattle.ldm_text.specs.Words.{words_of, words_from, begins_in_comment, none_left};
+ghost use Rattle.ldm_text.specs.Words.{may_end, BeginsInWord, HasWord, Between, Quoted};
 
 use crate::scan::{begins_with, count_blanks, is_blank, place_of, place_of_blank};
 
@@ -31,7 +32,8 @@ pub fn to_word(comments: Comments, text: &[u8]) -> &[u8]
 pub fn first_word(comments: Comments, text: &[u8]) -> Option<(&[u8], &[u8])>
     requires some { 0 < length text.now }
     requires begins { BeginsInWord comments text.now }
-    ensures { MatchOption result (words_of comments text.now ≡ none_left false) (λ found. HasWord comments Between text.now found.0.now found.1.now) }
+    ensures { MatchOption result (words_of comments text.now ≡ none_left false)
+        (λ found. HasWord comments Between text.now found.0.now found.1.now) }
 {
     if begins_with(b'"', text) {
         return quoted_word(comments, &text[1..]);
@@ -42,7 +44,8 @@ pub fn first_word(comments: Comments, text: &[u8]) -> Option<(&[u8], &[u8])>
 
 // A quoted word, by what stands behind its first quote.
 fn quoted_word(comments: Comments, text: &[u8]) -> Option<(&[u8], &[u8])>
-    ensures { MatchOption result (words_from comments Quoted text.now ≡ none_left false) (λ found. HasWord comments Quoted text.now found.0.now found.1.now) }
+    ensures { MatchOption result (words_from comments Quoted text.now ≡ none_left false)
+        (λ found. HasWord comments Quoted text.now found.0.now found.1.now) }
 {
     let end = place_of(b'"', text);
     if end == text.len() {

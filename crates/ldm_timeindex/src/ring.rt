@@ -1,5 +1,6 @@
 //! A ring of entries, with room for a fixed number.
-ghost use Rattle.std.specs.Prelude.{◌≡◌, ◌+◌, ◌-◌, ◌<◌, ◌≤◌, ◌^◌, ◌++◌, ◌∷◌, [], length, drop, take, remove, slice_get, Some, IfOk};
+ghost use Rattle.std.specs.Prelude.{◌≡◌, ◌+◌, ◌-◌, ◌<◌, ◌≤◌, ◌^◌, ◌++◌, ◌∷◌, [], length};
+ghost use Rattle.std.specs.Prelude.{drop, take, remove, slice_get, Some, IfOk};
 ghost use Rattle.ldm_timeindex.specs.Ring.{place_of, turned};
 
 use crate::entry::Entry;
@@ -22,7 +23,8 @@ impl Model for Ring {
 
     ghost Value = { Held };
 
-    ghost view = { λ ring. record { room = length ring.table.items; entries = take ring.count (turned ring.first ring.table.items) } };
+    ghost view = { λ ring.
+        record { room = length ring.table.items; entries = take ring.count (turned ring.first ring.table.items) } };
 
     ghost invariant = { λ ring. IsKept (length ring.table.items) ring.first ring.count };
 }

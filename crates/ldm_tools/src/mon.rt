@@ -30,11 +30,11 @@ pub enum MonFault {
     SinkFault,
 }
 
-/// Asks a node for the figures of its queue, and writes them as a line: `stat ADMITTED QUEUED HELD USED LARGEST`. Answers the number that
-/// the program ends with, and writes its line to the log.
+/// Asks a node for the figures of its queue, and writes them as a line: `stat ADMITTED QUEUED HELD USED LARGEST`.
+/// Answers the number that the program ends with, and writes its line to the log.
 ///
-/// It connects once, sends one QSTAT, and hears its reply. The link is given back before anything is written. The clause `ends` gives each
-/// status its cause, and what was sent, given and written then: see `Mons`.
+/// It connects once, sends one QSTAT, and hears its reply. The link is given back before anything is written. The
+/// clause `ends` gives each status its cause, and what was sent, given and written then: see `Mons`.
 pub fn pqmon<N: Dial, K: Sink, E: Sink>(
     alloc: Global,
     net: &mut N,
@@ -44,7 +44,8 @@ pub fn pqmon<N: Dial, K: Sink, E: Sink>(
     port: u16,
 ) -> u8
     requires none_out { (N.tells net.old).links.out ≡ false }
-    ensures ends { Mons result (record { host = host.now; port = port }) (mon_tells N.tells K.tells E.tells net.old sink.old log.old)
+    ensures ends { Mons result (record { host = host.now; port = port })
+        (mon_tells N.tells K.tells E.tells net.old sink.old log.old)
         (mon_tells N.tells K.tells E.tells net.new sink.new log.new) }
     ensures none_out { (N.tells net.new).links.out ≡ false }
     ensures counts_kept { KeepsCounts (mon_tells N.tells K.tells E.tells net.old sink.old log.old)
@@ -63,7 +64,8 @@ fn monitor<N: Dial, K: Sink>(
     port: u16,
 ) -> Result<(), MonFault>
     requires { (N.tells net.old).links.out ≡ false }
-    ensures ends { MonEnds result (record { host = host.now; port = port }) (N.tells net.old) (N.tells net.new) (K.tells sink.old) (K.tells sink.new) }
+    ensures ends { MonEnds result (record { host = host.now; port = port }) (N.tells net.old) (N.tells net.new)
+        (K.tells sink.old) (K.tells sink.new) }
     ensures none_out { (N.tells net.new).links.out ≡ false }
     ensures faults_kept { (N.tells net.old).faults ≤ (N.tells net.new).faults }
     ensures ended_kept { (N.tells net.old).links.ended ≤ (N.tells net.new).links.ended }
@@ -85,7 +87,8 @@ fn hold<N: Dial, K: Sink>(
 ) -> Result<(), MonFault>
     requires is_out { (N.tells net.old).links.out ≡ true }
     requires not_closed { IsNotClosed (N.Link.tells link) }
-    ensures holds { HoldsStat result (N.Link.tells link) (N.tells net.old) (N.tells net.new) (K.tells sink.old) (K.tells sink.new) }
+    ensures holds { HoldsStat result (N.Link.tells link) (N.tells net.old) (N.tells net.new) (K.tells sink.old)
+        (K.tells sink.new) }
     ensures none_out { (N.tells net.new).links.out ≡ false }
     ensures faults_kept { (N.tells net.old).faults ≤ (N.tells net.new).faults }
     ensures ended_kept { (N.tells net.old).links.ended ≤ (N.tells net.new).links.ended }

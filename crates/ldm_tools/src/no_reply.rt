@@ -7,8 +7,8 @@ use crate::reader::NoRecord;
 /// Why the reply to a call was not heard.
 #[derive(Clone, Copy, Debug, PartialEq, Eq)]
 pub enum NoReply {
-    /// The peer ended the stream after `at` bytes; or the record that begins at byte `at` of it is not the reply, or is longer than a
-    /// reply may be.
+    /// The peer ended the stream after `at` bytes; or the record that begins at byte `at` of it is not the reply, or is
+    /// longer than a reply may be.
     BadFrame { at: u64 },
     /// As many bytes came as are taken of a stream.
     StreamLimit,

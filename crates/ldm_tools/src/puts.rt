@@ -18,9 +18,9 @@ const ZEROS: [u8; 3] = [0; 3];
 
 /// PUTs over one link, one after another: each goes out after the answer to the one before. The first has the number 1.
 ///
-/// It takes its memory at once, but for the content of the reply in hand, which has at most [`LARGEST_REPLY`](ldm_relay::LARGEST_REPLY)
-/// bytes, and for the head of a record, which has some hundred bytes. A body is sent from where it lies. After a [`NoReply`] it is of no
-/// more use.
+/// It takes its memory at once, but for the content of the reply in hand, which has at most
+/// [`LARGEST_REPLY`](ldm_relay::LARGEST_REPLY) bytes, and for the head of a record, which has some hundred bytes. A
+/// body is sent from where it lies. After a [`NoReply`] it is of no more use.
 #[derive(Drop)]
 pub struct Puts {
     reader: LinkReader,
@@ -140,7 +140,8 @@ fn hear_put<K: Link>(reader: &mut LinkReader, link: &mut K, xid: u32) -> Result<
 
 // What the content of a record says, if it is the reply to the PUT of that number.
 fn answer_in(content: &[u8], xid: u32) -> Option<PutAnswer>
-    ensures { MatchOption result ((answer : PutAnswer) → ¬ (IsPutReply xid answer content.now)) (λ answer. IsPutReply xid answer content.now) }
+    ensures { MatchOption result ((answer : PutAnswer) → ¬ (IsPutReply xid answer content.now))
+        (λ answer. IsPutReply xid answer content.now) }
 {
     match read_reply(content, Procedure::Put.number()) {
         Ok(Message::PutReply(reply)) if reply.xid == xid => Some(reply.answer),

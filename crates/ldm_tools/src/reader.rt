@@ -29,8 +29,8 @@ pub(crate) enum NoRecord {
 
 /// A reader of the records that a link gives, which are heard one at a time. None is longer than a reply may be.
 ///
-/// It takes all its memory at once, but for the content of the record in hand, which has at most [`LARGEST_REPLY`] bytes. After a
-/// [`NoRecord`] it is of no more use.
+/// It takes all its memory at once, but for the content of the record in hand, which has at most [`LARGEST_REPLY`]
+/// bytes. After a [`NoRecord`] it is of no more use.
 #[derive(Drop)]
 pub(crate) struct LinkReader {
     records: Records,
@@ -56,8 +56,8 @@ impl LinkReader {
         })
     }
 
-    /// Hears the next record that the link gives. It receives no more than that takes, but what comes with the record waits for the
-    /// next call.
+    /// Hears the next record that the link gives. It receives no more than that takes, but what comes with the record
+    /// waits for the next call.
     pub(crate) fn hear<K: Link>(&mut self, link: &mut K) -> Result<(), NoRecord>
         requires { IsNotClosed (K.tells link.old) }
         ensures heard { Hears result self.old self.new (K.tells link.old) (K.tells link.new) }
@@ -111,7 +111,8 @@ impl LinkReader {
     // Looks at what waits, and answers whether the record in hand is complete. Else more has to come for it.
     fn look(&mut self) -> Result<bool, NoRecord>
         requires { is_whole self.old.records ≡ false }
-        ensures shows { (given : List ℕ) (heard : List Placed) → Heard given heard self.old → Shows result given heard self.new }
+        ensures shows { (given : List ℕ) (heard : List Placed) → Heard given heard self.old
+            → Shows result given heard self.new }
         ensures own { IfErr result IsOwn }
         ensures waits { WaitsOn result self.old self.new }
     {

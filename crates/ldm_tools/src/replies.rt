@@ -32,7 +32,8 @@ pub(crate) fn hear_stat<K: Link>(
 
 // What the content of a record tells, if it is the reply to the QSTAT of that number.
 fn stat_in(content: &[u8], xid: u32) -> Option<Option<Stat>>
-    ensures { MatchOption result ((stat : Option Stat) → ¬ (IsStatReply xid stat content.now)) (λ stat. IsStatReply xid stat content.now) }
+    ensures { MatchOption result ((stat : Option Stat) → ¬ (IsStatReply xid stat content.now))
+        (λ stat. IsStatReply xid stat content.now) }
 {
     match read_reply(content, Procedure::Qstat.number()) {
         Ok(Message::QstatReply(reply)) if reply.xid == xid => Some(reply.stat),

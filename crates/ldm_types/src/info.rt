@@ -71,7 +71,16 @@ impl Info {
     ) -> Result<Info, InfoFault>
         ensures { MatchResult result
             (λ info. (texts_fault origin.now ident.now ≡ None)
-            × (info ≡ record { arrival = arrival; signature = signature.0; origin = origin.now; feed = feed.0; seqno = seqno; ident = ident.now; size = size }))
+            × (info ≡ record {
+              arrival = arrival;
+              signature = signature.0;
+              origin = origin.now;
+              feed = feed.0;
+              seqno
+                  = seqno;
+              ident = ident.now;
+              size = size;
+            }))
             (λ fault. texts_fault origin.now ident.now ≡ Some fault) }
     {
         let Ok(origin_kept) = ArrayVec::try_from(origin) else {

@@ -25,8 +25,10 @@ pub(crate) fn announce<H: Wait, K: Link, C: Clock>(
 ) -> Result<SoonAnswer, SendEnd>
     requires { IsNotClosed (K.tells link.old) }
     ensures still_open { IsNotClosed (K.tells link.new) }
-    ensures announces { (pass : PassView) (k : ℕ) (body : List ℕ) → Announces result k (given_of held.now body) standing.old standing.new
-        (moment_of pass (K.tells link.old) (C.tells clock.old) out.old.items) (moment_of pass (K.tells link.new) (C.tells clock.new) out.new.items)
+    ensures announces { (pass : PassView) (k : ℕ) (body : List ℕ)
+        → Announces result k (given_of held.now body) standing.old standing.new
+        (moment_of pass (K.tells link.old) (C.tells clock.old) out.old.items)
+        (moment_of pass (K.tells link.new) (C.tells clock.new) out.new.items)
         replies.old replies.new }
 {
     let xid = standing.next;

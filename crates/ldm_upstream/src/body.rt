@@ -33,7 +33,8 @@ pub(crate) fn append_part<H: Wait>(
     requires within { offset + len ≤ held.now.info.size }
     ensures kept { IsSamePass pass.old pass.new }
     ensures read { (body : List ℕ) → Holds pass.old reader.now.k held.now body
-        → ReadsPart result reader.now.k (given_of held.now body) offset (part_of offset len body) pass.old pass.new out.old.items out.new.items }
+        → ReadsPart result reader.now.k (given_of held.now body) offset
+        (part_of offset len body) pass.old pass.new out.old.items out.new.items }
 {
     let at = out.len();
     out.resize(at + len as usize, 0)?;
@@ -76,7 +77,8 @@ pub(crate) fn append_body<H: Wait, K: Link>(
     ensures still_open { IsNotClosed (K.tells link.new) }
     ensures read { (body : List ℕ) (clock : ClockRecord) → Holds pass.old reader.now.k held.now body
         → ReadsAll result reader.now.k (given_of held.now body)
-        (moment_of pass.old (K.tells link.old) clock out.old.items) (moment_of pass.new (K.tells link.new) clock out.new.items) }
+        (moment_of pass.old (K.tells link.old) clock out.old.items)
+        (moment_of pass.new (K.tells link.new) clock out.new.items) }
 {
     let size = held.info.size();
     let mut at = 0;

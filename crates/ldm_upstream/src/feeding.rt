@@ -51,12 +51,15 @@ fn feed_turns<H: Wait, K: Link, E: Sink, C: Clock, G: Gate>(
     requires not_closed { IsNotClosed (K.tells link.old) }
     ensures kept { IsSamePass pass.old pass.new }
     ensures still_open { IsNotClosed (K.tells link.new) }
-    ensures fed { (asked : Asked) (missed : Bool) (first : PassView) (ahead : List ℕ) → IsAskedOf asked class.old rules.old → asked.max_hereis ≡ ask.now.max_hereis → asked.xid ≡ ask.now.xid
-        → IsAnswerTo asked (Opened missed reader.now.k) → Makes first pass.old (opening_entries first.actor asked (Opened missed reader.now.k)) → out.old.items ≡ []
+    ensures fed { (asked : Asked) (missed : Bool) (first : PassView) (ahead : List ℕ)
+        → IsAskedOf asked class.old rules.old → asked.max_hereis ≡ ask.now.max_hereis → asked.xid ≡ ask.now.xid
+        → IsAnswerTo asked (Opened missed reader.now.k)
+        → Makes first pass.old (opening_entries first.actor asked (Opened missed reader.now.k)) → out.old.items ≡ []
         → Heard ahead [] replies.old
         → HasFed result asked ahead (Opened missed reader.now.k)
         (situation_of (moment_of first (K.tells link.old) (C.tells clock.old) []) (E.tells log.old) (G.tells gate.old))
-        (situation_of (moment_of pass.new (K.tells link.new) (C.tells clock.new) out.new.items) (E.tells log.new) (G.tells gate.new)) }
+        (situation_of (moment_of pass.new (K.tells link.new) (C.tells clock.new) out.new.items) (E.tells log.new)
+        (G.tells gate.new)) }
     ensures cursor { KeepsCursor result pass.new reader.now.k }
 {
     // The bound of the arena is known then.
@@ -109,10 +112,13 @@ fn feed_cursor<H: Wait, K: Link, E: Sink, C: Clock, G: Gate>(
     requires name { length rules.old.host ≤ LONGEST_NAME }
     requires not_closed { IsNotClosed (K.tells link.old) }
     ensures kept { IsSamePass pass.old pass.new }
-    ensures fed { (asked : Asked) (missed : Bool) (first : PassView) (ahead : List ℕ) → IsAskedOf asked class.old rules.old → asked.max_hereis ≡ ask.now.max_hereis → asked.xid ≡ ask.now.xid
-        → IsAnswerTo asked (Opened missed reader.k) → Makes first pass.old (opening_entries first.actor asked (Opened missed reader.k)) → out.old.items ≡ []
+    ensures fed { (asked : Asked) (missed : Bool) (first : PassView) (ahead : List ℕ)
+        → IsAskedOf asked class.old rules.old → asked.max_hereis ≡ ask.now.max_hereis → asked.xid ≡ ask.now.xid
+        → IsAnswerTo asked (Opened missed reader.k)
+        → Makes first pass.old (opening_entries first.actor asked (Opened missed reader.k)) → out.old.items ≡ []
         → Heard ahead [] replies.old
-        → Feeds result asked ahead first pass.new (session_tells K.tells E.tells C.tells G.tells link.old log.old clock.old gate.old)
+        → Feeds result asked ahead first pass.new
+        (session_tells K.tells E.tells C.tells G.tells link.old log.old clock.old gate.old)
         (session_tells K.tells E.tells C.tells G.tells link.new log.new clock.new gate.new)
         × KeepsFaults (session_tells K.tells E.tells C.tells G.tells link.old log.old clock.old gate.old)
         (session_tells K.tells E.tells C.tells G.tells link.new log.new clock.new gate.new) }
@@ -156,7 +162,8 @@ fn feed_class<H: Wait, K: Link, E: Sink, G: Gate, C: Clock>(
     requires same { reduce (rules_for false policy.now) host.now ask.now.class ≡ reduced.Same }
     ensures kept { IsSamePass pass.old pass.new }
     ensures fed { Feeds result (asked_of host.now policy.now ask.now) ahead.now pass.old pass.new
-        (session_tells K.tells E.tells C.tells G.tells link.old log.old clock.old gate.old) (session_tells K.tells E.tells C.tells G.tells link.new log.new clock.new gate.new)
+        (session_tells K.tells E.tells C.tells G.tells link.old log.old clock.old gate.old)
+        (session_tells K.tells E.tells C.tells G.tells link.new log.new clock.new gate.new)
         × KeepsFaults (session_tells K.tells E.tells C.tells G.tells link.old log.old clock.old gate.old)
         (session_tells K.tells E.tells C.tells G.tells link.new log.new clock.new gate.new) }
 {
@@ -196,11 +203,11 @@ fn feed_class<H: Wait, K: Link, E: Sink, G: Gate, C: Clock>(
     }
 }
 
-/// Answers a peer's FEEDME and feeds its connection: each product that is due goes out, in the order of the queue, until the gate says
-/// to stop or something ends it. Losses are log lines.
+/// Answers a peer's FEEDME and feeds its connection: each product that is due goes out, in the order of the queue,
+/// until the gate says to stop or something ends it. Losses are log lines.
 ///
-/// The link may have given bytes that nobody looked at, with the request or behind it: these are `ahead`, and the first that are heard
-/// of the peer. Places count from the first of them.
+/// The link may have given bytes that nobody looked at, with the request or behind it: these are `ahead`, and the first
+/// that are heard of the peer. Places count from the first of them.
 ///
 /// The cursor that was opened is closed at every end but `FeedEnd::Worn`, and the link at `FeedEnd::Stopped` alone.
 pub fn feed_behind<H: Wait, K: Link, E: Sink, G: Gate, C: Clock>(
@@ -226,7 +233,8 @@ pub fn feed_behind<H: Wait, K: Link, E: Sink, G: Gate, C: Clock>(
     ensures counts { KeepsFaults (session_tells K.tells E.tells C.tells G.tells link.old log.old clock.old gate.old)
         (session_tells K.tells E.tells C.tells G.tells link.new log.new clock.new gate.new) }
     ensures fed { Feeds result (asked_of host.now policy.now ask.now) ahead.now pass.old pass.new
-        (session_tells K.tells E.tells C.tells G.tells link.old log.old clock.old gate.old) (session_tells K.tells E.tells C.tells G.tells link.new log.new clock.new gate.new) }
+        (session_tells K.tells E.tells C.tells G.tells link.old log.old clock.old gate.old)
+        (session_tells K.tells E.tells C.tells G.tells link.new log.new clock.new gate.new) }
 {
     match policy.reduce(alloc, host, class.spec(), false) {
         Ok(Reduced::Same) => feed_class(
@@ -271,7 +279,8 @@ pub fn feed<H: Wait, K: Link, E: Sink, G: Gate, C: Clock>(
     ensures counts { KeepsFaults (session_tells K.tells E.tells C.tells G.tells link.old log.old clock.old gate.old)
         (session_tells K.tells E.tells C.tells G.tells link.new log.new clock.new gate.new) }
     ensures fed { Feeds result (asked_of host.now policy.now ask.now) [] pass.old pass.new
-        (session_tells K.tells E.tells C.tells G.tells link.old log.old clock.old gate.old) (session_tells K.tells E.tells C.tells G.tells link.new log.new clock.new gate.new) }
+        (session_tells K.tells E.tells C.tells G.tells link.old log.old clock.old gate.old)
+        (session_tells K.tells E.tells C.tells G.tells link.new log.new clock.new gate.new) }
 {
     feed_behind(
         rt,

@@ -38,7 +38,8 @@ pub(crate) fn give_whole<H: Wait, K: Link, C: Clock>(
     ensures still_open { IsNotClosed (K.tells link.new) }
     ensures gives { (body : List ℕ) → Holds pass.old reader.now.k held.now body
         → GivesWhole result reader.now.k (given_of held.now body) standing.old standing.new
-        (moment_of pass.old (K.tells link.old) (C.tells clock.old) out.old.items) (moment_of pass.new (K.tells link.new) (C.tells clock.new) out.new.items) }
+        (moment_of pass.old (K.tells link.old) (C.tells clock.old) out.old.items)
+        (moment_of pass.new (K.tells link.new) (C.tells clock.new) out.new.items) }
 {
     let call = CallWithBody::Hereis {
         xid: standing.next,
@@ -75,9 +76,11 @@ pub(crate) fn give_block<H: Wait, K: Link, C: Clock>(
     ensures kept { IsSamePass pass.old pass.new }
     ensures still_open { IsNotClosed (K.tells link.new) }
     ensures gives { (body : List ℕ) → Holds pass.old reader.now.k held.now body
-        → GivesBlock result reader.now.k (given_of held.now body) (record { offset = offset; number = number; bytes = part_of offset len body })
+        → GivesBlock result reader.now.k (given_of held.now body)
+        (record { offset = offset; number = number; bytes = part_of offset len body })
         standing.old standing.new
-        (moment_of pass.old (K.tells link.old) (C.tells clock.old) out.old.items) (moment_of pass.new (K.tells link.new) (C.tells clock.new) out.new.items) }
+        (moment_of pass.old (K.tells link.old) (C.tells clock.old) out.old.items)
+        (moment_of pass.new (K.tells link.new) (C.tells clock.new) out.new.items) }
 {
     let call = CallWithBody::Blkdata {
         xid: standing.next,
@@ -112,7 +115,8 @@ pub(crate) fn give_blocks<H: Wait, K: Link, C: Clock>(
     ensures still_open { IsNotClosed (K.tells link.new) }
     ensures gives { (body : List ℕ) → Holds pass.old reader.now.k held.now body
         → GivesBlocks result reader.now.k (given_of held.now body) standing.old standing.new
-        (moment_of pass.old (K.tells link.old) (C.tells clock.old) out.old.items) (moment_of pass.new (K.tells link.new) (C.tells clock.new) out.new.items) }
+        (moment_of pass.old (K.tells link.old) (C.tells clock.old) out.old.items)
+        (moment_of pass.new (K.tells link.new) (C.tells clock.new) out.new.items) }
 {
     // The number of the call is read since its bound is known then.
     let _next = standing.next;

@@ -44,10 +44,12 @@ pub(crate) fn offer_if_due<H: Wait, K: Link, C: Clock>(
     ensures still_open { IsNotClosed (K.tells link.new) }
     ensures same_class { class.new ≡ class.old }
     ensures same_rules { rules.new ≡ rules.old }
-    ensures offers { (asked : Asked) (body : List ℕ) → IsAskedOf asked class.old rules.old → asked.max_hereis ≡ ask.now.max_hereis
+    ensures offers { (asked : Asked) (body : List ℕ) → IsAskedOf asked class.old rules.old
+        → asked.max_hereis ≡ ask.now.max_hereis
         → Holds pass.old reader.now.k held.now body
         → Offers result asked reader.now.k (given_of held.now body) standing.old standing.new
-        (moment_of pass.old (K.tells link.old) (C.tells clock.old) out.old.items) (moment_of pass.new (K.tells link.new) (C.tells clock.new) out.new.items)
+        (moment_of pass.old (K.tells link.old) (C.tells clock.old) out.old.items)
+        (moment_of pass.new (K.tells link.new) (C.tells clock.new) out.new.items)
         replies.old replies.new }
 {
     if is_due(class, rules, ask.class.to, held.time, &held.info) {
@@ -93,10 +95,12 @@ pub(crate) fn handle<H: Wait, K: Link, C: Clock>(
     ensures still_open { IsNotClosed (K.tells link.new) }
     ensures same_class { class.new ≡ class.old }
     ensures same_rules { rules.new ≡ rules.old }
-    ensures handles { (asked : Asked) (body : List ℕ) → IsAskedOf asked class.old rules.old → asked.max_hereis ≡ ask.now.max_hereis
+    ensures handles { (asked : Asked) (body : List ℕ) → IsAskedOf asked class.old rules.old
+        → asked.max_hereis ≡ ask.now.max_hereis
         → Holds pass.old reader.now.k held body
         → Handles result asked reader.now.k (given_of held body) standing.old standing.new
-        (moment_of pass.old (K.tells link.old) (C.tells clock.old) out.old.items) (moment_of pass.new (K.tells link.new) (C.tells clock.new) out.new.items)
+        (moment_of pass.old (K.tells link.old) (C.tells clock.old) out.old.items)
+        (moment_of pass.new (K.tells link.new) (C.tells clock.new) out.new.items)
         replies.old replies.new }
 {
     offer_if_due(

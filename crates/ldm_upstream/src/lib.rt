@@ -1,8 +1,8 @@
 //! The feeder: the end of a session that was asked for products, and feeds them.
 //!
-//! [`feed`] answers a request and feeds a connection; [`feed_behind`] does where bytes came already behind the request. What a feeding is stands in `specs/`, as plain data: see `Feeding`; and what the
-//! call says at each of its ends: see `Feeds`. [`is_due`] tells which products are due, [`feeds_of`] and [`start_at`] where the cursor
-//! begins.
+//! [`feed`] answers a request and feeds a connection; [`feed_behind`] does where bytes came already behind the request.
+//! What a feeding is stands in `specs/`, as plain data: see `Feeding`; and what the call says at each of its ends: see
+//! `Feeds`. [`is_due`] tells which products are due, [`feeds_of`] and [`start_at`] where the cursor begins.
 #![tactic(auto)]
 
 mod announcing;

@@ -40,9 +40,11 @@ pub(crate) fn offer<H: Wait, K: Link, C: Clock>(
     requires not_closed { IsNotClosed (K.tells link.old) }
     ensures kept { IsSamePass pass.old pass.new }
     ensures still_open { IsNotClosed (K.tells link.new) }
-    ensures offers { (asked : Asked) (body : List ℕ) → asked.max_hereis ≡ max_hereis → IsDue asked (given_of held.now body) → Holds pass.old reader.now.k held.now body
+    ensures offers { (asked : Asked) (body : List ℕ) → asked.max_hereis ≡ max_hereis
+        → IsDue asked (given_of held.now body) → Holds pass.old reader.now.k held.now body
         → Offers result asked reader.now.k (given_of held.now body) standing.old standing.new
-        (moment_of pass.old (K.tells link.old) (C.tells clock.old) out.old.items) (moment_of pass.new (K.tells link.new) (C.tells clock.new) out.new.items)
+        (moment_of pass.old (K.tells link.old) (C.tells clock.old) out.old.items)
+        (moment_of pass.new (K.tells link.new) (C.tells clock.new) out.new.items)
         replies.old replies.new }
 {
     if held.info.size() <= max_hereis {

@@ -14,8 +14,10 @@ use ldm_relay::{Message, NotifymeReply, Procedure, read_call, read_reply};
 /// The reply to a NOTIFYME that the content of a record is, if it is one.
 pub(crate) fn read_answer(content: &[u8]) -> Option<NotifymeReply>
     ensures { MatchOption result
-        ((class : ClassSpec) (again : Bool) → by_reply class again (reply_of (number_of procedure.Notifyme) content.now) ≡ said.Bad)
-        (λ reply. reply_of (number_of procedure.Notifyme) content.now ≡ Ok (sent.NotifymeReply reply.xid reply.answer)) }
+        ((class : ClassSpec) (again : Bool)
+        → by_reply class again (reply_of (number_of procedure.Notifyme) content.now) ≡ said.Bad)
+        (λ reply. reply_of (number_of procedure.Notifyme) content.now ≡ Ok
+        (sent.NotifymeReply reply.xid reply.answer)) }
 {
     match read_reply(content, Procedure::Notifyme.number()) {
         Ok(Message::NotifymeReply(reply)) => Some(reply),

@@ -1,5 +1,6 @@
 //! Watching over a link.
-ghost use Rattle.std.specs.Prelude.{◌≡◌, ◌<◌, ◌≤◌, ◌∷◌, [], ℕ, Option, List, true, false, IfOk, IfNone, None, Some, length, take};
+ghost use Rattle.std.specs.Prelude.{◌≡◌, ◌<◌, ◌≤◌, ◌∷◌, [], ℕ, Option, List, true};
+ghost use Rattle.std.specs.Prelude.{false, IfOk, IfNone, None, Some, length, take};
 ghost use Rattle.std.specs.Option.{ForSome};
 ghost use Rattle.std.specs.Vec.{vec_len};
 ghost use Rattle.ldm_types.specs.declared.class.ClassSpec.{ClassSpec};
@@ -26,8 +27,9 @@ use ldm_session::LONGEST_STREAM;
 use ldm_types::OutOfMemory;
 use std::alloc::Global;
 
-/// Asks a peer to be told of the products of a class, and writes a line for each that it tells of: `notice ARRIVAL SIG FEED SEQNO ORIGIN
-/// IDENT SIZE`. It goes on until the end of the stream, or until something ends it, or to the end of so many notices where a count is given.
+/// Asks a peer to be told of the products of a class, and writes a line for each that it tells of: `notice ARRIVAL SIG
+/// FEED SEQNO ORIGIN IDENT SIZE`. It goes on until the end of the stream, or until something ends it, or to the end of
+/// so many notices where a count is given.
 pub fn watch<K: Link, S: Sink>(
     alloc: Global,
     link: &mut K,
@@ -38,9 +40,12 @@ pub fn watch<K: Link, S: Sink>(
     requires not_closed { IsNotClosed (K.tells link.old) }
     requires counted { ForSome count (λ n. 0 < n) }
     ensures still_open { IsNotClosed (K.tells link.new) }
-    ensures counts { KeepsCounts (watch_tells K.tells S.tells link.old sink.old) (watch_tells K.tells S.tells link.new sink.new) }
-    ensures watches { Watches result class.now count (watch_tells K.tells S.tells link.old sink.old) (watch_tells K.tells S.tells link.new sink.new) }
-    ensures completes { Completes result class.now count (watch_tells K.tells S.tells link.old sink.old) (watch_tells K.tells S.tells link.new sink.new) }
+    ensures counts { KeepsCounts (watch_tells K.tells S.tells link.old sink.old)
+        (watch_tells K.tells S.tells link.new sink.new) }
+    ensures watches { Watches result class.now count (watch_tells K.tells S.tells link.old sink.old)
+        (watch_tells K.tells S.tells link.new sink.new) }
+    ensures completes { Completes result class.now count (watch_tells K.tells S.tells link.old sink.old)
+        (watch_tells K.tells S.tells link.new sink.new) }
 {
     match Session::open(alloc, class, count) {
         Ok(session) => {
@@ -63,7 +68,13 @@ struct Session {
 impl Session {
     // Before the request is sent.
     fn open(alloc: Global, class: &Class, count: Option<u64>) -> Result<Session, OutOfMemory>
-        ensures stream { IfOk result (λ session. session.stream ≡ record { watching = record { class = class.now; phase = phase.Asked false; left = count }; hand = beginning }) }
+        ensures stream { IfOk result
+            (λ session. session.stream
+            ≡ record {
+              watching = record { class = class.now; phase = phase.Asked false; left = count };
+              hand
+                  = beginning;
+            }) }
         ensures owed { IfOk result (λ session. session.out.items ≡ records_of (sent.Notifyme 1 class.now ∷ [])) }
         ensures no_lines { IfOk result (λ session. session.lines.items ≡ []) }
         ensures room { IfOk result (λ session. 0 < vec_len session.piece) }
@@ -91,8 +102,10 @@ impl Session {
         requires no_lines { self.old.lines.items ≡ [] }
         requires room { 0 < vec_len self.old.piece }
         ensures still_open { IsNotClosed (K.tells link.new) }
-        ensures counts { KeepsCounts (watch_tells K.tells S.tells link.old sink.old) (watch_tells K.tells S.tells link.new sink.new) }
-        ensures watches { Watches result self.old.stream.watching.class self.old.stream.watching.left (watch_tells K.tells S.tells link.old sink.old) (watch_tells K.tells S.tells link.new sink.new) }
+        ensures counts { KeepsCounts (watch_tells K.tells S.tells link.old sink.old)
+            (watch_tells K.tells S.tells link.new sink.new) }
+        ensures watches { Watches result self.old.stream.watching.class self.old.stream.watching.left
+            (watch_tells K.tells S.tells link.old sink.old) (watch_tells K.tells S.tells link.new sink.new) }
     {
         match self.write(link, sink) {
             Some(fault) => return fault,
@@ -113,7 +126,8 @@ impl Session {
         requires sound { is_faulty self.old.stream.hand.reading ≡ false }
         requires ready { IsReady self.old.out.items self.old.lines.items (vec_len self.old.piece) }
         ensures still_open { IsNotClosed (K.tells link.new) }
-        ensures counts { KeepsCounts (watch_tells K.tells S.tells link.old sink.old) (watch_tells K.tells S.tells link.new sink.new) }
+        ensures counts { KeepsCounts (watch_tells K.tells S.tells link.old sink.old)
+            (watch_tells K.tells S.tells link.new sink.new) }
         ensures ready { IfNone result (IsReady self.new.out.items self.new.lines.items (vec_len self.new.piece)) }
         ensures moves { IfNone result (self.old.stream.hand.came < self.new.stream.hand.came) }
         ensures rounds { (class : ClassSpec) (count : Option ℕ) (old : WatchRecord) → ForSome count (λ n. 0 < n)
@@ -139,7 +153,8 @@ impl Session {
         requires ready { IsReady self.old.out.items self.old.lines.items (vec_len self.old.piece) }
         requires count { (0 < count) × (count ≤ vec_len self.old.piece) }
         ensures still_open { IsNotClosed (K.tells link.new) }
-        ensures counts { KeepsCounts (watch_tells K.tells S.tells link.old sink.old) (watch_tells K.tells S.tells link.new sink.new) }
+        ensures counts { KeepsCounts (watch_tells K.tells S.tells link.old sink.old)
+            (watch_tells K.tells S.tells link.new sink.new) }
         ensures ready { IfNone result (IsReady self.new.out.items self.new.lines.items (vec_len self.new.piece)) }
         ensures moves { IfNone result (self.old.stream.hand.came < self.new.stream.hand.came) }
         ensures takes { (class : ClassSpec) (limit : Option ℕ) (old begins : WatchRecord) → ForSome limit (λ n. 0 < n)
@@ -166,8 +181,10 @@ impl Session {
         end: WatchEnd,
     ) -> WatchEnd
         requires { IsNotClosed (K.tells link.old) }
-        ensures writes { WritesLast result end self.old.out.items self.old.lines.items (watch_tells K.tells S.tells link.old sink.old) (watch_tells K.tells S.tells link.new sink.new) }
-        ensures counts { KeepsCounts (watch_tells K.tells S.tells link.old sink.old) (watch_tells K.tells S.tells link.new sink.new) }
+        ensures writes { WritesLast result end self.old.out.items self.old.lines.items
+            (watch_tells K.tells S.tells link.old sink.old) (watch_tells K.tells S.tells link.new sink.new) }
+        ensures counts { KeepsCounts (watch_tells K.tells S.tells link.old sink.old)
+            (watch_tells K.tells S.tells link.new sink.new) }
         ensures still_open { IsNotClosed (K.tells link.new) }
     {
         match self.write(link, sink) {
@@ -179,10 +196,12 @@ impl Session {
     // Sends what the peer is owed, and writes the lines. Answers what failed.
     fn write<K: Link, S: Sink>(&mut self, link: &mut K, sink: &mut S) -> Option<WatchEnd>
         requires { IsNotClosed (K.tells link.old) }
-        ensures writes { WritesAt result self.old.out.items self.old.lines.items (watch_tells K.tells S.tells link.old sink.old) (watch_tells K.tells S.tells link.new sink.new) }
+        ensures writes { WritesAt result self.old.out.items self.old.lines.items
+            (watch_tells K.tells S.tells link.old sink.old) (watch_tells K.tells S.tells link.new sink.new) }
         ensures empty { IfNone result ((self.new.out.items ≡ []) × (self.new.lines.items ≡ [])) }
         ensures same { (self.new.stream ≡ self.old.stream) × (vec_len self.new.piece ≡ vec_len self.old.piece) }
-        ensures counts { KeepsCounts (watch_tells K.tells S.tells link.old sink.old) (watch_tells K.tells S.tells link.new sink.new) }
+        ensures counts { KeepsCounts (watch_tells K.tells S.tells link.old sink.old)
+            (watch_tells K.tells S.tells link.new sink.new) }
         ensures still_open { IsNotClosed (K.tells link.new) }
     {
         if send_all(link, self.out.as_slice()).is_err() {

@@ -1,5 +1,6 @@
 //! What takes the bytes of a stream: its records, one after another.
-ghost use Rattle.std.specs.Prelude.{◌≡◌, ◌≤◌, ◌<◌, ◌+◌, ◌∷◌, [], ℕ, true, false, IfOk, IfNone, IfSome, MatchOption, OnOk, OnErr, None, Some, length};
+ghost use Rattle.std.specs.Prelude.{◌≡◌, ◌≤◌, ◌<◌, ◌+◌, ◌∷◌, [], ℕ, true, false, IfOk, IfNone};
+ghost use Rattle.std.specs.Prelude.{IfSome, MatchOption, OnOk, OnErr, None, Some, length};
 ghost use Rattle.std.specs.Option.{option_copied};
 ghost use Rattle.ldm_rpc.specs.Reading.{is_faulty};
 ghost use Rattle.ldm_rpc.specs.Streams.{Position};
@@ -64,8 +65,8 @@ impl Stream {
         }
     }
 
-    /// Takes of a piece what the limit leaves. Appends what the peer is owed to `out`, and the lines of notices to `lines`. Answers why no
-    /// more is taken, where that is so.
+    /// Takes of a piece what the limit leaves. Appends what the peer is owed to `out`, and the lines of notices to
+    /// `lines`. Answers why no more is taken, where that is so.
     pub(crate) fn take_piece(
         &mut self,
         piece: &[u8],
@@ -104,7 +105,8 @@ impl Stream {
         None
     }
 
-    // Takes the record that these bytes complete first, or all of them where they complete none, and answers how many bytes that are.
+    // Takes the record that these bytes complete first, or all of them where they complete none, and answers how many
+    // bytes that are.
     fn take_first(
         &mut self,
         bytes: &[u8],
@@ -154,7 +156,8 @@ fn take_content(
     out: &mut Vec<u8>,
     lines: &mut Vec<u8>,
 ) -> Option<Stop>
-    ensures { Finds result at (option_copied content.entry) (standing watching.old out.old lines.old) (standing watching.new out.new lines.new) }
+    ensures { Finds result at (option_copied content.entry) (standing watching.old out.old lines.old)
+        (standing watching.new out.new lines.new) }
 {
     watching.take_record(alloc, content?, at, out, lines)
 }

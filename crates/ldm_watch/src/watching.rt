@@ -1,7 +1,8 @@
 //! Where a watching stands, and what a record changes of that.
 ghost use Rattle.std.specs.Prelude.{◌≡◌, ℕ, IfOk, Some};
 ghost use Rattle.std.specs.Global.{Vec};
-ghost use Rattle.ldm_watch.specs.Step.{answered, asks_again as asks_again_step, by_answer, by_reply, number_of_request, reclassed, watch_step};
+ghost use Rattle.ldm_watch.specs.Step.{answered, asks_again as asks_again_step, by_answer};
+ghost use Rattle.ldm_watch.specs.Step.{by_reply, number_of_request, reclassed, watch_step};
 ghost use Rattle.ldm_relay.specs.declared.procedure.Procedure.TheVariants as procedure;
 ghost use Rattle.ldm_relay.specs.Procedure.{number_of};
 ghost use Rattle.ldm_relay.specs.Reading.{reply_of};
@@ -47,8 +48,8 @@ pub(crate) fn number_of_request(again: bool) -> u32
 }
 
 impl Watching {
-    /// Takes the record with that content, which begins at byte `at`. Appends what the peer is owed to `out`, and the line of a notice to
-    /// `lines`. Answers why it is the last, where it is.
+    /// Takes the record with that content, which begins at byte `at`. Appends what the peer is owed to `out`, and the
+    /// line of a notice to `lines`. Answers why it is the last, where it is.
     pub(crate) fn take_record(
         &mut self,
         alloc: Global,
@@ -57,7 +58,8 @@ impl Watching {
         out: &mut Vec<u8>,
         lines: &mut Vec<u8>,
     ) -> Option<Stop>
-        ensures { Finds result at (Some content.now) (standing self.old out.old lines.old) (standing self.new out.new lines.new) }
+        ensures { Finds result at (Some content.now) (standing self.old out.old lines.old)
+            (standing self.new out.new lines.new) }
     {
         match self.step(alloc, content) {
             Ok(step) => self.go(step, at, out, lines),
@@ -77,7 +79,8 @@ impl Watching {
 
     // What the reply to a NOTIFYME says.
     fn by_reply(&self, alloc: Global, again: bool, content: &[u8]) -> Result<Step, OutOfMemory>
-        ensures { IfOk result (λ step. step ≡ by_reply self.now.class again (reply_of (number_of procedure.Notifyme) content.now)) }
+        ensures { IfOk result
+            (λ step. step ≡ by_reply self.now.class again (reply_of (number_of procedure.Notifyme) content.now)) }
     {
         match read_answer(content) {
             Some(reply) => {
@@ -106,7 +109,8 @@ impl Watching {
         }
     }
 
-    // A narrower class is offered: it is asked for, at most once, and where it is another than the one that was asked for.
+    // A narrower class is offered: it is asked for, at most once, and where it is another than the one that was asked
+    // for.
     fn reclassed(&self, alloc: Global, again: bool, class: ClassSpec) -> Result<Step, OutOfMemory>
         ensures { IfOk result (λ step. step ≡ reclassed self.now.class again class) }
     {
@@ -136,7 +140,9 @@ impl Watching {
 
     // Asks for a class in place of the one that was asked for.
     fn ask_again(&mut self, class: ClassSpec, out: &mut Vec<u8>) -> Option<Stop>
-        ensures { (at : ℕ) (lines : Vec ℕ) → Moves result (said.AsksAgain class) at (standing self.old out.old lines) (standing self.new out.new lines) }
+        ensures { (at : ℕ) (lines : Vec ℕ)
+            → Moves result (said.AsksAgain class) at (standing self.old out.old lines)
+            (standing self.new out.new lines) }
     {
         if put_notifyme(out, number_of_request(true), &class).is_err() {
             return Some(Stop::OutOfMemory);
@@ -148,7 +154,9 @@ impl Watching {
 
     // Tells of a product, and counts it.
     fn notice(&mut self, info: &Info, lines: &mut Vec<u8>) -> Option<Stop>
-        ensures { (at : ℕ) (out : Vec ℕ) → Moves result (said.Notice info.now) at (standing self.old out lines.old) (standing self.new out lines.new) }
+        ensures { (at : ℕ) (out : Vec ℕ)
+            → Moves result (said.Notice info.now) at (standing self.old out lines.old)
+            (standing self.new out lines.new) }
     {
         match put_notice(lines, info) {
             Ok(()) => self.count(),

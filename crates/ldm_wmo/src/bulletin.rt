@@ -45,7 +45,8 @@ pub(crate) fn read_bulletin(bytes: &[u8]) -> Option<Reading<'_>>
 
 // What stands behind the bytes with which a bulletin begins.
 fn behind_starting(bytes: &[u8]) -> Option<&[u8]>
-    ensures { MatchOption result (behind starting bytes.now ≡ None) (λ rest. behind starting bytes.now ≡ Some rest.now) }
+    ensures { MatchOption result (behind starting bytes.now ≡ None)
+        (λ rest. behind starting bytes.now ≡ Some rest.now) }
 {
     bytes.strip_prefix(STARTING)
 }

@@ -5,8 +5,8 @@ ghost use Rattle.ldm_wmo.specs.Headings.{fits, is_heading, stands_for};
 /// The most bytes of a heading.
 pub const LONGEST_HEADING: usize = 22;
 
-/// A heading with an indicator, in the standard's notation: T, A and B stand for a letter, C for a letter or a digit, i, Y, G
-/// and g for a digit.
+/// A heading with an indicator, in the standard's notation: T, A and B stand for a letter, C for a letter or a digit,
+/// i, Y, G and g for a digit.
 pub(crate) const LONG_FORM: &[u8] = b"TTAAii CCCC YYGGgg BBB";
 
 /// A heading without one.

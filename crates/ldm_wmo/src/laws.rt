@@ -14,11 +14,12 @@ pub fn pieces_join()
     ensures in_hand { (s : Scanning) (a b : List ℕ) → in_hand s (a ++ b) ≡ in_hand (in_hand s a) b }
 {}
 
-/// Who pushes a piece, takes the item where one is complete, forgets it, and goes on with what is left of the piece, gets
-/// the items of the stream.
+/// Who pushes a piece, takes the item where one is complete, forgets it, and goes on with what is left of the piece,
+/// gets the items of the stream.
 pub fn pushes_scan_the_stream()
     ensures items { (s : Scanning) (piece : List ℕ) → is_complete s ≡ false →
-        items_in s piece ≡ given (after s piece) ++ items_in (next_of (after s piece)) (drop (bytes_taken s piece) piece) }
+        items_in s piece ≡ given (after s piece) ++ items_in (next_of (after s piece))
+        (drop (bytes_taken s piece) piece) }
     ensures in_hand { (s : Scanning) (piece : List ℕ) → is_complete s ≡ false →
         in_hand s piece ≡ in_hand (next_of (after s piece)) (drop (bytes_taken s piece) piece) }
 {}
@@ -33,10 +34,12 @@ pub fn bulletins_are_read()
 pub fn written_bulletins_are_found()
     ensures found { (at seqno : ℕ) (heading text rest : List ℕ) → at < 2 ^ 64 → fault_of seqno heading text ≡ None →
         items_in (outside at) (written seqno heading text ++ rest)
-        ≡ Bulletin at seqno heading (written seqno heading text) ∷ items_in (outside (place (at + length (written seqno heading text)))) rest }
+        ≡ Bulletin at seqno heading (written seqno heading text) ∷ items_in
+        (outside (place (at + length (written seqno heading text)))) rest }
 {}
 
-/// What is found in a stream is what it holds: bytes outside candidates, candidates that end, and perhaps one that is cut.
+/// What is found in a stream is what it holds: bytes outside candidates, candidates that end, and perhaps one that is
+/// cut.
 pub fn streams_are_read()
     ensures holds { (stream : List ℕ) → Holds 0 stream (items_of stream) (cut_at_end stream) }
 {}

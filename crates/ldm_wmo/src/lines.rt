@@ -77,7 +77,8 @@ fn number_of(digits: &[u8]) -> u32
 /// The heading of a line of a heading and then any blanks.
 #[tactic(auto, unfolding(crate::specs::Lines::heading_in))]
 pub(crate) fn heading_in(line: &[u8]) -> Option<&[u8]>
-    ensures heading { MatchOption result (heading_in line.now ≡ None) (λ heading. heading_in line.now ≡ Some heading.now) }
+    ensures heading { MatchOption result (heading_in line.now ≡ None)
+        (λ heading. heading_in line.now ≡ Some heading.now) }
     ensures short { IfSome result (λ heading. length heading.now ≤ LONGEST_HEADING) }
 {
     if let Some(heading) = heading_of_form(LONG_FORM, line) {
@@ -89,7 +90,9 @@ pub(crate) fn heading_in(line: &[u8]) -> Option<&[u8]>
 // The heading of that form, with which the line begins, where blanks alone stand behind it.
 #[tactic(auto, using(crate::proofs::Forms::too_short))]
 fn heading_of_form<'a>(form: &[u8], line: &'a [u8]) -> Option<&'a [u8]>
-    ensures found { IfSome result (λ heading. (begins_so form.now (length form.now) line.now ≡ true) × (heading.now ≡ take (length form.now) line.now)) }
+    ensures found { IfSome result
+        (λ heading. (begins_so form.now (length form.now) line.now ≡ true)
+        × (heading.now ≡ take (length form.now) line.now)) }
     ensures none { IfNone result (begins_so form.now (length form.now) line.now ≡ false) }
     ensures short { IfSome result (λ heading. length heading.now ≡ length form.now) }
 {

@@ -2,7 +2,8 @@
 ghost use Rattle.std.specs.Prelude.{◌≡◌, ◌+◌, ◌++◌, ◌<◌, ◌≤◌, IfOk, IfNone, Some, None, length, true, false};
 ghost use Rattle.std.specs.Option.{option_map};
 ghost use Rattle.ldm_wmo.specs.ItemView.{found_of};
-ghost use Rattle.ldm_wmo.specs.Scanning.{after, begun, bytes_taken, cut_of, is_complete, is_outside, item_of, next_of, place};
+ghost use Rattle.ldm_wmo.specs.Scanning.{after, begun, bytes_taken, cut_of, is_complete};
+ghost use Rattle.ldm_wmo.specs.Scanning.{is_outside, item_of, next_of, place};
 ghost use Rattle.ldm_wmo.specs.Stages.{StageFits};
 ghost use Rattle.ldm_wmo.specs.Taking.{TakesFront, advanced};
 
@@ -51,7 +52,8 @@ impl Scanner {
 
     /// Takes bytes of a piece up to the end of one item, or all of them, and answers how many.
     ///
-    /// A byte 1 that ends a candidate is not taken: the next one begins with it. Each byte of a candidate is copied once.
+    /// A byte 1 that ends a candidate is not taken: the next one begins with it. Each byte of a candidate is copied
+    /// once.
     pub fn push(&mut self, piece: &[u8]) -> usize
         requires { is_complete self.old ≡ false }
         ensures after { self.new ≡ after self.old piece.now }
@@ -147,7 +149,12 @@ impl Scanner {
     // Copies bytes of the candidate in hand, for which there is room.
     fn copy(&mut self, bytes: &[u8])
         requires { StageFits self.old.stage (self.old.candidate ++ bytes.now) }
-        ensures { self.new ≡ record self.old { place = place (self.old.place + length bytes.now); candidate = self.old.candidate ++ bytes.now } }
+        ensures { self.new ≡ record
+            self.old {
+              place = place (self.old.place + length bytes.now);
+              candidate = self.old.candidate
+                  ++ bytes.now;
+            } }
     {
         self.pass(bytes.len());
         if self.candidate.extend_from_slice(bytes).is_err() {

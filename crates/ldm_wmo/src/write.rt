@@ -15,8 +15,8 @@ pub const LARGEST_SEQNO: u32 = 99_999;
 // The bytes of a bulletin besides those of number, heading and text.
 const BESIDES: usize = STARTING.len() + 2 * END_OF_LINE.len() + CLOSING.len();
 
-/// Appends the bulletin with that number, heading and text. The number has at least three digits, and no blanks follow the
-/// number or the heading.
+/// Appends the bulletin with that number, heading and text. The number has at least three digits, and no blanks follow
+/// the number or the heading.
 ///
 /// Where it answers a fault, the buffer holds what it held.
 pub fn write_bulletin(
@@ -26,7 +26,8 @@ pub fn write_bulletin(
     out: &mut Vec<u8>,
 ) -> Result<(), WriteFault>
     ensures ok { OnOk result (out.new.items ≡ out.old.items ++ written seqno heading.now text.now) }
-    ensures fault { MatchResult result (λ _. fault_of seqno heading.now text.now ≡ None) (HasCause (fault_of seqno heading.now text.now)) }
+    ensures fault { MatchResult result (λ _. fault_of seqno heading.now text.now ≡ None)
+        (HasCause (fault_of seqno heading.now text.now)) }
     ensures stays { OnErr result (out.new.items ≡ out.old.items) }
 {
     if seqno > LARGEST_SEQNO {
@@ -73,7 +74,8 @@ fn digit(number: u32, unit: u32) -> u8
 
 // Those of the five digits that are written: at least three.
 fn shown_digits(seqno: u32, digits: &[u8; 5]) -> &[u8]
-    requires { digits.now ≡ digit 10000 seqno ∷ digit 1000 seqno ∷ digit 100 seqno ∷ digit 10 seqno ∷ digit 1 seqno ∷ [] }
+    requires { digits.now ≡ digit 10000 seqno ∷ digit 1000 seqno ∷ digit 100 seqno ∷ digit 10 seqno ∷ digit 1 seqno
+        ∷ [] }
     ensures digits { result.now ≡ digits_of seqno }
     ensures few { length result.now ≤ 5 }
 {

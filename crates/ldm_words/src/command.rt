@@ -1,7 +1,8 @@
 //! Commands of `clap`, and what they make of words.
 ghost use Rattle.std.specs.Prelude.{◌≡◌, [], ◌∷◌, Some, MatchResult, map, string_bytes};
 ghost use Rattle.clap.specs.Words.{app_of};
-ghost use Rattle.ldm_words.specs.Commands.{IsPlain, command_of, flag_rule, matched, option_or_rule, option_rule, word_rule, words_rule};
+ghost use Rattle.ldm_words.specs.Commands.{IsPlain, command_of, flag_rule, matched};
+ghost use Rattle.ldm_words.specs.Commands.{option_or_rule, option_rule, word_rule, words_rule};
 ghost use Rattle.ldm_words.specs.Faults.{IsFaultOf};
 ghost use Rattle.ldm_words.specs.Views.{HasRule, rows_in};
 

@@ -18,9 +18,27 @@ pub fn worked_examples_of_pqmon()
 /// Worked examples of the words of `node`. It does nothing.
 pub fn worked_examples_of_node()
     ensures by_default { node_form (codes "c" ∷ [])
-        ≡ Some (record { arena = 67108864; slots = 16384; port = 388; workers = 4; sessions = 4294967295; idles = None; conf = codes "c" }) }
-    ensures given { node_form (codes "-a4096" ∷ codes "-S8" ∷ codes "-p1" ∷ codes "c" ∷ codes "-w2" ∷ codes "-n1" ∷ codes "-x0" ∷ [])
-        ≡ Some (record { arena = 4096; slots = 8; port = 1; workers = 2; sessions = 1; idles = Some 0; conf = codes "c" }) }
+        ≡ Some (record {
+          arena = 67108864;
+          slots = 16384;
+          port = 388;
+          workers = 4;
+          sessions = 4294967295;
+          idles = None;
+          conf = codes "c";
+        }) }
+    ensures given { node_form
+        (codes "-a4096" ∷ codes "-S8" ∷ codes "-p1" ∷ codes "c" ∷ codes "-w2" ∷ codes "-n1" ∷ codes "-x0" ∷ [])
+        ≡ Some (record {
+          arena = 4096;
+          slots = 8;
+          port = 1;
+          workers = 2;
+          sessions = 1;
+          idles = Some 0;
+          conf = codes
+              "c";
+        }) }
     ensures too_many_slots { node_form (codes "-S4294967296" ∷ codes "c" ∷ []) ≡ None }
     ensures leading_zero { node_form (codes "-w04" ∷ codes "c" ∷ []) ≡ None }
     ensures two_files { node_form (codes "c" ∷ codes "d" ∷ []) ≡ None }
@@ -38,7 +56,8 @@ pub fn worked_examples_of_pqinsert()
           peer = record { host = codes "127.0.0.1"; port = 388 };
           files = codes "f" ∷ codes "g" ∷ [];
         }) }
-    ensures given { insert_form (codes "-i" ∷ codes "f" ∷ codes "-fDDS|IDS" ∷ codes "-p" ∷ codes "" ∷ codes "-o=h" ∷ codes "-qa:1" ∷ [])
+    ensures given { insert_form
+        (codes "-i" ∷ codes "f" ∷ codes "-fDDS|IDS" ∷ codes "-p" ∷ codes "" ∷ codes "-o=h" ∷ codes "-qa:1" ∷ [])
         ≡ Some (record {
           feed = 10;
           ident = Some [];
@@ -55,9 +74,20 @@ pub fn worked_examples_of_pqinsert()
 /// Worked examples of the words of `pqcat` and `pqact`. It does nothing.
 pub fn worked_examples_of_classes()
     ensures by_default { receiving_form []
-        ≡ Some (record { class = all_times 0xffff_ffff (codes ".*"); count = None; peer = record { host = codes "127.0.0.1"; port = 388 } }) }
+        ≡ Some (record {
+          class = all_times 0xffff_ffff
+              (codes ".*");
+          count = None;
+          peer = record { host = codes "127.0.0.1"; port = 388 };
+        }) }
     ensures given { act_form (codes "-fIDS" ∷ codes "-p^S" ∷ codes "c" ∷ codes "-c2" ∷ codes "a:1" ∷ [])
-        ≡ Some (record { class = all_times 8 (codes "^S"); count = Some 2; conf = codes "c"; peer = record { host = codes "a"; port = 1 } }) }
+        ≡ Some (record {
+          class = all_times 8
+              (codes "^S");
+          count = Some 2;
+          conf = codes "c";
+          peer = record { host = codes "a"; port = 1 };
+        }) }
     ensures no_count { receiving_form (codes "-c0" ∷ []) ≡ None }
     ensures no_pattern { receiving_form (codes "-p(" ∷ []) ≡ None }
     ensures no_peer { act_form (codes "c" ∷ []) ≡ None }
@@ -66,12 +96,30 @@ pub fn worked_examples_of_classes()
 /// Worked examples of the words of `chain`. It does nothing.
 pub fn worked_examples_of_chain()
     ensures without_conf { chain_form (codes "4096" ∷ codes "8" ∷ codes "0" ∷ codes "IDS" ∷ codes "^S" ∷ [])
-        ≡ Some (record { conf = None; arena = 4096; slots = 8; max_hereis = 0; classes = all_times 8 (codes "^S") ∷ [] }) }
-    ensures with_conf { chain_form (codes "-a" ∷ codes "c" ∷ codes "1" ∷ codes "2" ∷ codes "3" ∷ codes "ANY" ∷ codes ".*" ∷ codes "IDS" ∷ codes "" ∷ [])
-        ≡ Some (record { conf = Some (codes "c"); arena = 1; slots = 2; max_hereis = 3; classes = all_times 0xffff_ffff (codes ".*") ∷ all_times 8 [] ∷ [] }) }
-    ensures conf_behind { chain_form (codes "1" ∷ codes "2" ∷ codes "3" ∷ codes "ANY" ∷ codes ".*" ∷ codes "-a" ∷ codes "c" ∷ []) ≡ None }
+        ≡ Some (record {
+          conf = None;
+          arena = 4096;
+          slots = 8;
+          max_hereis = 0;
+          classes = all_times 8 (codes "^S")
+              ∷ [];
+        }) }
+    ensures with_conf { chain_form
+        (codes "-a" ∷ codes "c" ∷ codes "1" ∷ codes "2" ∷ codes "3" ∷ codes "ANY" ∷ codes ".*" ∷ codes "IDS" ∷ codes ""
+        ∷ [])
+        ≡ Some (record {
+          conf = Some (codes "c");
+          arena = 1;
+          slots = 2;
+          max_hereis = 3;
+          classes = all_times 0xffff_ffff
+              (codes ".*") ∷ all_times 8 [] ∷ [];
+        }) }
+    ensures conf_behind { chain_form
+        (codes "1" ∷ codes "2" ∷ codes "3" ∷ codes "ANY" ∷ codes ".*" ∷ codes "-a" ∷ codes "c" ∷ []) ≡ None }
     ensures no_conf { chain_form (codes "-a" ∷ []) ≡ None }
     ensures no_class { chain_form (codes "1" ∷ codes "2" ∷ codes "3" ∷ []) ≡ None }
     ensures no_pattern { chain_form (codes "1" ∷ codes "2" ∷ codes "3" ∷ codes "ANY" ∷ []) ≡ None }
-    ensures too_many_slots { chain_form (codes "1" ∷ codes "4294967296" ∷ codes "3" ∷ codes "ANY" ∷ codes ".*" ∷ []) ≡ None }
+    ensures too_many_slots { chain_form (codes "1" ∷ codes "4294967296" ∷ codes "3" ∷ codes "ANY" ∷ codes ".*" ∷ [])
+        ≡ None }
 {}

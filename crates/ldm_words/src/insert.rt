@@ -18,9 +18,9 @@ use clap::{ArgMatches, Command};
 use ldm_types::{Feed, Info, Signature};
 use std::alloc::{AllocError, Global};
 
-/// What words ask `pqinsert` to do: `[-f FEED] [-p IDENT] [-o ORIGIN] [-i] [-q HOST:PORT] FILE..`, by default `EXP`, the
-/// names of the files, `localhost`, the signatures of bodies and `127.0.0.1:388`. HOST has 1 to 255 bytes. Each ident has
-/// at most 255 bytes and the origin at most 64; neither has a zero byte.
+/// What words ask `pqinsert` to do: `[-f FEED] [-p IDENT] [-o ORIGIN] [-i] [-q HOST:PORT] FILE..`, by default `EXP`,
+/// the names of the files, `localhost`, the signatures of bodies and `127.0.0.1:388`. HOST has 1 to 255 bytes. Each
+/// ident has at most 255 bytes and the origin at most 64; neither has a zero byte.
 ///
 /// `Usage` comes exactly where the words are no form.
 pub fn read_pqinsert<'a>(alloc: Global, words: &'a [String]) -> Result<InsertWords<'a>, WordsFault>
@@ -79,7 +79,8 @@ fn are_names(origin: &str, ident: Option<&str>, files: &[&str]) -> bool
 }
 
 fn all_are_names(origin: &str, ident: Option<&str>, files: &[&str]) -> bool
-    ensures { result ≡ list_all (λ file. is_none (texts_fault origin.now (ident_or (option_copied ident.entry) file.now))) files.now }
+    ensures { result ≡ list_all
+        (λ file. is_none (texts_fault origin.now (ident_or (option_copied ident.entry) file.now))) files.now }
 {
     files
         .iter()

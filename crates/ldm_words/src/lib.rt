@@ -1,5 +1,5 @@
-//! The words of the commands that take options, most of them read by `clap`: each function reads the words behind the name of its
-//! command.
+//! The words of the commands that take options, most of them read by `clap`: each function reads the words behind the
+//! name of its command.
 //!
 //! Words that are no form of a command are [`WordsFault::Usage`].
 #![tactic(auto)]

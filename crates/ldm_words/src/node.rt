@@ -14,9 +14,9 @@ use crate::values::{long_number, optional_number, port, short_number, value};
 use clap::{ArgMatches, Command};
 use std::alloc::{AllocError, Global};
 
-/// The node that words ask for: `[-a ARENA] [-S SLOTS] [-p PORT] [-w WORKERS] [-n SESSIONS] [-x IDLES] CONF`, by default
-/// 67108864, 16384, 388, 4, 4294967295 and no limit. Numbers are decimal, without a sign or a leading zero. ARENA has
-/// 64 bits and PORT 16, and is at least 1; the others have 32.
+/// The node that words ask for: `[-a ARENA] [-S SLOTS] [-p PORT] [-w WORKERS] [-n SESSIONS] [-x IDLES] CONF`, by
+/// default 67108864, 16384, 388, 4, 4294967295 and no limit. Numbers are decimal, without a sign or a leading zero.
+/// ARENA has 64 bits and PORT 16, and is at least 1; the others have 32.
 ///
 /// `Usage` comes exactly where the words are no form.
 pub fn read_node<'a>(alloc: Global, words: &'a [String]) -> Result<NodeWords<'a>, WordsFault>

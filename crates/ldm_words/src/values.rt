@@ -8,7 +8,8 @@ ghost use Rattle.ldm_conf.specs.Confs as confs;
 ghost use Rattle.ldm_feedtype.specs.Reading.{feed_number};
 ghost use Rattle.ldm_types.specs.declared.limits.TheConstants.{GREATEST_INSTANT};
 ghost use Rattle.ldm_words.specs.Faults.{IsFaultOf};
-ghost use Rattle.ldm_words.specs.Values.{class_in, class_of, count_of, files_of, is_used, long_number, optional, pattern_of, peer_of, said, short_number, texts_of};
+ghost use Rattle.ldm_words.specs.Values.{class_in, class_of, count_of, files_of, is_used, long_number};
+ghost use Rattle.ldm_words.specs.Values.{optional, pattern_of, peer_of, said, short_number, texts_of};
 ghost use Rattle.ldm_words.specs.Views.{rows_in};
 
 use crate::fault::WordsFault;
@@ -125,7 +126,8 @@ pub(crate) fn feed(matches: &ArgMatches<'_>) -> Option<Feed>
 
 /// The class of the products of all times that the options for feedtypes and pattern ask for.
 pub(crate) fn class(alloc: Global, matches: &ArgMatches<'_>) -> Result<Class, WordsFault>
-    ensures { let meaning = class_of (rows_in matches.now) in MatchResult result (λ class. meaning ≡ Some class) (IsFaultOf meaning) }
+    ensures { let meaning = class_of (rows_in matches.now) in MatchResult result (λ class. meaning ≡ Some class)
+        (IsFaultOf meaning) }
 {
     let Some(feed) = value(matches, "feed") else {
         return Err(WordsFault::Usage);
@@ -138,7 +140,8 @@ pub(crate) fn class(alloc: Global, matches: &ArgMatches<'_>) -> Result<Class, Wo
 
 /// The class of the products of all times that have one of the feedtypes and in whose ident the pattern is found.
 pub(crate) fn read_class(alloc: Global, feed: &[u8], pattern: &[u8]) -> Result<Class, WordsFault>
-    ensures { let meaning = class_in feed.now pattern.now in MatchResult result (λ class. meaning ≡ Some class) (IsFaultOf meaning) }
+    ensures { let meaning = class_in feed.now pattern.now in MatchResult result (λ class. meaning ≡ Some class)
+        (IsFaultOf meaning) }
 {
     let Ok(feed) = read_feed(feed) else {
         return Err(WordsFault::Usage);
@@ -193,7 +196,8 @@ pub(crate) fn is_used(matches: &ArgMatches<'_>, name: &str) -> bool
 /// The files, fewer than 2^32.
 pub(crate) fn files<'a>(alloc: Global, matches: &ArgMatches<'a>) -> Result<Vec<&'a str>, WordsFault>
     ensures { let meaning = files_of (rows_in matches.now) in
-        MatchResult result (λ files. (meaning ≡ Some (texts_of files.items)) × (length files.items < 2 ^ 32)) (IsFaultOf meaning) }
+        MatchResult result (λ files. (meaning ≡ Some (texts_of files.items)) × (length files.items < 2 ^ 32))
+        (IsFaultOf meaning) }
 {
     let Some(files) = values(matches, "files") else {
         return Err(WordsFault::Usage);

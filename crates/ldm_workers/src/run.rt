@@ -31,11 +31,12 @@ pub struct Left<T> {
     pub done: Result<(), OutOfMemory>,
 }
 
-/// Gives each pass of a queue to a worker of its own, with one of `own`, and has each do the work, in a thread of its own. Then
-/// it ends the queue.
+/// Gives each pass of a queue to a worker of its own, with one of `own`, and has each do the work, in a thread of its
+/// own. Then it ends the queue.
 ///
-/// The passes are all that the queue was made with, and no call was made with them; there are as many of `own`. All memory for
-/// this is taken before the first worker begins. Where no thread can be made the workers work one after another.
+/// The passes are all that the queue was made with, and no call was made with them; there are as many of `own`. All
+/// memory for this is taken before the first worker begins. Where no thread can be made the workers work one after
+/// another.
 pub fn run_workers<H: Threads + Wait + Sync, T: Send, W: Work<T> + Sync>(
     rt: &H,
     alloc: Global,
@@ -99,7 +100,8 @@ fn run_all<H: Threads + Wait + Sync, T: Send, W: Work<T> + Sync>(
     work: &W,
 )
     requires { All (Begins (W.begins work.now) shared.now) workers.old }
-    ensures { (i : ℕ) (d : _) → i < length workers.old → Works (W.works work.now) (slice_index_or workers.old i d) (slice_index_or workers.new i d) }
+    ensures { (i : ℕ) (d : _) → i < length workers.old
+        → Works (W.works work.now) (slice_index_or workers.old i d) (slice_index_or workers.new i d) }
 {
     let threads = workers.len().max(1);
     thread::for_each_mut(

@@ -1,8 +1,10 @@
 //! The fields of a record, one behind another.
-ghost use Rattle.std.specs.Prelude.{◌≡◌, ◌≤◌, ◌<◌, ◌^◌, ℕ, List, MatchResult, IfOk, Ok, Err, length, take, nat_lt, position};
+ghost use Rattle.std.specs.Prelude.{◌≡◌, ◌≤◌, ◌<◌, ◌^◌, ℕ, List, MatchResult, IfOk};
+ghost use Rattle.std.specs.Prelude.{Ok, Err, length, take, nat_lt, position};
 ghost use Rattle.std.specs.Int.{w32, w64};
 ghost use Rattle.ldm_types.specs.Info.{pad4};
-ghost use Rattle.ldm_xdr.specs.Fields.{number_in, up_to_in, exactly_in, padded_in, fixed_in, opaque_in, passed_in, no_more};
+ghost use Rattle.ldm_xdr.specs.Fields.{number_in, up_to_in, exactly_in, padded_in};
+ghost use Rattle.ldm_xdr.specs.Fields.{fixed_in, opaque_in, passed_in, no_more};
 ghost use Rattle.ldm_xdr.specs.FieldReads.{Gives};
 ghost use Rattle.ldm_xdr.specs.Reading.{place_of, info_in};
 ghost use Rattle.ldm_xdr.specs.Spelling.{Fits as InfoFits};
@@ -161,7 +163,8 @@ impl<'a> Fields<'a> {
     /// Goes past an opaque of at most `most` bytes, whatever they are.
     #[tactic(auto, unfolding(crate::specs::Fields::passed_in))]
     pub fn pass(&mut self, most: u32) -> Result<(), usize>
-        ensures { MatchResult result (λ _. passed_in most self.old ≡ Ok self.new) (λ bad. passed_in most self.old ≡ Err bad) }
+        ensures { MatchResult result (λ _. passed_in most self.old ≡ Ok self.new)
+            (λ bad. passed_in most self.old ≡ Err bad) }
     {
         let left = self.left();
         let count = self.up_to(most)? as usize;

@@ -8,8 +8,10 @@ ghost use Rattle.ldm_xdr.specs.declared.fault.XdrFault.{XdrFault};
 
 /// The same bytes begin with at most one spelling, and no spelling is a proper prefix of another.
 pub fn no_spelling_begins_another()
-    ensures one { (a b : Metadata) (x y : List ℕ) → Fits a → Fits b → spelling a ++ x ≡ spelling b ++ y → (a ≡ b) × (x ≡ y) }
-    ensures no_longer { (a b : Metadata) (rest : List ℕ) → Fits a → Fits b → spelling b ≡ spelling a ++ rest → rest ≡ [] }
+    ensures one { (a b : Metadata) (x y : List ℕ) → Fits a → Fits b → spelling a ++ x ≡ spelling b ++ y → (a ≡ b)
+        × (x ≡ y) }
+    ensures no_longer { (a b : Metadata) (rest : List ℕ) → Fits a → Fits b → spelling b ≡ spelling a ++ rest
+        → rest ≡ [] }
 {}
 
 /// A spelling has the length that [`info_len`](crate::info_len) computes.

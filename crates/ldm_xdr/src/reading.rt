@@ -16,10 +16,12 @@ use ldm_types::{Feed, Info, LONGEST_IDENT, LONGEST_ORIGIN, Micros, Signature};
 pub fn read_info(bytes: &[u8]) -> Result<(Info, usize), XdrFault>
     // What is read is spelled so, each byte of it, and is within the bounds.
     ensures found { IfOk result (λ x. bytes.now ≡ spelling x.0 ++ drop x.1 bytes.now) }
-    ensures len { IfOk result (λ x. (x.1 ≡ metadata_len x.0) × (x.1 ≡ length (spelling x.0)) × (x.1 ≤ length bytes.now)) }
+    ensures len { IfOk result
+        (λ x. (x.1 ≡ metadata_len x.0) × (x.1 ≡ length (spelling x.0)) × (x.1 ≤ length bytes.now)) }
     ensures fits { IfOk result (λ x. Fits x.0 × AreBytes (x.0.signature ++ x.0.origin ++ x.0.ident)) }
     // What is spelled so is read, whatever follows it.
-    ensures only { (info : Metadata) (rest : List ℕ) → Fits info → bytes.now ≡ spelling info ++ rest → result ≡ Ok (info, metadata_len info) }
+    ensures only { (info : Metadata) (rest : List ℕ) → Fits info → bytes.now ≡ spelling info ++ rest
+        → result ≡ Ok (info, metadata_len info) }
     // Which fault it is.
     ensures exact { result ≡ metadata_at_front bytes.now }
 {

@@ -19,8 +19,8 @@ const ROW: &[u8] = b"0 insert 100 01010101010101010101010101010101 2 1 h p 4*41
 1 look 02020202020202020202020202020202
 ";
 
-// A script of eight actors. Three have regions reserved, each a third of the queue, fill them in parts and commit. The others
-// read, and hold what they are given.
+// A script of eight actors. Three have regions reserved, each a third of the queue, fill them in parts and commit. The
+// others read, and hold what they are given.
 const RESERVERS_AND_READERS: &[u8] = b"0 reserve 1 01010101010101010101010101010101 2 1 h p 4
 1 reserve 1 02020202020202020202020202020202 2 1 h p 4
 2 reserve 1 03030303030303030303030303030303 2 1 h p 4
@@ -89,7 +89,8 @@ impl Gate for MeetingGate<'_> {
     }
 }
 
-// Whether so many products were admitted and are queued, none is held, and so many bytes of 168 are used, with one gap behind them.
+// Whether so many products were admitted and are queued, none is held, and so many bytes of 168 are used, with one gap
+// behind them.
 fn is_full(stat: &Stat, count: u64, used: u64) -> bool {
     stat.admitted == count
         && stat.queued == count

@@ -145,7 +145,8 @@ fn is_counted(stat: &Stat, all: &[Told]) -> bool {
 // A product that was admitted: its byte and its time.
 type Place = Option<(u8, Micros)>;
 
-// The byte and the time of each admitted product, in the order of their numbers, where these are the first ones, each once.
+// The byte and the time of each admitted product, in the order of their numbers, where these are the first ones, each
+// once.
 fn admitted(alloc: Global, count: u64, all: &[Told]) -> Option<Vec<Place>> {
     let mut admitted = vec![in alloc; None; count as usize].ok()?;
     for told in all {

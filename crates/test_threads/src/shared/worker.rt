@@ -19,8 +19,8 @@ const PRODUCTS: u8 = 96;
 // So many threads may have a reservation, one each.
 const RESERVERS: u64 = 8;
 
-// The cursor of a thread. It was given so many products, and told of so many losses; the next product has that number or a
-// higher one.
+// The cursor of a thread. It was given so many products, and told of so many losses; the next product has that number
+// or a higher one.
 #[derive(Clone, Copy)]
 struct Reader {
     feed: Feed,
