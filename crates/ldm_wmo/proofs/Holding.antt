@@ -27,9 +27,9 @@ abbrev In : ℕ → List ℕ → List ℕ → Type 0
 In at run bytes = Holds at ((1 ∷ run) ++ bytes) (items_in (hand at run) bytes) (cut_of (in_hand (hand at run) bytes))
 
 -- one byte
-record Steps (s : Scanning) (byte : ℕ) (bytes : List ℕ) (first : List Found) (u : Scanning) : Type 0 where
-  items : items_in s (byte ∷ bytes) ≡ first ++ items_in u bytes
-  cut : cut_of (in_hand s (byte ∷ bytes)) ≡ cut_of (in_hand u bytes)
+pub record Steps (s : Scanning) (byte : ℕ) (bytes : List ℕ) (first : List Found) (u : Scanning) : Type 0 where
+  pub items : items_in s (byte ∷ bytes) ≡ first ++ items_in u bytes
+  pub cut : cut_of (in_hand s (byte ∷ bytes)) ≡ cut_of (in_hand u bytes)
 
 steps : (s : Scanning) (byte : ℕ) (bytes : List ℕ) (first : List Found) (u : Scanning) → given (after_byte s byte) ≡ first → passed s byte ≡ u → Steps s byte bytes first u
 unfolding items_in in_hand
@@ -44,7 +44,7 @@ holds_as at a b i j c d stream items cut holds =
 
 -- ---- outside candidates
 
-out_steps : (p byte : ℕ) (bytes : List ℕ) (t : Scanning) → after_byte (outside p) byte ≡ t → Steps (outside p) byte bytes [] t
+pub out_steps : (p byte : ℕ) (bytes : List ℕ) (t : Scanning) → after_byte (outside p) byte ≡ t → Steps (outside p) byte bytes [] t
 out_steps p byte bytes t is =
     steps (outside p) byte bytes [] t (given_none (after_byte (outside p) byte) (outside_open p byte)) (outside_passed p byte ∙ is)
 

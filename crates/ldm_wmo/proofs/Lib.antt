@@ -10,3 +10,5 @@ mod Spelled
 mod Candidates
 mod Written
 mod Holding
+mod Decoded
+mod Once

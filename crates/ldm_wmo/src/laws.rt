@@ -1,9 +1,9 @@
 //! What holds of all streams. These functions do nothing: their contracts are the laws.
-ghost use Rattle.std.specs.Prelude.{◌≡◌, ◌<◌, ◌+◌, ◌^◌, ℕ, List, ◌∷◌, ◌++◌, None, Some, false, drop, length};
+ghost use Rattle.std.specs.Prelude.{◌≡◌, ◌<◌, ◌+◌, ◌^◌, ℕ, List, ◌∷◌, ◌++◌, None, Option, Some, false, drop, length};
 ghost use Rattle.ldm_wmo.specs.Bulletins.{bulletin_of};
 ghost use Rattle.ldm_wmo.specs.Spelling.{Holds, IsBulletin};
 ghost use Rattle.ldm_wmo.specs.Scanning.{Scanning, after, bytes_taken, is_complete, next_of, outside, place};
-ghost use Rattle.ldm_wmo.specs.Items.{Bulletin};
+ghost use Rattle.ldm_wmo.specs.Items.{Bulletin, Found};
 ghost use Rattle.ldm_wmo.specs.Writing.{fault_of, written};
 ghost use Rattle.ldm_wmo.specs.Streams.{cut_at_end, given, in_hand, items_in, items_of};
 
@@ -24,10 +24,12 @@ pub fn pushes_scan_the_stream()
         in_hand s piece ≡ in_hand (next_of (after s piece)) (drop (bytes_taken s piece) piece) }
 {}
 
-/// The bytes that are a bulletin, by its parts, are read as one.
+/// The bytes that are a bulletin, by its parts, are read as one, and no others are.
 pub fn bulletins_are_read()
     ensures read { (bytes : List ℕ) (seqno : ℕ) (heading : List ℕ) → IsBulletin bytes seqno heading
         → bulletin_of bytes ≡ Some (record { seqno = seqno; heading = heading }) }
+    ensures spelled { (bytes : List ℕ) (seqno : ℕ) (heading : List ℕ) → bulletin_of bytes ≡ Some (record { seqno = seqno; heading = heading })
+        → IsBulletin bytes seqno heading }
 {}
 
 /// A written bulletin is found as itself, and the stream goes on behind it.
@@ -38,8 +40,10 @@ pub fn written_bulletins_are_found()
         (outside (place (at + length (written seqno heading text)))) rest }
 {}
 
-/// What is found in a stream is what it holds: bytes outside candidates, candidates that end, and perhaps one that is
-/// cut.
+/// What is found in a stream is what it holds, and it holds nothing else: bytes outside candidates, candidates that end, and
+/// perhaps one that is cut.
 pub fn streams_are_read()
     ensures holds { (stream : List ℕ) → Holds 0 stream (items_of stream) (cut_at_end stream) }
+    ensures once { (stream : List ℕ) (items : List Found) (cut : Option ℕ) → Holds 0 stream items cut
+        → (items ≡ items_of stream) × (cut ≡ cut_at_end stream) }
 {}
