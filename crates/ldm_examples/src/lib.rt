@@ -34,6 +34,7 @@ pub mod script;
 pub mod shared;
 pub mod sigindex;
 pub mod signature;
+pub mod stats;
 pub mod status;
 pub mod text;
 pub mod timeindex;

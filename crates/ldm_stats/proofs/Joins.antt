@@ -1,5 +1,5 @@
 -- Totals that are joined.
-use Rattle.std.proofs.Common.{◌≡◌, ℕ, ◌+◌, ◌≤◌, Bool, true, false, cond, refl, sym, ap, ◌∙◌, List, [], ◌∷◌, arith, sum_by, Some, None}
+use Rattle.std.proofs.Common.{◌≡◌, ℕ, ◌+◌, ◌≤◌, Bool, true, false, cond, refl, sym, ap, ◌∙◌, [], ◌∷◌, arith, Some, None}
 use Rattle.std.specs.Prelude.{Option, unwrap_or}
 use Rattle.std.specs.Option.{option_map}
 use Rattle.std.specs.Ordering.{eq_by_cmp}
@@ -13,7 +13,7 @@ use Rattle.std.proofs.lemmas.Map.Keys.{IsDistinct-from_sorted, sorted_tail}
 use Rattle.ldm_stats.specs.Place.{Place, place_cmp}
 use Rattle.ldm_stats.specs.Totals.{Total}
 use Rattle.ldm_stats.specs.PlaceOrder.{places_total}
-use Rattle.ldm_stats.specs.Joining.{Entries, count_of, joined, plus, total_at, IsAscending}
+use Rattle.ldm_stats.specs.Joining.{Entries, count_of, joined, total_at, IsAscending}
 use Rattle.ldm_stats.proofs.Places.{same_place, either_way}
 
 -- how many products a total counts that may be none

@@ -1,25 +1,18 @@
 -- What totals have at a place: the totals of the products there, if there are any and their hour is kept.
-use Rattle.std.proofs.Common.{◌≡◌, ℕ, ◌+◌, ◌-◌, ◌<◌, ◌≤◌, Bool, true, false, cond, refl, sym, ap, ◌∙◌, List, [], ◌∷◌, ◌++◌, map, filter, length, arith, Some, None, nat_lt, subst, max, sum_by}
+use Rattle.std.proofs.Common.{◌≡◌, ℕ, ◌+◌, Bool, true, false, cond, refl, sym, ap, ◌∙◌, List, [], ◌∷◌, ◌++◌, map, filter, length, arith, Some, None, nat_lt, max}
 use Rattle.std.specs.Prelude.{Option, ◌||◌, ◌&&◌}
 use Rattle.std.specs.List.{list_any}
 use Rattle.std.specs.Ordering.{eq_by_cmp}
-use Rattle.std.specs.Map.{keys_of, lookup}
-use Rattle.std.specs.BTreeMap.{is_at}
-use Rattle.std.specs.FinMap.{FinMap, put, find, get, entries, from_entries, entries-insert, get-entries, get-from_entries, same_map, len-entries, len-empty}
-use Rattle.std.specs.declared.cmp.Ordering.{Ordering}
+use Rattle.std.specs.Map.{keys_of}
+use Rattle.std.specs.FinMap.{FinMap, put, find, entries, from_entries, entries-insert, get-entries, get-from_entries, same_map, len-entries, len-empty}
 use Rattle.std.specs.declared.cmp.Ordering.TheVariants.{Less}
-use Rattle.std.specs.List.{AllByRecursion}
 use Rattle.std.proofs.lemmas.Map.Keys.{sorted_head, sorted_tail}
-use Rattle.std.proofs.lemmas.Bool.{cases_lt}
-use Rattle.std.proofs.lemmas.Bool.Decides.{nat_tests}
-use Rattle.std.proofs.lemmas.List.Elements.{filter-append}
 use Rattle.std.proofs.lemmas.List.Sums.{sum_by-append}
-use Rattle.std.proofs.lemmas.Map.Entries.{lookup-filter-keys}
 use Rattle.ldm_stats.specs.Place.{Place, place_cmp}
 use Rattle.ldm_stats.specs.PlaceOrder.{places_total}
 use Rattle.ldm_stats.specs.Totals.{Product, Total, place_of, latency_of, greatest, greatest_hour, kept, total_of, at_place, totals_at, totals}
-use Rattle.ldm_stats.specs.Joining.{Entries, joined, plus, total_at, within, IsAscending}
-use Rattle.ldm_stats.proofs.Places.{same_place, itself, places_exact}
+use Rattle.ldm_stats.specs.Joining.{Entries, joined, plus, total_at, IsAscending}
+use Rattle.ldm_stats.proofs.Places.{same_place, places_exact}
 
 -- the total of products, if there are any
 abbrev pub some_total : List Product → Option Total
@@ -197,5 +190,5 @@ same_totals window products es h is =
     let listed = pairs within_hours (map place_of within_hours) in
     ascending_mapped es h
     ∙ ap (λ m. entries m) (same_map places_total places_exact (mapped es) (mapped listed) (λ place.
-      get-from_entries places_total es place ∙ find_is place es ∙ is place ∙ sym (found place window products) ∙ sym (get-from_entries places_total listed place)))
+    get-from_entries places_total es place ∙ find_is place es ∙ is place ∙ sym (found place window products) ∙ sym (get-from_entries places_total listed place)))
     ∙ sym (totals_mapped within_hours (map place_of within_hours))

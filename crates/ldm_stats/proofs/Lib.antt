@@ -3,3 +3,5 @@ pub mod Joins
 pub mod Outside
 pub mod Laws
 pub mod Stands
+pub mod Digits
+pub mod Lines

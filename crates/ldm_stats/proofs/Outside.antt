@@ -1,6 +1,6 @@
 -- Entries in ascending order that begin within the latest hours lie within them all.
-use Rattle.std.proofs.Common.{◌≡◌, ℕ, ◌+◌, ◌<◌, ◌≤◌, Bool, true, false, cond, refl, sym, ap, ◌∙◌, List, [], ◌∷◌, arith, Some, None, nat_lt, subst, All}
-use Rattle.std.specs.Prelude.{Option, slice_get, nat_le, MatchBool, unwrap_or}
+use Rattle.std.proofs.Common.{◌≡◌, ℕ, ◌+◌, ◌<◌, ◌≤◌, Bool, true, false, refl, sym, ap, [], ◌∷◌, arith, Some, nat_lt, subst, All}
+use Rattle.std.specs.Prelude.{slice_get, nat_le, MatchBool, unwrap_or}
 use Rattle.std.specs.declared.cmp.Ordering.{Ordering}
 use Rattle.std.specs.declared.cmp.Ordering.TheVariants.{Less, Equal, Greater}
 use Rattle.std.specs.Ordering.{nat_cmp, ordering_then, is_gt}

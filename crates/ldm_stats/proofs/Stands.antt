@@ -1,13 +1,12 @@
 -- What a table stands for once products were added.
-use Rattle.std.proofs.Common.{◌≡◌, ℕ, ◌+◌, ◌<◌, ◌≤◌, Bool, true, false, cond, refl, sym, ap, ◌∙◌, List, [], ◌∷◌, ◌++◌, filter, map, arith, Some, None, nat_lt, subst, max}
-use Rattle.std.specs.Prelude.{Option}
+use Rattle.std.proofs.Common.{◌≡◌, ℕ, ◌+◌, ◌≤◌, Bool, true, false, cond, refl, sym, ap, ◌∙◌, List, [], ◌∷◌, ◌++◌, filter, map, arith, Some, None, nat_lt, subst, max}
 use Rattle.std.specs.Ordering.{eq_by_cmp}
 use Rattle.std.specs.BTreeMap.{is_at}
 use Rattle.std.proofs.lemmas.Bool.Decides.{nat_tests}
 use Rattle.std.proofs.lemmas.List.Elements.{filter-append}
 use Rattle.std.proofs.lemmas.Map.Entries.{lookup-filter-keys}
 use Rattle.ldm_stats.specs.Place.{Place, place_cmp}
-use Rattle.ldm_stats.specs.Totals.{Product, Total, place_of, greatest_hour, kept, total_of, at_place, totals_at, totals}
+use Rattle.ldm_stats.specs.Totals.{Product, place_of, greatest_hour, kept, total_of, at_place, totals_at, totals}
 use Rattle.ldm_stats.specs.Joining.{Entries, joined, total_at, within, IsAscending, IsJoined}
 use Rattle.ldm_stats.specs.Table.{Table, StandsFor}
 use Rattle.ldm_stats.proofs.Places.{same_place}
@@ -52,10 +51,10 @@ pub stands : (window hour : ℕ) (one two both : Entries) (products others : Lis
     within window hour both ≡ totals window (products ++ others)
 stands window hour one two both products others k l h e ascends =
     same_totals window (products ++ others) (within window hour both) ascends (λ place.
-      let greatest : hour ≡ greatest_hour (products ++ others) = e ∙ sym (greatest_hour-append products others) in
-      lookup-filter-keys (is_at (place_cmp place)) (λ (p : Place). nat_lt hour (p.hour + window)) (nat_lt hour (place.hour + window)) (hours_alike window hour place) both
-      ∙ both_by (nat_lt hour (place.hour + window)) place one two both products others (h place) (k place) (l place)
-      ∙ ap (λ n. cond (nat_lt n (place.hour + window)) (some_total (at_place place (products ++ others))) None) greatest)
+    let greatest : hour ≡ greatest_hour (products ++ others) = e ∙ sym (greatest_hour-append products others) in
+    lookup-filter-keys (is_at (place_cmp place)) (λ (p : Place). nat_lt hour (p.hour + window)) (nat_lt hour (place.hour + window)) (hours_alike window hour place) both
+    ∙ both_by (nat_lt hour (place.hour + window)) place one two both products others (h place) (k place) (l place)
+    ∙ ap (λ n. cond (nat_lt n (place.hour + window)) (some_total (at_place place (products ++ others))) None) greatest)
 
 comes_after : (after : Table) (one two both : Entries) (products others : List Product) →
     Has after.window after.hour products one → Has after.window after.hour others two → IsJoined one two both →

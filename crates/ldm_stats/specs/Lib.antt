@@ -3,6 +3,8 @@ pub mod PlaceOrder
 pub mod Totals
 pub mod Joining
 pub mod Table
+pub mod Report
+pub mod Examples
 pub mod PlaceView
 pub mod TotalView
 pub mod KeptView

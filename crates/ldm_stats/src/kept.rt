@@ -1,11 +1,14 @@
 //! Totals by their places.
-ghost use Rattle.std.specs.Prelude.{◌≡◌, ◌+◌, ◌^◌, ◌<◌, ◌≤◌, [], ◌∷◌, length, IfOk, OnOk, OnErr, Some, MatchBool};
+ghost use Rattle.std.specs.Prelude.{◌≡◌, ◌+◌, ◌^◌, ◌<◌, ◌≤◌, ◌==◌, ◌++◌, [], ◌∷◌, length, true, IfOk, IfSome, OnOk, OnErr, Some, MatchBool, MatchOption};
 ghost use Rattle.ldm_stats.specs.Place.{Place as PlaceSeen};
 ghost use Rattle.ldm_stats.specs.Totals.{Total as TotalSeen};
+ghost use Rattle.ldm_stats.specs.Report.{asked_of, first_from, lines_of, AppendsFront};
 ghost use Rattle.ldm_stats.specs.Joining.{count_of, joined, total_at, within, BeginsOutside, IsAscending, IsJoined};
 
-use crate::place::Place;
+use crate::line::put_line;
+use crate::place::{LAST_HOUR, Place};
 use crate::total::Total;
+use ldm_script::Text;
 use ldm_types::OutOfMemory;
 use std::alloc::Global;
 use std::collections::BTreeMap;
@@ -97,6 +100,35 @@ impl Kept {
         Ok(())
     }
 
+    /// Appends the lines of those of an hour, or of all.
+    pub fn write(&self, hour: Option<u32>, out: &mut Vec<u8>) -> Result<(), OutOfMemory>
+        ensures whole { OnOk result (out.new.items ≡ out.old.items ++ lines_of (asked_of hour self.now)) }
+        ensures begun { OnErr result (AppendsFront (lines_of (asked_of hour self.now)) out.old.items out.new.items) }
+    {
+        let mut line = Text::new();
+        for (place, total) in &self.map {
+            if is_asked(hour, place) {
+                line.clear();
+                put_line(place, *total, &mut line);
+                append(line.as_slice(), out)?;
+            }
+        }
+        Ok(())
+    }
+
+    /// The least hour of a place from an hour on.
+    pub fn next_hour(&self, from: u32) -> Option<u32>
+        ensures value { result ≡ first_from from self.now }
+        ensures bound { IfSome result (λ hour. hour ≤ LAST_HOUR) }
+    {
+        for (place, _) in &self.map {
+            if place.hour() >= from {
+                return Some(place.hour());
+            }
+        }
+        None
+    }
+
     /// Lets those go that do not lie within so many hours up to an hour.
     pub fn let_go(&mut self, window: u32, hour: u32)
         requires { window ≤ 8760 }
@@ -129,4 +161,21 @@ impl Kept {
             self.count -= u64::from(total.count());
         }
     }
+}
+
+// Whether a place is of an hour, or all are asked for.
+fn is_asked(hour: Option<u32>, place: &Place) -> bool
+    ensures { MatchOption hour (result ≡ true) (λ hour. result ≡ (place.now.hour == hour)) }
+{
+    match hour {
+        Some(hour) => place.hour() == hour,
+        None => true,
+    }
+}
+
+fn append(text: &[u8], out: &mut Vec<u8>) -> Result<(), OutOfMemory>
+    ensures whole { OnOk result (out.new.items ≡ out.old.items ++ text.now) }
+    ensures kept { OnErr result (out.new.items ≡ out.old.items) }
+{
+    Ok(out.extend_from_slice(text)?)
 }

@@ -1,5 +1,5 @@
 //! What products are counted by.
-ghost use Rattle.std.specs.Prelude.{◌≡◌, ◌≤◌, Some, refl};
+ghost use Rattle.std.specs.Prelude.{◌≡◌, ◌≤◌, length, Some, refl};
 ghost use Rattle.std.specs.Ordering.{eq_by_cmp};
 ghost use Rattle.std.specs.Cmp.{partial_equiv_from_equiv, eq_by_cmp_equiv, partial_order_from_total};
 ghost use Rattle.ldm_stats.specs.Place.{place_cmp};
@@ -68,8 +68,10 @@ impl Place {
         self.feed
     }
 
+    /// At most 64 bytes.
     pub fn origin(&self) -> &[u8]
-        ensures { result.now ≡ self.now.origin }
+        ensures value { result.now ≡ self.now.origin }
+        ensures short { length self.now.origin ≤ LONGEST_ORIGIN }
     {
         self.origin.as_slice()
     }
@@ -129,7 +131,11 @@ impl Ord for Place {
     ghost matches_eq = { λ one other. refl };
 
     fn cmp(&self, other: &Place) -> Ordering {
-        let by_text = self.feed.0.cmp(&other.feed.0).then(self.origin().cmp(other.origin()));
+        let by_text = self
+            .feed
+            .0
+            .cmp(&other.feed.0)
+            .then(self.origin().cmp(other.origin()));
         self.hour.cmp(&other.hour).then(by_text)
     }
 }

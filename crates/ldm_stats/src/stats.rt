@@ -1,6 +1,7 @@
 //! A table of hourly totals.
 ghost use Rattle.std.specs.Prelude.{◌≡◌, ◌+◌, ◌^◌, ◌<◌, ◌≤◌, ◌++◌, List, [], ◌∷◌, IfSome, IsSome, OnOk, OnErr, ◌↔◌};
 ghost use Rattle.ldm_stats.specs.Joining.{count_of};
+ghost use Rattle.ldm_stats.specs.Report.{first_from, hour_report, in_hour, lines_of, report, AppendsFront};
 ghost use Rattle.ldm_stats.specs.Table.{IsAdvanced, StandsFor};
 ghost use Rattle.ldm_stats.specs.Totals.{Product};
 
@@ -26,6 +27,7 @@ pub struct Stats {
 }
 
 impl Model for Stats {
+    ghost use Rattle.ldm_stats.specs.Report.{first_from, hour_report, in_hour, lines_of, report, AppendsFront};
     ghost use Rattle.ldm_stats.specs.Table.{Table};
 
     ghost Value = { Table };
@@ -113,5 +115,40 @@ impl Stats {
         ensures { result ≡ count_of self.now.entries }
     {
         self.kept.count()
+    }
+
+    /// Appends the report: a line `YYYYMMDDHH FEED ORIGIN COUNT BYTES LATENCY` for each hour, feed and origin, in ascending
+    /// order of hour, feed and origin by bytes.
+    ///
+    /// The hour is in UTC. FEED is as [`ldm_feedtype::feed_text`] writes it, and ORIGIN as [`ldm_script::text_into`] does.
+    /// LATENCY is the longest time from an arrival to the insertion, in microseconds, 0 where all were inserted before.
+    /// For want of memory some first bytes of it were appended.
+    pub fn report(&self, out: &mut Vec<u8>) -> Result<(), OutOfMemory>
+        ensures whole { OnOk result (out.new.items ≡ out.old.items ++ lines_of self.now.entries) }
+        ensures of_products { OnOk result ((products : List Product) → StandsFor self.now products
+            → out.new.items ≡ out.old.items ++ report self.now.window products) }
+        ensures begun { OnErr result (AppendsFront (lines_of self.now.entries) out.old.items out.new.items) }
+    {
+        self.kept.write(None, out)
+    }
+
+    /// Appends the lines of the report that begin with an hour, which is counted from the beginning of 1970.
+    ///
+    /// For want of memory some first bytes of them were appended.
+    pub fn report_hour(&self, hour: u32, out: &mut Vec<u8>) -> Result<(), OutOfMemory>
+        ensures whole { OnOk result (out.new.items ≡ out.old.items ++ lines_of (in_hour hour self.now.entries)) }
+        ensures of_products { OnOk result ((products : List Product) → StandsFor self.now products
+            → out.new.items ≡ out.old.items ++ hour_report hour self.now.window products) }
+        ensures begun { OnErr result (AppendsFront (lines_of (in_hour hour self.now.entries)) out.old.items out.new.items) }
+    {
+        self.kept.write(Some(hour), out)
+    }
+
+    /// The least hour of the report from an hour on, counted from the beginning of 1970. None where there is none.
+    pub fn next_hour(&self, from: u32) -> Option<u32>
+        ensures value { result ≡ first_from from self.now.entries }
+        ensures bound { IfSome result (λ hour. hour ≤ LAST_HOUR) }
+    {
+        self.kept.next_hour(from)
     }
 }

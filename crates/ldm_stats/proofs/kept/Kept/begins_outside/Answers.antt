@@ -1,4 +1,3 @@
-use Rattle.std.proofs.Common.{◌≡◌, sym, ap, ◌∙◌, rules}
 use Rattle.ldm_stats.proofs.Outside.{outside}
 use Rattle.ldm_stats.proofs.kept.Kept.begins_outside.Goals as goal
 

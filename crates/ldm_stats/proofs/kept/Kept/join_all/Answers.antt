@@ -1,4 +1,4 @@
-use Rattle.std.proofs.Common.{◌≡◌, ◌+◌, ℕ, [], ◌∷◌, sym, ap, ◌∙◌, subst, arith}
+use Rattle.std.proofs.Common.{◌≡◌, ◌+◌, [], ◌∷◌, sym, ap, ◌∙◌, subst, arith}
 use Rattle.std.specs.Map.Iter.{deref_pair}
 use Rattle.std.proofs.lemmas.Map.Iter.{rest_more}
 use Rattle.ldm_stats.specs.Place.{Place}
@@ -16,15 +16,14 @@ loop-place-preserved c =
     let before = c.loop-place.invariant in
     let ascends : IsAscending (entry ∷ rest) = subst IsAscending left before.4 in
     let counts : count_of c.loop-place.self + count_of (entry ∷ rest) ≡ count_of c.args.self.now + count_of c.args.others.now =
-    (let P : Entries → Type 0 = λ es. count_of c.loop-place.self + count_of es ≡ count_of c.args.self.now + count_of c.args.others.now in subst P left before.3) in
-    (
+    (let P : Entries → Type 0 = λ es. count_of c.loop-place.self + count_of es ≡ count_of c.args.self.now + count_of c.args.others.now in subst P left before.3) in (
       tt,
       tt,
       (λ place.
-        ap (λ (o : _). joined o (total_at place rest)) (c.in_ok-join.ensures.totals place ∙ ap (λ (p : Place). joined (total_at place c.loop-place.self) (total_at place ((p, entry.1) ∷ []))) same)
-        ∙ joined_further place (total_at place c.loop-place.self) entry rest ascends
-        ∙ ap (λ (es : Entries). joined (total_at place c.loop-place.self) (total_at place es)) (sym left)
-        ∙ before.2 place),
+          ap (λ (o : _). joined o (total_at place rest)) (c.in_ok-join.ensures.totals place ∙ ap (λ (p : Place). joined (total_at place c.loop-place.self) (total_at place ((p, entry.1) ∷ []))) same)
+          ∙ joined_further place (total_at place c.loop-place.self) entry rest ascends
+          ∙ ap (λ (es : Entries). joined (total_at place c.loop-place.self) (total_at place es)) (sym left)
+          ∙ before.2 place),
       omega (arith, counts, c.in_ok-join.ensures.count, count_front entry rest),
       ascending_tail entry rest ascends,
     )

@@ -1,4 +1,4 @@
-use Rattle.std.proofs.Common.{◌≡◌, ◌+◌, ℕ}
+use Rattle.std.proofs.Common.{◌≡◌, ◌+◌}
 use Rattle.ldm_stats.specs.Place.{Place}
 use Rattle.ldm_stats.specs.Joining.{count_of, joined, total_at, IsAscending}
 use Rattle.ldm_stats.proofs.kept.Kept.join_all.Given as goal

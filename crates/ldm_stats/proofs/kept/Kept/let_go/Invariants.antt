@@ -1,4 +1,4 @@
-use Rattle.std.proofs.Common.{◌≡◌, ℕ, length}
+use Rattle.std.proofs.Common.{◌≡◌, length}
 use Rattle.ldm_stats.specs.Joining.{within}
 use Rattle.ldm_stats.proofs.kept.Kept.let_go.Given as goal
 

@@ -20,10 +20,10 @@ returns-clause-added c = λ products one.
     let hour : c.hour_of-hour.result ≡ (place_of product).hour = c.hour_of-hour.ensures.value ∙ ap (λ (n : ℕ). hour_of n) c.arrival.ensures in
     added c.args.self.now c.advance.new.self c.join.new.self products product one
     (λ place.
-      c.in_ok-join.ensures.totals place
-      ∙ ap (λ (p : Place). joined (total_at place c.self.inside.kept) (total_at place ((p, c.of-2.result) ∷ []))) c.of.ensures
-      ∙ ap (λ (t : Total). joined (total_at place c.self.inside.kept) (total_at place ((place_of product, t) ∷ []))) c.of-2.ensures
-      ∙ ap (λ (es : Entries). joined (total_at place es) (total_at place ((place_of product, total_of (product ∷ [])) ∷ []))) mine)
+    c.in_ok-join.ensures.totals place
+    ∙ ap (λ (p : Place). joined (total_at place c.self.inside.kept) (total_at place ((p, c.of-2.result) ∷ []))) c.of.ensures
+    ∙ ap (λ (t : Total). joined (total_at place c.self.inside.kept) (total_at place ((place_of product, t) ∷ []))) c.of-2.ensures
+    ∙ ap (λ (es : Entries). joined (total_at place es) (total_at place ((place_of product, total_of (product ∷ [])) ∷ []))) mine)
     (c.advance.ensures.window ∙ ap (λ (t : Table). t.window) c.self.view_is)
     (c.advance.ensures.hour ∙ ap (λ (t : Table). max t.hour c.hour_of-hour.result) c.self.view_is ∙ ap (λ (n : ℕ). max c.args.self.now.hour n) hour)
     c.advance.ensures.entries

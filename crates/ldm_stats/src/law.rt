@@ -1,0 +1,13 @@
+//! Worked examples that compute.
+ghost use Rattle.std.specs.Prelude.{◌≡◌, ◌++◌, [], ◌∷◌, codes};
+ghost use Rattle.ldm_stats.specs.Examples.{first, second, later, early};
+ghost use Rattle.ldm_stats.specs.Report.{hour_text, report};
+
+/// Worked examples of the report and of hours.
+pub fn worked_examples()
+    ensures one_hour { report 24 (first ∷ second ∷ []) ≡ codes "2024030100 0x00000002 h 2 16 3000000" ++ 10 ∷ [] }
+    ensures next_hour { report 1 (first ∷ second ∷ later ∷ []) ≡ codes "2024030101 0x00000002 h 1 4 0" ++ 10 ∷ [] }
+    ensures first_hour { report 24 (early ∷ []) ≡ codes "1970010100 0x00000001 - 1 7 0" ++ 10 ∷ [] }
+    ensures last_of_year { hour_text 473351 ≡ codes "2023123123" }
+    ensures first_of_year { hour_text 473352 ≡ codes "2024010100" }
+{}
