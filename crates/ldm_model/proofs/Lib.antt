@@ -37,3 +37,4 @@ mod Times
 mod Signatures
 mod Regions
 mod RoomKept
+pub mod Witnesses

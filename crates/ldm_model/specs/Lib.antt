@@ -25,3 +25,4 @@ pub mod Law
 pub mod Always
 pub mod Filling
 pub mod Examples
+pub mod Premises

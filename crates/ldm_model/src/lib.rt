@@ -13,6 +13,7 @@ mod examples;
 mod laws;
 mod numbers;
 mod possible;
+mod premises;
 mod replies;
 mod reserving;
 
@@ -30,6 +31,7 @@ pub use possible::{
     info_is_possible, insert_is_possible, place_is_possible, reservation_is_possible,
     signature_is_possible, start_is_possible,
 };
+pub use premises::premises_are_met;
 pub use replies::{
     CloseReply, CommitReply, DiscardReply, ExpireReply, FillReply, InsertReply, LookReply,
     OpenReply, ReadReply, ReleaseReply, ReserveReply, Stat, StepReply, TallyReply,
