@@ -1,5 +1,6 @@
 //! Totals by their places.
-ghost use Rattle.std.specs.Prelude.{◌≡◌, ◌+◌, ◌^◌, ◌<◌, ◌≤◌, ◌==◌, ◌++◌, [], ◌∷◌, length, true, IfOk, IfSome, OnOk, OnErr, Some, MatchBool, MatchOption};
+ghost use Rattle.std.specs.Prelude.{◌≡◌, ◌+◌, ◌^◌, ◌<◌, ◌≤◌, ◌==◌, ◌++◌, [], ◌∷◌, length, true};
+ghost use Rattle.std.specs.Prelude.{IfOk, IfSome, OnOk, OnErr, Some, MatchBool, MatchOption};
 ghost use Rattle.ldm_stats.specs.Place.{Place as PlaceSeen};
 ghost use Rattle.ldm_stats.specs.Totals.{Total as TotalSeen};
 ghost use Rattle.ldm_stats.specs.Report.{asked_of, first_from, lines_of, AppendsFront};

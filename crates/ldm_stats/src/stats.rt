@@ -117,12 +117,12 @@ impl Stats {
         self.kept.count()
     }
 
-    /// Appends the report: a line `YYYYMMDDHH FEED ORIGIN COUNT BYTES LATENCY` for each hour, feed and origin, in ascending
-    /// order of hour, feed and origin by bytes.
+    /// Appends the report: a line `YYYYMMDDHH FEED ORIGIN COUNT BYTES LATENCY` for each hour, feed and origin, in
+    /// ascending order of hour, feed and origin by bytes.
     ///
-    /// The hour is in UTC. FEED is as [`ldm_feedtype::feed_text`] writes it, and ORIGIN as [`ldm_script::text_into`] does.
-    /// LATENCY is the longest time from an arrival to the insertion, in microseconds, 0 where all were inserted before.
-    /// For want of memory some first bytes of it were appended.
+    /// The hour is in UTC. FEED is as [`ldm_feedtype::feed_text`] writes it, and ORIGIN as [`ldm_script::text_into`]
+    /// does. LATENCY is the longest time from an arrival to the insertion, in microseconds, 0 where all were inserted
+    /// before. For want of memory some first bytes of it were appended.
     pub fn report(&self, out: &mut Vec<u8>) -> Result<(), OutOfMemory>
         ensures whole { OnOk result (out.new.items ≡ out.old.items ++ lines_of self.now.entries) }
         ensures of_products { OnOk result ((products : List Product) → StandsFor self.now products
@@ -139,7 +139,8 @@ impl Stats {
         ensures whole { OnOk result (out.new.items ≡ out.old.items ++ lines_of (in_hour hour self.now.entries)) }
         ensures of_products { OnOk result ((products : List Product) → StandsFor self.now products
             → out.new.items ≡ out.old.items ++ hour_report hour self.now.window products) }
-        ensures begun { OnErr result (AppendsFront (lines_of (in_hour hour self.now.entries)) out.old.items out.new.items) }
+        ensures begun { OnErr result
+            (AppendsFront (lines_of (in_hour hour self.now.entries)) out.old.items out.new.items) }
     {
         self.kept.write(Some(hour), out)
     }

@@ -28,7 +28,8 @@ pub fn pushes_scan_the_stream()
 pub fn bulletins_are_read()
     ensures read { (bytes : List ℕ) (seqno : ℕ) (heading : List ℕ) → IsBulletin bytes seqno heading
         → bulletin_of bytes ≡ Some (record { seqno = seqno; heading = heading }) }
-    ensures spelled { (bytes : List ℕ) (seqno : ℕ) (heading : List ℕ) → bulletin_of bytes ≡ Some (record { seqno = seqno; heading = heading })
+    ensures spelled { (bytes : List ℕ) (seqno : ℕ) (heading : List ℕ)
+        → bulletin_of bytes ≡ Some (record { seqno = seqno; heading = heading })
         → IsBulletin bytes seqno heading }
 {}
 
@@ -40,8 +41,8 @@ pub fn written_bulletins_are_found()
         (outside (place (at + length (written seqno heading text)))) rest }
 {}
 
-/// What is found in a stream is what it holds, and it holds nothing else: bytes outside candidates, candidates that end, and
-/// perhaps one that is cut.
+/// What is found in a stream is what it holds, and it holds nothing else: bytes outside candidates, candidates that
+/// end, and perhaps one that is cut.
 pub fn streams_are_read()
     ensures holds { (stream : List ℕ) → Holds 0 stream (items_of stream) (cut_at_end stream) }
     ensures once { (stream : List ℕ) (items : List Found) (cut : Option ℕ) → Holds 0 stream items cut
