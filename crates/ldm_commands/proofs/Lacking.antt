@@ -7,7 +7,7 @@ use Rattle.ldm_commands.specs.Command.{Form}
 use Rattle.ldm_commands.specs.Command as form
 use Rattle.ldm_commands.specs.Complete.{RunCompletes}
 use Rattle.ldm_commands.specs.Law.{RunObeysLaw}
-use Rattle.ldm_commands.specs.Run.{IsIdle, RunEnds, LacksMemory}
+use Rattle.ldm_commands.specs.Run.{RunEnds, LacksMemory}
 use Rattle.ldm_commands.specs.World.{Tells, WorldView}
 
 module _ {K F L T : Type 0} (tells : Tells K F L T) (old new : WorldView K F L T) where
@@ -15,18 +15,9 @@ module _ {K F L T : Type 0} (tells : Tells K F L T) (old new : WorldView K F L T
   lacking_ends None takes_memory code lacks = inr lacks
   lacking_ends (Some form) takes_memory code lacks = inr lacks
 
-  pub lacking_law : (form : Option Form) → IsIdle tells old new → RunObeysLaw tells form old new
-  lacking_law None idle = idle.0.sink
-  lacking_law (Some (form.Play arena slots)) idle = inl idle.0
-  lacking_law (Some (form.Crowd arena slots workers)) idle = inl idle.0.sink
-  lacking_law (Some (form.Exercise number count)) idle = inl idle.0
-  lacking_law (Some (form.Chain chain)) idle = inl idle.0.sink
-  lacking_law (Some (form.Node node)) idle = inl idle.0.sink
-  lacking_law (Some (form.Pqact act)) idle = tt {0}
-  lacking_law (Some (form.Pqinsert insert)) idle = tt {0}
-  lacking_law (Some (form.Pqcat receiving)) idle = tt {0}
-  lacking_law (Some (form.Notifyme receiving)) idle = tt {0}
-  lacking_law (Some (form.Pqmon peer)) idle = tt {0}
+  pub lacking_law : (form : Option Form) (takes_memory : Bool) (code : ℕ) → LacksMemory tells takes_memory code old new → RunObeysLaw tells form takes_memory code old new
+  lacking_law None takes_memory code lacks = lacks.1.0.sink
+  lacking_law (Some form) takes_memory code lacks = inr lacks
 
   is_71 : (code : ℕ) → Reports status.NoMemory code old.log new.log → ¬ (Rose old.log.faults new.log.faults) → code ≡ 71
   is_71 code (inl reported) works = reported.0
@@ -35,7 +26,7 @@ module _ {K F L T : Type 0} (tells : Tells K F L T) (old new : WorldView K F L T
   pub lacking_completes : (form : Option Form) (code : ℕ) → Reports status.NoMemory code old.log new.log → RunCompletes tells form code old new
   lacking_completes None code reports = tt {0}
   lacking_completes (Some (form.Play arena slots)) code reports = λ free. inr (is_71 code reports free.log_works)
-  lacking_completes (Some (form.Crowd arena slots workers)) code reports = λ free. inr (inl (is_71 code reports free.log_works))
+  lacking_completes (Some (form.Crowd arena slots workers)) code reports = λ free. inr (is_71 code reports free.log_works)
   lacking_completes (Some (form.Exercise number count)) code reports = λ sink log. inr (is_71 code reports log)
   lacking_completes (Some (form.Chain chain)) code reports = λ free. inr (inl (is_71 code reports free.log_works))
   lacking_completes (Some (form.Node node)) code reports = λ free. inr (inl (is_71 code reports free.log_works))

@@ -4,13 +4,13 @@ use Rattle.ldm_words.specs.declared.fault.WordsFault.{WordsFault}
 use Rattle.ldm_words.specs.declared.fault.WordsFault.TheVariants as fault
 use Rattle.ldm_commands.specs.Command.{Form}
 use Rattle.ldm_commands.specs.Complete.{RunCompletes}
-use Rattle.ldm_commands.specs.Law.{RunObeysLaw}
+use Rattle.ldm_commands.specs.Law.{DoesLawful}
 use Rattle.ldm_commands.specs.Run.{Does}
 use Rattle.ldm_commands.specs.World.{KeepsAllFaults, Tells, WorldView}
 
 pub record Done {K F L T : Type 0} (tells : Tells K F L T) (form : Form) (code : ℕ) (old new : WorldView K F L T) : Type 0 where
   pub does : Does tells form code old new
-  pub law : RunObeysLaw tells (Some form) old new
+  pub law : DoesLawful tells form code old new
   pub completes : RunCompletes tells (Some form) code old new
   pub faults_kept : KeepsAllFaults tells old new
 

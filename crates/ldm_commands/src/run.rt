@@ -29,7 +29,8 @@ use std::thread::Threads;
 ///
 /// The clause `ends` gives each status its cause, and what was read, written, sent, started and kept then: see
 /// `RunEnds`. The clause `law` says that what a command writes of its own queue are answers of a history that obeys the
-/// law of the queue: see `RunObeysLaw`. The clause `completes` says when all is read and answered: see `RunCompletes`.
+/// law of the queue, or for what cause a crowd writes nothing: see `RunObeysLaw`. The clause `completes` says when all
+/// is read and answered: see `RunCompletes`.
 pub fn run_ldm<
     H: Threads + Wait + Sync,
     S: Source,
@@ -53,7 +54,7 @@ where
     ensures law { let tells = tells_of K.tells F.tells L.tells
         (station_tells N.StationDoor.tells N.StationDial.tells N.StationLog.tells N.StationClock.tells
         N.StationGate.tells) in
-        RunObeysLaw tells (command_of (map string_bytes words.now))
+        RunObeysLaw tells (command_of (map string_bytes words.now)) (take_memory (map string_bytes words.now)) result
         (world_view S.tells E.tells C.tells N.tells N.kept world.old)
         (world_view S.tells E.tells C.tells N.tells N.kept world.new) }
     ensures completes { let tells = tells_of K.tells F.tells L.tells
