@@ -71,8 +71,29 @@ launcher_count_then end.AllBusy a b c same one two = two ∙ same
 launcher_count_then end.Worn a b c same one two = two ∙ same
 launcher_count_then end.OutOfMemory a b c same one two = two ∙ same
 
-pub breaks_off_then : (why : ActEnd) (first second : List Deed) (a b c : Standing) → Stands first a b → BreaksOff why second b c → BreaksOff why (first ++ second) a c
-breaks_off_then why first second a b c one two =
+-- the earlier ones are more
+pub breaks_off_then : (why : ActEnd) (first earlier deeds : List Deed) (a b c : Standing) → Stands first a b → BreaksOff why earlier deeds b c
+    → BreaksOff why (first ++ earlier) deeds a c
+breaks_off_then why first earlier deeds a b c one two =
+    let there = two.part in
+    let at : effects ((first ++ earlier) ++ there.whole) (world_in a) ≡ effects (earlier ++ there.whole) (world_in b) =
+    ap (λ (ds : List Deed). effects ds (world_in a)) (append_assoc first earlier there.whole)
+    ∙ (effects-append first (earlier ++ there.whole) (world_in a) ∙ ap (effects (earlier ++ there.whole)) (sym one.world)) in
+    record {
+      part = record {
+        whole = there.whole;
+        others = there.others;
+        are = there.are;
+        part = subst (λ (w : World). IsPartOfFirst there.others w (world_in c).outside) (sym at) there.part;
+      };
+      store_count = store_count_then why a b c one.store_faults one.as_before two.store_count;
+      launcher_count = launcher_count_then why a b c one.launcher_faults one.as_before two.launcher_count;
+    }
+
+-- the first of those in hand were done
+pub breaks_off_behind : (why : ActEnd) (first second : List Deed) (a b c : Standing) → Stands first a b → BreaksOff why [] second b c
+    → BreaksOff why [] (first ++ second) a c
+breaks_off_behind why first second a b c one two =
     let there = two.part in
     let at : effects (first ++ there.whole) (world_in a) ≡ effects there.whole (world_in b) =
     effects-append first there.whole (world_in a) ∙ ap (effects there.whole) (sym one.world) in
@@ -93,7 +114,7 @@ still_part [] (deed ∷ more) world outside is = inl is
 still_part (deed ∷ others) more world outside is = is
 
 -- more actions were to come
-pub breaks_off_before : (why : ActEnd) (first second : List Deed) (a b : Standing) → BreaksOff why first a b → BreaksOff why (first ++ second) a b
+pub breaks_off_before : (why : ActEnd) (first second : List Deed) (a b : Standing) → BreaksOff why [] first a b → BreaksOff why [] (first ++ second) a b
 breaks_off_before why first second a b one =
     let there = one.part in
     record {
@@ -108,7 +129,7 @@ breaks_off_before why first second a b one =
     }
 
 -- nothing was done yet, and no count rose
-pub breaks_off_here : (why : ActEnd) (deeds : List Deed) (now : Standing) → StoreCount why now now → LauncherCount why now now → BreaksOff why deeds now now
+pub breaks_off_here : (why : ActEnd) (deeds : List Deed) (now : Standing) → StoreCount why now now → LauncherCount why now now → BreaksOff why [] deeds now now
 breaks_off_here why deeds now store launcher = breaks_off_before why [] deeds now now (record {
   part = record { whole = []; others = []; are = refl; part = refl };
   store_count = store;

@@ -32,9 +32,10 @@ use Rattle.ldm_pqact.specs.declared.end.ActEnd.TheVariants as end
 use Rattle.ldm_pqact.specs.Acted.{ActCause, ActsOpened, IsEndAfter, KeepsCounts, LogsBy, Situation, StandsAt, UsesOpened, closing_calls, end_after, opening, opening_call, situation_of}
 use Rattle.ldm_pqact.specs.Acting.{CauseOf, EndsSo, KeepsCursor, LogCount, Sight, sight_of}
 use Rattle.ldm_pqact.specs.Carried.{Carries, Faulted, LauncherCount, StoreCount}
-use Rattle.ldm_pqact.specs.Course.{Follows, Stretch, goes_of, turns_of}
-use Rattle.ldm_pqact.specs.Turns.{deeds_of, products_in}
+use Rattle.ldm_pqact.specs.Course.{Follows, Gated, Stretch, course_work, gated_of, goes_of, turns_of}
+use Rattle.ldm_pqact.specs.Turns.{products_in}
 use Rattle.ldm_pqact.specs.Uses.{Uses}
+use Rattle.ldm_pqact.specs.Work.{Parted, replies_of}
 use Rattle.ldm_pqact.proofs.Carrying.{Deed}
 use Rattle.ldm_pqact.proofs.Coursing.{rows_stay}
 
@@ -69,13 +70,13 @@ log_le : (why : ActEnd) (old new : SinkRecord) → LogCount why old new → old.
 log_le end.LogFault old new count = rose_le old.faults new.faults count
 log_le why old new count = count
 
-carried_store : (why : ActEnd) (deeds : List Deed) (old new : Standing) → Carries why deeds old new → old.store.faults ≤ new.store.faults
-carried_store end.Stopped deeds old new carries = omega (arith, carries.store_faults)
-carried_store why deeds old new carries = store_le why old new carries.store_count
+carried_store : (why : ActEnd) (whole in_hand : List Deed) (old new : Standing) → Carries why whole in_hand old new → old.store.faults ≤ new.store.faults
+carried_store end.Stopped whole in_hand old new carries = omega (arith, carries.store_faults)
+carried_store why whole in_hand old new carries = store_le why old new carries.store_count
 
-carried_launcher : (why : ActEnd) (deeds : List Deed) (old new : Standing) → Carries why deeds old new → old.launcher.faults ≤ new.launcher.faults
-carried_launcher end.Stopped deeds old new carries = omega (arith, carries.launcher_faults)
-carried_launcher why deeds old new carries = launcher_le why old new carries.launcher_count
+carried_launcher : (why : ActEnd) (whole in_hand : List Deed) (old new : Standing) → Carries why whole in_hand old new → old.launcher.faults ≤ new.launcher.faults
+carried_launcher end.Stopped whole in_hand old new carries = omega (arith, carries.launcher_faults)
+carried_launcher why whole in_hand old new carries = launcher_le why old new carries.launcher_count
 
 closes_store : (answer : Done) (old new : Standing) → Closes answer old new → old.store.faults ≤ new.store.faults
 closes_store answer old new closes = by_spent old.outputs.spent answer closes
@@ -115,17 +116,16 @@ EndCause end.Stopped pass = Unit {0}
 EndCause why pass = CauseOf why pass
 
 -- what is known at every end of acting on products
-pub record Ended (why : ActEnd) (k : ℕ) (answers : List Reply) (deeds : List Deed) (lines : List ℕ) (old new : Sight) : Type 0 where
-  pub uses : Uses k old.pass new.pass answers
-  pub carried : Carries why deeds old.standing new.standing
-  pub logged : LogsBy why lines old.log new.log
+pub record Ended (why : ActEnd) (k : ℕ) (work : Parted) (old new : Sight) : Type 0 where
+  pub uses : Uses k old.pass new.pass (replies_of work)
+  pub carried : Carries why work.whole.deeds work.in_hand.deeds old.standing new.standing
+  pub logged : LogsBy why work old.log new.log
   pub log_count : LogCount why old.log new.log
   pub cause : EndCause why new.pass
   pub cursor : KeepsCursor why new.pass k
 
-ended_of : (why : ActEnd) (k : ℕ) (answers : List Reply) (deeds : List Deed) (lines : List ℕ) (old new : Sight) → EndsSo why k answers deeds lines old new
-    → Ended why k answers deeds lines old new
-ended_of end.Stopped k answers deeds lines old new ends = record {
+ended_of : (why : ActEnd) (k : ℕ) (work : Parted) (old new : Sight) → EndsSo why k work old new → Ended why k work old new
+ended_of end.Stopped k work old new ends = record {
   uses = ends.0.uses;
   carried = ends.0.carried;
   logged = ends.0.logged;
@@ -133,7 +133,7 @@ ended_of end.Stopped k answers deeds lines old new ends = record {
   cause = tt;
   cursor = (None, ends.1);
 }
-ended_of why k answers deeds lines old new ends = record {
+ended_of why k work old new ends = record {
   uses = ends.uses;
   carried = ends.carried;
   logged = ends.logged;
@@ -147,10 +147,10 @@ keeps_cursor end.Worn pass k not_worn keeps = absurd (not_worn refl)
 keeps_cursor why pass k not_worn keeps = keeps
 
 -- the cursor can be closed
-pub still_open : (why : ActEnd) (entries : List EntryView) (k : ℕ) (old new : Sight) (before after : GateRecord) → Follows why entries k old new before after
-    → (why ≡ end.Worn → ⊥) → (held : Option ℕ) × HasCursor new.pass k held
-still_open why entries k old new before after follows not_worn =
-    keeps_cursor why new.pass k not_worn (ended_of why k _ _ _ old new follows.ends).cursor
+pub still_open : (why : ActEnd) (entries : List EntryView) (k : ℕ) (old new : Gated) → Follows why entries k old new
+    → (why ≡ end.Worn → ⊥) → (held : Option ℕ) × HasCursor new.sight.pass k held
+still_open why entries k old new follows not_worn =
+    keeps_cursor why new.sight.pass k not_worn (ended_of why k _ old.sight new.sight follows.ends).cursor
 
 -- ---- outputs that kept nothing at first
 
@@ -167,7 +167,8 @@ closed_of answer mid new none closes = subst (λ (spent : Option Fault). ClosesB
 
 module _ (entries : List EntryView) (k : ℕ) (old new : Situation) (p1 p2 : PassView) (mid : Standing) (left : OutputsView) where
   abbrev FollowsTo : ActEnd → Type 0
-  FollowsTo ended = Follows ended entries k (sight_of p1 (standing no_outputs old.store old.launcher) old.log) (sight_of p2 mid new.log) old.gate new.gate
+  FollowsTo ended =
+      Follows ended entries k (gated_of (sight_of p1 (standing no_outputs old.store old.launcher) old.log) old.gate) (gated_of (sight_of p2 mid new.log) new.gate)
 
   abbrev ClosesTo : Done → Type 0
   ClosesTo answer = Closes answer mid (standing left new.store new.launcher)
@@ -197,7 +198,7 @@ module _ (entries : List EntryView) (k : ℕ) (old new : Situation) (p1 p2 : Pas
   cause_after end.OutOfMemory answer not_worn follows closes = tt
 
   stands_after : (ended : ActEnd) (answer : Done) (follows : FollowsTo ended) → ClosesTo answer
-      → StandsAt (end_after ended answer) (deeds_of entries (turns_of follows.course)) old new
+      → StandsAt (end_after ended answer) (course_work ended entries follows.course).whole.deeds old new
   stands_after end.Stopped done.Ok follows closes =
       let stands = follows.ends.0.carried in
       let now = closed_of done.Ok mid (standing left new.store new.launcher) stands.as_before closes in
@@ -242,11 +243,11 @@ uses_opened why k p0 p1 p2 p3 answers opened uses closing =
 
 module _ (law : RowsStay) (entries : List EntryView) (k : ℕ) (old new : Situation) (p1 p2 : PassView) (mid : Standing) (left : OutputsView) (ended : ActEnd) (answer : Done) where
   acts_opened : (why : ActEnd) → IsEndAfter why ended answer → ActCause why old new → Grows old.pass p1 opening (reply.Opened k)
-      → (follows : Follows ended entries k (sight_of p1 (standing no_outputs old.store old.launcher) old.log) (sight_of p2 mid new.log) old.gate new.gate)
+      → (follows : Follows ended entries k (gated_of (sight_of p1 (standing no_outputs old.store old.launcher) old.log) old.gate) (gated_of (sight_of p2 mid new.log) new.gate))
       → Closes answer mid (standing left new.store new.launcher) → Calls p2 new.pass (closing_calls why p2.actor k)
-      → StandsAt why (deeds_of entries (turns_of follows.course)) old new → ActsOpened why entries old new
+      → StandsAt why (course_work ended entries follows.course).whole.deeds old new → ActsOpened why entries old new
   acts_opened why is_end cause opened follows closes closing stands =
-      let ends = ended_of ended k _ _ _ (sight_of p1 (standing no_outputs old.store old.launcher) old.log) (sight_of p2 mid new.log) follows.ends in
+      let ends = ended_of ended k (course_work ended entries follows.course) (sight_of p1 (standing no_outputs old.store old.launcher) old.log) (sight_of p2 mid new.log) follows.ends in
       record {
         k = k;
         course = follows.course;
@@ -254,6 +255,7 @@ module _ (law : RowsStay) (entries : List EntryView) (k : ℕ) (old new : Situat
         answer = answer;
         is_end = is_end;
         cause = cause;
+        is_in_hand = follows.is_in_hand;
         uses = uses_opened why k old.pass p1 p2 new.pass _ opened ends.uses closing;
         rows = rows_stay law p2 new.pass (closing_calls why p2.actor k) (flat_map products_in (turns_of follows.course)) closing follows.rows;
         carries = record { mid = mid; carried = ends.carried; left = left; closes = closes };
@@ -263,11 +265,11 @@ module _ (law : RowsStay) (entries : List EntryView) (k : ℕ) (old new : Situat
         idled = follows.idled;
       }
 
-  module _ (kept : OutputsView) (none : kept ≡ no_outputs) (opened : Grows old.pass p1 opening (reply.Opened k)) (came : Follows ended entries k (sight_of p1 (standing kept old.store old.launcher) old.log) (sight_of p2 mid new.log) old.gate new.gate) (closes : Closes answer mid (standing left new.store new.launcher)) where
-    at_first : Follows ended entries k (sight_of p1 (standing no_outputs old.store old.launcher) old.log) (sight_of p2 mid new.log) old.gate new.gate
+  module _ (kept : OutputsView) (none : kept ≡ no_outputs) (opened : Grows old.pass p1 opening (reply.Opened k)) (came : Follows ended entries k (gated_of (sight_of p1 (standing kept old.store old.launcher) old.log) old.gate) (gated_of (sight_of p2 mid new.log) new.gate)) (closes : Closes answer mid (standing left new.store new.launcher)) where
+    at_first : Follows ended entries k (gated_of (sight_of p1 (standing no_outputs old.store old.launcher) old.log) old.gate) (gated_of (sight_of p2 mid new.log) new.gate)
     at_first =
         subst
-        (λ (o : OutputsView). Follows ended entries k (sight_of p1 (standing o old.store old.launcher) old.log) (sight_of p2 mid new.log) old.gate new.gate)
+        (λ (o : OutputsView). Follows ended entries k (gated_of (sight_of p1 (standing o old.store old.launcher) old.log) old.gate) (gated_of (sight_of p2 mid new.log) new.gate))
         none came
 
     -- the cursor was closed
@@ -282,10 +284,10 @@ module _ (law : RowsStay) (entries : List EntryView) (k : ℕ) (old new : Situat
     acts_worn closing long = acts_opened end.Worn tt long opened at_first closes closing tt
 
 -- the cause of an end at which the queue had had all its calls
-pub worn_cause : (entries : List EntryView) (k : ℕ) (why : ActEnd) (old new : Sight) (before after : GateRecord) → Follows why entries k old new before after → why ≡ end.Worn
-    → length new.pass.seen ≡ MOST_TURNS
-worn_cause entries k why old new before after follows is =
-    subst (λ (x : ActEnd). EndCause x new.pass) is (ended_of why k _ _ _ old new follows.ends).cause
+pub worn_cause : (entries : List EntryView) (k : ℕ) (why : ActEnd) (old new : Gated) → Follows why entries k old new → why ≡ end.Worn
+    → length new.sight.pass.seen ≡ MOST_TURNS
+worn_cause entries k why old new follows is =
+    subst (λ (x : ActEnd). EndCause x new.sight.pass) is (ended_of why k _ old.sight new.sight follows.ends).cause
 
 -- ---- what all ends have in common
 
@@ -294,10 +296,10 @@ counts_opened why entries old new acts =
     let mid = acts.carries.mid in
     let first = standing no_outputs old.store old.launcher in
     let last = standing acts.carries.left new.store new.launcher in
-    let deeds = deeds_of entries (turns_of acts.course) in
+    let work = course_work acts.ended entries acts.course in
     record {
-      store = omega (arith, carried_store acts.ended deeds first mid acts.carries.carried, closes_store acts.answer mid last acts.carries.closes);
-      launcher = omega (arith, carried_launcher acts.ended deeds first mid acts.carries.carried, closes_launcher acts.answer mid last acts.carries.closes);
+      store = omega (arith, carried_store acts.ended work.whole.deeds work.in_hand.deeds first mid acts.carries.carried, closes_store acts.answer mid last acts.carries.closes);
+      launcher = omega (arith, carried_launcher acts.ended work.whole.deeds work.in_hand.deeds first mid acts.carries.carried, closes_launcher acts.answer mid last acts.carries.closes);
       log = log_le acts.ended old.log new.log acts.log_count;
       gate = idled_all_le (goes_of acts.ended acts.course) old.gate new.gate acts.idled;
     }

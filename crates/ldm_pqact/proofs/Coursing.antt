@@ -17,25 +17,28 @@ use Rattle.ldm_pqact_conf.specs.Entries.{EntryView}
 use Rattle.ldm_actions.specs.Outputs.{KeepsUnlessSpent, Standing}
 use Rattle.ldm_pqact.specs.declared.end.ActEnd.{ActEnd}
 use Rattle.ldm_pqact.specs.declared.end.ActEnd.TheVariants as end
-use Rattle.ldm_pqact.specs.Acting.{ActsOn, ActsSome, Breaks, CauseOf, Does, EndsSo, HandlesBy, Sight, TurnsBy, last_answer, sight_of}
-use Rattle.ldm_pqact.specs.Turns.{Gave, Given, Lost, Turn, deeds_for, deeds_of, lines_of, products_in, turn_deeds, turn_lines, turn_reply}
+use Rattle.ldm_pqact.specs.Acting.{ActsOn, ActsSome, Breaks, CauseOf, Does, EndsSo, HandlesBy, IsInHand, LogsFront, Sight, TurnsBy, last_answer, parted_of, sight_of}
+use Rattle.ldm_pqact.specs.Turns.{Gave, Given, Lost, Turn, deeds_for, products_in, turn_deeds, turn_lines, turn_reply}
 use Rattle.ldm_pqact.specs.Uses.{AreRows, Uses}
-use Rattle.ldm_pqact.proofs.Acts.{breaks_then, broken, does_none, does_then, front_none}
+use Rattle.ldm_pqact.specs.Work.{Parted, Work, no_work, only_in_hand, product_work, replies_of, with_answers, work_of, work_then}
+use Rattle.ldm_pqact.proofs.Acts.{breaks_behind, breaks_then, broken, does_none, does_then, front_none, front_of}
 use Rattle.ldm_pqact.proofs.Carrying.{Deed, breaks_off_here, stands_none}
 use Rattle.ldm_pqact.proofs.Using.{uses_step, uses_worn}
 
 -- ---- the same, put otherwise
 
-pub does_same : (k : ℕ) (xs ys : List Reply) (ds es : List Deed) (ls ms : List ℕ) (a b : Sight) → xs ≡ ys → ds ≡ es → ls ≡ ms → Does k xs ds ls a b → Does k ys es ms a b
-does_same k xs ys ds es ls ms a b x d l does =
-    subst (λ (o : List Reply). Does k o es ms a b) x
-    (subst (λ (o : List Deed). Does k xs o ms a b) d (subst (λ (o : List ℕ). Does k xs ds o a b) l does))
+abbrev work : List Reply → List Deed → List ℕ → Work
+work answers deeds lines = record { answers = answers; deeds = deeds; lines = lines }
 
-breaks_same : (why : ActEnd) (k : ℕ) (xs ys : List Reply) (ds es : List Deed) (ls ms : List ℕ) (a b : Sight) → xs ≡ ys → ds ≡ es → ls ≡ ms
-    → Breaks why k xs ds ls a b → Breaks why k ys es ms a b
-breaks_same why k xs ys ds es ls ms a b x d l does =
-    subst (λ (o : List Reply). Breaks why k o es ms a b) x
-    (subst (λ (o : List Deed). Breaks why k xs o ms a b) d (subst (λ (o : List ℕ). Breaks why k xs ds o a b) l does))
+pub work_same : (one two : Work) → one.answers ≡ two.answers → one.deeds ≡ two.deeds → one.lines ≡ two.lines → one ≡ two
+work_same one two x d l =
+    ap (λ (o : List Reply). work o one.deeds one.lines) x
+    ∙ (ap (λ (o : List Deed). work two.answers o one.lines) d ∙ ap (λ (o : List ℕ). work two.answers two.deeds o) l)
+
+work_of-append : (entries : List EntryView) (one two : List Turn) → work_then (work_of entries one) (work_of entries two) ≡ work_of entries (one ++ two)
+work_of-append entries one two =
+    work_same (work_then (work_of entries one) (work_of entries two)) (work_of entries (one ++ two)) (sym (map-append turn_reply one two))
+    (sym (flat_map-append (turn_deeds entries) one two)) (sym (flat_map-append (turn_lines entries) one two))
 
 -- ---- rows stay
 
@@ -60,61 +63,61 @@ some_then : (law : RowsStay) (entries : List EntryView) (k : ℕ) (a b c : Sight
 some_then law entries k a b c one two = record {
   turns = one.turns ++ two.turns;
   does =
-      does_same k _ _ _ _ _ _ a c (sym (map-append turn_reply one.turns two.turns)) (sym (flat_map-append (turn_deeds entries) one.turns two.turns))
-      (sym (flat_map-append (turn_lines entries) one.turns two.turns))
-      (does_then k (map turn_reply one.turns) (map turn_reply two.turns) (deeds_of entries one.turns) (deeds_of entries two.turns) (lines_of entries one.turns)
-      (lines_of entries two.turns) a b c one.does two.does);
+      subst (λ (w : Work). Does k w a c) (work_of-append entries one.turns two.turns)
+      (does_then k (work_of entries one.turns) (work_of entries two.turns) a b c one.does two.does);
   rows = rows_then law b.pass c.pass two.does.uses.called one.turns two.turns two.does.uses.calls one.rows two.rows;
   cursor = two.cursor;
 }
 
-answers_then : (why : ActEnd) (at : ℕ) (first second : List Turn)
-    → map turn_reply first ++ (map turn_reply second ++ last_answer why at) ≡ map turn_reply (first ++ second) ++ last_answer why at
-answers_then why at first second =
-    sym (append_assoc (map turn_reply first) (map turn_reply second) (last_answer why at))
-    ∙ ap (λ (x : List Reply). x ++ last_answer why at) (sym (map-append turn_reply first second))
-
 -- what was called at an end
-pub called_at : (why : ActEnd) (k : ℕ) (xs : List Reply) (ds : List Deed) (ls : List ℕ) (a b : Sight) → EndsSo why k xs ds ls a b → Uses k a.pass b.pass xs
-called_at end.Stopped k xs ds ls a b ends = ends.0.uses
-called_at end.StoreFault k xs ds ls a b ends = ends.uses
-called_at end.LaunchFault k xs ds ls a b ends = ends.uses
-called_at end.LogFault k xs ds ls a b ends = ends.uses
-called_at end.AllBusy k xs ds ls a b ends = ends.uses
-called_at end.Worn k xs ds ls a b ends = ends.uses
-called_at end.OutOfMemory k xs ds ls a b ends = ends.uses
+pub called_at : (why : ActEnd) (k : ℕ) (work : Parted) (a b : Sight) → EndsSo why k work a b → Uses k a.pass b.pass (replies_of work)
+called_at end.Stopped k work a b ends = ends.0.uses
+called_at end.StoreFault k work a b ends = ends.uses
+called_at end.LaunchFault k work a b ends = ends.uses
+called_at end.LogFault k work a b ends = ends.uses
+called_at end.AllBusy k work a b ends = ends.uses
+called_at end.Worn k work a b ends = ends.uses
+called_at end.OutOfMemory k work a b ends = ends.uses
 
-module _ (k : ℕ) (xs ys zs : List Reply) (ds es fs : List Deed) (ls ms ns : List ℕ) (a b c : Sight) (x : xs ++ ys ≡ zs) (d : ds ++ es ≡ fs) (l : ls ++ ms ≡ ns) (one : Does k xs ds ls a b) where
-  broke_then : (why : ActEnd) → Breaks why k ys es ms b c → Breaks why k zs fs ns a c
-  broke_then why two = breaks_same why k _ zs _ fs _ ns a c x d l (breaks_then why k xs ys ds es ls ms a b c one two)
+-- the earlier work is more
+abbrev pub behind : Work → Parted → Parted
+behind first later = record { whole = work_then first later.whole; in_hand = later.in_hand }
 
-  pub ends_then : (why : ActEnd) → EndsSo why k ys es ms b c → EndsSo why k zs fs ns a c
-  ends_then end.Stopped ends = (does_same k _ zs _ fs _ ns a c x d l (does_then k xs ys ds es ls ms a b c one ends.0), ends.1)
-  ends_then end.StoreFault ends = broke_then end.StoreFault ends
-  ends_then end.LaunchFault ends = broke_then end.LaunchFault ends
-  ends_then end.LogFault ends = broke_then end.LogFault ends
-  ends_then end.AllBusy ends = broke_then end.AllBusy ends
-  ends_then end.Worn ends = broke_then end.Worn ends
-  ends_then end.OutOfMemory ends = broke_then end.OutOfMemory ends
+module _ (k : ℕ) (first : Work) (later : Parted) (a b c : Sight) (one : Does k first a b) where
+  pub ends_then : (why : ActEnd) → EndsSo why k later b c → EndsSo why k (behind first later) a c
+  ends_then end.Stopped ends = (
+    subst (λ (xs : List Reply). Does k (work xs (first.deeds ++ later.whole.deeds) (first.lines ++ later.whole.lines)) a c)
+        (sym (append_assoc first.answers later.whole.answers later.in_hand.answers))
+        (does_then k first (with_answers later.whole later.in_hand.answers) a b c one ends.0),
+    ends.1,
+  )
+  ends_then end.StoreFault ends = breaks_then end.StoreFault k first later a b c one ends
+  ends_then end.LaunchFault ends = breaks_then end.LaunchFault k first later a b c one ends
+  ends_then end.LogFault ends = breaks_then end.LogFault k first later a b c one ends
+  ends_then end.AllBusy ends = breaks_then end.AllBusy k first later a b c one ends
+  ends_then end.Worn ends = breaks_then end.Worn k first later a b c one ends
+  ends_then end.OutOfMemory ends = breaks_then end.OutOfMemory k first later a b c one ends
 
 on_then : (law : RowsStay) (why : ActEnd) (entries : List EntryView) (k : ℕ) (a b c : Sight) → ActsSome entries k a b → ActsOn why entries k b c → ActsOn why entries k a c
 on_then law why entries k a b c one two =
-    let uses = called_at why k _ _ _ b c two.ends in
+    let run = two.run in
+    let later = parted_of why entries run in
+    let uses = called_at why k later b c two.ends in
     record {
-      turns = one.turns ++ two.turns;
-      at = two.at;
+      run = record { turns = one.turns ++ run.turns; in_hand = run.in_hand; at = run.at };
+      is_in_hand = two.is_in_hand;
       ends =
-          ends_then k (map turn_reply one.turns) (map turn_reply two.turns ++ last_answer why two.at) (map turn_reply (one.turns ++ two.turns) ++ last_answer why two.at)
-          (deeds_of entries one.turns) (deeds_of entries two.turns) (deeds_of entries (one.turns ++ two.turns)) (lines_of entries one.turns) (lines_of entries two.turns)
-          (lines_of entries (one.turns ++ two.turns)) a b c (answers_then why two.at one.turns two.turns) (sym (flat_map-append (turn_deeds entries) one.turns two.turns))
-          (sym (flat_map-append (turn_lines entries) one.turns two.turns)) one.does why two.ends;
-      rows = rows_then law b.pass c.pass uses.called one.turns two.turns uses.calls one.rows two.rows;
+          subst (λ (w : Work). EndsSo why k (record { whole = w; in_hand = later.in_hand }) a c) (work_of-append entries one.turns run.turns)
+          (ends_then k (work_of entries one.turns) later a b c one.does why two.ends);
+      rows =
+          subst (λ (ts : List Turn). AreRows c.pass (flat_map products_in ts)) (sym (append_assoc one.turns run.turns run.in_hand))
+          (rows_then law b.pass c.pass uses.called one.turns (run.turns ++ run.in_hand) uses.calls one.rows two.rows);
     }
 
 -- ---- one turn
 
 stepped : (k : ℕ) (old new : PassView) (a : Standing) (log : SinkRecord) (answer : Reply) → Grows old new (event.Step k) answer
-    → Does k (answer ∷ []) [] [] (sight_of old a log) (sight_of new a log)
+    → Does k (with_answers no_work (answer ∷ [])) (sight_of old a log) (sight_of new a log)
 stepped k old new a log answer grows = record {
   uses = uses_step k old new answer grows;
   carried = stands_none a;
@@ -141,12 +144,14 @@ pub unlogged : (entries : List EntryView) (k count first last : ℕ) (old new : 
     → Rose log.faults log'.faults → WritesFront log (turn_lines entries (Lost count first last)) log' → HasCursor new k None
     → ActsOn end.LogFault entries k (sight_of old a log) (sight_of new a log')
 unlogged entries k count first last old new a log log' grows rose front cursor = record {
-  turns = Lost count first last ∷ [];
-  at = 0;
+  run = record { turns = []; in_hand = Lost count first last ∷ []; at = 0 };
+  is_in_hand = omega arith;
   ends = record {
     uses = uses_step k old new (reply.Gap count first last) grows;
     carried = breaks_off_here end.LogFault [] a refl refl;
-    logged = subst (λ (ls : List ℕ). WritesFront log ls log') (sym (append-nil (turn_lines entries (Lost count first last)))) front;
+    logged =
+        subst (λ (ls : List ℕ). LogsFront [] ls log log') (sym (append-nil (turn_lines entries (Lost count first last))))
+        (front_of log log' (turn_lines entries (Lost count first last)) front);
     log_count = rose;
     cause = tt;
     cursor = (None, cursor);
@@ -156,13 +161,18 @@ unlogged entries k count first last old new a log log' grows rose front cursor =
 
 pub ended : (entries : List EntryView) (k at : ℕ) (old new : PassView) (a : Standing) (log : SinkRecord) → Grows old new (event.Step k) (reply.End at) → HasCursor new k None
     → ActsOn end.Stopped entries k (sight_of old a log) (sight_of new a log)
-ended entries k at old new a log grows cursor = record { turns = []; at = at; ends = (stepped k old new a log (reply.End at) grows, cursor); rows = tt }
+ended entries k at old new a log grows cursor = record {
+  run = record { turns = []; in_hand = []; at = at };
+  is_in_hand = refl;
+  ends = (stepped k old new a log (reply.End at) grows, cursor);
+  rows = tt;
+}
 
 pub unstepped : (entries : List EntryView) (k turns : ℕ) (old new : PassView) (a : Standing) (log : SinkRecord) → FindsWorn old new turns
     → ActsOn end.Worn entries k (sight_of old a log) (sight_of new a log)
 unstepped entries k turns old new a log worn = record {
-  turns = [];
-  at = 0;
+  run = record { turns = []; in_hand = []; at = 0 };
+  is_in_hand = omega arith;
   ends = record {
     uses = uses_worn k turns old new worn;
     carried = breaks_off_here end.Worn [] a refl refl;
@@ -197,30 +207,49 @@ no_more end.AllBusy at answer within = refl
 no_more end.Worn at answer within = refl
 no_more end.OutOfMemory at answer within = refl
 
+one_in_hand : (why : ActEnd) (turn : Turn) → EndsWithin why → IsInHand why (turn ∷ [])
+one_in_hand end.Stopped turn within = absurd within
+one_in_hand end.StoreFault turn within = omega arith
+one_in_hand end.LaunchFault turn within = omega arith
+one_in_hand end.LogFault turn within = omega arith
+one_in_hand end.AllBusy turn within = omega arith
+one_in_hand end.Worn turn within = omega arith
+one_in_hand end.OutOfMemory turn within = omega arith
+
 pub gave : (law : RowsStay) (result : Result (Unit {0}) ActEnd) (entries : List EntryView) (k : ℕ) (given : Given) (old mid new : PassView) (a b : Standing) (log log' : SinkRecord)
     → Grows old mid (event.Step k) (turn_reply (Gave given)) → HasRowIn mid given.n given.product given.time
-    → HandlesBy result k (deeds_for entries given) (turn_lines entries (Gave given)) (sight_of mid a log) (sight_of new b log')
+    → HandlesBy result k (product_work (deeds_for entries given) (turn_lines entries (Gave given))) (sight_of mid a log) (sight_of new b log')
     → TurnsBy result entries k (sight_of old a log) (sight_of new b log')
-gave law (Ok gone) entries k given old mid new a b log log' grows row handled = record {
-  turns = Gave given ∷ [];
-  does =
-      does_same k _ _ _ _ _ _ (sight_of old a log) (sight_of new b log') refl (sym (append-nil (deeds_for entries given))) (sym (append-nil (turn_lines entries (Gave given))))
-      (does_then k (turn_reply (Gave given) ∷ []) [] [] (deeds_for entries given) [] (turn_lines entries (Gave given)) (sight_of old a log) (sight_of mid a log) (sight_of new b log')
-      (stepped k old mid a log (turn_reply (Gave given)) grows) handled.does);
-  rows = (HasRowIn-stays law mid new handled.does.uses.called given.n given.product given.time handled.does.uses.calls row, tt);
-  cursor = handled.cursor;
-}
-gave law (Err why) entries k given old mid new a b log log' grows row broke = record {
-  turns = Gave given ∷ [];
-  at = 0;
-  ends =
-      broken why k _ _ _ (sight_of old a log) (sight_of new b log')
-      (breaks_same why k _ _ _ _ _ _ (sight_of old a log) (sight_of new b log') (sym (no_more why 0 (turn_reply (Gave given)) (within_by why new broke.cause)))
-      (sym (append-nil (deeds_for entries given))) (sym (append-nil (turn_lines entries (Gave given))))
-      (breaks_then why k (turn_reply (Gave given) ∷ []) [] [] (deeds_for entries given) [] (turn_lines entries (Gave given)) (sight_of old a log) (sight_of mid a log) (sight_of new b log')
-      (stepped k old mid a log (turn_reply (Gave given)) grows) broke));
-  rows = (HasRowIn-stays law mid new broke.uses.called given.n given.product given.time broke.uses.calls row, tt);
-}
+gave law (Ok gone) entries k given old mid new a b log log' grows row handled =
+    let turn = Gave given in
+    let asked = product_work (deeds_for entries given) (turn_lines entries turn) in
+    record {
+      turns = turn ∷ [];
+      does =
+          subst (λ (w : Work). Does k w (sight_of old a log) (sight_of new b log'))
+          (work_same (work_then (with_answers no_work (turn_reply turn ∷ [])) asked) (work_of entries (turn ∷ [])) refl (sym (append-nil (deeds_for entries given)))
+          (sym (append-nil (turn_lines entries turn))))
+          (does_then k (with_answers no_work (turn_reply turn ∷ [])) asked (sight_of old a log) (sight_of mid a log) (sight_of new b log')
+          (stepped k old mid a log (turn_reply turn) grows) handled.does);
+      rows = (HasRowIn-stays law mid new handled.does.uses.called given.n given.product given.time handled.does.uses.calls row, tt);
+      cursor = handled.cursor;
+    }
+gave law (Err why) entries k given old mid new a b log log' grows row broke =
+    let turn = Gave given in
+    let asked = product_work (deeds_for entries given) (turn_lines entries turn) in
+    let within = within_by why new broke.cause in
+    record {
+      run = record { turns = []; in_hand = turn ∷ []; at = 0 };
+      is_in_hand = one_in_hand why turn within;
+      ends =
+          broken why k _ (sight_of old a log) (sight_of new b log')
+          (subst (λ (w : Work). Breaks why k (only_in_hand w) (sight_of old a log) (sight_of new b log'))
+          (work_same (work_then (with_answers no_work (turn_reply turn ∷ [])) asked) (with_answers (work_of entries (turn ∷ [])) (last_answer why 0))
+          (sym (no_more why 0 (turn_reply turn) within)) (sym (append-nil (deeds_for entries given))) (sym (append-nil (turn_lines entries turn))))
+          (breaks_behind why k (with_answers no_work (turn_reply turn ∷ [])) asked (sight_of old a log) (sight_of mid a log) (sight_of new b log')
+          (stepped k old mid a log (turn_reply turn) grows) broke));
+      rows = (HasRowIn-stays law mid new broke.uses.called given.n given.product given.time broke.uses.calls row, tt);
+    }
 
 -- ---- the loop
 

@@ -20,19 +20,20 @@ use Rattle.ldm_pqact.specs.Carried.{BreaksOff, Stands}
 use Rattle.ldm_pqact.specs.Handling.{DoesAll, DoesHeld, ReadsAll, ReadsPart, begun_result, done_result, takes_body}
 use Rattle.ldm_pqact.specs.Turns.{deed_by, deeds_by}
 use Rattle.ldm_pqact.specs.Uses.{Uses}
-use Rattle.ldm_pqact.proofs.Acts.{breaks_before, breaks_then, does_none, does_then, front_none}
+use Rattle.ldm_pqact.specs.Work.{only_in_hand, product_work}
+use Rattle.ldm_pqact.proofs.Acts.{breaks_before, breaks_behind, does_none, does_then, front_none}
 use Rattle.ldm_pqact.proofs.Carrying.{Deed}
 use Rattle.ldm_pqact.proofs.Giving.{BeganResult, Began, IsOfOutputs, Whole, begins, breaks_in_body, finishes, gives_no_body, has_body}
 use Rattle.ldm_pqact.proofs.Using.{uses_none}
 
 -- what was done with files and programs, and the log was left alone
 done_so : (k : ℕ) (old new : PassView) (a b : Standing) (deeds : List Deed) (log : SinkRecord) → Uses k old new [] → Stands deeds a b
-    → Does k [] deeds [] (sight_of old a log) (sight_of new b log)
+    → Does k (product_work deeds []) (sight_of old a log) (sight_of new b log)
 done_so k old new a b deeds log uses stands = record { uses = uses; carried = stands; logged = Takes-nothing log log refl; log_faults = omega arith }
 
 -- and where that broke off
 broke_so : (why : ActEnd) (k n : ℕ) (old new : PassView) (a b : Standing) (deeds : List Deed) (log : SinkRecord) → IsOfOutputs why → Uses k old new []
-    → BreaksOff why deeds a b → HasCursor new k (Some n) → Breaks why k [] deeds [] (sight_of old a log) (sight_of new b log)
+    → BreaksOff why [] deeds a b → HasCursor new k (Some n) → Breaks why k (only_in_hand (product_work deeds [])) (sight_of old a log) (sight_of new b log)
 broke_so end.StoreFault k n old new a b deeds log of uses off has =
     record { uses = uses; carried = off; logged = front_none log log [] refl; log_count = omega arith; cause = tt; cursor = (Some n, has) }
 broke_so end.LaunchFault k n old new a b deeds log of uses off has =
@@ -56,7 +57,8 @@ has_begun result action a b is it = subst (λ (r : Result (Unit {0}) ActEnd). Be
 
 -- its body was not given whole
 log_of_part : (why : ActEnd) (k : ℕ) (action : Action) (body : List ℕ) (old new : PassView) (a b c : Standing) → Began action a b
-    → ReadsPart why k (in_hand action) body old new b c → (log : SinkRecord) → Breaks why k [] ((action, body) ∷ []) [] (sight_of old a log) (sight_of new c log)
+    → ReadsPart why k (in_hand action) body old new b c → (log : SinkRecord)
+    → Breaks why k (only_in_hand (product_work ((action, body) ∷ []) [])) (sight_of old a log) (sight_of new c log)
 log_of_part end.StoreFault k action body old new a b c one two log = record {
   uses = two.uses;
   carried = breaks_in_body end.StoreFault action body a b c one two.gives;
@@ -180,7 +182,7 @@ chosen_acts k held all rest it action old mid new a b c is so_far same keeps ste
         append_assoc one.0 ((action, body) ∷ []) (deeds_by body rest) ∙ (ap (λ (x : List Deed). one.0 ++ (x ++ deeds_by body rest)) (sym (is body)) ∙ one.1),
         record {
           does = λ log.
-              does_then k [] [] one.0 ((action, body) ∷ []) [] [] (sight_of old a log) (sight_of mid b log) (sight_of new c log) (one.2.does log) (two.does log);
+              does_then k (product_work one.0 []) (product_work ((action, body) ∷ []) []) (sight_of old a log) (sight_of mid b log) (sight_of new c log) (one.2.does log) (two.does log);
           holds = two.holds;
         },
       );
@@ -197,9 +199,9 @@ chosen_breaks why k held all rest it action old mid new a b c is so_far step bod
     let there = sight_of new c log in
     let all_are : one.0 ++ (((action, body) ∷ []) ++ deeds_by body rest) ≡ deeds_by body all =
     ap (λ (x : List Deed). one.0 ++ (x ++ deeds_by body rest)) (sym (is body)) ∙ one.1 in
-    subst (λ (ds : List Deed). Breaks why k [] ds [] here there) all_are
-    (breaks_then why k [] [] one.0 (((action, body) ∷ []) ++ deeds_by body rest) [] [] here (sight_of mid b log) there (one.2.does log)
-    (breaks_before why k [] ((action, body) ∷ []) (deeds_by body rest) [] [] (sight_of mid b log) there (step body one.2.holds log)))
+    subst (λ (ds : List Deed). Breaks why k (only_in_hand (product_work ds [])) here there) all_are
+    (breaks_behind why k (product_work one.0 []) (product_work (((action, body) ∷ []) ++ deeds_by body rest) []) here (sight_of mid b log) there (one.2.does log)
+    (breaks_before why k ((action, body) ∷ []) (deeds_by body rest) (sight_of mid b log) there (step body one.2.holds log)))
 
 -- nothing is left
 pub chosen_whole : (k : ℕ) (held : Held) (all rest : List Chosen) (old new : PassView) (a b : Standing) → length rest ≡ 0 → KeepsChosen k held all rest old new a b

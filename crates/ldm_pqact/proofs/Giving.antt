@@ -197,7 +197,7 @@ IsOfOutputs _ = ⊥
 
 abbrev pub BeganResult : Result (Unit {0}) ActEnd → Action → Standing → Standing → Type 0
 BeganResult (Ok whole) action old new = Began action old new
-BeganResult (Err why) action old new = IsOfOutputs why × ((body : List ℕ) → BreaksOff why ((action, body) ∷ []) old new)
+BeganResult (Err why) action old new = IsOfOutputs why × ((body : List ℕ) → BreaksOff why [] ((action, body) ∷ []) old new)
 
 begins_again : (why : Fault) (result : Begun) (action : Action) (old new : Standing) → old.outputs.spent ≡ Some why → BeginsBy (Some why) result action old new
     → BeganResult (begun_result result) action old new
@@ -210,7 +210,7 @@ begins_again fault.Launch result action old new is begins =
 
 -- a part of the first of two
 one_deed : (why : ActEnd) (action : Action) (body : List ℕ) (old new : Standing) → IsPartOf action body (world_in old) (world_in new).outside → StoreCount why old new
-    → LauncherCount why old new → BreaksOff why ((action, body) ∷ []) old new
+    → LauncherCount why old new → BreaksOff why [] ((action, body) ∷ []) old new
 one_deed why action body old new part store launcher = record {
   part = record { whole = []; others = (action, body) ∷ []; are = refl; part = part };
   store_count = store;
@@ -245,7 +245,7 @@ begins result action old new it = begins_by old.outputs.spent result action old 
 
 -- a front of the body stands
 pub breaks_in_body : (why : ActEnd) (action : Action) (body : List ℕ) (a b c : Standing) → Began action a b → GivesPart why (in_hand action) body b c
-    → BreaksOff why ((action, body) ∷ []) a c
+    → BreaksOff why [] ((action, body) ∷ []) a c
 breaks_in_body why action body a b c one two =
     let before : IsAsBefore a.outputs.spent a b = subst (λ (o : Option Fault). IsAsBefore o a b) (sym one.unspent) one.in_hand.unspent in
     one_deed why action body a c
@@ -273,7 +273,7 @@ has_body action body a b c one two = record {
 
 abbrev pub FinishedResult : Result (Unit {0}) ActEnd → Action → List ℕ → Standing → Standing → Type 0
 FinishedResult (Ok whole) action body old new = Stands ((action, body) ∷ []) old new
-FinishedResult (Err why) action body old new = IsOfOutputs why × BreaksOff why ((action, body) ∷ []) old new
+FinishedResult (Err why) action body old new = IsOfOutputs why × BreaksOff why [] ((action, body) ∷ []) old new
 
 finishes_in_hand : (result : Done) (action : Action) (body : List ℕ) (a b c : Standing) → Whole action body a b → FinishesBy None (Some (in_hand action)) result b c
     → FinishedResult (done_result result) action body a c

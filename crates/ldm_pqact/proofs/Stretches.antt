@@ -5,7 +5,7 @@ use Rattle.std.proofs.lemmas.List.Concat.{flat_map-append}
 use Rattle.std.specs.List.{flat_map}
 use Rattle.ldm_outside.specs.declared.gate.Go.TheVariants as go
 use Rattle.ldm_outside.specs.Gate.{GateRecord, Idles}
-use Rattle.ldm_shared.specs.Passes.{IsSamePass}
+use Rattle.ldm_shared.specs.Passes.{IsSamePass, PassView}
 use Rattle.ldm_reader.specs.Reader.{HasCursor}
 use Rattle.ldm_session.specs.Exchange.{IdledAll}
 use Rattle.ldm_session.proofs.CallerLemmas.{IdledAll-one, IdledAll-then}
@@ -14,28 +14,29 @@ use Rattle.ldm_pqact_conf.specs.Entries.{EntryView}
 use Rattle.ldm_actions.specs.Outputs.{KeepsUnlessSpent}
 use Rattle.ldm_pqact.specs.declared.end.ActEnd.{ActEnd}
 use Rattle.ldm_pqact.specs.declared.end.ActEnd.TheVariants as end
-use Rattle.ldm_pqact.specs.Acting.{ActsOn, Does, Sight, last_answer}
-use Rattle.ldm_pqact.specs.Course.{Follows, Stretch, last_go, stretch_replies, turns_in}
+use Rattle.ldm_pqact.specs.Acting.{ActsOn, Does, Run, Sight, last_answer, parted_of}
+use Rattle.ldm_pqact.specs.Course.{Follows, Gated, Stretch, gated_of, last_go, stretch_replies, turns_in, work_in}
 use Rattle.ldm_pqact.specs.Turns.{Turn, deeds_of, lines_of, products_in, turn_deeds, turn_lines, turn_reply}
 use Rattle.ldm_pqact.specs.Uses.{AreRows}
+use Rattle.ldm_pqact.specs.Work.{Work, with_answers, work_of, work_then}
 use Rattle.ldm_pqact.proofs.Acts.{does_none, does_then}
-use Rattle.ldm_pqact.proofs.Coursing.{called_at, does_same, ends_then, rows_then}
+use Rattle.ldm_pqact.proofs.Coursing.{called_at, ends_then, rows_then, work_same}
 
 flat_map-one_more : {A B : Type 0} (f : A → List B) (xs : List A) (x : A) → flat_map f (xs ++ x ∷ []) ≡ flat_map f xs ++ f x
 flat_map-one_more {B = B} f xs x = flat_map-append f xs (x ∷ []) ∙ ap (λ (ys : List B). flat_map f xs ++ ys) (append-nil (f x))
 
 -- the stretches so far: behind each the gate said to go on
-pub record KeepsStretches (entries : List EntryView) (k : ℕ) (old new : Sight) (before after : GateRecord) : Type 0 where
-  pub same : IsSamePass old.pass new.pass
-  pub keeps : KeepsUnlessSpent new.standing
+pub record KeepsStretches (entries : List EntryView) (k : ℕ) (old new : Gated) : Type 0 where
+  pub same : IsSamePass old.sight.pass new.sight.pass
+  pub keeps : KeepsUnlessSpent new.sight.standing
   pub stretches : List Stretch
-  pub does : Does k (flat_map stretch_replies stretches) (deeds_of entries (turns_in stretches)) (lines_of entries (turns_in stretches)) old new
-  pub rows : AreRows new.pass (flat_map products_in (turns_in stretches))
-  pub idled : IdledAll (map (λ (stretch : Stretch). go.On) stretches) before after
-  pub cursor : HasCursor new.pass k None
+  pub does : Does k (work_in entries stretches) old.sight new.sight
+  pub rows : AreRows new.sight.pass (flat_map products_in (turns_in stretches))
+  pub idled : IdledAll (map (λ (stretch : Stretch). go.On) stretches) old.gate new.gate
+  pub cursor : HasCursor new.sight.pass k None
 
 pub stretches_begin : (entries : List EntryView) (k : ℕ) (now : Sight) (gate : GateRecord) → HasCursor now.pass k None → KeepsUnlessSpent now.standing
-    → KeepsStretches entries k now now gate gate
+    → KeepsStretches entries k (gated_of now gate) (gated_of now gate)
 stretches_begin entries k now gate cursor keeps = record {
   same = refl;
   keeps = keeps;
@@ -46,51 +47,54 @@ stretches_begin entries k now gate cursor keeps = record {
   cursor = cursor;
 }
 
-module _ (law : RowsStay) (entries : List EntryView) (k : ℕ) (a b c : Sight) (before mid after : GateRecord) (so_far : KeepsStretches entries k a b before mid) where
-  -- the turns behind them
-  deeds_behind : (turns : List Turn) → deeds_of entries (turns_in so_far.stretches ++ turns) ≡ deeds_of entries (turns_in so_far.stretches) ++ deeds_of entries turns
-  deeds_behind turns = flat_map-append (turn_deeds entries) (turns_in so_far.stretches) turns
+-- at the end of the queue all turns are whole
+stopped_rows : (pass : PassView) (run : Run) → run.in_hand ≡ [] → AreRows pass (flat_map products_in (run.turns ++ run.in_hand)) → AreRows pass (flat_map products_in run.turns)
+stopped_rows pass run none rows =
+    subst (λ (ts : List Turn). AreRows pass (flat_map products_in ts)) (ap (λ (ts : List Turn). run.turns ++ ts) none ∙ append-nil run.turns) rows
 
-  lines_behind : (turns : List Turn) → lines_of entries (turns_in so_far.stretches ++ turns) ≡ lines_of entries (turns_in so_far.stretches) ++ lines_of entries turns
-  lines_behind turns = flat_map-append (turn_lines entries) (turns_in so_far.stretches) turns
-
-  rows_behind : (why : ActEnd) (acts : ActsOn why entries k b c) → AreRows c.pass (flat_map products_in (turns_in so_far.stretches ++ acts.turns))
-  rows_behind why acts =
-      let uses = called_at why k _ _ _ b c acts.ends in
-      rows_then law b.pass c.pass uses.called (turns_in so_far.stretches) acts.turns uses.calls so_far.rows acts.rows
+module _ (law : RowsStay) (entries : List EntryView) (k : ℕ) (a b c : Gated) (so_far : KeepsStretches entries k a b) where
+  rows_behind : (why : ActEnd) (acts : ActsOn why entries k b.sight c.sight) (turns : List Turn) → AreRows c.sight.pass (flat_map products_in turns)
+      → AreRows c.sight.pass (flat_map products_in (turns_in so_far.stretches ++ turns))
+  rows_behind why acts turns rows =
+      let uses = called_at why k _ b.sight c.sight acts.ends in
+      rows_then law b.sight.pass c.sight.pass uses.called (turns_in so_far.stretches) turns uses.calls so_far.rows rows
 
   -- they ended
-  pub stretches_end : (why : ActEnd) → ActsOn why entries k b c → IdledAll (last_go why) mid after → Follows why entries k a c before after
+  pub stretches_end : (why : ActEnd) → ActsOn why entries k b.sight c.sight → IdledAll (last_go why) b.gate c.gate → Follows why entries k a c
   stretches_end why acts idled = record {
-    course = record { stretches = so_far.stretches; turns = acts.turns; at = acts.at };
-    ends =
-        ends_then k (flat_map stretch_replies so_far.stretches) (map turn_reply acts.turns ++ last_answer why acts.at) _ (deeds_of entries (turns_in so_far.stretches))
-        (deeds_of entries acts.turns) _ (lines_of entries (turns_in so_far.stretches)) (lines_of entries acts.turns) _ a b c refl (sym (deeds_behind acts.turns))
-        (sym (lines_behind acts.turns)) so_far.does why acts.ends;
-    rows = rows_behind why acts;
-    idled = IdledAll-then (map (λ (stretch : Stretch). go.On) so_far.stretches) (last_go why) before mid after so_far.idled idled;
+    course = record { stretches = so_far.stretches; run = acts.run };
+    is_in_hand = acts.is_in_hand;
+    ends = ends_then k (work_in entries so_far.stretches) (parted_of why entries acts.run) a.sight b.sight c.sight so_far.does why acts.ends;
+    rows = rows_behind why acts (acts.run.turns ++ acts.run.in_hand) acts.rows;
+    idled = IdledAll-then (map (λ (stretch : Stretch). go.On) so_far.stretches) (last_go why) a.gate b.gate c.gate so_far.idled idled;
   }
 
   -- one more came to the end of the queue
-  pub stretches_go_on : ActsOn end.Stopped entries k b c → Idles go.On mid after → IsSamePass b.pass c.pass → KeepsUnlessSpent c.standing
-      → KeepsStretches entries k a c before after
+  pub stretches_go_on : ActsOn end.Stopped entries k b.sight c.sight → Idles go.On b.gate c.gate → IsSamePass b.sight.pass c.sight.pass → KeepsUnlessSpent c.sight.standing
+      → KeepsStretches entries k a c
   stretches_go_on acts idled same keeps =
-      let stretch : Stretch = record { turns = acts.turns; at = acts.at } in
-      let turns : turns_in (so_far.stretches ++ stretch ∷ []) ≡ turns_in so_far.stretches ++ acts.turns =
+      let run = acts.run in
+      let stretch : Stretch = record { turns = run.turns; at = run.at } in
+      let turns : turns_in (so_far.stretches ++ stretch ∷ []) ≡ turns_in so_far.stretches ++ run.turns =
       flat_map-one_more (λ (one : Stretch). one.turns) so_far.stretches stretch in
+      let one : Work = record { answers = stretch_replies stretch; deeds = deeds_of entries run.turns; lines = lines_of entries run.turns } in
+      let does : Does k one b.sight c.sight =
+      subst (λ (ts : List Turn). Does k (with_answers (work_of entries run.turns) (map turn_reply ts ++ last_answer end.Stopped run.at)) b.sight c.sight) acts.is_in_hand acts.ends.0 in
       record {
-        same = same_then a.pass b.pass c.pass so_far.same same;
+        same = same_then a.sight.pass b.sight.pass c.sight.pass so_far.same same;
         keeps = keeps;
         stretches = so_far.stretches ++ stretch ∷ [];
         does =
-            does_same k _ _ _ _ _ _ a c (sym (flat_map-one_more stretch_replies so_far.stretches stretch))
-            (sym (ap (deeds_of entries) turns ∙ deeds_behind acts.turns)) (sym (ap (lines_of entries) turns ∙ lines_behind acts.turns))
-            (does_then k (flat_map stretch_replies so_far.stretches) (stretch_replies stretch) (deeds_of entries (turns_in so_far.stretches)) (deeds_of entries acts.turns)
-            (lines_of entries (turns_in so_far.stretches)) (lines_of entries acts.turns) a b c so_far.does acts.ends.0);
-        rows = rw turns (rows_behind end.Stopped acts);
+            subst (λ (w : Work). Does k w a.sight c.sight)
+            (work_same (work_then (work_in entries so_far.stretches) one) (work_in entries (so_far.stretches ++ stretch ∷ []))
+            (sym (flat_map-one_more stretch_replies so_far.stretches stretch))
+            (sym (ap (deeds_of entries) turns ∙ flat_map-append (turn_deeds entries) (turns_in so_far.stretches) run.turns))
+            (sym (ap (lines_of entries) turns ∙ flat_map-append (turn_lines entries) (turns_in so_far.stretches) run.turns)))
+            (does_then k (work_in entries so_far.stretches) one a.sight b.sight c.sight so_far.does does);
+        rows = rw turns (rows_behind end.Stopped acts run.turns (stopped_rows c.sight.pass run acts.is_in_hand acts.rows));
         idled =
             rw (map-append (λ (one : Stretch). go.On) so_far.stretches (stretch ∷ []))
-            (IdledAll-then (map (λ (one : Stretch). go.On) so_far.stretches) (go.On ∷ []) before mid after so_far.idled (IdledAll-one go.On mid after idled));
+            (IdledAll-then (map (λ (one : Stretch). go.On) so_far.stretches) (go.On ∷ []) a.gate b.gate c.gate so_far.idled (IdledAll-one go.On b.gate c.gate idled));
         cursor = acts.ends.1;
       }
 

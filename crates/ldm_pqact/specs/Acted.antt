@@ -9,7 +9,7 @@ use Rattle.ldm_model.specs.declared.event.Start.TheVariants as start
 use Rattle.ldm_model.specs.declared.event.Entry.{Entry}
 use Rattle.ldm_outside.specs.Count.{Rose}
 use Rattle.ldm_outside.specs.Gate.{GateRecord}
-use Rattle.ldm_outside.specs.Io.{SinkRecord, Takes, WritesFront}
+use Rattle.ldm_outside.specs.Io.{SinkRecord, Takes}
 use Rattle.ldm_outside.specs.Launcher.{LauncherRecord}
 use Rattle.ldm_outside.specs.Store.{StoreRecord}
 use Rattle.ldm_shared.specs.declared.steps.TheConstants.{MOST_TURNS}
@@ -24,11 +24,12 @@ use Rattle.ldm_actions.specs.World.{World}
 use Rattle.ldm_pqact.specs.declared.end.ActEnd.{ActEnd}
 use Rattle.ldm_pqact.specs.declared.end.ActEnd.TheVariants as end
 use Rattle.ldm_pqact.specs.declared.limits.TheConstants.{EVERY_FEEDTYPE}
-use Rattle.ldm_pqact.specs.Acting.{LogCount}
+use Rattle.ldm_pqact.specs.Acting.{IsInHand, LogCount, LogsFront}
 use Rattle.ldm_pqact.specs.Carried.{Carries, world_in}
-use Rattle.ldm_pqact.specs.Course.{Course, goes_of, replies_of, turns_of}
-use Rattle.ldm_pqact.specs.Turns.{deeds_of, lines_of, products_in}
+use Rattle.ldm_pqact.specs.Course.{Course, course_work, goes_of, turns_of}
+use Rattle.ldm_pqact.specs.Turns.{products_in}
 use Rattle.ldm_pqact.specs.Uses.{AreRows, AreUses, step_answers}
+use Rattle.ldm_pqact.specs.Work.{Parted, replies_of}
 
 -- The pass, and what all that is lent tells.
 pub record Situation : Type 0 where
@@ -89,9 +90,9 @@ ActCause end.OutOfMemory old new = Unit {0}
 -- ---- what stands
 
 -- Actions were carried out or broken off by outputs that kept nothing at first, and then these were closed.
-pub record CarriesAndCloses (ended : ActEnd) (answer : Done) (deeds : List (Action × List ℕ)) (old new : Situation) : Type 0 where
+pub record CarriesAndCloses (ended : ActEnd) (answer : Done) (work : Parted) (old new : Situation) : Type 0 where
   pub mid : Standing
-  pub carried : Carries ended deeds (standing no_outputs old.store old.launcher) mid
+  pub carried : Carries ended work.whole.deeds work.in_hand.deeds (standing no_outputs old.store old.launcher) mid
   pub left : OutputsView
   pub closes : Closes answer mid (standing left new.store new.launcher)
 
@@ -104,10 +105,10 @@ abbrev pub StandsAt : ActEnd → List (Action × List ℕ) → Situation → Sit
 StandsAt end.Stopped deeds old new = world_at new ≡ closed (effects deeds (world_at old))
 StandsAt _ deeds old new = Unit {0}
 
--- the log has all lines, or a front of them
-abbrev pub LogsBy : ActEnd → List ℕ → SinkRecord → SinkRecord → Type 0
-LogsBy end.Stopped lines old new = Takes old lines new
-LogsBy _ lines old new = WritesFront old lines new
+-- the log has all lines; or all of the turns that are whole, and a front of those of the turn in hand
+abbrev pub LogsBy : ActEnd → Parted → SinkRecord → SinkRecord → Type 0
+LogsBy end.Stopped work old new = Takes old work.whole.lines new
+LogsBy _ work old new = LogsFront work.whole.lines work.in_hand.lines old new
 
 -- ---- all of it
 
@@ -121,14 +122,16 @@ pub record ActsOpened (why : ActEnd) (entries : List EntryView) (old new : Situa
   pub answer : Done
   pub is_end : IsEndAfter why ended answer
   pub cause : ActCause why old new
+  -- at most one turn is in hand where it broke off
+  pub is_in_hand : IsInHand ended course.run.in_hand
   -- the queue
-  pub uses : UsesOpened why k old.pass new.pass (replies_of ended course)
+  pub uses : UsesOpened why k old.pass new.pass (replies_of (course_work ended entries course))
   pub rows : AreRows new.pass (flat_map products_in (turns_of course))
   -- files and programs
-  pub carries : CarriesAndCloses ended answer (deeds_of entries (turns_of course)) old new
-  pub stands : StandsAt why (deeds_of entries (turns_of course)) old new
+  pub carries : CarriesAndCloses ended answer (course_work ended entries course) old new
+  pub stands : StandsAt why (course_work ended entries course).whole.deeds old new
   -- the log and the gate
-  pub logged : LogsBy ended (lines_of entries (turns_of course)) old.log new.log
+  pub logged : LogsBy ended (course_work ended entries course) old.log new.log
   pub log_count : LogCount ended old.log new.log
   pub idled : IdledAll (goes_of ended course) old.gate new.gate
 

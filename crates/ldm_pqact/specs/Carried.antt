@@ -41,12 +41,12 @@ abbrev pub IsPartOfFirst : List (Action × List ℕ) → World → Outside → T
 IsPartOfFirst [] world outside = outside ≡ world.outside
 IsPartOfFirst (deed ∷ later) world outside = IsPartOf deed.0 deed.1 world outside
 
--- Some of these actions stand whole, and of the next a part.
-pub record StandsInPart (deeds : List (Action × List ℕ)) (before : World) (outside : Outside) : Type 0 where
+-- All of the earlier actions stand whole; of these some, and of the next a part.
+pub record StandsInPart (earlier deeds : List (Action × List ℕ)) (before : World) (outside : Outside) : Type 0 where
   pub whole : List (Action × List ℕ)
   pub others : List (Action × List ℕ)
   pub are : whole ++ others ≡ deeds
-  pub part : IsPartOfFirst others (effects whole before) outside
+  pub part : IsPartOfFirst others (effects (earlier ++ whole) before) outside
 
 -- why a count rose: the fault that ended it, or an earlier one, after which nothing was touched
 abbrev pub Faulted : Fault → ℕ → ℕ → Standing → Standing → Type 0
@@ -61,13 +61,13 @@ abbrev pub LauncherCount : ActEnd → Standing → Standing → Type 0
 LauncherCount end.LaunchFault old new = Faulted fault.Launch old.launcher.faults new.launcher.faults old new
 LauncherCount _ old new = new.launcher.faults ≡ old.launcher.faults
 
--- They were broken off.
-pub record BreaksOff (why : ActEnd) (deeds : List (Action × List ℕ)) (old new : Standing) : Type 0 where
-  pub part : StandsInPart deeds (world_in old) (world_in new).outside
+-- They were broken off: the earlier ones stand whole, and these in part.
+pub record BreaksOff (why : ActEnd) (earlier deeds : List (Action × List ℕ)) (old new : Standing) : Type 0 where
+  pub part : StandsInPart earlier deeds (world_in old) (world_in new).outside
   pub store_count : StoreCount why old new
   pub launcher_count : LauncherCount why old new
 
--- by how it ended
-abbrev pub Carries : ActEnd → List (Action × List ℕ) → Standing → Standing → Type 0
-Carries end.Stopped deeds old new = Stands deeds old new
-Carries why deeds old new = BreaksOff why deeds old new
+-- by how it ended: where the queue came to its end no action was in hand
+abbrev pub Carries : ActEnd → (whole in_hand : List (Action × List ℕ)) → Standing → Standing → Type 0
+Carries end.Stopped whole in_hand old new = Stands whole old new
+Carries why whole in_hand old new = BreaksOff why whole in_hand old new

@@ -10,9 +10,10 @@ use Rattle.ldm_session.specs.Exchange.{IdledAll}
 use Rattle.ldm_pqact_conf.specs.Entries.{EntryView}
 use Rattle.ldm_pqact.specs.declared.end.ActEnd.{ActEnd}
 use Rattle.ldm_pqact.specs.declared.end.ActEnd.TheVariants as end
-use Rattle.ldm_pqact.specs.Acting.{EndsSo, Sight, last_answer}
+use Rattle.ldm_pqact.specs.Acting.{EndsSo, IsInHand, Run, Sight, parted_of}
 use Rattle.ldm_pqact.specs.Turns.{Turn, deeds_of, lines_of, products_in, turn_reply}
 use Rattle.ldm_pqact.specs.Uses.{AreRows}
+use Rattle.ldm_pqact.specs.Work.{Parted, Work, work_then}
 
 -- Turns up to the end of the queue, and how many products it had had when the cursor came there.
 pub record Stretch : Type 0 where
@@ -26,20 +27,29 @@ stretch_replies stretch = map turn_reply stretch.turns ++ reply.End stretch.at �
 abbrev pub turns_in : List Stretch → List Turn
 turns_in stretches = flat_map (λ (stretch : Stretch). stretch.turns) stretches
 
+-- what entries make of them
+abbrev pub work_in : List EntryView → List Stretch → Work
+work_in entries stretches = record {
+  answers = flat_map stretch_replies stretches;
+  deeds = deeds_of entries (turns_in stretches);
+  lines = lines_of entries (turns_in stretches);
+}
+
 pub record Course : Type 0 where
   -- behind each of these the gate said to go on
   pub stretches : List Stretch
-  -- the turns behind them; and where they came to the end of the queue, how many products it had had
-  pub turns : List Turn
-  pub at : ℕ
+  -- the turns behind them
+  pub run : Run
 
 -- all turns, in order
 abbrev pub turns_of : Course → List Turn
-turns_of course = turns_in course.stretches ++ course.turns
+turns_of course = turns_in course.stretches ++ (course.run.turns ++ course.run.in_hand)
 
--- how all steps were answered: at `Stopped` the last one, that the cursor is at the end
-abbrev pub replies_of : ActEnd → Course → List Reply
-replies_of why course = flat_map stretch_replies course.stretches ++ (map turn_reply course.turns ++ last_answer why course.at)
+-- what entries make of them: all turns of stretches are whole
+abbrev pub course_work : ActEnd → List EntryView → Course → Parted
+course_work why entries course =
+    let run = parted_of why entries course.run in
+    record { whole = work_then (work_in entries course.stretches) run.whole; in_hand = run.in_hand }
 
 -- the gate is asked at the end of the queue alone, and `Stopped` is the end at which it said to stop
 abbrev pub last_go : ActEnd → List Go
@@ -50,9 +60,18 @@ last_go _ = []
 abbrev pub goes_of : ActEnd → Course → List Go
 goes_of why course = map (λ (stretch : Stretch). go.On) course.stretches ++ last_go why
 
+-- What is seen of a cursor's actions, with what the gate tells.
+pub record Gated : Type 0 where
+  pub sight : Sight
+  pub gate : GateRecord
+
+abbrev pub gated_of : Sight → GateRecord → Gated
+gated_of sight gate = record { sight = sight; gate = gate }
+
 -- Entries acted on the products of a cursor, up to an end.
-pub record Follows (why : ActEnd) (entries : List EntryView) (k : ℕ) (old new : Sight) (before after : GateRecord) : Type 0 where
+pub record Follows (why : ActEnd) (entries : List EntryView) (k : ℕ) (old new : Gated) : Type 0 where
   pub course : Course
-  pub ends : EndsSo why k (replies_of why course) (deeds_of entries (turns_of course)) (lines_of entries (turns_of course)) old new
-  pub rows : AreRows new.pass (flat_map products_in (turns_of course))
-  pub idled : IdledAll (goes_of why course) before after
+  pub is_in_hand : IsInHand why course.run.in_hand
+  pub ends : EndsSo why k (course_work why entries course) old.sight new.sight
+  pub rows : AreRows new.sight.pass (flat_map products_in (turns_of course))
+  pub idled : IdledAll (goes_of why course) old.gate new.gate

@@ -17,6 +17,7 @@ use Rattle.ldm_pqact.specs.Acting.{CauseOf, Does, Breaks, KeepsCursor, sight_of}
 use Rattle.ldm_pqact.specs.Carried.{LauncherCount, StoreCount, world_in}
 use Rattle.ldm_pqact.specs.Turns.{Given}
 use Rattle.ldm_pqact.specs.Uses.{Uses}
+use Rattle.ldm_pqact.specs.Work.{only_in_hand, product_work}
 
 -- what the beginning of an action came to
 abbrev pub begun_result : Begun → Result (Unit {0}) ActEnd
@@ -80,10 +81,10 @@ Reads (Err why) k held hand body bytes old new before after = ReadsPart why k ha
 -- ---- actions on the body of a product that is held
 
 pub record DoesHeld (k : ℕ) (held : Held) (body : List ℕ) (deeds : List (Action × List ℕ)) (old new : PassView) (before after : Standing) : Type 0 where
-  pub does : (log : SinkRecord) → Does k [] deeds [] (sight_of old before log) (sight_of new after log)
+  pub does : (log : SinkRecord) → Does k (product_work deeds []) (sight_of old before log) (sight_of new after log)
   pub holds : Holds new k held body
 
 abbrev pub DoesAll : Result (Unit {0}) ActEnd → ℕ → Held → (body : List ℕ) → List (Action × List ℕ) → (old new : PassView) → (before after : Standing) → Type 0
 DoesAll (Ok whole) k held body deeds old new before after = DoesHeld k held body deeds old new before after
 DoesAll (Err why) k held body deeds old new before after =
-    (log : SinkRecord) → Breaks why k [] deeds [] (sight_of old before log) (sight_of new after log)
+    (log : SinkRecord) → Breaks why k (only_in_hand (product_work deeds [])) (sight_of old before log) (sight_of new after log)

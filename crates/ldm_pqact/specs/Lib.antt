@@ -1,6 +1,7 @@
 pub mod Effect
 pub mod Notes
 pub mod Turns
+pub mod Work
 pub mod Uses
 pub mod Carried
 pub mod Acting

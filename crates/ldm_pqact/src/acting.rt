@@ -6,7 +6,7 @@ ghost use Rattle.ldm_reader.specs.Reader.{HasCursor};
 ghost use Rattle.ldm_actions.specs.Outputs.{KeepsUnlessSpent, no_outputs, standing};
 ghost use Rattle.ldm_pqact.specs.Acted.{Acts, ActsOpened, KeepsCounts, end_after, opening, situation_of};
 ghost use Rattle.ldm_pqact.specs.Acting.{sight_of};
-ghost use Rattle.ldm_pqact.specs.Course.{Follows};
+ghost use Rattle.ldm_pqact.specs.Course.{Follows, gated_of};
 
 use crate::end::ActEnd;
 use crate::limits::EVERY_FEEDTYPE;
@@ -39,9 +39,10 @@ fn follow<H: Wait, F: Store, L: Launcher, E: Sink, G: Gate>(
     ensures kept { IsSamePass pass.old pass.new }
     ensures keeps { KeepsUnlessSpent (standing pqact.new.outputs (F.tells store.new) (L.tells launcher.new)) }
     ensures follows { Follows result pqact.old.entries reader.now.k
-        (sight_of pass.old (standing pqact.old.outputs (F.tells store.old) (L.tells launcher.old)) (E.tells log.old))
-        (sight_of pass.new (standing pqact.new.outputs (F.tells store.new) (L.tells launcher.new)) (E.tells log.new))
-        (G.tells gate.old) (G.tells gate.new) }
+        (gated_of (sight_of pass.old
+        (standing pqact.old.outputs (F.tells store.old) (L.tells launcher.old)) (E.tells log.old)) (G.tells gate.old))
+        (gated_of (sight_of pass.new
+        (standing pqact.new.outputs (F.tells store.new) (L.tells launcher.new)) (E.tells log.new)) (G.tells gate.new)) }
 {
     products_stay();
     for _ in rt.forever() {

@@ -7,6 +7,7 @@ ghost use Rattle.ldm_pqact.specs.Acting.{HandlesBy, sight_of};
 ghost use Rattle.ldm_pqact.specs.Handling.{given_of};
 ghost use Rattle.ldm_pqact.specs.Notes.{notes_of};
 ghost use Rattle.ldm_pqact.specs.Turns.{chosen_for, deeds_for};
+ghost use Rattle.ldm_pqact.specs.Work.{product_work};
 
 use crate::carry::carry_all;
 use crate::end::ActEnd;
@@ -43,8 +44,8 @@ pub(crate) fn handle<H: Wait, F: Store, L: Launcher, E: Sink>(
     ensures kept { IsSamePass pass.old pass.new }
     ensures keeps { KeepsUnlessSpent (standing outputs.new (F.tells store.new) (L.tells launcher.new)) }
     ensures handles { (body : List ℕ) → Holds pass.old reader.now.k held body
-        → HandlesBy result reader.now.k (deeds_for entries.now (given_of held body))
-        (notes_of held.info.ident (chosen_for entries.now (given_of held body)))
+        → HandlesBy result reader.now.k (product_work (deeds_for entries.now (given_of held body))
+        (notes_of held.info.ident (chosen_for entries.now (given_of held body))))
         (sight_of pass.old (standing outputs.old (F.tells store.old) (L.tells launcher.old)) (E.tells log.old))
         (sight_of pass.new (standing outputs.new (F.tells store.new) (L.tells launcher.new)) (E.tells log.new)) }
 {

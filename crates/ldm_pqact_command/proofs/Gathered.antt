@@ -1,5 +1,5 @@
 -- What a whole gathering came to: piece by piece.
-use Rattle.std.proofs.Common.{◌≡◌, ◌∙◌, ℕ, false, List, [], ◌∷◌, ◌++◌, map, Option, Some, None, inl, inr, ◌⊎◌, refl, sym, ap, subst}
+use Rattle.std.proofs.Common.{◌≡◌, ◌∙◌, ℕ, false, List, [], ◌∷◌, ◌++◌, map, Option, Some, None, inl, inr, ◌⊎◌, refl, sym, ap, subst, append_assoc}
 use Rattle.std.specs.List.{flat_map}
 use Rattle.std.proofs.lemmas.List.{append-nil, map-append}
 use Rattle.std.proofs.lemmas.List.Concat.{flat_map-append}
@@ -35,10 +35,11 @@ use Rattle.ldm_gather.specs.Scene.{Lent, Moment, Scene, moment_of}
 use Rattle.ldm_gather.proofs.Cursors.{closes-quiet, pushes-quiet}
 use Rattle.ldm_pqact.specs.declared.end.ActEnd.{ActEnd}
 use Rattle.ldm_pqact.specs.declared.end.ActEnd.TheVariants as end
-use Rattle.ldm_pqact.specs.Acting.{EndsSo, Sight, last_answer}
+use Rattle.ldm_pqact.specs.Acting.{EndsSo, IsInHand, Run, Sight, last_answer, parted_of}
 use Rattle.ldm_pqact.specs.Carried.{Carries, Stands}
 use Rattle.ldm_pqact.specs.Turns.{Gave, Lost, Turn, deeds_of, products_in, turn_deeds, turn_reply}
 use Rattle.ldm_pqact.specs.Uses.{AreRows, AreUses, Uses, answer_by, step_answers}
+use Rattle.ldm_pqact.specs.Work.{Parted, replies_of}
 use Rattle.ldm_pqact.proofs.Carrying.{breaks_off_then, stands_none, stands_then}
 use Rattle.ldm_pqact.proofs.Coursing.{called_at, rows_then}
 use Rattle.ldm_pqact_conf.specs.Entries.{EntryView}
@@ -95,6 +96,12 @@ told-none turns = ap told (append-nil (map turn_reply turns)) ∙ told-turns tur
 told-last : (why : ActEnd) (turns : List Turn) (at : ℕ) → told (map turn_reply turns ++ last_answer why at) ≡ map turn_reply turns
 told-last end.Stopped turns at = told-end turns at
 told-last why turns at = told-none turns
+
+told-run : (why : ActEnd) (run : Run) (entries : List EntryView) → told (replies_of (parted_of why entries run)) ≡ map turn_reply (run.turns ++ run.in_hand)
+told-run why run entries =
+    flat_map-append told_by (map turn_reply run.turns) (map turn_reply run.in_hand ++ last_answer why run.at)
+    ∙ (ap (λ (xs : List Reply). xs ++ told (map turn_reply run.in_hand ++ last_answer why run.at)) (told-turns run.turns)
+    ∙ (ap (λ (xs : List Reply). map turn_reply run.turns ++ xs) (told-last why run.in_hand run.at) ∙ sym (map-append turn_reply run.turns run.in_hand)))
 
 -- ---- what was given, one after another
 
@@ -156,14 +163,15 @@ gives-after handled.Stopped ended k count why old new (inr stopped) = gives-quie
 
 -- ---- what was done, one after another
 
-carried_at : (why : ActEnd) (k : ℕ) (answers : List Reply) (deeds : List (Action × List ℕ)) (lines : List ℕ) (old new : Sight) → EndsSo why k answers deeds lines old new
-    → Carries why deeds old.standing new.standing
-carried_at end.Stopped k answers deeds lines old new ends = ends.0.carried
-carried_at why k answers deeds lines old new ends = ends.carried
+carried_at : (why : ActEnd) (k : ℕ) (work : Parted) (old new : Sight) → EndsSo why k work old new
+    → Carries why work.whole.deeds work.in_hand.deeds old.standing new.standing
+carried_at end.Stopped k work old new ends = ends.0.carried
+carried_at why k work old new ends = ends.carried
 
-carries_then : (why : ActEnd) (first second : List (Action × List ℕ)) (a b c : Standing) → Stands first a b → Carries why second b c → Carries why (first ++ second) a c
-carries_then end.Stopped first second a b c one two = stands_then first second a b c one two
-carries_then why first second a b c one two = breaks_off_then why first second a b c one two
+carries_then : (why : ActEnd) (first second in_hand : List (Action × List ℕ)) (a b c : Standing) → Stands first a b → Carries why second in_hand b c
+    → Carries why (first ++ second) in_hand a c
+carries_then end.Stopped first second in_hand a b c one two = stands_then first second a b c one two
+carries_then why first second in_hand a b c one two = breaks_off_then why first second in_hand a b c one two
 
 module _ {F L : Type 0} (store_tells : F → StoreRecord) (launcher_tells : L → LauncherRecord) where
   abbrev At : Type 0
@@ -181,14 +189,18 @@ module _ {F L : Type 0} (store_tells : F → StoreRecord) (launcher_tells : L �
   -- Entries acted on the products of the cursor, up to such an end.
   record Acted (why : ActEnd) (old new : Here) : Type 0 where
     turns : List Turn
-    gives : Gives old.handler.k turns old.pass new.pass
-    carried : Carries why (deeds_of old.handler.entries turns) (in_hand (parts_of old)) (in_hand (parts_of new))
+    held : List Turn
+    is_held : IsInHand why held
+    gives : Gives old.handler.k (turns ++ held) old.pass new.pass
+    carried : Carries why (deeds_of old.handler.entries turns) (deeds_of old.handler.entries held) (in_hand (parts_of old)) (in_hand (parts_of new))
     same_k : new.handler.k ≡ old.handler.k
     same_entries : new.handler.entries ≡ old.handler.entries
 
   acted_quiet : (old new : Here) → parts_of new ≡ parts_of old → CallsQuietly old.pass new.pass → Acted end.Stopped old new
   acted_quiet old new same quietly = record {
     turns = [];
+    held = [];
+    is_held = refl;
     gives = gives-quiet old.handler.k old.pass new.pass quietly;
     carried = subst (λ (p : Parts ActerView F L). Stands [] (in_hand (parts_of old)) (in_hand p)) (sym same) (stands_none (in_hand (parts_of old)));
     same_k = ap (λ (p : Parts ActerView F L). p.handler.k) same;
@@ -199,15 +211,23 @@ module _ {F L : Type 0} (store_tells : F → StoreRecord) (launcher_tells : L �
   acted_then law why a b c one two =
       let k = a.handler.k in
       let entries = a.handler.entries in
-      let gives : Gives k two.turns b.pass c.pass = subst (λ (n : ℕ). Gives n two.turns b.pass c.pass) one.same_k two.gives in
-      let carried : Carries why (deeds_of entries two.turns) (in_hand (parts_of b)) (in_hand (parts_of c)) =
-      subst (λ (es : List EntryView). Carries why (deeds_of es two.turns) (in_hand (parts_of b)) (in_hand (parts_of c))) one.same_entries two.carried in
+      let first : Gives k one.turns a.pass b.pass =
+      subst (λ (ts : List Turn). Gives k ts a.pass b.pass) (ap (λ (ts : List Turn). one.turns ++ ts) one.is_held ∙ append-nil one.turns) one.gives in
+      let second : Gives k (two.turns ++ two.held) b.pass c.pass = subst (λ (n : ℕ). Gives n (two.turns ++ two.held) b.pass c.pass) one.same_k two.gives in
+      let carried : Carries why (deeds_of entries two.turns) (deeds_of entries two.held) (in_hand (parts_of b)) (in_hand (parts_of c)) =
+      subst (λ (es : List EntryView). Carries why (deeds_of es two.turns) (deeds_of es two.held) (in_hand (parts_of b)) (in_hand (parts_of c))) one.same_entries two.carried in
       record {
         turns = one.turns ++ two.turns;
-        gives = gives-then law k one.turns two.turns a.pass b.pass c.pass one.gives gives;
+        held = two.held;
+        is_held = two.is_held;
+        gives =
+            subst (λ (ts : List Turn). Gives k ts a.pass c.pass) (sym (append_assoc one.turns two.turns two.held))
+            (gives-then law k one.turns (two.turns ++ two.held) a.pass b.pass c.pass first second);
         carried =
-            subst (λ (ds : List (Action × List ℕ)). Carries why ds (in_hand (parts_of a)) (in_hand (parts_of c))) (sym (flat_map-append (turn_deeds entries) one.turns two.turns))
-            (carries_then why (deeds_of entries one.turns) (deeds_of entries two.turns) (in_hand (parts_of a)) (in_hand (parts_of b)) (in_hand (parts_of c)) one.carried carried);
+            subst (λ (ds : List (Action × List ℕ)). Carries why ds (deeds_of entries two.held) (in_hand (parts_of a)) (in_hand (parts_of c)))
+            (sym (flat_map-append (turn_deeds entries) one.turns two.turns))
+            (carries_then why (deeds_of entries one.turns) (deeds_of entries two.turns) (deeds_of entries two.held) (in_hand (parts_of a)) (in_hand (parts_of b)) (in_hand (parts_of c))
+            one.carried carried);
         same_k = two.same_k ∙ one.same_k;
         same_entries = two.same_entries ∙ one.same_entries;
       }
@@ -215,15 +235,19 @@ module _ {F L : Type 0} (store_tells : F → StoreRecord) (launcher_tells : L �
   acted_handled : (law : RowsStay) (answer : Handled) (old new : Here) (does : Does answer old new) → Acted does.ended old new
   acted_handled law answer old new does =
       let k = old.handler.k in
-      let turns = does.acts.turns in
-      let uses = called_at does.ended k _ _ _ _ _ does.acts.ends in
-      let acted : Gives k turns old.pass does.acted = gives-uses k turns _ old.pass does.acted uses (told-last does.ended turns does.acts.at) does.acts.rows in
+      let entries = old.handler.entries in
+      let run = does.acts.run in
+      let turns = run.turns ++ run.in_hand in
+      let uses = called_at does.ended k _ _ _ does.acts.ends in
+      let acted : Gives k turns old.pass does.acted = gives-uses k turns _ old.pass does.acted uses (told-run does.ended run entries) does.acts.rows in
       let asked : Gives k [] does.acted new.pass = gives-after answer does.ended k old.handler.count new.handler.why does.acted new.pass does.follows in
       record {
-        turns = turns;
+        turns = run.turns;
+        held = run.in_hand;
+        is_held = does.acts.is_in_hand;
         gives =
             subst (λ (ts : List Turn). Gives k ts old.pass new.pass) (append-nil turns) (gives-then law k turns [] old.pass does.acted new.pass acted asked);
-        carried = carried_at does.ended k _ _ _ _ _ does.acts.ends;
+        carried = carried_at does.ended k _ _ _ does.acts.ends;
         same_k = ap (λ (acter : ActerView). acter.k) does.others;
         same_entries = ap (λ (acter : ActerView). acter.entries) does.others;
       }
@@ -344,7 +368,15 @@ module _ {F L : Type 0} (store_tells : F → StoreRecord) (launcher_tells : L �
 
   all_of : (e : GatherEnd) (old new : Here) → EndedBy e old new
       → ActsAll e old.handler.entries old.handler.k old.pass new.pass (in_hand (parts_of old)) (in_hand (parts_of new))
-  all_of e old new by = record { ended = by.ended; is_ended = by.is_ended; turns = by.acted.turns; gives = by.acted.gives; carried = by.acted.carried }
+  all_of e old new by = record {
+    ended = by.ended;
+    is_ended = by.is_ended;
+    turns = by.acted.turns;
+    in_hand = by.acted.held;
+    is_in_hand = by.acted.is_held;
+    gives = by.acted.gives;
+    carried = by.acted.carried;
+  }
 
   -- what a whole gathering came to
   pub gathered_all : (law : RowsStay) (e : GatherEnd) (s : Receiving) (old new : Lent ActerView F L) → GathersAll Does e s old new

@@ -1,6 +1,5 @@
 -- What a whole gathering does to the outputs, the store and the launcher: no count falls, and what is kept is of this store and launcher still.
 use Rattle.std.proofs.Common.{◌≡◌, ℕ, zero, suc, ◌≤◌, List, Some, None, Option, inl, inr, refl, ap, arith}
-use Rattle.ldm_model.specs.declared.event.Reply.{Reply}
 use Rattle.ldm_outside.specs.Count.{Rose}
 use Rattle.ldm_outside.specs.Dial.{DialRecord, DialTakesBack}
 use Rattle.ldm_outside.specs.Launcher.{LauncherRecord}
@@ -11,7 +10,6 @@ use Rattle.ldm_actions.specs.declared.answers.Done.{Done}
 use Rattle.ldm_actions.specs.declared.answers.Done.TheVariants as done
 use Rattle.ldm_actions.specs.declared.answers.Fault.{Fault}
 use Rattle.ldm_actions.specs.declared.answers.Fault.TheVariants as fault
-use Rattle.ldm_actions.specs.Effects.{Action}
 use Rattle.ldm_actions.specs.Outputs.{Closes, ClosesBy, KeepsUnlessSpent, Standing}
 use Rattle.ldm_intake.specs.Receiving.{Receiving}
 use Rattle.ldm_gather.specs.declared.end.GatherEnd.{GatherEnd}
@@ -22,6 +20,7 @@ use Rattle.ldm_pqact.specs.declared.end.ActEnd.{ActEnd}
 use Rattle.ldm_pqact.specs.declared.end.ActEnd.TheVariants as end
 use Rattle.ldm_pqact.specs.Acting.{EndsSo, Sight}
 use Rattle.ldm_pqact.specs.Carried.{Faulted, LauncherCount, StoreCount}
+use Rattle.ldm_pqact.specs.Work.{Parted}
 use Rattle.ldm_pqact_command.specs.ActerView.{ActerView}
 use Rattle.ldm_pqact_command.specs.Handling.{ActHandles, standing_in}
 use Rattle.ldm_pqact_command.proofs.Carried.{Parts, gathered_leads, parts_of}
@@ -67,11 +66,10 @@ pub record Counted (old new : Standing) : Type 0 where
   pub store : old.store.faults ≤ new.store.faults
   pub launcher : old.launcher.faults ≤ new.launcher.faults
 
-acts_count : (why : ActEnd) (k : ℕ) (answers : List Reply) (deeds : List (Action × List ℕ)) (lines : List ℕ) (old new : Sight) → EndsSo why k answers deeds lines old new
-    → Counted old.standing new.standing
-acts_count end.Stopped k answers deeds lines old new ends =
+acts_count : (why : ActEnd) (k : ℕ) (work : Parted) (old new : Sight) → EndsSo why k work old new → Counted old.standing new.standing
+acts_count end.Stopped k work old new ends =
     record { store = omega (arith, ends.0.carried.store_faults); launcher = omega (arith, ends.0.carried.launcher_faults) }
-acts_count why k answers deeds lines old new ends = record {
+acts_count why k work old new ends = record {
   store = store_le why old.standing new.standing ends.carried.store_count;
   launcher = launcher_le why old.standing new.standing ends.carried.launcher_count;
 }
@@ -117,7 +115,7 @@ module _ {F L : Type 0} (store_tells : F → StoreRecord) (launcher_tells : L �
   }
 
   stays_handled : (answer : Handled) (old new : Scene ActerView F L) → ActHandles store_tells launcher_tells answer old new → Stays (parts_of old) (parts_of new)
-  stays_handled answer old new handles = record { counted = acts_count handles.ended _ _ _ _ _ _ handles.acts.ends; keeps = λ keeps. handles.keeps }
+  stays_handled answer old new handles = record { counted = acts_count handles.ended _ _ _ _ handles.acts.ends; keeps = λ keeps. handles.keeps }
 
   pub gathered_stays : (e : GatherEnd) (s : Receiving) (old new : Lent ActerView F L) → GathersAll (ActHandles store_tells launcher_tells) e s old new
       → Stays (parts_of old.scene) (parts_of new.scene)

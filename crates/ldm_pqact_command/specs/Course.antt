@@ -1,5 +1,5 @@
 -- What a whole gathering came to, over all its pieces: which products, of which calls on the queue, and what was done with them.
-use Rattle.std.specs.Prelude.{◌≡◌, ◌⊎◌, ℕ, List, [], ◌∷◌, map}
+use Rattle.std.specs.Prelude.{◌≡◌, ◌⊎◌, ℕ, List, [], ◌∷◌, ◌++◌, map}
 use Rattle.std.specs.List.{flat_map}
 use Rattle.ldm_model.specs.declared.event.Event.{Event}
 use Rattle.ldm_model.specs.declared.event.Event.TheVariants as event
@@ -13,6 +13,7 @@ use Rattle.ldm_gather.specs.declared.end.GatherEnd.TheVariants.{Received, Enough
 use Rattle.ldm_gather.specs.Quiet.{IsQuiet}
 use Rattle.ldm_pqact.specs.declared.end.ActEnd.{ActEnd}
 use Rattle.ldm_pqact.specs.declared.end.ActEnd.TheVariants as end
+use Rattle.ldm_pqact.specs.Acting.{IsInHand}
 use Rattle.ldm_pqact.specs.Carried.{Carries}
 use Rattle.ldm_pqact.specs.Turns.{Turn, deeds_of, products_in, turn_reply}
 use Rattle.ldm_pqact.specs.Uses.{AreRows, IsUse, step_answers}
@@ -50,10 +51,13 @@ IsEndedBy Enough ended = ended ≡ end.Stopped
 IsEndedBy Stopped ended = Unit {0}
 
 -- The cursor gave these products, and files and programs are what the chosen actions make of what stood before, product by product and
--- entry by entry. Where that broke off, some of the actions stand whole, and of the next a part.
+-- entry by entry. Where that broke off, at most one turn was in hand: of its actions some stand whole and of the next a part, and all of
+-- the earlier ones stand whole.
 pub record ActsAll (gathered : GatherEnd) (entries : List EntryView) (k : ℕ) (first last : PassView) (old new : Standing) : Type 0 where
   pub ended : ActEnd
   pub is_ended : IsEndedBy gathered ended
   pub turns : List Turn
-  pub gives : Gives k turns first last
-  pub carried : Carries ended (deeds_of entries turns) old new
+  pub in_hand : List Turn
+  pub is_in_hand : IsInHand ended in_hand
+  pub gives : Gives k (turns ++ in_hand) first last
+  pub carried : Carries ended (deeds_of entries turns) (deeds_of entries in_hand) old new

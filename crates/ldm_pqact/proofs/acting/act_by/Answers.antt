@@ -17,7 +17,7 @@ returns-in-Worn g c = record {
       (standing c.follow-ended.new.pqact.outputs (g.F.Store.tells c.follow-ended.new.store) (g.L.Launcher.tells c.follow-ended.new.launcher)) c.close-answer.new.self.outputs
       c.follow-ended.result c.close-answer.result c.args.pqact.now.outputs c.requires.outputs opened c.follow-ended.ensures.follows c.close-answer.ensures.closed
       (calls_none c.follow-ended.new.pass)
-      (worn_cause c.args.pqact.now.entries c.args.reader.k c.follow-ended.result _ _ _ _ c.follow-ended.ensures.follows c.in-Worn.is);
+      (worn_cause c.args.pqact.now.entries c.args.reader.k c.follow-ended.result _ _ c.follow-ended.ensures.follows c.in-Worn.is);
 }
 
 pub returns-in-Done : goal.returns-in-Done

@@ -12,14 +12,14 @@ loop-init g c = (stretches_begin _ _ _ _ c.requires.cursor c.requires.keeps, ref
 pub loop-preserved : goal.loop-preserved
 loop-preserved g c =
     let acts = of_entries end.Stopped _ _ _ _ _ c.loop.invariant.1 c.in-Stopped.ensures.acts in (
-      stretches_go_on c.products_stay.ensures.stays _ _ _ _ _ _ _ _ c.loop.invariant.0 acts c.in-On.ensures.answered c.in-Stopped.ensures.kept c.in-Stopped.ensures.keeps,
+      stretches_go_on c.products_stay.ensures.stays _ _ _ _ _ c.loop.invariant.0 acts c.in-On.ensures.answered c.in-Stopped.ensures.kept c.in-Stopped.ensures.keeps,
       c.in-Stopped.ensures.entries ∙ c.loop.invariant.1,
     )
 
 pub returns-in-Stop-clause-follows : goal.returns-in-Stop-clause-follows
 returns-in-Stop-clause-follows g c =
     let acts = of_entries end.Stopped _ _ _ _ _ c.loop.invariant.1 c.in-Stopped.ensures.acts in
-    stretches_end c.products_stay.ensures.stays _ _ _ _ _ _ _ _ c.loop.invariant.0 end.Stopped acts (IdledAll-one go.Stop _ _ c.in-Stop.ensures.answered)
+    stretches_end c.products_stay.ensures.stays _ _ _ _ _ c.loop.invariant.0 end.Stopped acts (IdledAll-one go.Stop _ _ c.in-Stop.ensures.answered)
 
 pub returns-in_default : goal.returns-in_default
 returns-in_default g c = record {
@@ -27,5 +27,5 @@ returns-in_default g c = record {
   keeps = c.pending.ensures.keeps;
   follows =
       let acts = of_entries c.pending.result _ _ _ _ _ c.loop.invariant.1 c.pending.ensures.acts in
-      stretches_end c.products_stay.ensures.stays _ _ _ _ _ _ _ _ c.loop.invariant.0 c.pending.result acts (asks_no_gate c.pending.result _ c.in_default.not-Stopped);
+      stretches_end c.products_stay.ensures.stays _ _ _ _ _ c.loop.invariant.0 c.pending.result acts (asks_no_gate c.pending.result _ c.in_default.not-Stopped);
 }
