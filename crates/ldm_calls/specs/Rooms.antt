@@ -1,7 +1,7 @@
 -- What room a call needs.
 use Rattle.std.specs.Prelude.{ℕ, length}
-use Rattle.ldm_script.specs.declared.call.Call.{Call}
-use Rattle.ldm_script.specs.declared.call.Call.TheVariants as call
+use Rattle.ldm_script.specs.declared.order.Call.{Call}
+use Rattle.ldm_script.specs.declared.order.Call.TheVariants as call
 use Rattle.ldm_script.specs.OrderView.{bytes_of}
 
 -- how many bytes of a body it brings

@@ -2,8 +2,8 @@
 ghost use Rattle.std.specs.Prelude.{◌≤◌, length, IfOk, OnErr};
 ghost use Rattle.ldm_model.specs.declared.event.Event.{Event as Asked};
 ghost use Rattle.ldm_model.specs.declared.event.Reply.{Reply as Answered};
-ghost use Rattle.ldm_script.specs.AnswerView.{reply_of, FitsAnswer};
-ghost use Rattle.ldm_script.specs.Calls.{event_of, IsWholeCall};
+ghost use Rattle.ldm_script.specs.Answer.{reply_of, FitsAnswer};
+ghost use Rattle.ldm_script.specs.OrderView.{event_of, IsWholeCall};
 ghost use Rattle.ldm_calls.specs.Rooms.{bytes_asked, bytes_brought};
 
 use ldm_script::{Answer, Call};

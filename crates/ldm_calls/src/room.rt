@@ -1,6 +1,6 @@
 //! The room in which lines are answered.
 ghost use Rattle.std.specs.Prelude.{◌≡◌, ◌≤◌, length, OnOk, OnErr};
-ghost use Rattle.ldm_script.specs.AnswerView.{reply_of};
+ghost use Rattle.ldm_script.specs.Answer.{reply_of};
 ghost use Rattle.ldm_script.specs.OrderView.{asked_of, IsWhole};
 ghost use Rattle.ldm_script.specs.Resolve.{last_after};
 ghost use Rattle.ldm_script.specs.declared.answer.TheConstants.{LONGEST_ANSWER};

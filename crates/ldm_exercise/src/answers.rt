@@ -1,7 +1,7 @@
 //! What is kept of the answers to the orders of an exercise.
 ghost use Rattle.std.specs.Prelude.{◌≡◌, ◌+◌, ◌^◌, ◌<◌, ◌++◌, ◌∷◌, [], List};
 ghost use Rattle.ldm_model.specs.declared.event.Reply.{Reply};
-ghost use Rattle.ldm_script.specs.AnswerView.{reply_of, FitsAnswer};
+ghost use Rattle.ldm_script.specs.Answer.{reply_of, FitsAnswer};
 ghost use Rattle.ldm_exercise.specs.Kept.{Keeps};
 
 use crate::tally::Tally;

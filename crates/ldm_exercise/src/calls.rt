@@ -1,7 +1,7 @@
 //! The calls that the orders of an exercise ask for.
 ghost use Rattle.std.specs.Prelude.{◌≡◌, ◌≤◌, length, IfOk, OnErr};
 ghost use Rattle.ldm_calls.specs.OnBook.{BookAnswers};
-ghost use Rattle.ldm_script.specs.AnswerView.{reply_of, FitsAnswer};
+ghost use Rattle.ldm_script.specs.Answer.{reply_of, FitsAnswer};
 ghost use Rattle.ldm_exercise.specs.OrderView.{event_of, IsShort};
 ghost use Rattle.ldm_exercise.specs.declared.order.TheConstants.{BODY_LIMIT, READ_SIZE};
 

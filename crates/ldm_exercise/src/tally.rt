@@ -1,8 +1,7 @@
 //! How many answers there are of each kind.
 ghost use Rattle.std.specs.Prelude.{◌≡◌, ◌+◌, ◌^◌, ◌<◌, ◌≤◌, ◌++◌, [], decimal, length};
 ghost use Rattle.arrayvec.specs.ArrayVec.{array_vec_len};
-ghost use Rattle.ldm_script.specs.Answer.{blank_number};
-ghost use Rattle.ldm_script.specs.AnswerView.{reply_of};
+ghost use Rattle.ldm_script.specs.Answer.{blank_number, reply_of};
 ghost use Rattle.ldm_exercise.specs.Counts.{counts_of};
 ghost use Rattle.ldm_exercise.specs.Summary.{counts_line, insertion_counts, step_counts};
 ghost use Rattle.ldm_exercise.specs.TallyView.{and_counted};

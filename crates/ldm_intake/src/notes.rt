@@ -3,7 +3,7 @@ ghost use Rattle.std.specs.Prelude.{◌≡◌, ◌≤◌, ◌<◌, ◌+◌, ◌�
 ghost use Rattle.std.specs.Vec.{vec_len, vec_capacity};
 ghost use Rattle.ldm_types.specs.declared.limits.TheConstants.{LONGEST_IDENT};
 ghost use Rattle.ldm_model.specs.Answers.{insert_answer, reserve_answer, commit_answer};
-ghost use Rattle.ldm_script.specs.AnswerView.{reply_of, FitsAnswer};
+ghost use Rattle.ldm_script.specs.Answer.{reply_of, FitsAnswer};
 ghost use Rattle.ldm_intake.specs.Notes.{note_line, note_lines};
 ghost use Rattle.ldm_intake.specs.Notes as note;
 ghost use Rattle.ldm_intake.specs.Products.{insert_note, reserve_note, commit_note};

@@ -22,7 +22,7 @@ use Rattle.ldm_script.specs.Grammar.{read_details, read_insert, read_open, read_
 use Rattle.ldm_script.specs.Grammar.{read_act, read_order, read_line, is_comment, at_column, instant_of, signature_of, feed_of, four_bytes, place_of, reserve_place_of, Details}
 use Rattle.ldm_script.specs.Number.{number_up_to, number_below, up_to, digits_from}
 use Rattle.ldm_script.specs.Texts.{text_up_to}
-use Rattle.ldm_script.specs.Word.{word_of_text, start_word_of_text}
+use Rattle.ldm_script.specs.Grammar.{word_of_text, start_word_of_text}
 use Rattle.ldm_signature.specs.HexSignature.{hex_signature}
 use Rattle.ldm_types.specs.declared.limits.TheConstants.{LONGEST_ORIGIN, LONGEST_IDENT}
 use Rattle.ldm_script.specs.Order.{Order, Asked, Plain, OnCursor, OnReservation}

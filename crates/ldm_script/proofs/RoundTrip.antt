@@ -40,8 +40,8 @@ use Rattle.ldm_script.specs.Split.{Lacks}
 use Rattle.ldm_script.specs.Number.{number_up_to, number_below}
 use Rattle.ldm_script.specs.declared.line.TheConstants.{LONGEST_LINE, LONGEST_READ}
 use Rattle.ldm_script.specs.Texts.{spelled, text_up_to}
-use Rattle.ldm_script.specs.Word.{word_text, word_of_text, start_word_of_text}
-use Rattle.ldm_script.specs.Writing.{front_text, back_text, FrontReadsBack, BackReadsBack, ProductReadsBack, InfoReadsBack, StartReadsBack, IsPlace, IsReservePlace}
+use Rattle.ldm_script.specs.Grammar.{word_text, word_of_text, start_word_of_text}
+use Rattle.ldm_script.specs.Spelling.{front_text, back_text, FrontReadsBack, BackReadsBack, ProductReadsBack, InfoReadsBack, StartReadsBack, IsPlace, IsReservePlace}
 use Rattle.ldm_script.proofs.Solid.{lacks-number, lacks-encode_lower, lacks-feed_digits, lacks-spelled, lacks-body_text, lacks-literal}
 use Rattle.ldm_script.proofs.Taking.{field_then, field_last}
 use Rattle.ldm_script.proofs.ReadBack.{number_up_to-decimal, number_below-decimal, place_or_last-decimal, signature_of-digits, feed_of-digits}

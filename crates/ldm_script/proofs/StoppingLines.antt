@@ -21,7 +21,7 @@ use Rattle.ldm_script.specs.declared.word.LineWord.TheVariants as word
 use Rattle.ldm_script.specs.declared.word.StartWord.{StartWord}
 use Rattle.ldm_script.specs.declared.word.StartWord.TheVariants as start_word
 use Rattle.ldm_script.specs.Number.{number_up_to, number_below as below_limit}
-use Rattle.ldm_script.specs.Word.{word_of_text, start_word_of_text}
+use Rattle.ldm_script.specs.Grammar.{word_of_text, start_word_of_text}
 use Rattle.ldm_script.specs.Texts.{text_up_to}
 use Rattle.ldm_script.specs.Bodies.{body_of}
 use Rattle.ldm_script.specs.Fields.{◌>>=◌, Left, field, no_more}

@@ -1,5 +1,4 @@
 pub mod Number
-pub mod Word
 pub mod Texts
 pub mod TextReads
 pub mod Bodies
@@ -11,10 +10,7 @@ pub mod Order
 pub mod Grammar
 pub mod Faults
 pub mod Answer
-pub mod AnswerView
 pub mod OrderView
 pub mod Spelling
 pub mod Resolve
-pub mod Writing
 pub mod Lines
-pub mod Calls

@@ -1,4 +1,4 @@
--- Orders that were read, as contracts see them.
+-- Orders that were read, and the calls that they become, as contracts see them.
 use Rattle.std.specs.Prelude.{◌≡◌, ℕ, ◌≤◌, List, [], length, replicate, unwrap_or, IsSome}
 use Rattle.ldm_model.specs.declared.event.Event.TheVariants as event
 use Rattle.ldm_script.specs.declared.body.Body.{Body}
@@ -12,6 +12,9 @@ use Rattle.ldm_script.specs.declared.order.Order.{Order as ReadOrder}
 use Rattle.ldm_script.specs.Bodies.{digits_of}
 use Rattle.ldm_script.specs.Grammar.{Details}
 use Rattle.ldm_script.specs.Order.{Order, Asked, Plain, OnCursor, OnReservation}
+use Rattle.ldm_model.specs.declared.event.Event.{Event}
+use Rattle.ldm_script.specs.declared.order.Call.{Call}
+use Rattle.ldm_script.specs.declared.order.Call.TheVariants as call
 
 -- the bytes of a body
 abbrev pub bytes_of : Body → List ℕ
@@ -61,3 +64,27 @@ IsWritable (act.Insert now info body) = (length (bytes_of body) ≡ info.size) �
 IsWritable (act.Read k offset len) = len ≤ LONGEST_READ
 IsWritable (act.Fill r body) = length (bytes_of body) ≤ LONGEST_BODY
 IsWritable _ = Unit {0}
+
+-- the event of a call
+abbrev pub event_of : Call → Event
+event_of (call.Insert now info body) = event.Insert now info.now (bytes_of body.now)
+event_of (call.OpenCursor feed start) = event.OpenCursor feed start
+event_of (call.Step k) = event.Step k
+event_of (call.Read k offset len) = event.Read k offset len
+event_of (call.Release k) = event.Release k
+event_of (call.Close k) = event.Close k
+event_of (call.Look signature) = event.Look signature.now
+event_of call.Expire = event.Expire
+event_of (call.Tally k) = event.Tally k
+event_of call.Stat = event.Stat
+event_of (call.Reserve info) = event.Reserve info.now
+event_of (call.Fill r body) = event.Fill r (bytes_of body.now)
+event_of (call.Commit r now) = event.Commit r now
+event_of (call.Discard r) = event.Discard r
+
+-- The call of an act that can be done as it says.
+abbrev pub IsWholeCall : Call → Type 0
+IsWholeCall (call.Insert now info body) = IsBody body.now × (length (bytes_of body.now) ≡ info.now.size) × (info.now.size ≤ LONGEST_BODY)
+IsWholeCall (call.Read k offset len) = len ≤ LONGEST_READ
+IsWholeCall (call.Fill r body) = IsBody body.now × (length (bytes_of body.now) ≤ LONGEST_BODY)
+IsWholeCall _ = Unit {0}

@@ -3,7 +3,7 @@ ghost use Rattle.std.specs.Prelude.{◌≡◌, Ok, Err, None, codes};
 ghost use Rattle.ldm_script.specs.Grammar.{read_line as reading};
 
 /// Worked examples of lines that cannot be read: each with the column of its first fault.
-#[tactic(auto, unfolding(crate::specs::Grammar::read_line, crate::specs::Grammar::read_order, crate::specs::Grammar::read_on_cursor, crate::specs::Grammar::read_read, crate::specs::Grammar::read_open, crate::specs::Grammar::read_insert, crate::specs::Grammar::read_details, crate::specs::Word::word_of_text, crate::specs::Word::start_word_of_text))]
+#[tactic(auto, unfolding(crate::specs::Grammar::read_line, crate::specs::Grammar::read_order, crate::specs::Grammar::read_on_cursor, crate::specs::Grammar::read_read, crate::specs::Grammar::read_open, crate::specs::Grammar::read_insert, crate::specs::Grammar::read_details, crate::specs::Grammar::word_of_text, crate::specs::Grammar::start_word_of_text))]
 pub fn worked_examples()
     ensures no_number { reading 64 (codes "x stat") ≡ Err 1 }
     ensures no_such_actor { reading 4 (codes "4 stat") ≡ Err 1 }

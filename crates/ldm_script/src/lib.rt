@@ -10,7 +10,6 @@
 
 mod answer;
 mod body;
-mod call;
 mod examples;
 mod fields;
 mod laws;
@@ -18,7 +17,6 @@ mod line;
 mod number;
 mod order;
 mod put_fields;
-mod replies;
 mod split;
 mod texts;
 mod word;
@@ -26,11 +24,10 @@ mod write;
 
 pub use answer::{Answer, LONGEST_ANSWER, Text, text_into, write_answer, write_reply};
 pub use body::{Body, LONGEST_BODY, body_into};
-pub use call::Call;
 pub use examples::worked_examples;
 pub use laws::finds_the_first_fault;
 pub use line::{BadLine, LONGEST_LINE, LONGEST_READ, read_line};
 pub use number::read_number;
-pub use order::{Act, LastPlaces, Order, Place, ReservePlace};
+pub use order::{Act, Call, LastPlaces, Order, Place, ReservePlace};
 pub use texts::{put, put_number};
 pub use write::write_line;

@@ -7,9 +7,9 @@ ghost use Rattle.ldm_feedtype.specs.Reading.{feed_number};
 ghost use Rattle.ldm_signature.specs.HexSignature.{hex_signature};
 ghost use Rattle.ldm_script.specs.Answer.{blank_field, blank_number, info_text, product_text};
 ghost use Rattle.ldm_script.specs.Grammar.{four_bytes, instant_of};
-ghost use Rattle.ldm_script.specs.Spelling.{place_text, reserve_place_text};
+ghost use Rattle.ldm_script.specs.Spelling.{place_text, reserve_place_text, InfoReadsBack};
+ghost use Rattle.ldm_script.specs.Spelling.{IsPlace, IsReservePlace, ProductReadsBack};
 ghost use Rattle.ldm_script.specs.Texts.{spelled};
-ghost use Rattle.ldm_script.specs.Writing.{InfoReadsBack, IsPlace, IsReservePlace, ProductReadsBack};
 
 use crate::answer::{LONGEST_ANSWER, Text};
 use crate::order::{Place, ReservePlace};

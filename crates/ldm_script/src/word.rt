@@ -1,6 +1,6 @@
 //! The words of script lines.
 ghost use Rattle.std.specs.Prelude.{◌≡◌, ◌≤◌, length};
-ghost use Rattle.ldm_script.specs.Word.{word_text, word_of_text, start_word_text, start_word_of_text};
+ghost use Rattle.ldm_script.specs.Grammar.{word_text, word_of_text, start_word_text, start_word_of_text};
 
 /// The second field of a script line: what the line asks for.
 #[derive(Clone, Copy, Debug, PartialEq, Eq)]
@@ -63,7 +63,7 @@ impl LineWord {
     }
 
     /// The word that is spelled so.
-    #[tactic(auto, unfolding(crate::specs::Word::word_of_text))]
+    #[tactic(auto, unfolding(crate::specs::Grammar::word_of_text))]
     pub fn of_text(text: &[u8]) -> Option<LineWord>
         ensures { result ≡ word_of_text text.now }
     {
@@ -105,7 +105,7 @@ impl StartWord {
     }
 
     /// The word that is spelled so.
-    #[tactic(auto, unfolding(crate::specs::Word::start_word_of_text))]
+    #[tactic(auto, unfolding(crate::specs::Grammar::start_word_of_text))]
     pub fn of_text(text: &[u8]) -> Option<StartWord>
         ensures { result ≡ start_word_of_text text.now }
     {

@@ -8,12 +8,11 @@ ghost use Rattle.ldm_feedtype.specs.Text.{feed_digits};
 ghost use Rattle.ldm_signature.specs.HexSignature.{hex_signature};
 ghost use Rattle.ldm_script.specs.Answer.{blank_field, blank_number, info_text, product_text};
 ghost use Rattle.ldm_script.specs.Bodies.{body_of, body_text, digits_of};
-ghost use Rattle.ldm_script.specs.Grammar.{four_bytes, instant_of, read_line};
+ghost use Rattle.ldm_script.specs.Grammar.{four_bytes, instant_of, read_line, word_text};
 ghost use Rattle.ldm_script.specs.OrderView.{bytes_of, order_of, IsWritable};
 ghost use Rattle.ldm_script.specs.Spelling.{spelling, start_text, place_text, reserve_place_text, IsReadBack};
-ghost use Rattle.ldm_script.specs.Word.{word_text};
-ghost use Rattle.ldm_script.specs.Writing.{carried, front_text, back_text, FrontReadsBack, BackReadsBack};
-ghost use Rattle.ldm_script.specs.Writing.{InfoReadsBack, ProductReadsBack, StartReadsBack, IsPlace, IsReservePlace};
+ghost use Rattle.ldm_script.specs.Spelling.{carried, front_text, back_text, FrontReadsBack, BackReadsBack};
+ghost use Rattle.ldm_script.specs.Spelling.{InfoReadsBack, ProductReadsBack, StartReadsBack, IsPlace, IsReservePlace};
 ghost use Rattle.ldm_script.specs.declared.body.TheConstants.{LONGEST_BODY};
 ghost use Rattle.ldm_script.specs.declared.order.Order.{Order as ReadOrder};
 
