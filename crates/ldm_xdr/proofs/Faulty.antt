@@ -45,16 +45,16 @@ apart_text r p q x y a b ra rb e =
     let other : List ℕ × List ℕ = (b, y) in
     ap (λ (z : List ℕ × List ℕ). z.1) (read_is one other (sym ra ∙ ap r e ∙ rb))
 
-origin_text : (info : Metadata) → Fits info → IsText LONGEST_ORIGIN info.origin
+pub origin_text : (info : Metadata) → Fits info → IsText LONGEST_ORIGIN info.origin
 origin_text info fits = record { short = fits.texts.origin_short; no_nul = none_in_first _ info.origin info.ident fits.texts.no_nul }
 
-ident_text : (info : Metadata) → Fits info → IsText LONGEST_IDENT info.ident
+pub ident_text : (info : Metadata) → Fits info → IsText LONGEST_IDENT info.ident
 ident_text info fits = record { short = fits.texts.ident_short; no_nul = none_in_second _ info.origin info.ident fits.texts.no_nul }
 
-seconds_fit : (info : Metadata) → Fits info → info.arrival / 1000000 < 2 ^ 32
+pub seconds_fit : (info : Metadata) → Fits info → info.arrival / 1000000 < 2 ^ 32
 seconds_fit info fits = omega (arith, fits.arrival)
 
-micros_fit : (info : Metadata) → info.arrival % 1000000 < 2 ^ 32
+pub micros_fit : (info : Metadata) → info.arrival % 1000000 < 2 ^ 32
 micros_fit info = omega arith
 
 numbers : (n m : ℕ) (x y : List ℕ) → n < 2 ^ 32 → m < 2 ^ 32 → unsigned n ++ x ≡ unsigned m ++ y → x ≡ y
@@ -329,7 +329,7 @@ both_tests : (b : Bool) → b ≡ true → b ≡ false → ⊥
 both_tests b passes fails = cc
 
 -- what a fault of a text says
-abbrev TextFault : ℕ → ℕ → List ℕ → XdrFault → Type 0
+abbrev pub TextFault : ℕ → ℕ → List ℕ → XdrFault → Type 0
 TextFault limit at left (Short place) = (place ≡ at) × EndsInText limit left
 TextFault limit at left (TooLong place) = (place ≡ at) × HasNumber (limit + 1) left
 TextFault limit at left (Padding place) = HasPadding limit at left place

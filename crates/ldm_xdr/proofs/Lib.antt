@@ -6,3 +6,4 @@ pub mod MetadataFields
 pub mod Whole
 pub mod Written
 pub mod Faulty
+pub mod Refused

@@ -1,5 +1,5 @@
 //! What holds of all spellings. These functions do nothing: their contracts are the laws.
-ghost use Rattle.std.specs.Prelude.{◌≡◌, ℕ, List, [], ◌++◌, length, Err};
+ghost use Rattle.std.specs.Prelude.{◌≡◌, ◌↔◌, ℕ, List, [], ◌++◌, length, Err};
 ghost use Rattle.ldm_types.specs.Info.{Metadata, AreBytes, metadata_len};
 ghost use Rattle.ldm_xdr.specs.Faults.{IsFirstFault, Size, before, field};
 ghost use Rattle.ldm_xdr.specs.Reading.{metadata_at_front};
@@ -19,10 +19,11 @@ pub fn spelling_has_metadata_len()
     ensures { (info : Metadata) → length info.signature ≡ 16 → length (spelling info) ≡ metadata_len info }
 {}
 
-/// The fault that [`read_info`](crate::read_info) answers is that of the first field at which no spelling goes on: the
-/// bytes in front of it are those of the spelling of some metadata, and no spelling goes on with what stands there.
+/// [`read_info`](crate::read_info) answers a fault exactly where it is that of the first field at which no spelling
+/// goes on: the bytes in front of it are those of the spelling of some metadata, and no spelling goes on with what
+/// stands there.
 pub fn finds_the_first_fault()
     ensures fields { (info : Metadata) → spelling info ≡ before Size info ++ field Size info }
-    ensures first { (bytes : List ℕ) (fault : XdrFault) → AreBytes bytes → metadata_at_front bytes ≡ Err fault
-        → IsFirstFault bytes fault }
+    ensures first { (bytes : List ℕ) (fault : XdrFault) → AreBytes bytes →
+        (metadata_at_front bytes ≡ Err fault) ↔ IsFirstFault bytes fault }
 {}
