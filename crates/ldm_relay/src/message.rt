@@ -162,7 +162,7 @@ pub struct Stat {
     pub admitted: u64,
     /// How many are queued.
     pub queued: u64,
-    /// How many of these are held.
+    /// How many regions are held: those of products that cursors hold, and the reserved ones.
     pub held: u64,
     /// The bytes in use.
     pub used: u64,

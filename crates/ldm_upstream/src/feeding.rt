@@ -209,7 +209,7 @@ fn feed_class<H: Wait, K: Link, E: Sink, G: Gate, C: Clock>(
 /// The link may have given bytes that nobody looked at, with the request or behind it: these are `ahead`, and the first
 /// that are heard of the peer. Places count from the first of them.
 ///
-/// The cursor that was opened is closed at every end but `FeedEnd::Worn`, and the link at `FeedEnd::Stopped` alone.
+/// The cursor that was opened is closed at every end but `SendEnd::Worn`, and the link at `SendEnd::Stopped` alone.
 pub fn feed_behind<H: Wait, K: Link, E: Sink, G: Gate, C: Clock>(
     rt: &H,
     alloc: Global,
