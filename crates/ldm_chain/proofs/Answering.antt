@@ -36,10 +36,10 @@ use Rattle.ldm_upstream.specs.Feeding.{GoesOn, Last, MayTurn, Unanswered, bytes_
 use Rattle.ldm_upstream.specs.Turns.{entries_of_turns}
 use Rattle.ldm_upstream.specs.Feeds.{Feeds}
 use Rattle.ldm_downstream.specs.Pieces.{joined}
-use Rattle.ldm_passing.specs.Passing.{Carries, IsGranted, IsPassing, Passing}
-use Rattle.ldm_passing.specs.Ungranted.{EndsBy, IsUngranted, IsUnopened}
-use Rattle.ldm_sole_reader.specs.OnePass.{IsOnlyPass, state_of}
-use Rattle.ldm_sole_reader.proofs.OnePass.{fed-opened, seen-by, seen-legal}
+use Rattle.ldm_between_ends.specs.Passing.{Carries, IsGranted, IsPassing, Passing}
+use Rattle.ldm_between_ends.specs.Ungranted.{EndsBy, IsUngranted, IsUnopened}
+use Rattle.ldm_between_ends.specs.OnePass.{IsOnlyPass, state_of}
+use Rattle.ldm_between_ends.proofs.OnePass.{fed-opened, seen-by, seen-legal}
 use Rattle.ldm_chain.specs.Causes.{AreAllTaken, HadNoCursor}
 use Rattle.ldm_chain.specs.Reflecting.{pieces_at}
 use Rattle.ldm_chain.proofs.Cursors.{busy-taken, missed-same}

@@ -1,5 +1,5 @@
 -- Why a chain ended while a node was fed.
-use Rattle.std.proofs.Common.{◌≡◌, ℕ, ◌≤◌, true, false, ◌++◌, Option, Some, None, inl, inr, refl, ap, sym, subst, ◌∙◌, arith, List, []}
+use Rattle.std.proofs.Common.{◌≡◌, ℕ, ◌≤◌, true, false, ◌++◌, Option, Some, None, inl, inr, refl, ap, sym, subst, ◌∙◌, arith, List, [], length, length-append}
 use Rattle.std.specs.Prelude.{◌⊎◌, IsSome}
 use Rattle.ldm_types.specs.declared.class.ClassSpec.{ClassSpec}
 use Rattle.ldm_types.specs.declared.limits.TheConstants.{LARGEST_ARENA}
@@ -10,7 +10,7 @@ use Rattle.ldm_outside.specs.Count.{Rose}
 use Rattle.ldm_relay.specs.declared.message.ClassAnswer.TheVariants as class_answer
 use Rattle.ldm_model.specs.declared.event.Entry.{Entry}
 use Rattle.ldm_model.specs.History.{IsLegal}
-use Rattle.ldm_shared.specs.Passes.{Calls, HasSeen, PassView}
+use Rattle.ldm_shared.specs.Passes.{Calls, PassView}
 use Rattle.ldm_intake.specs.declared.end.RecvEnd.{RecvEnd}
 use Rattle.ldm_intake.specs.declared.end.RecvEnd.TheVariants as receive
 use Rattle.ldm_intake.specs.Receiving.{Receiving}
@@ -22,19 +22,20 @@ use Rattle.ldm_sender.specs.Asked.{Asked}
 use Rattle.ldm_sender.specs.Opening.{Answered, Denied, Reclassed, IsAnswerTo}
 use Rattle.ldm_downstream.specs.Pushing.{Ends}
 use Rattle.ldm_downstream.specs.Pieces.{beginning}
-use Rattle.ldm_sole_reader.specs.OnePass.{IsOnlyPass, state_of}
-use Rattle.ldm_sole_reader.proofs.OnePass.{seen-by}
+use Rattle.ldm_between_ends.specs.OnePass.{IsOnlyPass, state_of}
+use Rattle.ldm_between_ends.proofs.OnePass.{seen-by}
 use Rattle.ldm_chain.specs.declared.node.Break.{Break}
 use Rattle.ldm_chain.specs.declared.node.Break.TheVariants as broken
 use Rattle.ldm_chain.specs.declared.node.ChainEnd.{ChainEnd}
 use Rattle.ldm_chain.specs.Breaking.{Breaks, BreaksAt, BreaksSo, Came, FedFirst, LeavesNothing}
-use Rattle.ldm_chain.specs.Causes.{AreAllTaken, CauseAt, HadAllCalls, HadNoCursor, ReceiveCause}
+use Rattle.ldm_chain.specs.Causes.{AreAllTaken, CauseAt, HadAllCalls, HadNoCursor, ReceiveCause, StoodSo}
 use Rattle.ldm_chain.specs.Ending.{broken_off, by_receiver, by_told, by_told_of, end_by}
 use Rattle.ldm_chain.specs.Linking.{Fed, FedFewer, asking, request_read}
-use Rattle.ldm_chain.specs.MirrorView.{MirrorView}
+use Rattle.ldm_chain.specs.MirrorView.{MirrorView, all_read}
 use Rattle.ldm_chain.specs.Reflecting.{Went, pieces_at}
 use Rattle.ldm_chain.proofs.Answering.{ReclassEnds, busy-ends, busy-seen, denied-ends, no-bad_reply, reclassed-ends, stopped-goes_on}
 use Rattle.ldm_chain.proofs.FedWhole.{TookAll, still-only}
+use Rattle.ldm_chain.proofs.FedFew.{fed-over}
 use Rattle.ldm_chain.proofs.Linked.{took-rest, took-whole}
 use Rattle.ldm_chain.proofs.Narrower.{fewer-fits, fewer-other, fewer-whole}
 use Rattle.ldm_chain.proofs.Took.{IsTold, Took, took, took-told}
@@ -66,21 +67,21 @@ module _ (asked : Asked) (fewer : ClassSpec) (left : reduce asked.rules asked.ho
       let by_rules : reduce asked.rules asked.host fewer ≡ reduced.Fewer class = subst (IsAnswerTo narrower) is answers in
       let no : reduced.Same ≡ reduced.Fewer class = sym whole-left ∙ by_rules in cc no
 
-leaves-cause : (end : RecvEnd) (asked : Asked) (found from to : PassView) → LeavesNothing end asked → ReceiveCause end asked found from to
-leaves-cause (receive.BadFrame at) asked found from to leaves = leaves
-leaves-cause receive.Ended asked found from to leaves = absurd leaves
-leaves-cause (receive.Truncated at) asked found from to leaves = absurd leaves
-leaves-cause (receive.Refused answer) asked found from to leaves = absurd leaves
-leaves-cause receive.LinkFault asked found from to leaves = absurd leaves
-leaves-cause receive.LogFault asked found from to leaves = absurd leaves
-leaves-cause receive.StreamLimit asked found from to leaves = absurd leaves
-leaves-cause receive.Worn asked found from to leaves = absurd leaves
-leaves-cause receive.OutOfMemory asked found from to leaves = absurd leaves
+leaves-cause : (end : RecvEnd) (asked : Asked) (found from : PassView) → LeavesNothing end asked → ReceiveCause end asked found from
+leaves-cause (receive.BadFrame at) asked found from leaves = leaves
+leaves-cause receive.Ended asked found from leaves = absurd leaves
+leaves-cause (receive.Truncated at) asked found from leaves = absurd leaves
+leaves-cause (receive.Refused answer) asked found from leaves = absurd leaves
+leaves-cause receive.LinkFault asked found from leaves = absurd leaves
+leaves-cause receive.LogFault asked found from leaves = absurd leaves
+leaves-cause receive.StreamLimit asked found from leaves = absurd leaves
+leaves-cause receive.Worn asked found from leaves = absurd leaves
+leaves-cause receive.OutOfMemory asked found from leaves = absurd leaves
 
 -- all cursors were taken of a queue that stood so
-found-in : (one other pass : PassView) → state_of one ≡ state_of other → HadNoCursor one pass → HadNoCursor other pass
-found-in one other pass same none = record {
-  taken = subst AreAllTaken same none.taken;
+found-in : (one other pass : PassView) → (AreAllTaken (state_of one) → AreAllTaken (state_of other)) → HadNoCursor one pass → HadNoCursor other pass
+found-in one other pass taken none = record {
+  taken = taken none.taken;
   before = none.before;
   behind = none.behind;
   actor = none.actor;
@@ -92,8 +93,8 @@ found-in one other pass same none = record {
 made-legal-of : (old new : PassView) (made : List Entry) → IsOnlyPass old → Calls old new made → IsLegal new.arena new.slots new.seen
 made-legal-of old new made only calls = (seen-by old new made only.has_seen calls).has_seen.legal
 
-module _ (laws : Laws) (more : EndLaws) (asked : Asked) (number : asked.xid ≡ 1) (why : Break) (old new before after : PassView) (only : IsOnlyPass old) (next : IsOnlyPass before)
-    (breaks : BreaksSo why asked old new before after) where
+module _ (laws : Laws) (more : EndLaws) (asked : Asked) (number : asked.xid ≡ 1) (why : Break) (found old new before after : PassView) (only : IsOnlyPass old) (next : IsOnlyPass before)
+    (fresh : before.seen ≡ []) (stood : StoodSo found old) (breaks : BreaksSo why asked old new before after) where
   abbrev m : MirrorView
   m = breaks.end
 
@@ -199,9 +200,23 @@ module _ (laws : Laws) (more : EndLaws) (asked : Asked) (number : asked.xid ≡ 
 
   -- ---- ends of a feeder that need no receiver
 
-  worn : FedFirst feed.Worn asked old new at_first m ⊎ FedFewer feed.Worn breaks.b asked old new at_first m → HadAllCalls new
-  worn (inl first) = record { legal = (made-legal-of old new _ only first.fed.feeds.made); all = first.fed.feeds.cause }
-  worn (inr part) = record { legal = (made-legal-of part.mid new _ (mid-only feed.Worn part) part.rest.fed.feeds.made); all = part.rest.fed.feeds.cause }
+  worn : FedFirst feed.Worn asked old new at_first m ⊎ FedFewer feed.Worn breaks.b asked old new at_first m → HadAllCalls found new
+  worn (inl first) =
+      let feeds = first.fed.feeds in
+      let few = fed-over more feed.Worn asked old new at_first m first.fed only breaks.small in
+      let same : new.slots ≡ old.slots = ap (λ (p : PassView). p.slots) feeds.made.same in
+      record { legal = made-legal-of old new _ only feeds.made; all = feeds.cause; before = omega (arith, few, stood.calls, feeds.cause, same) }
+  worn (inr part) =
+      let feeds = part.rest.fed.feeds in
+      let few = fed-over more feed.Reclassed asked old part.mid at_first part.told part.first only breaks.small in
+      let rest = fed-over more feed.Worn (narrower asked part.rest.fewer part.rest.left) part.mid new (all_read part.told) m part.rest.fed (mid-only feed.Worn part) (mid-small feed.Worn part) in
+      let same : new.slots ≡ part.mid.slots = ap (λ (p : PassView). p.slots) feeds.made.same in
+      let before_it : part.mid.slots ≡ old.slots = ap (λ (p : PassView). p.slots) part.first.feeds.made.same in
+      record {
+        legal = made-legal-of part.mid new _ (mid-only feed.Worn part) feeds.made;
+        all = feeds.cause;
+        before = omega (arith, few, rest, stood.calls, feeds.cause, same, before_it);
+      }
 
   no-peer_end : (place : ℕ) → FedFirst (feed.PeerEnd place) asked old new at_first m ⊎ FedFewer (feed.PeerEnd place) breaks.b asked old new at_first m → ⊥
   no-peer_end place (inl first) = not-risen first.fed.feeds.cause
@@ -221,7 +236,7 @@ module _ (laws : Laws) (more : EndLaws) (asked : Asked) (number : asked.xid ≡ 
     over-not over is = none-some over (sym live ∙ is)
 
     feeder-cause : (how : SendEnd) → (how ≡ feed.Stopped → ⊥) → FedFirst how asked old new at_first m ⊎ FedFewer how breaks.b asked old new at_first m
-        → CauseAt (end_by (broken_off how)) asked old new after
+        → CauseAt (end_by (broken_off how)) asked found new
     feeder-cause feed.Stopped unlike by = absurd (unlike refl)
     feeder-cause feed.Reclassed unlike (inl first) = (let none : false ≡ true = subst (λ (e : Option RecvEnd). IsSome e) live (first.over refl) in absurd (cc none))
     feeder-cause feed.Reclassed unlike (inr part) =
@@ -249,35 +264,35 @@ module _ (laws : Laws) (more : EndLaws) (asked : Asked) (number : asked.xid ≡ 
     told-by other is = let same : Some other ≡ Some told = sym is ∙ over in cc same
 
     left-cause : (fewer : ClassSpec) → reduce asked.rules asked.host asked.class ≡ reduced.Fewer fewer → (bad : Option ℕ) → bad_place fewer.specs.items ≡ bad → ReclassEnds bad end
-        → ReceiveCause told asked old new after
+        → ReceiveCause told asked found new
     left-cause fewer left None is ends = absurd (not-live ends)
     left-cause fewer left (Some place) is ends =
-        subst (λ (e : RecvEnd). ReceiveCause e asked old new after) (told-by (receive.BadFrame ends.0) ends.1)
+        subst (λ (e : RecvEnd). ReceiveCause e asked found new) (told-by (receive.BadFrame ends.0) ends.1)
         (record { fewer = fewer; left = left; bad = subst (λ (o : Option ℕ). IsSome o) (sym is) refl })
 
     told-feeder : (how : SendEnd) → (how ≡ feed.Stopped → ⊥) → FedFirst how asked old new at_first m ⊎ FedFewer how breaks.b asked old new at_first m
-        → CauseAt (end_by (by_told_of told how)) asked old new after
+        → CauseAt (end_by (by_told_of told how)) asked found new
     told-feeder feed.Stopped unlike by = absurd (unlike refl)
     told-feeder feed.Reclassed unlike by =
         let left = reclassed took-it by in left-cause left.fewer left.left (bad_place left.fewer.specs.items) refl left.ends
     told-feeder (feed.Denied rule) unlike by =
         let denied_so = denied took-it rule by in
-        subst (λ (e : RecvEnd). ReceiveCause e asked old new after) (told-by (receive.Refused class_answer.Denied) denied_so.1) (rule, denied_so.0)
+        subst (λ (e : RecvEnd). ReceiveCause e asked found new) (told-by (receive.Refused class_answer.Denied) denied_so.1) (rule, denied_so.0)
     told-feeder (feed.PeerEnd place) unlike by = absurd (no-peer_end place by)
     told-feeder feed.LinkFault unlike by = tt
     told-feeder feed.LogFault unlike by = absurd (no-log_fault by)
     told-feeder (feed.BadReply place) unlike by = absurd (bad-reply took-it place by)
     told-feeder feed.AllBusy unlike (inl first) =
-        subst (λ (e : RecvEnd). ReceiveCause e asked old new after) (told-by (receive.Refused class_answer.Busy) (busy took-it (inl first)))
-        (busy-seen laws asked old new _ _ only first.fed.feeds)
+        subst (λ (e : RecvEnd). ReceiveCause e asked found new) (told-by (receive.Refused class_answer.Busy) (busy took-it (inl first)))
+        (found-in old found new stood.taken (busy-seen laws asked old new _ _ only first.fed.feeds))
     told-feeder feed.AllBusy unlike (inr part) =
-        subst (λ (e : RecvEnd). ReceiveCause e asked old new after) (told-by (receive.Refused class_answer.Busy) (busy took-it (inr part)))
-        (found-in part.mid old new (mid-state feed.AllBusy part)
+        subst (λ (e : RecvEnd). ReceiveCause e asked found new) (told-by (receive.Refused class_answer.Busy) (busy took-it (inr part)))
+        (found-in part.mid found new (λ all. stood.taken (subst AreAllTaken (mid-state feed.AllBusy part) all))
         (busy-seen laws (narrower asked part.rest.fewer part.rest.left) part.mid new _ _ (mid-only feed.AllBusy part) part.rest.fed.feeds))
     told-feeder feed.Worn unlike by = worn by
     told-feeder feed.OutOfMemory unlike by = tt
 
-    told-cause : (fed : Option Break) → Came fed breaks.b asked old new at_first m → CauseAt (end_by (by_told told fed)) asked old new after
+    told-cause : (fed : Option Break) → Came fed breaks.b asked old new at_first m → CauseAt (end_by (by_told told fed)) asked found new
     told-cause None came = absurd (not-live (stopped took-it came))
     told-cause (Some (broken.Feed how)) came = told-feeder how came.0 came.1
     told-cause (Some (broken.Receive bad)) came = absurd (not-live came.1)
@@ -291,47 +306,65 @@ module _ (laws : Laws) (more : EndLaws) (asked : Asked) (number : asked.xid ≡ 
   no-end over is = subst (λ (e : Option RecvEnd). Went e (pieces_at now breaks.reflects.parts) m.receiver.hand breaks.b.first (stands m.receiver.receiving m.pass (bytes_given m.passed ++ m.waiting) breaks.reflects.notes)) is
       breaks.reflects.went
 
-  receiver-worn : end ≡ Some receive.Worn → HadAllCalls after
+  -- a receiver makes far fewer calls than its queue can have
+  receiver-worn : end ≡ Some receive.Worn → ⊥
   receiver-worn is =
       let ends = no-end receive.Worn is in
-      let old_pass : breaks.b.first.pass ≡ before = ap (λ (st : Standing). st.pass) breaks.first in
-      let seen_first : HasSeen breaks.b.first.pass = subst HasSeen (sym old_pass) next.has_seen in
-      let between = (seen-by breaks.b.first.pass ends.breaks.between.pass ends.breaks.takes.made seen_first ends.breaks.takes.calls).has_seen in
-      let behind = (seen-by ends.breaks.between.pass m.pass ends.breaks.made between ends.breaks.calls).has_seen in
-      subst HadAllCalls breaks.pass_is (record { legal = behind.legal; all = ends.worn })
+      let first_pass : breaks.b.first.pass ≡ before = ap (λ (st : Standing). st.pass) breaks.first in
+      let first_only : IsOnlyPass breaks.b.first.pass = subst IsOnlyPass (sym first_pass) next in
+      let takes = ends.breaks.takes in
+      let between = ends.breaks.between.pass in
+      let between_only = still-only laws breaks.b.first.pass between takes.made first_only takes.calls in
+      let taken = laws.goes_on breaks.b.first.pass between takes.made (seen-by breaks.b.first.pass between takes.made first_only.has_seen takes.calls) first_only.passes first_only.actor in
+      let behind = laws.goes_on between m.pass ends.breaks.made (seen-by between m.pass ends.breaks.made between_only.has_seen ends.breaks.calls) between_only.passes between_only.actor in
+      let few = more.broke_off beginning (pieces_at now breaks.reflects.parts) breaks.b.first
+      (stands m.receiver.receiving m.pass (bytes_given m.passed ++ m.waiting) breaks.reflects.notes) ends.breaks in
+      let none : breaks.b.first.pass.seen ≡ [] = ap (λ (p : PassView). p.seen) first_pass ∙ fresh in
+      omega (
+        arith,
+        few,
+        breaks.few,
+        ends.worn,
+        ap (λ (es : List Entry). length es) taken,
+        ap (λ (es : List Entry). length es) behind,
+        ap (λ (es : List Entry). length es) none,
+        ap (λ (bytes : List ℕ). length bytes) breaks.reflects.sent_is,
+        length-append breaks.b.first.pass.seen takes.made,
+        length-append between.seen ends.breaks.made,
+      )
 
   by-receiver : (over : Option RecvEnd) → end ≡ over → (fed : Option Break) → Came fed breaks.b asked old new at_first m → (how : Break) → by_receiver over fed ≡ Some how
-      → CauseAt (end_by how) asked old new after
+      → CauseAt (end_by how) asked found new
   by-receiver None live None came how is = absurd (none-some how is)
   by-receiver None live (Some (broken.Feed why_fed)) came how is =
-      subst (λ (b : Break). CauseAt (end_by b) asked old new after) (let same : broken_off why_fed ≡ how = cc is in same) (feeder-cause live why_fed came.0 came.1)
+      subst (λ (b : Break). CauseAt (end_by b) asked found new) (let same : broken_off why_fed ≡ how = cc is in same) (feeder-cause live why_fed came.0 came.1)
   by-receiver None live (Some (broken.Receive bad)) came how is =
-      subst (λ (b : Break). CauseAt (end_by b) asked old new after) (let same : broken.Receive bad ≡ how = cc is in same) (leaves-cause bad asked old new after came.0)
+      subst (λ (b : Break). CauseAt (end_by b) asked found new) (let same : broken.Receive bad ≡ how = cc is in same) (leaves-cause bad asked found new came.0)
   by-receiver None live (Some broken.OutOfMemory) came how is =
-      subst (λ (b : Break). CauseAt (end_by b) asked old new after) (let same : broken.OutOfMemory ≡ how = cc is in same) tt
+      subst (λ (b : Break). CauseAt (end_by b) asked found new) (let same : broken.OutOfMemory ≡ how = cc is in same) tt
   by-receiver (Some receive.OutOfMemory) over fed came how is =
-      subst (λ (b : Break). CauseAt (end_by b) asked old new after) (let same : broken.OutOfMemory ≡ how = cc is in same) tt
-  by-receiver (Some receive.Worn) over fed came how is =
-      subst (λ (b : Break). CauseAt (end_by b) asked old new after) (let same : broken.Receive receive.Worn ≡ how = cc is in same) (receiver-worn over)
+      subst (λ (b : Break). CauseAt (end_by b) asked found new) (let same : broken.OutOfMemory ≡ how = cc is in same) tt
+  by-receiver (Some receive.Worn) over fed came how is = absurd (receiver-worn over)
   by-receiver (Some (receive.BadFrame at)) over fed came how is =
-      subst (λ (b : Break). CauseAt (end_by b) asked old new after) (let same : by_told (receive.BadFrame at) fed ≡ how = cc is in same) (told-cause (receive.BadFrame at) tt over fed came)
+      subst (λ (b : Break). CauseAt (end_by b) asked found new) (let same : by_told (receive.BadFrame at) fed ≡ how = cc is in same) (told-cause (receive.BadFrame at) tt over fed came)
   by-receiver (Some (receive.Refused answer)) over fed came how is =
-      subst (λ (b : Break). CauseAt (end_by b) asked old new after) (let same : by_told (receive.Refused answer) fed ≡ how = cc is in same) (told-cause (receive.Refused answer) tt over fed came)
+      subst (λ (b : Break). CauseAt (end_by b) asked found new) (let same : by_told (receive.Refused answer) fed ≡ how = cc is in same) (told-cause (receive.Refused answer) tt over fed came)
   by-receiver (Some receive.StreamLimit) over fed came how is =
-      subst (λ (b : Break). CauseAt (end_by b) asked old new after) (let same : by_told receive.StreamLimit fed ≡ how = cc is in same) (told-cause receive.StreamLimit tt over fed came)
+      subst (λ (b : Break). CauseAt (end_by b) asked found new) (let same : by_told receive.StreamLimit fed ≡ how = cc is in same) (told-cause receive.StreamLimit tt over fed came)
   by-receiver (Some receive.Ended) over fed came how is = absurd (no-end receive.Ended over)
   by-receiver (Some (receive.Truncated at)) over fed came how is = absurd (no-end (receive.Truncated at) over)
   by-receiver (Some receive.LinkFault) over fed came how is = absurd (no-end receive.LinkFault over)
   by-receiver (Some receive.LogFault) over fed came how is = absurd (no-end receive.LogFault over)
 
-  so-cause : CauseAt (end_by why) asked old new after
+  so-cause : CauseAt (end_by why) asked found new
   so-cause = by-receiver end refl breaks.fed breaks.came why breaks.is
 
-module _ (laws : Laws) (more : EndLaws) (asked : Asked) (number : asked.xid ≡ 1) (old new before after : PassView) (only : IsOnlyPass old) (next : IsOnlyPass before) where
-  by-break : (why : Break) → Breaks why asked old new before after → CauseAt (end_by why) asked old new after
-  by-break (broken.Feed how) breaks = so-cause laws more asked number (broken.Feed how) old new before after only next breaks
-  by-break (broken.Receive over) breaks = so-cause laws more asked number (broken.Receive over) old new before after only next breaks
+module _ (laws : Laws) (more : EndLaws) (asked : Asked) (number : asked.xid ≡ 1) (found old new before after : PassView) (only : IsOnlyPass old) (next : IsOnlyPass before)
+    (fresh : before.seen ≡ []) (stood : StoodSo found old) where
+  by-break : (why : Break) → Breaks why asked old new before after → CauseAt (end_by why) asked found new
+  by-break (broken.Feed how) breaks = so-cause laws more asked number (broken.Feed how) found old new before after only next fresh stood breaks
+  by-break (broken.Receive over) breaks = so-cause laws more asked number (broken.Receive over) found old new before after only next fresh stood breaks
   by-break broken.OutOfMemory breaks = tt
 
-  pub causes : (ending : ChainEnd) → BreaksAt ending asked old new before after → CauseAt ending asked old new after
-  causes ending breaks = subst (λ (e : ChainEnd). CauseAt e asked old new after) (sym breaks.is) (by-break breaks.why breaks.breaks)
+  pub causes : (ending : ChainEnd) → BreaksAt ending asked old new before after → CauseAt ending asked found new
+  causes ending breaks = subst (λ (e : ChainEnd). CauseAt e asked found new) (sym breaks.is) (by-break breaks.why breaks.breaks)

@@ -23,7 +23,7 @@ use Rattle.ldm_model.proofs.Cases.{by_insert}
 use Rattle.ldm_model.proofs.ReservationCases.{by_commit, by_fill, by_reserve}
 use Rattle.ldm_types.specs.Feed.{feeds_meet}
 use Rattle.ldm_upstream.specs.Blocks.{blocks}
-use Rattle.ldm_passing.specs.Queue.{announced, filled, passed, passed_all, reserved_so}
+use Rattle.ldm_between_ends.specs.Queue.{announced, filled, passed, passed_all, reserved_so}
 use Rattle.ldm_chain.specs.Causes.{AreAllTaken}
 
 -- which cursor places are taken

@@ -27,10 +27,10 @@ use Rattle.ldm_upstream.specs.Feeds.{Feeds}
 use Rattle.ldm_session.specs.declared.limits.TheConstants.{LONGEST_STREAM}
 use Rattle.ldm_downstream.specs.Pieces.{joined}
 use Rattle.ldm_downstream.specs.Received.{received}
-use Rattle.ldm_passing.specs.Passing.{Carries, HasAsked, IsAnswered, IsGranted, IsPassing, Passing, record_at}
-use Rattle.ldm_passing.specs.Queue.{passed_all}
-use Rattle.ldm_sole_reader.specs.OnePass.{IsOnlyPass, state_of}
-use Rattle.ldm_sole_reader.proofs.OnePass.{fed-makes, fed-opened, seen-by, seen-legal, seen-state, whole_entries}
+use Rattle.ldm_between_ends.specs.Passing.{Carries, HasAsked, IsAnswered, IsGranted, IsPassing, Passing, record_at}
+use Rattle.ldm_between_ends.specs.Queue.{passed_all}
+use Rattle.ldm_between_ends.specs.OnePass.{IsOnlyPass, state_of}
+use Rattle.ldm_between_ends.proofs.OnePass.{fed-makes, fed-opened, seen-by, seen-legal, seen-state, whole_entries}
 use Rattle.ldm_chain.specs.Queues.{products_due}
 use Rattle.ldm_chain.specs.Reflecting.{pieces_at}
 use Rattle.ldm_chain.proofs.UsedLaws.{Laws}

@@ -14,5 +14,6 @@ pub mod NodeQueues
 pub mod Broken
 pub mod Cursors
 pub mod Answering
+pub mod FedFew
 pub mod Causing
 pub mod NodeCauses

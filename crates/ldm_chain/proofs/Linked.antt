@@ -35,12 +35,13 @@ use Rattle.ldm_session.specs.declared.limits.TheConstants.{LONGEST_STREAM}
 use Rattle.ldm_downstream.specs.Pieces.{Piece, arrivals, beginning, hand, joined}
 use Rattle.ldm_downstream.specs.Received.{end_behind, received, with_hand}
 use Rattle.ldm_downstream.proofs.Arrivals.{arrivals-append, hand-append}
-use Rattle.ldm_passing.specs.Narrowing.{Narrows}
-use Rattle.ldm_passing.specs.Passing.{HasAsked, Passing, record_at}
-use Rattle.ldm_passing.specs.Queue.{passed_all}
-use Rattle.ldm_passing.proofs.Growing.{comes-made}
-use Rattle.ldm_sole_reader.specs.OnePass.{IsOnlyPass, state_of}
-use Rattle.ldm_sole_reader.proofs.OnePass.{fed-opened}
+use Rattle.ldm_between_ends.specs.Narrowing.{Narrows}
+use Rattle.ldm_between_ends.specs.Passing.{HasAsked, Passing, record_at}
+use Rattle.ldm_between_ends.specs.Queue.{passed_all}
+use Rattle.ldm_between_ends.proofs.Growing.{comes-made}
+use Rattle.ldm_between_ends.specs.OnePass.{IsOnlyPass, state_of}
+use Rattle.ldm_between_ends.proofs.OnePass.{fed-opened, seen-by}
+use Rattle.ldm_chain.specs.Causes.{most_received}
 use Rattle.ldm_chain.specs.Linking.{Fed, FedFewer, Links, asking, request_read}
 use Rattle.ldm_chain.specs.MirrorView.{MirrorView, all_read}
 use Rattle.ldm_chain.specs.Queues.{IsForAllTimes, fed_from, left_to, products_due}
@@ -305,6 +306,7 @@ pub record Leaves (asked : Asked) (now : ℕ) (old new before after : PassView) 
   pub queue : state_of after ≡ fed_from (state_of old) asked now (state_of before)
   pub unchanged : state_of new ≡ state_of old
   pub only : IsOnlyPass after
+  pub calls : length after.seen ≤ length before.seen + most_received
 
 module _ (laws : Laws) (asked : Asked) (now : ℕ) (old new before after' : PassView) (links : Links asked now old new before after') (number : asked.xid ≡ 1)
     (only : IsOnlyPass old) (only_next : IsOnlyPass before) (asks : IsForAllTimes asked.class) where
@@ -326,11 +328,20 @@ module _ (laws : Laws) (asked : Asked) (now : ℕ) (old new before after' : Pass
       ∙ is
       ∙ (λ i. passed_all (only_next.actor i) (most i) now (products_due (sym left i) (from_is i)) (state_of before))
 
+  -- so many calls were made of it
+  few-calls : length links.end.pass.seen ≤ length before.seen + most_received
+  few-calls =
+      let calls = end-took.calls links.goes_on in
+      let seen = laws.goes_on before links.end.pass end-took.made (seen-by before links.end.pass end-took.made only_next.has_seen calls) only_next.passes only_next.actor in
+      let few = laws.received_few before.actor (asking asked.class asked.max_hereis) beginning (pieces_at now end-took.parts) end-took.made end-took.to end-took.leads in
+      omega (arith, few, end-took.few, ap (λ (es : List Entry). length es) seen, length-append before.seen end-took.made)
+
   with-end : state_of new ≡ state_of old → state_of links.end.pass ≡ fed_from (state_of old) asked now (state_of before) → Leaves asked now old new before after'
   with-end same queue = record {
     queue = subst (λ (p : PassView). state_of p ≡ fed_from (state_of old) asked now (state_of before)) links.pass_is queue;
     unchanged = same;
     only = subst IsOnlyPass links.pass_is (still-only laws before links.end.pass end-took.made only_next (end-took.calls links.goes_on));
+    calls = subst (λ (p : PassView). length p.seen ≤ length before.seen + most_received) links.pass_is few-calls;
   }
 
   legal : IsLegalFrom (state_of before) end-took.made

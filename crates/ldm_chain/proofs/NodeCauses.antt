@@ -1,19 +1,15 @@
 -- The cause of a chain's end, at one of its nodes.
-use Rattle.std.proofs.Common.{◌≡◌, ℕ, ◌+◌, List, [], ◌∷◌, inl, inr, refl, sym, subst}
+use Rattle.std.proofs.Common.{◌≡◌, ℕ, ◌+◌, List, [], ◌∷◌, inl, inr, refl, sym, subst, arith}
 use Rattle.ldm_class.specs.Rules.{Rules}
 use Rattle.ldm_shared.specs.Passes.{PassView}
 use Rattle.ldm_sender.specs.Asked.{Asked}
-use Rattle.ldm_intake.specs.declared.end.RecvEnd.{RecvEnd}
-use Rattle.ldm_intake.specs.declared.end.RecvEnd.TheVariants as receive
-use Rattle.ldm_relay.specs.declared.message.ClassAnswer.{ClassAnswer}
-use Rattle.ldm_relay.specs.declared.message.ClassAnswer.TheVariants as class_answer
-use Rattle.ldm_sole_reader.specs.OnePass.{IsOnlyPass, state_of}
+use Rattle.ldm_between_ends.specs.OnePass.{IsOnlyPass, state_of}
 use Rattle.ldm_chain.specs.declared.node.Break.{Break}
 use Rattle.ldm_chain.specs.declared.node.ChainEnd.{ChainEnd}
 use Rattle.ldm_chain.specs.declared.node.ChainEnd.TheVariants as chain_end
 use Rattle.ldm_chain.specs.declared.node.ChainNode.{ChainNode}
 use Rattle.ldm_chain.specs.Breaking.{Breaks, BreaksAt, BreaksEach}
-use Rattle.ldm_chain.specs.Causes.{AreAllTaken, CauseAt, CauseBehind, CauseEach, CausesAll, ReceiveCause, RefusedCause}
+use Rattle.ldm_chain.specs.Causes.{AreAllTaken, CauseAt, CauseBehind, CauseEach, CausesAll, StoodSo}
 use Rattle.ldm_chain.specs.Ending.{end_by}
 use Rattle.ldm_chain.specs.Linking.{Links, asked_by, host_name}
 use Rattle.ldm_chain.specs.Queues.{AreToBeFed, IsChain, as_reduced, products_due}
@@ -44,63 +40,30 @@ breaks-behind i now host rules end from from' all to to' to'' olds news is named
 
 -- ---- causes
 
-refused-found : (answer : ClassAnswer) (asked : Asked) (one other from : PassView) → (AreAllTaken (state_of one) → AreAllTaken (state_of other)) → RefusedCause answer asked one from
-    → RefusedCause answer asked other from
-refused-found class_answer.Denied asked one other from taken cause = cause
-refused-found class_answer.Busy asked one other from taken cause = record {
-  taken = taken cause.taken;
-  before = cause.before;
-  behind = cause.behind;
-  actor = cause.actor;
-  feed = cause.feed;
-  start = cause.start;
-  all = cause.all;
-}
-refused-found class_answer.Ok asked one other from taken cause = absurd cause
-refused-found (class_answer.Reclass class) asked one other from taken cause = absurd cause
-refused-found class_answer.BadPattern asked one other from taken cause = absurd cause
-
-received-found : (end : RecvEnd) (asked : Asked) (one other from to : PassView) → (AreAllTaken (state_of one) → AreAllTaken (state_of other)) → ReceiveCause end asked one from to
-    → ReceiveCause end asked other from to
-received-found (receive.Refused answer) asked one other from to taken cause = refused-found answer asked one other from taken cause
-received-found (receive.BadFrame at) asked one other from to taken cause = cause
-received-found receive.Worn asked one other from to taken cause = cause
-received-found receive.Ended asked one other from to taken cause = absurd cause
-received-found (receive.Truncated at) asked one other from to taken cause = absurd cause
-received-found receive.LinkFault asked one other from to taken cause = absurd cause
-received-found receive.LogFault asked one other from to taken cause = absurd cause
-received-found receive.StreamLimit asked one other from to taken cause = absurd cause
-received-found receive.OutOfMemory asked one other from to taken cause = absurd cause
-
--- where all cursors were taken, they were so before
-cause-found : (end : ChainEnd) (asked : Asked) (one other from to : PassView) → (AreAllTaken (state_of one) → AreAllTaken (state_of other)) → CauseAt end asked one from to
-    → CauseAt end asked other from to
-cause-found chain_end.Done asked one other from to taken cause = cause
-cause-found (chain_end.Feed how) asked one other from to taken cause = cause
-cause-found (chain_end.Receive how) asked one other from to taken cause = received-found how asked one other from to taken cause
-cause-found chain_end.OutOfMemory asked one other from to taken cause = cause
-
 -- the law of an end
 abbrev pub CauseLaw : Type 0
-CauseLaw = (end : ChainEnd) (asked : Asked) (old new before after : PassView) → BreaksAt end asked old new before after → asked.xid ≡ 1 → IsOnlyPass old → IsOnlyPass before → CauseAt end asked old new after
+CauseLaw = (end : ChainEnd) (asked : Asked) (found old new before after : PassView) → BreaksAt end asked old new before after → asked.xid ≡ 1 → IsOnlyPass old → IsOnlyPass before → before.seen ≡ []
+    → StoodSo found old → CauseAt end asked found new
 
 module _ (law : LinkLaw) (causes : CauseLaw) (rules : Rules) where
   -- `found`: the pass of the node before, as the chain found it
   pub cause-each : (i : ℕ) (end : ChainEnd) (found from to : PassView) (olds news : List ChainNode) → BreaksEach i rules end from to olds news
-      → (AreAllTaken (state_of from) → AreAllTaken (state_of found)) → IsOnlyPass from → AreToBeFed olds → CauseEach i rules end found to olds news
-  cause-each i end found from to [] [] breaks taken only fed = absurd breaks
-  cause-each i end found from to [] (new ∷ news) breaks taken only fed = absurd breaks
-  cause-each i end found from to (old ∷ olds) [] breaks taken only fed = absurd breaks
-  cause-each i end found from to (old ∷ olds) (new ∷ news) (inl here) taken only fed =
+      → StoodSo found from → IsOnlyPass from → AreToBeFed olds → CauseEach i rules end found to olds news
+  cause-each i end found from to [] [] breaks stood only fed = absurd breaks
+  cause-each i end found from to [] (new ∷ news) breaks stood only fed = absurd breaks
+  cause-each i end found from to (old ∷ olds) [] breaks stood only fed = absurd breaks
+  cause-each i end found from to (old ∷ olds) (new ∷ news) (inl here) stood only fed =
       let asked = asked_by (host_name i) rules 1 old.class old.max_hereis in
-      inl (cause-found end asked from found to new.pass taken (causes end asked from to old.pass new.pass here refl only fed.0.only))
-  cause-each i end found from to (old ∷ olds) (new ∷ news) (inr behind) taken only fed =
+      inl (causes end asked found from to old.pass new.pass here refl only fed.0.only fed.0.not_called stood)
+  cause-each i end found from to (old ∷ olds) (new ∷ news) (inr behind) stood only fed =
       let asked = asked_by (host_name i) rules 1 old.class old.max_hereis in
       let next = law.only asked behind.0 from to old.pass behind.1 behind.2 refl only fed.0.only fed.0.class in
       let queue = law.queue asked behind.0 from to old.pass behind.1 behind.2 refl only fed.0.only fed.0.class in
-      let before : AreAllTaken (state_of behind.1) → AreAllTaken (state_of old.pass) = λ all.
-      passed-from 0 asked.max_hereis behind.0 (products_due (as_reduced asked) (state_of from)) (state_of old.pass) (subst AreAllTaken queue all) in
-      inr (cause-each (i + 1) end old.pass behind.1 new.pass olds news behind.3 before next fed.1)
+      let next_stood : StoodSo old.pass behind.1 = record {
+        calls = law.calls asked behind.0 from to old.pass behind.1 behind.2 refl only fed.0.only fed.0.class;
+        taken = λ all. passed-from 0 asked.max_hereis behind.0 (products_due (as_reduced asked) (state_of from)) (state_of old.pass) (subst AreAllTaken queue all);
+      } in
+      inr (cause-each (i + 1) end old.pass behind.1 new.pass olds news behind.3 next_stood next fed.1)
 
   causes-all : (end : ChainEnd) (olds news : List ChainNode) → ((end ≡ chain_end.Done → ⊥) → CauseBehind 1 rules end olds news) → CausesAll 1 rules end olds news
   causes-all chain_end.Done olds news cause = tt
@@ -114,4 +77,5 @@ module _ (law : LinkLaw) (causes : CauseLaw) (rules : Rules) where
   causes-of end all first others new news is fed breaks =
       let there : IsChain (first ∷ others) = subst IsChain is fed in
       subst (λ (ns : List ChainNode). CausesAll 1 rules end ns (new ∷ news)) (sym is)
-      (causes-all end (first ∷ others) (new ∷ news) (λ more. cause-each 1 end first.pass first.pass new.pass others news (breaks more) (λ all. all) there.0 there.1))
+      (causes-all end (first ∷ others) (new ∷ news)
+      (λ more. cause-each 1 end first.pass first.pass new.pass others news (breaks more) (record { calls = omega arith; taken = λ all. all }) there.0 there.1))

@@ -1,5 +1,5 @@
 -- What stands in the queues of nodes that are fed one after another.
-use Rattle.std.proofs.Common.{◌≡◌, ℕ, ◌+◌, List, [], ◌∷◌, refl, ap, sym, subst, ◌∙◌}
+use Rattle.std.proofs.Common.{◌≡◌, ℕ, ◌+◌, ◌≤◌, List, [], ◌∷◌, length, refl, ap, sym, subst, ◌∙◌}
 use Rattle.ldm_class.specs.Rules.{Rules}
 use Rattle.ldm_outside.specs.Clock.{ClockRecord}
 use Rattle.ldm_model.specs.State.{State}
@@ -8,8 +8,9 @@ use Rattle.ldm_model.specs.declared.event.Entry.{Entry}
 use Rattle.ldm_shared.specs.Passes.{PassView}
 use Rattle.ldm_session.specs.Exchange.{AnsweredAll}
 use Rattle.ldm_sender.specs.Asked.{Asked}
-use Rattle.ldm_sole_reader.specs.OnePass.{IsOnlyPass, state_of}
+use Rattle.ldm_between_ends.specs.OnePass.{IsOnlyPass, state_of}
 use Rattle.ldm_chain.specs.declared.node.ChainNode.{ChainNode}
+use Rattle.ldm_chain.specs.Causes.{most_received}
 use Rattle.ldm_chain.specs.Linking.{Links, asked_by, host_name}
 use Rattle.ldm_chain.specs.Nodes.{LinksEach, LinksAll}
 use Rattle.ldm_chain.specs.Queues.{AreToBeFed, IsChain, IsForAllTimes, QueuesAll, QueuesEach, fed_from, new_queue}
@@ -22,6 +23,8 @@ pub record LinkLaw : Type 0 where
       → IsForAllTimes asked.class → state_of new ≡ state_of old
   pub only : (asked : Asked) (now : ℕ) (old new before after' : PassView) → Links asked now old new before after' → asked.xid ≡ 1 → IsOnlyPass old → IsOnlyPass before
       → IsForAllTimes asked.class → IsOnlyPass after'
+  pub calls : (asked : Asked) (now : ℕ) (old new before after' : PassView) → Links asked now old new before after' → asked.xid ≡ 1 → IsOnlyPass old → IsOnlyPass before
+      → IsForAllTimes asked.class → length after'.seen ≤ length before.seen + most_received
 
 module _ (law : LinkLaw) (rules : Rules) where
   pub queues-each : (i : ℕ) (from to : PassView) (olds news : List ChainNode) (instants : List ℕ) → LinksEach i rules from to olds news instants → IsOnlyPass from

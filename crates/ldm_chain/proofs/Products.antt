@@ -16,10 +16,10 @@ use Rattle.ldm_upstream.specs.Turn.{Given, Turn, Lost, Gave, Quiet, Alive}
 use Rattle.ldm_upstream.specs.Turn as turn
 use Rattle.ldm_upstream.specs.Feeding.{Last, GoesOn, Stopped, Unanswered, last_given}
 use Rattle.ldm_upstream.specs.Course.{AreRows}
-use Rattle.ldm_passing.specs.Handed.{handed_in, handed_last}
-use Rattle.ldm_passing.specs.Passing.{IsSound}
-use Rattle.ldm_passing.specs.Queue.{products_of}
-use Rattle.ldm_sole_reader.specs.Alone.{offered_in}
+use Rattle.ldm_between_ends.specs.Handed.{handed_in, handed_last}
+use Rattle.ldm_between_ends.specs.Passing.{IsSound}
+use Rattle.ldm_between_ends.specs.Queue.{products_of}
+use Rattle.ldm_between_ends.specs.Alone.{offered_in}
 use Rattle.ldm_chain.proofs.UsedLaws.{Laws}
 
 -- ---- what is handed on was offered

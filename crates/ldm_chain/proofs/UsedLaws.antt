@@ -1,5 +1,5 @@
 -- The laws that lead from the calls of a link to the states of its queues.
-use Rattle.std.proofs.Common.{◌≡◌, ℕ, ◌≤◌, List, ◌++◌, length, Some, None}
+use Rattle.std.proofs.Common.{◌≡◌, ℕ, ◌+◌, ◌*◌, ◌≤◌, List, ◌++◌, length, Some, None}
 use Rattle.std.specs.Prelude.{true, slice_get}
 use Rattle.ldm_types.specs.declared.class.ClassSpec.{ClassSpec}
 use Rattle.ldm_types.specs.declared.limits.TheConstants.{LARGEST_ARENA}
@@ -9,12 +9,15 @@ use Rattle.ldm_model.specs.Product.{Product, extent_of}
 use Rattle.ldm_model.specs.State.{Row, State}
 use Rattle.ldm_model.specs.History.{after, after_entries, IsAdmitted, IsLegal, IsLegalFrom}
 use Rattle.ldm_class.specs.Classes.{resumed}
-use Rattle.ldm_rpc.specs.Streams.{Placed}
+use Rattle.ldm_rpc.specs.Streams.{Placed, Position}
 use Rattle.ldm_outside.specs.Session.{SessionRecord}
 use Rattle.ldm_shared.specs.Passes.{PassView, Makes}
 use Rattle.ldm_session.specs.Owed.{IsNoReply, Said}
 use Rattle.ldm_intake.specs.Course.{Leads}
+use Rattle.ldm_intake.specs.Receiving.{Receiving}
 use Rattle.ldm_intake.specs.Room.{records_of}
+use Rattle.ldm_intake.specs.Taken.{Taken}
+use Rattle.ldm_intake.specs.TakesRecord.{Standing}
 use Rattle.ldm_reader.specs.Staying.{HasRow}
 use Rattle.ldm_sender.specs.declared.end.SendEnd.{SendEnd}
 use Rattle.ldm_sender.specs.declared.end.SendEnd.TheVariants as end
@@ -23,15 +26,19 @@ use Rattle.ldm_sender.specs.Asked.{Asked}
 use Rattle.ldm_upstream.specs.Turn.{Given}
 use Rattle.ldm_upstream.specs.Feeding.{Unanswered, codes_of, stands}
 use Rattle.ldm_upstream.specs.Feeds.{Feeds}
+use Rattle.ldm_upstream.specs.Turns.{goes_of_turns}
+use Rattle.ldm_downstream.specs.Pieces.{Piece, arrivals, joined}
 use Rattle.ldm_downstream.specs.Received.{received}
-use Rattle.ldm_passing.specs.Codes.{Agree, soon_codes}
-use Rattle.ldm_passing.specs.Handed.{handed}
-use Rattle.ldm_passing.specs.Narrowing.{IsNarrowing, Narrows}
-use Rattle.ldm_passing.specs.Passing.{CameAt, Carries, CarriesAll, HasAsked, IsAnswered, IsGranted, IsPassing, IsSound, Passing, record_at}
-use Rattle.ldm_passing.specs.Queue.{passed_all, products_of}
-use Rattle.ldm_passing.specs.Ungranted.{EndsByReply, IsUngranted}
-use Rattle.ldm_sole_reader.specs.Alone.{due_rows, offered_of}
-use Rattle.ldm_sole_reader.specs.OnePass.{IsOnlyPass, state_of}
+use Rattle.ldm_downstream.specs.Taking.{BreaksOff}
+use Rattle.ldm_between_ends.specs.Counts.{most_fed}
+use Rattle.ldm_between_ends.specs.Codes.{Agree, soon_codes}
+use Rattle.ldm_between_ends.specs.Handed.{handed}
+use Rattle.ldm_between_ends.specs.Narrowing.{IsNarrowing, Narrows}
+use Rattle.ldm_between_ends.specs.Passing.{CameAt, Carries, CarriesAll, HasAsked, IsAnswered, IsGranted, IsPassing, IsSound, Passing, record_at}
+use Rattle.ldm_between_ends.specs.Queue.{passed_all, products_of}
+use Rattle.ldm_between_ends.specs.Ungranted.{EndsByReply, IsUngranted}
+use Rattle.ldm_between_ends.specs.Alone.{due_rows, offered_of}
+use Rattle.ldm_between_ends.specs.OnePass.{IsOnlyPass, state_of}
 
 pub record Laws : Type 0 where
   -- of products that pass
@@ -53,11 +60,18 @@ pub record Laws : Type 0 where
       → IsAdmitted history n row.product row.time
   pub sized : (arena slots : ℕ) (history : List Entry) → IsLegal arena slots history → (n : ℕ) (product : Product) (time : ℕ)
       → HasRow n product time (after arena slots history) → length product.body ≡ product.info.size
+  -- of the calls of a receiver
+  pub received_few : (actor : ℕ) (s : Receiving) (p : Position) (pieces : List Piece) (made : List Entry) (to : Taken) → Leads actor (received s p pieces) made to
+      → length made ≤ 2 * length (joined pieces)
   pub fits : (arena slots : ℕ) (history : List Entry) → IsLegal arena slots history → (n : ℕ) (product : Product) (time : ℕ)
       → HasRow n product time (after arena slots history) → extent_of product.info ≤ arena
 
--- The laws that lead from the bytes of a feeding to the end of its receiver.
+-- The laws that lead from the bytes of a feeding to the end of its receiver, and those on how many calls both make.
 pub record EndLaws : Type 0 where
+  pub fed : (why : SendEnd) (asked : Asked) (ahead : List ℕ) (old new : PassView) (before after : SessionRecord) → (feeds : Feeds why asked ahead old new before after) → IsOnlyPass old
+      → old.arena ≤ LARGEST_ARENA → length new.seen ≤ length old.seen + most_fed (length (goes_of_turns feeds.feeding.turns)) old.slots
+  pub broke_off : (p : Position) (pieces : List Piece) (old new : Standing) (breaks : BreaksOff (arrivals p pieces) old new)
+      → length breaks.takes.made + length breaks.made ≤ 2 * length (joined pieces) + 2
   pub live : (p : Passing) → IsPassing p → p.came_to.end ≡ None
   pub replied : (p : Passing) (ungranted : IsUngranted p) → EndsByReply p ungranted
   pub answered : (p : Passing) (product : Given) (sent_at at : ℕ) (given more : List ℕ) (behind : List Placed) → IsPassing p → CarriesAll p

@@ -1,5 +1,5 @@
 -- Why a chain ended before each node was fed: the cause of each end, at the node that it came from.
-use Rattle.std.specs.Prelude.{◌≡◌, ◌⊎◌, ℕ, ◌+◌, true, List, [], ◌∷◌, ◌++◌, length, IsSome, is_some}
+use Rattle.std.specs.Prelude.{◌≡◌, ◌⊎◌, ℕ, ◌+◌, ◌*◌, ◌≤◌, true, List, [], ◌∷◌, ◌++◌, length, IsSome, is_some}
 use Rattle.std.specs.List.{list_all}
 use Rattle.ldm_types.specs.declared.class.ClassSpec.{ClassSpec}
 use Rattle.ldm_types.specs.declared.feed.Feed.{Feed}
@@ -22,18 +22,31 @@ use Rattle.ldm_intake.specs.declared.end.RecvEnd.TheVariants as receive
 use Rattle.ldm_sender.specs.declared.end.SendEnd.{SendEnd}
 use Rattle.ldm_sender.specs.declared.end.SendEnd.TheVariants as feed
 use Rattle.ldm_sender.specs.Asked.{Asked}
-use Rattle.ldm_sole_reader.specs.OnePass.{state_of}
+use Rattle.ldm_session.specs.declared.limits.TheConstants.{LONGEST_STREAM}
+use Rattle.ldm_between_ends.specs.Counts.{most_fed}
+use Rattle.ldm_between_ends.specs.OnePass.{state_of}
 use Rattle.ldm_chain.specs.declared.node.ChainEnd.{ChainEnd}
 use Rattle.ldm_chain.specs.declared.node.ChainEnd.TheVariants as chain_end
 use Rattle.ldm_chain.specs.declared.node.ChainNode.{ChainNode}
 use Rattle.ldm_chain.specs.Linking.{asked_by, host_name}
 
+-- ---- how often a chain calls a queue, at most
+
+-- where it feeds the queue: a record asks for two calls at most, and a mirror takes fewer bytes than a stream may have
+abbrev pub most_received : ℕ
+most_received = 2 * LONGEST_STREAM + 2
+
+-- and where the next one is fed from it, by a class or by what is left of it
+abbrev pub most_called : ℕ → ℕ
+most_called slots = most_received + 2 * most_fed 0 slots
+
 -- ---- at one node
 
--- The queue of a pass has had all the calls that it can have.
-pub record HadAllCalls (pass : PassView) : Type 0 where
+-- The queue of a pass has had all the calls that it can have, nearly all of them before the chain began, when the pass stood as `found`.
+pub record HadAllCalls (found pass : PassView) : Type 0 where
   pub legal : IsLegal pass.arena pass.slots pass.seen
   pub all : length pass.seen ≡ MOST_TURNS
+  pub before : MOST_TURNS ≤ length found.seen + most_called pass.slots
 
 -- each of the 64 cursor places of a queue is taken
 abbrev pub AreAllTaken : State → Type 0
@@ -60,14 +73,20 @@ pub record HadNoCursor (found pass : PassView) : Type 0 where
   pub start : Start
   pub all : pass.seen ≡ before ++ record { actor = actor; event = OpenCursor feed start; reply = AllBusy } ∷ behind
 
--- `from` is the pass of the node before and `to` that of the node itself, as the chain left them. `found` is that of the node before as the
--- chain found it.
+-- What a feeding finds of a pass that stood as `found` when the chain began.
+pub record StoodSo (found pass : PassView) : Type 0 where
+  -- since then it made no more calls than feeding its queue makes
+  pub calls : length pass.seen ≤ length found.seen + most_received
+  -- where all cursors are taken, they were so then
+  pub taken : AreAllTaken (state_of pass) → AreAllTaken (state_of found)
+
+-- `from` is the pass of the node before as the chain left it, and `found` as the chain found it.
 
 -- the feeder ended so
-abbrev pub FeedCause : SendEnd → (from : PassView) → Type 0
-FeedCause feed.Worn from = HadAllCalls from
-FeedCause feed.OutOfMemory from = Unit {0}
-FeedCause _ from = ⊥
+abbrev pub FeedCause : SendEnd → (found from : PassView) → Type 0
+FeedCause feed.Worn found from = HadAllCalls found from
+FeedCause feed.OutOfMemory found from = Unit {0}
+FeedCause _ found from = ⊥
 
 -- the request of the receiver was declined by this answer
 abbrev pub RefusedCause : ClassAnswer → Asked → (found from : PassView) → Type 0
@@ -76,18 +95,17 @@ RefusedCause class_answer.Busy asked found from = HadNoCursor found from
 RefusedCause _ asked found from = ⊥
 
 -- the receiver ended so
-abbrev pub ReceiveCause : RecvEnd → Asked → (found from to : PassView) → Type 0
-ReceiveCause (receive.Refused answer) asked found from to = RefusedCause answer asked found from
-ReceiveCause (receive.BadFrame at) asked found from to = MeansNothing asked
-ReceiveCause receive.Worn asked found from to = HadAllCalls to
-ReceiveCause _ asked found from to = ⊥
+abbrev pub ReceiveCause : RecvEnd → Asked → (found from : PassView) → Type 0
+ReceiveCause (receive.Refused answer) asked found from = RefusedCause answer asked found from
+ReceiveCause (receive.BadFrame at) asked found from = MeansNothing asked
+ReceiveCause _ asked found from = ⊥
 
 -- the chain ended so, while this node was fed
-abbrev pub CauseAt : ChainEnd → Asked → (found from to : PassView) → Type 0
-CauseAt chain_end.Done asked found from to = ⊥
-CauseAt (chain_end.Feed end) asked found from to = FeedCause end from
-CauseAt (chain_end.Receive end) asked found from to = ReceiveCause end asked found from to
-CauseAt chain_end.OutOfMemory asked found from to = Unit {0}
+abbrev pub CauseAt : ChainEnd → Asked → (found from : PassView) → Type 0
+CauseAt chain_end.Done asked found from = ⊥
+CauseAt (chain_end.Feed end) asked found from = FeedCause end found from
+CauseAt (chain_end.Receive end) asked found from = ReceiveCause end asked found from
+CauseAt chain_end.OutOfMemory asked found from = Unit {0}
 
 -- ---- at one of some nodes
 
@@ -97,7 +115,7 @@ CauseEach i rules end found from [] [] = ⊥
 CauseEach i rules end found from [] (new ∷ news) = ⊥
 CauseEach i rules end found from (old ∷ olds) [] = ⊥
 CauseEach i rules end found from (old ∷ olds) (new ∷ news) =
-    CauseAt end (asked_by (host_name i) rules 1 old.class old.max_hereis) found from new.pass ⊎ CauseEach (i + 1) rules end old.pass new.pass olds news
+    CauseAt end (asked_by (host_name i) rules 1 old.class old.max_hereis) found from ⊎ CauseEach (i + 1) rules end old.pass new.pass olds news
 
 -- at one of the nodes behind the first one
 abbrev pub CauseBehind : ℕ → Rules → ChainEnd → (olds news : List ChainNode) → Type 0

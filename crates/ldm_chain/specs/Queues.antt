@@ -11,9 +11,9 @@ use Rattle.ldm_class.specs.declared.answers.Reduced.{Reduced}
 use Rattle.ldm_class.specs.declared.answers.Reduced.TheVariants.{Same, Fewer, Nothing}
 use Rattle.ldm_sender.specs.Asked.{Asked}
 use Rattle.ldm_upstream.specs.Turn.{Given}
-use Rattle.ldm_passing.specs.Queue.{passed_all}
-use Rattle.ldm_sole_reader.specs.Alone.{due_rows}
-use Rattle.ldm_sole_reader.specs.OnePass.{IsOnlyPass, state_of}
+use Rattle.ldm_between_ends.specs.Queue.{passed_all}
+use Rattle.ldm_between_ends.specs.Alone.{due_rows}
+use Rattle.ldm_between_ends.specs.OnePass.{IsOnlyPass, state_of}
 use Rattle.ldm_chain.specs.declared.node.ChainNode.{ChainNode}
 use Rattle.ldm_chain.specs.Linking.{asked_by, host_name}
 

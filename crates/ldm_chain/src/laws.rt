@@ -1,22 +1,22 @@
 //! What a link of a chain leaves. The function does nothing: its contract is the law.
-ghost use Rattle.std.specs.Prelude.{◌≡◌, ℕ};
+ghost use Rattle.std.specs.Prelude.{◌≡◌, ℕ, ◌+◌, ◌≤◌, [], length};
 ghost use Rattle.ldm_shared.specs.Passes.{PassView};
 ghost use Rattle.ldm_sender.specs.Asked.{Asked};
-ghost use Rattle.ldm_sole_reader.specs.OnePass.{IsOnlyPass, state_of};
+ghost use Rattle.ldm_between_ends.specs.OnePass.{IsOnlyPass, state_of};
 ghost use Rattle.ldm_chain.specs.declared.node.ChainEnd.{ChainEnd};
 ghost use Rattle.ldm_chain.specs.Breaking.{BreaksAt};
-ghost use Rattle.ldm_chain.specs.Causes.{CauseAt};
+ghost use Rattle.ldm_chain.specs.Causes.{CauseAt, StoodSo, most_received};
 ghost use Rattle.ldm_chain.specs.Linking.{Links};
 ghost use Rattle.ldm_chain.specs.Queues.{IsForAllTimes, fed_from};
 
-use ldm_model::products_were_admitted;
-use ldm_passing::{
+use ldm_between_ends::{
     a_narrower_class_is_asked_for, a_queue_is_passed_on, a_reply_is_taken,
-    announcements_are_answered, products_are_passed_on, the_setting_is_met,
+    announcements_are_answered, few_calls_are_made, one_pass_is_fed_all, products_are_passed_on,
+    the_setting_is_met,
 };
+use ldm_model::products_were_admitted;
 use ldm_reader::products_stay;
 use ldm_shared::one_pass;
-use ldm_sole_reader::one_pass_is_fed_all;
 
 /// What a node leaves that was fed from the one before it, whole, where each of the two queues has one pass.
 pub fn a_link_passes_on()
@@ -33,21 +33,28 @@ pub fn a_link_passes_on()
     ensures only { (asked : Asked) (now : ℕ) (old new before after : PassView) → Links asked now old new before after
         → asked.xid ≡ 1 →
         IsOnlyPass old → IsOnlyPass before → IsForAllTimes asked.class → IsOnlyPass after }
+    // So many calls at most were made of its queue.
+    ensures calls { (asked : Asked) (now : ℕ) (old new before after : PassView) → Links asked now old new before after
+        → asked.xid ≡ 1 →
+        IsOnlyPass old → IsOnlyPass before → IsForAllTimes asked.class
+        → length after.seen ≤ length before.seen + most_received }
 {
     the_setting_is_met();
     a_queue_is_passed_on();
     a_narrower_class_is_asked_for();
     one_pass_is_fed_all();
+    few_calls_are_made();
     one_pass();
     products_were_admitted();
     products_stay();
 }
 
-/// Why a chain ended while a node was fed from the one before it, where each of the two queues has one pass.
+/// Why a chain ended while a node was fed from the one before it, where each of the two queues has one pass, and the
+/// node's was not called before. The pass of the node before stood as `found` when the chain began.
 pub fn a_break_has_a_cause()
-    ensures { (end : ChainEnd) (asked : Asked) (old new before after : PassView)
+    ensures { (end : ChainEnd) (asked : Asked) (found old new before after : PassView)
         → BreaksAt end asked old new before after → asked.xid ≡ 1 →
-        IsOnlyPass old → IsOnlyPass before → CauseAt end asked old new after }
+        IsOnlyPass old → IsOnlyPass before → before.seen ≡ [] → StoodSo found old → CauseAt end asked found new }
 {
     the_setting_is_met();
     products_are_passed_on();
@@ -56,6 +63,7 @@ pub fn a_break_has_a_cause()
     a_reply_is_taken();
     announcements_are_answered();
     one_pass_is_fed_all();
+    few_calls_are_made();
     one_pass();
     products_were_admitted();
     products_stay();

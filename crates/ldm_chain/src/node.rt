@@ -23,10 +23,10 @@ pub struct ChainNode {
 pub enum ChainEnd {
     /// Each node was fed from the one before it.
     Done,
-    /// The feeder of a node ended so: `Worn`, or `OutOfMemory`.
+    /// The feeder of a node ended so: `OutOfMemory`; or `Worn`, of a queue that had nearly all its calls before.
     Feed(FeedEnd),
-    /// The receiver of a node ended so: `Refused` with `Denied` or with `Busy`, `BadFrame` by a pattern of a narrower
-    /// class that means nothing, or `Worn`.
+    /// The receiver of a node ended so: `Refused` with `Denied` or with `Busy`, or `BadFrame` by a pattern of a
+    /// narrower class that means nothing.
     Receive(RecvEnd),
     /// There is no memory.
     OutOfMemory,

@@ -8,6 +8,7 @@ returns-clause-queues g c = λ done.
       queue = c.a_link_passes_on.ensures.queue;
       unchanged = c.a_link_passes_on.ensures.unchanged;
       only = c.a_link_passes_on.ensures.only;
+      calls = c.a_link_passes_on.ensures.calls;
     } in
     queues-of law c.args.policy.now c.args.nodes.now c.in-Some.first.now c.in-Some.others.now c.link_all.new.from c.link_all.new.nodes
     (g.C.Clock.tells c.args.clock.now) (g.C.Clock.tells c.link_all.new.clock) c.in-Some.ensures.cases.0 c.requires.chain (c.link_all.ensures.done done)
@@ -18,6 +19,7 @@ returns-clause-cause g c =
       queue = c.a_link_passes_on.ensures.queue;
       unchanged = c.a_link_passes_on.ensures.unchanged;
       only = c.a_link_passes_on.ensures.only;
+      calls = c.a_link_passes_on.ensures.calls;
     } in
     causes-of law c.a_break_has_a_cause.ensures c.args.policy.now c.link_all.result c.args.nodes.now c.in-Some.first.now c.in-Some.others.now c.link_all.new.from c.link_all.new.nodes
     c.in-Some.ensures.cases.0 c.requires.chain c.link_all.ensures.broken

@@ -15,6 +15,7 @@ laws c = record {
   admitted = c.products_were_admitted.ensures;
   sized = c.products_stay.ensures.whole;
   fits = c.products_stay.ensures.fits;
+  received_few = c.few_calls_are_made.ensures.received;
 }
 
 abbrev end_laws : goal.After-products_stay → EndLaws
@@ -22,7 +23,10 @@ end_laws c = record {
   live = c.products_are_passed_on.ensures.goes_on;
   replied = c.a_reply_is_taken.ensures;
   answered = c.announcements_are_answered.ensures;
+  fed = c.few_calls_are_made.ensures.fed;
+  broke_off = c.few_calls_are_made.ensures.broke_off;
 }
 
 pub returns : goal.returns
-returns c = λ end asked old new before after breaks number only next. causes (laws c) (end_laws c) asked number old new before after only next end breaks
+returns c = λ end asked found old new before after breaks number only next fresh stood.
+    causes (laws c) (end_laws c) asked number found old new before after only next fresh stood end breaks

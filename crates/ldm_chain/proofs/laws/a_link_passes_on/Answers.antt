@@ -15,6 +15,7 @@ laws c = record {
   admitted = c.products_were_admitted.ensures;
   sized = c.products_stay.ensures.whole;
   fits = c.products_stay.ensures.fits;
+  received_few = c.few_calls_are_made.ensures.received;
 }
 
 pub returns-clause-queue : goal.returns-clause-queue
@@ -25,3 +26,6 @@ returns-clause-unchanged c = λ asked now old new before after links number only
 
 pub returns-clause-only : goal.returns-clause-only
 returns-clause-only c = λ asked now old new before after links number only next asks. (leaves (laws c) asked now old new before after links number only next asks).only
+
+pub returns-clause-calls : goal.returns-clause-calls
+returns-clause-calls c = λ asked now old new before after links number only next asks. (leaves (laws c) asked now old new before after links number only next asks).calls

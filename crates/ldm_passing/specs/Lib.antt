@@ -1,9 +1,0 @@
-pub mod Handed
-pub mod Takings
-pub mod Codes
-pub mod Passing
-pub mod Queue
-pub mod Narrowing
-pub mod Ungranted
-pub mod Examples
-pub mod Hearing

@@ -1,9 +1,0 @@
-use Rattle.ldm_resuming.proofs.Living.{has-life, fed-life}
-use Rattle.ldm_resuming.proofs.laws.feedings_have_lives.Goals as goal
-
-pub returns-clause-called : goal.returns-clause-called
-returns-clause-called c = λ old new asked feeding missed k called unmade more has calls answered are none.
-    has-life c.own_readers.ensures.seen old new asked feeding missed k called unmade more has calls answered are none
-
-pub returns-clause-fed : goal.returns-clause-fed
-returns-clause-fed c = fed-life c.own_readers.ensures.seen

@@ -1,4 +1,0 @@
-pub mod Alone
-pub mod Reading
-pub mod Examples
-pub mod OnePass
