@@ -6,7 +6,7 @@ use ldm_drive::Trial;
 use ldm_drive_sessions::{
     Case, clock_of, hold_some, insert_all, policy_of, queue_of, reserve_all, tell_bytes, tell_queue,
 };
-use ldm_respond::{RespondFault, Responded, respond};
+use ldm_serve::{RespondFault, Responded, respond};
 use ldm_shared::{Pass, Shared};
 use std::sync::Wait;
 

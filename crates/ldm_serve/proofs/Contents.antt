@@ -2,10 +2,10 @@
 use Rattle.std.proofs.Common.{◌≡◌, ℕ, true, false, List, [], ◌∷◌, Some, refl, sym, ap}
 use Rattle.std.specs.Prelude.{◌&&◌}
 use Rattle.ldm_rpc.specs.Streams.{Placed}
-use Rattle.ldm_respond.specs.declared.responded.Responded.{Responded}
-use Rattle.ldm_respond.specs.declared.responded.Responded.TheVariants as responded
-use Rattle.ldm_respond.specs.Respond.{respond}
-use Rattle.ldm_respond.specs.Responds.{IsGiven, Standing, goes_on}
+use Rattle.ldm_serve.specs.declared.responded.Responded.{Responded}
+use Rattle.ldm_serve.specs.declared.responded.Responded.TheVariants as responded
+use Rattle.ldm_serve.specs.Respond.{respond}
+use Rattle.ldm_serve.specs.Responds.{IsGiven, Standing, goes_on}
 use Rattle.ldm_serve.specs.declared.serving.Answered.TheVariants as answered
 use Rattle.ldm_serve.specs.Contents.{Finds, FindsEnd, found, stop_of}
 use Rattle.ldm_serve.specs.Steps.{Client, is_on}

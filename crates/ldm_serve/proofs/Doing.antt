@@ -17,10 +17,10 @@ use Rattle.ldm_shared.specs.Passes.{Calls}
 use Rattle.ldm_shared.proofs.Made.{calls_none, calls_trans}
 use Rattle.ldm_intake.specs.Course.{Leads}
 use Rattle.ldm_intake.specs.Room.{records_of}
-use Rattle.ldm_respond.specs.Answering.{answering}
-use Rattle.ldm_respond.specs.Respond.{respond}
-use Rattle.ldm_respond.specs.Response.{Response, Says, Puts, Figures, Feeds, Receives, Notifies, Refuses, Denies}
-use Rattle.ldm_respond.specs.Responds.{AsksClock, IsGiven, Standing}
+use Rattle.ldm_serve.specs.Answering.{answering}
+use Rattle.ldm_serve.specs.Respond.{respond}
+use Rattle.ldm_serve.specs.Response.{Response, Says, Puts, Figures, Feeds, Receives, Notifies, Refuses, Denies}
+use Rattle.ldm_serve.specs.Responds.{AsksClock, IsGiven, Standing}
 use Rattle.ldm_serve.specs.Steps.{AreSteps, Client, Does, Step, asked_for, entries_of, instants_of, is_outlived, messages_of, placed_of, response_of}
 use Rattle.ldm_serve.specs.Turns.{AnswersAll}
 

@@ -29,7 +29,7 @@ use Rattle.ldm_intake.specs.Taken.{Arrival, Taken, after_step, taken, taken_none
 use Rattle.ldm_intake.proofs.FeedCourses.{feeding}
 use Rattle.ldm_serve.specs.Steps.{Client}
 use Rattle.ldm_serve.specs.Kept.{AllTellNone, MayHandIn, WasReserved}
-use Rattle.ldm_serve.proofs.Asking.{AsksOnly, asks-if, asks-then, reserved-more}
+use Rattle.ldm_serve.proofs.PuttingIn.{AsksOnly, asks-if, asks-then, reserved-more}
 
 pub none-append : (first second : List Sent) → AllTellNone first → AllTellNone second → AllTellNone (first ++ second)
 none-append [] second one two = two

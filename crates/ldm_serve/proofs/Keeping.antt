@@ -27,12 +27,12 @@ use Rattle.ldm_intake.specs.declared.end.RecvEnd.{RecvEnd}
 use Rattle.ldm_intake.specs.Course.{Begins, Comes, Leads}
 use Rattle.ldm_intake.specs.Room.{records_of}
 use Rattle.ldm_intake.proofs.Courses.{leads-begins}
-use Rattle.ldm_respond.specs.declared.responded.Responded.{Responded}
-use Rattle.ldm_respond.specs.declared.responded.Responded.TheVariants as responded
-use Rattle.ldm_respond.specs.Answering.{answering, events_of}
-use Rattle.ldm_respond.specs.Respond.{respond}
-use Rattle.ldm_respond.specs.Response.{Response, Says, Puts, Figures, Feeds, Receives, Notifies, Refuses, Denies}
-use Rattle.ldm_respond.specs.Responds.{goes_on}
+use Rattle.ldm_serve.specs.declared.responded.Responded.{Responded}
+use Rattle.ldm_serve.specs.declared.responded.Responded.TheVariants as responded
+use Rattle.ldm_serve.specs.Answering.{answering, events_of}
+use Rattle.ldm_serve.specs.Respond.{respond}
+use Rattle.ldm_serve.specs.Response.{Response, Says, Puts, Figures, Feeds, Receives, Notifies, Refuses, Denies}
+use Rattle.ldm_serve.specs.Responds.{goes_on}
 use Rattle.ldm_upstream.specs.Feeding as feeding
 use Rattle.ldm_notify.specs.declared.end.NotifyEnd.{NotifyEnd}
 use Rattle.ldm_notify.specs.Notifying as notifying
@@ -45,7 +45,7 @@ use Rattle.ldm_serve.specs.Connection.{Answers, Moment, entries_in, messages_in,
 use Rattle.ldm_serve.specs.Becoming.{IsDenied, IsFed, IsNotified, IsReceived, IsRefused, ungated}
 use Rattle.ldm_serve.specs.Serve.{EndsBy, EndsWorn, ServesAll}
 use Rattle.ldm_serve.specs.Kept.{AllPutIn, AllTell, MayHandIn, PutsIn, SendsOnly}
-use Rattle.ldm_serve.proofs.Asking.{all_put-append}
+use Rattle.ldm_serve.proofs.PuttingIn.{all_put-append}
 use Rattle.ldm_serve.proofs.Calling.{closing-none, feeding-puts_none, none-put_in, notifying-puts_none, puts-append, puts-part}
 use Rattle.ldm_serve.proofs.Pushed.{received-pushes}
 use Rattle.ldm_serve.proofs.Telling.{feeding-tells, messages-none, none-tell, notifying-tells, tell-append}

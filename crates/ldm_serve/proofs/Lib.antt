@@ -1,3 +1,7 @@
+pub mod Lengths
+pub mod Giving
+pub mod Knowing
+pub mod KeepingRules
 pub mod Doing
 pub mod Contents
 pub mod First
@@ -7,7 +11,7 @@ pub mod Reaching
 pub mod Turning
 pub mod Coming
 pub mod Narrowing
-pub mod Asking
+pub mod PuttingIn
 pub mod HandingIn
 pub mod Pushed
 pub mod Calling

@@ -24,7 +24,7 @@ use Rattle.ldm_downstream.specs.Received.{received, with_hand}
 use Rattle.ldm_downstream.specs.Receives as receives
 use Rattle.ldm_serve.specs.Steps.{Client}
 use Rattle.ldm_serve.specs.Kept.{AllPutIn, AllTellNone}
-use Rattle.ldm_serve.proofs.Asking.{AsksOnly, all_put-append, asks-then, begins-asked, leads-asked}
+use Rattle.ldm_serve.proofs.PuttingIn.{AsksOnly, all_put-append, asks-then, begins-asked, leads-asked}
 use Rattle.ldm_serve.proofs.HandingIn.{Keeps, StepKeeps, TakenKeeps, accepting-keeps, closing-keeps, record-keeps, taken-keeps}
 
 same_actor : (client : Client) (old new : PassView) (made : List Entry) → old.actor ≡ client.actor → Calls old new made → new.actor ≡ client.actor

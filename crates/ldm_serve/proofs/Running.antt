@@ -12,8 +12,8 @@ use Rattle.ldm_rpc.proofs.Pushed.{taken_at_end}
 use Rattle.ldm_rpc.proofs.Steps.{taken_open}
 use Rattle.ldm_rpc.proofs.CallerLemmas.{IsReading, reads_none, reads_more, reads_all, reads_fault}
 use Rattle.ldm_shared.specs.Passes.{PassView}
-use Rattle.ldm_respond.specs.declared.responded.Responded.{Responded}
-use Rattle.ldm_respond.specs.Responds.{Standing}
+use Rattle.ldm_serve.specs.declared.responded.Responded.{Responded}
+use Rattle.ldm_serve.specs.Responds.{Standing}
 use Rattle.ldm_serve.specs.declared.serving.Answered.{Answered}
 use Rattle.ldm_serve.specs.declared.serving.Answered.TheVariants as answered
 use Rattle.ldm_serve.specs.Served.{BreaksOff, GoesOn, IsOver, IsTooLong, IsWorn, Serves}

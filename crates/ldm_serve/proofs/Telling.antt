@@ -26,11 +26,11 @@ use Rattle.ldm_sender.specs.Calls.{later_call}
 use Rattle.ldm_sender.specs.Due.{is_due}
 use Rattle.ldm_sender.specs.Opening.{class_answer_of}
 use Rattle.ldm_intake.specs.Course.{Comes, Leads}
-use Rattle.ldm_respond.specs.declared.hiya.TheConstants.{MAX_HEREIS}
-use Rattle.ldm_respond.specs.Access.{may_know, may_push}
-use Rattle.ldm_respond.specs.Answering.{answering, put_replies, stat_replies}
-use Rattle.ldm_respond.specs.Respond.{means_all, respond, to_call, to_fault, to_offer, to_reading}
-use Rattle.ldm_respond.specs.Response.{Response, Says, Puts, Figures, Feeds, Receives, Notifies, Refuses, Denies}
+use Rattle.ldm_serve.specs.declared.hiya.TheConstants.{MAX_HEREIS}
+use Rattle.ldm_serve.specs.Access.{may_know, may_push}
+use Rattle.ldm_serve.specs.Answering.{answering, put_replies, stat_replies}
+use Rattle.ldm_serve.specs.Respond.{means_all, respond, to_call, to_fault, to_offer, to_reading}
+use Rattle.ldm_serve.specs.Response.{Response, Says, Puts, Figures, Feeds, Receives, Notifies, Refuses, Denies}
 use Rattle.ldm_upstream.specs.Turn as feed
 use Rattle.ldm_upstream.specs.Turns as feed_turns
 use Rattle.ldm_upstream.specs.Feeding as feeding

@@ -12,10 +12,10 @@ use Rattle.ldm_rpc.specs.Streams.{Placed, Position, in_hand, records_in}
 use Rattle.ldm_shared.specs.Passes.{Calls, PassView}
 use Rattle.ldm_session.specs.Exchange.{AnsweredAll, Exchanged}
 use Rattle.ldm_intake.specs.Room.{records_of}
-use Rattle.ldm_respond.specs.declared.responded.Responded.{Responded}
-use Rattle.ldm_respond.specs.Respond.{respond}
-use Rattle.ldm_respond.specs.Response.{Response, Says, Puts, Figures, Feeds, Receives, Notifies, Refuses, Denies}
-use Rattle.ldm_respond.specs.Responds.{RunsOut, Standing, goes_on, stands}
+use Rattle.ldm_serve.specs.declared.responded.Responded.{Responded}
+use Rattle.ldm_serve.specs.Respond.{respond}
+use Rattle.ldm_serve.specs.Response.{Response, Says, Puts, Figures, Feeds, Receives, Notifies, Refuses, Denies}
+use Rattle.ldm_serve.specs.Responds.{RunsOut, Standing, goes_on, stands}
 use Rattle.ldm_serve.specs.declared.end.ServeEnd.{ServeEnd}
 use Rattle.ldm_serve.specs.declared.end.ServeEnd.TheVariants as end
 use Rattle.ldm_serve.specs.declared.serving.Answered.{Answered}

@@ -23,8 +23,8 @@ use Rattle.ldm_intake.specs.declared.end.RecvEnd.{RecvEnd}
 use Rattle.ldm_intake.specs.Opening.{accepting}
 use Rattle.ldm_intake.specs.Room.{records_of}
 use Rattle.ldm_downstream.specs.Receives.{ReceivesAll}
-use Rattle.ldm_respond.specs.declared.responded.Responded.{Responded}
-use Rattle.ldm_respond.specs.declared.responded.Responded.TheVariants as responded
+use Rattle.ldm_serve.specs.declared.responded.Responded.{Responded}
+use Rattle.ldm_serve.specs.declared.responded.Responded.TheVariants as responded
 use Rattle.ldm_serve.specs.declared.end.ServeEnd.{ServeEnd}
 use Rattle.ldm_serve.specs.declared.end.ServeEnd.TheVariants as end
 use Rattle.ldm_serve.specs.Steps.{Client}

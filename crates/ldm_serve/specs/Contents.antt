@@ -1,9 +1,9 @@
 -- What a server does with the content of a record, if there is one.
 use Rattle.std.specs.Prelude.{◌≡◌, ℕ, List, [], ◌∷◌, Option, Some, None}
 use Rattle.ldm_rpc.specs.Streams.{Placed}
-use Rattle.ldm_respond.specs.declared.responded.Responded.{Responded}
-use Rattle.ldm_respond.specs.declared.responded.Responded.TheVariants as responded
-use Rattle.ldm_respond.specs.Responds.{Standing}
+use Rattle.ldm_serve.specs.declared.responded.Responded.{Responded}
+use Rattle.ldm_serve.specs.declared.responded.Responded.TheVariants as responded
+use Rattle.ldm_serve.specs.Responds.{Standing}
 use Rattle.ldm_serve.specs.declared.serving.Answered.{Answered}
 use Rattle.ldm_serve.specs.declared.serving.Answered.TheVariants as answered
 use Rattle.ldm_serve.specs.Steps.{Client}

@@ -1,3 +1,10 @@
+pub mod Response
+pub mod Access
+pub mod Respond
+pub mod Answering
+pub mod AskedView
+pub mod Responds
+pub mod Examples
 pub mod Steps
 pub mod ServingView
 pub mod Turns

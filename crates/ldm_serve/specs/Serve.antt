@@ -8,8 +8,8 @@ use Rattle.ldm_rpc.specs.Streams.{Placed, in_hand, records_in}
 use Rattle.ldm_session.specs.declared.limits.TheConstants.{LONGEST_STREAM}
 use Rattle.ldm_sender.specs.Ending.{IsLeft}
 use Rattle.ldm_notify.specs.Notifies.{send_end}
-use Rattle.ldm_respond.specs.Respond.{respond}
-use Rattle.ldm_respond.specs.Responds.{RunsOut, goes_on, stands}
+use Rattle.ldm_serve.specs.Respond.{respond}
+use Rattle.ldm_serve.specs.Responds.{RunsOut, goes_on, stands}
 use Rattle.ldm_serve.specs.declared.end.ServeEnd.{ServeEnd}
 use Rattle.ldm_serve.specs.declared.end.ServeEnd.TheVariants as end
 use Rattle.ldm_serve.specs.Steps.{Client, Step, response_of}

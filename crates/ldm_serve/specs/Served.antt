@@ -2,8 +2,8 @@
 use Rattle.std.specs.Prelude.{◌≡◌, ℕ, ◌-◌, ◌<◌, true, false, List, [], ◌∷◌, ◌++◌, length, drop}
 use Rattle.ldm_rpc.specs.Reading.{is_faulty, is_pending}
 use Rattle.ldm_rpc.specs.Streams.{Position, Placed, records_in, in_hand}
-use Rattle.ldm_respond.specs.declared.responded.Responded.{Responded}
-use Rattle.ldm_respond.specs.Responds.{Standing}
+use Rattle.ldm_serve.specs.declared.responded.Responded.{Responded}
+use Rattle.ldm_serve.specs.Responds.{Standing}
 use Rattle.ldm_serve.specs.declared.serving.Answered.{Answered}
 use Rattle.ldm_serve.specs.declared.serving.Answered.TheVariants as answered
 use Rattle.ldm_serve.specs.Steps.{Client}

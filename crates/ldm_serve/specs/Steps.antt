@@ -9,12 +9,12 @@ use Rattle.ldm_shared.specs.Passes.{Calls}
 use Rattle.ldm_session.specs.Exchange.{AnsweredAll}
 use Rattle.ldm_intake.specs.Course.{Leads}
 use Rattle.ldm_intake.specs.Room.{records_of}
-use Rattle.ldm_respond.specs.declared.responded.Responded.{Responded}
-use Rattle.ldm_respond.specs.declared.responded.Responded.TheVariants as responded
-use Rattle.ldm_respond.specs.Answering.{answering}
-use Rattle.ldm_respond.specs.Respond.{respond}
-use Rattle.ldm_respond.specs.Response.{Response, Puts}
-use Rattle.ldm_respond.specs.Responds.{Standing, goes_on}
+use Rattle.ldm_serve.specs.declared.responded.Responded.{Responded}
+use Rattle.ldm_serve.specs.declared.responded.Responded.TheVariants as responded
+use Rattle.ldm_serve.specs.Answering.{answering}
+use Rattle.ldm_serve.specs.Respond.{respond}
+use Rattle.ldm_serve.specs.Response.{Response, Puts}
+use Rattle.ldm_serve.specs.Responds.{Standing, goes_on}
 
 -- Who is served: the rules of access, the host, and the actor that calls the queue for it.
 pub record Client : Type 0 where

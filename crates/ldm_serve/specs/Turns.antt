@@ -2,9 +2,9 @@
 use Rattle.std.specs.Prelude.{◌≡◌, ℕ, ◌+◌, ◌<◌, ◌≤◌, true, false, List, [], ◌∷◌, length, Result, Ok, Err}
 use Rattle.ldm_rpc.specs.Reading.{after, bytes_taken, is_faulty}
 use Rattle.ldm_rpc.specs.Streams.{Position, Placed, forgets, given}
-use Rattle.ldm_respond.specs.declared.responded.Responded.{Responded}
-use Rattle.ldm_respond.specs.Respond.{respond}
-use Rattle.ldm_respond.specs.Responds.{Standing, RunsOut, goes_on}
+use Rattle.ldm_serve.specs.declared.responded.Responded.{Responded}
+use Rattle.ldm_serve.specs.Respond.{respond}
+use Rattle.ldm_serve.specs.Responds.{Standing, RunsOut, goes_on}
 use Rattle.ldm_serve.specs.declared.serving.Answered.{Answered}
 use Rattle.ldm_serve.specs.declared.serving.Answered.TheVariants as answered
 use Rattle.ldm_serve.specs.Steps.{Client, Step, AllOutlived, Does, is_on, placed_of, response_of}

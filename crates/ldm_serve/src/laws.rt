@@ -9,7 +9,7 @@ ghost use Rattle.ldm_serve.specs.Connection.{Answers, Moment, messages_in};
 ghost use Rattle.ldm_serve.specs.Serve.{ServesAll};
 ghost use Rattle.ldm_serve.specs.Kept.{AllPutIn, AllTellNone, SendsOnly};
 
-use ldm_respond::rules_are_kept;
+use crate::response_laws::rules_are_kept;
 
 /// Whatever a host sends, the rules decide what it hands in and what it is told, from the first byte of its connection
 /// to the last. It does nothing.

@@ -3,16 +3,17 @@ ghost use Rattle.std.specs.Prelude.{◌≡◌, ◌<◌, ◌≤◌, ◌+◌, ◌^
 ghost use Rattle.std.specs.Option.{option_copied};
 ghost use Rattle.ldm_rpc.specs.Reading.{is_faulty, is_pending};
 ghost use Rattle.ldm_shared.specs.Passes.{IsPassOf, IsSamePass};
-ghost use Rattle.ldm_respond.specs.Responds.{stands};
+ghost use Rattle.ldm_serve.specs.Responds.{stands};
 ghost use Rattle.ldm_serve.specs.ServingView.{beginning};
 ghost use Rattle.ldm_serve.specs.Served.{Serves};
 ghost use Rattle.ldm_serve.specs.Turns.{Turns};
 ghost use Rattle.ldm_serve.specs.Contents.{Finds, stop_of};
 
+use crate::responded::{RespondFault, Responded};
+use crate::responding::respond;
 use ldm_class::Policy;
 use ldm_outside::Clock;
 use ldm_relay::LARGEST_RECORD;
-use ldm_respond::{RespondFault, Responded, respond};
 use ldm_rpc::{Records, RpcFault};
 use ldm_shared::{Pass, Shared};
 use std::alloc::Global;

@@ -1,5 +1,5 @@
 use Rattle.std.proofs.Common.{Some, refl, sym, subst}
-use Rattle.ldm_respond.specs.Responds.{stands}
+use Rattle.ldm_serve.specs.Responds.{stands}
 use Rattle.ldm_serve.specs.declared.serving.Answered.{Answered}
 use Rattle.ldm_serve.specs.Contents.{Finds}
 use Rattle.ldm_serve.specs.Steps.{Client}

@@ -1,6 +1,6 @@
 use Rattle.std.proofs.Common.{◌≡◌, ℕ, true, eqb, List, [], ◌∷◌, length, refl, sym, subst, arith}
 use Rattle.std.proofs.lemmas.Bool.{both_ways, ne_eqb}
-use Rattle.ldm_respond.specs.Responds.{stands}
+use Rattle.ldm_serve.specs.Responds.{stands}
 use Rattle.ldm_serve.specs.Steps.{Client}
 use Rattle.ldm_serve.specs.Turns.{Stops, TakesFirst}
 use Rattle.ldm_serve.proofs.Running.{runs-none, runs-more, runs-all, same-client, stops-all}

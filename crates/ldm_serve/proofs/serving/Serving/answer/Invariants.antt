@@ -1,5 +1,5 @@
 use Rattle.std.proofs.Common.{length}
-use Rattle.ldm_respond.specs.Responds.{stands}
+use Rattle.ldm_serve.specs.Responds.{stands}
 use Rattle.ldm_serve.proofs.Running.{IsRunning}
 use Rattle.ldm_serve.proofs.serving.Serving.answer.Given as goal
 

@@ -1,4 +1,0 @@
-pub mod Lengths
-pub mod Giving
-pub mod Knowing
-pub mod Keeping

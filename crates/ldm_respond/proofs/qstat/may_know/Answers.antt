@@ -1,5 +1,0 @@
-use Rattle.ldm_respond.proofs.Knowing.{any_about}
-use Rattle.ldm_respond.proofs.qstat.may_know.Goals as goal
-
-pub returns : goal.returns
-returns c = any_about c.args.policy.now.allow c.args.host.now c.no_class.result c.in_ok-rule.field-0 c.in-Nothing.rule c.no_class.ensures c.in_ok-rule.ensures c.in-Nothing.is

@@ -1,0 +1,62 @@
+//! Answers of the queue, as the peer is told them.
+ghost use Rattle.std.specs.Prelude.{◌≡◌, ℕ, ◌++◌, ◌∷◌, [], Some};
+ghost use Rattle.ldm_model.specs.Answers.{insert_answer, stat_answer};
+ghost use Rattle.ldm_relay.specs.Sent as sent;
+ghost use Rattle.ldm_intake.specs.Room.{records_of};
+ghost use Rattle.ldm_serve.specs.Answering.{put_replies, stat_replies};
+ghost use Rattle.ldm_serve.specs.Responds.{HasAnswerRoom};
+
+use ldm_model::InsertReply;
+use ldm_relay::{Message, PutAnswer, PutReply, QstatReply, Stat, write_message};
+
+// Appends the answer to the PUT of that number.
+pub(crate) fn put_answer(out: &mut Vec<u8>, xid: u32, answer: PutAnswer)
+    requires { HasAnswerRoom out.old }
+    ensures { out.new.items ≡ out.old.items ++ records_of (sent.PutReply xid answer ∷ []) }
+{
+    let message = Message::PutReply(PutReply { xid, answer });
+    if write_message(&message, out).is_err() {
+        unreachable!();
+    }
+}
+
+// Appends the answer to the QSTAT of that number.
+pub(crate) fn put_stat(out: &mut Vec<u8>, xid: u32, stat: Option<Stat>)
+    requires { HasAnswerRoom out.old }
+    ensures { out.new.items ≡ out.old.items ++ records_of (sent.QstatReply xid stat ∷ []) }
+{
+    let message = Message::QstatReply(QstatReply { xid, stat });
+    if write_message(&message, out).is_err() {
+        unreachable!();
+    }
+}
+
+// What the peer is told of an insertion.
+pub(crate) fn answer_of(reply: InsertReply) -> PutAnswer
+    ensures { (xid : ℕ) → put_replies xid (insert_answer reply) ≡ sent.PutReply xid result ∷ [] }
+{
+    match reply {
+        InsertReply::Admitted { n, time, evicted } => PutAnswer::Admitted {
+            n,
+            time: time.get(),
+            evicted,
+        },
+        InsertReply::TooBig { need, arena } => PutAnswer::TooBig { need, arena },
+        InsertReply::Duplicate { n } => PutAnswer::Duplicate { n },
+        InsertReply::TimeEnd => PutAnswer::TimeEnd,
+        InsertReply::Locked { held } => PutAnswer::Locked { held },
+    }
+}
+
+// What the peer is told of the queue's figures.
+pub(crate) fn figures_of(stat: ldm_model::Stat) -> Stat
+    ensures { (xid : ℕ) → stat_replies xid (stat_answer stat) ≡ sent.QstatReply xid (Some result) ∷ [] }
+{
+    Stat {
+        admitted: stat.admitted,
+        queued: stat.queued,
+        held: stat.held,
+        used: stat.used,
+        largest_free: stat.largest_free,
+    }
+}
