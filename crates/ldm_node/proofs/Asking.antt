@@ -1,8 +1,8 @@
--- What a node asks its net for, and what it is told of the last pass.
-use Rattle.std.proofs.Common.{◌≡◌, ℕ, ◌+◌, ◌-◌, ◌<◌, List, length, map, get_or, sym, ap, subst, ◌∙◌, arith}
+-- How many passes and stations a node has, and what it is told of the last pass.
+use Rattle.std.proofs.Common.{◌≡◌, ℕ, ◌+◌, List, length, map, get_or, ap, subst, ◌∙◌, arith}
 use Rattle.std.specs.List.{All, range_with_len}
 use Rattle.std.proofs.lemmas.List.{length-map}
-use Rattle.std.proofs.lemmas.List.FromFn.{length-map-range_with_len, get_or-map-range_with_len}
+use Rattle.std.proofs.lemmas.List.FromFn.{length-map-range_with_len}
 use Rattle.ldm_outside.specs.Station.{StationRecord, IsNew}
 use Rattle.ldm_model.specs.History.{IsLegal}
 use Rattle.ldm_shared.specs.Passes.{SharedView, PassView, IsLast, new_pass}
@@ -11,8 +11,8 @@ use Rattle.ldm_node.proofs.Posting.{none_out}
 use Rattle.std.specs.Prelude.{Option}
 
 -- as many stations as workers have one
-pub asked_for : {X Y : Type 0} (f : X → Y) (xs : List X) (count passes workers : ℕ) → count + 1 ≡ passes → passes ≡ workers + length xs + 1 → count ≡ workers + length (map f xs)
-asked_for f xs count passes workers below all = omega (arith, below, all, length-map xs f)
+pub one_each : {X Y : Type 0} (f : X → Y) (xs : List X) (count workers : ℕ) → count ≡ workers + length xs → count ≡ workers + length (map f xs)
+one_each f xs count workers is = omega (arith, is, length-map xs f)
 
 -- what the last pass has seen is a legal history of its queue
 pub last_legal : (shared : SharedView) (last : PassView) → IsLast shared last → IsLegal shared.arena shared.slots last.seen
@@ -21,13 +21,6 @@ last_legal shared last is = subst (λ (p : PassView). IsLegal p.arena p.slots la
 pub all_out : {S : Type 0} (tells : S → StationRecord) (idles : Option ℕ) (stations : List S) → All (λ station. IsNew idles (tells station)) stations
     → All (λ station. NoneOut (tells station)) stations
 all_out tells idles stations new k d less = none_out idles (tells (get_or stations k d)) (new k d less)
-
--- the actor of the last pass
-pub last_actor : (shared : SharedView) (passes : List PassView) (d : PassView) (i : ℕ) → passes ≡ map (new_pass shared) (range_with_len 0 shared.passes) → i + 1 ≡ shared.passes
-    → (get_or passes i d).actor ≡ i
-last_actor shared passes d i are size =
-    ap (λ (p : PassView). p.actor)
-    (ap (λ (ps : List PassView). get_or ps i d) are ∙ get_or-map-range_with_len (new_pass shared) 0 shared.passes i i d (omega (arith, size)) (omega arith))
 
 pub count_passes : (shared : SharedView) (passes : List PassView) → passes ≡ map (new_pass shared) (range_with_len 0 shared.passes) → length passes ≡ shared.passes
 count_passes shared passes are = ap length are ∙ length-map-range_with_len (new_pass shared) 0 shared.passes

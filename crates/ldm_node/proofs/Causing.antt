@@ -1,25 +1,20 @@
 -- Why a node ends.
-use Rattle.std.proofs.Common.{◌≡◌, ℕ, zero, suc, ◌+◌, ◌-◌, ◌^◌, ◌<◌, ◌≤◌, ◌⊎◌, List, [], ◌∷◌, length, map, get_or, Option, refl, sym, ap, subst, ◌∙◌, inl, inr, arith, length-append}
-use Rattle.std.specs.Prelude.{Contains}
+use Rattle.std.proofs.Common.{◌≡◌, ℕ, zero, suc, ◌+◌, ◌<◌, List, [], ◌∷◌, length, map, get_or, Option, refl, sym, ap, subst, ◌∙◌, inl, inr, arith, length-append}
 use Rattle.std.specs.List.{All}
 use Rattle.std.proofs.lemmas.List.{length-map, get_or-map}
 use Rattle.ldm_outside.specs.Count.{Rose}
-use Rattle.ldm_outside.specs.declared.net.Manned.{Manned}
-use Rattle.ldm_outside.specs.declared.net.Manned.TheVariants as manned
-use Rattle.ldm_outside.specs.Dial.{DialRecord}
 use Rattle.ldm_outside.specs.Door.{DoorRecord}
-use Rattle.ldm_outside.specs.Net.{StationsGive}
 use Rattle.ldm_outside.specs.Station.{StationRecord, IsNew}
 use Rattle.ldm_shared.specs.declared.steps.TheConstants.{MOST_TURNS}
 use Rattle.ldm_shared.specs.Passes.{SharedView, PassView, IsLast}
-use Rattle.ldm_worker_log.specs.declared.stop.NodeStop.{NodeStop}
-use Rattle.ldm_worker_log.specs.declared.stop.NodeStop.TheVariants.{Done, NetFault, LogFault, Worn, OutOfMemory}
-use Rattle.ldm_acceptor.specs.Works.{RoseBy}
+use Rattle.ldm_node.specs.declared.stop.NodeStop.{NodeStop}
+use Rattle.ldm_node.specs.declared.stop.NodeStop.TheVariants.{Done, NetFault, LogFault, Worn, OutOfMemory}
+use Rattle.ldm_node.specs.DoorWorks.{RoseBy}
 use Rattle.ldm_node.specs.Causes.{Completes, MayBeDone, NodeCause, SomeHas}
-use Rattle.ldm_node.specs.Node.{AllRun, Answers, Mans, NoneBegan, Outcome}
+use Rattle.ldm_node.specs.Node.{AllRun, Outcome, Staffs}
 use Rattle.ldm_node.specs.Roles.{Plan, Role, LetsIn, Asks, Rests, role_of}
 use Rattle.ldm_node.specs.Stops.{first_stop}
-use Rattle.ldm_node.specs.Workers.{HasCause, Runs}
+use Rattle.ldm_node.specs.Workers.{HasCause}
 
 -- a count that rose from 0 is above it
 pub above : (old new : ℕ) → old ≡ 0 → Rose old new → 0 < new
@@ -120,23 +115,23 @@ module _ {S : Type 0} (tells : S → StationRecord) (plan : Plan) (idles : Optio
       let station = tells (get_or left.stations actor s) in
       (station, (actor, omega (arith, less, count, length-map left.stations tells), told_at actor s station less), has)
 
-  pub run_cause : (old_net new_net : DialRecord) → length given ≡ plan.workers + length plan.requests → (stop : NodeStop) → left.end ≡ stop
-      → NodeCause stop plan old_net new_net (map tells left.stations) left.pass
-  run_cause old_net new_net size Done is =
+  pub run_cause : length given ≡ plan.workers + length plan.requests → (stop : NodeStop) → left.end ≡ stop
+      → NodeCause stop plan (map tells left.stations) left.pass
+  run_cause size Done is =
       let count = run.count in
       let long : length (map tells left.stations) ≡ length given = length-map left.stations tells ∙ count in
       (long ∙ size, λ actor d less. each_done is actor d (omega (arith, less, long)))
-  run_cause old_net new_net size NetFault is =
+  run_cause size NetFault is =
       let at = first_at NetFault is (λ e. absurd (cc e)) in
       let runs = run.each at.0 at.1 at.2 in
-      inr (some_has (λ station. 0 < station.door.faults) at.0 at.1 at.2
-      (net_failed plan idles runs.pass (tells (get_or given at.0 at.1)) (tells (get_or left.stations at.0 at.1)) (new at.0 at.1 at.2) (role_of plan at.0) at.3))
-  run_cause old_net new_net size LogFault is =
+      some_has (λ station. 0 < station.door.faults) at.0 at.1 at.2
+      (net_failed plan idles runs.pass (tells (get_or given at.0 at.1)) (tells (get_or left.stations at.0 at.1)) (new at.0 at.1 at.2) (role_of plan at.0) at.3)
+  run_cause size LogFault is =
       let at = first_at LogFault is (λ e. absurd (cc e)) in
       let runs = run.each at.0 at.1 at.2 in
       some_has (λ station. 0 < station.log.faults) at.0 at.1 at.2
       (log_failed plan idles runs.pass (tells (get_or given at.0 at.1)) (tells (get_or left.stations at.0 at.1)) (new at.0 at.1 at.2) (role_of plan at.0) at.3)
-  run_cause old_net new_net size Worn is =
+  run_cause size Worn is =
       let at = first_at Worn is (λ e. absurd (cc e)) in
       let runs = run.each at.0 at.1 at.2 in
       let worn = is_worn plan (role_of plan at.0) runs.pass (tells (get_or given at.0 at.1)) (tells (get_or left.stations at.0 at.1)) at.3 in
@@ -144,51 +139,28 @@ module _ {S : Type 0} (tells : S → StationRecord) (plan : Plan) (idles : Optio
       let long : length left.pass.seen ≡ length runs.pass.seen + length begins.0 = ap length (sym begins.1) ∙ length-append runs.pass.seen begins.0 in
       let few_calls = is_last.has_seen.few in
       omega (arith, long, worn, few_calls)
-  run_cause old_net new_net size OutOfMemory is = tt
+  run_cause size OutOfMemory is = tt
 
--- the cause of a node's end, by what the net gave
-pub node_cause : {S : Type 0} (tells : S → StationRecord) (plan : Plan) (idles : Option ℕ) (shared : SharedView) (old_net new_net : DialRecord) (left : Outcome S)
-    → IsLast shared left.pass → (given : Manned S) → StationsGive tells given (plan.workers + length plan.requests) idles old_net new_net
-    → Answers tells given plan shared left → NodeCause left.end plan old_net new_net (map tells left.stations) left.pass
-node_cause tells plan idles shared old_net new_net left is_last (manned.Stations given) gives (inl run) =
-    let size = gives.0 in
-    run_cause tells plan idles shared given.items left is_last gives.1 run old_net new_net (omega (arith, size, given.ok)) left.end refl
-node_cause tells plan idles shared old_net new_net left is_last (manned.Stations given) gives (inr none) =
-    subst (λ (end : NodeStop). NodeCause end plan old_net new_net (map tells left.stations) left.pass) (sym none.end) tt
-node_cause tells plan idles shared old_net new_net left is_last manned.Failed gives none =
-    subst (λ (end : NodeStop). NodeCause end plan old_net new_net (map tells left.stations) left.pass) (sym none.end) (inl gives.0)
-node_cause tells plan idles shared old_net new_net left is_last manned.OutOfMemory gives none =
-    subst (λ (end : NodeStop). NodeCause end plan old_net new_net (map tells left.stations) left.pass) (sym none.end) tt
-
--- what the net gave, and what came of it
-pub mans : {S : Type 0} (tells : S → StationRecord) (plan : Plan) (idles : Option ℕ) (shared : SharedView) (old_net new_net : DialRecord) (left : Outcome S) (given : Manned S) (count : ℕ)
-    → count ≡ plan.workers + length plan.requests → StationsGive tells given count idles old_net new_net → Answers tells given plan shared left
-    → Mans tells plan idles shared old_net new_net left
-mans tells plan idles shared old_net new_net left given count is gives answers = record {
-  given = given;
-  gives = subst (λ (n : ℕ). StationsGive tells given n idles old_net new_net) is gives;
-  answers = answers;
-}
-
-pub mans_cause : {S : Type 0} (tells : S → StationRecord) (plan : Plan) (idles : Option ℕ) (shared : SharedView) (old_net new_net : DialRecord) (left : Outcome S)
-    → IsLast shared left.pass → Mans tells plan idles shared old_net new_net left
-    → NodeCause left.end plan old_net new_net (map tells left.stations) left.pass
-mans_cause tells plan idles shared old_net new_net left is_last mans = node_cause tells plan idles shared old_net new_net left is_last mans.given mans.gives mans.answers
+-- the cause of a node's end, by what came of its stations
+pub staffs_cause : {S : Type 0} (tells : S → StationRecord) (plan : Plan) (idles : Option ℕ) (shared : SharedView) (given : List S) (left : Outcome S) → IsLast shared left.pass
+    → All (λ station. IsNew idles (tells station)) given → length given ≡ plan.workers + length plan.requests → Staffs tells plan shared given left
+    → NodeCause left.end plan (map tells left.stations) left.pass
+staffs_cause tells plan idles shared given left is_last new size (inl run) = run_cause tells plan idles shared given left is_last new run size left.end refl
+staffs_cause tells plan idles shared given left is_last new size (inr none) =
+    subst (λ (end : NodeStop). NodeCause end plan (map tells left.stations) left.pass) (sym none.end) tt
 
 -- where nothing failed
-pub completes : (plan : Plan) (last : PassView) (old_net new_net : DialRecord) (stations : List StationRecord) (end : NodeStop) → NodeCause end plan old_net new_net stations last
-    → Completes end old_net new_net stations
-completes plan last old_net new_net stations Done cause = λ net none. inl refl
-completes plan last old_net new_net stations NetFault (inl rose) = λ net none. absurd (net rose)
-completes plan last old_net new_net stations NetFault (inr some) = λ net none.
+pub completes : (plan : Plan) (last : PassView) (stations : List StationRecord) (end : NodeStop) → NodeCause end plan stations last → Completes end stations
+completes plan last stations Done cause = λ none. inl refl
+completes plan last stations NetFault some = λ none.
     let found = some.1 in
     let zero_is : some.0.door.faults ≡ 0 = ap (λ (station : StationRecord). station.door.faults) (sym found.2) ∙ (none found.0 some.0 found.1).0 in
     let has = some.2 in
     absurd (omega (arith, zero_is, has))
-completes plan last old_net new_net stations LogFault some = λ net none.
+completes plan last stations LogFault some = λ none.
     let found = some.1 in
     let zero_is : some.0.log.faults ≡ 0 = ap (λ (station : StationRecord). station.log.faults) (sym found.2) ∙ (none found.0 some.0 found.1).1 in
     let has = some.2 in
     absurd (omega (arith, zero_is, has))
-completes plan last old_net new_net stations Worn cause = λ net none. inr (inl refl)
-completes plan last old_net new_net stations OutOfMemory cause = λ net none. inr (inr refl)
+completes plan last stations Worn cause = λ none. inr (inl refl)
+completes plan last stations OutOfMemory cause = λ none. inr (inr refl)

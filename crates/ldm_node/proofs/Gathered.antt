@@ -3,14 +3,14 @@ use Rattle.std.proofs.Common.{◌≡◌, ℕ, zero, suc, ◌+◌, ◌<◌, List,
 use Rattle.std.specs.Prelude.{OnOk, OnErr}
 use Rattle.std.specs.Option.{option_to_list}
 use Rattle.ldm_outside.specs.Station.{StationRecord}
-use Rattle.ldm_shared.specs.Passes.{SharedView, PassView, HasAllOf, IsSamePass, new_pass}
-use Rattle.ldm_worker_log.specs.declared.stop.NodeStop.{NodeStop}
-use Rattle.ldm_worker_log.specs.declared.stop.NodeStop.TheVariants.{Done, OutOfMemory}
+use Rattle.ldm_shared.specs.Passes.{SharedView, PassView, HasAllOf, new_pass}
+use Rattle.ldm_node.specs.declared.stop.NodeStop.{NodeStop}
+use Rattle.ldm_node.specs.declared.stop.NodeStop.TheVariants.{Done, OutOfMemory}
 use Rattle.ldm_workers.specs.Work.{AllWorked, Worked}
 use Rattle.ldm_node.specs.declared.post.Post.{Post}
-use Rattle.ldm_node.specs.Node.{AllRun, NoneBegan, Outcome, Staffs}
+use Rattle.ldm_node.specs.Node.{Staffs}
 use Rattle.ldm_node.specs.Posts.{PostWorks, StationWorks, post_of, posts_of, rest, stations_of, stop_of}
-use Rattle.ldm_node.specs.Roles.{Plan, role_of}
+use Rattle.ldm_node.specs.Roles.{Plan}
 use Rattle.ldm_node.specs.Stops.{first_stop, or_stop}
 use Rattle.ldm_node.specs.Workers.{Runs}
 use Rattle.ldm_node.proofs.Posting.{length-posts, stations-posts}

@@ -1,3 +1,12 @@
+mod SamePass
+mod VisitServing
+mod VisitOwning
+mod VisitHolding
+mod DoorWorking
+mod VisitTelling
+mod TryHolding
+mod RequestWorking
+mod TryTelling
 mod Turned
 mod Posting
 mod RoleLemmas

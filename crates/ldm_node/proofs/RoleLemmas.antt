@@ -1,9 +1,9 @@
 -- The roles of workers.
-use Rattle.std.proofs.Common.{◌≡◌, ℕ, ◌+◌, ◌-◌, ◌<◌, ◌≤◌, List, length, map, get_or, replicate, refl, sym, ap, ◌∙◌, arith, length-append}
+use Rattle.std.proofs.Common.{◌≡◌, ℕ, ◌-◌, ◌<◌, ◌≤◌, List, length, map, get_or, replicate, sym, ap, ◌∙◌, arith}
 use Rattle.std.proofs.lemmas.List.{get_or-append_right, get_or-map, get_or-replicate, get_or_append_left, get_or_past, length-map, length-replicate}
 use Rattle.ldm_conf.specs.declared.request.Request.{Request as CodeRequest}
 use Rattle.ldm_conf.specs.Confs.{ConfView, RequestView, request_view}
-use Rattle.ldm_node.specs.Roles.{Plan, Role, LetsIn, Asks, Rests, plan_of, role_of}
+use Rattle.ldm_node.specs.Roles.{Plan, LetsIn, Asks, Rests, plan_of, role_of}
 
 pub lets_in : (plan : Plan) (actor : ℕ) → actor < plan.workers → role_of plan actor ≡ LetsIn
 lets_in plan actor less =

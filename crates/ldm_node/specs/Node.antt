@@ -1,13 +1,9 @@
 -- What a node does.
-use Rattle.std.specs.Prelude.{◌≡◌, ℕ, ◌+◌, ◌<◌, ◌⊎◌, List, [], length, slice_index_or, Option}
-use Rattle.ldm_outside.specs.declared.net.Manned.{Manned}
-use Rattle.ldm_outside.specs.declared.net.Manned.TheVariants as manned
-use Rattle.ldm_outside.specs.Dial.{DialRecord}
-use Rattle.ldm_outside.specs.Net.{StationsGive}
+use Rattle.std.specs.Prelude.{◌≡◌, ℕ, ◌<◌, ◌⊎◌, List, [], length, slice_index_or}
 use Rattle.ldm_outside.specs.Station.{StationRecord}
 use Rattle.ldm_shared.specs.Passes.{SharedView, PassView, HasAllOf, new_pass}
-use Rattle.ldm_worker_log.specs.declared.stop.NodeStop.{NodeStop}
-use Rattle.ldm_worker_log.specs.declared.stop.NodeStop.TheVariants.{Done, NetFault, OutOfMemory}
+use Rattle.ldm_node.specs.declared.stop.NodeStop.{NodeStop}
+use Rattle.ldm_node.specs.declared.stop.NodeStop.TheVariants.{Done, OutOfMemory}
 use Rattle.ldm_node.specs.Roles.{Plan}
 use Rattle.ldm_node.specs.Stops.{first_stop}
 use Rattle.ldm_node.specs.Workers.{Runs}
@@ -29,25 +25,12 @@ pub record AllRun {S : Type 0} (tells : S → StationRecord) (plan : Plan) (shar
   pub rests : HasAllOf left.pass (new_pass shared (length given))
   pub end : left.end ≡ first_stop stops
 
--- No worker began: the stations are as they were handed out, and no call was made.
-pub record NoneBegan {S : Type 0} (given : List S) (stop : NodeStop) (left : Outcome S) : Type 0 where
+-- No worker began, for want of memory: the stations are as they were handed out, and no call was made.
+pub record NoneBegan {S : Type 0} (given : List S) (left : Outcome S) : Type 0 where
   pub stations : left.stations ≡ given
   pub unseen : left.pass.seen ≡ []
-  pub end : left.end ≡ stop
+  pub end : left.end ≡ OutOfMemory
 
-module _ {S : Type 0} (tells : S → StationRecord) where
-  -- what came of these stations: all workers worked, or there was no memory for them
-  abbrev pub Staffs : Plan → SharedView → List S → Outcome S → Type 0
-  Staffs plan shared given left = AllRun tells plan shared given left ⊎ NoneBegan given OutOfMemory left
-
-  -- by what the net gave
-  abbrev pub Answers : Manned S → Plan → SharedView → Outcome S → Type 0
-  Answers (manned.Stations given) plan shared left = Staffs plan shared given.items left
-  Answers manned.Failed plan shared left = NoneBegan [] NetFault left
-  Answers manned.OutOfMemory plan shared left = NoneBegan [] OutOfMemory left
-
--- The net was asked once, for a station for each worker, and what it gave is what the node worked with.
-pub record Mans {S : Type 0} (tells : S → StationRecord) (plan : Plan) (idles : Option ℕ) (shared : SharedView) (old new : DialRecord) (left : Outcome S) : Type 0 where
-  pub given : Manned S
-  pub gives : StationsGive tells given (plan.workers + length plan.requests) idles old new
-  pub answers : Answers tells given plan shared left
+-- what came of these stations: all workers worked, or there was no memory for them
+abbrev pub Staffs : {S : Type 0} → (S → StationRecord) → Plan → SharedView → List S → Outcome S → Type 0
+Staffs tells plan shared given left = AllRun tells plan shared given left ⊎ NoneBegan given left

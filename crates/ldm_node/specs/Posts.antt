@@ -3,8 +3,8 @@ use Rattle.std.specs.Prelude.{◌≡◌, List, [], ◌∷◌, ◌++◌, Option, 
 use Rattle.std.specs.Option.{option_to_list}
 use Rattle.ldm_outside.specs.Station.{StationRecord}
 use Rattle.ldm_shared.specs.Passes.{PassView}
-use Rattle.ldm_worker_log.specs.declared.stop.NodeStop.{NodeStop}
-use Rattle.ldm_worker_log.specs.declared.stop.NodeStop.TheVariants.{Done}
+use Rattle.ldm_node.specs.declared.stop.NodeStop.{NodeStop}
+use Rattle.ldm_node.specs.declared.stop.NodeStop.TheVariants.{Done}
 use Rattle.ldm_node.specs.declared.post.Post.{Post}
 use Rattle.ldm_node.specs.Roles.{Plan, role_of}
 use Rattle.ldm_node.specs.Workers.{HasCause, NoneOut, WorksAs}

@@ -1,7 +1,7 @@
 -- Which of many stops is told.
 use Rattle.std.specs.Prelude.{List, [], ◌∷◌}
-use Rattle.ldm_worker_log.specs.declared.stop.NodeStop.{NodeStop}
-use Rattle.ldm_worker_log.specs.declared.stop.NodeStop.TheVariants.{Done, NetFault, LogFault, Worn, OutOfMemory}
+use Rattle.ldm_node.specs.declared.stop.NodeStop.{NodeStop}
+use Rattle.ldm_node.specs.declared.stop.NodeStop.TheVariants.{Done, NetFault, LogFault, Worn, OutOfMemory}
 
 -- a stop, or the later one where this worker was done
 abbrev pub or_stop : NodeStop → NodeStop → NodeStop

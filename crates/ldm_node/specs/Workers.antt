@@ -2,12 +2,12 @@
 use Rattle.std.specs.Prelude.{◌≡◌, ℕ, false, List, Option, None}
 use Rattle.ldm_outside.specs.Station.{StationRecord}
 use Rattle.ldm_shared.specs.Passes.{SharedView, PassView, IsSamePass, HasAllOf, new_pass}
-use Rattle.ldm_worker_log.specs.declared.stop.NodeStop.{NodeStop}
-use Rattle.ldm_worker_log.specs.declared.stop.NodeStop.TheVariants.{Done}
-use Rattle.ldm_acceptor.specs.Moments as acceptor
-use Rattle.ldm_acceptor.specs.Works as acceptor_works
-use Rattle.ldm_requester.specs.Moments as requester
-use Rattle.ldm_requester.specs.Works as requester_works
+use Rattle.ldm_node.specs.declared.stop.NodeStop.{NodeStop}
+use Rattle.ldm_node.specs.declared.stop.NodeStop.TheVariants.{Done}
+use Rattle.ldm_node.specs.DoorMoments as acceptor
+use Rattle.ldm_node.specs.DoorWorks as acceptor_works
+use Rattle.ldm_node.specs.RequestMoments as requester
+use Rattle.ldm_node.specs.RequestWorks as requester_works
 use Rattle.ldm_node.specs.Roles.{Plan, Role, LetsIn, Asks, Rests, role_of}
 
 -- A worker did what its role says, from a pass and a station to those that it leaves, and stopped so.

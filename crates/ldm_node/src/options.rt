@@ -1,9 +1,9 @@
 //! What a node is told, and what it leaves.
 
+use crate::stop::NodeStop;
 use ldm_book::Book;
 use ldm_outside::Station;
 use ldm_shared::Pass;
-use ldm_worker_log::NodeStop;
 
 /// What a node is told besides its configuration.
 #[derive(Clone, Copy, Debug, PartialEq, Eq)]
@@ -27,8 +27,7 @@ pub struct NodeEnd<D, I, E, C, G> {
     pub pass: Pass,
     /// The stations that the net gave, in order, as their workers left them.
     pub stations: Vec<Station<D, I, E, C, G>>,
-    /// Why the node ended: why the first worker stopped that was not done. [`NodeStop::NetFault`] is besides the answer
-    /// where the net failed, and [`NodeStop::OutOfMemory`] where there was no memory for the stations or for the
-    /// workers, of which none began then.
+    /// Why the node ended: why the first worker stopped that was not done. [`NodeStop::OutOfMemory`] is besides the
+    /// answer where there was no memory for the workers, of which none began then.
     pub end: NodeStop,
 }

@@ -4,8 +4,8 @@ ghost use Rattle.std.specs.Vec.{vec_len, vec_capacity};
 ghost use Rattle.ldm_node.specs.Posts.{posts_of, stations_of, stop_of};
 ghost use Rattle.ldm_node.specs.Stops.{first_stop};
 
+use crate::stop::NodeStop;
 use crate::stops::or_stop;
-use ldm_worker_log::NodeStop;
 
 /// What a worker has of its own: its station, and why it stopped. The last worker has no station.
 pub(crate) struct Post<S> {

@@ -1,108 +1,90 @@
 //! All workers of a node over one queue.
-ghost use Rattle.std.specs.Prelude.{◌≡◌, ◌+◌, ◌<◌, [], length, map, OnOk, OnErr};
+ghost use Rattle.std.specs.Prelude.{◌≡◌, ◌+◌, [], length, map, OnOk, OnErr};
 ghost use Rattle.std.specs.List.{All, range_with_len};
 ghost use Rattle.std.specs.Vec.{vec_len};
 ghost use denote.Param.Send.{IsSync};
-ghost use Rattle.ldm_outside.specs.Station.{station_tells};
+ghost use Rattle.ldm_outside.specs.Station.{IsNew, station_tells};
 ghost use Rattle.ldm_model.specs.History.{after};
-ghost use Rattle.ldm_model.specs.Law.{ObeysLaw};
+ghost use Rattle.ldm_calls.specs.Lawful.{IsLawful};
 ghost use Rattle.ldm_book.specs.Stands.{StandsFor};
 ghost use Rattle.ldm_shared.specs.Passes.{IsLast, new_pass};
 ghost use Rattle.ldm_conf.specs.Confs.{conf_view};
 ghost use Rattle.ldm_conf.specs.contracts.conf.Conf as Configuration;
 ghost use Rattle.ldm_node.specs.Roles.{plan_of};
-ghost use Rattle.ldm_node.specs.Node.{Mans, Staffs};
+ghost use Rattle.ldm_node.specs.Node.{Staffs};
 ghost use Rattle.ldm_node.specs.Workers.{NoneOut};
 ghost use Rattle.ldm_node.specs.Causes.{Completes, NodeCause};
 
 use crate::options::{NodeEnd, NodeOptions};
 use crate::post::{hand_out, take_back};
 use crate::staffing::Staffing;
-use ldm_book::fifo;
+use crate::stop::NodeStop;
+use ldm_calls::histories_are_lawful;
 use ldm_conf::Conf;
-use ldm_outside::{Clock, Dial, Door, Gate, Manned, Net, Sink, Station};
+use ldm_outside::{Clock, Dial, Door, Gate, Sink, Station};
 use ldm_shared::{Pass, Shared};
 use ldm_types::OutOfMemory;
-use ldm_worker_log::NodeStop;
 use ldm_workers::{Left, run_workers};
 use std::alloc::Global;
 use std::sync::Wait;
 use std::thread::Threads;
 
-/// Runs a node: asks the net once for a station for each worker, and has each worker do its work until all have
-/// stopped.
+/// Runs a node: has each worker do its work at a station of its own, until all have stopped.
 ///
 /// Worker i has station i and the pass of actor i. The first workers let peers in, as many as the options say, and
 /// behind them one asks by each request of the configuration, in order. So there is one station fewer than passes: the
-/// last pass rests.
+/// last pass rests. The port and the number of idle calls are what the stations were asked for.
 ///
-/// The passes are all that the queue was made with, and no call was made with them. All memory for the workers is taken
-/// before the first begins. Where no thread can be made they work one after another.
+/// The stations are new. The passes are all that the queue was made with, and no call was made with them. All memory
+/// for the workers is taken before the first begins. Where no thread can be made they work one after another.
 ///
 /// The workers share the configuration, so its type has to be one that threads may share. That is a fact of the type,
 /// and its caller shows it.
-pub fn node<H: Threads + Wait + Sync, N: Net>(
+pub fn node<
+    H: Threads + Wait + Sync,
+    D: Door + Send,
+    I: Dial + Send,
+    E: Sink + Send,
+    C: Clock + Send,
+    G: Gate + Send,
+>(
     rt: &H,
     alloc: Global,
     conf: Conf,
     shared: Shared,
     passes: Vec<Pass>,
-    net: &mut N,
+    stations: Vec<Station<D, I, E, C, G>>,
     options: &NodeOptions,
-) -> NodeEnd<N::StationDoor, N::StationDial, N::StationLog, N::StationClock, N::StationGate>
+) -> NodeEnd<D, I, E, C, G>
 where
-    <N::StationDoor as Door>::Link: Send,
-    <N::StationDial as Dial>::Link: Send,
+    D::Link: Send,
+    I::Link: Send,
     requires passes { passes.items ≡ map (new_pass shared) (range_with_len 0 shared.passes) }
     requires count { shared.passes ≡ options.now.workers + length conf.requests.items + 1 }
+    requires stations { vec_len stations ≡ options.now.workers + length conf.requests.items }
+    requires are_new { All
+        (λ station. IsNew options.now.idles (station_tells D.tells I.tells E.tells C.tells G.tells station))
+        stations.items }
     requires shareable { IsSync Configuration.the_row }
     ensures last { IsLast shared result.pass }
     ensures stands { StandsFor result.book (after shared.arena shared.slots result.pass.seen) }
-    ensures law { ObeysLaw shared.arena shared.slots result.pass.seen }
-    ensures kept { N.kept net.new ≡ N.kept net.old }
-    ensures worked { Mans
-        (station_tells N.StationDoor.tells N.StationDial.tells N.StationLog.tells N.StationClock.tells
-        N.StationGate.tells)
-        (plan_of (conf_view conf) options.now.workers options.now.sessions) options.now.idles shared (N.tells net.old)
-        (N.tells net.new)
+    ensures law { IsLawful shared.arena shared.slots result.pass.seen }
+    ensures worked { Staffs (station_tells D.tells I.tells E.tells C.tells G.tells)
+        (plan_of (conf_view conf) options.now.workers options.now.sessions) shared stations.items
         (record { pass = result.pass; stations = result.stations.items; end = result.end }) }
     ensures causes { NodeCause result.end (plan_of (conf_view conf) options.now.workers options.now.sessions)
-        (N.tells net.old) (N.tells net.new)
-        (map (station_tells N.StationDoor.tells N.StationDial.tells N.StationLog.tells N.StationClock.tells
-        N.StationGate.tells) result.stations.items)
-        result.pass }
-    ensures completes { Completes result.end (N.tells net.old) (N.tells net.new)
-        (map (station_tells N.StationDoor.tells N.StationDial.tells N.StationLog.tells N.StationClock.tells
-        N.StationGate.tells) result.stations.items) }
+        (map (station_tells D.tells I.tells E.tells C.tells G.tells) result.stations.items) result.pass }
+    ensures completes { Completes result.end
+        (map (station_tells D.tells I.tells E.tells C.tells G.tells) result.stations.items) }
 {
-    fifo();
-    let NodeOptions {
-        port,
-        workers,
-        sessions,
-        idles,
-    } = *options;
+    histories_are_lawful();
     let staffing = Staffing {
         alloc,
         conf: &conf,
-        workers,
-        sessions,
+        workers: options.workers,
+        sessions: options.sessions,
     };
-    let count = count_below_last(&shared, &passes);
-    match net.stations(port, count, idles) {
-        Manned::Stations(stations) => { staff(rt, alloc, &staffing, shared, passes, stations) }
-        Manned::Failed => close(shared, passes, Vec::new(alloc), NodeStop::NetFault),
-        Manned::OutOfMemory => close(shared, passes, Vec::new(alloc), NodeStop::OutOfMemory),
-    }
-}
-
-// How many passes there are below the last one.
-fn count_below_last(shared: &Shared, passes: &[Pass]) -> u32
-    requires passes { passes.now ≡ map (new_pass shared.now) (range_with_len 0 shared.now.passes) }
-    requires some { 0 < shared.now.passes }
-    ensures { result + 1 ≡ shared.now.passes }
-{
-    passes[passes.len() - 1].actor().get()
+    staff(rt, alloc, &staffing, shared, passes, stations)
 }
 
 // Has a worker work at each station. There is one fewer than passes.
@@ -136,7 +118,7 @@ where
         (record { pass = result.pass; stations = result.stations.items; end = result.end }) }
 {
     let Ok(mut posts) = Vec::with_capacity(alloc, passes.len()) else {
-        return close(shared, passes, stations, NodeStop::OutOfMemory);
+        return close(shared, passes, stations);
     };
     hand_out(&mut stations, &mut posts);
     let Left {
@@ -154,26 +136,25 @@ where
     }
 }
 
-// Ends a queue of which no call was made.
+// Ends a queue of which no call was made, since there is no memory for the workers.
 fn close<D, I, E, C, G>(
     shared: Shared,
     passes: Vec<Pass>,
     stations: Vec<Station<D, I, E, C, G>>,
-    end: NodeStop,
 ) -> NodeEnd<D, I, E, C, G>
     requires passes { passes.items ≡ map (new_pass shared) (range_with_len 0 shared.passes) }
     ensures last { IsLast shared result.pass }
     ensures stands { StandsFor result.book (after shared.arena shared.slots result.pass.seen) }
     ensures unseen { result.pass.seen ≡ [] }
     ensures stations { result.stations.items ≡ stations.items }
-    ensures end { result.end ≡ end }
+    ensures end { result.end ≡ NodeStop.OutOfMemory }
 {
     let (book, pass) = shared.finish(passes);
     NodeEnd {
         book,
         pass,
         stations,
-        end,
+        end: NodeStop::OutOfMemory,
     }
 }
 

@@ -6,13 +6,13 @@ ghost use Rattle.ldm_conf.specs.Confs.{conf_view};
 ghost use Rattle.ldm_node.specs.Roles.{plan_of, role_of};
 ghost use Rattle.ldm_node.specs.Workers.{HasCause, NoneOut, WorksAs};
 
+use crate::door_worker::work_door;
 use crate::post::Post;
-use ldm_acceptor::work_door;
+use crate::request_worker::work_request;
+use crate::stop::NodeStop;
 use ldm_conf::Conf;
 use ldm_outside::{Clock, Dial, Door, Gate, Sink, Station};
-use ldm_requester::work_request;
 use ldm_shared::{Pass, Shared};
-use ldm_worker_log::NodeStop;
 use ldm_workers::Work;
 use std::alloc::Global;
 use std::sync::Wait;

@@ -2,7 +2,7 @@
 ghost use Rattle.std.specs.Prelude.{◌≡◌};
 ghost use Rattle.ldm_node.specs.Stops.{or_stop};
 
-use ldm_worker_log::NodeStop;
+use crate::stop::NodeStop;
 
 /// This stop, or the later one where this worker was done.
 pub(crate) fn or_stop(stop: NodeStop, later: NodeStop) -> NodeStop

@@ -15,12 +15,13 @@ use Rattle.ldm_command_files.specs.ConfFiles.{status_of_conf}
 use Rattle.ldm_status.specs.declared.status.Status.{Status}
 use Rattle.ldm_status.specs.declared.status.Status.TheVariants as status
 use Rattle.ldm_status.specs.Status.{code_of}
-use Rattle.ldm_worker_log.specs.declared.stop.NodeStop.{NodeStop}
-use Rattle.ldm_worker_log.specs.declared.stop.NodeStop.TheVariants as stop
+use Rattle.ldm_node.specs.declared.stop.NodeStop.{NodeStop}
+use Rattle.ldm_node.specs.declared.stop.NodeStop.TheVariants as stop
 use Rattle.ldm_node_command.specs.declared.commands.StartFault.TheVariants as start
 use Rattle.ldm_node_command.specs.declared.ending.NodeFault.{NodeFault}
-use Rattle.ldm_node_command.specs.declared.ending.NodeFault.TheVariants.{NotTaken, NotMade, NotStarted}
+use Rattle.ldm_node_command.specs.declared.ending.NodeFault.TheVariants.{NotTaken, NotMade, NotListening, NotStarted}
 use Rattle.ldm_node_command.specs.declared.ending.Ran.{Ran}
+use Rattle.ldm_node_command.specs.declared.listening.ListenFault.TheVariants as listen
 use Rattle.ldm_node_command.specs.Commands.{WaitsForAll, numbers_from, with_commands}
 use Rattle.ldm_node_command.specs.Complete.{NodeUnhindered}
 use Rattle.ldm_node_command.specs.Ending.{NodeEnds, StaysIdle, Takes}
@@ -71,12 +72,14 @@ module _ {S : Type 0} (tells : S → StationRecord) (setup : Setup) (old new : O
   made_for queue.OutOfMemory conf taken bad = refl
 
   -- why no node is run nonetheless
-  idle_for : (why : NodeFault) → StaysIdle why setup old new → status_of_fault why ≡ status.NoMemory
-  idle_for (NotTaken why) (none, same) = ap status_of_conf (takes_none why setup.path old.store new.store none free.files free.conf free.told free.reads free.store_works)
-  idle_for (NotMade fault) (conf, taken, bad, same) = made_for fault conf taken bad
-  idle_for (NotStarted start.Failed) (conf, taken, good, stops) =
+  idle_for : (why : NodeFault) → StaysIdle tells why setup old new → status_of_fault why ≡ status.NoMemory
+  idle_for (NotTaken why) (none, leaves, same) = ap status_of_conf (takes_none why setup.path old.store new.store none free.files free.conf free.told free.reads free.store_works)
+  idle_for (NotMade fault) (conf, taken, bad, leaves, same) = made_for fault conf taken bad
+  idle_for (NotListening listen.Failed) (conf, taken, good, fails, kept, same) = absurd (free.net_works fails.0)
+  idle_for (NotListening listen.OutOfMemory) (conf, taken, good, fails, kept, same) = refl
+  idle_for (NotStarted start.Failed) (conf, taken, good, listens, stops) =
       absurd (free.launcher_works (subst (λ (n : ℕ). Rose n new.launcher.faults) (faults-with_commands stops.started old.launcher) stops.fails.0))
-  idle_for (NotStarted start.OutOfMemory) (conf, taken, good, stops) = refl
+  idle_for (NotStarted start.OutOfMemory) (conf, taken, good, listens, stops) = refl
 
   ran_well : (ran : Ran) (conf : ConfView) → RunsNode tells ran setup conf old new → EndsWell (status_of_node (Ok ran))
   ran_well ran conf runs =
@@ -84,9 +87,9 @@ module _ {S : Type 0} (tells : S → StationRecord) (setup : Setup) (old new : O
       let launcher_works : ¬ (Rose started.faults new.launcher.faults) =
       λ rose. free.launcher_works (subst (λ (n : ℕ). Rose n new.launcher.faults) (faults-with_commands conf.commands old.launcher) rose) in
       good_stop ran.stop (status_behind ran.waited ran.written)
-      (good_behind ran.waited ran.written (numbers_from old.launcher.next conf.commands) (stat_line setup runs.history) started new.launcher old.sink new.sink launcher_works free.sink_works
+      (good_behind ran.waited ran.written (numbers_from old.launcher.next conf.commands) (stat_line setup runs.last.seen) started new.launcher old.sink new.sink launcher_works free.sink_works
       runs.attends runs.line)
-      (runs.works.completes free.net_works free.stations_work)
+      (runs.works.completes free.stations_work)
 
   ends_well : (ending : Result Ran NodeFault) → NodeEnds tells ending setup old new → EndsWell (status_of_node ending)
   ends_well (Ok ran) (conf, taken, runs) = ran_well ran conf runs

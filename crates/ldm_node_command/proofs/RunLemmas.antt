@@ -1,26 +1,23 @@
 -- What the parts of a node's run come to together.
-use Rattle.std.proofs.Common.{◌≡◌, ◌≤◌, ℕ, ◌+◌, List, length, map, Option, Result, inl, inr, refl, sym, ap, subst, arith}
+use Rattle.std.proofs.Common.{◌≡◌, ◌≤◌, ℕ, List, map, Result, inl, inr, sym, subst, arith}
 use Rattle.ldm_outside.specs.declared.fault.Failed.{Failed}
 use Rattle.ldm_outside.specs.declared.launcher.ChildNo.{ChildNo}
-use Rattle.ldm_outside.specs.declared.net.Manned.{Manned}
-use Rattle.ldm_outside.specs.declared.net.Manned.TheVariants as manned
 use Rattle.ldm_outside.specs.Count.{Rose}
 use Rattle.ldm_outside.specs.Dial.{DialRecord}
 use Rattle.ldm_outside.specs.Launcher.{LauncherRecord}
-use Rattle.ldm_outside.specs.Net.{StationsGive}
 use Rattle.ldm_outside.specs.Station.{StationRecord}
 use Rattle.ldm_model.specs.declared.event.Entry.{Entry}
 use Rattle.ldm_model.specs.History.{after}
-use Rattle.ldm_model.specs.Law.{ObeysLaw}
+use Rattle.ldm_calls.specs.Lawful.{IsLawful}
 use Rattle.ldm_book.specs.View.{BookView}
 use Rattle.ldm_book.specs.Stands.{StandsFor}
 use Rattle.ldm_shared.specs.Passes.{IsLast, PassView, SharedView}
 use Rattle.ldm_conf.specs.Confs.{ConfView}
-use Rattle.ldm_worker_log.specs.declared.stop.NodeStop.{NodeStop}
+use Rattle.ldm_node.specs.declared.stop.NodeStop.{NodeStop}
 use Rattle.ldm_node.specs.Causes.{Completes, NodeCause}
-use Rattle.ldm_node.specs.Node.{Mans, Outcome}
-use Rattle.ldm_node.specs.Roles.{Plan}
+use Rattle.ldm_node.specs.Node.{Outcome, Staffs}
 use Rattle.ldm_node_command.specs.Commands.{WaitsForAll, numbers_from, with_commands}
+use Rattle.ldm_node_command.specs.Listening.{Listens}
 use Rattle.ldm_node_command.specs.Node.{Attends, IsMade, Works, plan_for}
 use Rattle.ldm_node_command.specs.Setup.{Setup}
 
@@ -33,41 +30,36 @@ attends waited conf children old started new numbers is waits =
     (subst (λ (all : List ChildNo). WaitsForAll waited all started new) numbers waits)
 
 -- a count that rose did not fall
-rose_kept : (old new : ℕ) → Rose old new → old ≤ new
+pub rose_kept : (old new : ℕ) → Rose old new → old ≤ new
 rose_kept old new (inl more) = omega (arith, more)
 rose_kept old new (inr still) = omega (arith, still.0, still.1)
 
-module _ {S : Type 0} (tells : S → StationRecord) where
-  gives_kept : (given : Manned S) (count : ℕ) (idles : Option ℕ) (old new : DialRecord) → StationsGive tells given count idles old new → old.faults ≤ new.faults
-  gives_kept (manned.Stations stations) count idles old new gives = omega (arith, ap (λ (d : DialRecord). d.faults) gives.2)
-  gives_kept manned.Failed count idles old new gives = rose_kept old.faults new.faults gives.0
-  gives_kept manned.OutOfMemory count idles old new gives = omega (arith, ap (λ (d : DialRecord). d.faults) gives)
+-- a node worked at stations, on a queue of its sizes
+pub works : {S : Type 0} (tells : S → StationRecord) (setup : Setup) (conf : ConfView) (shared : SharedView) → IsMade setup conf shared → (given : List S) (left : Outcome S)
+    → IsLast shared left.pass → IsLawful shared.arena shared.slots left.pass.seen → Staffs tells (plan_for setup conf) shared given left
+    → NodeCause left.end (plan_for setup conf) (map tells left.stations) left.pass → Completes left.end (map tells left.stations) → Works tells setup conf given left
+works tells setup conf shared made given left is_last lawful worked causes completes = record {
+  shared = shared;
+  made = made;
+  is_last = is_last;
+  lawful = subst (λ (n : ℕ). IsLawful setup.arena n left.pass.seen) made.slots (subst (λ (n : ℕ). IsLawful n shared.slots left.pass.seen) made.arena lawful);
+  worked = worked;
+  causes = causes;
+  completes = completes;
+}
 
-  -- the net's count of faults does not fall
-  pub net_kept : (plan : Plan) (idles : Option ℕ) (shared : SharedView) (old mid new : DialRecord) (left : Outcome S) → Mans tells plan idles shared old mid left → new ≡ mid → old.faults ≤ new.faults
-  net_kept plan idles shared old mid new left mans same =
-      omega (arith, gives_kept mans.given (plan.workers + length plan.requests) idles old mid mans.gives, ap (λ (d : DialRecord). d.faults) same)
+-- stations that the net gave, and the outside behind them
+pub listened : {S : Type 0} (tells : S → StationRecord) (setup : Setup) (conf : ConfView) (given kept : List S) (old mid new : DialRecord) → kept ≡ given → new ≡ mid
+    → Listens tells setup conf given old mid → Listens tells setup conf kept old new
+listened {S = S} tells setup conf given kept old mid new are same listens =
+    subst (λ (d : DialRecord). Listens tells setup conf kept old d) (sym same)
+    (subst (λ (all : List S). Listens tells setup conf all old mid) (sym are) listens)
 
-  -- a node worked, and its stations were kept
-  pub works : (setup : Setup) (conf : ConfView) (shared : SharedView) → IsMade setup conf shared → (last : PassView) → IsLast shared last → ObeysLaw shared.arena shared.slots last.seen
-      → (stop : NodeStop) (old mid new : DialRecord) (stations kept : List S) → new ≡ mid → kept ≡ stations
-      → Mans tells (plan_for setup conf) setup.idles shared old mid (record { pass = last; stations = stations; end = stop })
-      → NodeCause stop (plan_for setup conf) old mid (map tells stations) last → Completes stop old mid (map tells stations)
-      → Works tells stop setup conf last.seen old new kept
-  works setup conf shared made last is_last law stop old mid new stations kept same are mans causes completes =
-      let there : Works tells stop setup conf last.seen old mid stations = record {
-        shared = shared;
-        made = made;
-        last = last;
-        is_last = is_last;
-        seen = refl;
-        law = subst (λ (n : ℕ). ObeysLaw setup.arena n last.seen) made.slots (subst (λ (n : ℕ). ObeysLaw n shared.slots last.seen) made.arena law);
-        worked = mans;
-        causes = causes;
-        completes = completes;
-      } in
-      subst (λ (d : DialRecord). Works tells stop setup conf last.seen old d kept) (sym same)
-      (subst (λ (all : List S). Works tells stop setup conf last.seen old mid all) (sym are) there)
+-- what the net keeps is what the workers left
+pub worked : {S : Type 0} (tells : S → StationRecord) (setup : Setup) (conf : ConfView) (given stations kept : List S) (last : PassView) (end : NodeStop) → kept ≡ stations
+    → Works tells setup conf given (record { pass = last; stations = stations; end = end }) → Works tells setup conf given (record { pass = last; stations = kept; end = end })
+worked {S = S} tells setup conf given stations kept last end are works =
+    subst (λ (all : List S). Works tells setup conf given (record { pass = last; stations = all; end = end })) (sym are) works
 
 -- the queue stands for the state after its history
 pub stands : (setup : Setup) (conf : ConfView) (shared : SharedView) → IsMade setup conf shared → (book : BookView) (history : List Entry) → StandsFor book (after shared.arena shared.slots history)

@@ -13,12 +13,13 @@ use Rattle.ldm_command_files.specs.declared.conf_file.ConfNotTaken.TheVariants a
 use Rattle.ldm_status.specs.declared.status.Status.{Status}
 use Rattle.ldm_status.specs.declared.status.Status.TheVariants as status
 use Rattle.ldm_status.specs.Status.{Reports, code_of}
-use Rattle.ldm_worker_log.specs.declared.stop.NodeStop.{NodeStop}
-use Rattle.ldm_worker_log.specs.declared.stop.NodeStop.TheVariants as stop
+use Rattle.ldm_node.specs.declared.stop.NodeStop.{NodeStop}
+use Rattle.ldm_node.specs.declared.stop.NodeStop.TheVariants as stop
 use Rattle.ldm_node_command.specs.declared.commands.StartFault.TheVariants as start
 use Rattle.ldm_node_command.specs.declared.ending.NodeFault.{NodeFault}
-use Rattle.ldm_node_command.specs.declared.ending.NodeFault.TheVariants.{NotTaken, NotMade, NotStarted}
+use Rattle.ldm_node_command.specs.declared.ending.NodeFault.TheVariants.{NotTaken, NotMade, NotListening, NotStarted}
 use Rattle.ldm_node_command.specs.declared.ending.Ran.{Ran}
+use Rattle.ldm_node_command.specs.declared.listening.ListenFault.TheVariants as listen
 use Rattle.ldm_node_command.specs.Commands.{Words, child_of, with_commands, with_waits}
 use Rattle.ldm_node_command.specs.Ending.{NodeEnds, StaysIdle, Takes}
 use Rattle.ldm_node_command.specs.Node.{Attends}
@@ -42,6 +43,8 @@ fault_code (NotMade (queue.BadArena arena)) is = omega (arith, is)
 fault_code (NotMade (queue.BadSlots slots)) is = omega (arith, is)
 fault_code (NotMade (queue.BadPasses passes)) is = omega (arith, is)
 fault_code (NotMade queue.OutOfMemory) is = omega (arith, is)
+fault_code (NotListening listen.Failed) is = omega (arith, is)
+fault_code (NotListening listen.OutOfMemory) is = omega (arith, is)
 fault_code (NotStarted start.Failed) is = omega (arith, is)
 fault_code (NotStarted start.OutOfMemory) is = omega (arith, is)
 
@@ -54,25 +57,34 @@ unwaited_code stop.LogFault failed written code old new told = λ is. omega (ari
 unwaited_code stop.Worn failed written code old new told = not_zero status.Worn code old new (λ is. omega (arith, is)) told
 unwaited_code stop.OutOfMemory failed written code old new told = not_zero status.NoMemory code old new (λ is. omega (arith, is)) told
 
-module _ {S : Type 0} (setup : Setup) (code : ℕ) (old new : Outside S) (before : List Child) (told : old.launcher.children ≡ Some before) (place : length before ≡ old.launcher.next) where
+module _ {S : Type 0} (tells : S → StationRecord) (setup : Setup) (code : ℕ) (old new : Outside S) (before : List Child) (told : old.launcher.children ≡ Some before)
+    (place : length before ≡ old.launcher.next) where
   abbrev Told : Type 0
-  Told = (children : List Child) × (new.launcher.children ≡ Some (before ++ children)) × (AreCommands setup code children old new ⊎ AreNone code children)
+  Told = (children : List Child) × (new.launcher.children ≡ Some (before ++ children)) × (AreCommands tells setup code children old new ⊎ AreNone code children)
 
   no_child : new.launcher ≡ old.launcher → new.launcher.children ≡ Some (before ++ [])
   no_child same = ap (λ (l : LauncherRecord). l.children) same ∙ told ∙ ap Some (sym (append-nil before))
 
   -- no command was started
-  none_started : (conf : ConfView) → Takes conf setup.path old.store new.store → new.launcher ≡ old.launcher → IsIdle old new → ¬ (code ≡ 0) → Told
+  none_started : (conf : ConfView) → Takes conf setup.path old.store new.store → new.launcher ≡ old.launcher → IsIdle tells setup.idles old new → ¬ (code ≡ 0) → Told
   none_started conf taken same idle failed = (
     [],
     no_child same,
     inl (record { conf = conf; taken = taken; left = conf.commands; in_order = refl; all = inr idle; waited = λ is. absurd (failed is) }),
   )
 
-  pub idle_told : (why : NodeFault) → StaysIdle why setup old new → IsIdle old new → ¬ (code ≡ 0) → Told
-  idle_told (NotTaken why) (none, same) idle failed = ([], no_child same, inr (record { none = refl; failed = failed }))
-  idle_told (NotMade fault) (conf, taken, bad, same) idle failed = none_started conf taken same idle failed
-  idle_told (NotStarted start.Failed) (conf, taken, good, stops) idle failed = (
+  -- no worker worked
+  pub idle_of : (why : NodeFault) → StaysIdle tells why setup old new → new.sink ≡ old.sink → IsIdle tells setup.idles old new
+  idle_of (NotTaken why) (none, leaves, same) nothing = record { sink = nothing; unused = inl leaves.kept }
+  idle_of (NotMade fault) (conf, taken, bad, leaves, same) nothing = record { sink = nothing; unused = inl leaves.kept }
+  idle_of (NotListening why) (conf, taken, good, fails, kept, same) nothing = record { sink = nothing; unused = inl kept }
+  idle_of (NotStarted why) (conf, taken, good, listens, stops) nothing = record { sink = nothing; unused = inr listens.are_new }
+
+  pub idle_told : (why : NodeFault) → StaysIdle tells why setup old new → IsIdle tells setup.idles old new → ¬ (code ≡ 0) → Told
+  idle_told (NotTaken why) (none, leaves, same) idle failed = ([], no_child same, inr (record { none = refl; failed = failed }))
+  idle_told (NotMade fault) (conf, taken, bad, leaves, same) idle failed = none_started conf taken same idle failed
+  idle_told (NotListening why) (conf, taken, good, fails, kept, same) idle failed = none_started conf taken same idle failed
+  idle_told (NotStarted start.Failed) (conf, taken, good, listens, stops) idle failed = (
     map child_of stops.started,
     children-fails (with_commands stops.started old.launcher) new.launcher stops.fails ∙ children-with_commands stops.started before old.launcher told,
     inl (record {
@@ -84,7 +96,7 @@ module _ {S : Type 0} (setup : Setup) (code : ℕ) (old new : Outside S) (before
       waited = λ is. absurd (failed is);
     }),
   )
-  idle_told (NotStarted start.OutOfMemory) (conf, taken, good, same) idle failed = none_started conf taken same idle failed
+  idle_told (NotStarted start.OutOfMemory) (conf, taken, good, listens, same) idle failed = none_started conf taken same idle failed
 
   -- all commands were started, and waited for as far as this tells
   pub attended : (waited : Result (Unit {0}) Failed) (conf : ConfView) → Takes conf setup.path old.store new.store → Attends waited conf old.launcher new.launcher
@@ -131,10 +143,11 @@ module _ {S : Type 0} (setup : Setup) (code : ℕ) (old new : Outside S) (before
 
 module _ {S : Type 0} (tells : S → StationRecord) (setup : Setup) (code : ℕ) (old new : Outside S) where
   -- the children of every ending
-  pub tells_commands : (ending : Result Ran NodeFault) → NodeEnds tells ending setup old new → Tells (status_of_node ending) code old.log new.log → TellsCommands setup code old new
-  tells_commands (Err why) (stays, idle) reported before told place = idle_told setup code old new before told place why stays idle
+  pub tells_commands : (ending : Result Ran NodeFault) → NodeEnds tells ending setup old new → Tells (status_of_node ending) code old.log new.log → TellsCommands tells setup code old new
+  tells_commands (Err why) (stays, nothing) reported before told place =
+      idle_told tells setup code old new before told place why stays (idle_of tells setup code old new before told place why stays nothing)
       (not_zero (status_of_fault why) code old.log new.log (fault_code why) reported)
   tells_commands (Ok ran) (conf, taken, runs) reported before told place =
-      attended setup code old new before told place ran.waited conf taken runs.attends
+      attended tells setup code old new before told place ran.waited conf taken runs.attends
       (λ failed is. unwaited_code ran.stop failed ran.written code old.log new.log
       (subst (λ (waited : Result (Unit {0}) Failed). Tells (status_of_stop ran.stop (status_behind waited ran.written)) code old.log new.log) is reported))

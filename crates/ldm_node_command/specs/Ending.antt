@@ -9,11 +9,12 @@ use Rattle.ldm_shared.specs.Limits.{IsFaultOf}
 use Rattle.ldm_command_files.specs.declared.conf_file.ConfNotTaken.{ConfNotTaken}
 use Rattle.ldm_command_files.specs.ConfFiles.{CompletesConf, FileReadsTo, TakesConf}
 use Rattle.ldm_node_command.specs.declared.ending.NodeFault.{NodeFault}
-use Rattle.ldm_node_command.specs.declared.ending.NodeFault.TheVariants.{NotTaken, NotMade, NotStarted}
+use Rattle.ldm_node_command.specs.declared.ending.NodeFault.TheVariants.{NotTaken, NotMade, NotListening, NotStarted}
 use Rattle.ldm_node_command.specs.declared.ending.Ran.{Ran}
 use Rattle.ldm_node_command.specs.Commands.{StopsStarting}
+use Rattle.ldm_node_command.specs.Listening.{FailsToListen, Listens}
 use Rattle.ldm_node_command.specs.Node.{RunsNode}
-use Rattle.ldm_node_command.specs.Outside.{IsIdle, Outside}
+use Rattle.ldm_node_command.specs.Outside.{LeavesNet, Outside}
 use Rattle.ldm_node_command.specs.Setup.{IsGoodSize, Setup, passes_for}
 
 -- This configuration was taken. Where the store tells its files and did not fail, they mean no other.
@@ -27,23 +28,26 @@ pub record TakesNone (why : ConfNotTaken) (path : List ℕ) (old new : StoreReco
   pub takes : TakesConf (Err why) path old new
   pub completes : CompletesConf (Err why) path old new
 
-module _ {S : Type 0} where
+module _ {S : Type 0} (tells : S → StationRecord) where
   -- Why no node was run, and what was done then.
   abbrev pub StaysIdle : NodeFault → Setup → Outside S → Outside S → Type 0
-  -- no configuration was taken, and no command was started
-  StaysIdle (NotTaken why) setup old new = TakesNone why setup.path old.store new.store × (new.launcher ≡ old.launcher)
-  -- there is no such queue or no memory for it, and no command was started
+  -- no configuration was taken, and nothing else was done
+  StaysIdle (NotTaken why) setup old new = TakesNone why setup.path old.store new.store × LeavesNet old new × (new.launcher ≡ old.launcher)
+  -- there is no such queue or no memory for it, and nothing else was done
   StaysIdle (NotMade fault) setup old new =
       (conf : ConfView) × Takes conf setup.path old.store new.store × IsFaultOf setup.arena setup.slots (passes_for setup conf) fault
-      × (new.launcher ≡ old.launcher)
-  -- not all commands were started
+      × LeavesNet old new × (new.launcher ≡ old.launcher)
+  -- the net gave no stations, and no program was started
+  StaysIdle (NotListening why) setup old new =
+      (conf : ConfView) × Takes conf setup.path old.store new.store × IsGoodSize setup conf
+      × FailsToListen why old.net new.net × (new.kept ≡ old.kept) × (new.launcher ≡ old.launcher)
+  -- not all programs were started, and the net keeps the stations as it gave them
   StaysIdle (NotStarted why) setup old new =
       (conf : ConfView) × Takes conf setup.path old.store new.store × IsGoodSize setup conf
-      × StopsStarting why conf.commands old.launcher new.launcher
+      × Listens tells setup conf new.kept old.net new.net × StopsStarting why conf.commands old.launcher new.launcher
 
-module _ {S : Type 0} (tells : S → StationRecord) where
   abbrev pub NodeEnds : Result Ran NodeFault → Setup → Outside S → Outside S → Type 0
   -- a node was run
   NodeEnds (Ok ran) setup old new = (conf : ConfView) × Takes conf setup.path old.store new.store × RunsNode tells ran setup conf old new
   -- none was
-  NodeEnds (Err why) setup old new = StaysIdle why setup old new × IsIdle old new
+  NodeEnds (Err why) setup old new = StaysIdle why setup old new × (new.sink ≡ old.sink)

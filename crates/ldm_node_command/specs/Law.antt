@@ -1,28 +1,67 @@
 -- The law of the queue, of what a node writes.
-use Rattle.std.specs.Prelude.{◌≡◌, ◌⊎◌, List}
+use Rattle.std.specs.Prelude.{◌≡◌, ◌⊎◌, ◌<◌, ℕ, List, length, map, Ok}
 use Rattle.ldm_outside.specs.Count.{Rose}
 use Rattle.ldm_outside.specs.Io.{Takes, WritesFront}
 use Rattle.ldm_outside.specs.Station.{StationRecord}
-use Rattle.ldm_model.specs.declared.event.Entry.{Entry}
-use Rattle.ldm_model.specs.Law.{ObeysLaw}
+use Rattle.ldm_shared.specs.declared.steps.TheConstants.{MOST_TURNS}
+use Rattle.ldm_shared.specs.Passes.{PassView}
+use Rattle.ldm_calls.specs.Lawful.{IsLawful}
 use Rattle.ldm_conf.specs.Confs.{ConfView}
-use Rattle.ldm_worker_log.specs.declared.stop.NodeStop.{NodeStop}
-use Rattle.ldm_node_command.specs.Node.{Works, stat_line}
+use Rattle.ldm_node.specs.Causes.{NodeCause, SomeHas}
+use Rattle.ldm_status.specs.Status.{Reports}
+use Rattle.ldm_node.specs.declared.stop.NodeStop.{NodeStop}
+use Rattle.ldm_node.specs.declared.stop.NodeStop.TheVariants as stop
+use Rattle.ldm_node_command.specs.declared.ending.NodeFault.{NodeFault}
+use Rattle.ldm_node_command.specs.Ending.{StaysIdle}
+use Rattle.ldm_node_command.specs.Node.{Attends, Works, plan_for, stat_line}
 use Rattle.ldm_node_command.specs.Outside.{Outside}
 use Rattle.ldm_node_command.specs.Setup.{Setup}
+use Rattle.ldm_node_command.specs.Statuses.{status_of_fault}
 
-module _ {S : Type 0} (tells : S → StationRecord) where
-  -- The line of the queue is written: whole, or a front where the sink failed. It is that of the history of all calls of a node, which
-  -- obeys the law of the queue.
-  pub record WritesLawful (setup : Setup) (old new : Outside S) : Type 0 where
+module _ {S : Type 0} (tells : S → StationRecord) (setup : Setup) where
+  -- Each worker was done, the programs were waited for, and the line of the queue is written.
+  pub record IsWhole (conf : ConfView) (last : PassView) (old new : Outside S) : Type 0 where
+    pub done : NodeCause stop.Done (plan_for setup conf) (map tells new.kept) last
+    pub waited : Attends (Ok tt) conf old.launcher new.launcher
+    pub written : Takes old.sink (stat_line setup last.seen) new.sink
+
+  -- The number that a node which was run ends with, and what holds then. There is no other.
+  abbrev pub NumberOfRun : ℕ → ConfView → PassView → Outside S → Outside S → Type 0
+  NumberOfRun code conf last old new =
+      ((code ≡ 0) × IsWhole conf last old new)
+      -- a door failed
+      ⊎ (((code ≡ 69) × SomeHas (λ station. 0 < station.door.faults) (map tells new.kept))
+      -- there is no memory
+      ⊎ ((code ≡ 71)
+      -- a program could not be waited for
+      ⊎ (((code ≡ 73) × Rose old.launcher.faults new.launcher.faults)
+      -- the sink failed
+      ⊎ (((code ≡ 75) × Rose old.sink.faults new.sink.faults)
+      -- the log of a worker failed, or that of the program
+      ⊎ (((code ≡ 76) × (SomeHas (λ station. 0 < station.log.faults) (map tells new.kept) ⊎ Rose old.log.faults new.log.faults))
+      -- the queue has had all its calls
+      ⊎ ((code ≡ 77) × (length last.seen ≡ MOST_TURNS)))))))
+
+  -- A node was run. What the last pass has seen is the history of all calls of its queue. It obeys the law, whatever the sink tells; and the
+  -- line of the queue after it is written: whole, or a front where the sink failed.
+  pub record NodeWritesLawful (code : ℕ) (old new : Outside S) : Type 0 where
     pub stop : NodeStop
     pub conf : ConfView
-    pub history : List Entry
-    pub works : Works tells stop setup conf history old.net new.net new.kept
-    pub law : ObeysLaw setup.arena setup.slots history
-    pub front : WritesFront old.sink (stat_line setup history) new.sink
-    pub whole : ¬ (Rose old.sink.faults new.sink.faults) → Takes old.sink (stat_line setup history) new.sink
+    pub given : List S
+    pub last : PassView
+    pub works : Works tells setup conf given (record { pass = last; stations = new.kept; end = stop })
+    pub lawful : IsLawful setup.arena setup.slots last.seen
+    pub front : WritesFront old.sink (stat_line setup last.seen) new.sink
+    pub whole : ¬ (Rose old.sink.faults new.sink.faults) → Takes old.sink (stat_line setup last.seen) new.sink
+    pub number : NumberOfRun code conf last old new
 
-  -- What a node writes obeys the law. Where none was run nothing is written.
-  abbrev pub ObeysNodeLaw : Setup → Outside S → Outside S → Type 0
-  ObeysNodeLaw setup old new = (new.sink ≡ old.sink) ⊎ WritesLawful setup old new
+  -- No node was run, for this cause, and the number and the log tell it. Nothing is written.
+  pub record NodeWritesNothing (code : ℕ) (old new : Outside S) : Type 0 where
+    pub why : NodeFault
+    pub cause : StaysIdle tells why setup old new
+    pub nothing : new.sink ≡ old.sink
+    pub told : Reports (status_of_fault why) code old.log new.log
+
+  -- What a node writes obeys the law, and where none was run there is a cause that is told.
+  abbrev pub ObeysNodeLaw : ℕ → Outside S → Outside S → Type 0
+  ObeysNodeLaw code old new = NodeWritesNothing code old new ⊎ NodeWritesLawful code old new

@@ -1,5 +1,7 @@
 pub mod Setup
 pub mod Outside
+pub mod Steps
+pub mod Listening
 pub mod Commands
 pub mod Node
 pub mod Ending

@@ -1,23 +1,22 @@
 -- A node that was run, between its configuration and the last line.
 use Rattle.std.specs.Prelude.{◌≡◌, ℕ, List, map, Result}
 use Rattle.ldm_outside.specs.declared.fault.Failed.{Failed}
-use Rattle.ldm_outside.specs.Dial.{DialRecord}
 use Rattle.ldm_outside.specs.Io.{WritesAll}
 use Rattle.ldm_outside.specs.Launcher.{LauncherRecord}
 use Rattle.ldm_outside.specs.Station.{StationRecord}
 use Rattle.ldm_model.specs.declared.event.Entry.{Entry}
 use Rattle.ldm_model.specs.History.{after}
-use Rattle.ldm_model.specs.Law.{ObeysLaw}
 use Rattle.ldm_model.specs.Stat.{stat as stat_of}
+use Rattle.ldm_calls.specs.Lawful.{IsLawful}
 use Rattle.ldm_script.specs.Answer.{answer_line}
 use Rattle.ldm_shared.specs.Passes.{IsLast, PassView, SharedView}
 use Rattle.ldm_conf.specs.Confs.{ConfView}
 use Rattle.ldm_node.specs.Causes.{Completes, NodeCause}
-use Rattle.ldm_node.specs.Node.{Mans}
+use Rattle.ldm_node.specs.Node.{Outcome, Staffs}
 use Rattle.ldm_node.specs.Roles.{Plan, plan_of}
-use Rattle.ldm_worker_log.specs.declared.stop.NodeStop.{NodeStop}
 use Rattle.ldm_node_command.specs.declared.ending.Ran.{Ran}
 use Rattle.ldm_node_command.specs.Commands.{WaitsForAll, numbers_from, with_commands}
+use Rattle.ldm_node_command.specs.Listening.{Listens}
 use Rattle.ldm_node_command.specs.Outside.{Outside}
 use Rattle.ldm_node_command.specs.Setup.{Setup, IsGoodSize, passes_for}
 
@@ -40,24 +39,27 @@ abbrev pub Attends : Result (Unit {0}) Failed → ConfView → LauncherRecord �
 Attends waited conf old new = WaitsForAll waited (numbers_from old.next conf.commands) (with_commands conf.commands old) new
 
 module _ {S : Type 0} (tells : S → StationRecord) where
-  -- The node worked on a queue of those sizes until it stopped so, its stations are these, and this is the history of its queue.
-  pub record Works (stop : NodeStop) (setup : Setup) (conf : ConfView) (history : List Entry) (old new : DialRecord) (stations : List S) : Type 0 where
+  -- The node worked at these stations, on a queue of those sizes, and left this. What the last pass has seen is the history of the queue.
+  pub record Works (setup : Setup) (conf : ConfView) (given : List S) (left : Outcome S) : Type 0 where
     pub shared : SharedView
     pub made : IsMade setup conf shared
-    -- the pass that has seen all calls
-    pub last : PassView
-    pub is_last : IsLast shared last
-    pub seen : last.seen ≡ history
-    pub law : ObeysLaw setup.arena setup.slots history
-    pub worked : Mans tells (plan_for setup conf) setup.idles shared old new (record { pass = last; stations = stations; end = stop })
-    pub causes : NodeCause stop (plan_for setup conf) old new (map tells stations) last
-    pub completes : Completes stop old new (map tells stations)
+    pub is_last : IsLast shared left.pass
+    pub lawful : IsLawful setup.arena setup.slots left.pass.seen
+    pub worked : Staffs tells (plan_for setup conf) shared given left
+    pub causes : NodeCause left.end (plan_for setup conf) (map tells left.stations) left.pass
+    pub completes : Completes left.end (map tells left.stations)
 
-  -- The commands were started, the node worked, its stations are those that the net keeps since, the commands were waited for, and the line
-  -- of the queue was written.
+  -- The steps of a node that was run, in their order, once the configuration was taken.
   pub record RunsNode (ran : Ran) (setup : Setup) (conf : ConfView) (old new : Outside S) : Type 0 where
+    -- there is a queue for it
     pub good : IsGoodSize setup conf
-    pub history : List Entry
-    pub works : Works ran.stop setup conf history old.net new.net new.kept
+    -- the net gave a station for each worker
+    pub given : List S
+    pub listens : Listens tells setup conf given old.net new.net
+    -- the programs were started, the workers worked until all had stopped, and the net keeps the stations as they left them
+    pub last : PassView
+    pub works : Works setup conf given (record { pass = last; stations = new.kept; end = ran.stop })
+    -- the programs were waited for
     pub attends : Attends ran.waited conf old.launcher new.launcher
-    pub line : WritesAll ran.written (stat_line setup history) old.sink new.sink
+    -- the line of the queue was written
+    pub line : WritesAll ran.written (stat_line setup last.seen) old.sink new.sink

@@ -1,8 +1,10 @@
 -- What the command `node` uses of the outside.
-use Rattle.std.specs.Prelude.{◌≡◌, ◌≤◌, List}
+use Rattle.std.specs.Prelude.{◌≡◌, ◌≤◌, ◌⊎◌, ℕ, List, Option}
+use Rattle.std.specs.List.{All}
 use Rattle.ldm_outside.specs.Dial.{DialRecord}
 use Rattle.ldm_outside.specs.Io.{SinkRecord}
 use Rattle.ldm_outside.specs.Launcher.{LauncherRecord}
+use Rattle.ldm_outside.specs.Station.{StationRecord, IsNew}
 use Rattle.ldm_outside.specs.Store.{StoreRecord}
 
 -- What it uses of the outside, at a moment. S is the type of a station.
@@ -24,8 +26,12 @@ pub record KeepsFaults {S : Type 0} (old new : Outside S) : Type 0 where
   pub launcher : old.launcher.faults ≤ new.launcher.faults
   pub net : old.net.faults ≤ new.net.faults
 
--- No node was run: the net was not asked for stations, and nothing was written to the sink.
-pub record IsIdle {S : Type 0} (old new : Outside S) : Type 0 where
-  pub sink : new.sink ≡ old.sink
+-- No call was made of the net.
+pub record LeavesNet {S : Type 0} (old new : Outside S) : Type 0 where
   pub net : new.net ≡ old.net
   pub kept : new.kept ≡ old.kept
+
+-- No worker of a node worked: nothing was written to the sink, and the net keeps what it kept, or stations that are new.
+pub record IsIdle {S : Type 0} (tells : S → StationRecord) (idles : Option ℕ) (old new : Outside S) : Type 0 where
+  pub sink : new.sink ≡ old.sink
+  pub unused : (new.kept ≡ old.kept) ⊎ All (λ station. IsNew idles (tells station)) new.kept

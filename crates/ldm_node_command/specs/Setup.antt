@@ -6,8 +6,10 @@ use Rattle.ldm_shared.specs.Limits.{IsGoodPasses}
 use Rattle.ldm_node_command.specs.declared.passes.TheConstants.{MOST_PASSES}
 use Rattle.ldm_node_command.specs.declared.setup.NodeSetup.{NodeSetup}
 
--- What the words of a command line say of a node, its port apart.
+-- What the words of a command line say of a node.
 pub record Setup : Type 0 where
+  -- the port where it lets peers in
+  pub port : ℕ
   -- bytes of the arena
   pub arena : ℕ
   pub slots : ℕ
@@ -21,6 +23,7 @@ pub record Setup : Type 0 where
 
 abbrev pub setup_of : NodeSetup → Setup
 setup_of setup = record {
+  port = setup.options.port;
   arena = setup.arena;
   slots = setup.slots;
   workers = setup.options.workers;

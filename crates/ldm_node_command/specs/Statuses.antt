@@ -10,13 +10,15 @@ use Rattle.ldm_status.specs.declared.status.TheConstants.{LOG_FAULT}
 use Rattle.ldm_status.specs.declared.status.Status.{Status}
 use Rattle.ldm_status.specs.declared.status.Status.TheVariants as status
 use Rattle.ldm_status.specs.Status.{Reports}
-use Rattle.ldm_worker_log.specs.declared.stop.NodeStop.{NodeStop}
-use Rattle.ldm_worker_log.specs.declared.stop.NodeStop.TheVariants as stop
+use Rattle.ldm_node.specs.declared.stop.NodeStop.{NodeStop}
+use Rattle.ldm_node.specs.declared.stop.NodeStop.TheVariants as stop
 use Rattle.ldm_node_command.specs.declared.commands.StartFault.{StartFault}
 use Rattle.ldm_node_command.specs.declared.commands.StartFault.TheVariants as start
 use Rattle.ldm_node_command.specs.declared.ending.NodeFault.{NodeFault}
-use Rattle.ldm_node_command.specs.declared.ending.NodeFault.TheVariants.{NotTaken, NotMade, NotStarted}
+use Rattle.ldm_node_command.specs.declared.ending.NodeFault.TheVariants.{NotTaken, NotMade, NotListening, NotStarted}
 use Rattle.ldm_node_command.specs.declared.ending.Ran.{Ran}
+use Rattle.ldm_node_command.specs.declared.listening.ListenFault.{ListenFault}
+use Rattle.ldm_node_command.specs.declared.listening.ListenFault.TheVariants as listen
 
 -- the status where no queue was made
 abbrev pub status_of_queue : CreateFault → Status
@@ -24,6 +26,11 @@ status_of_queue (queue.BadArena arena) = status.RefusedArena arena
 status_of_queue (queue.BadSlots slots) = status.RefusedSlots slots
 status_of_queue (queue.BadPasses passes) = status.RefusedPasses passes
 status_of_queue queue.OutOfMemory = status.NoMemory
+
+-- the status where the net gave no stations
+abbrev pub status_of_listening : ListenFault → Status
+status_of_listening listen.Failed = status.NetFault
+status_of_listening listen.OutOfMemory = status.NoMemory
 
 -- the status where the commands were not all started
 abbrev pub status_of_start : StartFault → Status
@@ -34,6 +41,7 @@ status_of_start start.OutOfMemory = status.NoMemory
 abbrev pub status_of_fault : NodeFault → Status
 status_of_fault (NotTaken why) = status_of_conf why
 status_of_fault (NotMade fault) = status_of_queue fault
+status_of_fault (NotListening why) = status_of_listening why
 status_of_fault (NotStarted why) = status_of_start why
 
 -- the status of a node that is done: by whether each command was waited for, and then by whether the line of the queue was written

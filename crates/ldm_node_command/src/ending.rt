@@ -1,10 +1,11 @@
 //! How a node ends.
 
 use crate::commands::StartFault;
+use crate::listening::ListenFault;
 use ldm_command_files::ConfNotTaken;
+use ldm_node::NodeStop;
 use ldm_outside::{Failed, SinkFailed};
 use ldm_shared::CreateFault;
-use ldm_worker_log::NodeStop;
 
 /// Why a node was not run.
 #[derive(Clone, Copy, Debug, PartialEq, Eq)]
@@ -13,6 +14,8 @@ pub enum NodeFault {
     NotTaken(ConfNotTaken),
     /// No queue was made.
     NotMade(CreateFault),
+    /// The net gave no stations.
+    NotListening(ListenFault),
     /// The commands were not all started.
     NotStarted(StartFault),
 }
@@ -50,13 +53,13 @@ impl From<CreateFault> for NodeFault {
     }
 }
 
-impl From<StartFault> for NodeFault {
+impl From<ListenFault> for NodeFault {
     ghost use Rattle.std.specs.Prelude.{◌≡◌};
     ghost use Rattle.ldm_node_command.specs.declared.ending.NodeFault.TheVariants as fault;
 
-    ghost from_gives = { λ why made. made ≡ fault.NotStarted why };
+    ghost from_gives = { λ why made. made ≡ fault.NotListening why };
 
-    fn from(why: StartFault) -> NodeFault {
-        NodeFault::NotStarted(why)
+    fn from(why: ListenFault) -> NodeFault {
+        NodeFault::NotListening(why)
     }
 }

@@ -1,16 +1,23 @@
 //! The command `node`: a node, from the words of a command line to the number that the program ends with.
 //!
-//! [`run_node`] takes the configuration, makes the queue, starts the commands of the configuration, has `ldm_node` run
-//! the node, and then waits for the commands and writes how full the queue is. Its contract says how that ends.
+//! [`run_node`] takes the configuration, makes the queue, has the net listen, starts the commands of the configuration,
+//! has `ldm_node` run the node, and then waits for the commands and writes how full the queue is. Its contract says how
+//! that ends. [`run_steps`] is these [steps](Step) alone, and says their order.
 #![tactic(auto)]
 
 mod commands;
 mod ending;
+mod listening;
 mod passes;
+mod progress;
 mod run;
 mod setup;
 mod stat_line;
 mod statuses;
 
-pub use run::run_node;
+pub use commands::StartFault;
+pub use ending::{NodeFault, Ran};
+pub use listening::ListenFault;
+pub use progress::{Step, Steps};
+pub use run::{run_node, run_steps};
 pub use setup::NodeSetup;

@@ -1,14 +1,15 @@
 //! `ldm node`: a node, from its configuration to the line of its queue.
-ghost use Rattle.std.specs.Prelude.{◌≡◌, ◌+◌, ◌≤◌, List, length, map, IfOk, IfErr};
-ghost use Rattle.std.specs.List.{range_with_len};
+ghost use Rattle.std.specs.Prelude.{◌≡◌, ◌+◌, ◌<◌, ◌≤◌, ◌^◌, length, map, Some, None, IfOk, IfErr, OnOk};
+ghost use Rattle.std.specs.List.{All, range_with_len};
+ghost use Rattle.std.specs.Vec.{vec_len};
 ghost use Rattle.ldm_outside.specs.Io.{SinkRecord};
-ghost use Rattle.ldm_outside.specs.Station.{station_tells};
-ghost use Rattle.ldm_model.specs.declared.event.Entry.{Entry};
+ghost use Rattle.ldm_outside.specs.Station.{IsNew, station_tells};
 ghost use Rattle.ldm_model.specs.History.{after};
 ghost use Rattle.ldm_book.specs.Stands.{StandsFor};
 ghost use Rattle.ldm_shared.specs.Limits.{IsFaultOf};
 ghost use Rattle.ldm_shared.specs.Passes.{new_pass};
 ghost use Rattle.ldm_conf.specs.Confs.{conf_view};
+ghost use Rattle.ldm_node_command.specs.declared.progress.Step.TheVariants as step;
 ghost use Rattle.ldm_node_command.specs.Complete.{NodeCompletes};
 ghost use Rattle.ldm_node_command.specs.Ending.{NodeEnds};
 ghost use Rattle.ldm_node_command.specs.Law.{ObeysNodeLaw};
@@ -20,31 +21,31 @@ ghost use Rattle.ldm_node_command.specs.Told.{TellsCommands};
 
 use crate::commands::{start_commands, wait_for_commands};
 use crate::ending::{NodeFault, Ran};
+use crate::listening::listen;
 use crate::passes::count_passes;
+use crate::progress::{Step, Steps};
 use crate::setup::NodeSetup;
 use crate::stat_line::write_stat;
 use crate::statuses::report;
-use ldm_book::Book;
 use ldm_command_files::take_conf;
 use ldm_conf::Conf;
 use ldm_node::{NodeEnd, node};
-use ldm_outside::{Dial, Door, Launcher, Net, Sink, Store};
+use ldm_outside::{Clock, Dial, Door, Gate, Launcher, Net, Sink, Station, Store};
 use ldm_shared::{CreateFault, Pass, Shared};
-use ldm_worker_log::NodeStop;
 use std::alloc::Global;
 use std::sync::Wait;
 use std::thread::Threads;
 
-/// Runs a node: takes its configuration, makes its queue, starts the commands of the configuration, and has the workers
-/// of the node do their work until all have stopped. Then the net keeps the stations, the commands are waited for, and
-/// the line of the queue is written to the sink. Answers the number that the program ends with, and writes its line to
-/// the log.
+/// Runs a node: takes its configuration, makes its queue, has the net listen, starts the commands of the configuration,
+/// and has the workers of the node do their work until all have stopped. Then the net keeps the stations, the commands
+/// are waited for, and the line of the queue is written to the sink. Answers the number that the program ends with, and
+/// writes its line to the log.
 ///
 /// Each step comes only where all before it went well, but what comes behind the workers' work comes at each of its
-/// ends. Where a command cannot be started, those before it run on, and nobody waits for them. The clause `ends` gives
-/// each status its cause, and what was done then: see `NodeEnds`. Where the log of a worker failed the number is
-/// [`LOG_FAULT`](ldm_status::LOG_FAULT), and no line is written to the log. The clause `commands` says which children a
-/// launcher tells that tells any.
+/// ends. Where a command cannot be started, those before it run on, nobody waits for them, and the net keeps the
+/// stations as it gave them. The clause `ends` gives each status its cause, and what was done then: see `NodeEnds`.
+/// Where the log of a worker failed the number is [`LOG_FAULT`](ldm_status::LOG_FAULT), and no line is written to the
+/// log. The clause `commands` says which children a launcher tells that tells any.
 pub fn run_node<H: Threads + Wait + Sync, K: Sink, E: Sink, F: Store, L: Launcher, N: Net>(
     rt: &H,
     alloc: Global,
@@ -83,7 +84,7 @@ where
     ensures law { ObeysNodeLaw
         (station_tells N.StationDoor.tells N.StationDial.tells N.StationLog.tells N.StationClock.tells
         N.StationGate.tells)
-        (setup_of setup.now)
+        (setup_of setup.now) result
         (record {
           sink = K.tells sink.old;
           log = E.tells log.old;
@@ -124,7 +125,10 @@ where
           net = N.tells net.new;
           kept = N.kept net.new;
         }) }
-    ensures commands { TellsCommands (setup_of setup.now) result
+    ensures commands { TellsCommands
+        (station_tells N.StationDoor.tells N.StationDial.tells N.StationLog.tells N.StationClock.tells
+        N.StationGate.tells)
+        (setup_of setup.now) result
         (record {
           sink = K.tells sink.old;
           log = E.tells log.old;
@@ -163,12 +167,14 @@ where
           kept = N.kept net.new;
         }) }
 {
-    let ending = run(rt, alloc, setup, sink, store, launcher, net);
+    let mut steps = Steps::new();
+    let ending = run_steps(rt, alloc, setup, sink, store, launcher, net, &mut steps);
     report(ending, log)
 }
 
-// Takes the configuration, makes the queue, starts the commands, and runs the node.
-fn run<H: Threads + Wait + Sync, K: Sink, F: Store, L: Launcher, N: Net>(
+/// Makes the steps of a node, from its configuration to the line of its queue. A node that was run has made all of them,
+/// in the order of [`Step`] and each once.
+pub fn run_steps<H: Threads + Wait + Sync, K: Sink, F: Store, L: Launcher, N: Net>(
     rt: &H,
     alloc: Global,
     setup: &NodeSetup<'_>,
@@ -176,10 +182,12 @@ fn run<H: Threads + Wait + Sync, K: Sink, F: Store, L: Launcher, N: Net>(
     store: &mut F,
     launcher: &mut L,
     net: &mut N,
+    steps: &mut Steps,
 ) -> Result<Ran, NodeFault>
 where
     <N::StationDoor as Door>::Link: Send,
     <N::StationDial as Dial>::Link: Send,
+    requires first { steps.old ≡ None }
     ensures ends { (log_before log_after : SinkRecord) →
         NodeEnds (station_tells N.StationDoor.tells N.StationDial.tells N.StationLog.tells N.StationClock.tells
         N.StationGate.tells) result
@@ -200,6 +208,7 @@ where
           net = N.tells net.new;
           kept = N.kept net.new;
         }) }
+    ensures order { OnOk result (steps.new ≡ Some step.Line) }
     ensures sink_kept { (K.tells sink.old).faults ≤ (K.tells sink.new).faults }
     ensures store_kept { (F.tells store.old).faults ≤ (F.tells store.new).faults }
     ensures long_kept { (F.tells store.old).long ≤ (F.tells store.new).long }
@@ -207,11 +216,26 @@ where
     ensures net_kept { (N.tells net.old).faults ≤ (N.tells net.new).faults }
 {
     let conf = take_conf(alloc, store, setup.conf)?;
+    steps.make(Step::Configuration);
     let (shared, passes) = make_queue(alloc, setup, &conf)?;
-    let children = start_commands(alloc, launcher, conf.commands.as_slice())?;
-    let (stop, mut book) = man(rt, alloc, setup, conf, shared, passes, net);
-    let waited = wait_for_commands(launcher, children.as_slice());
-    let written = write_stat(&mut book, sink);
+    steps.make(Step::Queue);
+    let stations = listen(setup, &conf, net, steps)?;
+    let children = match start_commands(alloc, launcher, conf.commands.as_slice(), steps) {
+        Ok(children) => children,
+        Err(why) => {
+            net.keep(stations);
+            return Err(NodeFault::NotStarted(why));
+        }
+    };
+    let NodeEnd {
+        mut book,
+        stations,
+        end: stop,
+        ..
+    } = work(rt, alloc, setup, conf, shared, passes, stations, steps);
+    keep_stations(net, stations, steps);
+    let waited = wait_for_commands(launcher, children.as_slice(), steps);
+    let written = write_stat(&mut book, sink, steps);
     Ok(Ran {
         stop,
         waited,
@@ -229,6 +253,7 @@ fn make_queue(
     ensures passes { IfOk result (λ made. made.1.items ≡ map (new_pass made.0) (range_with_len 0 made.0.passes)) }
     ensures count { IfOk result
         (λ made. made.0.passes ≡ setup.now.options.workers + length conf.now.requests.items + 1) }
+    ensures few { IfOk result (λ _. setup.now.options.workers + length conf.now.requests.items < 2 ^ 32) }
     ensures good { IfOk result (λ _. IsGoodSize (setup_of setup.now) (conf_view conf.now)) }
     ensures fault { IfErr result
         (IsFaultOf setup.now.arena setup.now.slots (passes_for (setup_of setup.now) (conf_view conf.now))) }
@@ -237,36 +262,57 @@ fn make_queue(
     Shared::create(alloc, setup.arena, setup.slots, passes)
 }
 
-// Runs the node on its queue, and has the net keep the stations. Answers why it stopped, and the queue as all calls
-// left it.
-fn man<H: Threads + Wait + Sync, N: Net>(
+// Has the workers of the node work at their stations until all have stopped.
+fn work<
+    H: Threads + Wait + Sync,
+    D: Door + Send,
+    I: Dial + Send,
+    E: Sink + Send,
+    C: Clock + Send,
+    G: Gate + Send,
+>(
     rt: &H,
     alloc: Global,
     setup: &NodeSetup<'_>,
     conf: Conf,
     shared: Shared,
     passes: Vec<Pass>,
-    net: &mut N,
-) -> (NodeStop, Book)
+    stations: Vec<Station<D, I, E, C, G>>,
+    steps: &mut Steps,
+) -> NodeEnd<D, I, E, C, G>
 where
-    <N::StationDoor as Door>::Link: Send,
-    <N::StationDial as Dial>::Link: Send,
+    D::Link: Send,
+    I::Link: Send,
+    requires before { steps.old ≡ Some step.Programs }
     requires made { IsMade (setup_of setup.now) (conf_view conf) shared }
     requires passes { passes.items ≡ map (new_pass shared) (range_with_len 0 shared.passes) }
     requires count { shared.passes ≡ setup.now.options.workers + length conf.requests.items + 1 }
-    ensures works { (history : List Entry)
-        × Works (station_tells N.StationDoor.tells N.StationDial.tells N.StationLog.tells N.StationClock.tells
-        N.StationGate.tells) result.0
-        (setup_of setup.now) (conf_view conf) history (N.tells net.old) (N.tells net.new) (N.kept net.new)
-        × StandsFor result.1 (after setup.now.arena setup.now.slots history) }
-    ensures net_kept { (N.tells net.old).faults ≤ (N.tells net.new).faults }
+    requires stations { vec_len stations ≡ setup.now.options.workers + length conf.requests.items }
+    requires are_new { All
+        (λ station. IsNew setup.now.options.idles (station_tells D.tells I.tells E.tells C.tells G.tells station))
+        stations.items }
+    ensures works { Works (station_tells D.tells I.tells E.tells C.tells G.tells) (setup_of setup.now) (conf_view conf)
+        stations.items (record { pass = result.pass; stations = result.stations.items; end = result.end }) }
+    ensures stands { StandsFor result.book (after setup.now.arena setup.now.slots result.pass.seen) }
+    ensures noted { steps.new ≡ Some step.Workers }
 {
-    let NodeEnd {
-        book,
-        stations,
-        end,
-        ..
-    } = node(rt, alloc, conf, shared, passes, net, &setup.options);
+    steps.make(Step::Workers);
+    node(rt, alloc, conf, shared, passes, stations, &setup.options)
+}
+
+// Has the net keep the stations, as their workers left them.
+fn keep_stations<N: Net>(
+    net: &mut N,
+    stations: Vec<
+        Station<N::StationDoor, N::StationDial, N::StationLog, N::StationClock, N::StationGate>,
+    >,
+    steps: &mut Steps,
+)
+    requires before { steps.old ≡ Some step.Workers }
+    ensures kept { N.kept net.new ≡ stations.items }
+    ensures same { N.tells net.new ≡ N.tells net.old }
+    ensures noted { steps.new ≡ Some step.Keeping }
+{
+    steps.make(Step::Keeping);
     net.keep(stations);
-    (end, book)
 }

@@ -5,11 +5,12 @@ ghost use Rattle.ldm_node_command.specs.Statuses.{status_of_node, status_of_queu
 
 use crate::commands::StartFault;
 use crate::ending::{NodeFault, Ran};
+use crate::listening::ListenFault;
 use ldm_command_files::status_of_conf;
+use ldm_node::NodeStop;
 use ldm_outside::{Failed, Sink, SinkFailed};
 use ldm_shared::CreateFault;
 use ldm_status::{LOG_FAULT, Status};
-use ldm_worker_log::NodeStop;
 
 /// Writes the line of an ending to the log, and answers the number that the program ends with. Where the log of a
 /// worker failed there is no line, and the number is [`LOG_FAULT`].
@@ -58,6 +59,8 @@ fn status_of_fault(why: NodeFault) -> Status
     match why {
         NodeFault::NotTaken(why) => status_of_conf(why),
         NodeFault::NotMade(fault) => status_of_queue(fault),
+        NodeFault::NotListening(ListenFault::Failed) => Status::NetFault,
+        NodeFault::NotListening(ListenFault::OutOfMemory) => Status::NoMemory,
         NodeFault::NotStarted(StartFault::Failed) => Status::ChildFault,
         NodeFault::NotStarted(StartFault::OutOfMemory) => Status::NoMemory,
     }

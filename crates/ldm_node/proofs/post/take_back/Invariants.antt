@@ -1,4 +1,4 @@
-use Rattle.std.proofs.Common.{◌≡◌, ◌+◌, ◌≤◌, ◌++◌, length, map, reverse, vec_len}
+use Rattle.std.proofs.Common.{◌≡◌, ◌≤◌, ◌++◌, length, map, reverse, vec_len}
 use Rattle.std.specs.Vec.{vec_capacity}
 use Rattle.ldm_node.specs.Posts.{stations_of, stop_of}
 use Rattle.ldm_node.specs.Stops.{first_stop, or_stop}

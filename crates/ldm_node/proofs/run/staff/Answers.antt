@@ -1,5 +1,5 @@
 use denote.Param.Send.{arg_sync, param_sync}
-use Rattle.std.proofs.Common.{◌≡◌, ◌∙◌, ◌+◌, length, sym, ap, subst, inr, arith}
+use Rattle.std.proofs.Common.{◌≡◌, ◌+◌, length, sym, ap, subst, inr, arith}
 use Rattle.std.specs.Prelude.{OnOk, OnErr}
 use Rattle.ldm_outside.specs.Station.{station_tells}
 use Rattle.ldm_conf.specs.Confs.{conf_view}

@@ -13,7 +13,7 @@ returns-clause-law g c =
     let tells =
     station_tells g.N.StationDoor.Door.tells g.N.StationDial.Dial.tells g.N.StationLog.Sink.tells g.N.StationClock.Clock.tells g.N.StationGate.Gate.tells in
     let at = c.args in
-    let left = c.run-ending.new in
+    let left = c.run_steps-ending.new in
     let old : Outside S = record {
       sink = g.K.Sink.tells at.sink.now;
       log = g.E.Sink.tells at.log.now;
@@ -30,7 +30,7 @@ returns-clause-law g c =
       net = g.N.Dial.tells left.net;
       kept = g.N.Net.kept left.net;
     } in
-    node_obeys tells (setup_of at.setup.now) old new c.run-ending.result (c.run-ending.ensures.ends old.log new.log)
+    node_obeys tells (setup_of at.setup.now) c.report.result old new c.run_steps-ending.result (c.run_steps-ending.ensures.ends old.log new.log) c.report.ensures.tells
 
 pub returns-clause-completes : goal.returns-clause-completes
 returns-clause-completes g c = λ free.
@@ -38,7 +38,7 @@ returns-clause-completes g c = λ free.
     let tells =
     station_tells g.N.StationDoor.Door.tells g.N.StationDial.Dial.tells g.N.StationLog.Sink.tells g.N.StationClock.Clock.tells g.N.StationGate.Gate.tells in
     let at = c.args in
-    let left = c.run-ending.new in
+    let left = c.run_steps-ending.new in
     let old : Outside S = record {
       sink = g.K.Sink.tells at.sink.now;
       log = g.E.Sink.tells at.log.now;
@@ -55,7 +55,7 @@ returns-clause-completes g c = λ free.
       net = g.N.Dial.tells left.net;
       kept = g.N.Net.kept left.net;
     } in
-    node_completes tells (setup_of at.setup.now) old new free c.run-ending.result c.report.result (c.run-ending.ensures.ends old.log new.log) c.report.ensures.tells
+    node_completes tells (setup_of at.setup.now) old new free c.run_steps-ending.result c.report.result (c.run_steps-ending.ensures.ends old.log new.log) c.report.ensures.tells
 
 pub returns-clause-commands : goal.returns-clause-commands
 returns-clause-commands g c =
@@ -63,7 +63,7 @@ returns-clause-commands g c =
     let tells =
     station_tells g.N.StationDoor.Door.tells g.N.StationDial.Dial.tells g.N.StationLog.Sink.tells g.N.StationClock.Clock.tells g.N.StationGate.Gate.tells in
     let at = c.args in
-    let left = c.run-ending.new in
+    let left = c.run_steps-ending.new in
     let old : Outside S = record {
       sink = g.K.Sink.tells at.sink.now;
       log = g.E.Sink.tells at.log.now;
@@ -80,4 +80,4 @@ returns-clause-commands g c =
       net = g.N.Dial.tells left.net;
       kept = g.N.Net.kept left.net;
     } in
-    tells_commands tells (setup_of at.setup.now) c.report.result old new c.run-ending.result (c.run-ending.ensures.ends old.log new.log) c.report.ensures.tells
+    tells_commands tells (setup_of at.setup.now) c.report.result old new c.run_steps-ending.result (c.run_steps-ending.ensures.ends old.log new.log) c.report.ensures.tells

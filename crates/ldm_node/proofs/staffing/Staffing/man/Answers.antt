@@ -1,4 +1,4 @@
-use Rattle.std.proofs.Common.{◌≡◌, ◌-◌, ℕ, map, subst, sym, ap, arith}
+use Rattle.std.proofs.Common.{◌≡◌, ◌-◌, map, subst, sym, ap, arith}
 use Rattle.ldm_outside.specs.Station.{station_tells}
 use Rattle.ldm_conf.specs.Confs.{conf_view, request_view}
 use Rattle.ldm_node.specs.Roles.{Role, Asks, plan_of, role_of}

@@ -1,5 +1,0 @@
-mod Serving
-mod Owning
-mod Holding
-mod Working
-mod Telling

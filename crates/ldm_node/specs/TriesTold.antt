@@ -1,0 +1,34 @@
+-- What is told of the tries of a worker: by its dial, by its log, and by the tries themselves.
+use Rattle.std.specs.Prelude.{◌≡◌, ℕ, List, [], ◌∷◌, ◌++◌, map, Option}
+use Rattle.ldm_outside.specs.Dial.{Asked}
+use Rattle.ldm_conf.specs.Confs.{RequestView}
+use Rattle.ldm_node.specs.declared.stop.NodeStop.{NodeStop}
+use Rattle.ldm_node.specs.SessionEnds.{end_of_receiving}
+use Rattle.ldm_node.specs.Lines.{session_line, unreached_line}
+use Rattle.ldm_node.specs.RequestMoments.{Moment}
+use Rattle.ldm_node.specs.Tries.{Try, Unreached, Session, peer_of}
+use Rattle.ldm_node.specs.RequestWorks.{Works}
+
+-- all tries of a worker, in order
+abbrev pub all_tries : {stop : NodeStop} {request : RequestView} {old new : Moment} → Works stop request old new → List Try
+all_tries works = works.tries ++ works.last ∷ []
+
+-- whom a dial was asked for by tries: the host and the port of the request, each time
+abbrev pub asked_by : RequestView → List Try → List Asked
+asked_by request tries = map (λ (try : Try). peer_of request) tries
+
+abbrev pub line_of : RequestView → Try → List ℕ
+line_of request Unreached = unreached_line request.host
+line_of request (Session end before behind) = session_line request.host (end_of_receiving end)
+
+-- one line of each try, behind the lines of its own that it wrote
+abbrev pub log_of : RequestView → List Try → (own : List (List ℕ)) → List ℕ
+log_of request [] own = []
+log_of request (try ∷ tries) [] = line_of request try ++ log_of request tries []
+log_of request (try ∷ tries) (lines ∷ own) = lines ++ line_of request try ++ log_of request tries own
+
+-- Each session begins with the last product of the one before, the first one with that which is given.
+abbrev pub Follow : Option (List ℕ) → List Try → Type 0
+Follow last [] = Unit {0}
+Follow last (Unreached ∷ tries) = Follow last tries
+Follow last (Session end before behind ∷ tries) = (before ≡ last) × Follow behind tries

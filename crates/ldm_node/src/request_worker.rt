@@ -1,0 +1,56 @@
+//! A worker of a node that keeps asking another node for products.
+ghost use Rattle.std.specs.Prelude.{◌≡◌, ℕ, List, Option, None, false};
+ghost use Rattle.ldm_outside.specs.Station.{station_tells};
+ghost use Rattle.ldm_shared.specs.Passes.{IsPassOf, IsSamePass};
+ghost use Rattle.ldm_conf.specs.Confs.{request_view};
+ghost use Rattle.ldm_node.specs.RequestMoments.{moment, KeepsCounts};
+ghost use Rattle.ldm_node.specs.RequestWorks.{Works, StopCause};
+
+use crate::stop::NodeStop;
+use crate::trying::try_once;
+use ldm_conf::Request;
+use ldm_outside::{Clock, Dial, Door, Gate, Go, Sink, Station};
+use ldm_shared::{Pass, Shared};
+use std::alloc::Global;
+use std::sync::Wait;
+
+/// Asks the host of a request for the products of its class, time and again, until the gate says to stop.
+///
+/// It dials the host, and receives what comes over the link, behind the last product of the session before. It gives
+/// the link back, writes the line of the session, and asks the gate. Where the dial fails, it writes a line of that. It
+/// stops too where its log fails, and where the queue has had all its calls. For want of memory a session ends, and not
+/// the worker.
+pub fn work_request<H: Wait, D: Door, I: Dial, E: Sink, C: Clock, G: Gate>(
+    rt: &H,
+    alloc: Global,
+    shared: &Shared,
+    pass: &mut Pass,
+    station: &mut Station<D, I, E, C, G>,
+    request: &Request,
+) -> NodeStop
+    requires of { IsPassOf shared.now pass.old }
+    requires none_out { (I.tells station.old.dial).links.out ≡ false }
+    ensures kept { IsSamePass pass.old pass.new }
+    ensures none_out { (I.tells station.new.dial).links.out ≡ false }
+    ensures door { station.new.door ≡ station.old.door }
+    ensures counts { KeepsCounts (station_tells D.tells I.tells E.tells C.tells G.tells station.old)
+        (station_tells D.tells I.tells E.tells C.tells G.tells station.new) }
+    ensures sessions { (last : Option (List ℕ)) × Works result (request_view request.now)
+        (moment pass.old (station_tells D.tells I.tells E.tells C.tells G.tells station.old) None)
+        (moment pass.new (station_tells D.tells I.tells E.tells C.tells G.tells station.new) last) }
+    ensures causes { StopCause result pass.new (station_tells D.tells I.tells E.tells C.tells G.tells station.old)
+        (station_tells D.tells I.tells E.tells C.tells G.tells station.new) }
+{
+    let mut last = None;
+    for _ in rt.forever() {
+        match try_once(rt, alloc, shared, pass, station, request, &mut last) {
+            Some(stop) => return stop,
+            None => {}
+        }
+        match station.gate.idle() {
+            Go::On => {}
+            Go::Stop => return NodeStop::Done,
+        }
+    }
+    unreachable!()
+}

@@ -1,0 +1,12 @@
+//! A check of the definitions: worked examples that compute.
+ghost use Rattle.std.specs.Prelude.{◌≡◌, codes, length, None};
+ghost use Rattle.ldm_node.specs.TryExamples.{sample_lines, sample_request, sample_tries};
+ghost use Rattle.ldm_node.specs.TriesTold.{Follow, asked_by, log_of};
+
+/// Worked examples of what is told of tries.
+pub fn worked_examples_of_tries()
+    ensures log { log_of sample_request sample_tries sample_lines
+        ≡ codes "unreached h\nunwanted q\nsession h ended\nsession h outofmemory\n" }
+    ensures asked { length (asked_by sample_request sample_tries) ≡ 3 }
+    ensures resumed { Follow None sample_tries }
+{}

@@ -1,3 +1,0 @@
-mod Holding
-mod Working
-mod Telling
