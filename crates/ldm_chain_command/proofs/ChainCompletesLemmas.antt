@@ -10,10 +10,10 @@ use Rattle.ldm_status.specs.declared.status.Status.TheVariants as status
 use Rattle.ldm_status.specs.Status.{code_of, Reports}
 use Rattle.ldm_command_files.specs.declared.conf_file.ConfNotTaken.{ConfNotTaken}
 use Rattle.ldm_command_files.specs.declared.conf_file.ConfNotTaken.TheVariants as untaken_conf
-use Rattle.ldm_loading.specs.WholeScript.{TakesWhole}
-use Rattle.ldm_loading.specs.Script.{script_played}
-use Rattle.ldm_loading.specs.declared.whole_script.TheConstants.{LONGEST_SCRIPT}
-use Rattle.ldm_loading.specs.declared.whole_script.ScriptFault.TheVariants as untaken
+use Rattle.ldm_status.specs.WholeScript.{TakesWhole}
+use Rattle.ldm_chain_command.specs.Script.{script_played}
+use Rattle.ldm_status.specs.declared.whole_script.TheConstants.{LONGEST_SCRIPT}
+use Rattle.ldm_status.specs.declared.whole_script.ScriptFault.TheVariants as untaken
 use Rattle.ldm_class.specs.Rules.{Rules}
 use Rattle.ldm_relay.specs.declared.message.ClassAnswer.{ClassAnswer}
 use Rattle.ldm_relay.specs.declared.message.ClassAnswer.TheVariants as class_answer
@@ -34,7 +34,7 @@ use Rattle.ldm_chain_command.specs.Complete.{ChainUnhindered, HasConf, LeavesAll
 
 -- the status where it can stop nonetheless
 abbrev IsFree : Status → Type 0
-IsFree ending = (ending ≡ status.NoMemory) ⊎ (ending ≡ status.Worn)
+IsFree ending = ending ≡ status.NoMemory
 
 -- not each node was fed
 module _ (rules : Rules) (work : ChainWork) (leaves : LeavesAll rules work) where
@@ -46,7 +46,7 @@ module _ (rules : Rules) (work : ChainWork) (leaves : LeavesAll rules work) wher
   denied-free class_answer.BadPattern cause = cause
 
   received-free : (end : RecvEnd) → ReceiveCause end rules work → IsFree (status_of_received end)
-  received-free received.Worn cause = inr refl
+  received-free received.Worn cause = absurd cause
   received-free (received.Refused answer) cause = absurd (denied-free answer cause)
   received-free (received.BadFrame at) cause = absurd (leaves.meant cause)
   received-free received.Ended cause = absurd cause
@@ -56,9 +56,9 @@ module _ (rules : Rules) (work : ChainWork) (leaves : LeavesAll rules work) wher
   received-free received.StreamLimit cause = absurd cause
   received-free received.OutOfMemory cause = absurd cause
 
-  fed-free : (end : SendEnd) → FeedCause end work → IsFree (status_of_fed end)
-  fed-free fed.Worn cause = inr refl
-  fed-free fed.OutOfMemory cause = inl refl
+  fed-free : (end : SendEnd) → FeedCause end → IsFree (status_of_fed end)
+  fed-free fed.Worn cause = absurd cause
+  fed-free fed.OutOfMemory cause = refl
   fed-free fed.Stopped cause = absurd cause
   fed-free fed.Reclassed cause = absurd cause
   fed-free (fed.Denied rule) cause = absurd cause
@@ -72,7 +72,7 @@ module _ (rules : Rules) (work : ChainWork) (leaves : LeavesAll rules work) wher
   unfed-free chain_end.Done cause = absurd cause
   unfed-free (chain_end.Feed end) cause = fed-free end cause
   unfed-free (chain_end.Receive end) cause = received-free end cause
-  unfed-free chain_end.OutOfMemory cause = inl refl
+  unfed-free chain_end.OutOfMemory cause = refl
 
 -- a configuration is given
 abbrev IfGiven : Option (List ℕ) → Type 0
@@ -107,26 +107,22 @@ module _ (work : ChainWork) (old new : ChainOutside) (free : ChainUnhindered wor
   stops_for (stop.BadArena arena) ends completes = absurd (ends.1 (free.good.arena, free.good.most))
   stops_for (stop.BadSlots slots) ends completes = absurd (ends.2 free.good.slots)
   stops_for (stop.ConfNotTaken why) ends completes =
-      inl (ap (λ (w : ConfNotTaken). status_of_stop (stop.ConfNotTaken w)) (not-taken why work.conf old.store new.store free.conf free.store_works (is-given why work.conf old.store new.store ends.1) completes))
+      ap (λ (w : ConfNotTaken). status_of_stop (stop.ConfNotTaken w)) (not-taken why work.conf old.store new.store free.conf free.store_works (is-given why work.conf old.store new.store ends.1) completes)
   stops_for (stop.ScriptFault untaken.StreamLimit) ends completes = absurd (omega (arith, short_taken ends.2.text ends.2.taken, ends.2.stops))
   stops_for (stop.ScriptFault untaken.SourceFault) ends completes = absurd (free.source_works ends.2.stops.1)
-  stops_for (stop.ScriptFault untaken.OutOfMemory) ends completes = inl refl
+  stops_for (stop.ScriptFault untaken.OutOfMemory) ends completes = refl
   stops_for (stop.BadLine line column) ends completes =
       let same = sym free.to_end ∙ ap (λ (script : List ℕ). (script_played work.arena work.slots script).stop) (whole_taken ends.0 ends.1.taken) ∙ ends.2 in
       absurd cc
-  stops_for stop.Worn ends completes = inr refl
   stops_for (stop.NotFed end) ends completes = unfed-free ends.1.rules work (free.leaves ends.1.rules ends.1.taken_rules) end ends.3
   stops_for stop.SinkFault ends completes = absurd (free.sink_works ends.2)
-  stops_for stop.OutOfMemory ends completes = inl refl
+  stops_for stop.OutOfMemory ends completes = refl
 
   pub chain-completes : (ending : Result (Unit {0}) ChainFault) (code : ℕ) → ChainEnds ending work old new
       → IfErr ending (λ why. UntakenCompletes why work.conf old.store new.store) → Reports (status_of_chain ending) code old.streams.log new.streams.log
-      → (code ≡ 0) ⊎ ((code ≡ 71) ⊎ (code ≡ 77))
+      → (code ≡ 0) ⊎ (code ≡ 71)
   chain-completes (Ok done) code ends completes reports = elim reports [ inl told ↦ inl told.0 | inr failed ↦ absurd (free.log_works failed.1) ]
   chain-completes (Err why) code ends completes reports = elim reports [
-    | inl told ↦ elim (stops_for why ends completes) [
-      | inl no_memory ↦ inr (inl (told.0 ∙ ap code_of no_memory))
-      | inr worn ↦ inr (inr (told.0 ∙ ap code_of worn))
-    ]
+    | inl told ↦ inr (told.0 ∙ ap code_of (stops_for why ends completes))
     | inr failed ↦ absurd (free.log_works failed.1)
   ]

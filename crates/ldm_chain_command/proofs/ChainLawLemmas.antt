@@ -6,12 +6,14 @@ use Rattle.ldm_model.specs.declared.event.Entry.{Entry}
 use Rattle.ldm_model.specs.State.{State}
 use Rattle.ldm_model.specs.History.{IsLegal}
 use Rattle.ldm_calls.specs.Lawful.{IsLawful}
+use Rattle.ldm_status.specs.Status.{Reports}
 use Rattle.ldm_chain_command.specs.declared.fault.ChainFault.{ChainFault}
 use Rattle.ldm_chain_command.specs.declared.fault.ChainFault.TheVariants as stop
 use Rattle.ldm_chain_command.specs.Work.{ChainOutside, ChainWork}
 use Rattle.ldm_chain_command.specs.Queues.{nodes_text}
 use Rattle.ldm_chain_command.specs.Ending.{ChainEnds, ChainStops, IsLegalQueue}
 use Rattle.ldm_chain_command.specs.Law.{IsLawfulQueue, ObeysChainLaw}
+use Rattle.ldm_chain_command.specs.Statuses.{status_of_chain, status_of_stop}
 
 module _ (lawful : (arena slots : ℕ) (history : List Entry) → IsLegal arena slots history → IsLawful arena slots history) (work : ChainWork) where
   all-lawful : (queues : List State) → AllByRecursion (IsLegalQueue work) queues → AllByRecursion (IsLawfulQueue work) queues
@@ -21,16 +23,15 @@ module _ (lawful : (arena slots : ℕ) (history : List Entry) → IsLegal arena 
     all-lawful queues legal.1,
   )
 
-  module _ (old new : ChainOutside) where
-    stops : (why : ChainFault) → ChainStops why work old new → ObeysChainLaw work old new
-    stops (stop.BadArena arena) stopped = inl stopped.2.sink
-    stops (stop.BadSlots slots) stopped = inl stopped.3.sink
-    stops (stop.ConfNotTaken why) stopped = inl stopped.2.sink
-    stops (stop.ScriptFault why) stopped = inl stopped.3
-    stops (stop.BadLine line column) stopped = inl stopped.3
-    stops stop.Worn stopped = inl stopped.1
-    stops (stop.NotFed end) stopped = inl stopped.4
-    stops stop.SinkFault (queues, chains, rose, front) = inr (record {
+  module _ (code : ℕ) (old new : ChainOutside) where
+    stops : (why : ChainFault) → ChainStops why work old new → Reports (status_of_stop why) code old.streams.log new.streams.log → ObeysChainLaw work code old new
+    stops (stop.BadArena arena) stopped told = inl (record { why = stop.BadArena arena; cause = stopped; told = told })
+    stops (stop.BadSlots slots) stopped told = inl (record { why = stop.BadSlots slots; cause = stopped; told = told })
+    stops (stop.ConfNotTaken why) stopped told = inl (record { why = stop.ConfNotTaken why; cause = stopped; told = told })
+    stops (stop.ScriptFault why) stopped told = inl (record { why = stop.ScriptFault why; cause = stopped; told = told })
+    stops (stop.BadLine line column) stopped told = inl (record { why = stop.BadLine line column; cause = stopped; told = told })
+    stops (stop.NotFed end) stopped told = inl (record { why = stop.NotFed end; cause = stopped; told = told })
+    stops stop.SinkFault (queues, chains, rose, front) told = inr (record {
       queues = queues;
       chains = chains;
       script_lawful = lawful work.arena work.slots _ chains.script_legal;
@@ -38,10 +39,11 @@ module _ (lawful : (arena slots : ℕ) (history : List Entry) → IsLegal arena 
       front = front;
       whole = λ works. absurd (works rose);
     })
-    stops stop.OutOfMemory stopped = inl stopped
+    stops stop.OutOfMemory stopped told = inl (record { why = stop.OutOfMemory; cause = stopped; told = told })
 
-    pub chain-obeys : (ending : Result (Unit {0}) ChainFault) → ChainEnds ending work old new → ObeysChainLaw work old new
-    chain-obeys (Ok done) (queues, chains, takes) = inr (record {
+    pub chain-obeys : (ending : Result (Unit {0}) ChainFault) → ChainEnds ending work old new → Reports (status_of_chain ending) code old.streams.log new.streams.log
+        → ObeysChainLaw work code old new
+    chain-obeys (Ok done) (queues, chains, takes) told = inr (record {
       queues = queues;
       chains = chains;
       script_lawful = lawful work.arena work.slots _ chains.script_legal;
@@ -49,4 +51,4 @@ module _ (lawful : (arena slots : ℕ) (history : List Entry) → IsLegal arena 
       front = (nodes_text 1 queues, [], append-nil (nodes_text 1 queues), takes);
       whole = λ works. takes;
     })
-    chain-obeys (Err why) stopped = stops why stopped
+    chain-obeys (Err why) stopped told = stops why stopped told

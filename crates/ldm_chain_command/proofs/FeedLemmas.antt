@@ -28,11 +28,11 @@ use Rattle.ldm_sender.specs.Asked.{Asked}
 use Rattle.ldm_sender.specs.Due.{is_due}
 use Rattle.ldm_upstream.specs.Turn.{Given}
 use Rattle.ldm_upstream.specs.Blocks.{blocks}
-use Rattle.ldm_sole_reader.specs.Alone.{due_of, queued_given}
-use Rattle.ldm_passing.specs.Queue.{announced, filled, passed, passed_all, reserved_so}
-use Rattle.ldm_listing.specs.Listing.{any_feed, has_feed, listed}
-use Rattle.ldm_loading.specs.Putting.{inserted_all}
-use Rattle.ldm_loading.specs.Script.{script_played}
+use Rattle.ldm_between_ends.specs.Alone.{due_of, queued_given}
+use Rattle.ldm_between_ends.specs.Queue.{announced, filled, passed, passed_all, reserved_so}
+use Rattle.ldm_chain_command.specs.Listing.{any_feed, has_feed, listed}
+use Rattle.ldm_chain_command.specs.Putting.{inserted_all}
+use Rattle.ldm_chain_command.specs.Script.{script_played}
 use Rattle.ldm_chain.specs.Linking.{asked_by, host_name}
 use Rattle.ldm_chain.specs.Queues.{as_reduced, products_due}
 use Rattle.ldm_chain_command.specs.Work.{ChainWork}

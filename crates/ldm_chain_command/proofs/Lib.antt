@@ -1,3 +1,8 @@
+pub mod Actors
+pub mod Rising
+pub mod Moves
+pub mod PlayedLemmas
+pub mod PutLemmas
 pub mod ChainLawLemmas
 pub mod ChainCompletesLemmas
 pub mod NodeLemmas
@@ -5,3 +10,4 @@ pub mod UnfedLemmas
 pub mod TextLemmas
 pub mod FeedLemmas
 pub mod RanLemmas
+pub mod ChainHistoryLemmas

@@ -4,21 +4,19 @@ use Rattle.std.specs.Prelude.{remove, slice_index_or}
 use Rattle.ldm_types.specs.declared.class.ClassSpec.{ClassSpec}
 use Rattle.std.specs.List.{AllByRecursion}
 use Rattle.ldm_model.specs.declared.event.Entry.{Entry}
-use Rattle.ldm_model.specs.State.{State, empty}
+use Rattle.ldm_model.specs.Always.{Always, HasSlots}
+use Rattle.ldm_model.specs.State.{State, empty, queued}
 use Rattle.ldm_model.specs.History.{after, IsLegal}
+use Rattle.ldm_book.specs.Limits.{IsGoodSlots}
 use Rattle.ldm_book.specs.View.{BookView}
 use Rattle.ldm_book.specs.Stands.{StandsFor}
-use Rattle.ldm_shared.specs.declared.steps.TheConstants.{MOST_TURNS}
-use Rattle.ldm_listing.specs.Listing.{listed}
-use Rattle.ldm_loading.specs.Script.{HasPlayed, script_played}
-use Rattle.ldm_loading.specs.Putting.{IsPutFault, StandsAfter, inserted_all}
-use Rattle.ldm_loading.specs.declared.putting.PutFault.{PutFault}
-use Rattle.ldm_loading.specs.declared.putting.PutFault.TheVariants as put
-use Rattle.ldm_chain_command.specs.Faults.{not_put}
-use Rattle.ldm_chain_command.specs.Unfed.{IsWornOut}
+use Rattle.ldm_chain_command.specs.Listing.{listed}
+use Rattle.ldm_chain_command.specs.Script.{HasPlayed, script_played}
+use Rattle.ldm_chain_command.specs.Putting.{StandsAfter, inserted_all}
 use Rattle.ldm_class.specs.Rules.{Rules}
 use Rattle.ldm_shared.specs.Passes.{HasSeen, IsPassOf, IsSamePass, PassView, SharedView, new_pass}
-use Rattle.ldm_sole_reader.specs.OnePass.{IsOnlyPass, state_of}
+use Rattle.ldm_between_ends.specs.OnePass.{IsOnlyPass, state_of}
+use Rattle.ldm_between_ends.proofs.Slots.{few-queued}
 use Rattle.ldm_outside.specs.Clock.{ClockRecord}
 use Rattle.ldm_session.specs.Exchange.{AnsweredAll}
 use Rattle.ldm_chain.specs.declared.node.ChainNode.{ChainNode}
@@ -27,7 +25,7 @@ use Rattle.ldm_chain.specs.Nodes.{AreNodes, KeepsNodes}
 use Rattle.ldm_chain.specs.Queues.{AreToBeFed, IsChain, IsForAllTimes, QueuesAll, QueuesEach, fed_from, new_queue}
 use Rattle.ldm_chain_command.specs.Work.{ChainWork}
 use Rattle.ldm_chain_command.specs.Queues.{next_queue, queues_from}
-use Rattle.ldm_chain_command.specs.Nodes.{AreFed, AreNew, AreSole, IsFirst, IsNew, IsNotFirst, queue_of}
+use Rattle.ldm_chain_command.specs.Nodes.{AreFed, AreNew, AreSole, IsFirst, IsNew, queue_of}
 
 module _ (arena slots max_hereis : ℕ) where
   -- one node more
@@ -228,10 +226,11 @@ new-only seen arena slots max_hereis class node new = record {
   has_seen = subst HasSeen (sym new.pass) (seen node.shared 0);
 }
 
-pub played-stands : (arena slots : ℕ) (script : List ℕ) (book : BookView) → HasPlayed arena slots script book → StandsAfter book
-played-stands arena slots script book played = record {
+pub played-stands : (arena slots : ℕ) (script : List ℕ) (book : BookView) → IsGoodSlots slots → HasPlayed arena slots script book → StandsAfter book
+played-stands arena slots script book good played = record {
   arena = arena;
   slots = slots;
+  good = good;
   history = (script_played arena slots script).playing.history;
   legal = played.legal.legal;
   stands = subst (StandsFor book) played.legal.state played.stands;
@@ -242,13 +241,13 @@ abbrev pub Puts : BookView → PassView → PassView → Type 0
 Puts book old new = (arena slots : ℕ) (history : List Entry) → IsLegal arena slots history → StandsFor book (after arena slots history)
     → state_of new ≡ inserted_all (listed (after arena slots history)) (state_of old)
 
-pub first-is : (arena slots max_hereis : ℕ) (script : List ℕ) (class : ClassSpec) (book : BookView) (node : ChainNode) (later : PassView) → HasPlayed arena slots script book
+pub first-is : (arena slots max_hereis : ℕ) (script : List ℕ) (class : ClassSpec) (book : BookView) (node : ChainNode) (later : PassView) → Always HasSlots
+    → HasPlayed arena slots script book
     → IsNew arena slots max_hereis class node → IsOnlyPass node.pass → IsSamePass node.pass later → HasSeen later → Puts book node.pass later
-    → IsFirst arena slots script (record node { pass = later })
-unfolding played-stands
-first-is arena slots max_hereis script class book node later played new only same seen puts =
+    → ((s : State) → StandsFor book s → length later.seen ≤ length (queued s)) → IsFirst arena slots script (record node { pass = later })
+first-is arena slots max_hereis script class book node later has_slots played new only same seen puts few =
     let p = (script_played arena slots script).playing in
-    let there = played-stands arena slots script book played in
+    let stands : StandsFor book (after arena slots p.history) = subst (StandsFor book) played.legal.state played.stands in
     let old_state : state_of node.pass ≡ empty arena slots =
     ap state_of new.pass ∙ ap (λ (a : ℕ). empty a node.shared.slots) new.arena_is ∙ ap (empty arena) new.slots_is in
     record {
@@ -268,23 +267,8 @@ first-is arena slots max_hereis script class book node later played new only sam
         has_seen = seen;
       };
       state =
-          puts arena slots p.history played.legal.legal there.stands
+          puts arena slots p.history played.legal.legal stands
           ∙ ap (λ (s : State). inserted_all (listed s) (state_of node.pass)) (sym played.legal.state)
           ∙ ap (inserted_all (listed p.state)) old_state;
+      few = omega (arith, few (after arena slots p.history) stands, few-queued has_slots arena slots p.history played.legal.legal);
     }
-
--- a queue that had all its calls
-pub worn-out : (arena slots max_hereis : ℕ) (class : ClassSpec) (node : ChainNode) (later : PassView) → IsNew arena slots max_hereis class node → IsSamePass node.pass later → HasSeen later
-    → length later.seen ≡ MOST_TURNS → IsWornOut arena slots
-worn-out arena slots max_hereis class node later new same seen all = record {
-  history = later.seen;
-  legal =
-      subst (λ (a : ℕ). IsLegal a slots later.seen) (ap (λ (p : PassView). p.arena) same ∙ new.of.arena ∙ new.arena_is)
-      (subst (λ (n : ℕ). IsLegal later.arena n later.seen) (ap (λ (p : PassView). p.slots) same ∙ new.of.slots ∙ new.slots_is) seen.legal);
-  all_calls = all;
-}
-
-pub not-put-for : (why : PutFault) (arena slots max_hereis : ℕ) (script : List ℕ) (class : ClassSpec) (node : ChainNode) (later : PassView) → IsNew arena slots max_hereis class node
-    → IsSamePass node.pass later → HasSeen later → IsPutFault later why → IsNotFirst (not_put why) arena slots script
-not-put-for put.Worn arena slots max_hereis script class node later new same seen all = worn-out arena slots max_hereis class node later new same seen all
-not-put-for put.OutOfMemory arena slots max_hereis script class node later new same seen all = tt

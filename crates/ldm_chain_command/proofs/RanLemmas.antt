@@ -6,9 +6,9 @@ use Rattle.ldm_model.specs.Stat.{stat_reply}
 use Rattle.ldm_model.specs.History.{after, IsLegal}
 use Rattle.ldm_script.specs.Answer.{answer_line}
 use Rattle.ldm_class.specs.Rules.{Rules}
-use Rattle.ldm_loading.specs.WholeScript.{TakesWhole}
+use Rattle.ldm_status.specs.WholeScript.{TakesWhole}
 use Rattle.ldm_chain.specs.declared.node.ChainNode.{ChainNode}
-use Rattle.ldm_loading.specs.Script.{script_played}
+use Rattle.ldm_chain_command.specs.Script.{script_played}
 use Rattle.ldm_chain_command.specs.declared.fault.ChainFault.{ChainFault}
 use Rattle.ldm_chain_command.specs.declared.fault.ChainFault.TheVariants as stop
 use Rattle.ldm_chain_command.specs.Work.{ChainOutside, ChainWork, IsGoodSize}
@@ -68,7 +68,6 @@ stops-unfed (stop.NotFed end) work old new given script is rules good taken_rule
   unfed.1,
   sink,
 )
-stops-unfed stop.Worn work old new given script is rules good taken_rules taken sink unfed = (unfed, sink)
 stops-unfed stop.OutOfMemory work old new given script is rules good taken_rules taken sink unfed = sink
 stops-unfed (stop.BadArena arena) work old new given script is rules good taken_rules taken sink unfed = absurd unfed
 stops-unfed (stop.BadSlots slots) work old new given script is rules good taken_rules taken sink unfed = absurd unfed

@@ -16,8 +16,8 @@ use Rattle.ldm_model.specs.Answers.{stat_answer}
 use Rattle.ldm_model.specs.Stat.{stat, stat_reply}
 use Rattle.ldm_book.specs.Answers.{Follows}
 use Rattle.ldm_script.specs.Answer.{answer_line}
-use Rattle.ldm_listing.specs.declared.listing.Listed.{Listed}
-use Rattle.ldm_listing.specs.Listing.{IsListed, IsReading, listed}
+use Rattle.ldm_chain_command.specs.declared.listing.Listed.{Listed}
+use Rattle.ldm_chain_command.specs.Listing.{IsListed, IsReading, listed}
 use Rattle.ldm_chain.specs.declared.node.ChainNode.{ChainNode}
 use Rattle.ldm_chain_command.specs.Queues.{node_line, product_line}
 use Rattle.ldm_chain_command.specs.Texts.{listed_text, listed_texts}

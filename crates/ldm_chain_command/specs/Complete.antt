@@ -6,8 +6,8 @@ use Rattle.ldm_class.specs.Rules.{Rules}
 use Rattle.ldm_conf.specs.Confs.{ConfView}
 use Rattle.ldm_conf.specs.Reading.{Read}
 use Rattle.ldm_command_files.specs.ConfFiles.{FileReadsTo}
-use Rattle.ldm_loading.specs.Script.{script_played}
-use Rattle.ldm_loading.specs.declared.whole_script.TheConstants.{LONGEST_SCRIPT}
+use Rattle.ldm_chain_command.specs.Script.{script_played}
+use Rattle.ldm_status.specs.declared.whole_script.TheConstants.{LONGEST_SCRIPT}
 use Rattle.ldm_chain_command.specs.Work.{ChainOutside, ChainWork, IsGoodSize}
 use Rattle.ldm_chain_command.specs.Policy.{TakesRules}
 use Rattle.ldm_chain_command.specs.Unfed.{LeavesNothing, LeavesUnmeant}
@@ -38,6 +38,6 @@ pub record ChainUnhindered (work : ChainWork) (old new : ChainOutside) : Type 0 
   pub sink_works : ¬ (Rose old.streams.sink.faults new.streams.sink.faults)
   pub log_works : ¬ (Rose old.streams.log.faults new.streams.log.faults)
 
--- A chain that nothing hinders ends with 0, with 71 for want of memory, or with 77 once a queue had all the calls that it can have.
+-- A chain that nothing hinders ends with 0, or with 71 for want of memory.
 abbrev pub ChainCompletes : ChainWork → ℕ → ChainOutside → ChainOutside → Type 0
-ChainCompletes work code old new = ChainUnhindered work old new → (code ≡ 0) ⊎ ((code ≡ 71) ⊎ (code ≡ 77))
+ChainCompletes work code old new = ChainUnhindered work old new → (code ≡ 0) ⊎ (code ≡ 71)

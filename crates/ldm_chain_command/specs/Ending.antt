@@ -9,15 +9,15 @@ use Rattle.ldm_model.specs.History.{after, IsLegal}
 use Rattle.ldm_class.specs.Rules.{Rules}
 use Rattle.ldm_book.specs.Limits.{IsGoodArena, IsGoodSlots}
 use Rattle.ldm_session.specs.Exchange.{AnsweredAll}
-use Rattle.ldm_loading.specs.WholeScript.{TakesWhole, TakesPart}
-use Rattle.ldm_loading.specs.Script.{script_played}
+use Rattle.ldm_status.specs.WholeScript.{TakesWhole, TakesPart}
+use Rattle.ldm_chain_command.specs.Script.{script_played}
 use Rattle.ldm_chain_command.specs.declared.fault.ChainFault.{ChainFault}
 use Rattle.ldm_chain_command.specs.declared.fault.ChainFault.TheVariants as stop
 use Rattle.ldm_chain_command.specs.declared.setup.TheConstants.{LARGEST_CHAIN_ARENA}
 use Rattle.ldm_chain_command.specs.Work.{ChainOutside, ChainWork, IsGoodSize}
 use Rattle.ldm_chain_command.specs.Policy.{TakesNoRules, TakesRules}
 use Rattle.ldm_chain_command.specs.Queues.{chain_queues, nodes_text}
-use Rattle.ldm_chain_command.specs.Unfed.{IsWornOut, UnfedCause}
+use Rattle.ldm_chain_command.specs.Unfed.{UnfedCause}
 
 -- The rules were taken, and then the script, whole.
 pub record HasTaken (work : ChainWork) (script : List ℕ) (old new : ChainOutside) : Type 0 where
@@ -68,8 +68,6 @@ ChainStops (stop.ScriptFault why) work old new =
 ChainStops (stop.BadLine line column) work old new =
     (script : List ℕ) × HasTaken work script old new × ((script_played work.arena work.slots script).stop ≡ Some (record { line = line; column = column }))
     × (new.streams.sink ≡ old.streams.sink) × (new.clock ≡ old.clock)
--- the first queue has had all its calls
-ChainStops stop.Worn work old new = IsWornOut work.arena work.slots × (new.streams.sink ≡ old.streams.sink)
 -- not each node was fed, which has its cause under the rules that were taken
 ChainStops (stop.NotFed end) work old new =
     (script : List ℕ) × (taken : HasTaken work script old new) × ((script_played work.arena work.slots script).stop ≡ None)

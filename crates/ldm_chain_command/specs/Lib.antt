@@ -1,3 +1,7 @@
+pub mod Listing
+pub mod Script
+pub mod Putting
+pub mod Steps
 pub mod Faults
 pub mod Work
 pub mod Policy

@@ -8,8 +8,8 @@ use Rattle.ldm_class.specs.Rules.{Rules}
 use Rattle.ldm_book.specs.Limits.{IsGoodArena, IsGoodSlots}
 use Rattle.ldm_shared.specs.Passes.{new_pass}
 use Rattle.ldm_session.specs.Exchange.{AnsweredAll}
-use Rattle.ldm_sole_reader.specs.OnePass.{IsOnlyPass, state_of}
-use Rattle.ldm_loading.specs.Script.{script_played}
+use Rattle.ldm_between_ends.specs.OnePass.{IsOnlyPass, state_of}
+use Rattle.ldm_chain_command.specs.Script.{script_played}
 use Rattle.ldm_chain.specs.declared.node.ChainNode.{ChainNode}
 use Rattle.ldm_chain.specs.Nodes.{IsNode}
 use Rattle.ldm_chain_command.specs.declared.fault.ChainFault.{ChainFault}
@@ -17,7 +17,7 @@ use Rattle.ldm_chain_command.specs.declared.fault.ChainFault.TheVariants as stop
 use Rattle.ldm_chain_command.specs.declared.setup.TheConstants.{LARGEST_CHAIN_ARENA}
 use Rattle.ldm_chain_command.specs.Work.{ChainWork}
 use Rattle.ldm_chain_command.specs.Queues.{chain_queues, first_queue}
-use Rattle.ldm_chain_command.specs.Unfed.{IsWornOut, UnfedCause}
+use Rattle.ldm_chain_command.specs.Unfed.{UnfedCause}
 
 -- ---- sizes
 
@@ -55,6 +55,8 @@ pub record IsFirst (arena slots : ℕ) (script : List ℕ) (node : ChainNode) : 
   pub of : IsNode node
   pub only : IsOnlyPass node.pass
   pub state : state_of node.pass ≡ first_queue arena slots script
+  -- it was called for each of them alone
+  pub few : length node.pass.seen ≤ slots
 
 -- ---- nodes that were fed
 
@@ -92,7 +94,6 @@ pub record AreFed (work : ChainWork) (rules : Rules) (script : List ℕ) (nodes 
 -- why not all were fed
 abbrev pub AreNotFed : ChainFault → ChainWork → Rules → List ℕ → ClockRecord → ClockRecord → Type 0
 AreNotFed (stop.BadLine line column) work rules script old new = ((script_played work.arena work.slots script).stop ≡ Some (record { line = line; column = column })) × (new ≡ old)
-AreNotFed stop.Worn work rules script old new = IsWornOut work.arena work.slots
 AreNotFed (stop.NotFed end) work rules script old new = ((script_played work.arena work.slots script).stop ≡ None) × UnfedCause end rules work
 AreNotFed stop.OutOfMemory work rules script old new = Unit {0}
 AreNotFed _ work rules script old new = ⊥
@@ -100,6 +101,5 @@ AreNotFed _ work rules script old new = ⊥
 -- why the first node was not made
 abbrev pub IsNotFirst : ChainFault → ℕ → ℕ → List ℕ → Type 0
 IsNotFirst (stop.BadLine line column) arena slots script = (script_played arena slots script).stop ≡ Some (record { line = line; column = column })
-IsNotFirst stop.Worn arena slots script = IsWornOut arena slots
 IsNotFirst stop.OutOfMemory arena slots script = Unit {0}
 IsNotFirst _ arena slots script = ⊥

@@ -7,9 +7,9 @@ use Rattle.ldm_model.specs.State.{State, Queued, empty, queued}
 use Rattle.ldm_model.specs.Stat.{stat_reply}
 use Rattle.ldm_class.specs.Rules.{Rules}
 use Rattle.ldm_script.specs.Answer.{answer_line}
-use Rattle.ldm_listing.specs.Listing.{listed}
-use Rattle.ldm_loading.specs.Script.{script_played}
-use Rattle.ldm_loading.specs.Putting.{inserted_all}
+use Rattle.ldm_chain_command.specs.Listing.{listed}
+use Rattle.ldm_chain_command.specs.Script.{script_played}
+use Rattle.ldm_chain_command.specs.Putting.{inserted_all}
 use Rattle.ldm_chain.specs.Linking.{asked_by, host_name}
 use Rattle.ldm_chain.specs.Queues.{fed_from}
 use Rattle.ldm_chain_command.specs.Work.{ChainWork}

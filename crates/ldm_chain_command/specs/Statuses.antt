@@ -7,18 +7,11 @@ use Rattle.ldm_sender.specs.declared.end.SendEnd.TheVariants as fed
 use Rattle.ldm_status.specs.declared.status.Status.{Status}
 use Rattle.ldm_status.specs.declared.status.Status.TheVariants as status
 use Rattle.ldm_command_files.specs.ConfFiles.{status_of_conf}
-use Rattle.ldm_loading.specs.declared.whole_script.ScriptFault.{ScriptFault}
-use Rattle.ldm_loading.specs.declared.whole_script.ScriptFault.TheVariants as untaken
+use Rattle.ldm_status.specs.WholeScript.{status_of_untaken}
 use Rattle.ldm_chain.specs.declared.node.ChainEnd.{ChainEnd}
 use Rattle.ldm_chain.specs.declared.node.ChainEnd.TheVariants as chain_end
 use Rattle.ldm_chain_command.specs.declared.fault.ChainFault.{ChainFault}
 use Rattle.ldm_chain_command.specs.declared.fault.ChainFault.TheVariants as stop
-
--- the status where a script was not taken whole
-abbrev pub status_of_untaken : ScriptFault → Status
-status_of_untaken untaken.StreamLimit = status.StreamLimit
-status_of_untaken untaken.SourceFault = status.SourceFault
-status_of_untaken untaken.OutOfMemory = status.NoMemory
 
 -- the status where the feeder of a node ended so
 abbrev pub status_of_fed : SendEnd → Status
@@ -53,7 +46,6 @@ status_of_stop (stop.BadSlots slots) = status.RefusedSlots slots
 status_of_stop (stop.ConfNotTaken why) = status_of_conf why
 status_of_stop (stop.ScriptFault why) = status_of_untaken why
 status_of_stop (stop.BadLine line column) = status.BadLine line column
-status_of_stop stop.Worn = status.Worn
 status_of_stop (stop.NotFed end) = status_of_end end
 status_of_stop stop.SinkFault = status.SinkFault
 status_of_stop stop.OutOfMemory = status.NoMemory

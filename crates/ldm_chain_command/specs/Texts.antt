@@ -4,7 +4,7 @@ use Rattle.std.specs.List.{flat_map}
 use Rattle.ldm_model.specs.State.{State}
 use Rattle.ldm_model.specs.Stat.{stat_reply}
 use Rattle.ldm_script.specs.Answer.{answer_line}
-use Rattle.ldm_listing.specs.Listing.{listed}
+use Rattle.ldm_chain_command.specs.Listing.{listed}
 use Rattle.ldm_chain_command.specs.Queues.{node_line, product_line}
 
 abbrev pub listed_text : ℕ → State → List ℕ

@@ -1,15 +1,12 @@
 -- Why not each node was fed, in terms of the classes that the nodes ask for and of the rules.
-use Rattle.std.specs.Prelude.{◌≡◌, ℕ, ◌+◌, false, List, length, Some, IsSome, slice_get}
+use Rattle.std.specs.Prelude.{◌≡◌, ℕ, ◌+◌, false, Some, IsSome, slice_get}
 use Rattle.ldm_types.specs.declared.class.ClassSpec.{ClassSpec}
-use Rattle.ldm_model.specs.declared.event.Entry.{Entry}
-use Rattle.ldm_model.specs.History.{IsLegal}
 use Rattle.ldm_class.specs.Access.{reduce}
 use Rattle.ldm_class.specs.Classes.{bad_place}
 use Rattle.ldm_class.specs.Rules.{Rules, rules_for}
 use Rattle.ldm_class.specs.declared.answers.Reduced.TheVariants.{Fewer, Nothing}
 use Rattle.ldm_relay.specs.declared.message.ClassAnswer.{ClassAnswer}
 use Rattle.ldm_relay.specs.declared.message.ClassAnswer.TheVariants as class_answer
-use Rattle.ldm_shared.specs.declared.steps.TheConstants.{MOST_TURNS}
 use Rattle.ldm_intake.specs.declared.end.RecvEnd.{RecvEnd}
 use Rattle.ldm_intake.specs.declared.end.RecvEnd.TheVariants as received
 use Rattle.ldm_sender.specs.declared.end.SendEnd.{SendEnd}
@@ -18,12 +15,6 @@ use Rattle.ldm_chain.specs.declared.node.ChainEnd.{ChainEnd}
 use Rattle.ldm_chain.specs.declared.node.ChainEnd.TheVariants as chain_end
 use Rattle.ldm_chain.specs.Linking.{host_name}
 use Rattle.ldm_chain_command.specs.Work.{ChainWork}
-
--- A queue has had all the calls that it can have.
-pub record IsWornOut (arena slots : ℕ) : Type 0 where
-  pub history : List Entry
-  pub legal : IsLegal arena slots history
-  pub all_calls : length history ≡ MOST_TURNS
 
 -- the node of that number asks for the class
 abbrev pub AsksFor : ChainWork → ℕ → ClassSpec → Type 0
@@ -46,11 +37,10 @@ pub record LeavesUnmeant (rules : Rules) (work : ChainWork) : Type 0 where
   pub left : reduce (rules_for false rules) (host_name node) class ≡ Fewer fewer
   pub bad : IsSome (bad_place fewer.specs.items)
 
--- the feeder of a node ended so
-abbrev pub FeedCause : SendEnd → ChainWork → Type 0
-FeedCause fed.Worn work = IsWornOut work.arena work.slots
-FeedCause fed.OutOfMemory work = Unit {0}
-FeedCause _ work = ⊥
+-- the feeder of a node ended so; its queue has calls left
+abbrev pub FeedCause : SendEnd → Type 0
+FeedCause fed.OutOfMemory = Unit {0}
+FeedCause _ = ⊥
 
 -- the request of a node was declined by this answer; a node finds a cursor place
 abbrev pub RefusedCause : ClassAnswer → Rules → ChainWork → Type 0
@@ -61,12 +51,11 @@ RefusedCause _ rules work = ⊥
 abbrev pub ReceiveCause : RecvEnd → Rules → ChainWork → Type 0
 ReceiveCause (received.Refused answer) rules work = RefusedCause answer rules work
 ReceiveCause (received.BadFrame at) rules work = LeavesUnmeant rules work
-ReceiveCause received.Worn rules work = IsWornOut work.arena work.slots
 ReceiveCause _ rules work = ⊥
 
 -- not each node was fed, and it ended so
 abbrev pub UnfedCause : ChainEnd → Rules → ChainWork → Type 0
 UnfedCause chain_end.Done rules work = ⊥
-UnfedCause (chain_end.Feed end) rules work = FeedCause end work
+UnfedCause (chain_end.Feed end) rules work = FeedCause end
 UnfedCause (chain_end.Receive end) rules work = ReceiveCause end rules work
 UnfedCause chain_end.OutOfMemory rules work = Unit {0}

@@ -19,9 +19,8 @@ use crate::setup::ChainSetup;
 use crate::statuses::status_of;
 use crate::texts::text_of;
 use ldm_calls::histories_are_lawful;
-use ldm_loading::take_script;
 use ldm_outside::{Clock, Sink, Source, Store, write_all};
-use ldm_status::Streams;
+use ldm_status::{Streams, take_script};
 use std::alloc::Global;
 use std::sync::Wait;
 
@@ -67,8 +66,9 @@ fn feed_and_write<H: Wait, S: Source, K: Sink, C: Clock, F: Store>(
 ///
 /// The sizes are looked at first, then the configuration is taken, and then the script, whole. Nothing is written
 /// unless each node was fed. The clause `ends` gives each status its cause, and what was read and written then: see
-/// `RunsChain`. The clause `law` says that the queues that are written obey the law of the queue: see
-/// `ChainWritesLawful`. The clause `completes` says when each node is fed and all is written: see `ChainUnhindered`.
+/// `RunsChain`. The clause `law` says that the queues that are written are those of histories that obey the law of the
+/// queue, or for what cause there are none: see `ObeysChainLaw`. The clause `completes` says when each node is fed and
+/// all is written: see `ChainUnhindered`.
 pub fn run_chain<H: Wait, S: Source, K: Sink, E: Sink, C: Clock, F: Store>(
     rt: &H,
     alloc: Global,
@@ -88,7 +88,7 @@ pub fn run_chain<H: Wait, S: Source, K: Sink, E: Sink, C: Clock, F: Store>(
         (F.tells store.old) in
         let new = chain_outside (streams_tells S.tells K.tells E.tells streams.new) (C.tells clock.new)
         (F.tells store.new) in
-        ObeysChainLaw (work_of setup.entry) old new }
+        ObeysChainLaw (work_of setup.entry) result old new }
     ensures completes { let old = chain_outside (streams_tells S.tells K.tells E.tells streams.old) (C.tells clock.old)
         (F.tells store.old) in
         let new = chain_outside (streams_tells S.tells K.tells E.tells streams.new) (C.tells clock.new)

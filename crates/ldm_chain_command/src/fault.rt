@@ -1,10 +1,11 @@
 //! Why a chain stops.
 ghost use Rattle.std.specs.Prelude.{◌≡◌};
 
+use crate::playing::PlayFault;
 use ldm_chain::ChainEnd;
 use ldm_command_files::ConfNotTaken;
-use ldm_loading::{PlayFault, PutFault, ScriptFault};
 use ldm_outside::SinkFailed;
+use ldm_status::ScriptFault;
 use ldm_types::OutOfMemory;
 
 /// Why a chain stopped before all its text was written.
@@ -20,8 +21,6 @@ pub enum ChainFault {
     ScriptFault(ScriptFault),
     /// The first line that is outside the grammar: its number, from 1, and the column of its first fault.
     BadLine { line: u64, column: u32 },
-    /// The first queue has had all the calls that it can have.
-    Worn,
     /// Not each node was fed.
     NotFed(ChainEnd),
     /// The sink failed.
@@ -59,19 +58,6 @@ impl From<PlayFault> for ChainFault {
         match why {
             PlayFault::BadLine { line, column } => ChainFault::BadLine { line, column },
             PlayFault::OutOfMemory => ChainFault::OutOfMemory,
-        }
-    }
-}
-
-impl From<PutFault> for ChainFault {
-    ghost use Rattle.ldm_chain_command.specs.Faults.{not_put};
-
-    ghost from_gives = { λ why made. made ≡ not_put why };
-
-    fn from(why: PutFault) -> ChainFault {
-        match why {
-            PutFault::Worn => ChainFault::Worn,
-            PutFault::OutOfMemory => ChainFault::OutOfMemory,
         }
     }
 }

@@ -2,19 +2,21 @@
 ghost use Rattle.std.specs.Prelude.{◌≡◌, ◌≤◌, ◌∷◌, List, length, IfOk, IfErr, OnOk};
 ghost use Rattle.std.specs.List.{AllByRecursion};
 ghost use Rattle.ldm_book.specs.Limits.{IsGoodArena, IsGoodSlots};
-ghost use Rattle.ldm_loading.specs.declared.whole_script.TheConstants.{LONGEST_SCRIPT};
+ghost use Rattle.ldm_status.specs.declared.whole_script.TheConstants.{LONGEST_SCRIPT};
 ghost use Rattle.ldm_chain.specs.declared.node.ChainNode.{ChainNode as Node};
 ghost use Rattle.ldm_chain.specs.Queues.{IsForAllTimes};
 ghost use Rattle.ldm_chain_command.specs.Work.{work_of};
 ghost use Rattle.ldm_chain_command.specs.Nodes.{AreFed, AreNew, AreNotFed, IsBadSize, IsFirst, IsNew, IsNotFirst};
 
 use crate::fault::ChainFault;
+use crate::playing::play_script;
+use crate::putting::put_products;
 use crate::setup::{ChainSetup, LARGEST_CHAIN_ARENA};
 use arrayvec::ArrayVec;
 use ldm_book::{Book, CreateFault};
 use ldm_chain::{ChainEnd, ChainNode, chain};
 use ldm_class::{Class, Policy};
-use ldm_loading::{play_script, put_products};
+use ldm_model::regions_lie_apart;
 use ldm_outside::Clock;
 use ldm_shared::{Shared, calls_made};
 use ldm_types::{ClassSpec, Micros, OutOfMemory};
@@ -94,6 +96,7 @@ fn first_node<H: Wait>(
     ensures fault { IfErr result (λ why. IsNotFirst why arena slots script.now) }
 {
     calls_made();
+    regions_lie_apart();
     let mut book = play_script(alloc, arena, slots, script)?;
     let class = no_class(alloc)?;
     let mut node = new_node(alloc, arena, slots, class, 0)?;

@@ -1,13 +1,12 @@
 //! The statuses of the ends of a chain.
 ghost use Rattle.std.specs.Prelude.{◌≡◌};
 ghost use Rattle.ldm_chain_command.specs.Statuses.{status_of_chain, status_of_end, status_of_fed};
-ghost use Rattle.ldm_chain_command.specs.Statuses.{status_of_received, status_of_stop, status_of_untaken};
+ghost use Rattle.ldm_chain_command.specs.Statuses.{status_of_received, status_of_stop};
 
 use crate::fault::ChainFault;
 use ldm_chain::ChainEnd;
 use ldm_command_files::status_of_conf;
 use ldm_intake::RecvEnd;
-use ldm_loading::ScriptFault;
 use ldm_status::Status;
 use ldm_upstream::FeedEnd;
 
@@ -29,23 +28,11 @@ fn stopped(why: ChainFault) -> Status
         ChainFault::BadArena { arena } => Status::RefusedArena(arena),
         ChainFault::BadSlots { slots } => Status::RefusedSlots(slots),
         ChainFault::ConfNotTaken(why) => status_of_conf(why),
-        ChainFault::ScriptFault(why) => untaken(why),
+        ChainFault::ScriptFault(why) => Status::from(why),
         ChainFault::BadLine { line, column } => Status::BadLine { line, column },
-        ChainFault::Worn => Status::Worn,
         ChainFault::NotFed(end) => not_fed(end),
         ChainFault::SinkFault => Status::SinkFault,
         ChainFault::OutOfMemory => Status::NoMemory,
-    }
-}
-
-// The status where a script was not taken whole.
-fn untaken(why: ScriptFault) -> Status
-    ensures { result ≡ status_of_untaken why }
-{
-    match why {
-        ScriptFault::StreamLimit => Status::StreamLimit,
-        ScriptFault::SourceFault => Status::SourceFault,
-        ScriptFault::OutOfMemory => Status::NoMemory,
     }
 }
 

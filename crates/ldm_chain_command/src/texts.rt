@@ -3,14 +3,15 @@ ghost use Rattle.std.specs.Prelude.{◌≡◌, ◌≤◌, ◌++◌, ℕ, length,
 ghost use Rattle.std.specs.List.{AllByRecursion, flat_map};
 ghost use Rattle.ldm_model.specs.State.{State, queued};
 ghost use Rattle.ldm_book.specs.Stands.{StandsFor};
-ghost use Rattle.ldm_listing.specs.Listing.{HasPlaces, listed};
+ghost use Rattle.ldm_chain_command.specs.Listing.{HasPlaces, listed};
 ghost use Rattle.ldm_chain_command.specs.Queues.{node_line, product_line};
 ghost use Rattle.ldm_chain_command.specs.Texts.{listed_text, listed_texts};
 ghost use Rattle.ldm_chain_command.specs.Nodes.{AreSole, HasLegal, IsSole, queue_of};
 
+use crate::laws::cursors_have_actors;
+use crate::listing::{begin, let_go, next};
 use ldm_book::Book;
 use ldm_chain::ChainNode;
-use ldm_listing::{begin, cursors_have_actors, let_go, next};
 use ldm_script::{Answer, Text, put, put_number, write_answer};
 use ldm_shared::{calls_made, one_pass};
 use ldm_types::{Actor, OutOfMemory};

@@ -33,4 +33,5 @@ returns-clause-law g c =
     (g.C.Clock.tells c.args.clock.now) (g.F.Store.tells c.args.store.now) in
     let new = chain_outside (record { source = g.S.Source.tells ran.new.source; sink = g.K.Sink.tells ran.new.sink; log = g.E.Sink.tells c.report.new.log })
     (g.C.Clock.tells ran.new.clock) (g.F.Store.tells ran.new.store) in
-    chain-obeys c.histories_are_lawful.ensures (work_of c.args.setup) old new ran.result (ran.ensures.ends old.streams.log new.streams.log)
+    chain-obeys c.histories_are_lawful.ensures (work_of c.args.setup) c.report.result old new ran.result (ran.ensures.ends old.streams.log new.streams.log)
+    (subst (λ (e : Status). Reports e c.report.result old.streams.log new.streams.log) c.status_of.ensures c.report.ensures.reports)

@@ -46,6 +46,6 @@ pub returns-in_default-clause-unfed : goal.returns-in_default-clause-unfed
 returns-in_default-clause-unfed g c =
     let made = c.in_ok-nodes.ensures in (
       c.in_ok-first.ensures.first.played,
-      unfed c.args.policy.now (work_of c.args.setup) c.chain.result c.args.script.now c.in_ok-first.first made.0 c.as_mut_slice.result.now c.chain.new.nodes
+      unfed c.args.policy.now (work_of c.args.setup) c.requires.slots.most c.chain.result c.args.script.now c.in_ok-first.first made.0 c.as_mut_slice.result.now c.chain.new.nodes
           (c.as_mut_slice.ensures.value ∙ made.1) c.chain.ensures.kept made.2 c.in_ok-first.ensures.first c.chain.ensures.cause c.in_default.not-Done,
     )

@@ -1,7 +1,7 @@
 use Rattle.std.proofs.Common.{◌≡◌, ◌∙◌, ◌-◌, ℕ, List, ◌++◌, refl, ap, arith}
 use Rattle.ldm_model.specs.State.{queued}
-use Rattle.ldm_listing.specs.declared.listing.Listed.{Listed}
-use Rattle.ldm_listing.specs.Listing.{has_feed, listed}
+use Rattle.ldm_chain_command.specs.declared.listing.Listed.{Listed}
+use Rattle.ldm_chain_command.specs.Listing.{has_feed, listed}
 use Rattle.ldm_chain_command.specs.Queues.{product_line}
 use Rattle.ldm_chain_command.proofs.TextLemmas.{filter-short, line-is, listed-all, listed-more}
 use Rattle.ldm_chain_command.proofs.texts.add_products.Goals as goal

@@ -1,6 +1,6 @@
 use Rattle.ldm_model.specs.State.{State}
 use Rattle.ldm_book.specs.Stands.{StandsFor}
-use Rattle.ldm_listing.specs.Listing.{HasPlaces, listed}
+use Rattle.ldm_chain_command.specs.Listing.{HasPlaces, listed}
 use Rattle.ldm_chain_command.proofs.TextLemmas.{ListedTo}
 use Rattle.ldm_chain_command.proofs.texts.add_products.Given as goal
 

@@ -1,2 +1,0 @@
-pub mod PlayedLemmas
-pub mod PutLemmas

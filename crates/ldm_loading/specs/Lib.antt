@@ -1,4 +1,0 @@
-pub mod WholeScript
-pub mod Script
-pub mod Putting
-pub mod Steps
