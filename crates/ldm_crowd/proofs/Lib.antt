@@ -5,3 +5,10 @@ pub mod Passing
 pub mod Fronts
 pub mod Gathered
 pub mod Turned
+pub mod CrowdTextLemmas
+pub mod CrowdBoundLemmas
+pub mod CrowdWorkerLemmas
+pub mod CrowdPlayLemmas
+pub mod CrowdCompletesLemmas
+pub mod CrowdLawLemmas
+pub mod CrowdHistoryLemmas

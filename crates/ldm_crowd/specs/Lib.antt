@@ -7,3 +7,9 @@ pub mod Calls
 pub mod Ends
 pub mod Players
 pub mod Crowd
+pub mod CrowdEnding
+pub mod CrowdStep
+pub mod Law
+pub mod Statuses
+pub mod Run
+pub mod Complete

@@ -7,7 +7,7 @@ ghost use Rattle.ldm_script.specs.Order.{Order as Ordered};
 ghost use Rattle.ldm_script.specs.Lines.{lines_of};
 ghost use Rattle.ldm_crowd.specs.Script.{orders_from, script_of};
 ghost use Rattle.ldm_crowd.specs.OrdersView.{IsFaultOf, IsFaultOfLine, AreDealt, asked_lines, orders_in, script_in};
-ghost use Rattle.ldm_crowd.specs.declared.orders.TheConstants.{MOST_SCRIPT};
+ghost use Rattle.ldm_status.specs.declared.whole_script.TheConstants.{LONGEST_SCRIPT};
 
 use crate::actor_lines::ActorLines;
 use ldm_script::read_line;
@@ -16,9 +16,6 @@ use memchr::memchr;
 use std::alloc::Global;
 use std::marker::Model;
 use thiserror::Error;
-
-/// The most bytes of a script that is read whole.
-pub const MOST_SCRIPT: u32 = 67_108_864;
 
 /// Why a text is no script.
 #[derive(Clone, Copy, Debug, PartialEq, Eq, Error)]
@@ -49,7 +46,7 @@ impl<'a> Model for Orders<'a> {
 impl<'a> Orders<'a> {
     /// Reads a script of so many actors. A line that is empty or begins with `#` asks for nothing.
     pub fn read(alloc: Global, text: &'a [u8], actors: u32) -> Result<Orders<'a>, OrdersFault>
-        requires text { length text.now ≤ MOST_SCRIPT }
+        requires text { length text.now ≤ LONGEST_SCRIPT }
         requires actors { actors ≤ COUNT }
         ensures read { IfOk result (λ orders. script_of actors text.now ≡ Ok (script_in orders)) }
         ensures count { IfOk result (λ orders. length (script_in orders) ≡ actors) }
@@ -90,7 +87,7 @@ fn deal_all<'a>(
     actors: u32,
     text: &'a [u8],
 ) -> Result<(), OrdersFault>
-    requires text { length text.now ≤ MOST_SCRIPT }
+    requires text { length text.now ≤ LONGEST_SCRIPT }
     requires actors { actors ≤ COUNT }
     requires none { AreDealt actors [] parts.old }
     ensures dealt { OnOk result

@@ -34,7 +34,7 @@ use std::thread::Threads;
 ///
 /// The memory that calls need is taken before the first line of any actor, and that for an answer before its line is
 /// played: so each line that was played has its answer, however the crowd ends.
-pub fn crowd<H: Threads + Wait + Sync, G: Gate + Send>(
+pub fn play_crowd<H: Threads + Wait + Sync, G: Gate + Send>(
     rt: &H,
     alloc: Global,
     orders: &Orders,
