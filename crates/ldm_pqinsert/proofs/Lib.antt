@@ -1,6 +1,5 @@
 mod Taken
 mod Running
-mod Owed
 mod Completed
 mod Held
 mod Telling

@@ -11,6 +11,7 @@ use Rattle.ldm_tools.specs.declared.no_reply.NoReply.TheVariants.{BadFrame, Stre
 use Rattle.ldm_tools.specs.declared.puts.Puts.{Puts}
 use Rattle.ldm_tools.specs.Puts.{HasPut, NoAnswer, put_number}
 use Rattle.ldm_tools.specs.Replies.{IsPutReply, SaysNone}
+use Rattle.ldm_tools.proofs.Followed.{no_answer_from}
 use Rattle.ldm_pqinsert.specs.declared.fault.InsertFault.{InsertFault}
 use Rattle.ldm_pqinsert.specs.declared.fault.InsertFault.TheVariants as fault
 use Rattle.ldm_pqinsert.specs.Files.{Breaks, Step, Takes, is_refused_step}
@@ -87,20 +88,6 @@ goes_on all paths path refused this_one puts new_puts old mid new goes takes =
     }
 
 -- ---- why a run ended at a file, to one who looks at the link from its beginning
-
-says_none_from : (before : ℕ) (why : NoReply) (given : List ℕ) (heard : List Placed) (old mid new : LinkRecord) → old.ends ≤ mid.ends → old.faults ≤ mid.faults
-    → SaysNone (IsPutReply before) why given heard mid new → SaysNone (IsPutReply before) why given heard old new
-says_none_from before (BadFrame at) given heard old mid new ends faults (inl ended) =
-    inl (record { none = ended.none; at_is = ended.at_is; rose = Rose-later old.ends mid.ends new.ends ends ended.rose; nothing_left = ended.nothing_left })
-says_none_from before (BadFrame at) given heard old mid new ends faults (inr other) = inr other
-says_none_from before StreamLimit given heard old mid new ends faults says = says
-says_none_from before LinkFault given heard old mid new ends faults says = (says.0, Rose-later old.faults mid.faults new.faults faults says.1)
-says_none_from before OutOfMemory given heard old mid new ends faults says = says
-
-no_answer_from : (why : NoReply) (given : List ℕ) (answers : List PutAnswer) (old mid new : LinkRecord) → old.ends ≤ mid.ends → old.faults ≤ mid.faults
-    → NoAnswer why given answers mid new → NoAnswer why given answers old new
-no_answer_from why given answers old mid new ends faults no_answer =
-    record { heard = no_answer.heard; each = no_answer.each; says = says_none_from (put_number (length answers)) why given no_answer.heard old mid new ends faults no_answer.says }
 
 breaks_from : (why : InsertFault) (all : Inserting) (file : FileAt) (came now : LinkRecord) (old new : Moment) → came.ends ≤ now.ends → came.faults ≤ now.faults
     → Breaks why all file now old new → Breaks why all file came old new

@@ -3,48 +3,25 @@ use Rattle.std.proofs.Common.{◌≡◌, ◌∙◌, ℕ, Bool, true, List, [], �
 use Rattle.std.specs.Prelude.{Result, Ok, Err}
 use Rattle.ldm_outside.specs.declared.store.FileRead.TheVariants as read
 use Rattle.ldm_outside.specs.declared.io.SinkFailed.{SinkFailed}
+use Rattle.ldm_outside.specs.Clock.{Answers}
 use Rattle.ldm_outside.specs.Io as io
+use Rattle.ldm_outside.specs.Io.{SinkRecord}
 use Rattle.ldm_outside.specs.Store.{ReadsFile, StoreFails}
 use Rattle.ldm_relay.specs.declared.message.PutAnswer.{PutAnswer}
 use Rattle.ldm_relay.specs.declared.message.PutAnswer.TheVariants as put_answer
-use Rattle.ldm_relay.specs.declared.message.TheConstants.{LARGEST_REPLY}
-use Rattle.ldm_rpc.specs.Streams.{Placed, at_start, records_in}
-use Rattle.ldm_rpc.proofs.Joined.{records-append}
-use Rattle.ldm_session.specs.Exchange.{Exchanged}
-use Rattle.ldm_session.specs.Owed.{hand_given, records_given}
-use Rattle.ldm_tools.specs.declared.no_reply.NoReply.{NoReply}
+use Rattle.ldm_tools.specs.declared.put_fault.PutFault.{PutFault}
+use Rattle.ldm_tools.specs.declared.put_fault.PutFault.TheVariants as put_fault
 use Rattle.ldm_tools.specs.declared.puts.Puts.{Puts}
-use Rattle.ldm_tools.specs.Asking.{IsPart, sends_all}
-use Rattle.ldm_tools.specs.Puts.{HasPut, put_call}
+use Rattle.ldm_tools.specs.Telling.{IsPut, PutsProduct, wire_of}
 use Rattle.ldm_pqinsert.specs.declared.fault.InsertFault.{InsertFault}
 use Rattle.ldm_pqinsert.specs.declared.fault.InsertFault.TheVariants as fault
 use Rattle.ldm_pqinsert.specs.declared.limits.TheConstants.{LARGEST_FILE}
 use Rattle.ldm_pqinsert.specs.Files as files
 use Rattle.ldm_pqinsert.specs.Files.{IsBody, Put, TooLong}
-use Rattle.ldm_pqinsert.specs.Inserting.{FileAt, Inserting, metadata_of}
-use Rattle.ldm_pqinsert.specs.Lines.{is_denied, too_long_line}
-use Rattle.ldm_pqinsert.specs.Moments.{HasAnswers, Hands, moment}
-use Rattle.ldm_pqinsert.specs.Parts.{Sends, TakesOne, Tells, TellsAnswer, Wire}
-
--- what a reader is behind is what all that the link gave says first
-pub has_answers : (given : List ℕ) (answers : List PutAnswer) (puts : Puts) → HasPut given answers puts → HasAnswers given answers
-has_answers given answers puts has =
-    let behind = records_in (hand_given has.behind.seen) puts.reader.waiting in
-    record {
-      heard = has.heard;
-      behind = behind;
-      records = ap records_given has.behind.all ∙ records-append (at_start LARGEST_REPLY) has.behind.seen puts.reader.waiting
-          ∙ ap (λ (x : List Placed). x ++ behind) has.behind.records;
-      each = has.each;
-    }
-
-denied : (answer : PutAnswer) → is_denied answer ≡ true → answer ≡ put_answer.Denied
-denied (put_answer.Admitted n time evicted) is = cc
-denied (put_answer.TooBig need arena) is = cc
-denied (put_answer.Duplicate n) is = cc
-denied put_answer.TimeEnd is = cc
-denied (put_answer.Locked held) is = cc
-denied put_answer.Denied is = refl
+use Rattle.ldm_pqinsert.specs.Inserting.{FileAt, Inserting}
+use Rattle.ldm_pqinsert.specs.Lines.{too_long_line}
+use Rattle.ldm_pqinsert.specs.Moments.{Hands, moment}
+use Rattle.ldm_pqinsert.specs.Parts.{SentBy, Sends, TakesOne, product_of, putting_of, result_of}
 
 module _ (all : Inserting) (file : FileAt) where
   -- ---- a file that is too long
@@ -92,113 +69,103 @@ module _ (all : Inserting) (file : FileAt) where
 
   -- ---- a file that was read
 
-  abbrev wire_of : Hands → Wire
-  wire_of hands = record { link = hands.link; clock = hands.clock }
+  abbrev sending : Puts → Hands → SentBy
+  sending puts hands = record { puts = puts; link = hands.link; sink = hands.sink; clock = hands.clock }
 
-  -- what is between the answer and its line
-  record Answered (body : List ℕ) (answer : PutAnswer) (puts : Puts) (old new : Hands) (given : List ℕ) (answers : List PutAnswer) : Type 0 where
-    pub arrival : ℕ
-    pub more : List ℕ
-    pub handled : files.Puts all file body arrival answer (moment old given answers) (moment (record old { link = new.link; clock = new.clock }) (given ++ more) (answers ++ answer ∷ []))
-    pub has : HasPut (given ++ more) (answers ++ answer ∷ []) puts
+  module _ (body : List ℕ) (arrival : ℕ) (old_puts new_puts : Puts) (old new : Hands) (is : IsBody body file.path old.store) (asked : Answers arrival old.clock new.clock)
+      (same : new ≡ record new { store = old.store }) where
+    -- what is between the answer and its line
+    handled : (answer : PutAnswer) (given : List ℕ) (answers : List PutAnswer) (new_given : List ℕ)
+        → IsPut (product_of all file body arrival) answer (wire_of (putting_of (sending old_puts old)) given answers)
+        (wire_of (putting_of (sending new_puts new)) new_given (answers ++ answer ∷ []))
+        → files.Puts all file body arrival answer (moment old given answers) (moment (record old { link = new.link; clock = new.clock }) new_given (answers ++ answer ∷ []))
+    handled answer given answers new_given put = record {
+      body_is = is;
+      asked = asked;
+      more = put.more;
+      exchanged = put.exchanged;
+      given = put.given;
+      answers = refl;
+      says = put.says;
+      same = refl;
+    }
 
-  answered : (body : List ℕ) (answer : PutAnswer) (old_puts new_puts : Puts) (old new : Hands) → IsBody body file.path old.store
-      → Sends (Ok answer) all file body old_puts new_puts (wire_of old) (wire_of new) → (given : List ℕ) (answers : List PutAnswer) → HasPut given answers old_puts
-      → Answered body answer new_puts old new given answers
-  answered body answer old_puts new_puts old new is sends given answers has =
-      let told = sends.puts.told given answers has in
-      let call = sends.puts.sent_is ∙ ap (λ (n : ℕ). put_call n (metadata_of all file body sends.arrival) body) has.next in
-      let P : List ℕ → Type 0 = λ sent. Exchanged old.link sent sends.puts.more new.link in
-      record {
-        arrival = sends.arrival;
-        more = sends.puts.more;
-        handled = record {
-          body_is = is;
-          asked = sends.asked;
-          more = sends.puts.more;
-          exchanged = subst P call sends.puts.exchanged;
-          given = refl;
-          answers = refl;
-          says = has_answers (given ++ sends.puts.more) (answers ++ answer ∷ []) new_puts told;
-          same = refl;
-        };
-        has = told;
-      }
+    told : (put : Result Bool PutFault) → PutsProduct put (product_of all file body arrival) (putting_of (sending old_puts old)) (putting_of (sending new_puts new))
+        → TakesOne (result_of put) all file old_puts new_puts old new
+    told (Ok refused) puts = λ given answers has.
+        let t = puts given answers has in (
+          Put body arrival t.0,
+          t.1,
+          answers ++ t.0 ∷ [],
+          record {
+            between = moment (record old { link = new.link; clock = new.clock }) t.1 (answers ++ t.0 ∷ []);
+            handled = handled t.0 given answers t.1 t.2.put;
+            not_denied = t.2.not_denied;
+            written = t.2.written;
+            same = ap (λ (h : Hands). moment h t.1 (answers ++ t.0 ∷ [])) same;
+          },
+          t.3,
+          t.4,
+        )
+    told (Err put_fault.SinkFault) puts = λ given answers has.
+        let t = puts given answers has in
+        let breaks = t.2 in
+        let P : List PutAnswer → Type 0 =
+        λ a. IsPut (product_of all file body arrival) breaks.answer (wire_of (putting_of (sending old_puts old)) given answers) (wire_of (putting_of (sending new_puts new)) t.0 a) in (
+          t.0,
+          t.1,
+          record {
+            step = Put body arrival breaks.answer;
+            between = moment (record old { link = new.link; clock = new.clock }) t.0 t.1;
+            handled = (let Q : List PutAnswer → Type 0 =
+                λ a. files.Puts all file body arrival breaks.answer (moment old given answers) (moment (record old { link = new.link; clock = new.clock }) t.0 a) in
+                subst Q (sym breaks.put.answers) (handled breaks.answer given answers t.0 (subst P breaks.put.answers breaks.put)));
+            not_denied = breaks.not_denied;
+            rose = breaks.rose;
+            front = breaks.front;
+            same = ap (λ (h : Hands). moment h t.0 t.1) same;
+          },
+        )
+    told (Err put_fault.Denied) puts = λ given answers has.
+        let t = puts given answers has in
+        let denies = t.2 in
+        let P : List PutAnswer → Type 0 =
+        λ a. IsPut (product_of all file body arrival) put_answer.Denied (wire_of (putting_of (sending old_puts old)) given answers) (wire_of (putting_of (sending new_puts new)) t.0 a) in
+        let Q : List PutAnswer → Type 0 =
+        λ a. files.Puts all file body arrival put_answer.Denied (moment old given answers) (moment (record old { link = new.link; clock = new.clock }) t.0 a) in
+        let there : record old { link = new.link; clock = new.clock } ≡ new = ap (λ (s : SinkRecord). record new { store = old.store; sink = s }) (sym denies.sink) ∙ sym same in
+        let R : Hands → Type 0 = λ h. files.Puts all file body arrival put_answer.Denied (moment old given answers) (moment h t.0 t.1) in (
+          t.0,
+          t.1,
+          record {
+            body = body;
+            arrival = arrival;
+            puts = subst R there (subst Q (sym denies.put.answers) (handled put_answer.Denied given answers t.0 (subst P denies.put.answers denies.put)));
+          },
+        )
+    told (Err (put_fault.NoAnswer why)) puts = λ given answers has.
+        let t = puts given answers has in
+        let breaks = t.2 in
+        let there : new ≡ record old { link = new.link; clock = new.clock } = same ∙ ap (λ (s : SinkRecord). record new { store = old.store; sink = s }) breaks.sink in (
+          t.0,
+          t.1,
+          record {
+            body = body;
+            arrival = arrival;
+            body_is = is;
+            asked = asked;
+            sent = breaks.sent;
+            more = breaks.more;
+            exchanged = breaks.exchanged;
+            sent_is = breaks.sent_is;
+            given = breaks.given;
+            says = breaks.says;
+            same = ap (λ (h : Hands). moment h t.0 t.1) there ∙ ap (λ (a : List PutAnswer). moment (record old { link = new.link; clock = new.clock }) t.0 a) breaks.answers;
+          },
+        )
 
-  -- an answer came, and its line was written
-  line_told : (result : Result Bool InsertFault) (body : List ℕ) (answer : PutAnswer) (old_puts new_puts : Puts) (old new : Hands) → IsBody body file.path old.store
-      → Sends (Ok answer) all file body old_puts new_puts (wire_of old) (wire_of new) → TellsAnswer result answer old.sink new.sink → new ≡ record new { store = old.store }
-      → TakesOne result all file old_puts new_puts old new
-  line_told (Ok refused) body answer old_puts new_puts old new is sends tells same = λ given answers has.
-      let a = answered body answer old_puts new_puts old new is sends given answers has in (
-        Put body a.arrival answer,
-        given ++ a.more,
-        answers ++ answer ∷ [],
-        record {
-          between = moment (record old { link = new.link; clock = new.clock }) (given ++ a.more) (answers ++ answer ∷ []);
-          handled = a.handled;
-          not_denied = tells.0;
-          written = tells.2;
-          same = ap (λ (h : Hands). moment h (given ++ a.more) (answers ++ answer ∷ [])) same;
-        },
-        a.has,
-        tells.1,
-      )
-  line_told (Err fault.SinkFault) body answer old_puts new_puts old new is sends tells same = λ given answers has.
-      let a = answered body answer old_puts new_puts old new is sends given answers has in (
-        given ++ a.more,
-        answers ++ answer ∷ [],
-        record {
-          step = Put body a.arrival answer;
-          between = moment (record old { link = new.link; clock = new.clock }) (given ++ a.more) (answers ++ answer ∷ []);
-          handled = a.handled;
-          not_denied = tells.0;
-          rose = tells.1;
-          front = tells.2;
-          same = ap (λ (h : Hands). moment h (given ++ a.more) (answers ++ answer ∷ [])) same;
-        },
-      )
-  line_told (Err fault.Denied) body answer old_puts new_puts old new is sends tells same = λ given answers has.
-      let a = answered body answer old_puts new_puts old new is sends given answers has in
-      let behind : List PutAnswer = answers ++ answer ∷ [] in
-      let there : record old { link = new.link; clock = new.clock } ≡ new = ap (λ (s : io.SinkRecord). record new { store = old.store; sink = s }) (sym tells.1) ∙ sym same in
-      let P : PutAnswer → Type 0 = λ x. files.Puts all file body a.arrival x (moment old given answers) (moment new (given ++ a.more) behind) in
-      let Q : Hands → Type 0 = λ h. files.Puts all file body a.arrival answer (moment old given answers) (moment h (given ++ a.more) behind) in
-      (given ++ a.more, behind, record { body = body; arrival = a.arrival; puts = subst P (denied answer tells.0) (subst Q there a.handled) })
-  line_told (Err (fault.NoAnswer why)) body answer old_puts new_puts old new is sends tells same = absurd tells
-  line_told (Err fault.StoreFault) body answer old_puts new_puts old new is sends tells same = absurd tells
-  line_told (Err fault.OutOfMemory) body answer old_puts new_puts old new is sends tells same = absurd tells
-  line_told (Err fault.Unreached) body answer old_puts new_puts old new is sends tells same = absurd tells
-
-  -- no answer came
-  put_broken : (why : NoReply) (body : List ℕ) (old_puts new_puts : Puts) (old new : Hands) → IsBody body file.path old.store
-      → Sends (Err why) all file body old_puts new_puts (wire_of old) (wire_of new) → new.sink ≡ old.sink → new ≡ record new { store = old.store }
-      → TakesOne (Err (fault.NoAnswer why)) all file old_puts new_puts old new
-  put_broken why body old_puts new_puts old new is sends still same = λ given answers has.
-      let told = sends.puts.told given answers has in
-      let there : new ≡ record old { link = new.link; clock = new.clock } = same ∙ ap (λ (s : io.SinkRecord). record new { store = old.store; sink = s }) still in
-      let P : ℕ → Type 0 = λ n. let result : Result PutAnswer NoReply = Err why in IsPart (sends_all result) sends.puts.sent (put_call n (metadata_of all file body sends.arrival) body) in (
-        given ++ sends.puts.more,
-        answers,
-        record {
-          body = body;
-          arrival = sends.arrival;
-          body_is = is;
-          asked = sends.asked;
-          sent = sends.puts.sent;
-          more = sends.puts.more;
-          exchanged = sends.puts.exchanged;
-          sent_is = subst P has.next sends.puts.sent_is;
-          given = refl;
-          says = told;
-          same = ap (λ (h : Hands). moment h (given ++ sends.puts.more) answers) there;
-        },
-      )
-
-  pub put_told : (result : Result Bool InsertFault) (sent : Result PutAnswer NoReply) (body : List ℕ) (old_puts new_puts : Puts) (old new : Hands) → IsBody body file.path old.store
-      → Sends sent all file body old_puts new_puts (wire_of old) (wire_of new) → Tells result sent old.sink new.sink → new ≡ record new { store = old.store }
-      → TakesOne result all file old_puts new_puts old new
-  put_told result (Ok answer) body old_puts new_puts old new is sends tells same = line_told result body answer old_puts new_puts old new is sends tells same
-  put_told result (Err why) body old_puts new_puts old new is sends tells same =
+  pub put_told : (result : Result Bool InsertFault) (body : List ℕ) (old_puts new_puts : Puts) (old new : Hands) → IsBody body file.path old.store
+      → Sends result all file body (sending old_puts old) (sending new_puts new) → new ≡ record new { store = old.store } → TakesOne result all file old_puts new_puts old new
+  put_told result body old_puts new_puts old new is sends same =
       let P : Result Bool InsertFault → Type 0 = λ r. TakesOne r all file old_puts new_puts old new in
-      subst P (sym tells.0) (put_broken why body old_puts new_puts old new is sends tells.1 same)
+      subst P (sym sends.result_is) (told body sends.arrival old_puts new_puts old new is sends.asked same sends.put sends.puts)

@@ -12,14 +12,14 @@ use Rattle.ldm_relay.specs.declared.message.PutAnswer.{PutAnswer}
 use Rattle.ldm_session.specs.Exchange.{Exchanged}
 use Rattle.ldm_session.proofs.CallerLemmas.{Exchanged-nothing, Exchanged-then}
 use Rattle.ldm_tools.specs.declared.no_reply.NoReply.TheVariants.{BadFrame, StreamLimit, LinkFault, OutOfMemory}
+use Rattle.ldm_tools.specs.Lines.{is_refused}
+use Rattle.ldm_tools.specs.Owing.{answers_refuse}
 use Rattle.ldm_pqinsert.specs.declared.fault.InsertFault.{InsertFault}
 use Rattle.ldm_pqinsert.specs.declared.fault.InsertFault.TheVariants as fault
 use Rattle.ldm_pqinsert.specs.Files.{Step, Put, Takes, TooLong, call_of, line_of}
 use Rattle.ldm_pqinsert.specs.Inserting.{FileAt, Inserting}
 use Rattle.ldm_pqinsert.specs.Inserts.{InsertEnds}
-use Rattle.ldm_pqinsert.specs.Lines.{is_refused}
 use Rattle.ldm_pqinsert.specs.Moments.{Moment, Outside, hands_of, moment}
-use Rattle.ldm_pqinsert.specs.Owing.{answers_refuse}
 use Rattle.ldm_pqinsert.specs.Runs.{AreTaken, StopsAt, TakesAll, are_refused}
 use Rattle.ldm_pqinsert.specs.Told.{AreTold, Cause, RefusedCause, answers_of, calls_of, lines_of}
 use Rattle.ldm_pqinsert.proofs.Completed.{handled_sink, long_on, rose_then, sink_rose, takes_long, takes_store}

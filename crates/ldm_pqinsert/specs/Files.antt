@@ -12,13 +12,15 @@ use Rattle.ldm_relay.specs.declared.message.PutAnswer.TheVariants as put_answer
 use Rattle.ldm_session.specs.Exchange.{Exchanged}
 use Rattle.ldm_tools.specs.declared.no_reply.NoReply.{NoReply}
 use Rattle.ldm_tools.specs.Asking.{IsPart, sends_all}
+use Rattle.ldm_tools.specs.Lines.{is_denied, is_refused, put_line}
 use Rattle.ldm_tools.specs.Puts.{NoAnswer, put_call, put_number}
+use Rattle.ldm_tools.specs.Telling.{HasAnswers}
 use Rattle.ldm_pqinsert.specs.declared.fault.InsertFault.{InsertFault}
 use Rattle.ldm_pqinsert.specs.declared.fault.InsertFault.TheVariants as fault
 use Rattle.ldm_pqinsert.specs.declared.limits.TheConstants.{LARGEST_FILE}
 use Rattle.ldm_pqinsert.specs.Inserting.{FileAt, Inserting, metadata_of}
-use Rattle.ldm_pqinsert.specs.Lines.{is_denied, is_refused, put_line, too_long_line}
-use Rattle.ldm_pqinsert.specs.Moments.{HasAnswers, Moment}
+use Rattle.ldm_pqinsert.specs.Lines.{too_long_line}
+use Rattle.ldm_pqinsert.specs.Moments.{Moment}
 
 -- What a file came to: it is too long; or a PUT of these bytes was sent, with this arrival, and answered.
 pub data Step : Type 0 where

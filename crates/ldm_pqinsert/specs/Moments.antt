@@ -1,14 +1,11 @@
 -- What is seen of a run at a moment.
-use Rattle.std.specs.Prelude.{◌≡◌, ℕ, ◌≤◌, List, ◌++◌}
+use Rattle.std.specs.Prelude.{ℕ, ◌≤◌, List}
 use Rattle.ldm_outside.specs.Clock.{ClockRecord}
 use Rattle.ldm_outside.specs.Dial.{DialRecord}
 use Rattle.ldm_outside.specs.Io.{SinkRecord}
 use Rattle.ldm_outside.specs.Link.{LinkRecord}
 use Rattle.ldm_outside.specs.Store.{StoreRecord}
 use Rattle.ldm_relay.specs.declared.message.PutAnswer.{PutAnswer}
-use Rattle.ldm_rpc.specs.Streams.{Placed}
-use Rattle.ldm_session.specs.Owed.{records_given}
-use Rattle.ldm_tools.specs.Puts.{AreAnswers}
 
 -- What inserting uses of the outside, its log apart.
 pub record Outside : Type 0 where
@@ -61,10 +58,3 @@ pub record Moment : Type 0 where
 
 abbrev pub moment : Hands → List ℕ → List PutAnswer → Moment
 moment hands given answers = record { hands = hands; given = given; answers = answers }
-
--- The first records of all that a link gave are the replies to as many PUTs as there are answers, and these say the answers.
-pub record HasAnswers (given : List ℕ) (answers : List PutAnswer) : Type 0 where
-  pub heard : List Placed
-  pub behind : List Placed
-  pub records : records_given given ≡ heard ++ behind
-  pub each : AreAnswers 0 answers heard

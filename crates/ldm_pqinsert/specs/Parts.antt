@@ -1,51 +1,57 @@
 -- What the parts of inserting do. No caller needs these.
-use Rattle.std.specs.Prelude.{◌≡◌, ℕ, Bool, true, false, List, [], Result, Ok, Err}
+use Rattle.std.specs.Prelude.{◌≡◌, ℕ, Bool, List, [], Result, Ok, Err}
 use Rattle.ldm_outside.specs.Clock.{Answers, ClockRecord}
-use Rattle.ldm_outside.specs.Count.{Rose}
 use Rattle.ldm_outside.specs.Dial.{DialTakesBack}
-use Rattle.ldm_outside.specs.Io.{SinkRecord, Takes, WritesFront}
+use Rattle.ldm_outside.specs.Io.{SinkRecord}
 use Rattle.ldm_outside.specs.Link.{IsNotClosed, LinkRecord}
 use Rattle.ldm_relay.specs.declared.message.PutAnswer.{PutAnswer}
-use Rattle.ldm_tools.specs.declared.no_reply.NoReply.{NoReply}
+use Rattle.ldm_tools.specs.declared.put_fault.PutFault.{PutFault}
+use Rattle.ldm_tools.specs.declared.put_fault.PutFault.TheVariants as put_fault
 use Rattle.ldm_tools.specs.declared.puts.Puts.{Puts}
-use Rattle.ldm_tools.specs.Puts.{HasPut, PutsOne}
+use Rattle.ldm_tools.specs.Puts.{HasPut}
+use Rattle.ldm_tools.specs.Telling.{Product, Putting, PutsProduct}
 use Rattle.ldm_pqinsert.specs.declared.fault.InsertFault.{InsertFault}
 use Rattle.ldm_pqinsert.specs.declared.fault.InsertFault.TheVariants as fault
 use Rattle.ldm_pqinsert.specs.Files as files
 use Rattle.ldm_pqinsert.specs.Files.{Breaks, Step, is_refused_step}
 use Rattle.ldm_pqinsert.specs.Inserting.{FileAt, Inserting, metadata_of}
-use Rattle.ldm_pqinsert.specs.Lines.{is_denied, is_refused, put_line}
 use Rattle.ldm_pqinsert.specs.Moments.{Hands, KeepsHands, Outside, hands_of, moment}
 use Rattle.ldm_pqinsert.specs.Runs.{Runs}
 
--- The line of an answer was written: all of it, or the sink failed after a front. That the caller may not insert has none.
-abbrev pub TellsAnswer : Result Bool InsertFault → PutAnswer → SinkRecord → SinkRecord → Type 0
-TellsAnswer (Ok refused) answer old new = (is_denied answer ≡ false) × (refused ≡ is_refused answer) × Takes old (put_line answer) new
-TellsAnswer (Err fault.SinkFault) answer old new = (is_denied answer ≡ false) × Rose old.faults new.faults × WritesFront old (put_line answer) new
-TellsAnswer (Err fault.Denied) answer old new = (is_denied answer ≡ true) × (new ≡ old)
-TellsAnswer (Err (fault.NoAnswer why)) answer old new = ⊥
-TellsAnswer (Err fault.StoreFault) answer old new = ⊥
-TellsAnswer (Err fault.OutOfMemory) answer old new = ⊥
-TellsAnswer (Err fault.Unreached) answer old new = ⊥
+-- why a run ends at a file that was sent
+abbrev pub fault_of : PutFault → InsertFault
+fault_of (put_fault.NoAnswer why) = fault.NoAnswer why
+fault_of put_fault.Denied = fault.Denied
+fault_of put_fault.SinkFault = fault.SinkFault
 
--- what came of a PUT was told
-abbrev pub Tells : Result Bool InsertFault → Result PutAnswer NoReply → SinkRecord → SinkRecord → Type 0
-Tells result (Ok answer) old new = TellsAnswer result answer old new
-Tells result (Err why) old new = (result ≡ Err (fault.NoAnswer why)) × (new ≡ old)
+abbrev pub result_of : Result Bool PutFault → Result Bool InsertFault
+result_of (Ok refused) = Ok refused
+result_of (Err why) = Err (fault_of why)
 
 -- What is used to send a file.
-pub record Wire : Type 0 where
+pub record SentBy : Type 0 where
+  pub puts : Puts
   pub link : LinkRecord
+  pub sink : SinkRecord
   pub clock : ClockRecord
 
-abbrev pub wire_tells : {L C : Type 0} → (L → LinkRecord) → (C → ClockRecord) → L → C → Wire
-wire_tells link clock of_link of_clock = record { link = link of_link; clock = clock of_clock }
+abbrev pub sent_by : {L K C : Type 0} → (L → LinkRecord) → (K → SinkRecord) → (C → ClockRecord) → Puts → L → K → C → SentBy
+sent_by link sink clock puts of_link of_sink of_clock = record { puts = puts; link = link of_link; sink = sink of_sink; clock = clock of_clock }
 
--- The clock was asked, and a PUT of these bytes was made.
-pub record Sends (result : Result PutAnswer NoReply) (all : Inserting) (file : FileAt) (body : List ℕ) (old new : Puts) (old_wire new_wire : Wire) : Type 0 where
+abbrev pub putting_of : SentBy → Putting
+putting_of hands = record { puts = hands.puts; link = hands.link; sink = hands.sink }
+
+-- the product of a file
+abbrev pub product_of : Inserting → FileAt → (body : List ℕ) → (arrival : ℕ) → Product
+product_of all file body arrival = record { info = metadata_of all file body arrival; body = body }
+
+-- The clock was asked, and the product of a file with these bytes was put.
+pub record Sends (result : Result Bool InsertFault) (all : Inserting) (file : FileAt) (body : List ℕ) (old new : SentBy) : Type 0 where
   pub arrival : ℕ
-  pub asked : Answers arrival old_wire.clock new_wire.clock
-  pub puts : PutsOne result (metadata_of all file body arrival) body old new old_wire.link new_wire.link
+  pub asked : Answers arrival old.clock new.clock
+  pub put : Result Bool PutFault
+  pub result_is : result ≡ result_of put
+  pub puts : PutsProduct put (product_of all file body arrival) (putting_of old) (putting_of new)
 
 -- What taking a file did, to one who knows all that the link gave before.
 abbrev pub TakesFrom : Result Bool InsertFault → Inserting → FileAt → (puts : Puts) → (old new : Hands) → List ℕ → List PutAnswer → Type 0

@@ -5,13 +5,13 @@ use Rattle.ldm_outside.specs.Io.{Takes}
 use Rattle.ldm_relay.specs.declared.message.PutAnswer.{PutAnswer}
 use Rattle.ldm_session.specs.Exchange.{Exchanged}
 use Rattle.ldm_tools.specs.declared.no_reply.NoReply.TheVariants.{BadFrame, StreamLimit, LinkFault, OutOfMemory}
+use Rattle.ldm_tools.specs.Owing.{answers_refuse}
 use Rattle.ldm_tools.specs.Puts.{put_call, put_number}
 use Rattle.ldm_pqinsert.specs.declared.fault.InsertFault.{InsertFault}
 use Rattle.ldm_pqinsert.specs.declared.fault.InsertFault.TheVariants as fault
 use Rattle.ldm_pqinsert.specs.Inserting.{Inserting, metadata_of}
 use Rattle.ldm_pqinsert.specs.Files.{Step, Put, TooLong, line_of}
 use Rattle.ldm_pqinsert.specs.Moments.{Moment, Outside}
-use Rattle.ldm_pqinsert.specs.Owing.{answers_refuse}
 
 -- the lines of files, in order
 abbrev pub lines_of : List Step → List ℕ

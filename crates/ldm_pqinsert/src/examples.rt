@@ -1,10 +1,10 @@
 //! A check of the definitions: worked examples that compute.
 ghost use Rattle.std.specs.Prelude.{◌≡◌, ◌++◌, codes, [], ◌∷◌, true};
 ghost use Rattle.ldm_status.specs.Status.{code_of};
+ghost use Rattle.ldm_tools.specs.Owing.{AreOwed, status_owed};
 ghost use Rattle.ldm_tools.specs.Puts.{put_call};
 ghost use Rattle.ldm_pqinsert.specs.Examples.{sample_answers, sample_denial, sample_files, sample_steps};
 ghost use Rattle.ldm_pqinsert.specs.Inserting.{ident_of, metadata_of};
-ghost use Rattle.ldm_pqinsert.specs.Owing.{AreOwed, status_owed};
 ghost use Rattle.ldm_pqinsert.specs.Runs.{are_refused};
 ghost use Rattle.ldm_pqinsert.specs.Told.{calls_of, lines_of};
 

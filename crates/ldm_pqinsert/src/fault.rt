@@ -1,5 +1,8 @@
 //! Why files were not put into a queue.
-use ldm_tools::NoReply;
+ghost use Rattle.std.specs.Prelude.{◌≡◌};
+ghost use Rattle.ldm_pqinsert.specs.Parts.{fault_of};
+
+use ldm_tools::{NoReply, PutFault};
 
 /// Why not all files were taken.
 #[derive(Clone, Copy, Debug, PartialEq, Eq)]
@@ -16,4 +19,15 @@ pub enum InsertFault {
     Denied,
     /// The sink failed.
     SinkFault,
+}
+
+/// Why the run ends at a file that was sent.
+pub(crate) fn fault_of(why: PutFault) -> InsertFault
+    ensures { result ≡ fault_of why }
+{
+    match why {
+        PutFault::NoAnswer(why) => InsertFault::NoAnswer(why),
+        PutFault::Denied => InsertFault::Denied,
+        PutFault::SinkFault => InsertFault::SinkFault,
+    }
 }

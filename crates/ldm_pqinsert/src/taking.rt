@@ -1,21 +1,18 @@
 //! Files that are taken over a link, one after another.
-ghost use Rattle.std.specs.Prelude.{◌≡◌, ◌≤◌, Result, length};
+ghost use Rattle.std.specs.Prelude.{◌≤◌, length};
 ghost use Rattle.ldm_outside.specs.Link.{IsNotClosed};
-ghost use Rattle.ldm_relay.specs.declared.message.PutAnswer.{PutAnswer};
-ghost use Rattle.ldm_tools.specs.declared.no_reply.NoReply.{NoReply};
 ghost use Rattle.ldm_pqinsert.specs.declared.limits.TheConstants.{LARGEST_FILE};
 ghost use Rattle.ldm_pqinsert.specs.Inserting.{AreFew, AreNamed, IsNamed, inserting};
 ghost use Rattle.ldm_pqinsert.specs.Moments.{KeepsHands, hands_tell};
-ghost use Rattle.ldm_pqinsert.specs.Parts.{RunsOver, Sends, TakesOne, Tells, wire_tells};
+ghost use Rattle.ldm_pqinsert.specs.Parts.{RunsOver, Sends, TakesOne, sent_by};
 
-use crate::fault::InsertFault;
+use crate::fault::{InsertFault, fault_of};
 use crate::insertion::Insertion;
 use crate::limits::LARGEST_FILE;
-use crate::lines::{tell_answer, write_too_long};
+use crate::lines::write_too_long;
 use crate::metadata::metadata_of;
 use ldm_outside::{Clock, FileRead, Link, Sink, SinkFailed, Store};
-use ldm_relay::PutAnswer;
-use ldm_tools::{NoReply, Puts};
+use ldm_tools::{Puts, put_product};
 use std::alloc::Global;
 
 /// Takes all files over a link that was not used yet. Answers whether some file was refused.
@@ -111,42 +108,18 @@ fn put_file<L: Link, K: Sink, C: Clock>(
     requires not_closed { IsNotClosed (L.tells link.old) }
     requires named { IsNamed (inserting insertion.now) path.now }
     requires short { length body.now ≤ LARGEST_FILE }
-    ensures puts { (answered : Result PutAnswer NoReply)
-        × Sends answered (inserting insertion.now)
-        (record { number = number; path = path.now }) body.now puts.old puts.new
-        (wire_tells L.tells C.tells link.old clock.old) (wire_tells L.tells C.tells link.new clock.new)
-        × Tells result answered (K.tells sink.old) (K.tells sink.new) }
+    ensures sends { Sends result (inserting insertion.now)
+        (record { number = number; path = path.now }) body.now
+        (sent_by L.tells K.tells C.tells puts.old link.old sink.old clock.old)
+        (sent_by L.tells K.tells C.tells puts.new link.new sink.new clock.new) }
     ensures faults_kept { (L.tells link.old).faults ≤ (L.tells link.new).faults }
     ensures ends_kept { (L.tells link.old).ends ≤ (L.tells link.new).ends }
     ensures sink_kept { (K.tells sink.old).faults ≤ (K.tells sink.new).faults }
     ensures still_open { IsNotClosed (L.tells link.new) }
 {
-    match send_file(link, clock, insertion, puts, number, path, body) {
-        Ok(answer) => tell_answer(answer, sink),
-        Err(why) => Err(InsertFault::NoAnswer(why)),
-    }
-}
-
-// Sends a file that was read, and hears the answer.
-fn send_file<L: Link, C: Clock>(
-    link: &mut L,
-    clock: &mut C,
-    insertion: &Insertion<'_>,
-    puts: &mut Puts,
-    number: u32,
-    path: &str,
-    body: &[u8],
-) -> Result<PutAnswer, NoReply>
-    requires not_closed { IsNotClosed (L.tells link.old) }
-    requires named { IsNamed (inserting insertion.now) path.now }
-    requires short { length body.now ≤ LARGEST_FILE }
-    ensures sends { Sends result (inserting insertion.now)
-        (record { number = number; path = path.now }) body.now puts.old puts.new
-        (wire_tells L.tells C.tells link.old clock.old) (wire_tells L.tells C.tells link.new clock.new) }
-    ensures faults_kept { (L.tells link.old).faults ≤ (L.tells link.new).faults }
-    ensures ends_kept { (L.tells link.old).ends ≤ (L.tells link.new).ends }
-    ensures still_open { IsNotClosed (L.tells link.new) }
-{
     let info = metadata_of(insertion, number, path, body, clock.now());
-    puts.put(link, &info, body)
+    match put_product(puts, link, sink, &info, body) {
+        Ok(refused) => Ok(refused),
+        Err(why) => Err(fault_of(why)),
+    }
 }

@@ -2,6 +2,9 @@ mod Heard
 mod Looked
 mod Replied
 mod Completed
-mod Linked
+pub mod Linked
 mod Sending
 mod Answered
+pub mod Told
+pub mod Owed
+pub mod Followed

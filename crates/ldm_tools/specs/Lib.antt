@@ -6,3 +6,7 @@ pub mod Asking
 pub mod Mon
 pub mod Held
 pub mod Puts
+pub mod Lines
+pub mod Telling
+pub mod Owing
+pub mod Told

@@ -5,10 +5,11 @@ mod Runs
 mod Fronts
 mod BulletinLemmas
 mod WriteLemmas
-mod Joined
-mod Spelled
+pub mod Joined
+pub mod Spelled
 mod Candidates
 mod Written
 mod Holding
-mod Decoded
+pub mod Decoded
 mod Once
+mod Sound

@@ -93,7 +93,7 @@ blanks_without x other blanks are = all_imply is_blank (λ b. not (b == x)) (nev
 abbrev pub no_return : List ℕ → Bool
 no_return line = list_all (λ b. not (b == 13)) line
 
-length_is : (line rest : List ℕ) → no_return line ≡ true → line_length (line ++ 13 ∷ rest) ≡ length line
+pub length_is : (line rest : List ℕ) → no_return line ≡ true → line_length (line ++ 13 ∷ rest) ≡ length line
 length_is [] rest none = refl
 length_is (byte ∷ line) rest none =
     let parts = and_parts (not (byte == 13)) (no_return line) none in

@@ -1,6 +1,7 @@
 //! The items of a stream that comes in pieces.
-ghost use Rattle.std.specs.Prelude.{◌≡◌, ◌+◌, ◌++◌, ◌<◌, ◌≤◌, IfOk, IfNone, Some, None, length, true, false};
+ghost use Rattle.std.specs.Prelude.{◌≡◌, ◌+◌, ◌++◌, ◌<◌, ◌≤◌, IfOk, IfNone, IfSome, Some, None, length, true, false};
 ghost use Rattle.std.specs.Option.{option_map};
+ghost use Rattle.ldm_wmo.specs.Items.{IsSound};
 ghost use Rattle.ldm_wmo.specs.ItemView.{found_of};
 ghost use Rattle.ldm_wmo.specs.Scanning.{after, begun, bytes_taken, cut_of, is_complete};
 ghost use Rattle.ldm_wmo.specs.Scanning.{is_outside, item_of, next_of, place};
@@ -68,7 +69,8 @@ impl Scanner {
 
     /// What the candidate is that has ended, if one has: this is read anew at each call.
     pub fn item(&self) -> Option<Item<'_>>
-        ensures { option_map found_of result ≡ item_of self.now }
+        ensures found { option_map found_of result ≡ item_of self.now }
+        ensures sound { IfSome result (λ item. IsSound (found_of item)) }
     {
         match self.stage {
             Stage::Complete { at } => Some(item_at(at, self.candidate.as_slice())),

@@ -10,10 +10,9 @@ returns-in-Bytes-clause-takes g c =
     let file : FileAt = record { number = c.args.number; path = c.args.path.now } in
     let old = hands_tell g.F.Store.tells g.L.Link.tells g.K.Sink.tells g.C.Clock.tells c.args.store.now c.args.link.now c.args.sink.now c.args.clock.now in
     let new = hands_tell g.F.Store.tells g.L.Link.tells g.K.Sink.tells g.C.Clock.tells c.read_file.new.self c.put_file.new.link c.put_file.new.sink c.put_file.new.clock in
-    let puts = c.put_file.ensures.puts in
     let read = c.in-Bytes.ensures.read in
-    put_told (inserting c.args.insertion.now) file c.put_file.result puts.0 c.as_slice.result.now c.args.puts.now c.put_file.new.puts old new
-    (rw c.as_slice.ensures.value (record { short = read.0; told = read.1 })) puts.1 puts.2 (ap (λ (s : StoreRecord). record new { store = s }) read.2)
+    put_told (inserting c.args.insertion.now) file c.put_file.result c.as_slice.result.now c.args.puts.now c.put_file.new.puts old new
+    (rw c.as_slice.ensures.value (record { short = read.0; told = read.1 })) c.put_file.ensures.sends (ap (λ (s : StoreRecord). record new { store = s }) read.2)
 
 pub returns-in-Ok-clause-takes : goal.returns-in-Ok-clause-takes
 returns-in-Ok-clause-takes g c =

@@ -9,8 +9,8 @@ use Rattle.ldm_relay.specs.Sent as sent
 use Rattle.ldm_rpc.specs.Streams.{Placed}
 use Rattle.ldm_tools.specs.Puts.{AreAnswers, put_number}
 use Rattle.ldm_tools.specs.Replies.{IsPutReply}
-use Rattle.ldm_pqinsert.specs.Lines.{is_denied}
-use Rattle.ldm_pqinsert.specs.Owing.{AreOwed, are_denied}
+use Rattle.ldm_tools.specs.Lines.{is_denied}
+use Rattle.ldm_tools.specs.Owing.{AreOwed, are_denied}
 
 -- a record is one reply to a PUT at most
 pub one_answer : (xid : ℕ) (a b : PutAnswer) (content : List ℕ) → IsPutReply xid a content → IsPutReply xid b content → a ≡ b
@@ -42,25 +42,25 @@ agree before (x ∷ a) (y ∷ b) (p ∷ heard_a) (q ∷ heard_b) behind_a behind
     by_rest one (inl front) = inl (front.0, cc (one, front.1))
     by_rest one (inr front) = inr (front.0, cc (one, front.1))
 
--- owed are as many as there are files, or the last of them denies
-pub owed_whole : (paths : List (List ℕ)) (answers : List PutAnswer) → AreOwed paths answers → (length answers ≡ length paths) ⊎ (are_denied answers ≡ true)
+-- owed are as many as there are products, or the last of them denies
+pub owed_whole : {A : Type 0} (products : List A) (answers : List PutAnswer) → AreOwed products answers → (length answers ≡ length products) ⊎ (are_denied answers ≡ true)
 owed_whole [] [] owed = inl refl
 owed_whole [] (answer ∷ answers) owed = absurd owed
-owed_whole (path ∷ paths) [] owed = absurd owed
-owed_whole (path ∷ paths) (answer ∷ []) (inl denied) = inr (ap (λ (b : Bool). b || false) denied)
-owed_whole (path ∷ paths) (answer ∷ []) (inr none) = inl (let n : length paths ≡ 0 = ap length none in omega arith)
-owed_whole (path ∷ paths) (answer ∷ next ∷ answers) owed = by_rest (owed_whole paths (next ∷ answers) owed.1)
+owed_whole (product ∷ products) [] owed = absurd owed
+owed_whole (product ∷ products) (answer ∷ []) (inl denied) = inr (ap (λ (b : Bool). b || false) denied)
+owed_whole (product ∷ products) (answer ∷ []) (inr none) = inl (let n : length products ≡ 0 = ap length none in omega arith)
+owed_whole (product ∷ products) (answer ∷ next ∷ answers) owed = by_rest (owed_whole products (next ∷ answers) owed.1)
   where
-    by_rest : (length (next ∷ answers) ≡ length paths) ⊎ (are_denied (next ∷ answers) ≡ true) → (length (answer ∷ next ∷ answers) ≡ length (path ∷ paths)) ⊎ (are_denied (answer ∷ next ∷ answers) ≡ true)
+    by_rest : (length (next ∷ answers) ≡ length products) ⊎ (are_denied (next ∷ answers) ≡ true) → (length (answer ∷ next ∷ answers) ≡ length (product ∷ products)) ⊎ (are_denied (answer ∷ next ∷ answers) ≡ true)
     by_rest (inl same) = inl (omega (arith, same))
     by_rest (inr denied) = inr (ap (λ (b : Bool). b || are_denied (next ∷ answers)) owed.0 ∙ denied)
 
-pub owed_most : (paths : List (List ℕ)) (answers : List PutAnswer) → AreOwed paths answers → length answers ≤ length paths
+pub owed_most : {A : Type 0} (products : List A) (answers : List PutAnswer) → AreOwed products answers → length answers ≤ length products
 owed_most [] [] owed = omega arith
 owed_most [] (answer ∷ answers) owed = absurd owed
-owed_most (path ∷ paths) [] owed = absurd owed
-owed_most (path ∷ paths) (answer ∷ []) owed = omega arith
-owed_most (path ∷ paths) (answer ∷ next ∷ answers) owed = omega (arith, owed_most paths (next ∷ answers) owed.1)
+owed_most (product ∷ products) [] owed = absurd owed
+owed_most (product ∷ products) (answer ∷ []) owed = omega arith
+owed_most (product ∷ products) (answer ∷ next ∷ answers) owed = omega (arith, owed_most products (next ∷ answers) owed.1)
 
 either_more : (b c d : Bool) → (c ≡ true → d ≡ true) → (b || c) ≡ true → (b || d) ≡ true
 either_more true c d later is = refl
@@ -83,16 +83,16 @@ nothing_more : (more : List PutAnswer) → length more ≡ 0 → more ≡ []
 nothing_more [] none = refl
 nothing_more (x ∷ more) none = absurd (omega (arith, none))
 
--- All that were heard, one for each file and none that denies, are those that are owed.
-pub all_heard : (paths : List (List ℕ)) (heard owed : List PutAnswer) → IsFront heard owed ⊎ IsFront owed heard → length heard ≡ length paths → are_denied heard ≡ false
-    → AreOwed paths owed → owed ≡ heard
-all_heard paths heard owed (inl front) long none are =
-    let few = owed_most paths owed are in
+-- All that were heard, one for each product and none that denies, are those that are owed.
+pub all_heard : {A : Type 0} (products : List A) (heard owed : List PutAnswer) → IsFront heard owed ⊎ IsFront owed heard → length heard ≡ length products → are_denied heard ≡ false
+    → AreOwed products owed → owed ≡ heard
+all_heard products heard owed (inl front) long none are =
+    let few = owed_most products owed are in
     let count : length front.0 ≡ 0 = omega (arith, ap length front.1, length-append heard front.0, few, long) in
     front.1 ∙ ap (λ (x : List PutAnswer). heard ++ x) (nothing_more front.0 count) ∙ append-nil heard
-all_heard paths heard owed (inr front) long none are = by_whole (owed_whole paths owed are)
+all_heard products heard owed (inr front) long none are = by_whole (owed_whole products owed are)
   where
-    by_whole : (length owed ≡ length paths) ⊎ (are_denied owed ≡ true) → owed ≡ heard
+    by_whole : (length owed ≡ length products) ⊎ (are_denied owed ≡ true) → owed ≡ heard
     by_whole (inl same) =
         let count : length front.0 ≡ 0 = omega (arith, ap length front.1, length-append owed front.0, same, long) in
         sym (front.1 ∙ ap (λ (x : List PutAnswer). owed ++ x) (nothing_more front.0 count) ∙ append-nil owed)
@@ -101,33 +101,33 @@ all_heard paths heard owed (inr front) long none are = by_whole (owed_whole path
         absurd cc
 
 -- where one of the answers that were heard denies, one of those that are owed does
-pub denial_heard : (paths : List (List ℕ)) (heard owed : List PutAnswer) → IsFront heard owed ⊎ IsFront owed heard → length heard ≤ length paths → are_denied heard ≡ true
-    → AreOwed paths owed → are_denied owed ≡ true
-denial_heard paths heard owed (inl front) few denied are = ap are_denied front.1 ∙ denied_more heard front.0 denied
-denial_heard paths heard owed (inr front) few denied are = by_whole (owed_whole paths owed are)
+pub denial_heard : {A : Type 0} (products : List A) (heard owed : List PutAnswer) → IsFront heard owed ⊎ IsFront owed heard → length heard ≤ length products → are_denied heard ≡ true
+    → AreOwed products owed → are_denied owed ≡ true
+denial_heard products heard owed (inl front) few denied are = ap are_denied front.1 ∙ denied_more heard front.0 denied
+denial_heard products heard owed (inr front) few denied are = by_whole (owed_whole products owed are)
   where
-    by_whole : (length owed ≡ length paths) ⊎ (are_denied owed ≡ true) → are_denied owed ≡ true
+    by_whole : (length owed ≡ length products) ⊎ (are_denied owed ≡ true) → are_denied owed ≡ true
     by_whole (inl same) =
         let count : length front.0 ≡ 0 = omega (arith, ap length front.1, length-append owed front.0, same, few) in
         let all : heard ≡ owed = front.1 ∙ ap (λ (x : List PutAnswer). owed ++ x) (nothing_more front.0 count) ∙ append-nil owed in
         ap are_denied (sym all) ∙ denied
     by_whole (inr is) = is
 
--- Where fewer were heard than there are files, and none denies, one more is owed.
-pub one_more : (paths : List (List ℕ)) (heard owed : List PutAnswer) → IsFront heard owed ⊎ IsFront owed heard → length heard < length paths → are_denied heard ≡ false
-    → AreOwed paths owed → (next : PutAnswer) × (more : List PutAnswer) × (owed ≡ heard ++ next ∷ more)
-one_more paths heard owed (inl front) few none are = by_more front.0 front.1
+-- Where fewer were heard than there are products, and none denies, one more is owed.
+pub one_more : {A : Type 0} (products : List A) (heard owed : List PutAnswer) → IsFront heard owed ⊎ IsFront owed heard → length heard < length products → are_denied heard ≡ false
+    → AreOwed products owed → (next : PutAnswer) × (more : List PutAnswer) × (owed ≡ heard ++ next ∷ more)
+one_more products heard owed (inl front) few none are = by_more front.0 front.1
   where
-    never : (length owed ≡ length paths) ⊎ (are_denied owed ≡ true) → owed ≡ heard → ⊥
+    never : (length owed ≡ length products) ⊎ (are_denied owed ≡ true) → owed ≡ heard → ⊥
     never (inl same) is = omega (arith, ap length is, same, few)
     never (inr denied) is = (let both : true ≡ false = sym denied ∙ ap are_denied is ∙ none in absurd cc)
 
     by_more : (more : List PutAnswer) → owed ≡ heard ++ more → (next : PutAnswer) × (rest : List PutAnswer) × (owed ≡ heard ++ next ∷ rest)
-    by_more [] is = absurd (never (owed_whole paths owed are) (is ∙ append-nil heard))
+    by_more [] is = absurd (never (owed_whole products owed are) (is ∙ append-nil heard))
     by_more (next ∷ rest) is = (next, rest, is)
-one_more paths heard owed (inr front) few none are = absurd (by_whole (owed_whole paths owed are))
+one_more products heard owed (inr front) few none are = absurd (by_whole (owed_whole products owed are))
   where
-    by_whole : (length owed ≡ length paths) ⊎ (are_denied owed ≡ true) → ⊥
+    by_whole : (length owed ≡ length products) ⊎ (are_denied owed ≡ true) → ⊥
     by_whole (inl same) = omega (arith, ap length front.1, length-append owed front.0, same, few)
     by_whole (inr denied) =
         let both : true ≡ false = sym (denied_more owed front.0 denied) ∙ ap are_denied (sym front.1) ∙ none in

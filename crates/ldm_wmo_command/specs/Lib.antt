@@ -1,0 +1,11 @@
+pub mod Ingesting
+pub mod Lines
+pub mod Outcomes
+pub mod Moments
+pub mod Taking
+pub mod Runs
+pub mod Owing
+pub mod Ingests
+pub mod Told
+pub mod Samples
+pub mod Parts
