@@ -5,3 +5,7 @@ mod Ending
 mod Caused
 mod Lasting
 mod Completing
+pub mod Using
+mod StepTurns
+mod EachGathered
+mod Opened

@@ -4,3 +4,12 @@ pub mod Causes
 pub mod Complete
 pub mod Turning
 pub mod Quiet
+pub mod Givens
+pub mod Uses
+pub mod Taking
+pub mod Stepping
+pub mod EachHandling
+pub mod EachCourse
+pub mod EachEnds
+pub mod Queue
+pub mod EachRuns

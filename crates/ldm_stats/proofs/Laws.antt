@@ -1,10 +1,11 @@
 -- What totals have at a place: the totals of the products there, if there are any and their hour is kept.
-use Rattle.std.proofs.Common.{◌≡◌, ℕ, ◌+◌, Bool, true, false, cond, refl, sym, ap, ◌∙◌, List, [], ◌∷◌, ◌++◌, map, filter, length, arith, Some, None, nat_lt, max}
+use Rattle.std.proofs.Common.{◌≡◌, ℕ, ◌+◌, Bool, true, false, cond, refl, sym, ap, ◌∙◌, List, [], ◌∷◌, ◌++◌, map, filter, length, arith, Some, None, nat_lt, max, subst, T}
 use Rattle.std.specs.Prelude.{Option, ◌||◌, ◌&&◌}
 use Rattle.std.specs.List.{list_any}
 use Rattle.std.specs.Ordering.{eq_by_cmp}
 use Rattle.std.specs.Map.{keys_of}
-use Rattle.std.specs.FinMap.{FinMap, put, find, entries, from_entries, entries-insert, get-entries, get-from_entries, same_map, len-entries, len-empty}
+use Rattle.std.specs.FinMap.{FinMap, put, find, entries, from_entries, entries-insert, entries_sorted, get-entries, get-from_entries, same_map, len-entries, len-empty}
+use Rattle.std.specs.FinMap.Entries.{is_sorted}
 use Rattle.std.specs.declared.cmp.Ordering.TheVariants.{Less}
 use Rattle.std.proofs.lemmas.Map.Keys.{sorted_head, sorted_tail}
 use Rattle.std.proofs.lemmas.List.Sums.{sum_by-append}
@@ -192,3 +193,10 @@ same_totals window products es h is =
     ∙ ap (λ m. entries m) (same_map places_total places_exact (mapped es) (mapped listed) (λ place.
     get-from_entries places_total es place ∙ find_is place es ∙ is place ∙ sym (found place window products) ∙ sym (get-from_entries places_total listed place)))
     ∙ sym (totals_mapped within_hours (map place_of within_hours))
+
+-- the places of totals rise
+pub sorted_totals : (window : ℕ) (products : List Product) → T (is_sorted place_cmp (totals window products))
+sorted_totals window products =
+    let within_hours = kept window products in
+    subst (λ (es : Entries). T (is_sorted place_cmp es)) (sym (totals_mapped within_hours (map place_of within_hours)))
+    (entries_sorted (mapped (pairs within_hours (map place_of within_hours))))

@@ -5,3 +5,4 @@ pub mod Laws
 pub mod Stands
 pub mod Digits
 pub mod Lines
+pub mod Hours

@@ -1,5 +1,5 @@
 -- The report of totals: a line for each hour, feed and origin.
-use Rattle.std.specs.Prelude.{◌≡◌, ℕ, ◌/◌, ◌%◌, ◌==◌, List, [], ◌∷◌, ◌++◌, filter, take, nat_le, if◌then◌else◌, Option, Some, None}
+use Rattle.std.specs.Prelude.{◌≡◌, ◌<◌, ℕ, Bool, true, not, ◌/◌, ◌%◌, ◌==◌, List, [], ◌∷◌, ◌++◌, filter, take, nat_le, if◌then◌else◌, Option, Some, None}
 use Rattle.std.specs.List.{flat_map}
 use Rattle.ldm_feedtype.specs.Text.{feed_digits}
 use Rattle.ldm_script.specs.Texts.{spelled}
@@ -53,3 +53,31 @@ first_from from (entry ∷ entries) = if nat_le from entry.0.hour then Some entr
 -- the lines of an hour in that report
 abbrev pub hour_report : ℕ → ℕ → List Product → List ℕ
 hour_report hour window products = lines_of (in_hour hour (totals window products))
+
+-- the hours behind one, of which hours in ascending order begin with it, or do not
+abbrev pub behind_hour : ℕ → List ℕ → List ℕ
+behind_hour hour [] = []
+behind_hour hour (next ∷ hours) = if hour == next then hours else next ∷ hours
+
+-- the hours of entries in ascending order, each once
+abbrev pub hours_of : Entries → List ℕ
+hours_of [] = []
+hours_of (entry ∷ entries) = entry.0.hour ∷ behind_hour entry.0.hour (hours_of entries)
+
+-- whether an hour is another one than the last, if there was one
+abbrev pub is_other : Option ℕ → ℕ → Bool
+is_other None hour = true
+is_other (Some last) hour = not (last == hour)
+
+-- the lines of entries, hour by hour
+abbrev pub lines_by : List ℕ → Entries → List ℕ
+lines_by hours entries = flat_map (λ hour. lines_of (in_hour hour entries)) hours
+
+-- each is greater than those before it
+abbrev pub AreOver : ℕ → List ℕ → Type 0
+AreOver least [] = Unit {0}
+AreOver least (hour ∷ hours) = (least < hour) × AreOver least hours
+
+abbrev pub AreRising : List ℕ → Type 0
+AreRising [] = Unit {0}
+AreRising (hour ∷ hours) = AreOver hour hours × AreRising hours

@@ -1,9 +1,9 @@
 //! Totals by their places.
 ghost use Rattle.std.specs.Prelude.{◌≡◌, ◌+◌, ◌^◌, ◌<◌, ◌≤◌, ◌==◌, ◌++◌, [], ◌∷◌, length, true};
-ghost use Rattle.std.specs.Prelude.{IfOk, IfSome, OnOk, OnErr, Some, MatchBool, MatchOption};
+ghost use Rattle.std.specs.Prelude.{ℕ, All, IfOk, IfSome, OnOk, OnErr, Some, MatchBool, MatchOption};
 ghost use Rattle.ldm_stats.specs.Place.{Place as PlaceSeen};
 ghost use Rattle.ldm_stats.specs.Totals.{Total as TotalSeen};
-ghost use Rattle.ldm_stats.specs.Report.{asked_of, first_from, lines_of, AppendsFront};
+ghost use Rattle.ldm_stats.specs.Report.{asked_of, first_from, hours_of, is_other, lines_of, AppendsFront};
 ghost use Rattle.ldm_stats.specs.Joining.{count_of, joined, total_at, within, BeginsOutside, IsAscending, IsJoined};
 
 use crate::line::put_line;
@@ -130,6 +130,22 @@ impl Kept {
         None
     }
 
+    /// Their hours, in ascending order, each once.
+    pub fn hours(&self, alloc: Global) -> Result<Vec<u32>, OutOfMemory>
+        ensures value { IfOk result (λ hours. hours.items ≡ hours_of self.now) }
+        ensures bound { IfOk result (λ hours. All (λ (hour : ℕ). hour ≤ LAST_HOUR) hours.items) }
+    {
+        let mut hours = Vec::new(alloc);
+        let mut last = None;
+        for (place, _) in &self.map {
+            if is_other(last, place) {
+                hours.push(place.hour())?;
+                last = Some(place.hour());
+            }
+        }
+        Ok(hours)
+    }
+
     /// Lets those go that do not lie within so many hours up to an hour.
     pub fn let_go(&mut self, window: u32, hour: u32)
         requires { window ≤ 8760 }
@@ -170,6 +186,16 @@ fn is_asked(hour: Option<u32>, place: &Place) -> bool
 {
     match hour {
         Some(hour) => place.hour() == hour,
+        None => true,
+    }
+}
+
+// Whether a place is of another hour than the last one, if there was one.
+fn is_other(last: Option<u32>, place: &Place) -> bool
+    ensures { result ≡ is_other last place.now.hour }
+{
+    match last {
+        Some(last) => last != place.hour(),
         None => true,
     }
 }

@@ -10,6 +10,6 @@ mod stats;
 mod total;
 
 pub use hour::hour_text;
-pub use law::worked_examples;
+pub use law::{report_is_its_hours, worked_examples};
 pub use place::LAST_HOUR;
 pub use stats::{MOST_HOURS, Stats};

@@ -1,7 +1,7 @@
 //! A table of hourly totals.
-ghost use Rattle.std.specs.Prelude.{◌≡◌, ◌+◌, ◌^◌, ◌<◌, ◌≤◌, ◌++◌, List, [], ◌∷◌, IfSome, IsSome, OnOk, OnErr, ◌↔◌};
+ghost use Rattle.std.specs.Prelude.{◌≡◌, ◌+◌, ◌^◌, ◌<◌, ◌≤◌, ◌++◌, List, [], ◌∷◌, ℕ, All, IfOk, IfSome, IsSome, OnOk, OnErr, ◌↔◌};
 ghost use Rattle.ldm_stats.specs.Joining.{count_of};
-ghost use Rattle.ldm_stats.specs.Report.{first_from, hour_report, in_hour, lines_of, report, AppendsFront};
+ghost use Rattle.ldm_stats.specs.Report.{first_from, hour_report, hours_of, in_hour, lines_of, report, AppendsFront};
 ghost use Rattle.ldm_stats.specs.Table.{IsAdvanced, StandsFor};
 ghost use Rattle.ldm_stats.specs.Totals.{Product};
 
@@ -27,7 +27,7 @@ pub struct Stats {
 }
 
 impl Model for Stats {
-    ghost use Rattle.ldm_stats.specs.Report.{first_from, hour_report, in_hour, lines_of, report, AppendsFront};
+    ghost use Rattle.ldm_stats.specs.Report.{first_from, hour_report, hours_of, in_hour, lines_of, report, AppendsFront};
     ghost use Rattle.ldm_stats.specs.Table.{Table};
 
     ghost Value = { Table };
@@ -151,5 +151,13 @@ impl Stats {
         ensures bound { IfSome result (λ hour. hour ≤ LAST_HOUR) }
     {
         self.kept.next_hour(from)
+    }
+
+    /// The hours of the report, each counted from the beginning of 1970, in ascending order, each once.
+    pub fn hours_reported(&self, alloc: Global) -> Result<Vec<u32>, OutOfMemory>
+        ensures value { IfOk result (λ hours. hours.items ≡ hours_of self.now.entries) }
+        ensures bound { IfOk result (λ hours. All (λ (hour : ℕ). hour ≤ LAST_HOUR) hours.items) }
+    {
+        self.kept.hours(alloc)
     }
 }

@@ -24,3 +24,6 @@ returns-clause-last_of_year c = refl
 pub returns-clause-first_of_year : goal.returns-clause-first_of_year
 unfolding date_behind last_digits
 returns-clause-first_of_year c = refl
+
+pub returns-clause-hours : goal.returns-clause-hours
+returns-clause-hours c = refl
