@@ -24,6 +24,7 @@ fn answer<H: Threads + Wait + Sync>(rt: &H, scene: &mut Scene, trial: &mut Trial
         "dial_fails" => scene.dial_fails(trial),
         "clock" => scene.clock(trial),
         "statuses" => scene.statuses(trial),
+        "script" => scene.script(trial),
         "fails" => scene.fails(trial),
         "run" => scene.run(rt, trial),
         _ => trial.refuse("no such word"),

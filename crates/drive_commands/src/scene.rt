@@ -17,6 +17,7 @@ use std::thread::Threads;
 // The numbers of the calls that fail, of each part of the world.
 #[derive(Drop)]
 struct Failing {
+    source: Vec<u64>,
     sink: Vec<u64>,
     log: Vec<u64>,
     store: Vec<u64>,
@@ -33,6 +34,8 @@ pub struct Scene {
     places: Vec<Place>,
     instants: Vec<Micros>,
     statuses: Vec<u32>,
+    // What the source gives.
+    script: Vec<u8>,
     failing: Failing,
 }
 
@@ -45,7 +48,9 @@ impl Scene {
             places: Vec::new(alloc),
             instants: Vec::new(alloc),
             statuses: Vec::new(alloc),
+            script: Vec::new(alloc),
             failing: Failing {
+                source: Vec::new(alloc),
                 sink: Vec::new(alloc),
                 log: Vec::new(alloc),
                 store: Vec::new(alloc),
@@ -123,11 +128,17 @@ impl Scene {
         }
     }
 
+    /// `script TEXT`: what the source gives.
+    pub fn script(&mut self, trial: &mut Trial) {
+        self.script = trial.text();
+    }
+
     /// `fails PART NUMBERS`: the calls of that part that fail.
     pub fn fails(&mut self, trial: &mut Trial) {
         let part = trial.word();
         let calls = numbers(trial);
         match part {
+            "source" => self.failing.source = calls,
             "sink" => self.failing.sink = calls,
             "log" => self.failing.log = calls,
             "store" => self.failing.store = calls,
@@ -160,7 +171,10 @@ impl Scene {
     fn streams(&self, trial: &mut Trial) -> Streams<MemSource, MemSink, MemSink> {
         let alloc = trial.alloc();
         Streams {
-            source: MemSource::new(Vec::new(alloc), Vec::new(alloc)),
+            source: MemSource::new(
+                copied(trial, &self.script),
+                copied(trial, &self.failing.source),
+            ),
             sink: MemSink::new(alloc, copied(trial, &self.failing.sink)),
             log: MemSink::new(alloc, copied(trial, &self.failing.log)),
         }

@@ -2,7 +2,8 @@
 use Rattle.std.specs.Prelude.{ℕ, ◌-◌, ◌^◌, ◌||◌, Bool, false, List, [], ◌∷◌, codes, bytes_eq, Option, Some, None, option_map, if◌then◌else◌}
 use Rattle.ldm_conf.specs.Addresses.{Address}
 use Rattle.ldm_script.specs.Number.{number_up_to}
-use Rattle.ldm_words.specs.Forms.{ActForm, ChainForm, InsertForm, NodeForm, ReceivingForm, act_form, chain_form, insert_form, node_form, pqmon_form, receiving_form}
+use Rattle.ldm_words.specs.Forms.{ActForm, ChainForm, InsertForm, NodeForm, ReceivingForm, StatsForm, WmoForm}
+use Rattle.ldm_words.specs.Forms.{act_form, chain_form, insert_form, node_form, pqmon_form, receiving_form, stats_form, wmo_form}
 
 -- What the words of the program ask for.
 pub data Form : Type 0 where
@@ -26,6 +27,10 @@ pub data Form : Type 0 where
   Notifyme : (receiving : ReceivingForm) → Form
   -- to write the figures of a node's queue
   Pqmon : (peer : Address) → Form
+  -- to put the bulletins of a stream into the queue of a node
+  Wmo : (wmo : WmoForm) → Form
+  -- to write how much of the products of a node came in each hour
+  Pqstats : (stats : StatsForm) → Form
 
 -- a play, where both numbers could be read
 abbrev pub play_with : Option ℕ → Option ℕ → Option Form
@@ -67,13 +72,15 @@ with_options first others =
     else if bytes_eq first (codes "pqcat") then option_map Pqcat (receiving_form others)
     else if bytes_eq first (codes "notifyme") then option_map Notifyme (receiving_form others)
     else if bytes_eq first (codes "pqmon") then option_map Pqmon (pqmon_form others)
+    else if bytes_eq first (codes "wmo") then option_map Wmo (wmo_form others)
+    else if bytes_eq first (codes "pqstats") then option_map Pqstats (stats_form others)
     else None
 
 -- whether a first word is that of a command with options
 abbrev pub has_options : List ℕ → Bool
 has_options first =
     bytes_eq first (codes "node") || (bytes_eq first (codes "pqact") || (bytes_eq first (codes "pqinsert") || (bytes_eq first (codes "pqcat")
-    || (bytes_eq first (codes "notifyme") || bytes_eq first (codes "pqmon")))))
+    || (bytes_eq first (codes "notifyme") || (bytes_eq first (codes "pqmon") || (bytes_eq first (codes "wmo") || bytes_eq first (codes "pqstats")))))))
 
 -- whether reading words takes memory, by their first one: those of a chain and those of a command with options
 abbrev pub take_memory : List (List ℕ) → Bool

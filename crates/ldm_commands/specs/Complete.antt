@@ -2,7 +2,7 @@
 use Rattle.std.specs.Prelude.{ℕ, Option, Some, None}
 use Rattle.ldm_play.specs.Complete.{Completes}
 use Rattle.ldm_chain_command.specs.Complete.{ChainCompletes}
-use Rattle.ldm_crowd_command.specs.Complete.{CrowdCompletes}
+use Rattle.ldm_crowd.specs.Complete.{CrowdCompletes}
 use Rattle.ldm_exercise.specs.Complete.{ExerciseCompletes}
 use Rattle.ldm_node_command.specs.Complete.{NodeCompletes}
 use Rattle.ldm_commands.specs.Command.{Form}
@@ -26,3 +26,5 @@ module _ {K F L T : Type 0} (tells : Tells K F L T) where
   RunCompletes (Some (form.Pqcat receiving)) code old new = Unit {0}
   RunCompletes (Some (form.Notifyme receiving)) code old new = Unit {0}
   RunCompletes (Some (form.Pqmon peer)) code old new = Unit {0}
+  RunCompletes (Some (form.Wmo wmo)) code old new = Unit {0}
+  RunCompletes (Some (form.Pqstats stats)) code old new = Unit {0}

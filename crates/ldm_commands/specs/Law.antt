@@ -2,7 +2,7 @@
 use Rattle.std.specs.Prelude.{◌≡◌, ◌⊎◌, ℕ, Bool, Option, Some, None}
 use Rattle.ldm_play.specs.Law.{ObeysPlayLaw}
 use Rattle.ldm_chain_command.specs.Law.{ObeysChainLaw}
-use Rattle.ldm_crowd_command.specs.Law.{ObeysCrowdLaw}
+use Rattle.ldm_crowd.specs.Law.{ObeysCrowdLaw}
 use Rattle.ldm_exercise.specs.Law.{ObeysExerciseLaw}
 use Rattle.ldm_node_command.specs.Law.{ObeysNodeLaw}
 use Rattle.ldm_commands.specs.Command.{Form}
@@ -12,21 +12,23 @@ use Rattle.ldm_commands.specs.Run.{LacksMemory}
 use Rattle.ldm_commands.specs.World.{Tells, WorldView, streams_of}
 
 module _ {K F L T : Type 0} (tells : Tells K F L T) where
-  -- What a command writes that has a queue are answers of a history of that queue, which obeys the law: `IsLawful` of ldm_calls, and `ObeysLaw`
-  -- of ldm_model for the queue of a node. Where a crowd writes nothing, the number that the program ends with is that of a cause.
+  -- What a command writes that has a queue are answers of a history of that queue, which obeys the law: `IsLawful` of ldm_calls. Where a
+  -- crowd, a chain or a node writes nothing, the number that the program ends with is that of a cause.
   abbrev pub DoesLawful : Form → ℕ → WorldView K F L T → WorldView K F L T → Type 0
   DoesLawful (form.Play arena slots) code old new = ObeysPlayLaw (record { arena = arena; slots = slots }) (streams_of tells old) (streams_of tells new)
   DoesLawful (form.Crowd arena slots workers) code old new =
       ObeysCrowdLaw (record { arena = arena; slots = slots; workers = workers }) code (streams_of tells old) (streams_of tells new)
   DoesLawful (form.Exercise number count) code old new = ObeysExerciseLaw number count (streams_of tells old) (streams_of tells new)
-  DoesLawful (form.Chain chain) code old new = ObeysChainLaw (work_of chain) (chain_of tells old) (chain_of tells new)
-  DoesLawful (form.Node node) code old new = ObeysNodeLaw tells.station (setup_of node) (node_of tells old) (node_of tells new)
+  DoesLawful (form.Chain chain) code old new = ObeysChainLaw (work_of chain) code (chain_of tells old) (chain_of tells new)
+  DoesLawful (form.Node node) code old new = ObeysNodeLaw tells.station (setup_of node) code (node_of tells old) (node_of tells new)
   -- these write what another node answers, or nothing
   DoesLawful (form.Pqact act) code old new = Unit {0}
   DoesLawful (form.Pqinsert insert) code old new = Unit {0}
   DoesLawful (form.Pqcat receiving) code old new = Unit {0}
   DoesLawful (form.Notifyme receiving) code old new = Unit {0}
   DoesLawful (form.Pqmon peer) code old new = Unit {0}
+  DoesLawful (form.Wmo wmo) code old new = Unit {0}
+  DoesLawful (form.Pqstats stats) code old new = Unit {0}
 
   -- What was asked for, whether reading its words takes memory, the number that the program ends with, and what is written until then.
   abbrev pub RunObeysLaw : Option Form → Bool → ℕ → WorldView K F L T → WorldView K F L T → Type 0

@@ -1,4 +1,5 @@
 -- What each command is told by the form of its words, and what it is lent of a world.
+use Rattle.std.specs.Prelude.{◌≡◌}
 use Rattle.ldm_outside.specs.Dial.{Asked}
 use Rattle.ldm_conf.specs.Addresses.{Address}
 use Rattle.ldm_chain_command.specs.Work.{ChainOutside, ChainWork}
@@ -10,7 +11,11 @@ use Rattle.ldm_pqcat.specs.Cats.{CatLent, cat_lent}
 use Rattle.ldm_pqinsert.specs.Inserting.{Inserting}
 use Rattle.ldm_pqinsert.specs.Inserts.{InsertRecord}
 use Rattle.ldm_tools.specs.Mon.{MonRecord}
-use Rattle.ldm_words.specs.Forms.{ActForm, ChainForm, InsertForm, NodeForm, ReceivingForm}
+use Rattle.ldm_pqstats.specs.Runs as pqstats
+use Rattle.ldm_pqstats.specs.declared.asked.StatsAsked.{StatsAsked}
+use Rattle.ldm_wmo_command.specs.Ingesting.{Ingesting}
+use Rattle.ldm_wmo_command.specs.Moments as wmo_command
+use Rattle.ldm_words.specs.Forms.{ActForm, ChainForm, InsertForm, NodeForm, ReceivingForm, StatsForm, WmoForm}
 use Rattle.ldm_commands.specs.World.{Tells, WorldView, streams_of}
 
 -- ---- what it is told
@@ -31,6 +36,18 @@ inserting_of insert = record {
   files = insert.files;
 }
 
+abbrev pub ingesting_of : WmoForm → Ingesting
+ingesting_of wmo = record { peer = asked_of wmo.peer; feed = wmo.feed; origin = wmo.origin }
+
+-- what `pqstats` is asked for is what words say
+pub record IsAskedFor (stats : StatsForm) (asked : StatsAsked) : Type 0 where
+  pub host : asked.host.now ≡ stats.peer.host
+  pub port : asked.port ≡ stats.peer.port
+  pub class : asked.class.now ≡ stats.class
+  pub count : asked.count ≡ stats.count
+  pub hours : asked.hours ≡ stats.hours
+  pub send : asked.send ≡ stats.send
+
 abbrev pub work_of : ChainForm → ChainWork
 work_of chain = record {
   arena = chain.arena;
@@ -45,6 +62,7 @@ order_by act = record { peer = asked_of act.peer; class = act.class; count = act
 
 abbrev pub setup_of : NodeForm → Setup
 setup_of node = record {
+  port = node.port;
   arena = node.arena;
   slots = node.slots;
   workers = node.workers;
@@ -74,6 +92,12 @@ module _ {K F L T : Type 0} (tells : Tells K F L T) where
     outside = record { store = tells.store world.store; net = world.net; sink = tells.sink world.sink; clock = world.clock };
     log = world.log;
   }
+
+  abbrev pub stats_of : WorldView K F L T → pqstats.Lent
+  stats_of world = pqstats.lent_of world.net (tells.sink world.sink) world.log world.clock
+
+  abbrev pub ingest_of : WorldView K F L T → wmo_command.Outside
+  ingest_of world = record { streams = streams_of tells world; net = world.net; clock = world.clock }
 
   abbrev pub node_of : WorldView K F L T → node_command.Outside T
   node_of world = record {

@@ -5,7 +5,7 @@ use Rattle.ldm_status.specs.declared.status.Status.TheVariants as status
 use Rattle.ldm_status.specs.Status.{Reports}
 use Rattle.ldm_play.specs.Run.{Plays}
 use Rattle.ldm_chain_command.specs.Run.{RunsChain}
-use Rattle.ldm_crowd_command.specs.Run.{CrowdRuns}
+use Rattle.ldm_crowd.specs.Run.{CrowdRuns}
 use Rattle.ldm_exercise.specs.Run.{Exercises}
 use Rattle.ldm_node_command.specs.Run.{NodeRuns}
 use Rattle.ldm_node_command.specs.Told.{TellsCommands}
@@ -13,11 +13,14 @@ use Rattle.ldm_notifyme.specs.Notifyme.{Notifies}
 use Rattle.ldm_pqact_command.specs.PqactRuns.{Pqacts}
 use Rattle.ldm_pqcat.specs.Cats.{Cats}
 use Rattle.ldm_pqinsert.specs.Inserts.{Inserts}
+use Rattle.ldm_pqstats.specs.Runs.{Pqstats}
+use Rattle.ldm_pqstats.specs.declared.asked.StatsAsked.{StatsAsked}
 use Rattle.ldm_tools.specs.Mon.{Mons}
+use Rattle.ldm_wmo_command.specs.Ingests.{Ingests}
 use Rattle.ldm_commands.specs.Command.{Form}
 use Rattle.ldm_commands.specs.Command as form
-use Rattle.ldm_commands.specs.Lent.{act_of, asked_of, cat_of, chain_of, insert_of, inserting_of, mon_of, node_of, order_by, setup_of, wanted_of, work_of}
-use Rattle.ldm_commands.specs.World.{OnlyStreams, Tells, WorldView, streams_of, with_act, with_cat, with_chain, with_net, with_node, with_put}
+use Rattle.ldm_commands.specs.Lent.{IsAskedFor, act_of, asked_of, cat_of, chain_of, ingest_of, ingesting_of, insert_of, inserting_of, mon_of, node_of, order_by, setup_of, stats_of, wanted_of, work_of}
+use Rattle.ldm_commands.specs.World.{OnlyStreams, Tells, WorldView, streams_of, with_act, with_cat, with_chain, with_ingest, with_net, with_node, with_put}
 
 module _ {K F L T : Type 0} (tells : Tells K F L T) where
   -- Nothing was done, but for what the log took.
@@ -38,7 +41,7 @@ module _ {K F L T : Type 0} (tells : Tells K F L T) where
   Does (form.Chain chain) code old new = RunsChain (work_of chain) code (chain_of tells old) (chain_of tells new) × (new ≡ with_chain new old)
   Does (form.Node node) code old new =
       NodeRuns tells.station (setup_of node) code (node_of tells old) (node_of tells new)
-      × TellsCommands (setup_of node) code (node_of tells old) (node_of tells new) × (new ≡ with_node new old)
+      × TellsCommands tells.station (setup_of node) code (node_of tells old) (node_of tells new) × (new ≡ with_node new old)
   Does (form.Pqact act) code old new =
       Pqacts tells.store tells.launcher code (order_by act) act.conf (act_of old) (act_of new) × (new ≡ with_act new old)
   Does (form.Pqinsert insert) code old new = Inserts code (inserting_of insert) (insert_of tells old) (insert_of tells new) × (new ≡ with_put new old)
@@ -46,6 +49,9 @@ module _ {K F L T : Type 0} (tells : Tells K F L T) where
       Cats tells.sink code (asked_of receiving.peer) receiving.class receiving.count (cat_of old) (cat_of new) × (new ≡ with_cat new old)
   Does (form.Notifyme receiving) code old new = Notifies code (wanted_of receiving) (mon_of tells old) (mon_of tells new) × (new ≡ with_net new old)
   Does (form.Pqmon peer) code old new = Mons code (asked_of peer) (mon_of tells old) (mon_of tells new) × (new ≡ with_net new old)
+  Does (form.Wmo wmo) code old new = Ingests code (ingesting_of wmo) (ingest_of tells old) (ingest_of tells new) × (new ≡ with_ingest new old)
+  Does (form.Pqstats stats) code old new =
+      ((asked : StatsAsked) × IsAskedFor stats asked × Pqstats code asked (stats_of tells old) (stats_of tells new)) × (new ≡ with_cat new old)
 
   -- What was asked for, whether reading its words takes memory, the number that the program ends with, and what is changed until then.
   abbrev pub RunEnds : Option Form → Bool → ℕ → WorldView K F L T → WorldView K F L T → Type 0

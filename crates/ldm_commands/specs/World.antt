@@ -67,7 +67,11 @@ module _ {K F L T : Type 0} where
   abbrev pub with_cat : WorldView K F L T → WorldView K F L T → WorldView K F L T
   with_cat other world = record (with_net other world) { clock = other.clock }
 
-  -- these and the store
+  -- these and the source
+  abbrev pub with_ingest : WorldView K F L T → WorldView K F L T → WorldView K F L T
+  with_ingest other world = record (with_cat other world) { source = other.source }
+
+  -- sinks, net, clock and store
   abbrev pub with_put : WorldView K F L T → WorldView K F L T → WorldView K F L T
   with_put other world = record (with_cat other world) { store = other.store }
 

@@ -9,8 +9,9 @@ use ldm_conf::Address;
 use ldm_exercise::MOST_DRAWN;
 use ldm_script::read_number;
 use ldm_words::{
-    ActWords, ChainWords, InsertWords, NodeWords, ReceivingWords, WordsFault, read_chain,
-    read_node, read_pqact, read_pqinsert, read_pqmon, read_receiving,
+    ActWords, ChainWords, InsertWords, NodeWords, ReceivingWords, StatsWords, WmoWords, WordsFault,
+    read_chain, read_node, read_pqact, read_pqinsert, read_pqmon, read_pqstats, read_receiving,
+    read_wmo,
 };
 use std::alloc::Global;
 
@@ -47,6 +48,10 @@ pub enum Command<'a> {
     Notifyme(ReceivingWords),
     /// `pqmon ..`: to write the figures of a node's queue.
     Pqmon(Address),
+    /// `wmo ..`: to put the bulletins of a stream into the queue of a node.
+    Wmo(WmoWords<'a>),
+    /// `pqstats ..`: to write how much of the products of a node came in each hour.
+    Pqstats(StatsWords),
 }
 
 /// Reads the words behind the program's name. [`WordsFault::Usage`] comes exactly where they are no form of a command,
@@ -95,6 +100,10 @@ fn read_with_options<'a>(
         Ok(Command::Notifyme(read_receiving(alloc, words)?))
     } else if word == b"pqmon".as_slice() {
         Ok(Command::Pqmon(read_pqmon(alloc, words)?))
+    } else if word == b"wmo".as_slice() {
+        Ok(Command::Wmo(read_wmo(alloc, words)?))
+    } else if word == b"pqstats".as_slice() {
+        Ok(Command::Pqstats(read_pqstats(alloc, words)?))
     } else {
         Err(WordsFault::Usage)
     }

@@ -12,9 +12,12 @@ ghost use Rattle.ldm_commands.specs.World.{KeepsAllFaults, tells_of, world_view}
 use crate::chain::feed_chain;
 use crate::command::{Command, read_command};
 use crate::node::run_words;
-use crate::tools::{act_on_products, put_files, tell_figures, tell_products, write_bodies};
+use crate::tools::{
+    act_on_products, count_products, put_bulletins, put_files, tell_figures, tell_products,
+    write_bodies,
+};
 use crate::world::World;
-use ldm_crowd_command::crowd;
+use ldm_crowd::crowd;
 use ldm_exercise::exercise;
 use ldm_outside::{Clock, Dial, Door, Launcher, Net, Sink, Source, Store};
 use ldm_play::play;
@@ -29,8 +32,8 @@ use std::thread::Threads;
 ///
 /// The clause `ends` gives each status its cause, and what was read, written, sent, started and kept then: see
 /// `RunEnds`. The clause `law` says that what a command writes of its own queue are answers of a history that obeys the
-/// law of the queue, or for what cause a crowd writes nothing: see `RunObeysLaw`. The clause `completes` says when all
-/// is read and answered: see `RunCompletes`.
+/// law of the queue, or for what cause a crowd or a chain writes nothing: see `RunObeysLaw`. The clause `completes` says
+/// when all is read and answered: see `RunCompletes`.
 pub fn run_ldm<
     H: Threads + Wait + Sync,
     S: Source,
@@ -115,5 +118,7 @@ where
         Command::Pqcat(words) => write_bodies(rt, alloc, &words, world),
         Command::Notifyme(words) => tell_products(alloc, &words, world),
         Command::Pqmon(peer) => tell_figures(alloc, &peer, world),
+        Command::Wmo(words) => put_bulletins(alloc, &words, world),
+        Command::Pqstats(words) => count_products(rt, alloc, &words, world),
     }
 }

@@ -2,7 +2,7 @@
 ghost use Rattle.std.specs.Prelude.{◌≡◌, false};
 ghost use Rattle.ldm_conf.specs.AddressViews.{address_view};
 ghost use Rattle.ldm_outside.specs.Station.{station_tells};
-ghost use Rattle.ldm_words.specs.Views.{act_view, insert_view, receiving_view};
+ghost use Rattle.ldm_words.specs.Views.{act_view, insert_view, receiving_view, stats_view, wmo_view};
 ghost use Rattle.ldm_commands.specs.Command as form;
 ghost use Rattle.ldm_commands.specs.Doing.{Done};
 ghost use Rattle.ldm_commands.specs.World.{tells_of, world_view};
@@ -14,8 +14,10 @@ use ldm_outside::{Clock, Launcher, Net, Sink, Source, Store};
 use ldm_pqact_command::pqact;
 use ldm_pqcat::pqcat;
 use ldm_pqinsert::{Insertion, pqinsert};
+use ldm_pqstats::{StatsAsked, pqstats};
 use ldm_tools::pqmon;
-use ldm_words::{ActWords, InsertWords, ReceivingWords};
+use ldm_wmo_command::{Ingestion, ingest};
+use ldm_words::{ActWords, InsertWords, ReceivingWords, StatsWords, WmoWords};
 use std::alloc::Global;
 use std::sync::Wait;
 
@@ -168,5 +170,74 @@ pub(crate) fn put_files<S: Source, K: Sink, E: Sink, C: Clock, F: Store, L: Laun
         &mut world.streams.log,
         &mut world.clock,
         &insertion,
+    )
+}
+
+/// Puts the bulletins of the source into the queue of a node.
+pub(crate) fn put_bulletins<S: Source, K: Sink, E: Sink, C: Clock, F: Store, L: Launcher, N: Net>(
+    alloc: Global,
+    words: &WmoWords<'_>,
+    world: &mut World<S, K, E, C, F, L, N>,
+) -> u8
+    requires { (N.tells world.old.net).links.out ≡ false }
+    ensures { let tells = tells_of K.tells F.tells L.tells
+        (station_tells N.StationDoor.tells N.StationDial.tells N.StationLog.tells N.StationClock.tells
+        N.StationGate.tells) in
+        Done tells (form.Wmo (wmo_view words.now)) result
+        (world_view S.tells E.tells C.tells N.tells N.kept world.old)
+        (world_view S.tells E.tells C.tells N.tells N.kept world.new) }
+{
+    let ingestion = Ingestion {
+        host: words.peer.host.as_slice(),
+        port: words.peer.port,
+        feed: words.feed,
+        origin: words.origin,
+    };
+    ingest(
+        alloc,
+        &mut world.streams.source,
+        &mut world.net,
+        &mut world.streams.sink,
+        &mut world.streams.log,
+        &mut world.clock,
+        &ingestion,
+    )
+}
+
+/// Writes how much of the products of a node came in each hour.
+pub(crate) fn count_products<
+    H: Wait,
+    S: Source,
+    K: Sink,
+    E: Sink,
+    C: Clock,
+    F: Store,
+    L: Launcher,
+    N: Net,
+>(rt: &H, alloc: Global, words: &StatsWords, world: &mut World<S, K, E, C, F, L, N>) -> u8
+    requires { (N.tells world.old.net).links.out ≡ false }
+    ensures { let tells = tells_of K.tells F.tells L.tells
+        (station_tells N.StationDoor.tells N.StationDial.tells N.StationLog.tells N.StationClock.tells
+        N.StationGate.tells) in
+        Done tells (form.Pqstats (stats_view words.now)) result
+        (world_view S.tells E.tells C.tells N.tells N.kept world.old)
+        (world_view S.tells E.tells C.tells N.tells N.kept world.new) }
+{
+    let asked = StatsAsked {
+        host: words.peer.host.as_slice(),
+        port: words.peer.port,
+        class: &words.class,
+        count: words.count,
+        hours: words.hours,
+        send: words.send,
+    };
+    pqstats(
+        rt,
+        alloc,
+        &mut world.net,
+        &mut world.streams.sink,
+        &mut world.streams.log,
+        &mut world.clock,
+        &asked,
     )
 }

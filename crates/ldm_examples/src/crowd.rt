@@ -1,23 +1,18 @@
 //! The example of ldm_crowd.
 
-ghost use Rattle.std.specs.Prelude.{◌≤◌, length};
-ghost use Rattle.ldm_crowd.specs.declared.orders.TheConstants.{MOST_SCRIPT};
-
-use ldm_crowd::{CrowdEnd, Orders, crowd};
-use ldm_outside::OpenGate;
-use ldm_shared::Shared;
+use ldm_crowd::crowd;
+use ldm_outside::{MemSink, MemSource};
+use ldm_status::Streams;
 use std::alloc::Global;
 use std::sync::Wait;
 use std::thread::Threads;
 
-/// Plays a script of four actors, and answers whether all its lines were played. `None` where a line is outside the
-/// grammar or there is no memory.
-pub fn plays_all<H: Threads + Wait + Sync>(rt: &H, alloc: Global, text: &[u8]) -> Option<bool>
-    requires { length text.now ≤ MOST_SCRIPT }
-{
-    let orders = Orders::read(alloc, text, 4).ok()?;
-    let (shared, passes) = Shared::create(alloc, 1 << 20, 100, 4).ok()?;
-    let gates = vec![in alloc; OpenGate; 4].ok()?;
-    let crowd = crowd(rt, alloc, &orders, shared, passes, gates);
-    Some(crowd.end == CrowdEnd::Done)
+/// Plays an empty script of two actors.
+pub fn empty_script<H: Threads + Wait + Sync>(rt: &H, alloc: Global) -> u8 {
+    let mut streams = Streams {
+        source: MemSource::new(Vec::new(alloc), Vec::new(alloc)),
+        sink: MemSink::new(alloc, Vec::new(alloc)),
+        log: MemSink::new(alloc, Vec::new(alloc)),
+    };
+    crowd(rt, alloc, 168, 10, 2, &mut streams)
 }

@@ -12,8 +12,7 @@ use Rattle.ldm_script.specs.declared.line.TheConstants as lines
 use Rattle.ldm_script.specs.declared.answer.TheConstants as answers
 use Rattle.ldm_script.specs.declared.body.TheConstants as bodies
 use Rattle.ldm_play.specs.declared.play_command.TheConstants as plays
-use Rattle.ldm_crowd.specs.declared.orders.TheConstants as crowds
-use Rattle.ldm_loading.specs.declared.whole_script.TheConstants as loads
+use Rattle.ldm_status.specs.declared.whole_script.TheConstants as scripts
 use Rattle.ldm_exercise.specs.declared.order.TheConstants as drawn
 use Rattle.ldm_rpc.specs.declared.stage.TheConstants as fragments
 use Rattle.ldm_rpc.specs.declared.records.TheConstants as records
@@ -27,9 +26,9 @@ use Rattle.ldm_intake.specs.declared.notes.TheConstants as notes
 use Rattle.ldm_intake.specs.declared.replies.TheConstants as owed
 use Rattle.ldm_downstream.specs.declared.limits.TheConstants as pieces
 use Rattle.ldm_watch.specs.declared.limits.TheConstants as watched
-use Rattle.ldm_respond.specs.declared.hiya.TheConstants as offers
-use Rattle.ldm_respond.specs.declared.saying.TheConstants as sayings
-use Rattle.ldm_requester.specs.declared.limits.TheConstants as requests
+use Rattle.ldm_serve.specs.declared.hiya.TheConstants as offers
+use Rattle.ldm_serve.specs.declared.saying.TheConstants as sayings
+use Rattle.ldm_node.specs.declared.limits.TheConstants as requests
 use Rattle.ldm_outside.specs.declared.door.TheConstants as doors
 use Rattle.ldm_text.specs.declared.limits.TheConstants as texts
 use Rattle.ldm_conf.specs.declared.limits.TheConstants as confs
@@ -71,8 +70,7 @@ pub record ScriptLimits : Type 0 where
   pub longest_answer : answers.LONGEST_ANSWER ≡ 16384
   pub longest_body : bodies.LONGEST_BODY ≡ 1048576
   pub script_limit : plays.SCRIPT_LIMIT ≡ 1099511627776
-  pub longest_of_a_crowd : crowds.MOST_SCRIPT ≡ 67108864
-  pub longest_of_a_chain : loads.LONGEST_SCRIPT ≡ 67108864
+  pub longest_script : scripts.LONGEST_SCRIPT ≡ 67108864
   pub most_drawn : drawn.MOST_DRAWN ≡ 1000000
   pub body_limit : drawn.BODY_LIMIT ≡ 40000
   pub read_size : drawn.READ_SIZE ≡ 64

@@ -14,7 +14,7 @@ use Rattle.ldm_outside.specs.Station.{StationRecord}
 use Rattle.ldm_outside.specs.Store.{StoreRecord}
 use Rattle.ldm_status.specs.Streams.{StreamsRecord}
 use Rattle.ldm_play.specs.Complete.{Unhindered}
-use Rattle.ldm_crowd_command.specs.Complete.{CrowdUnhindered}
+use Rattle.ldm_crowd.specs.Complete.{CrowdUnhindered}
 use Rattle.ldm_chain_command.specs.Work.{ChainWork, ChainOutside}
 use Rattle.ldm_chain_command.specs.Complete.{ChainUnhindered}
 use Rattle.ldm_node_command.specs.Outside.{Outside}
@@ -100,7 +100,7 @@ abbrev pub launcher : LauncherRecord
 launcher = record { faults = 0; next = 0; running = []; children = Some [] }
 
 abbrev pub setup : Setup
-setup = record { arena = 64; slots = 1; workers = 1; sessions = 1; idles = Some 0; path = codes "ldmd.conf" }
+setup = record { port = 388; arena = 64; slots = 1; workers = 1; sessions = 1; idles = Some 0; path = codes "ldmd.conf" }
 
 -- a node with one station, as its own record
 abbrev pub node_before : Outside StationRecord

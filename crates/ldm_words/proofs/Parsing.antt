@@ -8,7 +8,8 @@ use Rattle.clap.specs.declared.error.Error.{Error}
 use Rattle.clap.specs.declared.error.kind.ErrorKind.TheVariants as kind
 use Rattle.clap.specs.declared.parser.matches.ArgMatches.{ArgMatches}
 use Rattle.clap.proofs.WalkLemmas.{both}
-use Rattle.ldm_words.specs.Commands.{IsPlain, matched, node_command, pqact_command, pqinsert_command, pqmon_command, receiving_command}
+use Rattle.ldm_words.specs.Commands.{IsPlain, matched, node_command, pqact_command, pqinsert_command, pqmon_command}
+use Rattle.ldm_words.specs.Commands.{pqstats_command, receiving_command, wmo_command}
 use Rattle.ldm_words.specs.Faults.{IsFaultOf, fault_of_kind}
 use Rattle.ldm_words.specs.Views.{HasRule, rows_in}
 use Rattle.ldm_words.specs.declared.fault.WordsFault.{WordsFault}
@@ -56,6 +57,14 @@ pqinsert_plain = record { simple = refl; alone = refl; defaults = refl }
 pub receiving_plain : IsPlain receiving_command
 unfolding receiving_command
 receiving_plain = record { simple = refl; alone = refl; defaults = refl }
+
+pub pqstats_plain : IsPlain pqstats_command
+unfolding pqstats_command
+pqstats_plain = record { simple = refl; alone = refl; defaults = refl }
+
+pub wmo_plain : IsPlain wmo_command
+unfolding wmo_command
+wmo_plain = record { simple = refl; alone = refl; defaults = refl }
 
 pub pqmon_plain : IsPlain pqmon_command
 unfolding pqmon_command

@@ -48,6 +48,9 @@ count_rule = option_rule (codes "count") (codes "c")
 abbrev pub conf_rule : Rule
 conf_rule = word_rule (codes "conf")
 
+abbrev pub origin_rule : Rule
+origin_rule = option_or_rule (codes "origin") (codes "o") (codes "localhost")
+
 -- `node [-a ARENA] [-S SLOTS] [-p PORT] [-w WORKERS] [-n SESSIONS] [-x IDLES] CONF`
 unfoldable pub node_command : App
 node_command = command_of (codes "node")
@@ -69,7 +72,7 @@ unfoldable pub pqinsert_command : App
 pqinsert_command = command_of (codes "pqinsert")
     (feed_rule (codes "EXP")
     ∷ option_rule (codes "ident") (codes "p")
-    ∷ option_or_rule (codes "origin") (codes "o") (codes "localhost")
+    ∷ origin_rule
     ∷ flag_rule (codes "sign") (codes "i")
     ∷ peer_rule ∷ words_rule (codes "files") ∷ [])
 
@@ -80,6 +83,20 @@ receiving_command = command_of (codes "receive") (feed_rule (codes "ANY") ∷ pa
 -- `pqmon [-q HOST:PORT]`
 unfoldable pub pqmon_command : App
 pqmon_command = command_of (codes "pqmon") (peer_rule ∷ [])
+
+-- `wmo [-f FEED] [-o ORIGIN] [-q HOST:PORT]`
+unfoldable pub wmo_command : App
+wmo_command = command_of (codes "wmo") (feed_rule (codes "IDS") ∷ origin_rule ∷ peer_rule ∷ [])
+
+-- `pqstats [-f FEED] [-p PATTERN] [-c COUNT] [-w HOURS] [-s] [-q HOST:PORT]`
+unfoldable pub pqstats_command : App
+pqstats_command = command_of (codes "pqstats")
+    (feed_rule (codes "ANY")
+    ∷ pattern_rule
+    ∷ count_rule
+    ∷ option_or_rule (codes "hours") (codes "w") (codes "24")
+    ∷ flag_rule (codes "send") (codes "s")
+    ∷ peer_rule ∷ [])
 
 -- the matches that a command has of words, where it takes them
 unfoldable pub matched : App → List Text → Option (List Row)

@@ -5,8 +5,9 @@ use Rattle.clap.specs.Words.{Row, Text, first_of}
 use Rattle.ldm_types.specs.declared.class.ClassSpec.{ClassSpec}
 use Rattle.ldm_conf.specs.Addresses.{Address, port_of}
 use Rattle.ldm_feedtype.specs.Reading.{feed_number}
-use Rattle.ldm_words.specs.Commands.{matched, node_command, pqact_command, pqinsert_command, pqmon_command, receiving_command}
-use Rattle.ldm_words.specs.Values.{◌>>=◌, are_names, class_of, classes_of, count_of, few_classes, files_of, is_used, long_number, optional, peer_of, said, short_number}
+use Rattle.ldm_words.specs.Commands.{matched, node_command, pqact_command, pqinsert_command, pqmon_command, pqstats_command}
+use Rattle.ldm_words.specs.Commands.{receiving_command, wmo_command}
+use Rattle.ldm_words.specs.Values.{◌>>=◌, are_names, class_of, classes_of, count_of, few_classes, files_of, hours_of, is_used, long_number, optional, origin_of, peer_of, said, short_number}
 
 -- ---- pqmon
 
@@ -88,6 +89,51 @@ insert_of rows =
 
 abbrev pub insert_form : List Text → Option InsertForm
 insert_form words = matched pqinsert_command words >>= insert_of
+
+-- ---- wmo
+
+pub record WmoForm : Type 0 where
+  -- a set of feedtypes, as a number whose bits are the members
+  pub feed : ℕ
+  pub origin : Text
+  pub peer : Address
+
+abbrev pub wmo_of : List Row → Option WmoForm
+wmo_of rows =
+    said feed_number (codes "feed") rows >>= λ feed.
+    said origin_of (codes "origin") rows >>= λ origin.
+    said peer_of (codes "peer") rows >>= λ peer.
+    Some (record { feed = feed; origin = origin; peer = peer })
+
+abbrev pub wmo_form : List Text → Option WmoForm
+wmo_form words = matched wmo_command words >>= wmo_of
+
+-- ---- pqstats
+
+pub record StatsForm : Type 0 where
+  pub class : ClassSpec
+  -- of products, at least 1
+  pub count : Option ℕ
+  -- how many hours the report goes back
+  pub hours : ℕ
+  -- whether the lines of each hour are sent to the node
+  pub send : Bool
+  pub peer : Address
+
+abbrev pub stats_of : List Row → Option StatsForm
+stats_of rows =
+    receiving_of rows >>= λ receiving.
+    said hours_of (codes "hours") rows >>= λ hours.
+    Some (record {
+      class = receiving.class;
+      count = receiving.count;
+      hours = hours;
+      send = is_used (first_of (codes "send") rows);
+      peer = receiving.peer;
+    })
+
+abbrev pub stats_form : List Text → Option StatsForm
+stats_form words = matched pqstats_command words >>= stats_of
 
 -- ---- node
 

@@ -13,7 +13,7 @@ use Rattle.ldm_conf.specs.Addresses.{Address, address_of}
 use Rattle.ldm_conf.specs.Confs.{all_times}
 use Rattle.ldm_feedtype.specs.Reading.{feed_number}
 use Rattle.ldm_script.specs.Number.{number_up_to}
-use Rattle.ldm_words.specs.declared.limits.TheConstants.{MOST_CLASSES}
+use Rattle.ldm_words.specs.declared.limits.TheConstants.{MOST_CLASSES, MOST_HOURS}
 
 infixl 10 ◌>>=◌
 abbrev pub ◌>>=◌ : {A B : Type 0} → Option A → (A → Option B) → Option B
@@ -43,6 +43,10 @@ positive n = if n == 0 then None else Some n
 -- a count of products: at least 1
 abbrev pub count_of : Text → Option ℕ
 count_of text = long_number text >>= positive
+
+-- hours of statistics: 1 to 8,760
+abbrev pub hours_of : Text → Option ℕ
+hours_of text = number_up_to MOST_HOURS text >>= positive
 
 -- `HOST:PORT`, cut at its last colon (58)
 abbrev pub peer_of : Text → Option Address
@@ -114,6 +118,10 @@ ident_or None file = file
 -- a product may have this origin and this ident
 abbrev pub IsName : Text → Text → Type 0
 IsName origin ident = texts_fault origin ident ≡ None
+
+-- an origin that products may have
+abbrev pub origin_of : Text → Option Text
+origin_of text = if is_none (texts_fault text []) then Some text else None
 
 -- whether the product of each file may have this origin and its ident
 abbrev pub are_names : Text → Option Text → List Text → Bool

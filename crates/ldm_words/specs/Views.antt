@@ -10,8 +10,10 @@ use Rattle.ldm_words.specs.declared.said.ActWords.{ActWords}
 use Rattle.ldm_words.specs.declared.said.ChainWords.{ChainWords}
 use Rattle.ldm_words.specs.declared.said.InsertWords.{InsertWords}
 use Rattle.ldm_words.specs.declared.said.ReceivingWords.{ReceivingWords}
+use Rattle.ldm_words.specs.declared.said.StatsWords.{StatsWords}
+use Rattle.ldm_words.specs.declared.said.WmoWords.{WmoWords}
 use Rattle.ldm_words.specs.Values.{texts_of}
-use Rattle.ldm_words.specs.Forms.{ActForm, ChainForm, InsertForm, NodeForm, ReceivingForm}
+use Rattle.ldm_words.specs.Forms.{ActForm, ChainForm, InsertForm, NodeForm, ReceivingForm, StatsForm, WmoForm}
 
 -- an argument of a command has this rule
 abbrev pub HasRule : Rule → Arg → Type 0
@@ -35,6 +37,18 @@ insert_view words = record {
   sign_ident = words.sign_ident;
   peer = address_view words.peer;
   files = texts_of words.files.items;
+}
+
+abbrev pub wmo_view : WmoWords → WmoForm
+wmo_view words = record { feed = words.feed.0; origin = words.origin.now; peer = address_view words.peer }
+
+abbrev pub stats_view : StatsWords → StatsForm
+stats_view words = record {
+  class = words.class;
+  count = words.count;
+  hours = words.hours;
+  send = words.send;
+  peer = address_view words.peer;
 }
 
 abbrev pub node_view : NodeWords → NodeForm

@@ -1,7 +1,8 @@
 //! Worked examples.
 ghost use Rattle.std.specs.Prelude.{◌≡◌, true, false, [], ◌∷◌, Some, None, codes};
 ghost use Rattle.ldm_conf.specs.Confs.{all_times};
-ghost use Rattle.ldm_words.specs.Forms.{act_form, chain_form, insert_form, node_form, pqmon_form, receiving_form};
+ghost use Rattle.ldm_words.specs.Forms.{act_form, chain_form, insert_form, node_form, pqmon_form};
+ghost use Rattle.ldm_words.specs.Forms.{receiving_form, stats_form, wmo_form};
 
 /// Worked examples of the words of `pqmon`. It does nothing.
 pub fn worked_examples_of_pqmon()
@@ -122,4 +123,40 @@ pub fn worked_examples_of_chain()
     ensures no_pattern { chain_form (codes "1" ∷ codes "2" ∷ codes "3" ∷ codes "ANY" ∷ []) ≡ None }
     ensures too_many_slots { chain_form (codes "1" ∷ codes "4294967296" ∷ codes "3" ∷ codes "ANY" ∷ codes ".*" ∷ [])
         ≡ None }
+{}
+
+/// Worked examples of the words of `wmo`. It does nothing.
+pub fn worked_examples_of_wmo()
+    ensures by_default { wmo_form []
+        ≡ Some (record { feed = 8; origin = codes "localhost"; peer = record { host = codes "127.0.0.1"; port = 388 } }) }
+    ensures given { wmo_form (codes "-fDDS" ∷ codes "-o" ∷ codes "h" ∷ codes "-qa:1" ∷ [])
+        ≡ Some (record { feed = 2; origin = codes "h"; peer = record { host = codes "a"; port = 1 } }) }
+    ensures zero_byte { wmo_form (codes "-oa\0" ∷ []) ≡ None }
+    ensures no_word { wmo_form (codes "f" ∷ []) ≡ None }
+{}
+
+/// Worked examples of the words of `pqstats`. It does nothing.
+pub fn worked_examples_of_pqstats()
+    ensures by_default { stats_form []
+        ≡ Some (record {
+          class = all_times 0xffff_ffff
+              (codes ".*");
+          count = None;
+          hours = 24;
+          send = false;
+          peer = record { host = codes "127.0.0.1"; port = 388 };
+        }) }
+    ensures given { stats_form
+        (codes "-s" ∷ codes "-w8760" ∷ codes "-c2" ∷ codes "-fIDS" ∷ codes "-p^S" ∷ codes "-qa:1" ∷ [])
+        ≡ Some (record {
+          class = all_times 8
+              (codes "^S");
+          count = Some 2;
+          hours = 8760;
+          send = true;
+          peer = record { host = codes "a"; port = 1 };
+        }) }
+    ensures no_hour { stats_form (codes "-w0" ∷ []) ≡ None }
+    ensures too_many_hours { stats_form (codes "-w8761" ∷ []) ≡ None }
+    ensures twice { stats_form (codes "-s" ∷ codes "-s" ∷ []) ≡ None }
 {}

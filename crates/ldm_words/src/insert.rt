@@ -13,9 +13,8 @@ ghost use Rattle.ldm_words.specs.Views.{insert_view, rows_in};
 use crate::command::{bare, flag, option, option_or, parse, words};
 use crate::fault::WordsFault;
 use crate::said::InsertWords;
-use crate::values::{feed, files, instant, is_used, peer, value};
+use crate::values::{feed, files, is_name, is_used, peer, value};
 use clap::{ArgMatches, Command};
-use ldm_types::{Feed, Info, Signature};
 use std::alloc::{AllocError, Global};
 
 /// What words ask `pqinsert` to do: `[-f FEED] [-p IDENT] [-o ORIGIN] [-i] [-q HOST:PORT] FILE..`, by default `EXP`,
@@ -82,9 +81,7 @@ fn all_are_names(origin: &str, ident: Option<&str>, files: &[&str]) -> bool
     ensures { result ≡ list_all
         (λ file. is_none (texts_fault origin.now (ident_or (option_copied ident.entry) file.now))) files.now }
 {
-    files
-        .iter()
-        .all(|file| is_name(origin, ident_or(ident, file)))
+    files.iter().all(|file| is_name(origin.as_bytes(), ident_or(ident, file).as_bytes()))
 }
 
 // The ident of the product of a file.
@@ -95,21 +92,4 @@ fn ident_or<'a>(ident: Option<&'a str>, file: &'a str) -> &'a str
         Some(ident) => ident,
         None => file,
     }
-}
-
-// Whether a product may have this origin and this ident.
-fn is_name(origin: &str, ident: &str) -> bool
-    ensures { result ≡ is_none (texts_fault origin.now ident.now) }
-{
-    let signature = Signature([0; 16]);
-    Info::new(
-        instant(0),
-        signature,
-        origin.as_bytes(),
-        Feed::default(),
-        0,
-        ident.as_bytes(),
-        0,
-    )
-    .is_ok()
 }

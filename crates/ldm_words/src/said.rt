@@ -1,9 +1,9 @@
 //! What words say.
-ghost use Rattle.std.specs.Prelude.{◌<◌, ◌≤◌, ◌^◌, length};
+ghost use Rattle.std.specs.Prelude.{◌<◌, ◌≤◌, ◌^◌, [], length};
 ghost use Rattle.std.proofs.Props.{props};
 ghost use Rattle.std.specs.List.{All, AllByRecursion};
 ghost use Rattle.std.specs.Option.{ForSome, option_copied};
-ghost use Rattle.ldm_words.specs.declared.limits.TheConstants.{MOST_CLASSES};
+ghost use Rattle.ldm_words.specs.declared.limits.TheConstants.{MOST_CLASSES, MOST_HOURS};
 ghost use Rattle.ldm_words.specs.Values.{IsName, IsOfAllTimes, ident_or, texts_of};
 
 use ldm_class::Class;
@@ -73,6 +73,36 @@ pub struct ReceivingWords {
     /// The node to ask.
     pub peer: Address,
     pub ghost counted: { ForSome count (λ n. 0 < n) },
+}
+
+/// Where `wmo` puts the bulletins that it reads.
+#[derive(Drop)]
+pub struct WmoWords<'a> {
+    /// The feedtypes of the products.
+    pub feed: Feed,
+    /// The origin of the products.
+    pub origin: &'a [u8],
+    /// The node to ask.
+    pub peer: Address,
+    pub ghost named: { IsName origin.now [] },
+}
+
+/// What `pqstats` counts, and from where it receives.
+#[derive(Drop)]
+pub struct StatsWords {
+    /// One specification, of all times.
+    pub class: Class,
+    /// How many products, at least 1; all where there is none.
+    pub count: Option<u64>,
+    /// How many hours the report goes back: 1 to [`MOST_HOURS`](crate::MOST_HOURS).
+    pub hours: u32,
+    /// Whether the lines of each hour are sent to the node.
+    pub send: bool,
+    /// The node to ask.
+    pub peer: Address,
+    pub ghost counted: { ForSome count (λ n. 0 < n) },
+    pub ghost some: { 0 < hours },
+    pub ghost few: { hours ≤ MOST_HOURS },
 }
 
 /// What a chain is made with.

@@ -1,5 +1,5 @@
 //! The values of options and words.
-ghost use Rattle.std.specs.Prelude.{◌≡◌, ◌<◌, ◌≤◌, ◌^◌, IfSome, MatchResult, Some, codes, length};
+ghost use Rattle.std.specs.Prelude.{◌≡◌, ◌<◌, ◌≤◌, ◌^◌, [], IfSome, MatchResult, Some, codes, is_none, length};
 ghost use Rattle.std.specs.Option.{ForSome, option_map};
 ghost use Rattle.clap.specs.Words.{all_of, first_of};
 ghost use Rattle.ldm_conf.specs.AddressViews.{address_view};
@@ -7,19 +7,22 @@ ghost use Rattle.ldm_conf.specs.Addresses.{port_of};
 ghost use Rattle.ldm_conf.specs.Confs as confs;
 ghost use Rattle.ldm_feedtype.specs.Reading.{feed_number};
 ghost use Rattle.ldm_types.specs.declared.limits.TheConstants.{GREATEST_INSTANT};
+ghost use Rattle.ldm_types.specs.Info.{texts_fault};
+ghost use Rattle.ldm_words.specs.declared.limits.TheConstants.{MOST_HOURS};
 ghost use Rattle.ldm_words.specs.Faults.{IsFaultOf};
-ghost use Rattle.ldm_words.specs.Values.{class_in, class_of, count_of, files_of, is_used, long_number};
-ghost use Rattle.ldm_words.specs.Values.{optional, pattern_of, peer_of, said, short_number, texts_of};
+ghost use Rattle.ldm_words.specs.Values.{IsName, class_in, class_of, count_of, files_of, hours_of, is_used, long_number};
+ghost use Rattle.ldm_words.specs.Values.{optional, origin_of, pattern_of, peer_of, said, short_number, texts_of};
 ghost use Rattle.ldm_words.specs.Views.{rows_in};
 
 use crate::fault::WordsFault;
+use crate::limits::MOST_HOURS;
 use arrayvec::ArrayVec;
 use clap::ArgMatches;
 use ldm_class::Class;
 use ldm_conf::{Address, read_address, read_port};
 use ldm_feedtype::read_feed;
 use ldm_script::read_number;
-use ldm_types::{ClassSpec, Feed, LONGEST_PATTERN, Micros, Spec};
+use ldm_types::{ClassSpec, Feed, Info, LONGEST_PATTERN, Micros, Signature, Spec};
 use std::alloc::Global;
 
 /// The value of an option or a word.
@@ -87,6 +90,44 @@ fn read_count(text: &str) -> Option<u64>
 {
     let count = read_number(text.as_bytes(), u64::MAX)?;
     if count == 0 { None } else { Some(count) }
+}
+
+/// Hours of statistics.
+pub(crate) fn hours(matches: &ArgMatches<'_>) -> Option<u32>
+    ensures value { result ≡ said hours_of (codes "hours") (rows_in matches.now) }
+    ensures some { IfSome result (λ hours. (0 < hours) × (hours ≤ MOST_HOURS)) }
+{
+    let text = value(matches, "hours")?;
+    read_hours(text)
+}
+
+fn read_hours(text: &str) -> Option<u32>
+    ensures value { result ≡ hours_of text.now }
+    ensures some { IfSome result (λ hours. (0 < hours) × (hours ≤ MOST_HOURS)) }
+{
+    let hours = read_number(text.as_bytes(), u64::from(MOST_HOURS))?;
+    if hours == 0 { None } else { Some(hours as u32) }
+}
+
+/// An origin that products may have.
+pub(crate) fn origin<'a>(matches: &ArgMatches<'a>) -> Option<&'a [u8]>
+    ensures value { option_map (λ origin. origin.now) result ≡ said origin_of (codes "origin") (rows_in matches.now) }
+    ensures named { IfSome result (λ origin. IsName origin.now []) }
+{
+    let text = value(matches, "origin")?;
+    if is_name(text.as_bytes(), b"") {
+        Some(text.as_bytes())
+    } else {
+        None
+    }
+}
+
+/// Whether a product may have this origin and this ident.
+pub(crate) fn is_name(origin: &[u8], ident: &[u8]) -> bool
+    ensures { result ≡ is_none (texts_fault origin.now ident.now) }
+{
+    let signature = Signature([0; 16]);
+    Info::new(instant(0), signature, origin, Feed::default(), 0, ident, 0).is_ok()
 }
 
 /// A port.

@@ -2,10 +2,11 @@ ghost use Rattle.std.specs.Prelude.{◌≡◌, ◌<◌, ◌≤◌, length};
 ghost use Rattle.std.specs.Vec.{vec_len};
 ghost use Rattle.ldm_outside.specs.declared.gate.Go.{Go};
 
-use ldm_crowd::{Crowd, CrowdEnd, MOST_SCRIPT, Orders, crowd};
+use ldm_crowd::{Crowd, CrowdEnd, Orders, play_crowd};
 use ldm_model::Stat;
 use ldm_outside::{Gate, Go, MemGate, OpenGate};
 use ldm_shared::Shared;
+use ldm_status::LONGEST_SCRIPT;
 use ldm_types::Actor;
 use std::alloc::Global;
 use std::process::Abort;
@@ -110,12 +111,12 @@ fn played<H: Threads + Wait + Sync, G: Gate + Send + Drop>(
     requires actors { actors ≤ 64 }
     requires gates { vec_len gates ≡ actors }
 {
-    if text.len() > MOST_SCRIPT as usize {
+    if text.len() > LONGEST_SCRIPT as usize {
         return Err("a script".into());
     }
     let orders = Orders::read(alloc, text, actors)?;
     let (shared, passes) = Shared::create(alloc, 168, 10, actors)?;
-    Ok(crowd(rt, alloc, &orders, shared, passes, gates))
+    Ok(play_crowd(rt, alloc, &orders, shared, passes, gates))
 }
 
 #[test]
