@@ -5,7 +5,7 @@ here=$(readlink -f "$0") || exit 1
 root=${here%/bin/*}
 name=${0##*/}
 case $name in
-pqinsert | pqcat | pqmon | pqact | notifyme) set -- "$name" "$@" ;;
+pqinsert | wmo | pqcat | pqstats | pqmon | pqact | notifyme) set -- "$name" "$@" ;;
 ldmd) set -- node "$@" ;;
 esac
 . "$root/lib/ldm/help.sh"
