@@ -999,7 +999,7 @@ def asks_for_figures(place):
     denying = place.node("ACCEPT ANY .* .*\nALLOW ANY ^10\\.\n")
     expect(place.run("pqmon", "-q", denying.at), (78, b"", b"ldm: denied\n"), "pqmon at a node that denies")
     nowhere = f"{HOST}:{free_port()}"
-    for words in (["pqmon"], ["pqcat"], ["notifyme"], ["pqinsert", place.file("a", "a")]):
+    for words in (["pqmon"], ["pqcat"], ["notifyme"], ["pqstats"], ["wmo"], ["pqinsert", place.file("a", "a")]):
         ran = place.run(words[0], "-q", nowhere, *words[1:])
         expect(ran, (69, b"", b"ldm: net fault\n"), f"{words[0]} where nobody listens")
 
@@ -1015,11 +1015,11 @@ def hears_wrong_replies(place):
         (reply(1, number(0) + bytes(36)), 0, "that is short"),
         (number(2**32 - 1), 0, "that is too long"),
     ]
-    place.file("a", "a")
+    source = place.file("a", bulletin("001", "SAUS44 KWBC 010000", "TEXT"))
     for answer, at, what in answers:
-        for words in (["pqmon"], ["pqinsert", "a"]):
+        for words in (["pqmon"], ["pqinsert", "a"], ["wmo"]):
             with Upstream() as upstream:
-                program = place.start(words[0], "-q", f"{HOST}:{upstream.port}", *words[1:])
+                program = place.start(words[0], "-q", f"{HOST}:{upstream.port}", *words[1:], source=source)
                 with Peer(upstream.listener.accept()[0]) as peer:
                     expect(peer.next_record() is None, False, "whether a call came")
                     peer.send(answer)
@@ -1089,18 +1089,24 @@ def tells_what_cannot_be_written(place):
     node = place.node(OPEN, *MANY)
     node.put_all([P])
     place.file("a", "a")
+    source = place.file("bulletin", bulletin("001", "SAUS44 KWBC 010000", "TEXT"))
+    place.file("bad", b"\x01\x03")
     place.file("none.conf", "")
     sink = [
         ["pqmon", "-q", node.at],
         ["pqcat", "-q", node.at],
         ["notifyme", "-q", node.at],
+        ["pqstats", "-c", 1, "-q", node.at],
         ["pqinsert", "-q", node.at, "a"],
+        ["wmo", "-q", node.at],
         ["node", "-p", free_port(), "-n", 0, "none.conf"],
     ]
     for words in sink:
-        expect(place.run(*words, output=FULL), (75, b"", b"ldm: sink fault\n"), f"{words[0]} whose output is full")
+        expect(place.run(*words, source=source, output=FULL), (75, b"", b"ldm: sink fault\n"), f"{words[0]} whose output is full")
+    expect(place.run("wmo", "-q", node.at, source="bad", log=FULL), (76, b"", b""), "wmo whose log is full at a bad bulletin")
     nowhere = f"{HOST}:{free_port()}"
-    for words in (["pqmon", "-q", nowhere], ["node"], ["node", "missing"], ["pqact", "missing", nowhere]):
+    tools = [[tool, "-q", nowhere] for tool in ("pqmon", "pqstats", "wmo")]
+    for words in (*tools, ["node"], ["node", "missing"], ["pqact", "missing", nowhere]):
         expect(place.run(*words, log=FULL), (76, b"", b""), f"{words} whose log is full")
     # a node whose workers cannot log ends
     port = free_port()
@@ -1108,6 +1114,20 @@ def tells_what_cannot_be_written(place):
     until(lambda: listens(port), "the node listens")
     connect(port).connection.close()
     expect(place.end(program), (76, Stat(0, 0, 0, 0, ARENA).line().encode(), b""), "a node whose log is full")
+
+
+def expect_instants(products, instants, before, after):
+    """Each product arrived, and was then inserted at its instant, while a program ran."""
+    for product, instant in zip(products, instants):
+        if not before <= product.arrival <= instant <= after + len(products):
+            raise Wrong(f"an arrival at {product.arrival}, an insertion at {instant}, between {before} and {after}")
+
+
+def answers_to_puts(lines):
+    """The answers of a queue without the instants of insertion, and these instants."""
+    told = [line.split() for line in lines]
+    instants = [int(words.pop(2)) for words in told if words[0] == "admitted"]
+    return [" ".join(words) for words in told], instants
 
 
 def puts_files_in(place):
@@ -1124,14 +1144,11 @@ def puts_files_in(place):
             before = time.time_ns() // 1_000
             ran = place.run("pqinsert", "-q", node.at, *words)
             after = time.time_ns() // 1_000
-            told = [line.split() for line in ran.output.decode().splitlines()]
-            instants = [int(words.pop(2)) for words in told if words[0] == "admitted"]
-            expect((ran.status, ran.log.decode(), [" ".join(words) for words in told]), (status, log, answers), f"pqinsert {words}")
+            told, instants = answers_to_puts(ran.output.decode().splitlines())
+            expect((ran.status, ran.log.decode(), told), (status, log, answers), f"pqinsert {words}")
             found = subscriber.products(len(products))
             expect_products(found, products, f"what came of pqinsert {words}")
-            for product, instant in zip(found, instants):
-                if not before <= product.arrival <= instant <= after + len(products):
-                    raise Wrong(f"an arrival at {product.arrival}, an insertion at {instant}, between {before} and {after}")
+            expect_instants(found, instants, before, after)
 
         one = Product(b"one", bodies["one"], EXP, origin=b"localhost")
         two = Product(b"dir/two", bodies["dir/two"], EXP, 1, b"localhost")
@@ -1155,6 +1172,100 @@ def puts_files_in(place):
     expect(choosy.stat()[:2], (1, 1), "the first figures behind it")
     closed = place.node("ALLOW ANY .*\n")
     expect(place.run("pqinsert", "-q", closed.at, "one"), (78, b"", b"ldm: denied\n"), "pqinsert where no ACCEPT line is")
+
+
+def bulletin(digits, heading, text, blanks=""):
+    """The bytes of a bulletin, as docs/wmo.md has them."""
+    return f"\x01\r\r\n{digits}{blanks}\r\r\n{heading}{blanks}\r\r\n{text}\r\r\n\x03".encode("latin-1")
+
+
+def product_of(whole, heading, seqno, feed=IDS, origin=b"localhost"):
+    """The product that is made of a bulletin."""
+    signed = hashlib.md5(whole[whole.index(heading.encode()) :]).digest()
+    return Product(heading.encode(), whole, feed, seqno, origin, signed=signed)
+
+
+def puts_bulletins_in(place):
+    """`wmo` puts the bulletins of a stream in, in order, writes the answers of the queue, and logs the place of what is no bulletin."""
+    headings = ["SAUS44 KWBC 010000", "FTUS80 KWBC 010000 AAA", "SAXX99 EGRR 312359"]
+    first = bulletin("001", headings[0], "METAR KDCA 010000Z")
+    second = bulletin("99999", headings[1], bytes(b for b in range(256) if b not in (1, 3)).decode("latin-1"), " \t")
+    again = bulletin("7", headings[0], "METAR KDCA 010000Z")
+    largest = bulletin("0", headings[2], "x" * (1_048_576 - len(bulletin("0", headings[2], ""))))
+    noise = b"\r\nnoise\x03 NNNN"
+    bad = bulletin("12", "saus44 KWBC 010000", "TEXT")
+    long = largest[:-4] + b"x" + largest[-4:]
+    one, two = product_of(first, headings[0], 1), product_of(second, headings[1], 99_999)
+    node = place.node(OPEN, *MANY)
+    with node.connect() as subscriber:
+        expect(subscriber.subscribe([(ANY, b".*")], max_hereis=2**32 - 1), number(OK), "the answer to a FEEDME")
+
+        def put(status, log, answers, products, stream, *words):
+            place.file("stream", stream)
+            before = time.time_ns() // 1_000
+            ran = place.run("wmo", "-q", node.at, *words, source="stream")
+            after = time.time_ns() // 1_000
+            told, instants = answers_to_puts(ran.output.decode().splitlines())
+            expect((ran.status, ran.log.decode(), told), (status, log, answers), f"wmo {words} of {stream[:40]!r}")
+            found = subscriber.products(len(products))
+            expect_products(found, products, f"what came of wmo {words}")
+            expect_instants(found, instants, before, after)
+
+        put(0, "", [], [], b"")
+        put(0, "", [], [], noise)
+        places = len(noise + first), len(noise + first + bad + second + noise)
+        log = f"bad bulletin at {places[0]}\ncut bulletin at {places[1]}\n"
+        put(65, log, ["admitted 0 0", "admitted 1 0"], [one, two], noise + first + bad + second + noise + second[:-1])
+        put(79, "ldm: refused\n", ["duplicate 0", "duplicate 1"], [], again + second)
+        third = product_of(largest, headings[2], 0)
+        put(79, "ldm: refused\n", ["duplicate 0", "admitted 2 0"], [third], first + largest)
+        # what is met first has the status
+        put(79, f"bad bulletin at {len(first)}\nldm: refused\n", ["duplicate 0"], [], first + bad)
+        put(65, "bad bulletin at 0\n", ["duplicate 0"], [], bad + first)
+        # one that is too long ends with its last byte that has room, and all goes on behind that
+        put(65, "bad bulletin at 0\n", ["duplicate 1"], [], long + second)
+        put(65, "bad bulletin at 0\ncut bulletin at 1\n", [], [], b"\x01\x01")
+        other = bulletin("3", "SAXX99 EGRR 010101", "other")
+        site = product_of(other, "SAXX99 EGRR 010101", 3, DDS | HDS, b"a site")
+        put(0, "", ["admitted 3 0"], [site], other, "-f", "DDS|HDS", "-o", "a site")
+    ran = place.run("pqcat", "-q", node.at, "-c", 3)
+    expect((ran.status, ran.log, ran.output == first + second + largest), (0, b"", True), "pqcat of bulletins")
+    ran = place.run("wmo", "-q", node.at, source=".")
+    expect(ran, (74, b"", b"ldm: source fault\n"), "wmo that reads a folder")
+
+
+def puts_bulletins_in_as_they_come(place):
+    """`wmo` sends a bulletin once it is whole, before its stream is at its end; and no more where the node does not let it."""
+    headings = ["SAUS44 KWBC 010000", "SAUS44 KWBC 010100"]
+    bulletins = [bulletin(f"{i}", heading, f"TEXT {i}") for i, heading in enumerate(headings)]
+    node = place.node(OPEN, *MANY)
+    os.mkfifo(place.folder / "pipe")
+    pipe = os.open(place.folder / "pipe", os.O_RDWR)
+    program = place.start("wmo", "-q", node.at, source="pipe")
+    with node.connect() as subscriber:
+        expect(subscriber.subscribe([(ANY, b".*")]), number(OK), "the answer to a FEEDME")
+        os.write(pipe, bulletins[0][:-1])
+        os.write(pipe, bulletins[0][-1:] + bulletins[1][:9])
+        expect_products([subscriber.next_product()], [product_of(bulletins[0], headings[0], 0)], "the first bulletin, as it came")
+        os.write(pipe, bulletins[1][9:])
+        expect_products([subscriber.next_product()], [product_of(bulletins[1], headings[1], 1)], "the second bulletin, as it came")
+        os.close(pipe)
+    ran = place.end(program)
+    told, _ = answers_to_puts(ran.output.decode().splitlines())
+    expect((ran.status, ran.log, told), (0, b"", ["admitted 0 0", "admitted 1 0"]), "wmo of a pipe")
+    place.file("stream", b"\x01\x03" + bulletins[0] + bulletins[1] + bulletins[0])
+    closed = place.node("ALLOW ANY .*\n")
+    ran = place.run("wmo", "-q", closed.at, source="stream")
+    expect(ran, (78, b"", b"bad bulletin at 0\nldm: denied\n"), "wmo where no ACCEPT line is")
+    choosy = place.node("ALLOW ANY .*\nACCEPT IDS 0000$ .*\n")
+    ran = place.run("wmo", "-q", choosy.at, source="stream")
+    told, _ = answers_to_puts(ran.output.decode().splitlines())
+    expect((ran.status, ran.log, told), (78, b"bad bulletin at 0\nldm: denied\n", ["admitted 0 0"]), "wmo that is denied")
+    expect(choosy.stat()[:2], (1, 1), "the first figures behind it")
+    small = place.node(OPEN, "-a", 64)
+    need = product_of(bulletins[0], headings[0], 0).extent()
+    ran = place.run("wmo", "-q", small.at, source=place.file("one", bulletins[0]))
+    expect(ran, (79, f"toobig {need} 64\n".encode(), b"ldm: refused\n"), "wmo to a small queue")
 
 
 def writes_bodies(place):
@@ -1214,6 +1325,151 @@ def writes_notices(place):
     last = f"notice 100 {hashlib.md5(b'-').hexdigest()} 0x00000008 0 h %2D 1\n".encode()
     expect(place.run("notifyme", "-q", node.at, "-f", "IDS|HDS", "-p", "-", "-c", 1), (0, last, b""), "notifyme -p")
     expect(place.run("notifyme", "-q", node.at, "-f", "HDS"), (78, b"", b"ldm: denied\n"), "notifyme of what nobody may have")
+
+
+class Counted(collections.namedtuple("Counted", "status log lines latencies answers output")):
+    """What `pqstats` came to: the lines of its report without the latencies, these, and the answers behind it."""
+
+
+def counted(ran):
+    lines = ran.output.decode().splitlines()
+    report = [line.split() for line in lines if line[:1].isdigit()]
+    latencies = [int(words.pop()) for words in report]
+    answers, _ = answers_to_puts(lines[len(report) :])
+    return Counted(ran.status, ran.log.decode(), [" ".join(words) for words in report], latencies, answers, ran.output)
+
+
+HOUR = 3_600_000_000
+
+# The first hour of 2024-03-01, and of 2100.
+MARCH = 1_709_251_200_000_000
+FUTURE = 4_102_444_800_000_000
+
+
+def counts_products(place):
+    """`pqstats` writes how many products there were, how many bytes, and how long they took, by hour, feed and origin."""
+    node = place.node("ALLOW IDS|DDS|EXP .*\nACCEPT ANY .* .*\n", *MANY)
+    products = [
+        Product(b"a", b"1" * 4, IDS, 0, b"h", MARCH),
+        Product(b"b", b"2" * 12, IDS, 1, b"h", MARCH + HOUR - 1),
+        Product(b"c", b"3" * 5, DDS, 2, b"h", MARCH + 30),
+        Product(b"d", b"4" * 7, IDS, 3, b"a b", MARCH + 50),
+        Product(b"e", b"", IDS, 4, b"h", MARCH + HOUR),
+        Product(b"f", b"6", HDS, 5, b"h", MARCH),
+    ]
+    node.put_all(products)
+    dds, site, ids = "2024030100 0x00000002 h 1 5", "2024030100 0x00000008 a%20b 1 7", "2024030100 0x00000008 h 2 16"
+    last = "2024030101 0x00000008 h 1 0"
+    # the arrival from which each line counts its latency
+    since = {dds: MARCH + 30, site: MARCH + 50, ids: MARCH, last: MARCH + HOUR, "2024030100 0x00000008 h 1 4": MARCH}
+    cases = [
+        (["-c", 5], [dds, site, ids, last]),
+        (["-c", 5, "-w", 2], [dds, site, ids, last]),
+        (["-c", 5, "-w", 1], [last]),
+        (["-c", 5, "-w", 8_760], [dds, site, ids, last]),
+        (["-c", 4, "-w", 1], [dds, site, ids]),
+        (["-c", 1], ["2024030100 0x00000008 h 1 4"]),
+        (["-c", 1, "-f", "DDS"], [dds]),
+        (["-c", 2, "-p", "^[ab]$", "-f", "ids|hds"], [ids]),
+    ]
+    for words, lines in cases:
+        before = time.time_ns() // 1_000
+        found = counted(place.run("pqstats", "-q", node.at, *words))
+        after = time.time_ns() // 1_000 + len(products)
+        expect(found[:3], (0, "", lines), f"pqstats {words}")
+        for line, latency in zip(lines, found.latencies):
+            if not before <= since[line] + latency <= after:
+                raise Wrong(f"a latency of {latency}, for {line!r}, between {before} and {after}")
+    expect(place.run("pqstats", "-q", node.at, "-f", "HDS"), (78, b"", b"ldm: denied\n"), "pqstats of what nobody may have")
+
+
+def sends_its_counts(place):
+    """`pqstats -s` puts the lines of each hour into the queue of the node, by a connection of its own, behind the report."""
+    node = place.node(OPEN, *MANY)
+    products = [
+        Product(b"a", b"1" * 4, IDS, 0, b"h", MARCH + HOUR),
+        Product(b"b", b"2" * 12, IDS, 1, b"h", MARCH),
+        Product(b"c", b"3" * 5, DDS, 2, b"h", MARCH),
+        Product(b"f", b"6", HDS, 3, b"h", FUTURE),
+    ]
+    node.put_all(products)
+    before = time.time_ns() // 1_000
+    found = counted(place.run("pqstats", "-q", node.at, "-f", "IDS|DDS", "-c", 3, "-s"))
+    after = time.time_ns() // 1_000
+    lines = ["2024030100 0x00000002 h 1 5", "2024030100 0x00000008 h 1 12", "2024030101 0x00000008 h 1 4"]
+    expect(found[:3], (0, "", lines), "pqstats -s")
+    expect(found.answers, ["admitted 4 0", "admitted 5 0"], "the answers to pqstats -s")
+    report = found.output.splitlines(keepends=True)[:3]
+    sent = [
+        Product(b"stats/2024030100", report[0] + report[1], EXP, 0, b"localhost"),
+        Product(b"stats/2024030101", report[2], EXP, 1, b"localhost"),
+    ]
+    with node.connect() as subscriber:
+        expect(subscriber.subscribe([(EXP, b"^stats/")]), number(OK), "the answer to a FEEDME")
+        came = subscriber.products(2)
+        expect_products(came, sent, "what pqstats -s sent")
+        expect_instants(came, [after] * 2, before, after)
+    expect(place.run("pqcat", "-q", node.at, "-f", "EXP", "-c", 2), (0, b"".join(report), b""), "pqcat of what pqstats -s sent")
+    # who arrives later than it is inserted took no time, so the lines are the same once more
+    line = b"2100010100 0x00000004 h 1 1 0\n"
+    for status, log, answer in ((0, "", "admitted 6 0"), (79, "ldm: refused\n", "duplicate 6")):
+        found = counted(place.run("pqstats", "-q", node.at, "-f", "HDS", "-c", 1, "-s"))
+        expect((found.status, found.log, found.answers), (status, log, [answer]), "pqstats -s of the same lines")
+        expect(found.output.splitlines(keepends=True)[0], line, "the report of what arrives later")
+    closed = place.node("ALLOW ANY .*\nACCEPT IDS .* .*\n", *MANY)
+    closed.put_all(products[:1])
+    found = counted(place.run("pqstats", "-q", closed.at, "-c", 1, "-s"))
+    expect((found[:3], found.answers), ((78, "ldm: denied\n", lines[2:]), []), "pqstats -s where no ACCEPT line lets it")
+    # nobody listens any more when it connects again
+    with Upstream() as upstream:
+        program = place.start("pqstats", "-s", "-q", f"{HOST}:{upstream.port}")
+        with upstream.asked(product_class([(ANY, b".*")]) + number(BLOCK)) as peer:
+            upstream.listener.close()
+            peer.feed_whole(products[0]._replace(seqno=7))
+            peer.say_no_more()
+            found = counted(place.end(program))
+    expect(found[:3], (69, "ldm: net fault\n", lines[2:]), "pqstats -s that cannot connect again")
+
+
+def counts_nothing(place):
+    """`pqstats` of a node that has nothing, up to the end of the stream, writes nothing; with `-s` it does not connect again."""
+    node = place.node(OPEN, "-x", 0, "-n", 1, "-w", 2)
+    for words in ([], ["-s"]):
+        expect(place.run("pqstats", "-q", node.at, *words), (0, b"", b""), f"pqstats {words} where nothing is")
+    empty = Stat(0, 0, 0, 0, ARENA).line().encode()
+    expect(node.ended(), (0, empty, b"session 127.0.0.1 stopped\n" * 2), "the node that it asked")
+
+
+def counts_what_came(place):
+    """`pqstats` writes a report where the stream ends as it may, and else none."""
+    hereis = call(1, HEREIS, P.whole())
+    other = Product(b"other", b"more", DDS)
+    answer = reply(1, number(OK))
+    # 70,000,000 bytes are announced
+    huge = call(1, COMINGSOON, P.metadata()[:-4] + number(70_000_000) + number(BLOCK))
+    need = -(-(len(P.metadata()) + 70_000_000) // 8) * 8
+    line = "1970010100 0x00000002 h"
+    cases = [
+        (answer, 0, [], ""),
+        (answer + hereis, 0, [f"{line} 1 4"], ""),
+        (answer + hereis + hereis + call(2, HEREIS, other.whole()), 0, [f"{line} 2 8"], "refused p duplicate 0\n"),
+        (answer + huge + call(2, HEREIS, other.whole()), 0, [f"{line} 1 4"], f"refused p toobig {need} 67108864\n"),
+        (answer + hereis[:50], 65, [], "ldm: bad frame at 82\n"),
+        (answer + hereis + call(2, QSTAT), 65, [], "ldm: bad frame at 132\n"),
+        (answer + hereis + number(2**32 - 1), 65, [], "ldm: bad frame at 132\n"),
+        (reply(1, number(DENIED)), 78, [], "ldm: denied\n"),
+        (b"", 65, [], "ldm: bad frame at 0\n"),
+    ]
+    for stream, status, lines, log in cases:
+        with Upstream() as upstream:
+            program = place.start("pqstats", "-q", f"{HOST}:{upstream.port}")
+            with Peer(upstream.listener.accept()[0]) as peer:
+                asked = product_class([(ANY, b".*")]) + number(BLOCK)
+                expect(peer.next_record(), call(1, FEEDME, asked)[4:], "what is asked for")
+                peer.send(stream)
+                peer.say_no_more()
+                found = counted(place.end(program))
+        expect((found[:3], found.answers), ((status, log, lines), []), f"pqstats over {stream.hex()[:400]}")
 
 
 ACTIONS = """# what is done with the products
@@ -1436,9 +1692,8 @@ def does_not_begin(place):
     ]
     for words, status, log in cases:
         ran = place.run("node", *words)
-        # where the node was begun its figures are written
-        output = Stat(0, 0, 0, 0, ARENA).line().encode() if status == 69 else b""
-        expect(ran, (status, output, f"ldm: {log}\n".encode()), f"node {words}")
+        # no node was begun, so no figures are written
+        expect(ran, (status, b"", f"ldm: {log}\n".encode()), f"node {words}")
     usage = [
         ["node"],
         ["node", "good", "good"],
@@ -1465,6 +1720,19 @@ def does_not_begin(place):
         ["pqcat", "x"],
         ["notifyme", "-c", 0],
         ["notifyme", "x"],
+        ["pqstats", "-w", 0],
+        ["pqstats", "-w", 8_761],
+        ["pqstats", "-w", "024"],
+        ["pqstats", "-c", 0],
+        ["pqstats", "-s", "-s"],
+        ["pqstats", "-p", "("],
+        ["pqstats", "-o", "h"],
+        ["pqstats", "x"],
+        ["wmo", "-f", "FOO"],
+        ["wmo", "-o", "h" * 65],
+        ["wmo", "-p", "ident"],
+        ["wmo", "-q", HOST],
+        ["wmo", "x"],
         ["pqinsert"],
         ["pqinsert", "-i"],
         ["pqinsert", "-i", "-i", "good"],
@@ -1569,9 +1837,15 @@ CASES = [
     hears_wrong_streams,
     tells_what_cannot_be_written,
     puts_files_in,
+    puts_bulletins_in,
+    puts_bulletins_in_as_they_come,
     writes_bodies,
     writes_some_bodies,
     writes_notices,
+    counts_products,
+    sends_its_counts,
+    counts_nothing,
+    counts_what_came,
     acts_on_products,
     acts_on_many_files,
     acts_no_more,
