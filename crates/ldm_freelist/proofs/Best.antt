@@ -1,15 +1,16 @@
 -- The first pair of a rising list that a bound does not pass is the least that is long enough.
-use Rattle.std.proofs.Common.{◌≡◌, ℕ, ◌<◌, ◌≤◌, Bool, true, false, cond, ◌||◌, List, [], ◌∷◌, ◌++◌, length, Option, Some, None, refl, sym, ap, ◌∙◌, arith}
+use Rattle.std.proofs.Common.{◌≡◌, ℕ, ◌<◌, ◌≤◌, Bool, true, false, cond, ltb, ◌||◌, List, [], ◌∷◌, ◌++◌, length, Option, Some, None, refl, sym, ap, ◌∙◌, arith}
 use Rattle.std.specs.FinSet as set
 use Rattle.std.specs.List.{AllByRecursion}
 use Rattle.std.specs.List.Sorted.{IsStrictlySortedBy}
 use Rattle.std.specs.Ordering.{eq_by_cmp, is_lt, is_eq}
 use Rattle.std.specs.declared.cmp.Ordering.TheVariants.{Less, Equal, Greater}
 use Rattle.std.proofs.lemmas.Cmp.{tied_itself}
-use Rattle.std.proofs.lemmas.Bool.{both_ways, or_right}
+use Rattle.std.proofs.lemmas.Bool.{both_ways, ltb-true, ltb-false, or_right}
 use Rattle.std.proofs.lemmas.Bool.Decides.{nat_tests}
 use Rattle.std.proofs.lemmas.Map.Keys.{sorted_head, sorted_tail}
-use Rattle.ldm_freelist.specs.Pairs.{pair_cmp, first_from_bound, IsBest, IsGreatest, IsLongEnough}
+use Rattle.ldm_freelist.specs.Pairs.{pair_cmp, first_from_bound, IsBest, IsGreatest, IsLastTo, IsLongEnough, IsShortEnough}
+use Rattle.ldm_freelist.specs.Tree.{found_or, last_to_bound}
 use Rattle.ldm_freelist.proofs.Sorted.{pairs_total, exact_pair, turned}
 
 -- what precedes (need, 0) is too short, and nothing else is
@@ -83,3 +84,39 @@ last_greatest (y ∷ ys) last up =
 pub none_greatest : (pairs : List (ℕ × ℕ)) → length pairs ≡ 0 → IsGreatest (set.from_list pairs) None
 none_greatest [] h = λ p. set.contains-empty pair_cmp p
 none_greatest (y ∷ ys) h = absurd (omega (arith, h))
+
+-- the last short enough one among rising pairs
+last_more : (most : ℕ) (y : ℕ × ℕ) (ys : List (ℕ × ℕ)) (found : Option (ℕ × ℕ)) → y.0 ≤ most → AllByRecursion (λ z. pair_cmp y z ≡ Less) ys →
+    IsLastTo most (set.from_list ys) found → IsLastTo most (set.from_list (y ∷ ys)) (found_or found (Some y))
+last_more most y ys None low above none = (
+  (there_first y ys, low),
+  λ p short less. split y ys p ⊥ short.0 (λ is. both_ways (is_lt (pair_cmp y p)) (ap (λ q. is_lt (pair_cmp y q)) is ∙ ap is_lt (tied_itself pairs_total y)) (ap is_lt less))
+      (λ there. none p (there, short.1)),
+)
+last_more most y ys (Some found) low above is =
+    let behind = turned found y Less (less_than_others y ys found above is.0.0) in (
+      (still_there y ys found is.0.0, is.0.1),
+      λ p short less. split y ys p ⊥ short.0 (λ same. both_ways (is_lt (pair_cmp found p)) (ap (λ q. is_lt (pair_cmp found q)) same ∙ ap is_lt behind) (ap is_lt less))
+          (λ there. is.1 p (there, short.1) less),
+    )
+
+last_same : (most : ℕ) (s t : set.FinSet pair_cmp) (answer : Option (ℕ × ℕ)) → ((p : ℕ × ℕ) → IsShortEnough most t p → IsShortEnough most s p) →
+    ((p : ℕ × ℕ) → IsShortEnough most s p → IsShortEnough most t p) → IsLastTo most s answer → IsLastTo most t answer
+last_same most s t None there back last = λ p short. last p (there p short)
+last_same most s t (Some p) there back last = (back p last.0, λ q short. last.1 q (there q short))
+
+last_is : (most : ℕ) (y : ℕ × ℕ) (ys : List (ℕ × ℕ)) (b : Bool) → ltb most y.0 ≡ b → IsStrictlySortedBy pair_cmp (y ∷ ys) →
+    IsLastTo most (set.from_list ys) (last_to_bound most ys) → IsLastTo most (set.from_list (y ∷ ys)) (cond b (last_to_bound most ys) (found_or (last_to_bound most ys) (Some y)))
+last_is most y ys true e up rest =
+    let high = ltb-true most y.0 e in
+    last_same most (set.from_list ys) (set.from_list (y ∷ ys)) (last_to_bound most ys)
+    (λ p short. (
+      split y ys p _ short.0 (λ is. absurd (let enough = short.1 in let same = ap (λ (q : ℕ × ℕ). q.0) is in omega (arith, enough, same))) (λ there. there),
+      short.1,
+    ))
+    (λ p short. (still_there y ys p short.0, short.1)) rest
+last_is most y ys false e up rest = last_more most y ys (last_to_bound most ys) (ltb-false most y.0 e) (sorted_head pair_cmp y ys up) rest
+
+pub last_to : (most : ℕ) (pairs : List (ℕ × ℕ)) → IsStrictlySortedBy pair_cmp pairs → IsLastTo most (set.from_list pairs) (last_to_bound most pairs)
+last_to most [] up = λ p short. both_ways _ (set.contains-empty pair_cmp p) short.0
+last_to most (y ∷ ys) up = last_is most y ys (ltb most y.0) refl up (last_to most ys (sorted_tail pair_cmp y ys up))

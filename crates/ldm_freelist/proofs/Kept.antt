@@ -2,14 +2,14 @@
 use Rattle.std.proofs.Common.{◌≡◌, ◌≢◌, ℕ, true, false, ◌+◌, ◌*◌, ◌^◌, ◌<◌, ◌≤◌, Option, Some, None, List, [], ◌∷◌, ◌++◌, length, slice_set, refl, sym, ap, ◌∙◌, subst, arith}
 use Rattle.std.specs.FinSet as set
 use Rattle.std.proofs.lemmas.List.{length-set}
-use Rattle.ldm_freelist.specs.Pairs.{Pairs, IsBest, IsGreatest, first_from_bound}
+use Rattle.ldm_freelist.specs.Pairs.{Pairs, IsBest, IsGreatest, IsLastTo, first_from_bound}
 use Rattle.ldm_freelist.specs.Nodes.{node_at, pair_at, height_at, leaf_node, free_node}
-use Rattle.ldm_freelist.specs.Tree.{Tree, pairs_of, HasPair, IsTree, IsAddable, IsAdded, Adds, IsLow, IsTaken, Takes, Finds, IsLast, found_or}
+use Rattle.ldm_freelist.specs.Tree.{Tree, pairs_of, HasPair, IsTree, IsAddable, IsAdded, Adds, IsLow, IsTaken, Takes, Finds, FindsTo, IsLast, found_or, last_to_bound}
 use Rattle.ldm_freelist.specs.Held.{tree_at, IsHeld}
 use Rattle.ldm_freelist.specs.declared.node_table.Node.{Node}
 use Rattle.ldm_freelist.specs.declared.node_table.TheConstants.{NONE}
 use Rattle.ldm_freelist.proofs.Order.{Rises}
-use Rattle.ldm_freelist.proofs.Best.{first_best, last_greatest, none_greatest}
+use Rattle.ldm_freelist.proofs.Best.{first_best, last_greatest, last_to, none_greatest}
 use Rattle.ldm_freelist.proofs.Bound.{few_steps, enough_steps}
 use Rattle.ldm_freelist.proofs.Lean.{tree_height}
 use Rattle.ldm_freelist.proofs.Spelled.{number_of_node}
@@ -56,6 +56,14 @@ module _ (nodes : List Node) (root free : ℕ) (kept : IsKeptAs nodes root free)
   best need answer finds =
       subst (λ s. IsBest need s answer) members_is
       (subst (IsBest need (set.from_list (pairs_of tree))) (sym (finds tree tree_is ∙ alone (first_from_bound (need, 0) (pairs_of tree)))) (first_best need (pairs_of tree) tree_is.rising)) where
+        alone : (o : Option (ℕ × ℕ)) → found_or o None ≡ o
+        alone None = refl
+        alone (Some p) = refl
+
+  pub last_found : (most : ℕ) (answer : Option (ℕ × ℕ)) → FindsTo nodes root most None answer → IsLastTo most value.members answer
+  last_found most answer finds =
+      subst (λ s. IsLastTo most s answer) members_is
+      (subst (IsLastTo most (set.from_list (pairs_of tree))) (sym (finds tree tree_is ∙ alone (last_to_bound most (pairs_of tree)))) (last_to most (pairs_of tree) tree_is.rising)) where
         alone : (o : Option (ℕ × ℕ)) → found_or o None ≡ o
         alone None = refl
         alone (Some p) = refl

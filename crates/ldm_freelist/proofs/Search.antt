@@ -1,14 +1,16 @@
 -- The first pair of a tree that does not precede a bound, and the last pair of a tree.
-use Rattle.std.proofs.Common.{◌≡◌, ◌≢◌, ℕ, Bool, true, false, inl, inr, ◌+◌, ◌<◌, ◌≤◌, List, [], ◌∷◌, ◌++◌, length, Option, Some, refl, sym, ap, ◌∙◌, subst, append_assoc, cond, arith}
+use Rattle.std.proofs.Common.{◌≡◌, ◌≢◌, ℕ, Bool, true, false, inl, inr, ◌+◌, ◌<◌, ◌≤◌, List, [], ◌∷◌, ◌++◌, length, Option, Some, None, refl, sym, ap, ◌∙◌, subst, append_assoc, cond, ltb, arith}
 use Rattle.std.specs.List.{AllByRecursion}
 use Rattle.std.specs.Ordering.{is_lt}
 use Rattle.std.specs.declared.cmp.Ordering.{Ordering}
 use Rattle.std.specs.declared.cmp.Ordering.TheVariants.{Less, Equal, Greater}
+use Rattle.std.proofs.lemmas.Bool.{lt-ltb, le-ltb}
+use Rattle.std.proofs.lemmas.Bool.Decides.{nat_tests}
 use Rattle.ldm_freelist.specs.Pairs.{pair_cmp, first_from_bound}
 use Rattle.ldm_freelist.specs.Nodes.{node_at, pair_at, height_at}
 use Rattle.ldm_freelist.specs.declared.node_table.Node.{Node}
 use Rattle.ldm_freelist.specs.declared.node_table.TheConstants.{NONE}
-use Rattle.ldm_freelist.specs.Tree.{Tree, Fork, pairs_of, Has, IsTree, Finds, IsLast, found_or}
+use Rattle.ldm_freelist.specs.Tree.{Tree, Fork, pairs_of, Has, IsTree, Finds, FindsTo, IsLast, found_or, last_to_bound}
 use Rattle.ldm_freelist.proofs.Sorted.{pairs_total}
 use Rattle.ldm_freelist.proofs.Order.{IsCut, cut}
 use Rattle.ldm_freelist.proofs.Spelled.{height_at-NONE}
@@ -34,6 +36,40 @@ stop_above bound (x ∷ xs) y ys other high =
     elim (is_lt (pair_cmp x bound)) as (λ b. found_or (cond b (first_from_bound bound (xs ++ y ∷ ys)) (Some x)) other ≡ found_or (cond b (first_from_bound bound xs) (Some x)) (Some y)) [
       | true ↦ stop_above bound xs y ys other high
       | false ↦ refl
+    ]
+
+-- of two pairs in order the first has no greater extent
+less_first : (p q : ℕ × ℕ) → pair_cmp p q ≡ Less → p.0 ≤ q.0
+less_first p q h = grind (arith, nat_tests, h)
+
+-- where a pair is above a bound, all behind it are
+none_above : (most : ℕ) (y : ℕ × ℕ) (ys : List (ℕ × ℕ)) → most < y.0 → AllByRecursion (λ z. pair_cmp y z ≡ Less) ys → last_to_bound most ys ≡ None
+none_above most y [] high above = refl
+none_above most y (z ∷ zs) high above =
+    let le = less_first y z above.0 in
+    ap (λ b. cond b (last_to_bound most zs) (found_or (last_to_bound most zs) (Some z))) (lt-ltb most z.0 (omega arith)) ∙ none_above most y zs high above.1
+
+skip_above : (most : ℕ) (xs : List (ℕ × ℕ)) (y : ℕ × ℕ) (ys : List (ℕ × ℕ)) → most < y.0 → AllByRecursion (λ z. pair_cmp y z ≡ Less) ys →
+    last_to_bound most (xs ++ y ∷ ys) ≡ last_to_bound most xs
+skip_above most [] y ys high above =
+    ap (λ b. cond b (last_to_bound most ys) (found_or (last_to_bound most ys) (Some y))) (lt-ltb most y.0 high) ∙ none_above most y ys high above
+skip_above most (x ∷ xs) y ys high above =
+    ap (λ o. cond (ltb most x.0) o (found_or o (Some x))) (skip_above most xs y ys high above)
+
+some_stays : (o : Option (ℕ × ℕ)) (y : ℕ × ℕ) (other : Option (ℕ × ℕ)) → found_or (found_or o (Some y)) other ≡ found_or o (Some y)
+some_stays None y other = refl
+some_stays (Some p) y other = refl
+
+-- a pair that is not above the bound is the answer, unless there is one behind it
+stop_below : (most : ℕ) (xs : List (ℕ × ℕ)) (y : ℕ × ℕ) (ys : List (ℕ × ℕ)) (other : Option (ℕ × ℕ)) → y.0 ≤ most →
+    found_or (last_to_bound most (xs ++ y ∷ ys)) other ≡ found_or (last_to_bound most ys) (Some y)
+stop_below most [] y ys other low =
+    ap (λ b. found_or (cond b (last_to_bound most ys) (found_or (last_to_bound most ys) (Some y))) other) (le-ltb most y.0 low)
+    ∙ some_stays (last_to_bound most ys) y other
+stop_below most (x ∷ xs) y ys other low =
+    elim (ltb most x.0) as (λ b. found_or (cond b (last_to_bound most (xs ++ y ∷ ys)) (found_or (last_to_bound most (xs ++ y ∷ ys)) (Some x))) other ≡ found_or (last_to_bound most ys) (Some y)) [
+      | true ↦ stop_below most xs y ys other low
+      | false ↦ ap (λ o. found_or o other) (stop_below most xs y ys (Some x) low) ∙ some_stays (last_to_bound most ys) y other
     ]
 
 module _ (nodes : List Node) (root : ℕ) (t : Tree) (is : IsTree nodes root t) (named : root ≢ NONE) where
@@ -100,6 +136,20 @@ module _ (nodes : List Node) (root : ℕ) (t : Tree) (is : IsTree nodes root t) 
       ∙ sym (stop_above bound (pairs_of l) k (pairs_of r) other high)
       ∙ ap (λ s. found_or (first_from_bound bound (pairs_of s)) other) (sym t_is)
 
+  pub found_above : (most : ℕ) (other answer : Option (ℕ × ℕ)) (left : ℕ) → left ≡ (node_at nodes root).left → most < k.0 →
+      FindsTo nodes left most other answer → answer ≡ found_or (last_to_bound most (pairs_of t)) other
+  found_above most other answer left e high finds =
+      finds l (left_is left e)
+      ∙ ap (λ o. found_or o other) (sym (skip_above most (pairs_of l) k (pairs_of r) high around.above))
+      ∙ ap (λ s. found_or (last_to_bound most (pairs_of s)) other) (sym t_is)
+
+  pub found_below : (most : ℕ) (other answer : Option (ℕ × ℕ)) (right : ℕ) → right ≡ (node_at nodes root).right → k.0 ≤ most →
+      FindsTo nodes right most (Some k) answer → answer ≡ found_or (last_to_bound most (pairs_of t)) other
+  found_below most other answer right e low finds =
+      finds r (right_is right e)
+      ∙ sym (stop_below most (pairs_of l) k (pairs_of r) other low)
+      ∙ ap (λ s. found_or (last_to_bound most (pairs_of s)) other) (sym t_is)
+
   pub last_top : (right : ℕ) → right ≡ (node_at nodes root).right → right ≡ NONE → Has root t × ((front : List (ℕ × ℕ)) × (pairs_of t ≡ front ++ k ∷ []))
   last_top right e none =
       subst (λ s. Has root s × ((front : List (ℕ × ℕ)) × (pairs_of s ≡ front ++ k ∷ []))) (sym t_is)
@@ -113,6 +163,9 @@ module _ (nodes : List Node) (root : ℕ) (t : Tree) (is : IsTree nodes root t) 
 
 pub found_none : (nodes : List Node) (root : ℕ) (t : Tree) (bound : ℕ × ℕ) (other : Option (ℕ × ℕ)) → IsTree nodes root t → root ≡ NONE → other ≡ found_or (first_from_bound bound (pairs_of t)) other
 found_none nodes root t bound other is none = ap (λ s. found_or (first_from_bound bound (pairs_of s)) other) (sym (empty_at nodes root t is none))
+
+pub found_none_to : (nodes : List Node) (root : ℕ) (t : Tree) (most : ℕ) (other : Option (ℕ × ℕ)) → IsTree nodes root t → root ≡ NONE → other ≡ found_or (last_to_bound most (pairs_of t)) other
+found_none_to nodes root t most other is none = ap (λ s. found_or (last_to_bound most (pairs_of s)) other) (sym (empty_at nodes root t is none))
 
 -- what the test of an order says
 pub test_of : {told order : Ordering} {b answer : Bool} → told ≡ order → b ≡ is_lt told → b ≡ answer → is_lt order ≡ answer

@@ -29,6 +29,16 @@ IsBest need members None = (pair : ℕ × ℕ) → ¬ IsLongEnough need members 
 IsBest need members (Some best) =
     IsLongEnough need members best × ((pair : ℕ × ℕ) → IsLongEnough need members pair → pair_cmp pair best ≢ Less)
 
+-- a member whose extent is at most a bound
+abbrev pub IsShortEnough : ℕ → set.FinSet pair_cmp → ℕ × ℕ → Type 0
+IsShortEnough most members pair = (set.contains members pair ≡ true) × (pair.0 ≤ most)
+
+-- a short enough member that no short enough member follows, or none where there is no short enough member
+abbrev pub IsLastTo : ℕ → set.FinSet pair_cmp → Option (ℕ × ℕ) → Type 0
+IsLastTo most members None = (pair : ℕ × ℕ) → ¬ IsShortEnough most members pair
+IsLastTo most members (Some last) =
+    IsShortEnough most members last × ((pair : ℕ × ℕ) → IsShortEnough most members pair → pair_cmp last pair ≢ Less)
+
 -- a member that no member follows, or none where there is no member
 abbrev pub IsGreatest : set.FinSet pair_cmp → Option (ℕ × ℕ) → Type 0
 IsGreatest members None = (pair : ℕ × ℕ) → set.contains members pair ≡ false

@@ -1,5 +1,5 @@
 -- Search trees of pairs, and how a table of nodes spells one.
-use Rattle.std.specs.Prelude.{◌≡◌, ◌≢◌, ℕ, ◌+◌, ◌<◌, ◌≤◌, ◌⊎◌, max, List, [], ◌∷◌, ◌++◌, length, Option, Some, None}
+use Rattle.std.specs.Prelude.{◌≡◌, ◌≢◌, ℕ, ◌+◌, ◌<◌, ◌≤◌, ◌⊎◌, max, nat_lt, if◌then◌else◌, List, [], ◌∷◌, ◌++◌, length, Option, Some, None}
 use Rattle.std.specs.List.{AllByRecursion}
 use Rattle.std.specs.List.Sorted.{IsStrictlySortedBy}
 use Rattle.std.specs.declared.cmp.Ordering.TheVariants.{Equal}
@@ -201,6 +201,15 @@ found_or (Some pair) other = Some pair
 -- the first pair of a tree that does not precede a bound, or else another
 abbrev pub Finds : List Node → ℕ → ℕ × ℕ → Option (ℕ × ℕ) → Option (ℕ × ℕ) → Type 0
 Finds nodes root bound other answer = (tree : Tree) → IsTree nodes root tree → answer ≡ found_or (first_from_bound bound (pairs_of tree)) other
+
+-- the last pair of a list, of those whose extent is at most a bound
+abbrev pub last_to_bound : ℕ → List (ℕ × ℕ) → Option (ℕ × ℕ)
+last_to_bound most [] = None
+last_to_bound most (pair ∷ pairs) = if nat_lt most pair.0 then last_to_bound most pairs else found_or (last_to_bound most pairs) (Some pair)
+
+-- the last pair of a tree whose extent is at most a bound, or else another
+abbrev pub FindsTo : List Node → ℕ → ℕ → Option (ℕ × ℕ) → Option (ℕ × ℕ) → Type 0
+FindsTo nodes root most other answer = (tree : Tree) → IsTree nodes root tree → answer ≡ found_or (last_to_bound most (pairs_of tree)) other
 
 -- the last node of a tree
 abbrev pub IsLast : List Node → ℕ → ℕ → Type 0

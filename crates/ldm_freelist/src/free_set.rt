@@ -1,12 +1,12 @@
 //! A set of free regions.
 ghost use Rattle.std.specs.Prelude.{◌≡◌, ◌+◌, ◌-◌, ◌^◌, ◌<◌, ◌≤◌, ◌≢◌, IfOk, IfSome, false, true};
 ghost use Rattle.std.specs.FinSet as set;
-ghost use Rattle.ldm_freelist.specs.Pairs.{IsBest, IsGreatest};
+ghost use Rattle.ldm_freelist.specs.Pairs.{IsBest, IsGreatest, IsLastTo};
 ghost use Rattle.ldm_freelist.specs.Nodes.{height_at};
 ghost use Rattle.ldm_freelist.specs.Tree.{Tree, IsAddable, Adds, IsLow, HasPair, Takes};
 
 use crate::node_table::{NONE, NodeTable, Steps, number_before};
-use crate::tree::{detach, first_from, insert, last};
+use crate::tree::{detach, first_from, insert, last, last_to};
 use ldm_types::OutOfMemory;
 use std::alloc::Global;
 use std::marker::{Brand, Model};
@@ -91,6 +91,20 @@ impl FreeSet {
         ensures counted { set.len self.now.members + 1 ≤ (2 ^ (steps.new - steps.old)) ^ 2 }
     {
         first_from(&self.table, self.root, need, None, steps)
+    }
+
+    /// The last pair whose extent is at most the given one. `None` exactly where there is none.
+    ///
+    /// A step is one comparison of pairs.
+    pub fn last_to<L: Ledger>(&self, most: u64, steps: &mut Steps<L>) -> Option<(u64, u64)>
+        requires { steps.old < 2 ^ 62 }
+        ensures last { IsLastTo most self.now.members result }
+        ensures steps { steps.old ≤ steps.new }
+        ensures few { steps.new < 2 ^ 63 }
+        ensures logarithm { 2 ^ (steps.new - steps.old) ≤ (set.len self.now.members + 1) ^ 2 }
+        ensures counted { set.len self.now.members + 1 ≤ (2 ^ (steps.new - steps.old)) ^ 2 }
+    {
+        last_to(&self.table, self.root, most, None, steps)
     }
 
     /// The pair that no pair follows. `None` exactly where there is none.

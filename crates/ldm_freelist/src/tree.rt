@@ -5,7 +5,7 @@
 ghost use Rattle.std.specs.Prelude.{◌≡◌, ◌≢◌, ◌+◌, ◌*◌, ◌<◌, ◌≤◌, ◌^◌, length};
 ghost use Rattle.ldm_freelist.specs.Nodes.{height_at, pair_at};
 ghost use Rattle.ldm_freelist.specs.Tree.{Tree, Fork, height, root_of, IsTree, IsLoose, Balances, IsAddable, Adds};
-ghost use Rattle.ldm_freelist.specs.Tree.{IsLow, HasPair, Takes, TakesTop, TakesFirst, Finds, IsLast, IsLeaningLeft};
+ghost use Rattle.ldm_freelist.specs.Tree.{IsLow, HasPair, Takes, TakesTop, TakesFirst, Finds, FindsTo, IsLast, IsLeaningLeft};
 ghost use Rattle.ldm_freelist.specs.Tree.{IsLeaningRight, RaisesLeft, RaisesLeftInner, RaisesRight, RaisesRightInner};
 
 use crate::node_table::{NONE, NodeTable, Steps};
@@ -219,6 +219,33 @@ pub fn first_from<L: Ledger>(
         first_from(table, right, need, other, steps)
     } else {
         first_from(table, left, need, Some((extent, offset)), steps)
+    }
+}
+
+/// The last pair whose extent is at most the given one, or else the other. This takes as many steps as [`first_from`].
+pub fn last_to<L: Ledger>(
+    table: &NodeTable,
+    root: u32,
+    most: u64,
+    other: Option<(u64, u64)>,
+    steps: &mut Steps<L>,
+) -> Option<(u64, u64)>
+    requires tree { (tree : Tree) × IsTree table.now root tree }
+    requires few { steps.old + height_at table.now root < 2 ^ 63 }
+    ensures found { FindsTo table.now root most other result }
+    ensures steps { steps.old ≤ steps.new }
+    ensures few { steps.new ≤ steps.old + height_at table.now root }
+    ensures counted { height_at table.now root + 2 * steps.old ≤ 2 * steps.new }
+{
+    if root == NONE {
+        return other;
+    }
+    let (left, right) = table.sides(root);
+    let (_, extent, offset) = table.compare(root, most, 0, steps);
+    if extent > most {
+        last_to(table, left, most, other, steps)
+    } else {
+        last_to(table, right, most, Some((extent, offset)), steps)
     }
 }
 

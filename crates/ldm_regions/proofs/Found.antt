@@ -20,7 +20,7 @@ AtLeast p q = (q.0 ≤ p.0) × (p.0 ≡ q.0 → q.1 ≤ p.1)
 not_less : (p q : ℕ × ℕ) → is_lt (pair_cmp p q) ≡ false → AtLeast p q
 not_less p q h = (grind (arith, nat_tests, h), λ e. grind (arith, nat_tests, h, e))
 
-not_before : (p q : ℕ × ℕ) → pair_cmp p q ≢ Less → AtLeast p q
+pub not_before : (p q : ℕ × ℕ) → pair_cmp p q ≢ Less → AtLeast p q
 not_before p q h = not_less p q (elim (pair_cmp p q) as (λ r. (r ≡ Less → ⊥) → is_lt r ≡ false) [ Less ↦ λ h. absurd (h refl) | Equal ↦ λ h. refl | Greater ↦ λ h. refl ] h)
 
 -- the first pair from a start on has that start, if one has

@@ -12,3 +12,5 @@ pub mod Cut
 pub mod Joint
 pub mod Ways
 pub mod Whole
+pub mod Inside
+pub mod Amid

@@ -254,6 +254,17 @@ ring_seam nodes wall arena front behind ring =
     let in_behind = next.first_inside in
     (next.last_inside, omega arith)
 
+-- where the first of some regions begins
+first_held : (nodes : List Node) (used : List Used) (wall : ℕ) → Held nodes used → (node_at nodes (first_owner used wall)).start ≡ first_start used (node_at nodes wall).start
+first_held nodes [] wall held = refl
+first_held nodes (u ∷ us) wall held = held.0
+
+-- and the space between them ends where the next region begins
+pub ring_end : (nodes : List Node) (wall arena : ℕ) (front behind : List Used) → IsRingOf nodes wall arena (front ++ behind) → (node_at nodes (node_at nodes (last_owner wall front)).behind).start ≡ first_start behind arena
+ring_end nodes wall arena front behind ring =
+    let is = first_link nodes (last_owner wall front) behind wall (Joined-behind nodes wall front behind wall ring.joined) in
+    ap (λ n. (node_at nodes n).start) is ∙ first_held nodes behind wall (Held-behind nodes front behind ring.held) ∙ ap (first_start behind) ring.ends
+
 not_first : (owner wall : ℕ) (used : List Used) → owner ≢ wall → Lacks owner used → owner ≢ first_owner used wall
 not_first owner wall [] apart lacks = apart
 not_first owner wall (u ∷ us) apart lacks = lacks.0
@@ -288,14 +299,10 @@ apart wall n front behind h none have below =
       last_apart = last_lacks wall front behind wall_behind (across front behind un);
     }
 
--- where the last of some regions ends, and the first begins
+-- where the last of some regions ends
 last_held : (nodes : List Node) (place from : ℕ) (used : List Used) → (node_at nodes place).end ≡ from → Held nodes used → (node_at nodes (last_owner place used)).end ≡ last_end from used
 last_held nodes place from [] is held = is
 last_held nodes place from (u ∷ us) is held = last_held nodes u.owner (u.start + u.extent) us held.1 held.2
-
-first_held : (nodes : List Node) (used : List Used) (wall : ℕ) → Held nodes used → (node_at nodes (first_owner used wall)).start ≡ first_start used (node_at nodes wall).start
-first_held nodes [] wall held = refl
-first_held nodes (u ∷ us) wall held = held.0
 
 module _ (nodes : List Node) (wall arena : ℕ) (front : List Used) (u : Used) (behind : List Used) where
   -- a region comes into a ring

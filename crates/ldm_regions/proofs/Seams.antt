@@ -54,7 +54,7 @@ length_any : (gap : Gap) (gaps : List Gap) → length (if_any gap ++ gaps) ≤ s
 length_any gap gaps = elim (ltb gap.start gap.end) as (λ b. length (cond b (gap ∷ []) [] ++ gaps) ≤ suc (length gaps)) [ true ↦ omega arith | false ↦ omega arith ]
 
 -- each of them begins behind an earlier position
-begin_behind : (early owner from : ℕ) (used : List Used) (arena : ℕ) → early < from → Lie from used arena → AllByRecursion (λ g. early < g.start) (gaps_between owner from used arena)
+pub begin_behind : (early owner from : ℕ) (used : List Used) (arena : ℕ) → early < from → Lie from used arena → AllByRecursion (λ g. early < g.start) (gaps_between owner from used arena)
 begin_behind early owner from [] arena h lie = all_any (λ g. early < g.start) (record { start = from; end = arena; front = owner }) [] (λ _. h) tt
 begin_behind early owner from (u ∷ us) arena h lie =
     let k = lie.0 in
@@ -164,7 +164,7 @@ pub record Spot (owner from : ℕ) (used : List Used) (arena : ℕ) (gap : Gap) 
   pub whole : used ≡ front ++ behind
   pub at : gap ≡ gap_at owner from front behind arena
 
-in_any : (gap first : Gap) (gaps : List Gap) (P : Type 0) → In gap (if_any first ++ gaps) → (first ≡ gap → P) → (In gap gaps → P) → P
+pub in_any : (gap first : Gap) (gaps : List Gap) (P : Type 0) → In gap (if_any first ++ gaps) → (first ≡ gap → P) → (In gap gaps → P) → P
 in_any gap first gaps P among here later =
     elim (ltb first.start first.end) as (λ b. In gap (cond b (first ∷ []) [] ++ gaps) → P) [
       | true ↦ λ among. elim among [ inl e ↦ here e | inr rest ↦ later rest ]

@@ -45,3 +45,8 @@ pub record Tiles (layout : Layout) : Type 0 where
   pub extent : (owner : ℕ) (region : Region) → map.get layout.owned owner ≡ Some region → 0 < region.extent
   pub within : (owner : ℕ) (region : Region) → map.get layout.owned owner ≡ Some region → region.start + region.extent ≤ layout.arena
   pub apart : (owner other : ℕ) (region behind : Region) → owner ≢ other → map.get layout.owned owner ≡ Some region → map.get layout.owned other ≡ Some behind → AreApart region behind
+
+-- a region lies within the arena, and shares no position with that of an owner
+pub record IsFree (region : Region) (layout : Layout) : Type 0 where
+  pub within : region.start + region.extent ≤ layout.arena
+  pub apart : (owner : ℕ) (taken : Region) → map.get layout.owned owner ≡ Some taken → AreApart region taken

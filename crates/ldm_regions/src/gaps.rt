@@ -1,7 +1,7 @@
 //! The gaps between regions, by how long they are and by where they begin.
 ghost use Rattle.std.specs.Prelude.{◌≡◌, ℕ, ◌+◌, ◌-◌, ◌<◌, ◌≤◌, ◌^◌, IfOk, MatchOption, None, Some, false, true};
 ghost use Rattle.std.specs.FinSet as set;
-ghost use Rattle.ldm_freelist.specs.Pairs.{IsBest, IsGreatest};
+ghost use Rattle.ldm_freelist.specs.Pairs.{IsBest, IsGreatest, IsLastTo};
 ghost use Rattle.ldm_regions.specs.Gaps.{by_extent, by_front, with_gap, without_gap, AreMatched, IsFound, IsLongest};
 
 use ldm_freelist::{FreeSet, Steps};
@@ -91,6 +91,16 @@ impl Gaps {
         })
     }
 
+    /// Of the gaps that begin at a position or in front of it, the last: where it begins, and the owner of the region in
+    /// front of it.
+    pub fn begun(&self, at: u64) -> Option<(u64, u32)>
+        requires { AreMatched self.now.extents.members self.now.fronts.members }
+        ensures { IsLastTo at self.now.fronts.members result }
+    {
+        let (start, front) = last_to(&self.fronts, at)?;
+        Some((start, front as u32))
+    }
+
     /// The extent of the longest gap, 0 where there is none.
     pub fn longest(&self) -> u64
         ensures { IsLongest self.now.extents.members result }
@@ -107,6 +117,13 @@ fn first_from(pairs: &FreeSet, need: u64) -> Option<(u64, u64)>
     ensures { IsBest need pairs.now.members result }
 {
     best_of::<Brand>(pairs, need, Blank::new(1))
+}
+
+/// The last pair whose first number is at most the given one.
+fn last_to(pairs: &FreeSet, most: u64) -> Option<(u64, u64)>
+    ensures { IsLastTo most pairs.now.members result }
+{
+    last_to_of::<Brand>(pairs, most, Blank::new(1))
 }
 
 /// The last pair.
@@ -136,4 +153,15 @@ fn greatest_of<L: Ledger>(pairs: &FreeSet, blank: Blank) -> Option<(u64, u64)>
 {
     let mut steps = Steps::<L>::new(blank);
     pairs.greatest(&mut steps)
+}
+
+/// The same as [`last_to`], with a counter of steps that is opened for this one search.
+fn last_to_of<L: Ledger>(pairs: &FreeSet, most: u64, blank: Blank) -> Option<(u64, u64)>
+    requires name { blank.name ≡ L.name }
+    requires parts { blank.parts ≡ L.parts }
+    requires some { 0 < blank.parts }
+    ensures { IsLastTo most pairs.now.members result }
+{
+    let mut steps = Steps::<L>::new(blank);
+    pairs.last_to(most, &mut steps)
 }

@@ -1,8 +1,9 @@
 //! The regions of an arena.
-ghost use Rattle.std.specs.Prelude.{◌≡◌, ℕ, ◌%◌, ◌<◌, ◌≤◌, IfOk, None, IsSome, MatchOption, length, [], true};
+ghost use Rattle.std.specs.Prelude.{◌≡◌, ◌↔◌, ℕ, ◌%◌, ◌<◌, ◌≤◌, IfOk, None, IsSome, IsTrue, MatchOption};
+ghost use Rattle.std.specs.Prelude.{length, [], true, if◌then◌else◌};
 ghost use Rattle.std.specs.FinMap as map;
 ghost use Rattle.ldm_types.specs.Arena.{gaps, fit, longest};
-ghost use Rattle.ldm_regions.specs.Layout.{Tiles, occupied, marked_only, with_region, without_owner};
+ghost use Rattle.ldm_regions.specs.Layout.{IsFree, Tiles, occupied, marked_only, with_region, without_owner};
 
 use crate::gaps::{Gap, Gaps};
 use crate::links;
@@ -98,6 +99,41 @@ impl Regions {
             front: owner,
         });
         Some(gap.start)
+    }
+
+    /// Gives an owner the region of that length at that offset, where all of it is free and within the arena, and answers
+    /// whether it is; else nothing changes.
+    pub fn place(&mut self, offset: u64, need: u64, owner: u32) -> bool
+        requires need { 0 < need }
+        requires owner { owner < self.old.slots }
+        requires none { map.get self.old.owned owner ≡ None }
+        ensures free { IsTrue result ↔ IsFree (record { start = offset; extent = need }) self.old }
+        ensures owned { self.new ≡ (if result then with_region self.old owner (record { start = offset; extent = need })
+            else self.old) }
+        ensures tiles { Tiles self.new }
+    {
+        let Some((start, front)) = self.gaps.begun(offset) else {
+            return false;
+        };
+        let behind = self.nodes[front as usize].behind;
+        let end = self.nodes[behind as usize].start;
+        let room = end.saturating_sub(offset);
+        if room < need {
+            return false;
+        }
+        self.gaps.remove(Gap { start, end, front });
+        links::link(&mut self.nodes, owner, offset, offset + need, front);
+        self.gaps.add(Gap {
+            start: offset + need,
+            end,
+            front: owner,
+        });
+        self.gaps.add(Gap {
+            start,
+            end: offset,
+            front,
+        });
+        true
     }
 
     /// Takes an owner's region back: it is free, and one with the free regions that it touches.

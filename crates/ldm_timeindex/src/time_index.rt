@@ -1,5 +1,5 @@
 //! An index of products by number and by instant.
-ghost use Rattle.std.specs.Prelude.{◌≡◌, ◌<◌, ◌≤◌, ◌++◌, ◌∷◌, [], ◌==◌, not, length, IfOk};
+ghost use Rattle.std.specs.Prelude.{◌≡◌, ◌<◌, ◌≤◌, ◌++◌, ◌∷◌, [], ◌==◌, not, length, slice_get, IfOk};
 ghost use Rattle.std.specs.List.{All, Any, filter, find, position_or_len};
 ghost use Rattle.std.specs.Option.{option_map};
 ghost use Rattle.ldm_timeindex.specs.Kept.{all_queued, reaches};
@@ -81,6 +81,25 @@ impl TimeIndex {
     {
         first_reached(&self.ring, &Bound::LaterThan(time))
     }
+
+    /// The number and the slot of the product that so many are in front of. `None` exactly where no more are in.
+    pub fn at(&self, index: u32) -> Option<(u64, u32)>
+        ensures at { result ≡ option_map number_and_slot (slice_get self.now.entries index) }
+        ensures rising { IsRising self.now.entries }
+    {
+        entry_at(&self.ring, index as usize)
+    }
+}
+
+/// The number and the slot of the entry that so many stand before.
+fn entry_at(ring: &Ring, index: usize) -> Option<(u64, u32)>
+    ensures { result ≡ option_map number_and_slot (slice_get (all_queued ring.now.entries) index) }
+{
+    if index >= ring.len() {
+        return None;
+    }
+    let entry = ring.get(index);
+    Some((entry.n, entry.slot))
 }
 
 /// The number and the slot of the first entry that reaches a bound.
