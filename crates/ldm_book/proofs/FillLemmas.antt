@@ -1,5 +1,5 @@
 -- What reserving a region and filling bytes into it make of a book, and of the state that it stands for.
-use Rattle.std.proofs.Common.{◌≡◌, ℕ, zero, suc, ◌+◌, ◌-◌, ◌<◌, ◌≤◌, Bool, true, false, cond, ltb, List, [], ◌∷◌, ◌++◌, length, map, set, take}
+use Rattle.std.proofs.Common.{◌≡◌, ℕ, zero, suc, ◌+◌, ◌-◌, ◌%◌, ◌<◌, ◌≤◌, Bool, true, false, cond, ltb, List, [], ◌∷◌, ◌++◌, length, map, set, take}
 use Rattle.std.proofs.Common.{Option, Some, None, refl, sym, ap, subst, ◌∙◌, inl, inr, append-nil, append_assoc, get_or-set_same, get_or-set_other, arith}
 use Rattle.std.specs.Prelude.{is_none, is_some, slice_index_or}
 use Rattle.std.specs.List.{AllByRecursion, Contains, between, position, position_from}
@@ -132,9 +132,9 @@ module _ (book : BookView) (actor r : ℕ) (info : Metadata) (place : ℕ) (spel
   ]
 
 -- what is always true of a new reservation
-pub reserved-new : (items : List ℕ) (actor : ℕ) (info : Metadata) (place : ℕ) → Fits info → place + extent_of info ≤ length items
+pub reserved-new : (items : List ℕ) (actor : ℕ) (info : Metadata) (place : ℕ) → Fits info → place + extent_of info ≤ length items → place % 8 ≡ 0
     → IsReserved (written items (spelling info) place) (new_reservation actor info place)
-reserved-new items actor info place spelled inside =
+reserved-new items actor info place spelled inside placed =
     let long = length-spelling info spelled.signature in
     record {
       metadata = record {
@@ -144,6 +144,7 @@ reserved-new items actor info place spelled inside =
           spelled = between-put_mid place (length (spelling info)) items (spelling info) (place + metadata_len info) (omega (arith, inside)) (omega (arith, long));
         };
         same = refl;
+        placed = placed;
       };
       part = omega arith;
     }
@@ -231,6 +232,7 @@ module _ (book : BookView) (r : ℕ) (v : KeptReservation) (bytes : List ℕ) (a
             spelled = before-written book.bytes bytes start v.product.place (v.product.place + metadata_len here.info) fill-within (omega arith) (omega (arith, head)) ∙ here.at.spelled;
           };
           same = here.same;
+          placed = here.placed;
         };
         part = left;
       }

@@ -65,7 +65,7 @@ absent_kept slots signature (entry ∷ entries) none all =
     ap (λ b. cond b (Some (kept_entry slots entry)) (kept_with signature (kept_entries slots entries))) here ∙ absent_kept slots signature entries none all.1
 
 -- products of one signature are one product
-same_row : (slots : Slots) (j k : ℕ) (one other : Kept) → IsOneToOne (map signature_of slots) → row_at slots j ≡ Some one → row_at slots k ≡ Some other → one.signature ≡ other.signature → one ≡ other
+pub same_row : (slots : Slots) (j k : ℕ) (one other : Kept) → IsOneToOne (map signature_of slots) → row_at slots j ≡ Some one → row_at slots k ≡ Some other → one.signature ≡ other.signature → one ≡ other
 same_row slots j k one other once at there same =
     let slot = once j k other.signature (stands_at slots j one at ∙ ap (λ s. Some (Some s)) same) (stands_at slots k other there) in
     cc (ap (row_at slots) slot)

@@ -2,6 +2,7 @@ pub mod EveryLemmas
 pub mod QueuedLemmas
 pub mod ApartLemmas
 pub mod StoredLemmas
+pub mod EightsLemmas
 pub mod IsTimedLemmas
 pub mod SlotsLemmas
 pub mod CreateLemmas
@@ -42,3 +43,7 @@ pub mod HeldRoomLemmas
 pub mod FoundLemmas
 pub mod StartLemmas
 pub mod ReadLemmas
+pub mod NoteLemmas
+pub mod PlaceLemmas
+pub mod RestoringLemmas
+pub mod ClosingLemmas

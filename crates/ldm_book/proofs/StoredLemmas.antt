@@ -1,5 +1,5 @@
 -- The metadata and the bodies in the arena, where more bytes are written.
-use Rattle.std.proofs.Common.{append-nil, ◌≡◌, ◌⊎◌, ℕ, zero, suc, ◌+◌, ◌-◌, ◌<◌, ◌≤◌, List, [], ◌∷◌, ◌++◌, length, map, set, drop, take, Option, Some, None, refl, sym, ap, subst, ◌∙◌, inl, inr, arith}
+use Rattle.std.proofs.Common.{append-nil, ◌≡◌, ◌⊎◌, ℕ, zero, suc, ◌+◌, ◌-◌, ◌%◌, ◌<◌, ◌≤◌, List, [], ◌∷◌, ◌++◌, length, map, set, drop, take, Option, Some, None, refl, sym, ap, subst, ◌∙◌, inl, inr, arith}
 use Rattle.std.specs.Prelude.{slice_index_or}
 use Rattle.std.specs.Option.{option_map}
 use borrow.Rule.Slice.PartMut.{put_mid, same_len_mid}
@@ -115,6 +115,7 @@ module _ (bytes new : List ℕ) (place : ℕ) (region : Region) (from : region.s
           spelled = part_stays row (row.place + metadata_len here.info) (omega arith) (omega arith) apart ∙ here.at.spelled;
         };
         same = here.same;
+        placed = here.placed;
       }
 
   pub metadata_still : (rows : List Kept) → AllByRecursion (λ (other : Kept). AreApart (kept_region other) region) rows → HaveMetadata bytes rows → HaveMetadata after rows
@@ -211,11 +212,11 @@ stored_new bytes q fits size within =
     }
 
 -- its metadata stand at the place of what is kept of it
-pub metadata_new : (bytes : List ℕ) (number time place : ℕ) (p : Product) → Fits p.info → length p.body ≡ p.info.size → place + metadata_len p.info + p.info.size ≤ length bytes
+pub metadata_new : (bytes : List ℕ) (number time place : ℕ) (p : Product) → Fits p.info → length p.body ≡ p.info.size → place + metadata_len p.info + p.info.size ≤ length bytes → place % 8 ≡ 0
     → HasMetadata (written bytes (bytes_of p) place) (kept_of number time place p.info)
-metadata_new bytes number time place p fits size within =
+metadata_new bytes number time place p fits size within placed =
     let q : Queued = record { number = number; product = p; time = time; place = place } in
-    record { info = p.info; at = metadata_stand (written bytes (bytes_of p) place) q (stored_new bytes q fits size within); same = refl }
+    record { info = p.info; at = metadata_stand (written bytes (bytes_of p) place) q (stored_new bytes q fits size within); same = refl; placed = placed }
 
 -- the items of a vector after a part of them was written
 pub items_written : (items part new : List ℕ) (len place n : ℕ) → len ≡ length items → part ≡ new → n ≡ length new → place + n ≤ length items

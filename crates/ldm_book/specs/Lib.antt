@@ -13,3 +13,7 @@ pub mod RowKept
 pub mod Readers
 pub mod Runs
 pub mod Spans
+pub mod Faults
+pub mod Restoring
+pub mod Reopening
+pub mod Listing

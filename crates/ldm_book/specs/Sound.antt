@@ -5,6 +5,7 @@ use Rattle.std.specs.Vec.{vec_len}
 use Rattle.ldm_types.specs.declared.limits.TheConstants.{GREATEST_INSTANT, LARGEST_ARENA, MOST_SLOTS}
 use Rattle.ldm_book.specs.declared.book.Book.TheInside.{Inside}
 use Rattle.ldm_book.specs.View.{BookView, Kept}
+use Rattle.ldm_book.specs.Limits.{IsGoodArena}
 use Rattle.ldm_book.specs.Products.{AreRising, LieApart, occupied_in}
 use Rattle.ldm_book.specs.Readers.{AreReading}
 use Rattle.ldm_book.specs.Stored.{AreReserved, HaveMetadata}
@@ -32,6 +33,7 @@ pub record IsSound (b : Inside) : Type 0 where
   pub rising : AreRising b.products.rows
   pub apart : LieApart b.products.arena (occupied_in b.products)
   pub arena_small : vec_len b.arena ≤ LARGEST_ARENA
+  pub good_arena : IsGoodArena (vec_len b.arena)
   pub slots_small : b.products.slots ≤ MOST_SLOTS
   pub some_slot : 0 < b.products.slots
   -- numbers stay far below 2 ^ 63

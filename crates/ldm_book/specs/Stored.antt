@@ -1,6 +1,7 @@
 -- What stands in the arena: the metadata of a product as they are spelled, and its body behind them.
-use Rattle.std.specs.Prelude.{◌≡◌, ℕ, ◌+◌, ◌≤◌, List, ◌++◌, length}
+use Rattle.std.specs.Prelude.{◌≡◌, ℕ, ◌+◌, ◌%◌, ◌≤◌, List, ◌++◌, length}
 use Rattle.std.specs.List.{AllByRecursion, between}
+use Rattle.ldm_types.specs.declared.limits.TheConstants.{ARENA_UNIT}
 use Rattle.ldm_types.specs.Info.{Metadata, metadata_len}
 use Rattle.ldm_xdr.specs.Spelling.{Fits, spelling}
 use Rattle.ldm_model.specs.Product.{Product}
@@ -34,11 +35,12 @@ pub record StandsAt (bytes : List ℕ) (place : ℕ) (info : Metadata) : Type 0 
   pub fits : Fits info
   pub spelled : between place (place + metadata_len info) bytes ≡ spelling info
 
--- metadata stand at the place of a kept product, and it is kept with these
+-- metadata stand at the place of a kept product, a multiple of the unit of arenas, and it is kept with these
 pub record HasMetadata (bytes : List ℕ) (k : Kept) : Type 0 where
   pub info : Metadata
   pub at : StandsAt bytes k.place info
   pub same : k ≡ kept_of k.number k.time k.place info
+  pub placed : k.place % ARENA_UNIT ≡ 0
 
 -- so it is for each of these products
 abbrev pub HaveMetadata : List ℕ → List Kept → Type 0

@@ -27,6 +27,8 @@ ghost use Rattle.ldm_book.specs.Making.{IsTimely, MakesRoom, Puts, Reserves, res
 ghost use Rattle.ldm_book.specs.Reserved.{kept_place, reservation_of};
 ghost use Rattle.ldm_book.specs.View.{KeptReservation, open_kept};
 
+mod restore;
+
 use crate::fault::CreateFault;
 use crate::products::Products;
 use crate::reservations::Place;

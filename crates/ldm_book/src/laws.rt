@@ -1,12 +1,14 @@
 //! Laws of the queue: what the contracts of its calls amount to over whole runs.
-ghost use Rattle.std.specs.Prelude.{◌++◌, ◌∷◌, [], ℕ, List};
+ghost use Rattle.std.specs.Prelude.{◌≡◌, ◌++◌, ◌∷◌, [], ℕ, List};
 ghost use Rattle.ldm_model.specs.declared.event.Entry.{Entry};
-ghost use Rattle.ldm_model.specs.State.{empty};
+ghost use Rattle.ldm_model.specs.State.{State, empty};
 ghost use Rattle.ldm_model.specs.History.{after, IsLegal};
 ghost use Rattle.ldm_model.specs.Law.{ObeysLaw};
 ghost use Rattle.ldm_model.specs.Filling.{ObeysFilling};
 ghost use Rattle.ldm_book.specs.View.{BookView};
 ghost use Rattle.ldm_book.specs.Stands.{StandsFor};
+ghost use Rattle.ldm_book.specs.Restoring.{all_closed};
+ghost use Rattle.ldm_book.specs.Reopening.{closings, reopened};
 ghost use Rattle.ldm_book.specs.Runs.{Made, IsCall, IsRun, entries};
 
 use ldm_model::{every_reader_is_served, histories_append, reservations_are_filled};
@@ -51,6 +53,19 @@ pub fn runs_are_legal()
         IsLegal arena slots history → StandsFor book (after arena slots history) → IsCall book made →
         IsLegal arena slots (history ++ made.entry ∷ [])
         × StandsFor made.book (after arena slots (history ++ made.entry ∷ [])) }
+{
+    histories_append();
+}
+
+/// A queue that is restored goes on where the saved one would, had each cursor been closed by its owner, and then each
+/// reservation given up by its: these calls can be made after every legal history, and lead to the state that the
+/// restored queue stands for. So what holds of legal histories, as [`fifo`], goes on to hold over a restoring.
+pub fn closing_reopens()
+    ensures stands { (book : BookView) (s : State) → StandsFor book s → StandsFor (all_closed book) (reopened s) }
+    ensures legal { (arena slots : ℕ) (history : List Entry) → IsLegal arena slots history
+        → IsLegal arena slots (history ++ closings (after arena slots history)) }
+    ensures state { (arena slots : ℕ) (history : List Entry) → IsLegal arena slots history
+        → after arena slots (history ++ closings (after arena slots history)) ≡ reopened (after arena slots history) }
 {
     histories_append();
 }

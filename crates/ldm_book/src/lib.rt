@@ -10,14 +10,16 @@ mod fault;
 mod laws;
 mod products;
 mod reservations;
+mod restoring;
 mod row;
 mod spans;
 mod stored;
 
 pub use book::Book;
-pub use fault::CreateFault;
-pub use laws::{fifo, filled, runs_are_legal};
+pub use fault::{CreateFault, RestoreFault, RowFault};
+pub use laws::{closing_reopens, fifo, filled, runs_are_legal};
 pub use ldm_model::{
     CloseReply, CommitReply, DiscardReply, ExpireReply, FillReply, InsertReply, LookReply,
     OpenReply, ReadReply, ReleaseReply, ReserveNo, ReserveReply, Stat, StepReply, TallyReply,
 };
+pub use restoring::{RowNote, Stored};

@@ -1,6 +1,7 @@
 //! The products and the reservations of a queue, each in a slot of its own.
 ghost use Rattle.std.specs.Prelude.{◌≡◌, ◌%◌, ◌+◌, ◌^◌, ◌<◌, ◌≤◌, ℕ, count_by, None, Some, [], is_none, is_some};
-ghost use Rattle.std.specs.Prelude.{length, position, replicate, IfOk, IfSome, IsSome, MatchOption};
+ghost use Rattle.std.specs.Prelude.{length, map, position, replicate, slice_get, if◌then◌else◌, ◌↔◌};
+ghost use Rattle.std.specs.Prelude.{IfOk, IfSome, IsSome, IsTrue, MatchOption};
 ghost use Rattle.std.specs.List.{All, Any, find};
 ghost use Rattle.std.specs.Option.{option_map};
 ghost use Rattle.ldm_types.specs.Arena.{gaps, longest};
@@ -9,7 +10,7 @@ ghost use Rattle.ldm_model.specs.Stat.{extents};
 ghost use Rattle.ldm_model.specs.Answers.{look_answer};
 ghost use Rattle.ldm_book.specs.Lookup.{kept_with, look_kept};
 ghost use Rattle.ldm_book.specs.Products.{at_number, awaits, committed, is_later, kept_number};
-ghost use Rattle.ldm_book.specs.Products.{AreRising, LieApart, occupied_in, reservation_at, room_for};
+ghost use Rattle.ldm_book.specs.Products.{AreRising, LieApart, occupied_in, reservation_at, room_for, taken_in};
 ghost use Rattle.ldm_book.specs.Products.{with_more, with_reservation, with_row, without};
 ghost use Rattle.ldm_book.specs.Making.{new_reservation};
 ghost use Rattle.ldm_book.specs.Reserved.{kept_place, reservation_of};
@@ -17,6 +18,7 @@ ghost use Rattle.ldm_book.specs.RowKept.{row_kept};
 ghost use Rattle.ldm_book.specs.View.{Kept, KeptReservation, kept_of, open_kept};
 
 use crate::reservations::{Place, Reservations};
+use crate::restoring::RowNote;
 use crate::row::{Row, extent};
 use ldm_model::{LookReply, ReserveNo};
 use ldm_regions::Regions;
@@ -60,6 +62,8 @@ impl Model for Products {
 }
 
 impl Products {
+    ghost use Rattle.ldm_book.specs.Restoring.{IsPlaceable, SignaturesDiffer, TimesAreRising, note_of};
+
     /// No products, with all the memory that they will ever take but the arena's. An error only where there is
     /// too little of it.
     pub(crate) fn create(alloc: Global, arena: u64, slots: u32) -> Result<Products, OutOfMemory>
@@ -192,9 +196,25 @@ impl Products {
         count
     }
 
+    /// What is noted of the product that so many are in front of. `None` exactly where there are no more.
+    pub(crate) fn note_at(&self, i: u32) -> Option<RowNote>
+        ensures { result ≡ slice_get (map note_of self.now.rows) i }
+    {
+        let (_, slot) = self.by_number.at(i)?;
+        let row = &self.slots[slot as usize];
+        Some(RowNote {
+            n: row.n,
+            time: row.time,
+            place: row.place,
+        })
+    }
+
     /// How many slots there are.
     pub(crate) fn slots(&self) -> u64
-        ensures { result ≡ self.now.slots }
+        ensures slots { result ≡ self.now.slots }
+        ensures few { length self.now.rows ≤ self.now.slots }
+        ensures times { TimesAreRising self.now.rows }
+        ensures differ { SignaturesDiffer self.now.rows }
     {
         self.slots.len() as u64
     }
@@ -220,6 +240,34 @@ impl Products {
         self.slots[slot as usize] = Row::new(n, time, place, info);
         self.used += need;
         Some(place)
+    }
+
+    /// Puts a product in behind all others, at that place. Answers whether its region is free there, and no product has
+    /// its signature; else nothing changes.
+    pub(crate) fn put_at(&mut self, info: &Info, n: u64, time: Micros, place: u64) -> bool
+        requires few { taken_in self.old < self.old.slots }
+        requires later { All (λ k. (k.number < n) × (k.time < time)) self.old.rows }
+        ensures placeable { IsTrue result ↔ IsPlaceable self.old (kept_of n time place info.now) }
+        ensures rows { self.new ≡ (if result then with_row self.old (kept_of n time place info.now) else self.old) }
+        ensures apart { LieApart self.new.arena (occupied_in self.new) }
+    {
+        let Some(last) = self.free.last() else {
+            unreachable!()
+        };
+        let slot = *last;
+        if self.by_signature.find(&info.signature()).is_some() {
+            return false;
+        }
+        let need = extent(info);
+        if !self.regions.place(place, need, slot) {
+            return false;
+        }
+        let _slot = self.free.pop();
+        self.by_signature.put(info.signature(), slot);
+        self.by_number.push(n, time, slot);
+        self.slots[slot as usize] = Row::new(n, time, place, info);
+        self.used += need;
+        true
     }
 
     /// Takes the product of that number out. Its slot and its region are free from then on.

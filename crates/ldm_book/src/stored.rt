@@ -1,10 +1,11 @@
 //! What stands in the arena: the metadata of a product as they are spelled, and its body behind them.
-ghost use Rattle.std.specs.Prelude.{◌≡◌, ◌+◌, ◌≤◌, ◌++◌, length};
+ghost use Rattle.std.specs.Prelude.{◌≡◌, ◌+◌, ◌≤◌, ◌++◌, length, IfSome, Some};
 ghost use Rattle.ldm_types.specs.Info.{Metadata, metadata_len};
 ghost use Rattle.ldm_xdr.specs.Spelling.{Fits, spelling};
+ghost use Rattle.ldm_book.specs.Restoring.{IsWholeAt};
 ghost use Rattle.ldm_book.specs.Stored.{StandsAt};
 
-use ldm_types::Info;
+use ldm_types::{ARENA_UNIT, Info};
 use ldm_xdr::{read_info, write_info};
 
 /// Writes the metadata of a product and its body behind them. The room has as many bytes.
@@ -27,4 +28,22 @@ pub(crate) fn metadata_at(arena: &[u8], place: u64) -> Info
         unreachable!()
     };
     info
+}
+
+/// The metadata of the product that is whole at a place. `None` exactly where none is.
+pub(crate) fn whole_at(arena: &[u8], place: u64) -> Option<Info>
+    ensures found { IfSome result (IsWholeAt arena.now place) }
+    ensures only { (info : Metadata) → IsWholeAt arena.now place info → result ≡ Some info }
+{
+    if place % ARENA_UNIT != 0 || place > arena.len() as u64 {
+        return None;
+    }
+    let behind = &arena[place as usize..];
+    let Ok((info, head)) = read_info(behind) else {
+        return None;
+    };
+    if info.size() as usize > behind.len() - head {
+        return None;
+    }
+    Some(info)
 }

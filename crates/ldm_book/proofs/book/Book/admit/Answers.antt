@@ -41,13 +41,14 @@ invariant_of-self c =
     let rows = ap (λ (q : ProductsView). q.rows) after in
     let timed = timed_push inside.last inside.admitted c.args.time p.rows new kept.timed (subst (λ (b : BookView). IsTimely b.last c.args.time) (sym c.self.view_is) c.requires.timely) refl refl in
     let here = (reserved_one_at items p.reservations c.args.r v at kept.reserved).metadata in
-    let has : HasMetadata items new = record { info = here.info; at = here.at; same = ap (λ (k : Kept). record k { number = inside.admitted; time = c.args.time }) here.same } in
+    let has : HasMetadata items new = record { info = here.info; at = here.at; same = ap (λ (k : Kept). record k { number = inside.admitted; time = c.args.time }) here.same; placed = here.placed } in
     record {
       arena = kept.arena ∙ sym (ap (λ (q : ProductsView). q.arena) after);
       timed = subst (λ (ks : List Kept). IsTimed (Some c.args.time) (inside.admitted + 1) ks) (sym rows) timed;
       rising = subst (λ (ks : List Kept). AreRising ks) (sym rows) (rising_push p.rows new kept.rising (timed_below inside.last inside.admitted p.rows kept.timed));
       apart = c.commit.ensures.apart;
       arena_small = kept.arena_small;
+      good_arena = kept.good_arena;
       slots_small = omega (arith, kept.slots_small, ap (λ (q : ProductsView). q.slots) after);
       some_slot = omega (arith, kept.some_slot, ap (λ (q : ProductsView). q.slots) after);
       admitted_small = omega (arith, timed.0, c.requires.instant);

@@ -25,6 +25,7 @@ invariant_of-self c =
       rising = subst (λ (ks : List Kept). AreRising ks) (sym rows) kept.rising;
       apart = c.discard.ensures.apart;
       arena_small = kept.arena_small;
+      good_arena = kept.good_arena;
       slots_small = omega (arith, kept.slots_small, ap (λ (q : ProductsView). q.slots) after);
       some_slot = omega (arith, kept.some_slot, ap (λ (q : ProductsView). q.slots) after);
       admitted_small = kept.admitted_small;

@@ -30,6 +30,7 @@ invariant_of-self c =
       rising = subst (λ (ks : List Kept). AreRising ks) (sym rows) (rising_left (is_other c.args.n) inside.products.rows c.self.invariant.rising);
       apart = search rules;
       arena_small = search rules;
+      good_arena = c.self.invariant.good_arena;
       slots_small = search rules;
       some_slot = search rules;
       admitted_small = c.self.invariant.admitted_small;

@@ -72,7 +72,7 @@ returns-then-held-slots c =
     let b = c.self.inside in
     let sound = c.self.invariant in
     let count = counted b sound c.args.self.now c.count_held-held.result c.self.view_is c.count_held-held.ensures in
-    room-is b sound c.args.self.now c.args.need false c.self.view_is (full b sound c.args.need (omega (arith, count, c.slots.ensures, c.if-held-slots.true)))
+    room-is b sound c.args.self.now c.args.need false c.self.view_is (full b sound c.args.need (omega (arith, count, c.slots.ensures.slots, c.if-held-slots.true)))
 
 pub returns-then-held-eq0 : goal.returns-then-held-eq0
 returns-then-held-eq0 c =
@@ -80,7 +80,7 @@ returns-then-held-eq0 c =
     let sound = c.self.invariant in
     let count = counted b sound c.args.self.now c.count_held-held.result c.self.view_is c.count_held-held.ensures in
     room-is b sound c.args.self.now c.args.need true c.self.view_is
-    (free b sound c.args.need true (omega (arith, count, c.slots.ensures, c.if-held-slots.false))
+    (free b sound c.args.need true (omega (arith, count, c.slots.ensures.slots, c.if-held-slots.false))
     (nothing b sound c.args.need c.requires.some (omega (arith, c.requires.need, sound.arena, ap (λ (v : BookView). v.arena) c.self.view_is)) (omega (arith, count, c.if-held-eq0.true))))
 
 pub returns : goal.returns
@@ -93,7 +93,7 @@ returns c =
     let parts = c.gather_held-count.ensures.spans ∙ ap (λ (v : BookView). filter is_some_part (held_spans v.rows v.cursors v.reservations)) (sym c.self.view_is) in
     let arena : c.len.result ≡ p.arena = c.len.ensures ∙ sound.arena in
     room-is b sound c.args.self.now c.args.need c.has_gap.result c.self.view_is
-    (free b sound c.args.need c.has_gap.result (omega (arith, count, c.slots.ensures, c.if-held-slots.false))
+    (free b sound c.args.need c.has_gap.result (omega (arith, count, c.slots.ensures.slots, c.if-held-slots.false))
     (c.has_gap.ensures ∙ ap (λ (a : ℕ). has_gap c.args.need a (take c.gather_held-count.result c.gather_held-count.new.spans)) arena ∙ ap (has_gap c.args.need p.arena) parts
     ∙ gap-parts c.args.need p.arena all
     ∙ gap-is b.cursors b.admitted p.arena c.args.need p.rows p.reservations sound.rising sound.readers (headed b.arena.items p.rows sound.stored)

@@ -13,6 +13,7 @@ use Rattle.ldm_book.specs.Sound.{IsTimed, view_of}
 use Rattle.ldm_book.specs.Stored.{AreReserved, HasMetadata, HaveMetadata, bytes_of}
 use Rattle.ldm_book.proofs.ApartLemmas.{reserved_from_last, rows_from_last}
 use Rattle.ldm_book.proofs.BookLemmas.{room_seen, same_products}
+use Rattle.ldm_book.proofs.EightsLemmas.{room_eights}
 use Rattle.ldm_book.proofs.EveryLemmas.{every_push}
 use Rattle.ldm_book.proofs.FreeLemmas.{rising_push}
 use Rattle.ldm_book.proofs.IsTimedLemmas.{timed_below, timed_push}
@@ -56,12 +57,14 @@ invariant_of-self c =
     let items = inside.arena.items in
     let long = length-bytes_of (given c) c.write_product.ensures.fits c.requires.size in
     let within = within_arena c in
+    let placed =
+    room_eights inside.products items (extent_of c.args.info.now) c.in-Some.place (omega arith) c.self.invariant.stored c.self.invariant.reserved (sym c.in-Some.ensures.place) in
     let lie = subst (λ (p : ProductsView). LieApart p.arena (occupied_in p)) c.in-Some.ensures.rows c.in-Some.ensures.apart in
     let stored =
     every_push (HasMetadata (written items (bytes_of (given c)) c.in-Some.place)) inside.products.rows new
     (metadata_still items (bytes_of (given c)) c.in-Some.place (kept_region new) (omega arith) (omega (arith, long)) (omega (arith, long, within)) inside.products.rows
     (rows_from_last inside.products.arena inside.products.rows new inside.products.reservations lie) c.self.invariant.stored)
-    (metadata_new items inside.admitted c.args.time c.in-Some.place (given c) c.write_product.ensures.fits c.requires.size within) in
+    (metadata_new items inside.admitted c.args.time c.in-Some.place (given c) c.write_product.ensures.fits c.requires.size within placed) in
     let reserved =
     reserved_still items (bytes_of (given c)) c.in-Some.place (kept_region new) (omega arith) (omega (arith, long)) (omega (arith, long, within)) inside.products.reservations
     (reserved_from_last inside.products.arena inside.products.rows new inside.products.reservations lie) c.self.invariant.reserved in
@@ -73,6 +76,7 @@ invariant_of-self c =
           (rising_push inside.products.rows new c.self.invariant.rising (timed_below inside.last inside.admitted inside.products.rows c.self.invariant.timed));
       apart = search rules;
       arena_small = search rules;
+      good_arena = c.self.invariant.good_arena;
       slots_small = search rules;
       some_slot = search rules;
       admitted_small = omega (arith, timed.0, c.requires.instant);

@@ -12,6 +12,7 @@ use Rattle.ldm_book.specs.Readers.{AreReading, occupied}
 use Rattle.ldm_book.specs.Sound.{IsTimed, view_of}
 use Rattle.ldm_book.specs.Stored.{AreReserved, HaveMetadata}
 use Rattle.ldm_book.proofs.BookLemmas.{room_seen}
+use Rattle.ldm_book.proofs.EightsLemmas.{room_eights}
 use Rattle.ldm_book.proofs.FillLemmas.{from, reserve-others, reserve-rows, reserved-new, to, within}
 use Rattle.ldm_book.proofs.StoredLemmas.{items_written, metadata_still, reserved_others}
 use Rattle.ldm_book.proofs.book.Book.put_reserved.Goals as goal
@@ -67,10 +68,11 @@ invariant_of-self c =
     let first = from book c.args.actor c.args.r info place fits (inside_arena c) c.in-Some.ensures.bound (lie c) in
     let last = to book c.args.actor c.args.r info place fits (inside_arena c) c.in-Some.ensures.bound (lie c) in
     let long = within book c.args.actor c.args.r info place fits (inside_arena c) c.in-Some.ensures.bound (lie c) in
+    let placed = room_eights p items (extent_of info) place (omega arith) kept.stored kept.reserved (sym c.in-Some.ensures.place) in
     let stored =
     metadata_still items (spelling info) place region first last long p.rows (reserve-rows book c.args.actor c.args.r info place fits (inside_arena c) c.in-Some.ensures.bound (lie c)) kept.stored in
     let reserved =
-    reserved_others items (spelling info) place region first last long made (reserved-new items c.args.actor info place fits (inside_arena c)) p.reservations c.args.r
+    reserved_others items (spelling info) place region first last long made (reserved-new items c.args.actor info place fits (inside_arena c) placed) p.reservations c.args.r
     (reserve-others book c.args.actor c.args.r info place fits (inside_arena c) c.in-Some.ensures.bound (lie c)) kept.reserved in
     record {
       arena = kept.arena ∙ sym (ap (λ (q : ProductsView). q.arena) after);
@@ -78,6 +80,7 @@ invariant_of-self c =
       rising = subst (λ (ks : List Kept). AreRising ks) (sym rows) kept.rising;
       apart = c.in-Some.ensures.apart;
       arena_small = kept.arena_small;
+      good_arena = kept.good_arena;
       slots_small = omega (arith, kept.slots_small, ap (λ (q : ProductsView). q.slots) after);
       some_slot = omega (arith, kept.some_slot, ap (λ (q : ProductsView). q.slots) after);
       admitted_small = kept.admitted_small;

@@ -94,6 +94,7 @@ invariant_of-self-in-Some-first_meeting c =
       rising = c.self.invariant.rising;
       apart = c.self.invariant.apart;
       arena_small = c.self.invariant.arena_small;
+      good_arena = c.self.invariant.good_arena;
       slots_small = c.self.invariant.slots_small;
       some_slot = c.self.invariant.some_slot;
       admitted_small = c.self.invariant.admitted_small;
