@@ -1,0 +1,15 @@
+mod Told
+mod GateLemmas
+mod BodyLemmas
+mod SaveLemmas
+mod OpenLemmas
+mod HeadLemmas
+mod RowLemmas
+mod TableLemmas
+mod FieldLemmas
+mod OtherLemmas
+mod BackupLemmas
+mod WholeLemmas
+mod RestoreLemmas
+mod JudgeLemmas
+mod OpeningLemmas

@@ -98,7 +98,12 @@ pub record LiesAt (file : List ℕ) (row : ℕ) (info : Metadata) : Type 0 where
   pub apart : (earlier : ℕ) (other : Metadata) → earlier < row → StandsAt (arena_bytes file) (place_in earlier file) other →
       AreApart (region_at (place_in earlier file) other) (region_at (place_in row file) info) × (other.signature ≢ info.signature)
 
--- whether a field is lawful, where those before it are
+-- the end of the file does not cut the arena
+abbrev pub HasArena : List ℕ → Type 0
+HasArena file = arena_start file + arena_in file ≤ length file
+
+-- Whether a field is lawful, where those before it are. Where the end cuts the arena, that is what keeps the file from being an
+-- image, and a row is judged by its own three numbers alone.
 abbrev pub IsFieldLawful : List ℕ → Field → Type 0
 IsFieldLawful file Magic = take 4 file ≡ 76 ∷ 68 ∷ 77 ∷ 81 ∷ []
 IsFieldLawful file Version = between 4 5 file ≡ 1 ∷ []
@@ -121,8 +126,8 @@ IsFieldLawful file (RowTime row) =
     × ((earlier : ℕ) → earlier + 1 ≡ row → time_in earlier file < time_in row file)
     × (number_in row file + 1 ≡ admitted_in file → time_in row file + 1 ≡ last_in file)
 IsFieldLawful file (RowPlace row) =
-    HasEight (row_start row + 16) file × (place_in row file % ARENA_UNIT ≡ 0) × (info : Metadata) × LiesAt file row info
-IsFieldLawful file Bytes = arena_start file + arena_in file ≤ length file
+    HasEight (row_start row + 16) file × (place_in row file % ARENA_UNIT ≡ 0) × (HasArena file → (info : Metadata) × LiesAt file row info)
+IsFieldLawful file Bytes = HasArena file
 IsFieldLawful file Surplus = length file ≤ arena_start file + arena_in file
 
 -- the fields of this row and those behind it

@@ -1,13 +1,8 @@
 -- The image of a queue: the bytes of a file that keeps it. The format is this project's own.
-use Rattle.std.specs.Prelude.{◌≡◌, ◌≢◌, ℕ, ◌+◌, ◌%◌, ◌<◌, ◌≤◌, List, [], ◌∷◌, ◌++◌, length, replicate, flat_map, Option, Some, None, IfSome}
+use Rattle.std.specs.Prelude.{◌≡◌, ℕ, ◌+◌, List, [], ◌∷◌, ◌++◌, length, flat_map, Option, Some, None}
 use Rattle.std.specs.Int.{w64, to_be_bytes}
-use Rattle.std.specs.List.{AllByRecursion}
-use Rattle.ldm_types.specs.declared.limits.TheConstants.{GREATEST_INSTANT, SMALLEST_ARENA, LARGEST_ARENA, ARENA_UNIT, MOST_SLOTS}
-use Rattle.ldm_model.specs.State.{State}
 use Rattle.ldm_book.specs.View.{BookView, Kept}
-use Rattle.ldm_book.specs.Products.{AreRising, LieApart, occupied_by}
-use Rattle.ldm_book.specs.Sound.{IsTimed}
-use Rattle.ldm_book.specs.Stored.{HaveMetadata}
+use Rattle.ldm_book.specs.Restoring.{IsRestorable}
 
 -- "LDMQ", the number of this format, the gate, and two bytes 0
 abbrev pub opening : ℕ → List ℕ
@@ -45,40 +40,7 @@ image_with gate book = head_bytes gate book ++ book.bytes
 abbrev pub image : BookView → List ℕ
 image book = image_with 1 book
 
--- a product that was admitted last has the last insertion time
-abbrev pub IsNewest : BookView → Kept → Type 0
-IsNewest book k = k.number + 1 ≡ book.admitted → book.last ≡ Some k.time
-
--- no two have one signature
-abbrev pub SignaturesDiffer : List Kept → Type 0
-SignaturesDiffer [] = Unit {0}
-SignaturesDiffer (k ∷ rows) = AllByRecursion (λ (other : Kept). other.signature ≢ k.signature) rows × SignaturesDiffer rows
-
--- What an image says of a queue, of which nothing is open.
-pub record IsLawful (book : BookView) : Type 0 where
-  pub arena : (SMALLEST_ARENA ≤ book.arena) × (book.arena ≤ LARGEST_ARENA) × (book.arena % ARENA_UNIT ≡ 0)
-  pub filled : length book.bytes ≡ book.arena
-  pub slots : (0 < book.slots) × (book.slots ≤ MOST_SLOTS)
-  pub last : IfSome book.last (λ last. (last ≤ GREATEST_INSTANT) × (0 < book.admitted))
-  pub few : length book.rows ≤ book.slots
-  -- numbers and times are below those admitted and not above the last, and rise
-  pub timed : IsTimed book.last book.admitted book.rows
-  pub rising : AreRising book.rows
-  pub newest : AllByRecursion (IsNewest book) book.rows
-  -- at each place stand metadata and a body behind them, within the arena, and apart from the others
-  pub placed : AllByRecursion (λ (k : Kept). k.place % ARENA_UNIT ≡ 0) book.rows
-  pub stored : HaveMetadata book.bytes book.rows
-  pub apart : LieApart book.arena (occupied_by book.rows [])
-  pub differ : SignaturesDiffer book.rows
-  -- nothing is open
-  pub no_cursor : book.cursors ≡ replicate 64 None
-  pub no_reservation : book.reservations ≡ replicate 64 None
-
 -- a file is the image of a queue
 pub record IsImage (file : List ℕ) (book : BookView) : Type 0 where
   pub is : file ≡ image book
-  pub lawful : IsLawful book
-
--- the queue after its cursors are closed and its reservations discarded
-abbrev pub reopened : State → State
-reopened s = record s { cursors = replicate 64 None; reservations = replicate 64 None }
+  pub lawful : IsRestorable book

@@ -1,3 +1,12 @@
 pub mod Image
 pub mod Fault
 pub mod Examples
+pub mod Saving
+pub mod Gates
+pub mod Bodies
+pub mod Opening
+pub mod Reading
+pub mod Sizes
+pub mod Rows
+pub mod Judging
+pub mod Stages

@@ -1,6 +1,7 @@
 //! A check of the definitions: worked examples that compute.
 ghost use Rattle.std.specs.Prelude.{◌≡◌, ◌++◌, ◌∷◌, [], length, take, drop, replicate};
-ghost use Rattle.ldm_image.specs.Image.{image, image_with, IsLawful};
+ghost use Rattle.ldm_book.specs.Restoring.{IsRestorable};
+ghost use Rattle.ldm_image.specs.Image.{image, image_with};
 ghost use Rattle.ldm_image.specs.Fault.{arena_in, slots_in, admitted_in, last_in, count_in, number_in};
 ghost use Rattle.ldm_image.specs.Fault.{time_in, place_in, arena_start, arena_bytes, fields, IsFaultyAt};
 ghost use Rattle.ldm_image.specs.Fault.{Magic, Version, Gate, Zeros, Arena, Slots, Admitted, Last, Count};
@@ -28,7 +29,7 @@ pub fn worked_examples()
         ≡ Magic ∷ Version ∷ Gate ∷ Zeros ∷ Arena ∷ Slots ∷ Admitted ∷ Last ∷ Count ∷ RowNumber 0 ∷ RowTime 0
         ∷ RowPlace 0 ∷ Bytes ∷ Surplus ∷ [] }
     // An empty queue has an image; no bytes have none, nor have the first 12 of it, nor has it with a byte more.
-    ensures lawful { IsLawful (empty_book 64 10) }
+    ensures lawful { IsRestorable (empty_book 64 10) }
     ensures no_bytes { IsFaultyAt [] 0 }
     ensures cut_short { IsFaultyAt (take 12 (image (empty_book 64 10))) 8 }
     ensures surplus { IsFaultyAt (image (empty_book 64 10) ++ 0 ∷ []) 112 }

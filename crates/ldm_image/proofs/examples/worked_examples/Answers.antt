@@ -11,6 +11,7 @@ returns-clause-lawful c = record {
   few = omega arith;
   timed = (refl, refl);
   rising = tt;
+  times = tt;
   newest = tt;
   placed = tt;
   stored = tt;
