@@ -27,8 +27,8 @@ fn path_of(rt: HostRuntime, trial: &mut Trial, name: &str) -> String {
     }
 }
 
-// The path of the name in the next word.
-fn next_path(rt: HostRuntime, trial: &mut Trial) -> String {
+/// The path of the name in the next word.
+pub fn next_path(rt: HostRuntime, trial: &mut Trial) -> String {
     let name = trial.word();
     path_of(rt, trial, name)
 }

@@ -2,6 +2,7 @@
 #![tactic(auto)]
 
 mod disk;
+mod file;
 mod gates;
 mod streams;
 mod system;
@@ -17,6 +18,7 @@ fn answer(rt: HostRuntime, trial: &mut Trial) {
         "source" => streams::source(trial),
         "sink" => streams::sink(trial),
         "disk" => disk::disk(rt, trial),
+        "file" => file::file(rt, trial),
         "shell" => system::run_shell(rt, trial),
         "missing" => system::missing(rt, trial),
         "late" => system::late(rt, trial),

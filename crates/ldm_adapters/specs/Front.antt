@@ -20,3 +20,10 @@ TakesFront put.Failed piece = Unit {0}
 abbrev pub TakesPiped : Put → Bool → List ℕ → Type 0
 TakesPiped (put.Took n) piped piece = (piped ≡ true) × (n ≤ length piece) × (0 < length piece → 0 < n)
 TakesPiped put.Failed piped piece = Unit {0}
+
+-- bytes that came of a place are not more than the buffer has room for, and at least one where it has any; there is an end
+-- only for a buffer that has
+abbrev pub GivesPlace : Got → List ℕ → Type 0
+GivesPlace (Bytes n) into = (n ≤ length into) × (0 < length into → 0 < n)
+GivesPlace End into = 0 < length into
+GivesPlace Failed into = Unit {0}

@@ -1,5 +1,6 @@
 -- What the forms of the system tell: counts alone.
-use Rattle.std.specs.Prelude.{Some, None}
+use Rattle.std.specs.Prelude.{Some, None, is_some}
+use Rattle.ldm_disk.specs.Told.{DiskRecord}
 use Rattle.ldm_outside.specs.declared.net.Station.{Station}
 use Rattle.ldm_outside.specs.Clock.{ClockRecord}
 use Rattle.ldm_outside.specs.Dial.{DialRecord}
@@ -11,6 +12,7 @@ use Rattle.ldm_outside.specs.Link.{LinkRecord}
 use Rattle.ldm_outside.specs.Station.{StationRecord, station_tells}
 use Rattle.ldm_adapters.specs.declared.clock.RealClock.{RealClock}
 use Rattle.ldm_adapters.specs.declared.dials.RealDial.{RealDial}
+use Rattle.ldm_adapters.specs.declared.disk.RealDisk.{RealDisk}
 use Rattle.ldm_adapters.specs.declared.doors.RealDoor.{RealDoor}
 use Rattle.ldm_adapters.specs.declared.gate.RealGate.{RealGate}
 use Rattle.ldm_adapters.specs.declared.lending.RealLending.{RealLending}
@@ -44,6 +46,9 @@ told_by_door s = record {
 
 abbrev pub told_by_dial : RealDial → DialRecord
 told_by_dial s = record { faults = s.faults; asked = None; links = told_by_lending s.links }
+
+abbrev pub told_by_disk : RealDisk → DiskRecord
+told_by_disk s = record { faults = s.faults; attached = is_some s.file; file = None }
 
 abbrev pub told_by_station : {W : Type 0} → Station RealDoor RealDial (RealSink W) RealClock RealGate → StationRecord
 told_by_station station = station_tells told_by_door told_by_dial told_by_sink told_by_clock told_by_gate station

@@ -1,5 +1,5 @@
 //! The outside of the program as it really is: the system's streams, files, programs, clock and sockets, as the traits
-//! of `ldm_outside`.
+//! of `ldm_outside` and `ldm_disk`.
 //!
 //! Each form does what its trait says by a call or two of the system, counts an error of the system as a fault, and
 //! makes a call again where a signal interrupted it. None tells what it holds, has left or was sent: what the system
@@ -10,6 +10,7 @@ mod beats;
 mod children;
 mod clock;
 mod dials;
+mod disk;
 mod doors;
 mod files;
 mod gate;
@@ -22,6 +23,7 @@ mod streams;
 pub use children::RealLauncher;
 pub use clock::RealClock;
 pub use dials::RealDial;
+pub use disk::RealDisk;
 pub use doors::RealDoor;
 pub use files::RealStore;
 pub use gate::{BUSY_MILLISECONDS, IDLE_MILLISECONDS, LOOK_MILLISECONDS, RealGate};
