@@ -18,7 +18,8 @@ use Rattle.ldm_status.specs.declared.status.Status.TheVariants as status
 use Rattle.ldm_script.specs.Lines.{Cut, cut, whole_lines, lines_of, last_line}
 use Rattle.ldm_play.specs.Lines.{known_lines}
 use Rattle.ldm_play.specs.Play.{BadLine, Played, play_line, play}
-use Rattle.ldm_play.specs.Ending.{Size, ScriptEnds, PlayEnds}
+use Rattle.ldm_play.specs.Ending.{Size, ScriptEnds, PlaysScript, PlayEnds}
+use Rattle.ldm_play.specs.OnBook.{RunsFreely}
 use Rattle.ldm_status.specs.Status.{code_of, Reports}
 use Rattle.ldm_play.specs.Statuses.{status_of_script, status_of_play}
 use Rattle.ldm_play.specs.Complete.{Unhindered}
@@ -90,34 +91,50 @@ known_on p script rest on = elim (cases_lt LONGEST_LINE (length (cut script).unf
       ∙ before_on (whole_lines script) 1 p before.0 (sym (ap (λ (ls : List (List ℕ)). (play 1 p ls).stop) before.1) ∙ on)
 ]
 
-module _ (size : Size) (old new : StreamsRecord) (free : Unhindered size old new) where
+-- a play that nothing hinders
+module _ (p : Playing) (old new : StreamsRecord) (free : RunsFreely p old new) where
   part : (taken : List ℕ) → Gives old.source taken new.source → (rest : List ℕ) × (new.source.left ≡ Some rest) × (free.script ≡ taken ++ rest)
   part taken gives = parts free.script taken old.source new.source free.told gives
 
   -- no more is taken than there is
   short_taken : (taken : List ℕ) → Gives old.source taken new.source → length taken < SCRIPT_LIMIT
   short_taken taken gives =
-      let p = part taken gives in
-      omega (arith, free.short, ap length p.2, length-append taken p.0)
+      let q = part taken gives in
+      omega (arith, free.short, ap length q.2, length-append taken q.0)
 
   -- the play stops at no line outside the grammar
-  no_bad_line : (bad : BadLine) (ended : Bool) (taken : List ℕ) → Gives old.source taken new.source → (ended ≡ true → AtEnd old.source new.source) → (play 1 (new_play size.arena size.slots) (known_lines ended taken)).stop ≡ Some bad → ⊥
+  no_bad_line : (bad : BadLine) (ended : Bool) (taken : List ℕ) → Gives old.source taken new.source → (ended ≡ true → AtEnd old.source new.source) → (play 1 p (known_lines ended taken)).stop ≡ Some bad → ⊥
   no_bad_line bad true taken gives at_end stops =
       let whole = whole_at_end free.script taken old.source new.source free.told gives (at_end refl) in
-      none-some bad (sym free.good_lines ∙ ap (λ (t : List ℕ). (play 1 (new_play size.arena size.slots) (lines_of t)).stop) whole ∙ stops)
+      none-some bad (sym free.good_lines ∙ ap (λ (t : List ℕ). (play 1 p (lines_of t)).stop) whole ∙ stops)
   no_bad_line bad false taken gives at_end stops =
-      let p = part taken gives in
-      none-some bad (sym (known_on (new_play size.arena size.slots) taken p.0 (sym (ap (λ (t : List ℕ). (play 1 (new_play size.arena size.slots) (lines_of t)).stop) p.2) ∙ free.good_lines)) ∙ stops)
+      let q = part taken gives in
+      none-some bad (sym (known_on p taken q.0 (sym (ap (λ (t : List ℕ). (play 1 p (lines_of t)).stop) q.2) ∙ free.good_lines)) ∙ stops)
 
-  script_done : (ending : ScriptEnd) (taken : List ℕ) → Gives old.source taken new.source → ScriptEnds ending (new_play size.arena size.slots) taken old new → status_of_script ending ≡ status.Done
-  script_done script_end.Done taken gives ends = refl
-  script_done script_end.StreamLimit taken gives ends = absurd (omega (arith, short_taken taken gives, ends.0))
-  script_done script_end.SourceFault taken gives ends = absurd (free.source_works ends.1)
-  script_done (script_end.Stopped (stop.BadLine line column)) taken gives ends = absurd (no_bad_line (record { line = line; column = column }) ends.0 taken gives ends.1 ends.2.0)
-  script_done (script_end.Stopped stop.SinkFault) taken gives ends = absurd (free.sink_works ends.2.0)
+  by_ending : (ending : ScriptEnd) (taken : List ℕ) → Gives old.source taken new.source → ScriptEnds ending p taken old new → ending ≡ script_end.Done
+  by_ending script_end.Done taken gives ends = refl
+  by_ending script_end.StreamLimit taken gives ends = absurd (omega (arith, short_taken taken gives, ends.0))
+  by_ending script_end.SourceFault taken gives ends = absurd (free.source_works ends.1)
+  by_ending (script_end.Stopped (stop.BadLine line column)) taken gives ends = absurd (no_bad_line (record { line = line; column = column }) ends.0 taken gives ends.1 ends.2.0)
+  by_ending (script_end.Stopped stop.SinkFault) taken gives ends = absurd (free.sink_works ends.2.0)
+
+  -- it comes to the end of its script
+  pub script_done : (ending : ScriptEnd) → PlaysScript ending p old new → ending ≡ script_end.Done
+  script_done ending plays = by_ending ending plays.script plays.taken plays.ends
+
+module _ (size : Size) (old new : StreamsRecord) (free : Unhindered size old new) where
+  runs_freely : RunsFreely (new_play size.arena size.slots) old new
+  runs_freely = record {
+    script = free.script;
+    told = free.told;
+    short = free.short;
+    good_lines = free.good_lines;
+    source_works = free.source_works;
+    sink_works = free.sink_works;
+  }
 
   comes_to_end : (ending : Result ScriptEnd CreateFault) → PlayEnds ending size old new → (status_of_play ending ≡ status.Done) ⊎ (status_of_play ending ≡ status.NoMemory)
-  comes_to_end (Ok ending) ends = inl (script_done ending ends.2.script ends.2.taken ends.2.ends)
+  comes_to_end (Ok ending) ends = inl (ap status_of_script (script_done (new_play size.arena size.slots) old new runs_freely ending ends.2))
   comes_to_end (Err (fault.BadArena arena)) ends = absurd (ends.0.1 free.good_arena)
   comes_to_end (Err (fault.BadSlots slots)) ends = absurd (ends.0.2 free.good_slots)
   comes_to_end (Err fault.OutOfMemory) ends = inr refl

@@ -1,5 +1,5 @@
 -- A script that is played piece by piece: for `GoesOn`.
-use Rattle.std.proofs.Common.{◌≡◌, ℕ, ◌+◌, ◌<◌, ◌≤◌, Bool, true, false, cond, eqb, List, [], ◌∷◌, ◌++◌, length, None, Ok, refl, sym, ap, subst, ◌∙◌, append_assoc, arith, length-append}
+use Rattle.std.proofs.Common.{◌≡◌, ℕ, ◌+◌, ◌<◌, ◌≤◌, Bool, true, false, cond, eqb, List, [], ◌∷◌, ◌++◌, length, None, refl, sym, ap, subst, ◌∙◌, append_assoc, arith, length-append}
 use Rattle.std.proofs.lemmas.Bool.{eqb-true, le-ltb, lt-ltb, true≢false}
 use Rattle.std.proofs.lemmas.List.{append-nil}
 use Rattle.ldm_outside.specs.Io.{SinkRecord, Takes, WritesFront}
@@ -15,11 +15,11 @@ use Rattle.ldm_play.specs.PlayerView.{PlayerView, StandsForPlay}
 use Rattle.ldm_play.specs.PendingView.{PendingView, fresh_line}
 use Rattle.ldm_play.specs.Ending.{AnswersKnownLines, StopsAt}
 use Rattle.ldm_play.specs.Legal.{StaysLegal}
-use Rattle.ldm_play.specs.Step.{GoesOn, LineStops, EndGives}
+use Rattle.ldm_play.specs.Step.{GoesOn, LineStops, AnswersScript}
 use Rattle.ldm_script.proofs.SplitLemmas.{Lacks}
 use Rattle.ldm_play.proofs.PlayLineLemmas.{read_line-long, stops_at}
 use Rattle.ldm_script.proofs.CutLemmas.{cut-line, cut-within}
-use Rattle.ldm_play.proofs.PlayLemmas.{play-line_more, play-stop, play-line_on, stopped_text, stopped_playing}
+use Rattle.ldm_play.proofs.PlayLemmas.{onward, play-line_more, play-stop, play-line_on, stopped_text, stopped_playing}
 
 -- the lines that are known where what is unfinished is not too long yet
 pub known_lines-short : (script : List ℕ) → length (cut script).unfinished ≤ LONGEST_LINE → known_lines false script ≡ whole_lines script
@@ -160,14 +160,16 @@ module _ (p : Playing) (script : List ℕ) (player : PlayerView) (pending : Pend
       (stops_behind (stop.BadLine pending.number (LONGEST_LINE + 1)) line [] now (stops_at pending.number here line (LONGEST_LINE + 1) (read_line-long line long), refl))
 
   -- the script ended behind a line
-  pub nothing_left : eqb (length pending.bytes) 0 ≡ true → EndGives (Ok tt) p script before now
+  pub nothing_left : eqb (length pending.bytes) 0 ≡ true → AnswersScript p script player before now
   nothing_left none =
       let known : known_lines true script ≡ whole_lines script =
-      ap (λ (u : List ℕ). whole_lines script ++ last_line u) (on.unfinished ∙ no_bytes pending.bytes none) ∙ append-nil (whole_lines script) in (
-        subst (λ (ls : List (List ℕ)). (play 1 p ls).stop ≡ None) (sym known) on.running,
-        subst (λ (ls : List (List ℕ)). Takes before (play 1 p ls).text now) (sym known) on.written,
-        subst (λ (ls : List (List ℕ)). StaysLegal p (play 1 p ls).playing) (sym known) on.legal,
-      )
+      ap (λ (u : List ℕ). whole_lines script ++ last_line u) (on.unfinished ∙ no_bytes pending.bytes none) ∙ append-nil (whole_lines script) in
+      record {
+        running = subst (λ (ls : List (List ℕ)). (play 1 p ls).stop ≡ None) (sym known) on.running;
+        written = subst (λ (ls : List (List ℕ)). Takes before (play 1 p ls).text now) (sym known) on.written;
+        legal = subst (λ (ls : List (List ℕ)). StaysLegal p (play 1 p ls).playing) (sym known) on.legal;
+        stands = subst (λ (ls : List (List ℕ)). StandsForPlay player (play 1 p ls).playing) (sym known) on.stands;
+      }
     where
       no_bytes : (text : List ℕ) → eqb (length text) 0 ≡ true → text ≡ []
       no_bytes [] h = refl
@@ -181,19 +183,27 @@ module _ (p : Playing) (script : List ℕ) (player : PlayerView) (pending : Pend
       one_line [] h = absurd (true≢false h)
       one_line (byte ∷ bytes) h = refl
 
-  pub last_ends : (after : SinkRecord) → eqb (length pending.bytes) 0 ≡ false
+  -- the play of the lines of the script
+  last_more : eqb (length pending.bytes) 0 ≡ false → (play_line pending.number here pending.bytes).stop ≡ None
+      → play 1 p (known_lines true script) ≡ onward (play 1 p (whole_lines script)) (play_line pending.number here pending.bytes)
+  last_more some running =
+      ap (λ (ls : List (List ℕ)). play 1 p ls) (last-known some) ∙ play-line_more (whole_lines script) p pending.bytes pending.number on.number on.running running
+
+  pub last_ends : (played : PlayerView) (after : SinkRecord) → eqb (length pending.bytes) 0 ≡ false
       → (play_line pending.number here pending.bytes).stop ≡ None
+      → StandsForPlay played (play_line pending.number here pending.bytes).playing
       → Takes now (play_line pending.number here pending.bytes).text after
       → StaysLegal here (play_line pending.number here pending.bytes).playing
-      → EndGives (Ok tt) p script before after
-  last_ends after some running written legal =
+      → AnswersScript p script played before after
+  last_ends played after some running stands written legal =
       let lines = whole_lines script in
-      let more = play-line_more lines p pending.bytes pending.number on.number on.running running in
-      subst (λ (ls : List (List ℕ)). ((play 1 p ls).stop ≡ None) × Takes before (play 1 p ls).text after × StaysLegal p (play 1 p ls).playing) (sym (last-known some)) (
-        ap (λ (x : Played). x.stop) more ∙ running,
-        subst (λ (x : Played). Takes before x.text after) (sym more) (Takes-then before now after (play 1 p lines).text (play_line pending.number here pending.bytes).text on.written written),
-        subst (λ (x : Played). StaysLegal p x.playing) (sym more) (legal_then (play_line pending.number here pending.bytes).playing legal),
-      )
+      let more = last_more some running in
+      record {
+        running = ap (λ (x : Played). x.stop) more ∙ running;
+        written = subst (λ (x : Played). Takes before x.text after) (sym more) (Takes-then before now after (play 1 p lines).text (play_line pending.number here pending.bytes).text on.written written);
+        legal = subst (λ (x : Played). StaysLegal p x.playing) (sym more) (legal_then (play_line pending.number here pending.bytes).playing legal);
+        stands = subst (λ (x : Played). StandsForPlay played x.playing) (sym more) stands;
+      }
 
   pub last_stops : (why : LineFault) (after : SinkRecord) → eqb (length pending.bytes) 0 ≡ false
       → LineStops why here (play_line pending.number here pending.bytes) now after

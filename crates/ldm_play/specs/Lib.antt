@@ -4,6 +4,7 @@ pub mod PlayerView
 pub mod Legal
 pub mod PendingView
 pub mod Ending
+pub mod OnBook
 pub mod Law
 pub mod Step
 pub mod Statuses

@@ -6,7 +6,7 @@ use Rattle.ldm_script.specs.declared.line.TheConstants.{LONGEST_LINE}
 use Rattle.ldm_script.specs.Resolve.{Playing}
 use Rattle.ldm_play.specs.declared.player.LineFault.{LineFault}
 use Rattle.ldm_play.specs.declared.player.LineFault.TheVariants as stop
-use Rattle.ldm_script.specs.Lines.{cut, whole_lines}
+use Rattle.ldm_script.specs.Lines.{cut, whole_lines, lines_of}
 use Rattle.ldm_play.specs.Lines.{known_lines}
 use Rattle.ldm_play.specs.Play.{Played, play}
 use Rattle.ldm_play.specs.PlayerView.{PlayerView, StandsForPlay}
@@ -41,8 +41,14 @@ abbrev pub PieceGives : Result (Unit {0}) LineFault → Playing → List ℕ →
 PieceGives (Ok done) p script player pending old new = GoesOn p script player pending old new
 PieceGives (Err why) p script player pending old new = StopsAt why p (known_lines false script) old new
 
+-- All lines of a script are answered, and the player stands for the play that follows.
+pub record AnswersScript (p : Playing) (script : List ℕ) (player : PlayerView) (old new : SinkRecord) : Type 0 where
+  pub running : (play 1 p (lines_of script)).stop ≡ None
+  pub written : Takes old (play 1 p (lines_of script)).text new
+  pub legal : StaysLegal p (play 1 p (lines_of script)).playing
+  pub stands : StandsForPlay player (play 1 p (lines_of script)).playing
+
 -- the end of a script came, and its last line was played
-abbrev pub EndGives : Result (Unit {0}) LineFault → Playing → List ℕ → SinkRecord → SinkRecord → Type 0
-EndGives (Ok done) p script old new =
-    ((play 1 p (known_lines true script)).stop ≡ None) × Takes old (play 1 p (known_lines true script)).text new × StaysLegal p (play 1 p (known_lines true script)).playing
-EndGives (Err why) p script old new = StopsAt why p (known_lines true script) old new
+abbrev pub EndGives : Result (Unit {0}) LineFault → Playing → List ℕ → PlayerView → SinkRecord → SinkRecord → Type 0
+EndGives (Ok done) p script player old new = AnswersScript p script player old new
+EndGives (Err why) p script player old new = StopsAt why p (known_lines true script) old new

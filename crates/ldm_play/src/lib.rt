@@ -4,9 +4,13 @@
 //! contract says how that ends.
 #![tactic(auto)]
 
+mod on_book;
 mod pending;
 mod play_command;
 mod player;
 mod statuses;
 
-pub use play_command::{SCRIPT_LIMIT, play};
+pub use on_book::{PlayedBook, play_on};
+pub use play_command::{SCRIPT_LIMIT, ScriptEnd, play};
+pub use player::LineFault;
+pub use statuses::status_of;

@@ -1,17 +1,19 @@
 //! `ldm play`: a script, played on a queue.
 ghost use Rattle.std.specs.Prelude.{◌≡◌, ◌+◌, ◌^◌, ◌<◌, ◌≤◌, ◌++◌, ℕ, List, length, OnOk, Result};
 ghost use Rattle.ldm_outside.specs.Io.{SinkRecord};
-ghost use Rattle.ldm_status.specs.Streams.{StreamsRecord, KeepsFaults, streams_tells};
+ghost use Rattle.ldm_status.specs.Streams.{KeepsFaults, streams_tells};
 ghost use Rattle.ldm_script.specs.Resolve.{Playing};
 ghost use Rattle.ldm_play.specs.Play.{play_line};
 ghost use Rattle.ldm_play.specs.PlayerView.{StandsForPlay};
 ghost use Rattle.ldm_play.specs.PendingView.{fresh_line};
-ghost use Rattle.ldm_play.specs.Ending.{PlaysScript, PlayEnds};
+ghost use Rattle.ldm_play.specs.Ending.{PlayEnds};
+ghost use Rattle.ldm_play.specs.OnBook.{PlaysOn, beside};
 ghost use Rattle.ldm_play.specs.Step.{GoesOn, LineGives, PieceGives, EndGives};
 ghost use Rattle.ldm_play.specs.Law.{ObeysPlayLaw};
 ghost use Rattle.ldm_play.specs.Run.{Plays};
 ghost use Rattle.ldm_play.specs.Complete.{Completes};
 
+use crate::on_book::play_on;
 use crate::pending::Pending;
 use crate::player::{LineFault, Player};
 use crate::statuses::status_of;
@@ -19,7 +21,7 @@ use ldm_book::{Book, CreateFault};
 use ldm_calls::histories_are_lawful;
 use ldm_outside::{Got, Sink, Source};
 use ldm_script::LONGEST_LINE;
-use ldm_status::{PIECE, Streams};
+use ldm_status::Streams;
 use memchr::memchr;
 use std::alloc::Global;
 
@@ -119,7 +121,7 @@ fn play_piece<K: Sink>(
 fn play_last<K: Sink>(player: &mut Player, pending: &Pending, sink: &mut K) -> Result<(), LineFault>
     ensures played { (p : Playing) (script : List ℕ) (before : SinkRecord)
         → GoesOn p script player.old pending.now before (K.tells sink.old) →
-        EndGives result p script before (K.tells sink.new) }
+        EndGives result p script player.new before (K.tells sink.new) }
     ensures faults_kept { (K.tells sink.old).faults ≤ (K.tells sink.new).faults }
 {
     if pending.is_empty() {
@@ -129,7 +131,7 @@ fn play_last<K: Sink>(player: &mut Player, pending: &Pending, sink: &mut K) -> R
 }
 
 // Reads the script piece by piece, up to its end or its limit, and plays its lines.
-fn play_script<S: Source, K: Sink>(
+pub(crate) fn play_script<S: Source, K: Sink>(
     player: &mut Player,
     pending: &mut Pending,
     piece: &mut [u8],
@@ -139,9 +141,8 @@ fn play_script<S: Source, K: Sink>(
     requires room { 0 < length piece.old }
     requires fresh { pending.old ≡ fresh_line 1 }
     ensures plays { (p : Playing) (log_before log_after : SinkRecord) → StandsForPlay player.old p →
-        let old : StreamsRecord = record { source = S.tells source.old; sink = K.tells sink.old; log = log_before } in
-        let new : StreamsRecord = record { source = S.tells source.new; sink = K.tells sink.new; log = log_after } in
-        PlaysScript result p old new }
+        PlaysOn result p player.new.book (beside log_before (S.tells source.old) (K.tells sink.old))
+        (beside log_after (S.tells source.new) (K.tells sink.new)) }
     ensures source_faults_kept { (S.tells source.old).faults ≤ (S.tells source.new).faults }
     ensures sink_faults_kept { (K.tells sink.old).faults ≤ (K.tells sink.new).faults }
 {
@@ -168,7 +169,7 @@ fn play_script<S: Source, K: Sink>(
     ScriptEnd::StreamLimit
 }
 
-// Makes the queue and all the memory that playing takes, and plays the script.
+// Makes the queue, and plays the script on it.
 fn play_new<S: Source, K: Sink>(
     alloc: Global,
     arena: u64,
@@ -177,17 +178,15 @@ fn play_new<S: Source, K: Sink>(
     sink: &mut K,
 ) -> Result<ScriptEnd, CreateFault>
     ensures ends { (log_before log_after : SinkRecord) →
-        let old : StreamsRecord = record { source = S.tells source.old; sink = K.tells sink.old; log = log_before } in
-        let new : StreamsRecord = record { source = S.tells source.new; sink = K.tells sink.new; log = log_after } in
-        PlayEnds result (record { arena = arena; slots = slots }) old new }
+        PlayEnds result (record { arena = arena; slots = slots })
+        (beside log_before (S.tells source.old) (K.tells sink.old))
+        (beside log_after (S.tells source.new) (K.tells sink.new)) }
     ensures source_faults_kept { (S.tells source.old).faults ≤ (S.tells source.new).faults }
     ensures sink_faults_kept { (K.tells sink.old).faults ≤ (K.tells sink.new).faults }
 {
     let book = Book::create(alloc, arena, slots)?;
-    let mut player = Player::new(alloc, book)?;
-    let mut pending = Pending::new(alloc)?;
-    let mut piece = vec![in alloc; 0u8; PIECE]?;
-    Ok(play_script(&mut player, &mut pending, &mut piece, source, sink))
+    let played = play_on(alloc, book, source, sink)?;
+    Ok(played.end)
 }
 
 /// Plays a script on a new queue with an arena of so many bytes and so many slots: reads the source to its end, and

@@ -52,6 +52,13 @@ impl Player {
         })
     }
 
+    /// The queue, as the lines left it.
+    pub fn into_book(self) -> Book
+        ensures { result ≡ self.book }
+    {
+        self.book
+    }
+
     /// Plays the line of that number in the script, without its newline: what it asks for is done, and its answer goes
     /// to the sink as one piece.
     ///

@@ -14,6 +14,7 @@ code_of (status.BadLine line column) = 65
 code_of (status.BadFrame at) = 65
 code_of (status.BadConf file line kind) = 65
 code_of (status.BadPqact line kind) = 65
+code_of (status.BadImage at) = 65
 code_of status.StreamLimit = 66
 code_of (status.RefusedArena arena) = 67
 code_of (status.RefusedSlots slots) = 67
@@ -27,6 +28,7 @@ code_of status.SinkFault = 75
 code_of status.Worn = 77
 code_of status.Denied = 78
 code_of status.Refused = 79
+code_of status.Unclean = 80
 
 -- the log line, with its newline: nothing where all went well
 abbrev pub log_line : Status → List ℕ
@@ -37,6 +39,7 @@ log_line (status.BadFrame at) = codes "ldm: bad frame at " ++ decimal at ++ 10 �
 log_line (status.BadConf file line kind) =
     codes "ldm: bad conf file " ++ decimal file ++ codes " line " ++ decimal line ++ codes " kind " ++ decimal kind ++ 10 ∷ []
 log_line (status.BadPqact line kind) = codes "ldm: bad pqact line " ++ decimal line ++ codes " kind " ++ decimal kind ++ 10 ∷ []
+log_line (status.BadImage at) = codes "ldm: bad image at " ++ decimal at ++ 10 ∷ []
 log_line status.StreamLimit = codes "ldm: stream limit\n"
 log_line (status.RefusedArena arena) = codes "ldm: refused arena " ++ decimal arena ++ 10 ∷ []
 log_line (status.RefusedSlots slots) = codes "ldm: refused slots " ++ decimal slots ++ 10 ∷ []
@@ -50,6 +53,7 @@ log_line status.SinkFault = codes "ldm: sink fault\n"
 log_line status.Worn = codes "ldm: worn\n"
 log_line status.Denied = codes "ldm: denied\n"
 log_line status.Refused = codes "ldm: refused\n"
+log_line status.Unclean = codes "ldm: unclean image\n"
 
 -- The number that ends the program, and what the log took: the status and its line; or 76, where the log failed,
 -- and a front of the line.

@@ -31,6 +31,8 @@ pub enum Status {
     /// An entry of a pqact.conf is faulty, or the file is too long: its first line, and the number of the kind of
     /// fault.
     BadPqact { line: u32, kind: u32 },
+    /// A file is no image of a queue: the first field that is not lawful begins at that byte.
+    BadImage { at: u64 },
     /// As many bytes of a script or of a stream were taken as are too many.
     StreamLimit,
     /// No queue has an arena of so many bytes.
@@ -57,6 +59,8 @@ pub enum Status {
     Denied,
     /// A queue did not admit each product, and there was no other fault.
     Refused,
+    /// A file has an image of a queue that was not written whole, or no image, by its gate.
+    Unclean,
 }
 
 /// The status where the log line of another status could not be written.
@@ -75,7 +79,8 @@ impl Status {
             Status::BadLine { .. }
             | Status::BadFrame { .. }
             | Status::BadConf { .. }
-            | Status::BadPqact { .. } => 65,
+            | Status::BadPqact { .. }
+            | Status::BadImage { .. } => 65,
             Status::StreamLimit => 66,
             Status::RefusedArena(_) | Status::RefusedSlots(_) | Status::RefusedPasses(_) => 67,
             Status::NetFault => 69,
@@ -87,6 +92,7 @@ impl Status {
             Status::Worn => 77,
             Status::Denied => 78,
             Status::Refused => 79,
+            Status::Unclean => 80,
         }
     }
 
@@ -112,6 +118,11 @@ impl Status {
             }
             Status::BadConf { file, line, kind } => put_bad_conf(out, *file, *line, *kind),
             Status::BadPqact { line, kind } => put_bad_pqact(out, *line, *kind),
+            Status::BadImage { at } => {
+                put(out, b"ldm: bad image at ");
+                put_number(out, *at);
+                put(out, b"\n");
+            }
             Status::StreamLimit => put(out, b"ldm: stream limit\n"),
             Status::RefusedArena(arena) => {
                 put(out, b"ldm: refused arena ");
@@ -137,6 +148,7 @@ impl Status {
             Status::Worn => put(out, b"ldm: worn\n"),
             Status::Denied => put(out, b"ldm: denied\n"),
             Status::Refused => put(out, b"ldm: refused\n"),
+            Status::Unclean => put(out, b"ldm: unclean image\n"),
         }
     }
 

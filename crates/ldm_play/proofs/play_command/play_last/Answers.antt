@@ -14,11 +14,11 @@ use Rattle.ldm_play.proofs.play_command.play_last.Goals as goal
 end_gives : (result : Result (Unit {0}) LineFault) (p : Playing) (script : List ℕ) (player played : PlayerView) (pending : PendingView) (before now after : SinkRecord) → GoesOn p script player pending before now
     → eqb (length pending.bytes) 0 ≡ false
     → (number : ℕ) (line : List ℕ) → number ≡ pending.number → line ≡ pending.bytes
-    → LineGives result (play 1 p (whole_lines script)).playing (play_line number (play 1 p (whole_lines script)).playing line) played now after → EndGives result p script before after
+    → LineGives result (play 1 p (whole_lines script)).playing (play_line number (play 1 p (whole_lines script)).playing line) played now after → EndGives result p script played before after
 end_gives (Ok done) p script player played pending before now after on some number line n-is l-is gives =
     let same = subst (λ (n : ℕ). LineGives (Ok done) (play 1 p (whole_lines script)).playing (play_line n (play 1 p (whole_lines script)).playing pending.bytes) played now after) n-is
     (subst (λ (l : List ℕ). LineGives (Ok done) (play 1 p (whole_lines script)).playing (play_line number (play 1 p (whole_lines script)).playing l) played now after) l-is gives) in
-    last_ends p script player pending before now on after some same.0 same.2 same.3
+    last_ends p script player pending before now on played after some same.0 same.1 same.2 same.3
 end_gives (Err why) p script player played pending before now after on some number line n-is l-is gives =
     last_stops p script player pending before now on why after some
     (subst (λ (n : ℕ). LineGives (Err why) (play 1 p (whole_lines script)).playing (play_line n (play 1 p (whole_lines script)).playing pending.bytes) played now after) n-is
