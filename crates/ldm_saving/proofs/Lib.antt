@@ -1,0 +1,4 @@
+pub mod FileLemmas
+pub mod OpenLemmas
+pub mod CompletesLemmas
+pub mod RunLemmas

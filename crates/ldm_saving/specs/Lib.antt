@@ -1,0 +1,10 @@
+pub mod Outside
+pub mod Files
+pub mod Save
+pub mod Resume
+pub mod Check
+pub mod Statuses
+pub mod Law
+pub mod Complete
+pub mod Runs
+pub mod Steps
