@@ -1,5 +1,5 @@
 -- Totals that are joined.
-use Rattle.std.proofs.Common.{◌≡◌, ℕ, ◌+◌, ◌≤◌, Bool, true, false, cond, refl, sym, ap, ◌∙◌, [], ◌∷◌, arith, Some, None}
+use Rattle.std.proofs.Common.{◌≡◌, ℕ, ◌+◌, ◌≤◌, max, Bool, true, false, cond, refl, sym, ap, ◌∙◌, [], ◌∷◌, arith, Some, None}
 use Rattle.std.specs.Prelude.{Option, unwrap_or}
 use Rattle.std.specs.Option.{option_map}
 use Rattle.std.specs.Ordering.{eq_by_cmp}
@@ -11,9 +11,9 @@ use Rattle.std.proofs.lemmas.Map.{lookup-none}
 use Rattle.std.proofs.lemmas.Map.Entries.{sum_by-insert_entry, none_past_head}
 use Rattle.std.proofs.lemmas.Map.Keys.{IsDistinct-from_sorted, sorted_tail}
 use Rattle.ldm_stats.specs.Place.{Place, place_cmp}
-use Rattle.ldm_stats.specs.Totals.{Total}
+use Rattle.ldm_stats.specs.Totals.{Total, total_of}
 use Rattle.ldm_stats.specs.PlaceOrder.{places_total}
-use Rattle.ldm_stats.specs.Joining.{Entries, count_of, joined, total_at, IsAscending}
+use Rattle.ldm_stats.specs.Joining.{Entries, count_of, joined, plus, total_at, IsAscending}
 use Rattle.ldm_stats.proofs.Places.{same_place, either_way}
 
 -- how many products a total counts that may be none
@@ -36,6 +36,24 @@ count_at place (entry ∷ entries) = more (eq_by_cmp place_cmp place entry.0) en
 pub count_joined : (before : Option Total) (total both : Total) → Some both ≡ joined before (Some total) → both.count ≡ count_in before + total.count
 count_joined None total both e = let same : both ≡ total = cc in rw same (omega arith)
 count_joined (Some one) total both e = ap (λ o. count_in o) e
+
+-- the total of no product changes none
+none_plus : (total : Total) → plus (total_of []) total ≡ total
+none_plus total =
+    let count : 0 + total.count ≡ total.count = omega arith in
+    let bytes : 0 + total.bytes ≡ total.bytes = omega arith in
+    let latency : max 0 total.latency ≡ total.latency = omega arith in
+    λ i. record { count = count i; bytes = bytes i; latency = latency i }
+
+-- so it may stand where there was no total
+pub or_none_joined : (before : Option Total) (none kept total : Total) → none ≡ total_of [] → kept ≡ unwrap_or before none →
+    Some (plus kept total) ≡ joined before (Some total)
+or_none_joined None none kept total n k = ap (λ (t : Total). Some (plus t total)) (k ∙ n) ∙ ap (λ (t : Total). Some t) (none_plus total)
+or_none_joined (Some one) none kept total n k = ap (λ (t : Total). Some (plus t total)) k
+
+pub or_none_count : (before : Option Total) (none kept : Total) → none ≡ total_of [] → kept ≡ unwrap_or before none → kept.count ≡ count_in before
+or_none_count None none kept n k = ap (λ (t : Total). t.count) (k ∙ n)
+or_none_count (Some one) none kept n k = ap (λ (t : Total). t.count) k
 
 none_added : (one : Option Total) → one ≡ joined one None
 none_added None = refl

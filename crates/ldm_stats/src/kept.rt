@@ -72,21 +72,10 @@ impl Kept {
         ensures count { OnOk result (count_of self.new ≡ count_of self.old + total.count) }
         ensures kept { OnErr result (self.new ≡ self.old) }
     {
-        let both = self.with(&place, total);
-        self.map.insert(place, both)?;
+        let kept = self.map.entry(place)?.or_insert(Total::none());
+        *kept = kept.plus(total);
         self.count += u64::from(total.count());
         Ok(())
-    }
-
-    // A total with that of a place.
-    fn with(&self, place: &Place, total: Total) -> Total
-        requires { count_of self.now + total.count < 2 ^ 32 }
-        ensures { Some result ≡ joined (total_at place.now self.now) (Some total) }
-    {
-        match self.map.get(place) {
-            Some(before) => before.plus(total),
-            None => total,
-        }
     }
 
     /// Adds each of the others.

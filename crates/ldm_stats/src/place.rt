@@ -131,11 +131,12 @@ impl Ord for Place {
     ghost matches_eq = { λ one other. refl };
 
     fn cmp(&self, other: &Place) -> Ordering {
-        let by_text = self
-            .feed
-            .0
-            .cmp(&other.feed.0)
-            .then(self.origin().cmp(other.origin()));
-        self.hour.cmp(&other.hour).then(by_text)
+        match self.hour.cmp(&other.hour) {
+            Ordering::Equal => match self.feed.0.cmp(&other.feed.0) {
+                Ordering::Equal => self.origin().cmp(other.origin()),
+                order => order,
+            },
+            order => order,
+        }
     }
 }

@@ -40,6 +40,17 @@ impl Total {
         }
     }
 
+    /// That of no product.
+    pub fn none() -> Total
+        ensures { result ≡ total_of [] }
+    {
+        Total {
+            count: 0,
+            bytes: 0,
+            latency: 0,
+        }
+    }
+
     /// Both together.
     pub fn plus(self, other: Total) -> Total
         requires { self.count + other.count < 2 ^ 32 }
