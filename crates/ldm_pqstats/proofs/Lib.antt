@@ -1,3 +1,4 @@
+mod Completed
 mod Counted
 mod Named
 mod Sent

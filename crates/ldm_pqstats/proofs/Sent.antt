@@ -1,5 +1,5 @@
 -- Hours that are sent, one after another.
-use Rattle.std.proofs.Common.{◌≡◌, ◌∙◌, ℕ, ◌+◌, ◌<◌, ◌≤◌, Bool, true, false, ◌||◌, List, [], ◌∷◌, ◌++◌, length, take, drop, get_or, inl, inr, refl, sym, ap, subst, suc, arith, drop-cons}
+use Rattle.std.proofs.Common.{◌≡◌, ◌∙◌, ℕ, ◌+◌, ◌<◌, ◌≤◌, ◌==◌, Bool, true, false, ◌||◌, List, [], ◌∷◌, ◌++◌, length, take, drop, get_or, inl, inr, refl, sym, ap, subst, suc, arith, drop-cons}
 use Rattle.std.specs.Prelude.{Result, Ok, Err}
 use Rattle.std.proofs.lemmas.List.{take-append-drop}
 use Rattle.ldm_types.specs.Info.{Metadata}
@@ -8,6 +8,7 @@ use Rattle.ldm_outside.specs.declared.dial.Dialled.TheVariants.{Linked}
 use Rattle.ldm_outside.specs.Dial.{Asked, ConnectGives, DialRecord}
 use Rattle.ldm_outside.specs.Link.{LinkRecord}
 use Rattle.ldm_relay.specs.declared.message.PutAnswer.{PutAnswer}
+use Rattle.ldm_stats.specs.Report.{hours_of}
 use Rattle.ldm_stats.specs.Table.{Table}
 use Rattle.ldm_tools.specs.declared.puts.Puts.{Puts}
 use Rattle.ldm_tools.specs.Lines.{is_refused}
@@ -19,9 +20,11 @@ use Rattle.ldm_tools.proofs.Linked.{linked}
 use Rattle.ldm_pqstats.specs.declared.end.SendFault.{SendFault}
 use Rattle.ldm_pqstats.specs.declared.end.SendFault.TheVariants.{Unreached, OutOfMemory, TooLong, Put}
 use Rattle.ldm_pqstats.specs.declared.limits.TheConstants.{LARGEST_BODY}
-use Rattle.ldm_pqstats.specs.Hours.{Ends, Hand, RunsOver, SendsHour, moment_in}
+use Rattle.ldm_pqstats.specs.Hours.{Ends, Hand, KeepsEnds, RunsOver, SendsHour, moment_in}
+use Rattle.ldm_pqstats.specs.Linking.{HasHours, SendsHours, SendsOver}
 use Rattle.ldm_pqstats.specs.Outsides.{HoldsHours}
-use Rattle.ldm_pqstats.specs.Sending.{AreSent, HourAt, Moment, Outside, Sends, SendsHours, SendsOne, SendsOver, StopsAt, body_of, hour_at, metadata_of, next_number, number_behind, product_of}
+use Rattle.ldm_pqstats.specs.Sending.{AreSent, HourAt, Moment, Outside, Sends, SendsOne, StopsAt, body_of, hour_at, metadata_of, next_number, number_behind, product_of}
+use Rattle.ldm_pqstats.proofs.Completed.{completes}
 
 -- ---- one more
 
@@ -86,9 +89,9 @@ ends_by TooLong stats hours old new stops = stops
 ends_by (Put why) stats hours old new stops = stops
 
 pub stops_at : (stats : Table) (hours before : List ℕ) (hour : ℕ) (behind : List ℕ) (refused : Bool) (why : SendFault) (puts puts' : Puts) (start mid now : Ends)
-    → hours ≡ before ++ hour ∷ behind → Goes stats before refused puts start mid
+    → hours ≡ before ++ hour ∷ behind → Goes stats before refused puts start mid → KeepsEnds start mid
     → SendsHour (Err why) stats (hour_at hour (number_behind before 0)) (hand_in puts mid) (hand_in puts' now) → RunsOver (Err why) stats hours start now
-stops_at stats hours before hour behind refused why puts puts' start mid now are goes sends =
+stops_at stats hours before hour behind refused why puts puts' start mid now are goes kept sends =
     let s = sends goes.given goes.answers goes.has in
     record {
       given = s.0;
@@ -101,6 +104,7 @@ stops_at stats hours before hour behind refused why puts puts' start mid now are
         answers = goes.answers;
         mid = moment_in mid goes.given goes.answers;
         sent = goes.sent;
+        kept = record { ends = kept.ends; faults = kept.faults; sink = kept.sink };
         breaks = s.2;
       });
     }
@@ -147,21 +151,30 @@ put_broken stats at arrival info body why old new body_is short asked info_is pu
 
 -- ---- a link that came, and was given back
 
-sent_over : (result : Result Bool SendFault) (peer : Asked) (stats : Table) (came : LinkRecord) (lent : DialRecord) (old new : Outside)
-    → ConnectGives (λ (link : LinkRecord). link) (Linked came) peer old.net lent → HoldsHours result stats came (record old { net = lent }) new → SendsOver result peer stats old new
-sent_over result peer stats came lent old new dialled holds = record {
-  came = came;
-  left = holds.left;
-  linked = linked peer came holds.left old.net lent new.net dialled holds.not_closed holds.given_back;
-  given = holds.runs.given;
-  answers = holds.runs.answers;
-  sends = holds.runs.sends;
-}
+pub has_hours : (stats : Table) (hours : List ℕ) (count : ℕ) → hours ≡ hours_of stats.entries → count ≡ length hours → (count == 0) ≡ false → HasHours stats
+has_hours stats hours count are is some = λ none.
+    let both : true ≡ false = sym (ap (λ (h : List ℕ). length h == 0) (are ∙ none)) ∙ ap (λ (n : ℕ). n == 0) (sym is) ∙ some in
+    absurd cc
 
-pub sends_hours : (result : Result Bool SendFault) (peer : Asked) (stats : Table) (came : LinkRecord) (lent : DialRecord) (old new : Outside)
+sent_over : (result : Result Bool SendFault) (peer : Asked) (stats : Table) (came : LinkRecord) (lent : DialRecord) (old new : Outside) → HasHours stats
+    → ConnectGives (λ (link : LinkRecord). link) (Linked came) peer old.net lent → HoldsHours result stats came (record old { net = lent }) new → SendsOver result peer stats old new
+sent_over result peer stats came lent old new some dialled holds =
+    let is = linked peer came holds.left old.net lent new.net dialled holds.not_closed holds.given_back in
+    record {
+      some = some;
+      came = came;
+      left = holds.left;
+      linked = is;
+      given = holds.runs.given;
+      answers = holds.runs.answers;
+      sends = holds.runs.sends;
+      completes = completes stats came holds.left old new holds.runs.given holds.runs.answers result holds.runs.sends is.failed;
+    }
+
+pub sends_hours : (result : Result Bool SendFault) (peer : Asked) (stats : Table) (came : LinkRecord) (lent : DialRecord) (old new : Outside) → HasHours stats
     → ConnectGives (λ (link : LinkRecord). link) (Linked came) peer old.net lent → HoldsHours result stats came (record old { net = lent }) new → SendsHours result peer stats old new
-sends_hours (Ok refused) peer stats came lent old new dialled holds = inr (sent_over (Ok refused) peer stats came lent old new dialled holds)
-sends_hours (Err OutOfMemory) peer stats came lent old new dialled holds = inr (sent_over (Err OutOfMemory) peer stats came lent old new dialled holds)
-sends_hours (Err TooLong) peer stats came lent old new dialled holds = sent_over (Err TooLong) peer stats came lent old new dialled holds
-sends_hours (Err (Put why)) peer stats came lent old new dialled holds = sent_over (Err (Put why)) peer stats came lent old new dialled holds
-sends_hours (Err Unreached) peer stats came lent old new dialled holds = absurd holds.runs.sends
+sends_hours (Ok refused) peer stats came lent old new some dialled holds = inr (sent_over (Ok refused) peer stats came lent old new some dialled holds)
+sends_hours (Err OutOfMemory) peer stats came lent old new some dialled holds = inr (sent_over (Err OutOfMemory) peer stats came lent old new some dialled holds)
+sends_hours (Err TooLong) peer stats came lent old new some dialled holds = sent_over (Err TooLong) peer stats came lent old new some dialled holds
+sends_hours (Err (Put why)) peer stats came lent old new some dialled holds = sent_over (Err (Put why)) peer stats came lent old new some dialled holds
+sends_hours (Err Unreached) peer stats came lent old new some dialled holds = absurd holds.runs.sends

@@ -1,5 +1,5 @@
 -- What the parts of sending do. No caller needs these.
-use Rattle.std.specs.Prelude.{◌≡◌, ℕ, Bool, List, [], ◌∷◌, ◌++◌, Result, Ok, Err}
+use Rattle.std.specs.Prelude.{◌≡◌, ℕ, ◌≤◌, Bool, List, [], ◌∷◌, ◌++◌, Result, Ok, Err}
 use Rattle.ldm_outside.specs.Clock.{ClockRecord}
 use Rattle.ldm_outside.specs.Io.{SinkRecord}
 use Rattle.ldm_outside.specs.Link.{LinkRecord}
@@ -45,6 +45,12 @@ pub record Ends : Type 0 where
   pub link : LinkRecord
   pub sink : SinkRecord
   pub clock : ClockRecord
+
+-- no count of these fell
+pub record KeepsEnds (old new : Ends) : Type 0 where
+  pub ends : old.link.ends ≤ new.link.ends
+  pub faults : old.link.faults ≤ new.link.faults
+  pub sink : old.sink.faults ≤ new.sink.faults
 
 abbrev pub ends_tell : {L K C : Type 0} → (L → LinkRecord) → (K → SinkRecord) → (C → ClockRecord) → (L → K → C → Ends)
 ends_tell link sink clock = λ of_link of_sink of_clock. record { link = link of_link; sink = sink of_sink; clock = clock of_clock }

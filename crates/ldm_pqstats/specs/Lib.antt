@@ -2,6 +2,9 @@ pub mod Counting
 pub mod Reporting
 pub mod Statuses
 pub mod Sending
+pub mod Owing
+pub mod Linking
 pub mod Hours
 pub mod Outsides
 pub mod Runs
+pub mod Samples

@@ -19,8 +19,9 @@ use Rattle.ldm_pqstats.specs.declared.end.SendFault.{SendFault}
 use Rattle.ldm_pqstats.specs.declared.end.StatsEnd.{StatsEnd}
 use Rattle.ldm_pqstats.specs.declared.end.StatsEnd.TheVariants.{Gathered, NotCounted, NotReported, Limited, Told, NotSent}
 use Rattle.ldm_pqstats.specs.Counting.{CountsProduct, counted_of}
+use Rattle.ldm_pqstats.specs.Linking.{SendsHours}
 use Rattle.ldm_pqstats.specs.Reporting.{WritesReport}
-use Rattle.ldm_pqstats.specs.Sending.{Outside, SendsHours, outside_of}
+use Rattle.ldm_pqstats.specs.Sending.{Outside, outside_of}
 use Rattle.ldm_pqstats.specs.Statuses.{ReportsIf, status_of}
 
 -- What `pqstats` uses of the outside.
@@ -61,6 +62,8 @@ SendsIf false result peer stats = λ old new. (result ≡ Ok false) × (new ≡ 
 pub record TellsThen (result : Result Bool SendFault) (asked : StatsAsked) (stats : Table) (old new : Outside) : Type 0 where
   pub mid : Outside
   pub reports : let written : Result (Unit {0}) ReportFault = Ok tt in Reports written stats old mid
+  -- no count fell up to there
+  pub kept : old.sink.faults ≤ mid.sink.faults
   pub sends : SendsIf asked.send result (record { host = asked.host.now; port = asked.port }) stats mid new
 
 abbrev pub TellsAll : StatsEnd → StatsAsked → Table → (Outside → Outside → Type 0)
@@ -133,6 +136,8 @@ pub record Pqstats (code : ℕ) (asked : StatsAsked) (old new : Lent) : Type 0 w
   pub counter : Counter
   pub mid : Lent
   pub counts : Counts gathered counter asked old mid
+  -- no count fell up to there
+  pub kept : KeepsCounts old mid
   pub ending : StatsEnd
   pub tells : TellsBy gathered ending counter asked (outside_in mid) (outside_in new)
   pub reports : ReportsIf (status_of ending) code mid.log new.log

@@ -1,15 +1,14 @@
 -- The lines of hours, sent by one PUT each.
-use Rattle.std.specs.Prelude.{◌≡◌, ◌⊎◌, ℕ, ◌+◌, ◌%◌, ◌^◌, ◌<◌, ◌≤◌, Bool, false, List, [], ◌∷◌, ◌++◌, codes, length, Result, Ok, Err}
+use Rattle.std.specs.Prelude.{◌≡◌, ◌⊎◌, ℕ, ◌+◌, ◌%◌, ◌^◌, ◌<◌, ◌≤◌, Bool, List, [], ◌∷◌, ◌++◌, codes, length, Result, Ok, Err}
 use Rattle.md5.specs.Md5.{md5}
 use Rattle.ldm_types.specs.Info.{Metadata}
 use Rattle.ldm_outside.specs.Clock.{Answers, ClockRecord}
-use Rattle.ldm_outside.specs.Dial.{Asked, DialRecord}
+use Rattle.ldm_outside.specs.Dial.{DialRecord}
 use Rattle.ldm_outside.specs.Io.{SinkRecord}
 use Rattle.ldm_outside.specs.Link.{LinkRecord}
 use Rattle.ldm_relay.specs.declared.message.PutAnswer.{PutAnswer}
-use Rattle.ldm_stats.specs.Report.{hour_text, hours_of, in_hour, lines_of}
+use Rattle.ldm_stats.specs.Report.{hour_text, in_hour, lines_of}
 use Rattle.ldm_stats.specs.Table.{Table}
-use Rattle.ldm_tools.specs.Asking.{IsLinked, IsUnreached}
 use Rattle.ldm_tools.specs.Owing.{answers_refuse}
 use Rattle.ldm_tools.specs.Telling.{Breaks, IsTold, Product, Wire}
 use Rattle.ldm_pqstats.specs.declared.end.SendFault.{SendFault}
@@ -61,6 +60,12 @@ pub record Moment : Type 0 where
   pub wire : Wire
   pub clock : ClockRecord
 
+-- no count of these fell
+pub record KeepsMoment (old new : Moment) : Type 0 where
+  pub ends : old.wire.link.ends ≤ new.wire.link.ends
+  pub faults : old.wire.link.faults ≤ new.wire.link.faults
+  pub sink : old.wire.sink.faults ≤ new.wire.sink.faults
+
 -- The clock was asked, the lines of the hour were put, and the line of the answer was written.
 pub record SendsOne (stats : Table) (at : HourAt) (answer : PutAnswer) (old new : Moment) : Type 0 where
   pub short : length (body_of stats at.hour) ≤ LARGEST_BODY
@@ -99,6 +104,8 @@ pub record StopsAt (why : SendFault) (stats : Table) (hours : List ℕ) (old new
   pub answers : List PutAnswer
   pub mid : Moment
   pub sent : AreSent stats 0 before answers old mid
+  -- no count fell up to there
+  pub kept : KeepsMoment old mid
   pub breaks : BreaksAt why stats (hour_at hour (number_behind before 0)) mid new
 
 -- How sending over a link ends: with all hours sent, and whether one was refused; or at an hour; or for want of memory before the first.
@@ -121,25 +128,3 @@ outside_of net sink clock = record { net = net; sink = sink; clock = clock }
 -- the moment of a link that came or is left, with what it gave and was answered
 abbrev pub moment_of : LinkRecord → Outside → List ℕ → List PutAnswer → Moment
 moment_of link outside given answers = record { wire = record { link = link; sink = outside.sink; given = given; answers = answers }; clock = outside.clock }
-
--- The dial was asked once, and connected a link. The hours were sent over it, and it was given back as it was left.
-pub record SendsOver (result : Result Bool SendFault) (peer : Asked) (stats : Table) (old new : Outside) : Type 0 where
-  pub came : LinkRecord
-  pub left : LinkRecord
-  pub linked : IsLinked peer came left old.net new.net
-  pub given : List ℕ
-  pub answers : List PutAnswer
-  pub sends : Sends result stats (hours_of stats.entries) (moment_of came old [] []) (moment_of left new given answers)
-
--- No link was connected, and nothing was sent or written.
-pub record ReachesNone (peer : Asked) (old new : Outside) : Type 0 where
-  pub unreached : IsUnreached peer old.net new.net
-  pub others : new ≡ record old { net = new.net }
-
--- Nothing is connected where there is no hour, or no memory to begin.
-abbrev pub SendsHours : Result Bool SendFault → Asked → Table → Outside → Outside → Type 0
-SendsHours (Ok refused) peer stats old new = ((hours_of stats.entries ≡ []) × (refused ≡ false) × (new ≡ old)) ⊎ SendsOver (Ok refused) peer stats old new
-SendsHours (Err Unreached) peer stats old new = ReachesNone peer old new
-SendsHours (Err OutOfMemory) peer stats old new = (new ≡ old) ⊎ SendsOver (Err OutOfMemory) peer stats old new
-SendsHours (Err TooLong) peer stats old new = SendsOver (Err TooLong) peer stats old new
-SendsHours (Err (Put why)) peer stats old new = SendsOver (Err (Put why)) peer stats old new

@@ -4,8 +4,9 @@ ghost use Rattle.ldm_outside.specs.Link.{IsNotClosed};
 ghost use Rattle.ldm_stats.specs.declared.place.TheConstants.{LAST_HOUR};
 ghost use Rattle.ldm_stats.specs.Report.{hours_of};
 ghost use Rattle.ldm_pqstats.specs.Hours.{RunsOver, SendsHour, ends_tell, hand_tells};
+ghost use Rattle.ldm_pqstats.specs.Linking.{SendsHours};
 ghost use Rattle.ldm_pqstats.specs.Outsides.{HoldsHours, KeepsOutside};
-ghost use Rattle.ldm_pqstats.specs.Sending.{SendsHours, hour_at, outside_of};
+ghost use Rattle.ldm_pqstats.specs.Sending.{hour_at, outside_of};
 
 use crate::asked::StatsAsked;
 use crate::end::SendFault;

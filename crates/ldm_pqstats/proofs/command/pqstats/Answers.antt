@@ -1,4 +1,4 @@
-use Rattle.std.proofs.Common.{refl}
+use Rattle.std.proofs.Common.{refl, arith}
 use Rattle.ldm_pqstats.specs.Runs.{lent_of}
 use Rattle.ldm_pqstats.proofs.Counted.{counts_of}
 use Rattle.ldm_pqstats.proofs.command.pqstats.Goals as goal
@@ -16,6 +16,7 @@ returns-clause-ends g c =
       counts =
           counts_of c.args.asked.now _ c.in-Some.stats collected.end c.create-counter.result collected.taker old mid c.gather_each-collected.ensures.ends c.create-counter.ensures
           c.in-Some.ensures.empty c.in-Some.ensures.window (record { host = refl; port = refl; class = refl; count = refl; name = refl }) refl;
+      kept = (let stand = c.gather_each-collected.ensures.counts_kept in record { net = stand.net; ended = stand.ended; failed = stand.failed; sink = omega arith; log = stand.log });
       ending = c.tell-end.result;
       tells = c.tell-end.ensures.tells;
       reports = c.report.ensures.reports;

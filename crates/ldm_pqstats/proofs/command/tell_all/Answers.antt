@@ -13,6 +13,7 @@ returns-in-Ok-send_hours-clause-tells g c =
     record {
       mid = mid;
       reports = record { writes = c.in-Ok.ensures.writes; others = refl };
+      kept = c.in-Ok.ensures.faults_kept;
       sends = subst (λ (b : Bool). SendsIf b (Ok c.in-Ok-send_hours.refused) peer c.args.stats.now mid new) (sym c.if-asked.true) c.in-Ok-send_hours.ensures.sends;
     }
 
@@ -24,6 +25,7 @@ returns-in-Err-send_hours-clause-tells g c =
     record {
       mid = mid;
       reports = record { writes = c.in-Ok.ensures.writes; others = refl };
+      kept = c.in-Ok.ensures.faults_kept;
       sends = subst (λ (b : Bool). SendsIf b (Err c.in-Err-send_hours.why) peer c.args.stats.now mid new) (sym c.if-asked.true) c.in-Err-send_hours.ensures.sends;
     }
 
@@ -34,5 +36,6 @@ returns-else-asked-clause-tells g c =
     record {
       mid = mid;
       reports = record { writes = c.in-Ok.ensures.writes; others = refl };
+      kept = c.in-Ok.ensures.faults_kept;
       sends = subst (λ (b : Bool). SendsIf b (Ok false) peer c.args.stats.now mid mid) (sym c.if-asked.false) (refl, refl);
     }

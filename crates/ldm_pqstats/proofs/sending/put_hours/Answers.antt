@@ -18,7 +18,8 @@ returns-in-Err-send_hour-clause-runs g c =
     let within : i < length hours = omega arith in
     let P : ℕ → Type 0 = λ n. SendsHour (Err c.in-Err-send_hour.why) stats (hour_at (get_or hours i 0) n) (hand_in c.loop-hour.puts mid) (hand_in c.send_hour.new.puts new) in
     stops_at stats hours (take i hours) (get_or hours i 0) (drop (i + 1) hours) c.loop-hour.refused c.in-Err-send_hour.why c.loop-hour.puts c.send_hour.new.puts old mid new
-    (split hours i 0 within) c.loop-hour.invariant.goes (subst P c.loop-hour.invariant.number c.in-Err-send_hour.ensures.sends)
+    (split hours i 0 within) c.loop-hour.invariant.goes
+    (record { ends = c.loop-hour.invariant.ends; faults = c.loop-hour.invariant.faults; sink = c.loop-hour.invariant.sink }) (subst P c.loop-hour.invariant.number c.in-Err-send_hour.ensures.sends)
 
 pub loop-hour-preserved : goal.loop-hour-preserved
 loop-hour-preserved g c =
