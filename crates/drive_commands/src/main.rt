@@ -25,6 +25,7 @@ fn answer<H: Threads + Wait + Sync>(rt: &H, scene: &mut Scene, trial: &mut Trial
         "clock" => scene.clock(trial),
         "statuses" => scene.statuses(trial),
         "script" => scene.script(trial),
+        "disk" => scene.disk(trial),
         "fails" => scene.fails(trial),
         "run" => scene.run(rt, trial),
         _ => trial.refuse("no such word"),

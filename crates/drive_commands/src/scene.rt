@@ -4,6 +4,7 @@ ghost use Rattle.std.specs.Prelude.{◌≡◌, false};
 use crate::parts::{Page, Place, files_of, instants_in, scripts_of, stations_of, words_in};
 use crate::telling::{MemWorld, tell_run};
 use ldm_commands::{World, run_ldm};
+use ldm_disk::MemDisk;
 use ldm_drive::Trial;
 use ldm_drive_outside::{copied, numbers, push, text_copied};
 use ldm_drive_sessions::Case;
@@ -23,6 +24,7 @@ struct Failing {
     store: Vec<u64>,
     launcher: Vec<u64>,
     net: Vec<u64>,
+    disk: Vec<u64>,
 }
 
 /// What a world in memory is made of. Each run has one of its own.
@@ -36,6 +38,8 @@ pub struct Scene {
     statuses: Vec<u32>,
     // What the source gives.
     script: Vec<u8>,
+    // The file of the disk.
+    disk: Vec<u8>,
     failing: Failing,
 }
 
@@ -49,6 +53,7 @@ impl Scene {
             instants: Vec::new(alloc),
             statuses: Vec::new(alloc),
             script: Vec::new(alloc),
+            disk: Vec::new(alloc),
             failing: Failing {
                 source: Vec::new(alloc),
                 sink: Vec::new(alloc),
@@ -56,6 +61,7 @@ impl Scene {
                 store: Vec::new(alloc),
                 launcher: Vec::new(alloc),
                 net: Vec::new(alloc),
+                disk: Vec::new(alloc),
             },
         }
     }
@@ -133,6 +139,11 @@ impl Scene {
         self.script = trial.text();
     }
 
+    /// `disk BYTES`: the file of the disk.
+    pub fn disk(&mut self, trial: &mut Trial) {
+        self.disk = trial.bytes();
+    }
+
     /// `fails PART NUMBERS`: the calls of that part that fail.
     pub fn fails(&mut self, trial: &mut Trial) {
         let part = trial.word();
@@ -144,6 +155,7 @@ impl Scene {
             "store" => self.failing.store = calls,
             "launcher" => self.failing.launcher = calls,
             "net" => self.failing.net = calls,
+            "disk" => self.failing.disk = calls,
             _ => trial.refuse("no such part"),
         }
     }
@@ -165,7 +177,14 @@ impl Scene {
             store: self.store(trial),
             launcher: self.launcher(trial),
             net: self.net(trial),
+            disk: self.disk_file(trial),
         }
+    }
+
+    fn disk_file(&self, trial: &mut Trial) -> MemDisk {
+        let alloc = trial.alloc();
+        let bytes = copied(trial, &self.disk);
+        MemDisk::new(alloc, bytes, copied(trial, &self.failing.disk))
     }
 
     fn streams(&self, trial: &mut Trial) -> Streams<MemSource, MemSink, MemSink> {

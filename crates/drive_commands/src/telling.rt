@@ -1,6 +1,7 @@
 //! What a run left, as words of an answer.
 
 use ldm_commands::World;
+use ldm_disk::MemDisk;
 use ldm_drive::Trial;
 use ldm_drive_sessions::{tell_log, tell_sent};
 use ldm_outside::{
@@ -9,10 +10,19 @@ use ldm_outside::{
 };
 
 /// A world in memory.
-pub type MemWorld = World<MemSource, MemSink, MemSink, MemClock, MemStore, MemLauncher, MemNet>;
+pub type MemWorld = World<
+    MemSource,
+    MemSink,
+    MemSink,
+    MemClock,
+    MemStore,
+    MemLauncher,
+    MemNet,
+    MemDisk,
+>;
 
 /// Tells the status, what was written to the sink and to the log, and then what else was touched: the peers that were
-/// asked with what they were sent, the programs, and the stations.
+/// asked with what they were sent, the programs, the stations, and the file of the disk.
 pub fn tell_run(trial: &mut Trial, status: u8, world: &MemWorld) {
     trial.tell_value(&status);
     trial.tell(" ");
@@ -28,6 +38,15 @@ pub fn tell_run(trial: &mut Trial, status: u8, world: &MemWorld) {
     }
     for station in world.net.kept() {
         tell_station(trial, station);
+    }
+    tell_disk(trial, &world.disk);
+}
+
+// The file of the disk, where a call was made.
+fn tell_disk(trial: &mut Trial, disk: &MemDisk) {
+    if !disk.calls().is_empty() {
+        trial.tell(" disk ");
+        trial.tell_digits(disk.bytes());
     }
 }
 

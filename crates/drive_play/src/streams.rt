@@ -2,6 +2,7 @@
 ghost use Rattle.std.specs.Prelude.{◌≡◌, false};
 
 use ldm_commands::{World, run_ldm};
+use ldm_disk::MemDisk;
 use ldm_drive::Trial;
 use ldm_outside::{MemClock, MemDial, MemLauncher, MemNet, MemSink, MemSource, MemStore};
 use ldm_status::Streams;
@@ -117,6 +118,7 @@ impl Plans {
             store: MemStore::new(alloc, Vec::new(alloc), Vec::new(alloc)),
             launcher: MemLauncher::new(alloc, Vec::new(alloc), Vec::new(alloc)),
             net: net_of_nobody(alloc),
+            disk: MemDisk::new(alloc, Vec::new(alloc), Vec::new(alloc)),
         };
         let status = run_ldm(rt, alloc, words, &mut world);
         let written = world.streams.sink.written().to_vec(alloc).ok()?;

@@ -4,7 +4,7 @@
 //! world, and the words.
 #![tactic(auto)]
 
-use ldm_adapters::{RealClock, RealLauncher, RealNet, RealSink, RealSource, RealStore};
+use ldm_adapters::{RealClock, RealDisk, RealLauncher, RealNet, RealSink, RealSource, RealStore};
 use ldm_commands::{World, run_ldm};
 use ldm_status::{Status, Streams};
 use std::env;
@@ -29,6 +29,7 @@ fn main(rt: HostRuntime) -> ExitCode {
         store: RealStore::new(rt),
         launcher: RealLauncher::new(rt),
         net: RealNet::new(rt),
+        disk: RealDisk::new(rt),
     };
     let code = match words(&rt) {
         Ok(words) => run_ldm(&rt, rt.alloc(), &words, &mut world),

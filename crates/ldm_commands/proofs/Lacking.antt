@@ -30,6 +30,9 @@ module _ {K F L T : Type 0} (tells : Tells K F L T) (old new : WorldView K F L T
   lacking_completes (Some (form.Exercise number count)) code reports = λ sink log. inr (is_71 code reports log)
   lacking_completes (Some (form.Chain chain)) code reports = λ free. inr (is_71 code reports free.log_works)
   lacking_completes (Some (form.Node node)) code reports = λ free. inr (inl (is_71 code reports free.log_works))
+  lacking_completes (Some (form.Save save)) code reports = λ free works. inr (is_71 code reports free.log_works)
+  lacking_completes (Some (form.Resume file)) code reports = λ free. inr (is_71 code reports free.log_works)
+  lacking_completes (Some (form.Pqcheck file)) code reports = λ free. inr (is_71 code reports free.log_works)
   lacking_completes (Some (form.Pqact act)) code reports = tt {0}
   lacking_completes (Some (form.Pqinsert insert)) code reports = tt {0}
   lacking_completes (Some (form.Pqcat receiving)) code reports = tt {0}

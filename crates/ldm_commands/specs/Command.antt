@@ -2,8 +2,8 @@
 use Rattle.std.specs.Prelude.{ℕ, ◌-◌, ◌^◌, ◌||◌, Bool, false, List, [], ◌∷◌, codes, bytes_eq, Option, Some, None, option_map, if◌then◌else◌}
 use Rattle.ldm_conf.specs.Addresses.{Address}
 use Rattle.ldm_script.specs.Number.{number_up_to}
-use Rattle.ldm_words.specs.Forms.{ActForm, ChainForm, InsertForm, NodeForm, ReceivingForm, StatsForm, WmoForm}
-use Rattle.ldm_words.specs.Forms.{act_form, chain_form, insert_form, node_form, pqmon_form, receiving_form, stats_form, wmo_form}
+use Rattle.ldm_words.specs.Forms.{ActForm, ChainForm, InsertForm, NodeForm, ReceivingForm, SaveForm, StatsForm, WmoForm}
+use Rattle.ldm_words.specs.Forms.{act_form, chain_form, file_form, insert_form, node_form, pqmon_form, receiving_form, save_form, stats_form, wmo_form}
 
 -- What the words of the program ask for.
 pub data Form : Type 0 where
@@ -31,6 +31,12 @@ pub data Form : Type 0 where
   Wmo : (wmo : WmoForm) → Form
   -- to write how much of the products of a node came in each hour
   Pqstats : (stats : StatsForm) → Form
+  -- to play a script over a queue, and save the queue in a file
+  Save : (save : SaveForm) → Form
+  -- to open the queue in a file, play a script over it, and save it there
+  Resume : (file : List ℕ) → Form
+  -- to write the figures of the queue in a file
+  Pqcheck : (file : List ℕ) → Form
 
 -- a play, where both numbers could be read
 abbrev pub play_with : Option ℕ → Option ℕ → Option Form
@@ -63,7 +69,19 @@ abbrev pub exercise_of : List (List ℕ) → Option Form
 exercise_of (number ∷ count ∷ []) = exercise_with (number_up_to (2 ^ 64 - 1) number) (number_up_to 1000000 count)
 exercise_of _ = None
 
--- The command of a first word that has options, with the words behind it.
+-- The command of a first word that is about the queue in a file, with the words behind it.
+abbrev pub with_file : List ℕ → List (List ℕ) → Option Form
+with_file first others =
+    if bytes_eq first (codes "save") then option_map Save (save_form others)
+    else if bytes_eq first (codes "resume") then option_map Resume (file_form others)
+    else if bytes_eq first (codes "pqcheck") then option_map Pqcheck (file_form others)
+    else None
+
+-- whether a first word is that of such a command
+abbrev pub has_file : List ℕ → Bool
+has_file first = bytes_eq first (codes "save") || (bytes_eq first (codes "resume") || bytes_eq first (codes "pqcheck"))
+
+-- The command of a first word whose words are read as options and words of a command line, with the words behind it.
 abbrev pub with_options : List ℕ → List (List ℕ) → Option Form
 with_options first others =
     if bytes_eq first (codes "node") then option_map Node (node_form others)
@@ -74,13 +92,14 @@ with_options first others =
     else if bytes_eq first (codes "pqmon") then option_map Pqmon (pqmon_form others)
     else if bytes_eq first (codes "wmo") then option_map Wmo (wmo_form others)
     else if bytes_eq first (codes "pqstats") then option_map Pqstats (stats_form others)
-    else None
+    else with_file first others
 
--- whether a first word is that of a command with options
+-- whether a first word is that of such a command
 abbrev pub has_options : List ℕ → Bool
 has_options first =
     bytes_eq first (codes "node") || (bytes_eq first (codes "pqact") || (bytes_eq first (codes "pqinsert") || (bytes_eq first (codes "pqcat")
-    || (bytes_eq first (codes "notifyme") || (bytes_eq first (codes "pqmon") || (bytes_eq first (codes "wmo") || bytes_eq first (codes "pqstats")))))))
+    || (bytes_eq first (codes "notifyme") || (bytes_eq first (codes "pqmon") || (bytes_eq first (codes "wmo") || (bytes_eq first (codes "pqstats")
+    || has_file first)))))))
 
 -- whether reading words takes memory, by their first one: those of a chain and those of a command with options
 abbrev pub take_memory : List (List ℕ) → Bool

@@ -5,9 +5,10 @@ use Rattle.ldm_chain_command.specs.Complete.{ChainCompletes}
 use Rattle.ldm_crowd.specs.Complete.{CrowdCompletes}
 use Rattle.ldm_exercise.specs.Complete.{ExerciseCompletes}
 use Rattle.ldm_node_command.specs.Complete.{NodeCompletes}
+use Rattle.ldm_saving.specs.Complete.{CheckCompletes, ResumeCompletes, SaveCompletes}
 use Rattle.ldm_commands.specs.Command.{Form}
 use Rattle.ldm_commands.specs.Command as form
-use Rattle.ldm_commands.specs.Lent.{chain_of, node_of, setup_of, work_of}
+use Rattle.ldm_commands.specs.Lent.{chain_of, check_of, node_of, saving_of, setup_of, size_of, work_of}
 use Rattle.ldm_commands.specs.World.{Tells, WorldView, streams_of}
 
 module _ {K F L T : Type 0} (tells : Tells K F L T) where
@@ -20,6 +21,9 @@ module _ {K F L T : Type 0} (tells : Tells K F L T) where
   RunCompletes (Some (form.Exercise number count)) code old new = ExerciseCompletes code (streams_of tells old) (streams_of tells new)
   RunCompletes (Some (form.Chain chain)) code old new = ChainCompletes (work_of chain) code (chain_of tells old) (chain_of tells new)
   RunCompletes (Some (form.Node node)) code old new = NodeCompletes tells.station (setup_of node) code (node_of tells old) (node_of tells new)
+  RunCompletes (Some (form.Save save)) code old new = SaveCompletes (size_of save) code (saving_of tells old) (saving_of tells new)
+  RunCompletes (Some (form.Resume file)) code old new = ResumeCompletes code (saving_of tells old) (saving_of tells new)
+  RunCompletes (Some (form.Pqcheck file)) code old new = CheckCompletes code (check_of tells old) (check_of tells new)
   -- when a tool does all stands with how it ends
   RunCompletes (Some (form.Pqact act)) code old new = Unit {0}
   RunCompletes (Some (form.Pqinsert insert)) code old new = Unit {0}

@@ -5,9 +5,10 @@ use Rattle.ldm_chain_command.specs.Law.{ObeysChainLaw}
 use Rattle.ldm_crowd.specs.Law.{ObeysCrowdLaw}
 use Rattle.ldm_exercise.specs.Law.{ObeysExerciseLaw}
 use Rattle.ldm_node_command.specs.Law.{ObeysNodeLaw}
+use Rattle.ldm_saving.specs.Law.{ObeysResumeLaw}
 use Rattle.ldm_commands.specs.Command.{Form}
 use Rattle.ldm_commands.specs.Command as form
-use Rattle.ldm_commands.specs.Lent.{chain_of, node_of, setup_of, work_of}
+use Rattle.ldm_commands.specs.Lent.{chain_of, node_of, saving_of, setup_of, size_of, work_of}
 use Rattle.ldm_commands.specs.Run.{LacksMemory}
 use Rattle.ldm_commands.specs.World.{Tells, WorldView, streams_of}
 
@@ -21,6 +22,10 @@ module _ {K F L T : Type 0} (tells : Tells K F L T) where
   DoesLawful (form.Exercise number count) code old new = ObeysExerciseLaw number count (streams_of tells old) (streams_of tells new)
   DoesLawful (form.Chain chain) code old new = ObeysChainLaw (work_of chain) code (chain_of tells old) (chain_of tells new)
   DoesLawful (form.Node node) code old new = ObeysNodeLaw tells.station (setup_of node) code (node_of tells old) (node_of tells new)
+  DoesLawful (form.Save save) code old new = ObeysPlayLaw (size_of save) (streams_of tells old) (streams_of tells new)
+  DoesLawful (form.Resume file) code old new = ObeysResumeLaw (saving_of tells old) (saving_of tells new)
+  -- this writes the figures of a queue, on which it calls nothing else
+  DoesLawful (form.Pqcheck file) code old new = Unit {0}
   -- these write what another node answers, or nothing
   DoesLawful (form.Pqact act) code old new = Unit {0}
   DoesLawful (form.Pqinsert insert) code old new = Unit {0}

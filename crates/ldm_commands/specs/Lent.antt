@@ -10,12 +10,14 @@ use Rattle.ldm_pqact_command.specs.PqactRuns.{Order, PqactLent, pqact_lent}
 use Rattle.ldm_pqcat.specs.Cats.{CatLent, cat_lent}
 use Rattle.ldm_pqinsert.specs.Inserting.{Inserting}
 use Rattle.ldm_pqinsert.specs.Inserts.{InsertRecord}
+use Rattle.ldm_play.specs.Ending.{Size}
+use Rattle.ldm_saving.specs.Outside as saving
 use Rattle.ldm_tools.specs.Mon.{MonRecord}
 use Rattle.ldm_pqstats.specs.Runs as pqstats
 use Rattle.ldm_pqstats.specs.declared.asked.StatsAsked.{StatsAsked}
 use Rattle.ldm_wmo_command.specs.Ingesting.{Ingesting}
 use Rattle.ldm_wmo_command.specs.Moments as wmo_command
-use Rattle.ldm_words.specs.Forms.{ActForm, ChainForm, InsertForm, NodeForm, ReceivingForm, StatsForm, WmoForm}
+use Rattle.ldm_words.specs.Forms.{ActForm, ChainForm, InsertForm, NodeForm, ReceivingForm, SaveForm, StatsForm, WmoForm}
 use Rattle.ldm_commands.specs.World.{Tells, WorldView, streams_of}
 
 -- ---- what it is told
@@ -38,6 +40,10 @@ inserting_of insert = record {
 
 abbrev pub ingesting_of : WmoForm → Ingesting
 ingesting_of wmo = record { peer = asked_of wmo.peer; feed = wmo.feed; origin = wmo.origin }
+
+-- the size of the queue that is saved
+abbrev pub size_of : SaveForm → Size
+size_of save = record { arena = save.arena; slots = save.slots }
 
 -- what `pqstats` is asked for is what words say
 pub record IsAskedFor (stats : StatsForm) (asked : StatsAsked) : Type 0 where
@@ -95,6 +101,12 @@ module _ {K F L T : Type 0} (tells : Tells K F L T) where
 
   abbrev pub stats_of : WorldView K F L T → pqstats.Lent
   stats_of world = pqstats.lent_of world.net (tells.sink world.sink) world.log world.clock
+
+  abbrev pub saving_of : WorldView K F L T → saving.OutsideRecord
+  saving_of world = saving.outside_tells (streams_of tells world) world.disk
+
+  abbrev pub check_of : WorldView K F L T → saving.CheckRecord
+  check_of world = saving.check_tells (tells.sink world.sink) world.log world.disk
 
   abbrev pub ingest_of : WorldView K F L T → wmo_command.Outside
   ingest_of world = record { streams = streams_of tells world; net = world.net; clock = world.clock }

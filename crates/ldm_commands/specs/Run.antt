@@ -15,12 +15,14 @@ use Rattle.ldm_pqcat.specs.Cats.{Cats}
 use Rattle.ldm_pqinsert.specs.Inserts.{Inserts}
 use Rattle.ldm_pqstats.specs.Runs.{Pqstats}
 use Rattle.ldm_pqstats.specs.declared.asked.StatsAsked.{StatsAsked}
+use Rattle.ldm_saving.specs.Runs.{CheckRuns, ResumeRuns, SaveRuns}
 use Rattle.ldm_tools.specs.Mon.{Mons}
 use Rattle.ldm_wmo_command.specs.Ingests.{Ingests}
 use Rattle.ldm_commands.specs.Command.{Form}
 use Rattle.ldm_commands.specs.Command as form
-use Rattle.ldm_commands.specs.Lent.{IsAskedFor, act_of, asked_of, cat_of, chain_of, ingest_of, ingesting_of, insert_of, inserting_of, mon_of, node_of, order_by, setup_of, stats_of, wanted_of, work_of}
-use Rattle.ldm_commands.specs.World.{OnlyStreams, Tells, WorldView, streams_of, with_act, with_cat, with_chain, with_ingest, with_net, with_node, with_put}
+use Rattle.ldm_commands.specs.Lent.{IsAskedFor, act_of, asked_of, cat_of, chain_of, check_of, ingest_of, ingesting_of, insert_of, inserting_of, mon_of, node_of}
+use Rattle.ldm_commands.specs.Lent.{order_by, saving_of, setup_of, size_of, stats_of, wanted_of, work_of}
+use Rattle.ldm_commands.specs.World.{OnlyStreams, Tells, WorldView, streams_of, with_act, with_cat, with_chain, with_check, with_ingest, with_net, with_node, with_put, with_saving}
 
 module _ {K F L T : Type 0} (tells : Tells K F L T) where
   -- Nothing was done, but for what the log took.
@@ -52,6 +54,9 @@ module _ {K F L T : Type 0} (tells : Tells K F L T) where
   Does (form.Wmo wmo) code old new = Ingests code (ingesting_of wmo) (ingest_of tells old) (ingest_of tells new) × (new ≡ with_ingest new old)
   Does (form.Pqstats stats) code old new =
       ((asked : StatsAsked) × IsAskedFor stats asked × Pqstats code asked (stats_of tells old) (stats_of tells new)) × (new ≡ with_cat new old)
+  Does (form.Save save) code old new = SaveRuns (size_of save) code (saving_of tells old) (saving_of tells new) × (new ≡ with_saving new old)
+  Does (form.Resume file) code old new = ResumeRuns code (saving_of tells old) (saving_of tells new) × (new ≡ with_saving new old)
+  Does (form.Pqcheck file) code old new = CheckRuns code (check_of tells old) (check_of tells new) × (new ≡ with_check new old)
 
   -- What was asked for, whether reading its words takes memory, the number that the program ends with, and what is changed until then.
   abbrev pub RunEnds : Option Form → Bool → ℕ → WorldView K F L T → WorldView K F L T → Type 0

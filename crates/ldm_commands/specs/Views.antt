@@ -1,7 +1,7 @@
 -- What a `Command` of the code stands for.
 use Rattle.std.specs.Prelude.{◌≤◌}
 use Rattle.ldm_conf.specs.AddressViews.{address_view}
-use Rattle.ldm_words.specs.Views.{act_view, chain_view, insert_view, node_view, receiving_view, stats_view, wmo_view}
+use Rattle.ldm_words.specs.Views.{act_view, chain_view, insert_view, node_view, receiving_view, save_view, stats_view, wmo_view}
 use Rattle.ldm_commands.specs.declared.command.Command.{Command}
 use Rattle.ldm_commands.specs.declared.command.Command.TheVariants as command
 use Rattle.ldm_commands.specs.Command.{Form}
@@ -20,6 +20,9 @@ form_of (command.Notifyme words) = form.Notifyme (receiving_view words)
 form_of (command.Pqmon peer) = form.Pqmon (address_view peer)
 form_of (command.Wmo words) = form.Wmo (wmo_view words)
 form_of (command.Pqstats words) = form.Pqstats (stats_view words)
+form_of (command.Save words) = form.Save (save_view words)
+form_of (command.Resume file) = form.Resume file.now
+form_of (command.Pqcheck file) = form.Pqcheck file.now
 
 -- what is said by a form is what its command can be called with
 abbrev pub IsWithin : Form → Type 0

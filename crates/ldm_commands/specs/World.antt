@@ -1,5 +1,6 @@
 -- What contracts see of the world of the program.
 use Rattle.std.specs.Prelude.{◌≡◌, ◌≤◌, List}
+use Rattle.ldm_disk.specs.Told.{DiskRecord}
 use Rattle.ldm_outside.specs.Clock.{ClockRecord}
 use Rattle.ldm_outside.specs.Dial.{DialRecord}
 use Rattle.ldm_outside.specs.Io.{SourceRecord, SinkRecord}
@@ -20,10 +21,11 @@ pub record WorldView (K F L T : Type 0) : Type 0 where
   pub net : DialRecord
   -- the stations that the net keeps
   pub kept : List T
+  pub disk : DiskRecord
 
-abbrev pub world_view : {S K E C F L N T : Type 0} → (S → SourceRecord) → (E → SinkRecord) → (C → ClockRecord) → (N → DialRecord) → (N → List T)
-    → World S K E C F L N → WorldView K F L T
-world_view source log clock net kept world = record {
+abbrev pub world_view : {S K E C F L N D T : Type 0} → (S → SourceRecord) → (E → SinkRecord) → (C → ClockRecord) → (N → DialRecord) → (N → List T)
+    → (D → DiskRecord) → World S K E C F L N D → WorldView K F L T
+world_view source log clock net kept disk world = record {
   source = source world.streams.source;
   sink = world.streams.sink;
   log = log world.streams.log;
@@ -32,6 +34,7 @@ world_view source log clock net kept world = record {
   launcher = world.launcher;
   net = net world.net;
   kept = kept world.net;
+  disk = disk world.disk;
 }
 
 -- what the sink, the store, the launcher and a station tell
@@ -51,6 +54,7 @@ pub record OnlyStreams {K F L T : Type 0} (old new : WorldView K F L T) : Type 0
   pub launcher : new.launcher ≡ old.launcher
   pub net : new.net ≡ old.net
   pub kept : new.kept ≡ old.kept
+  pub disk : new.disk ≡ old.disk
 
 -- ---- a world of which some parts are those of another: what a command leaves that is lent just these
 
@@ -79,6 +83,14 @@ module _ {K F L T : Type 0} where
   abbrev pub with_chain : WorldView K F L T → WorldView K F L T → WorldView K F L T
   with_chain other world = record (with_sinks other world) { source = other.source; clock = other.clock; store = other.store }
 
+  -- the sink, the log and the disk
+  abbrev pub with_check : WorldView K F L T → WorldView K F L T → WorldView K F L T
+  with_check other world = record (with_sinks other world) { disk = other.disk }
+
+  -- the streams and the disk
+  abbrev pub with_saving : WorldView K F L T → WorldView K F L T → WorldView K F L T
+  with_saving other world = record (with_check other world) { source = other.source }
+
   -- log, net, clock, store and launcher
   abbrev pub with_act : WorldView K F L T → WorldView K F L T → WorldView K F L T
   with_act other world = record world {
@@ -104,3 +116,4 @@ module _ {K F L T : Type 0} (tells : Tells K F L T) where
     pub store : (tells.store old.store).faults ≤ (tells.store new.store).faults
     pub launcher : (tells.launcher old.launcher).faults ≤ (tells.launcher new.launcher).faults
     pub net : old.net.faults ≤ new.net.faults
+    pub disk : old.disk.faults ≤ new.disk.faults

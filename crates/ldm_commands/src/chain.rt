@@ -7,6 +7,7 @@ ghost use Rattle.ldm_commands.specs.World.{tells_of, world_view};
 
 use crate::world::World;
 use ldm_chain_command::{ChainSetup, run_chain};
+use ldm_disk::Disk;
 use ldm_outside::{Clock, Launcher, Net, Sink, Source, Store};
 use ldm_words::ChainWords;
 use std::alloc::Global;
@@ -22,13 +23,14 @@ pub(crate) fn feed_chain<
     F: Store,
     L: Launcher,
     N: Net,
->(rt: &H, alloc: Global, words: ChainWords<'_>, world: &mut World<S, K, E, C, F, L, N>) -> u8
+    D: Disk,
+>(rt: &H, alloc: Global, words: ChainWords<'_>, world: &mut World<S, K, E, C, F, L, N, D>) -> u8
     ensures { let tells = tells_of K.tells F.tells L.tells
         (station_tells N.StationDoor.tells N.StationDial.tells N.StationLog.tells N.StationClock.tells
         N.StationGate.tells) in
         Done tells (form.Chain (chain_view words.entry)) result
-        (world_view S.tells E.tells C.tells N.tells N.kept world.old)
-        (world_view S.tells E.tells C.tells N.tells N.kept world.new) }
+        (world_view S.tells E.tells C.tells N.tells N.kept D.tells world.old)
+        (world_view S.tells E.tells C.tells N.tells N.kept D.tells world.new) }
 {
     let setup = ChainSetup {
         conf: words.conf,

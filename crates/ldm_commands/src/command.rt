@@ -1,7 +1,7 @@
 //! The words of the program as a command.
 ghost use Rattle.std.specs.Prelude.{◌≡◌, true, IfSome, MatchOption, MatchResult, None, Some, map, string_bytes};
-ghost use Rattle.ldm_commands.specs.Command.{command_of, crowd_of, exercise_of, has_options};
-ghost use Rattle.ldm_commands.specs.Command.{take_memory, play_of, with_options};
+ghost use Rattle.ldm_commands.specs.Command.{command_of, crowd_of, exercise_of, has_file, has_options};
+ghost use Rattle.ldm_commands.specs.Command.{take_memory, play_of, with_file, with_options};
 ghost use Rattle.ldm_commands.specs.Doing.{IsUnread};
 ghost use Rattle.ldm_commands.specs.Views.{IsWithin, form_of};
 
@@ -9,9 +9,9 @@ use ldm_conf::Address;
 use ldm_exercise::MOST_DRAWN;
 use ldm_script::read_number;
 use ldm_words::{
-    ActWords, ChainWords, InsertWords, NodeWords, ReceivingWords, StatsWords, WmoWords, WordsFault,
-    read_chain, read_node, read_pqact, read_pqinsert, read_pqmon, read_pqstats, read_receiving,
-    read_wmo,
+    ActWords, ChainWords, InsertWords, NodeWords, ReceivingWords, SaveWords, StatsWords, WmoWords,
+    WordsFault, read_chain, read_file, read_node, read_pqact, read_pqinsert, read_pqmon,
+    read_pqstats, read_receiving, read_save, read_wmo,
 };
 use std::alloc::Global;
 
@@ -52,6 +52,12 @@ pub enum Command<'a> {
     Wmo(WmoWords<'a>),
     /// `pqstats ..`: to write how much of the products of a node came in each hour.
     Pqstats(StatsWords),
+    /// `save FILE ARENA SLOTS`: to play a script over a queue, and save the queue in a file.
+    Save(SaveWords<'a>),
+    /// `resume FILE`: to open the queue in a file, play a script over it, and save it there.
+    Resume(&'a str),
+    /// `pqcheck FILE`: to write the figures of the queue in a file.
+    Pqcheck(&'a str),
 }
 
 /// Reads the words behind the program's name. [`WordsFault::Usage`] comes exactly where they are no form of a command,
@@ -104,6 +110,27 @@ fn read_with_options<'a>(
         Ok(Command::Wmo(read_wmo(alloc, words)?))
     } else if word == b"pqstats".as_slice() {
         Ok(Command::Pqstats(read_pqstats(alloc, words)?))
+    } else {
+        read_with_file(alloc, word, words)
+    }
+}
+
+// Reads the words behind that of a command about the queue in a file.
+fn read_with_file<'a>(
+    alloc: Global,
+    word: &[u8],
+    words: &'a [String],
+) -> Result<Command<'a>, WordsFault>
+    ensures { let form = with_file word.now (map string_bytes words.entry.now) in
+        MatchResult result (λ command. (form ≡ Some (form_of command)) × IsWithin (form_of command))
+        (IsUnread form (has_file word.now)) }
+{
+    if word == b"save".as_slice() {
+        Ok(Command::Save(read_save(alloc, words)?))
+    } else if word == b"resume".as_slice() {
+        Ok(Command::Resume(read_file(alloc, words)?))
+    } else if word == b"pqcheck".as_slice() {
+        Ok(Command::Pqcheck(read_file(alloc, words)?))
     } else {
         Err(WordsFault::Usage)
     }

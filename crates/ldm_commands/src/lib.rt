@@ -8,6 +8,7 @@ mod chain;
 mod command;
 mod node;
 mod run;
+mod saving;
 mod tools;
 mod world;
 

@@ -6,6 +6,7 @@ ghost use Rattle.ldm_commands.specs.Doing.{Done};
 ghost use Rattle.ldm_commands.specs.World.{tells_of, world_view};
 
 use crate::world::World;
+use ldm_disk::Disk;
 use ldm_node::NodeOptions;
 use ldm_node_command::{NodeSetup, run_node};
 use ldm_outside::{Clock, Dial, Door, Launcher, Net, Sink, Source, Store};
@@ -24,7 +25,8 @@ pub(crate) fn run_words<
     F: Store,
     L: Launcher,
     N: Net,
->(rt: &H, alloc: Global, words: &NodeWords<'_>, world: &mut World<S, K, E, C, F, L, N>) -> u8
+    D: Disk,
+>(rt: &H, alloc: Global, words: &NodeWords<'_>, world: &mut World<S, K, E, C, F, L, N, D>) -> u8
 where
     <N::StationDoor as Door>::Link: Send,
     <N::StationDial as Dial>::Link: Send,
@@ -32,8 +34,8 @@ where
         (station_tells N.StationDoor.tells N.StationDial.tells N.StationLog.tells N.StationClock.tells
         N.StationGate.tells) in
         Done tells (form.Node (node_view words.now)) result
-        (world_view S.tells E.tells C.tells N.tells N.kept world.old)
-        (world_view S.tells E.tells C.tells N.tells N.kept world.new) }
+        (world_view S.tells E.tells C.tells N.tells N.kept D.tells world.old)
+        (world_view S.tells E.tells C.tells N.tells N.kept D.tells world.new) }
 {
     let setup = NodeSetup {
         arena: words.arena,

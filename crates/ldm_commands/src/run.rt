@@ -12,12 +12,14 @@ ghost use Rattle.ldm_commands.specs.World.{KeepsAllFaults, tells_of, world_view}
 use crate::chain::feed_chain;
 use crate::command::{Command, read_command};
 use crate::node::run_words;
+use crate::saving::{check_queue, resume_queue, save_queue};
 use crate::tools::{
     act_on_products, count_products, put_bulletins, put_files, tell_figures, tell_products,
     write_bodies,
 };
 use crate::world::World;
 use ldm_crowd::crowd;
+use ldm_disk::Disk;
 use ldm_exercise::exercise;
 use ldm_outside::{Clock, Dial, Door, Launcher, Net, Sink, Source, Store};
 use ldm_play::play;
@@ -43,7 +45,8 @@ pub fn run_ldm<
     F: Store,
     L: Launcher,
     N: Net,
->(rt: &H, alloc: Global, words: &[String], world: &mut World<S, K, E, C, F, L, N>) -> u8
+    D: Disk,
+>(rt: &H, alloc: Global, words: &[String], world: &mut World<S, K, E, C, F, L, N, D>) -> u8
 where
     <N::StationDoor as Door>::Link: Send,
     <N::StationDial as Dial>::Link: Send,
@@ -52,25 +55,25 @@ where
         (station_tells N.StationDoor.tells N.StationDial.tells N.StationLog.tells N.StationClock.tells
         N.StationGate.tells) in
         RunEnds tells (command_of (map string_bytes words.now)) (take_memory (map string_bytes words.now)) result
-        (world_view S.tells E.tells C.tells N.tells N.kept world.old)
-        (world_view S.tells E.tells C.tells N.tells N.kept world.new) }
+        (world_view S.tells E.tells C.tells N.tells N.kept D.tells world.old)
+        (world_view S.tells E.tells C.tells N.tells N.kept D.tells world.new) }
     ensures law { let tells = tells_of K.tells F.tells L.tells
         (station_tells N.StationDoor.tells N.StationDial.tells N.StationLog.tells N.StationClock.tells
         N.StationGate.tells) in
         RunObeysLaw tells (command_of (map string_bytes words.now)) (take_memory (map string_bytes words.now)) result
-        (world_view S.tells E.tells C.tells N.tells N.kept world.old)
-        (world_view S.tells E.tells C.tells N.tells N.kept world.new) }
+        (world_view S.tells E.tells C.tells N.tells N.kept D.tells world.old)
+        (world_view S.tells E.tells C.tells N.tells N.kept D.tells world.new) }
     ensures completes { let tells = tells_of K.tells F.tells L.tells
         (station_tells N.StationDoor.tells N.StationDial.tells N.StationLog.tells N.StationClock.tells
         N.StationGate.tells) in
         RunCompletes tells (command_of (map string_bytes words.now)) result
-        (world_view S.tells E.tells C.tells N.tells N.kept world.old)
-        (world_view S.tells E.tells C.tells N.tells N.kept world.new) }
+        (world_view S.tells E.tells C.tells N.tells N.kept D.tells world.old)
+        (world_view S.tells E.tells C.tells N.tells N.kept D.tells world.new) }
     ensures faults_kept { let tells = tells_of K.tells F.tells L.tells
         (station_tells N.StationDoor.tells N.StationDial.tells N.StationLog.tells N.StationClock.tells
         N.StationGate.tells) in
-        KeepsAllFaults tells (world_view S.tells E.tells C.tells N.tells N.kept world.old)
-        (world_view S.tells E.tells C.tells N.tells N.kept world.new) }
+        KeepsAllFaults tells (world_view S.tells E.tells C.tells N.tells N.kept D.tells world.old)
+        (world_view S.tells E.tells C.tells N.tells N.kept D.tells world.new) }
 {
     match read_command(alloc, words) {
         Ok(command) => run(rt, alloc, command, world),
@@ -89,7 +92,8 @@ fn run<
     F: Store,
     L: Launcher,
     N: Net,
->(rt: &H, alloc: Global, command: Command<'_>, world: &mut World<S, K, E, C, F, L, N>) -> u8
+    D: Disk,
+>(rt: &H, alloc: Global, command: Command<'_>, world: &mut World<S, K, E, C, F, L, N, D>) -> u8
 where
     <N::StationDoor as Door>::Link: Send,
     <N::StationDial as Dial>::Link: Send,
@@ -98,8 +102,8 @@ where
     ensures { let tells = tells_of K.tells F.tells L.tells
         (station_tells N.StationDoor.tells N.StationDial.tells N.StationLog.tells N.StationClock.tells
         N.StationGate.tells) in
-        Done tells (form_of command.entry) result (world_view S.tells E.tells C.tells N.tells N.kept world.old)
-        (world_view S.tells E.tells C.tells N.tells N.kept world.new) }
+        Done tells (form_of command.entry) result (world_view S.tells E.tells C.tells N.tells N.kept D.tells world.old)
+        (world_view S.tells E.tells C.tells N.tells N.kept D.tells world.new) }
 {
     match command {
         Command::Play { arena, slots } => play(alloc, arena, slots, &mut world.streams),
@@ -120,5 +124,8 @@ where
         Command::Pqmon(peer) => tell_figures(alloc, &peer, world),
         Command::Wmo(words) => put_bulletins(alloc, &words, world),
         Command::Pqstats(words) => count_products(rt, alloc, &words, world),
+        Command::Save(words) => save_queue(alloc, &words, world),
+        Command::Resume(path) => resume_queue(alloc, path, world),
+        Command::Pqcheck(path) => check_queue(alloc, path, world),
     }
 }

@@ -9,6 +9,7 @@ ghost use Rattle.ldm_commands.specs.World.{tells_of, world_view};
 
 use crate::world::World;
 use ldm_conf::Address;
+use ldm_disk::Disk;
 use ldm_notifyme::notifyme;
 use ldm_outside::{Clock, Launcher, Net, Sink, Source, Store};
 use ldm_pqact_command::pqact;
@@ -22,18 +23,23 @@ use std::alloc::Global;
 use std::sync::Wait;
 
 /// Writes the figures of a node's queue.
-pub(crate) fn tell_figures<S: Source, K: Sink, E: Sink, C: Clock, F: Store, L: Launcher, N: Net>(
-    alloc: Global,
-    peer: &Address,
-    world: &mut World<S, K, E, C, F, L, N>,
-) -> u8
+pub(crate) fn tell_figures<
+    S: Source,
+    K: Sink,
+    E: Sink,
+    C: Clock,
+    F: Store,
+    L: Launcher,
+    N: Net,
+    D: Disk,
+>(alloc: Global, peer: &Address, world: &mut World<S, K, E, C, F, L, N, D>) -> u8
     requires { (N.tells world.old.net).links.out ≡ false }
     ensures { let tells = tells_of K.tells F.tells L.tells
         (station_tells N.StationDoor.tells N.StationDial.tells N.StationLog.tells N.StationClock.tells
         N.StationGate.tells) in
         Done tells (form.Pqmon (address_view peer.now)) result
-        (world_view S.tells E.tells C.tells N.tells N.kept world.old)
-        (world_view S.tells E.tells C.tells N.tells N.kept world.new) }
+        (world_view S.tells E.tells C.tells N.tells N.kept D.tells world.old)
+        (world_view S.tells E.tells C.tells N.tells N.kept D.tells world.new) }
 {
     pqmon(
         alloc,
@@ -55,14 +61,15 @@ pub(crate) fn act_on_products<
     F: Store,
     L: Launcher,
     N: Net,
->(rt: &H, alloc: Global, words: &ActWords<'_>, world: &mut World<S, K, E, C, F, L, N>) -> u8
+    D: Disk,
+>(rt: &H, alloc: Global, words: &ActWords<'_>, world: &mut World<S, K, E, C, F, L, N, D>) -> u8
     requires { (N.tells world.old.net).links.out ≡ false }
     ensures { let tells = tells_of K.tells F.tells L.tells
         (station_tells N.StationDoor.tells N.StationDial.tells N.StationLog.tells N.StationClock.tells
         N.StationGate.tells) in
         Done tells (form.Pqact (act_view words.now)) result
-        (world_view S.tells E.tells C.tells N.tells N.kept world.old)
-        (world_view S.tells E.tells C.tells N.tells N.kept world.new) }
+        (world_view S.tells E.tells C.tells N.tells N.kept D.tells world.old)
+        (world_view S.tells E.tells C.tells N.tells N.kept D.tells world.new) }
 {
     pqact(
         rt,
@@ -90,14 +97,15 @@ pub(crate) fn write_bodies<
     F: Store,
     L: Launcher,
     N: Net,
->(rt: &H, alloc: Global, words: &ReceivingWords, world: &mut World<S, K, E, C, F, L, N>) -> u8
+    D: Disk,
+>(rt: &H, alloc: Global, words: &ReceivingWords, world: &mut World<S, K, E, C, F, L, N, D>) -> u8
     requires { (N.tells world.old.net).links.out ≡ false }
     ensures { let tells = tells_of K.tells F.tells L.tells
         (station_tells N.StationDoor.tells N.StationDial.tells N.StationLog.tells N.StationClock.tells
         N.StationGate.tells) in
         Done tells (form.Pqcat (receiving_view words.now)) result
-        (world_view S.tells E.tells C.tells N.tells N.kept world.old)
-        (world_view S.tells E.tells C.tells N.tells N.kept world.new) }
+        (world_view S.tells E.tells C.tells N.tells N.kept D.tells world.old)
+        (world_view S.tells E.tells C.tells N.tells N.kept D.tells world.new) }
 {
     pqcat(
         rt,
@@ -114,18 +122,23 @@ pub(crate) fn write_bodies<
 }
 
 /// Writes a line for each product of a node.
-pub(crate) fn tell_products<S: Source, K: Sink, E: Sink, C: Clock, F: Store, L: Launcher, N: Net>(
-    alloc: Global,
-    words: &ReceivingWords,
-    world: &mut World<S, K, E, C, F, L, N>,
-) -> u8
+pub(crate) fn tell_products<
+    S: Source,
+    K: Sink,
+    E: Sink,
+    C: Clock,
+    F: Store,
+    L: Launcher,
+    N: Net,
+    D: Disk,
+>(alloc: Global, words: &ReceivingWords, world: &mut World<S, K, E, C, F, L, N, D>) -> u8
     requires { (N.tells world.old.net).links.out ≡ false }
     ensures { let tells = tells_of K.tells F.tells L.tells
         (station_tells N.StationDoor.tells N.StationDial.tells N.StationLog.tells N.StationClock.tells
         N.StationGate.tells) in
         Done tells (form.Notifyme (receiving_view words.now)) result
-        (world_view S.tells E.tells C.tells N.tells N.kept world.old)
-        (world_view S.tells E.tells C.tells N.tells N.kept world.new) }
+        (world_view S.tells E.tells C.tells N.tells N.kept D.tells world.old)
+        (world_view S.tells E.tells C.tells N.tells N.kept D.tells world.new) }
 {
     notifyme(
         alloc,
@@ -140,18 +153,23 @@ pub(crate) fn tell_products<S: Source, K: Sink, E: Sink, C: Clock, F: Store, L: 
 }
 
 /// Puts files into the queue of a node.
-pub(crate) fn put_files<S: Source, K: Sink, E: Sink, C: Clock, F: Store, L: Launcher, N: Net>(
-    alloc: Global,
-    words: &InsertWords<'_>,
-    world: &mut World<S, K, E, C, F, L, N>,
-) -> u8
+pub(crate) fn put_files<
+    S: Source,
+    K: Sink,
+    E: Sink,
+    C: Clock,
+    F: Store,
+    L: Launcher,
+    N: Net,
+    D: Disk,
+>(alloc: Global, words: &InsertWords<'_>, world: &mut World<S, K, E, C, F, L, N, D>) -> u8
     requires { (N.tells world.old.net).links.out ≡ false }
     ensures { let tells = tells_of K.tells F.tells L.tells
         (station_tells N.StationDoor.tells N.StationDial.tells N.StationLog.tells N.StationClock.tells
         N.StationGate.tells) in
         Done tells (form.Pqinsert (insert_view words.now)) result
-        (world_view S.tells E.tells C.tells N.tells N.kept world.old)
-        (world_view S.tells E.tells C.tells N.tells N.kept world.new) }
+        (world_view S.tells E.tells C.tells N.tells N.kept D.tells world.old)
+        (world_view S.tells E.tells C.tells N.tells N.kept D.tells world.new) }
 {
     let insertion = Insertion {
         host: words.peer.host.as_slice(),
@@ -174,18 +192,23 @@ pub(crate) fn put_files<S: Source, K: Sink, E: Sink, C: Clock, F: Store, L: Laun
 }
 
 /// Puts the bulletins of the source into the queue of a node.
-pub(crate) fn put_bulletins<S: Source, K: Sink, E: Sink, C: Clock, F: Store, L: Launcher, N: Net>(
-    alloc: Global,
-    words: &WmoWords<'_>,
-    world: &mut World<S, K, E, C, F, L, N>,
-) -> u8
+pub(crate) fn put_bulletins<
+    S: Source,
+    K: Sink,
+    E: Sink,
+    C: Clock,
+    F: Store,
+    L: Launcher,
+    N: Net,
+    D: Disk,
+>(alloc: Global, words: &WmoWords<'_>, world: &mut World<S, K, E, C, F, L, N, D>) -> u8
     requires { (N.tells world.old.net).links.out ≡ false }
     ensures { let tells = tells_of K.tells F.tells L.tells
         (station_tells N.StationDoor.tells N.StationDial.tells N.StationLog.tells N.StationClock.tells
         N.StationGate.tells) in
         Done tells (form.Wmo (wmo_view words.now)) result
-        (world_view S.tells E.tells C.tells N.tells N.kept world.old)
-        (world_view S.tells E.tells C.tells N.tells N.kept world.new) }
+        (world_view S.tells E.tells C.tells N.tells N.kept D.tells world.old)
+        (world_view S.tells E.tells C.tells N.tells N.kept D.tells world.new) }
 {
     let ingestion = Ingestion {
         host: words.peer.host.as_slice(),
@@ -214,14 +237,15 @@ pub(crate) fn count_products<
     F: Store,
     L: Launcher,
     N: Net,
->(rt: &H, alloc: Global, words: &StatsWords, world: &mut World<S, K, E, C, F, L, N>) -> u8
+    D: Disk,
+>(rt: &H, alloc: Global, words: &StatsWords, world: &mut World<S, K, E, C, F, L, N, D>) -> u8
     requires { (N.tells world.old.net).links.out ≡ false }
     ensures { let tells = tells_of K.tells F.tells L.tells
         (station_tells N.StationDoor.tells N.StationDial.tells N.StationLog.tells N.StationClock.tells
         N.StationGate.tells) in
         Done tells (form.Pqstats (stats_view words.now)) result
-        (world_view S.tells E.tells C.tells N.tells N.kept world.old)
-        (world_view S.tells E.tells C.tells N.tells N.kept world.new) }
+        (world_view S.tells E.tells C.tells N.tells N.kept D.tells world.old)
+        (world_view S.tells E.tells C.tells N.tells N.kept D.tells world.new) }
 {
     let asked = StatsAsked {
         host: words.peer.host.as_slice(),

@@ -4,7 +4,7 @@ use ldm_status::Streams;
 
 /// What the program is lent: the streams of every command, and what only some commands use.
 #[derive(Drop)]
-pub struct World<S, K, E, C, F, L, N> {
+pub struct World<S, K, E, C, F, L, N, D> {
     /// Where input comes from, and where output and log lines go.
     pub streams: Streams<S, K, E>,
     /// The time: a [`Clock`](ldm_outside::Clock).
@@ -15,4 +15,6 @@ pub struct World<S, K, E, C, F, L, N> {
     pub launcher: L,
     /// Other nodes, and the stations of this one: a [`Net`](ldm_outside::Net).
     pub net: N,
+    /// The file of a queue: a [`Disk`](ldm_disk::Disk).
+    pub disk: D,
 }

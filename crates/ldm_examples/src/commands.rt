@@ -1,6 +1,7 @@
 //! The example of ldm_commands.
 
 use ldm_commands::{World, run_ldm};
+use ldm_disk::MemDisk;
 use ldm_outside::{MemClock, MemDial, MemLauncher, MemNet, MemSink, MemSource, MemStore};
 use ldm_status::Streams;
 use std::alloc::Global;
@@ -23,6 +24,7 @@ pub fn run_alone<H: Threads + Wait + Sync>(rt: &H, alloc: Global, words: &[Strin
             MemDial::new(alloc, Vec::new(alloc), Vec::new(alloc)),
             Vec::new(alloc),
         ),
+        disk: MemDisk::new(alloc, Vec::new(alloc), Vec::new(alloc)),
     };
     run_ldm(rt, alloc, words, &mut world)
 }

@@ -27,6 +27,7 @@ pub mod pqact_match;
 pub mod regions;
 pub mod relay;
 pub mod rpc;
+pub mod saving;
 pub mod script;
 pub mod shared;
 pub mod sigindex;

@@ -8,8 +8,8 @@ use Rattle.clap.specs.declared.error.Error.{Error}
 use Rattle.clap.specs.declared.error.kind.ErrorKind.TheVariants as kind
 use Rattle.clap.specs.declared.parser.matches.ArgMatches.{ArgMatches}
 use Rattle.clap.proofs.WalkLemmas.{both}
-use Rattle.ldm_words.specs.Commands.{IsPlain, matched, node_command, pqact_command, pqinsert_command, pqmon_command}
-use Rattle.ldm_words.specs.Commands.{pqstats_command, receiving_command, wmo_command}
+use Rattle.ldm_words.specs.Commands.{IsPlain, file_command, matched, node_command, pqact_command, pqinsert_command, pqmon_command}
+use Rattle.ldm_words.specs.Commands.{pqstats_command, receiving_command, save_command, wmo_command}
 use Rattle.ldm_words.specs.Faults.{IsFaultOf, fault_of_kind}
 use Rattle.ldm_words.specs.Views.{HasRule, rows_in}
 use Rattle.ldm_words.specs.declared.fault.WordsFault.{WordsFault}
@@ -65,6 +65,14 @@ pqstats_plain = record { simple = refl; alone = refl; defaults = refl }
 pub wmo_plain : IsPlain wmo_command
 unfolding wmo_command
 wmo_plain = record { simple = refl; alone = refl; defaults = refl }
+
+pub save_plain : IsPlain save_command
+unfolding save_command
+save_plain = record { simple = refl; alone = refl; defaults = refl }
+
+pub file_plain : IsPlain file_command
+unfolding file_command
+file_plain = record { simple = refl; alone = refl; defaults = refl }
 
 pub pqmon_plain : IsPlain pqmon_command
 unfolding pqmon_command

@@ -48,6 +48,9 @@ count_rule = option_rule (codes "count") (codes "c")
 abbrev pub conf_rule : Rule
 conf_rule = word_rule (codes "conf")
 
+abbrev pub file_rule : Rule
+file_rule = word_rule (codes "file")
+
 abbrev pub origin_rule : Rule
 origin_rule = option_or_rule (codes "origin") (codes "o") (codes "localhost")
 
@@ -83,6 +86,14 @@ receiving_command = command_of (codes "receive") (feed_rule (codes "ANY") ∷ pa
 -- `pqmon [-q HOST:PORT]`
 unfoldable pub pqmon_command : App
 pqmon_command = command_of (codes "pqmon") (peer_rule ∷ [])
+
+-- `save FILE ARENA SLOTS`
+unfoldable pub save_command : App
+save_command = command_of (codes "save") (file_rule ∷ word_rule (codes "arena") ∷ word_rule (codes "slots") ∷ [])
+
+-- `FILE`, behind `resume` and `pqcheck`
+unfoldable pub file_command : App
+file_command = command_of (codes "file") (file_rule ∷ [])
 
 -- `wmo [-f FEED] [-o ORIGIN] [-q HOST:PORT]`
 unfoldable pub wmo_command : App

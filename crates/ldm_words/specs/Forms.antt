@@ -5,8 +5,8 @@ use Rattle.clap.specs.Words.{Row, Text, first_of}
 use Rattle.ldm_types.specs.declared.class.ClassSpec.{ClassSpec}
 use Rattle.ldm_conf.specs.Addresses.{Address, port_of}
 use Rattle.ldm_feedtype.specs.Reading.{feed_number}
-use Rattle.ldm_words.specs.Commands.{matched, node_command, pqact_command, pqinsert_command, pqmon_command, pqstats_command}
-use Rattle.ldm_words.specs.Commands.{receiving_command, wmo_command}
+use Rattle.ldm_words.specs.Commands.{file_command, matched, node_command, pqact_command, pqinsert_command, pqmon_command, pqstats_command}
+use Rattle.ldm_words.specs.Commands.{receiving_command, save_command, wmo_command}
 use Rattle.ldm_words.specs.Values.{◌>>=◌, are_names, class_of, classes_of, count_of, few_classes, files_of, hours_of, is_used, long_number, optional, origin_of, peer_of, said, short_number}
 
 -- ---- pqmon
@@ -134,6 +134,29 @@ stats_of rows =
 
 abbrev pub stats_form : List Text → Option StatsForm
 stats_form words = matched pqstats_command words >>= stats_of
+
+-- ---- save, resume and pqcheck
+
+pub record SaveForm : Type 0 where
+  -- the path of the file
+  pub file : Text
+  -- bytes of the queue's arena
+  pub arena : ℕ
+  pub slots : ℕ
+
+abbrev pub save_of : List Row → Option SaveForm
+save_of rows =
+    first_of (codes "file") rows >>= λ file.
+    said long_number (codes "arena") rows >>= λ arena.
+    said short_number (codes "slots") rows >>= λ slots.
+    Some (record { file = file; arena = arena; slots = slots })
+
+abbrev pub save_form : List Text → Option SaveForm
+save_form words = matched save_command words >>= save_of
+
+-- the path of the file that words name
+abbrev pub file_form : List Text → Option Text
+file_form words = matched file_command words >>= first_of (codes "file")
 
 -- ---- node
 

@@ -10,10 +10,11 @@ use Rattle.ldm_words.specs.declared.said.ActWords.{ActWords}
 use Rattle.ldm_words.specs.declared.said.ChainWords.{ChainWords}
 use Rattle.ldm_words.specs.declared.said.InsertWords.{InsertWords}
 use Rattle.ldm_words.specs.declared.said.ReceivingWords.{ReceivingWords}
+use Rattle.ldm_words.specs.declared.said.SaveWords.{SaveWords}
 use Rattle.ldm_words.specs.declared.said.StatsWords.{StatsWords}
 use Rattle.ldm_words.specs.declared.said.WmoWords.{WmoWords}
 use Rattle.ldm_words.specs.Values.{texts_of}
-use Rattle.ldm_words.specs.Forms.{ActForm, ChainForm, InsertForm, NodeForm, ReceivingForm, StatsForm, WmoForm}
+use Rattle.ldm_words.specs.Forms.{ActForm, ChainForm, InsertForm, NodeForm, ReceivingForm, SaveForm, StatsForm, WmoForm}
 
 -- an argument of a command has this rule
 abbrev pub HasRule : Rule → Arg → Type 0
@@ -50,6 +51,9 @@ stats_view words = record {
   send = words.send;
   peer = address_view words.peer;
 }
+
+abbrev pub save_view : SaveWords → SaveForm
+save_view words = record { file = words.file.now; arena = words.arena; slots = words.slots }
 
 abbrev pub node_view : NodeWords → NodeForm
 node_view words = record {

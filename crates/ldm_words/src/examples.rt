@@ -1,8 +1,8 @@
 //! Worked examples.
 ghost use Rattle.std.specs.Prelude.{◌≡◌, true, false, [], ◌∷◌, Some, None, codes};
 ghost use Rattle.ldm_conf.specs.Confs.{all_times};
-ghost use Rattle.ldm_words.specs.Forms.{act_form, chain_form, insert_form, node_form, pqmon_form};
-ghost use Rattle.ldm_words.specs.Forms.{receiving_form, stats_form, wmo_form};
+ghost use Rattle.ldm_words.specs.Forms.{act_form, chain_form, file_form, insert_form, node_form, pqmon_form};
+ghost use Rattle.ldm_words.specs.Forms.{receiving_form, save_form, stats_form, wmo_form};
 
 /// Worked examples of the words of `pqmon`. It does nothing.
 pub fn worked_examples_of_pqmon()
@@ -159,4 +159,18 @@ pub fn worked_examples_of_pqstats()
     ensures no_hour { stats_form (codes "-w0" ∷ []) ≡ None }
     ensures too_many_hours { stats_form (codes "-w8761" ∷ []) ≡ None }
     ensures twice { stats_form (codes "-s" ∷ codes "-s" ∷ []) ≡ None }
+{}
+
+/// Worked examples of the words of `save`, and of those of `resume` and `pqcheck`. It does nothing.
+pub fn worked_examples_of_files()
+    ensures save { save_form (codes "q" ∷ codes "168" ∷ codes "10" ∷ [])
+        ≡ Some (record { file = codes "q"; arena = 168; slots = 10 }) }
+    ensures dash { save_form (codes "--" ∷ codes "-q" ∷ codes "168" ∷ codes "10" ∷ [])
+        ≡ Some (record { file = codes "-q"; arena = 168; slots = 10 }) }
+    ensures no_slots { save_form (codes "q" ∷ codes "168" ∷ []) ≡ None }
+    ensures too_many_slots { save_form (codes "q" ∷ codes "168" ∷ codes "4294967296" ∷ []) ≡ None }
+    ensures file { file_form (codes "q" ∷ []) ≡ Some (codes "q") }
+    ensures no_file { file_form [] ≡ None }
+    ensures two_files { file_form (codes "q" ∷ codes "r" ∷ []) ≡ None }
+    ensures no_option { file_form (codes "-q" ∷ []) ≡ None }
 {}

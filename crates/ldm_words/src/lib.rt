@@ -9,6 +9,7 @@ mod chain;
 mod command;
 mod examples;
 mod fault;
+mod file;
 mod insert;
 mod limits;
 mod mon;
@@ -22,18 +23,19 @@ mod wmo;
 pub use act::read_pqact;
 pub use chain::read_chain;
 pub use examples::{
-    worked_examples_of_chain, worked_examples_of_classes, worked_examples_of_node,
-    worked_examples_of_pqinsert, worked_examples_of_pqmon, worked_examples_of_pqstats,
-    worked_examples_of_wmo,
+    worked_examples_of_chain, worked_examples_of_classes, worked_examples_of_files,
+    worked_examples_of_node, worked_examples_of_pqinsert, worked_examples_of_pqmon,
+    worked_examples_of_pqstats, worked_examples_of_wmo,
 };
 pub use fault::WordsFault;
+pub use file::{read_file, read_save};
 pub use insert::read_pqinsert;
 pub use limits::{MOST_CLASSES, MOST_HOURS};
 pub use mon::read_pqmon;
 pub use node::read_node;
 pub use receiving::read_receiving;
 pub use said::{
-    ActWords, ChainWords, InsertWords, NodeWords, ReceivingWords, StatsWords, WmoWords,
+    ActWords, ChainWords, InsertWords, NodeWords, ReceivingWords, SaveWords, StatsWords, WmoWords,
 };
 pub use stats::read_pqstats;
 pub use wmo::read_wmo;

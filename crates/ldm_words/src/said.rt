@@ -105,6 +105,17 @@ pub struct StatsWords {
     pub ghost few: { hours ≤ MOST_HOURS },
 }
 
+/// The file that a queue is saved to, and the sizes of the queue.
+#[derive(Clone, Copy, Debug, PartialEq, Eq)]
+pub struct SaveWords<'a> {
+    /// The path of the file.
+    pub file: &'a str,
+    /// Bytes of the queue's arena.
+    pub arena: u64,
+    /// Slots of the queue.
+    pub slots: u32,
+}
+
 /// What a chain is made with.
 #[derive(Drop)]
 pub struct ChainWords<'a> {

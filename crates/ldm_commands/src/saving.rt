@@ -1,0 +1,89 @@
+//! The commands over the file of a queue.
+ghost use Rattle.ldm_outside.specs.Station.{station_tells};
+ghost use Rattle.ldm_words.specs.Views.{save_view};
+ghost use Rattle.ldm_commands.specs.Command as form;
+ghost use Rattle.ldm_commands.specs.Doing.{Done};
+ghost use Rattle.ldm_commands.specs.World.{tells_of, world_view};
+
+use crate::world::World;
+use ldm_disk::Disk;
+use ldm_outside::{Clock, Launcher, Net, Sink, Source, Store};
+use ldm_saving::{pqcheck, resume, save};
+use ldm_words::SaveWords;
+use std::alloc::Global;
+
+/// Plays a script over a queue, and saves the queue in a file, as its words say.
+pub(crate) fn save_queue<
+    S: Source,
+    K: Sink,
+    E: Sink,
+    C: Clock,
+    F: Store,
+    L: Launcher,
+    N: Net,
+    D: Disk,
+>(alloc: Global, words: &SaveWords<'_>, world: &mut World<S, K, E, C, F, L, N, D>) -> u8
+    ensures { let tells = tells_of K.tells F.tells L.tells
+        (station_tells N.StationDoor.tells N.StationDial.tells N.StationLog.tells N.StationClock.tells
+        N.StationGate.tells) in
+        Done tells (form.Save (save_view words.now)) result
+        (world_view S.tells E.tells C.tells N.tells N.kept D.tells world.old)
+        (world_view S.tells E.tells C.tells N.tells N.kept D.tells world.new) }
+{
+    save(
+        alloc,
+        words.file,
+        words.arena,
+        words.slots,
+        &mut world.streams,
+        &mut world.disk,
+    )
+}
+
+/// Opens the queue in a file, plays a script over it, and saves it there.
+pub(crate) fn resume_queue<
+    S: Source,
+    K: Sink,
+    E: Sink,
+    C: Clock,
+    F: Store,
+    L: Launcher,
+    N: Net,
+    D: Disk,
+>(alloc: Global, path: &str, world: &mut World<S, K, E, C, F, L, N, D>) -> u8
+    ensures { let tells = tells_of K.tells F.tells L.tells
+        (station_tells N.StationDoor.tells N.StationDial.tells N.StationLog.tells N.StationClock.tells
+        N.StationGate.tells) in
+        Done tells (form.Resume path.now) result
+        (world_view S.tells E.tells C.tells N.tells N.kept D.tells world.old)
+        (world_view S.tells E.tells C.tells N.tells N.kept D.tells world.new) }
+{
+    resume(alloc, path, &mut world.streams, &mut world.disk)
+}
+
+/// Writes the figures of the queue in a file.
+pub(crate) fn check_queue<
+    S: Source,
+    K: Sink,
+    E: Sink,
+    C: Clock,
+    F: Store,
+    L: Launcher,
+    N: Net,
+    D: Disk,
+>(alloc: Global, path: &str, world: &mut World<S, K, E, C, F, L, N, D>) -> u8
+    ensures { let tells = tells_of K.tells F.tells L.tells
+        (station_tells N.StationDoor.tells N.StationDial.tells N.StationLog.tells N.StationClock.tells
+        N.StationGate.tells) in
+        Done tells (form.Pqcheck path.now) result
+        (world_view S.tells E.tells C.tells N.tells N.kept D.tells world.old)
+        (world_view S.tells E.tells C.tells N.tells N.kept D.tells world.new) }
+{
+    pqcheck(
+        alloc,
+        path,
+        &mut world.streams.sink,
+        &mut world.streams.log,
+        &mut world.disk,
+    )
+}
