@@ -1,2 +1,3 @@
 pub mod Limits
 pub mod Premises
+pub mod Choices
