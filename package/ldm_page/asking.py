@@ -6,6 +6,8 @@ import subprocess
 import tempfile
 import time
 
+import ldm_beside
+
 from .drawing import utc
 from .reading import (
     DAY, FIGURES, HOUR, MOST_SAMPLES, REASON, REPORT, SAMPLES, STAMP, Failed, Reading, Window, read_report, seconds_of,
@@ -91,23 +93,8 @@ def report_line(hour, feed, origin, count, size, latency):
 
 
 def write_file(path, content):
-    """Puts a file in the place of another at once, so that nobody finds a part of it."""
+    """Puts a file in the place of another at once."""
     try:
-        if os.path.exists(path) and not os.path.isfile(path):
-            with open(path, "wb") as file:
-                file.write(content)
-            return
-        folder, name = os.path.split(os.path.realpath(path))
-        handle, other = tempfile.mkstemp(prefix=f".{name}.", dir=folder)
-        try:
-            with open(handle, "wb") as file:
-                file.write(content)
-            mask = os.umask(0)
-            os.umask(mask)
-            os.chmod(other, 0o666 & ~mask)
-            os.replace(other, os.path.join(folder, name))
-        except BaseException:
-            os.unlink(other)
-            raise
+        ldm_beside.write_file(path, content)
     except OSError as why:
         raise Failed(f"cannot write {path}: {why.strerror}") from None
