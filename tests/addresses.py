@@ -9,6 +9,7 @@ it ended its links first. The program that the gate has built of drive_outside a
 
 Called as: addresses.py"""
 
+import os
 import pathlib
 import signal
 import socket
@@ -17,13 +18,9 @@ import sys
 import tempfile
 import time
 
+from peers import PATIENCE, hold_port, port_of
+
 PROGRAM = pathlib.Path(__file__).resolve().parent.parent / "crates/drive_outside/out/drive_outside"
-
-# How long a peer is waited for, in seconds.
-PATIENCE = 20
-
-# How long a program is given to come to its next call of the system, in seconds.
-PAUSE = 0.3
 
 # Runs a program that sees another list of hosts.
 WITH_HOSTS = ["unshare", "-rm", "sh", "-c", 'mount --bind "$0" /etc/hosts && exec "$@"']
@@ -46,12 +43,6 @@ def answer_of(program):
         return "no answer"
 
 
-def free_port():
-    with socket.socket() as listener:
-        listener.bind(("127.0.0.1", 0))
-        return listener.getsockname()[1]
-
-
 def connect(program, target, port, source):
     """A connection to the program from that address, as soon as it listens; None where it does not."""
     last = time.monotonic() + PATIENCE
@@ -67,12 +58,29 @@ def no_delay(_program):
     pass
 
 
+def is_in_state(program, letter, sockets):
+    """Whether the program is in that state, as the system names it, with so many sockets open at least."""
+    folder = pathlib.Path(f"/proc/{program.pid}")
+    try:
+        state = (folder / "stat").read_text().rpartition(")")[2].split()[0]
+        links = [os.readlink(one) for one in (folder / "fd").iterdir()]
+    except OSError:
+        return False
+    return state == letter and sum(link.startswith("socket:") for link in links) >= sockets
+
+
+def until_in_state(program, letter, sockets):
+    """Waits until the program is in that state, or ended."""
+    last = time.monotonic() + PATIENCE
+    while program.poll() is None and time.monotonic() < last and not is_in_state(program, letter, sockets):
+        time.sleep(0.01)
+
+
 def stop_and_go_on(program):
-    time.sleep(PAUSE)
-    program.send_signal(signal.SIGSTOP)
-    time.sleep(PAUSE)
-    program.send_signal(signal.SIGCONT)
-    time.sleep(PAUSE)
+    # with its listener and its link it sleeps only as it waits for bytes
+    for stop, letter in ((signal.SIGCONT, "S"), (signal.SIGSTOP, "T"), (signal.SIGCONT, "S")):
+        program.send_signal(stop)
+        until_in_state(program, letter, 2)
 
 
 def visit(target, source, port, delay=no_delay):
@@ -88,6 +96,12 @@ def visit(target, source, port, delay=no_delay):
         return answer_of(program)
 
 
+def visit_anywhere(target, source, delay=no_delay):
+    """The same, at any port."""
+    with hold_port() as holder:
+        return visit(target, source, port_of(holder), delay)
+
+
 def is_held(port):
     """Whether the system refuses the port to a listener that does not ask for its reuse."""
     with socket.socket(socket.AF_INET6 if has_ipv6() else socket.AF_INET) as listener:
@@ -101,16 +115,18 @@ def is_held(port):
 def restart():
     """What two programs tell that listen at one port, one after the other. The first ends its link before the peer does, so
     that the system holds the port; whether it does is told between the two."""
-    port = free_port()
-    first = visit("127.0.0.1", "127.0.0.1", port)
+    with hold_port() as holder:
+        port = port_of(holder)
+        first = visit("127.0.0.1", "127.0.0.1", port)
     return first, is_held(port), visit("127.0.0.1", "127.0.0.1", port)
 
 
 def call(host, at, family, before=()):
     """What the program tells of a call of that host, with what came to one of its addresses and from where."""
-    with socket.create_server((at, 0), family=family) as listener:
+    # the port is held at the other addresses too, so that nobody answers there
+    with hold_port() as holder, socket.create_server((at, port_of(holder)), family=family) as listener:
         listener.settimeout(PATIENCE)
-        program = start(f"tcp call {host} {listener.getsockname()[1]}", before)
+        program = start(f"tcp call {host} {port_of(holder)}", before)
         try:
             peer, address = listener.accept()
         except TimeoutError:
@@ -145,8 +161,8 @@ def has_ipv6():
 
 def main():
     tried = [
-        ("a peer from 127.0.0.2", visit("127.0.0.1", "127.0.0.2", free_port()), "127.0.0.2 5"),
-        ("a program that was stopped", visit("127.0.0.1", "127.0.0.1", free_port(), stop_and_go_on), "127.0.0.1 5"),
+        ("a peer from 127.0.0.2", visit_anywhere("127.0.0.1", "127.0.0.2"), "127.0.0.2 5"),
+        ("a program that was stopped", visit_anywhere("127.0.0.1", "127.0.0.1", stop_and_go_on), "127.0.0.1 5"),
         ("a port that was just used", restart(), ("127.0.0.1 5", True, "127.0.0.1 5")),
     ]
     calls = calls_of_two_addresses()
@@ -156,7 +172,7 @@ def main():
         tried.append(("calls of two addresses", calls, [("5", b"hello")] * 2))
     if has_ipv6():
         tried += [
-            ("a peer from ::1", visit("::1", "::1", free_port()), "::1 5"),
+            ("a peer from ::1", visit_anywhere("::1", "::1"), "::1 5"),
             ("a call of ::1", call("::1", "::1", socket.AF_INET6), ("5", b"hello", "::1")),
         ]
     else:

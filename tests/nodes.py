@@ -27,7 +27,7 @@ from peers import (
     ADMITTED, ANY, BADPATTERN, BLKDATA, BLOCK, COMINGSOON, DDPLUS, DDS, DENIED, DONT_SEND, DUPLICATE, EXP, FEEDME, GARBAGE,
     GREATEST_INSTANT, HDS, HEREIS, HIYA, IDS, IS_ALIVE, LARGEST_RECORD, NO_PROCEDURE, NO_PROGRAM, NOT_ACCEPTED, NOTIFICATION,
     NOTIFYME, OK, OTHER_VERSION, PATIENCE, PUT, QSTAT, RECLASS, TOO_BIG,
-    Peer, Product, Stat, Upstream, Wrong, call, expect, number, product_class, read_product, record, reply, string,
+    Peer, Product, Stat, Upstream, Wrong, call, expect, hold_port, number, port_of, product_class, read_product, record, reply, string,
 )  # fmt: skip
 
 PROGRAM = pathlib.Path(__file__).resolve().parent.parent / "crates/ldm/out/ldm"
@@ -61,27 +61,14 @@ def until(probe, what, seconds=STEP):
     raise Wrong(f"{what}: not within {seconds} seconds")
 
 
-def ports_below():
-    """The first port that the system gives to who asks for any: to clients, so that one below stays free until a node takes it."""
-    with contextlib.suppress(OSError), open("/proc/sys/net/ipv4/ip_local_port_range") as fields:
-        return int(fields.read().split()[0])
-    return 32_768
-
-
-PORTS = range(10_000, ports_below()) or range(61_000, 65_536)
-TAKEN = set()
+# The sockets that hold the ports which were given, up to the end.
+HELD = []
 
 
 def free_port():
-    """A port at which nobody listens, and that was not given before."""
-    for _ in PORTS:
-        port = random.choice(PORTS)
-        with contextlib.suppress(OSError), socket.socket() as listener:
-            listener.bind(("", port))
-            if port not in TAKEN:
-                TAKEN.add(port)
-                return port
-    raise Wrong("no port is free")
+    """A port at which nobody listens, and that nobody but a node is given any more."""
+    HELD.append(hold_port())
+    return port_of(HELD[-1])
 
 
 def listens(port):
@@ -199,6 +186,11 @@ class Node:
         with self.connect() as peer:
             return peer.stat()
 
+    def until_stat(self, *figures):
+        """Waits until these are its first figures, as one peer is told: a product may still be held that came to who is fed it."""
+        with self.connect() as peer:
+            until(lambda: peer.stat()[: len(figures)] == figures, f"the figures {figures} of a node")
+
     def put_all(self, products):
         """Puts them in; they have to be admitted, none evicted. Tells the first number."""
         with self.connect() as peer:
@@ -277,9 +269,8 @@ def relays_what_is_due(place):
     with b.connect() as subscriber:
         expect(subscriber.subscribe([(ANY, b"")]), number(OK), "the answer to a FEEDME")
         expect_products(subscriber.products(len(due)), due, "a subscriber of the second node")
-        stat = b.stat()
         used = sum(product.extent() for product in due)
-        expect(stat, Stat(len(due), len(due), 0, used, ARENA - used), "the figures of the second node")
+        b.until_stat(len(due), len(due), 0, used, ARENA - used)
         b.until_logged("session 127.0.0.1 ended")
         expect(b.log(), ["session 127.0.0.1 ended"], "the log of the second node while it is fed")
     ran = place.run("pqcat", "-q", b.at, "-c", len(due))
@@ -329,7 +320,7 @@ def resumes_a_cut_session(place):
                 last = Product(b"last", IS_HERE)
                 peer.feed_whole(last)
                 expect(subscriber.next_product(), last.told(), "what comes last")
-            expect(node.stat()[:3], (4, 4, 0), "the first figures at the end")
+            node.until_stat(4, 4, 0)
             # while the node waits for this peer
             found = [line for line in node.log() if line != "session 127.0.0.1 ended"]
             wanted = ["session 127.0.0.1 truncated", "refused third duplicate 2", *["unwanted of%20HDS"] * 2]
@@ -476,9 +467,7 @@ def feeds_both_ways(place):
         expect(odd, [], "lines of the log that have no place there")
         everything = sorted(product.told() for product in own[0] + own[1])
         used = sum(product.extent() for product in everything)
-        wanted = Stat(14, 14, 0, used, 4_194_304 - used)
-        # one is held as the other node is fed it
-        until(lambda node=node, wanted=wanted: node.stat() == wanted, f"the figures {wanted} of a node")
+        node.until_stat(14, 14, 0, used, 4_194_304 - used)
         with node.connect() as subscriber:
             expect(subscriber.subscribe([(ANY, b".*")]), number(OK), "the answer to a FEEDME")
             expect(sorted(subscriber.products(14)) == everything, True, "whether the node has all products")
@@ -501,7 +490,7 @@ def serves_two_at_once(place):
             expect(waits.products(3), [product.told() for product in products[:3]], "what is fed first")
             expect(other.put(products[3])[:2], (ADMITTED, 3), "the answer to a PUT beside a feeding")
             expect(waits.next_product(), products[3].told(), "what is fed then")
-            expect(other.stat()[:3], (4, 4, 0), "the first figures beside a feeding")
+            until(lambda other=other: other.stat()[:3] == (4, 4, 0), "nothing is held beside a feeding")
             expect(node.log(), [], "the log while both are connected")
 
 
@@ -641,8 +630,7 @@ def answers_wrong_calls(place):
             with node.connect() as peer:
                 behind = b"" if end == "truncated" else call(9, QSTAT)
                 peer.send(before + message + behind)
-                with contextlib.suppress(OSError):
-                    peer.say_no_more()
+                peer.say_no_more()
                 wanted = (stat_reply(1, 65_536) if before else b"") + answer + (b"" if end else stat_reply(9, 65_536))
                 found = peer.rest()
             if found != wanted:
@@ -721,8 +709,7 @@ def keeps_the_rules_of_a_receiving(place):
         with node.connect() as peer:
             expect(peer.ask(HIYA, product_class([(DDS, b".*")])), number(BLOCK) + number(OK), "the answer to a HIYA")
             peer.send(message)
-            with contextlib.suppress(OSError):
-                peer.say_no_more()
+            peer.say_no_more()
             expect(peer.rest(), answer, f"the answer to {name}")
         expect(node.stat()[:3], (admitted, admitted, 0), f"the first figures behind {name}")
         lines = [f"session 127.0.0.1 {end}"]
@@ -801,9 +788,9 @@ def goes_on_behind_reclass(place):
         expect(subscriber.products(3), [product.told() for product in pushed], "what is fed of what was pushed")
         for product in pushed:
             expect(watcher.next_notice(), product.metadata(), "a notice")
-    # lines are written behind the replies of the same piece
-    until(lambda: len(node.log()) >= 3, "three lines")
-    expect(node.log()[:3], ["unwanted x%20of%20HDS", "unwanted p", "refused x1 duplicate 0"], "the log")
+        # lines are written behind the replies of the same piece, and no session is over yet
+        until(lambda: len(node.log()) >= 3, "three lines")
+        expect(node.log(), ["unwanted x%20of%20HDS", "unwanted p", "refused x1 duplicate 0"], "the log")
 
 
 def accepts_by_host(place):
@@ -1811,7 +1798,7 @@ def starts_anew(place):
     with node.connect() as subscriber:
         subscriber.subscribe([(ANY, b".*")])
         expect(subscriber.products(6), [product.told() for product in products], "what a subscriber has of both")
-    expect(node.stat()[:3], (6, 6, 0), "the first figures")
+    node.until_stat(6, 6, 0)
 
 
 CASES = [

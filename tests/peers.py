@@ -2,6 +2,8 @@
 
 A peer is told of a connection as it comes: a record that is not what it waits for raises Wrong."""
 
+import contextlib
+import errno
 import hashlib
 import socket
 import struct
@@ -193,7 +195,12 @@ class Peer:
         self.connection.close()
 
     def say_no_more(self):
-        self.connection.shutdown(socket.SHUT_WR)
+        """Ends what it sends. Where the other end has broken the connection by then, there is nothing left to end."""
+        try:
+            self.connection.shutdown(socket.SHUT_WR)
+        except OSError as why:
+            if why.errno != errno.ENOTCONN:
+                raise
 
     def take(self, count, last=None):
         """The next bytes, which have to be there by the last moment; fewer only where the stream ended."""
@@ -352,13 +359,32 @@ class Peer:
             self.call(BLKDATA, block)
 
 
+def hold_port():
+    """A socket that holds a port of this machine, `port_of` it, at all addresses. As long as it is open, the system gives the port to
+    nobody, and nobody answers there but a program that asks for the reuse of that port and listens, as a node does."""
+    for family in (socket.AF_INET6, socket.AF_INET):
+        with contextlib.suppress(OSError), contextlib.ExitStack() as stack:
+            holder = stack.enter_context(socket.socket(family))
+            holder.setsockopt(socket.SOL_SOCKET, socket.SO_REUSEADDR, 1)
+            if family == socket.AF_INET6:
+                holder.setsockopt(socket.IPPROTO_IPV6, socket.IPV6_V6ONLY, 0)
+            holder.bind(("", 0))
+            stack.pop_all()
+            return holder
+    raise Wrong("the system gives no port")
+
+
+def port_of(one):
+    return one.getsockname()[1]
+
+
 class Upstream:
     """One whom a node asks."""
 
     def __init__(self):
         self.listener = socket.create_server(("127.0.0.1", 0))
         self.listener.settimeout(PATIENCE)
-        self.port = self.listener.getsockname()[1]
+        self.port = port_of(self.listener)
 
     def __enter__(self):
         return self

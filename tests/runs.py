@@ -109,6 +109,11 @@ class Run:
         if self.program.stdin:
             self.program.stdin.close()
 
+    def sockets(self):
+        """How many sockets the program has open."""
+        folder = f"/proc/{self.program.pid}/fd"
+        return sum(os.readlink(f"{folder}/{name}").startswith("socket:") for name in os.listdir(folder))
+
     def written(self):
         """How many bytes the output and the log have."""
         return [path.stat().st_size for path in self.paths]

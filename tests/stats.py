@@ -21,8 +21,8 @@ import typing
 
 from peers import (
     ADMITTED, ANY, BADPATTERN, BLKDATA, BLOCK, BUSY, COMINGSOON, DDS, DENIED, DONT_SEND, EXP, FEEDME, GREATEST_INSTANT,
-    HDS, HEREIS, IDS, IS_ALIVE, NOT_ACCEPTED, OK, QSTAT, RECLASS,
-    Peer, Product, Upstream, Wrong, call, expect, number, product_class, record, reply,
+    HDS, HEREIS, IDS, IS_ALIVE, NOT_ACCEPTED, OK, PATIENCE, QSTAT, RECLASS,
+    Peer, Product, Upstream, Wrong, call, expect, hold_port, number, port_of, product_class, record, reply,
 )  # fmt: skip
 from runs import (
     COUNTS, DENY, FULL, HOST, REFUSALS, Run, admissions, answer, hear_put, in_fragments, nothing_comes, now, spelled,
@@ -221,8 +221,8 @@ def feed_all(peer, queue, batches):
 
 
 def is_closed(peer):
-    """Whether the other end has closed the connection."""
-    if not select.select([peer.connection], [], [], 0)[0]:
+    """Whether the other end has closed the connection. The system may be slow to tell so."""
+    if not select.select([peer.connection], [], [], PATIENCE)[0]:
         return False
     with contextlib.suppress(ConnectionResetError):
         return peer.connection.recv(1) == b""
@@ -308,6 +308,8 @@ def see_hours(upstream, first, run, queue, what, answers, waits):
 def accept_second(upstream, first, run, queue, what):
     """The second connection, with the products that it has to send. The first is closed and the report written then."""
     peer = Peer(upstream.listener.accept()[0])
+    # it waits for the answer to its first PUT, or is about to send that
+    expect(run.sockets(), 1, f"the sockets that are open at the second link of {what}")
     expect(is_closed(first), True, f"whether the first link was closed before the second of {what}")
     close_counted(queue)
     written = run.text()
@@ -630,9 +632,7 @@ def follows_reclass(place):
 
 def breaks_off(place):
     """Nobody listens, a link that breaks, streams of the program that fail, and words that are none."""
-    with Upstream() as upstream:
-        port = upstream.port
-    with Run(place, ["pqstats", "-s", "-q", f"{HOST}:{port}"]) as run:
+    with hold_port() as held, Run(place, ["pqstats", "-s", "-q", f"{HOST}:{port_of(held)}"]) as run:
         expect(tuple(run.end()), (69, b"", b"ldm: net fault\n"), "a node that is not there")
     products = some([MARCH, MARCH + HOUR])
     for sent in (0, 1):

@@ -12,13 +12,12 @@ import hashlib
 import os
 import random
 import re
-import socket
 import struct
 import threading
 
 from peers import (
     ADMITTED, DDPLUS, DDS, DUPLICATE, HEREIS, IDS, IS_ALIVE, NOT_ACCEPTED, TOO_BIG,
-    Peer, Product, Upstream, Wrong, call, expect, number, record, reply,
+    Peer, Product, Upstream, Wrong, call, expect, hold_port, number, port_of, record, reply,
 )  # fmt: skip
 from runs import (
     COUNTS, DENY, FULL, HOST, REFUSALS, Run, admissions, answer, hear_put, in_fragments, nothing_comes, now, try_all,
@@ -140,9 +139,10 @@ def play(place, stream, what, answers=None, pieces=None, words=(), spell=reply, 
         try:
             serve(peer, run, plain, spell)
             ran = run.end()
-        except Wrong as why:
+        except (Wrong, OSError) as why:
+            # what the feeder still has to give nobody would read
             run.program.kill()
-            raise Wrong(f"{what}: {why}") from None
+            raise Wrong(f"{what}: {why or type(why).__name__}") from None
         finally:
             feeder.join()
     expect_run(ran, (plain.status, plain.output, plain.log), what)
@@ -453,9 +453,7 @@ def hears_wrong_replies(place):
 
 def closes_early(place):
     """Nobody listens, and a link that breaks: before the first PUT, at its answer, and at that of the second."""
-    with Upstream() as upstream:
-        port = upstream.port
-    with Run(place, ["wmo", "-q", f"{HOST}:{port}"]) as run:
+    with hold_port() as held, Run(place, ["wmo", "-q", f"{HOST}:{port_of(held)}"]) as run:
         run.write(GOOD)
         expect_run(run.end(), (69, b"", b"ldm: net fault\n"), "a node that is not there")
     stream = BAD + GOOD + BAD + GOOD
@@ -490,11 +488,10 @@ def connects_before_it_reads(place):
         run.end_source()
         expect_run(run.end(), (0, b"", b""), "a stream without a byte")
         expect(peer.next_record(), None, "what comes of a stream without a byte")
-    with socket.create_server((HOST, 0)) as listener:
-        port = listener.getsockname()[1]
     given, source = os.pipe()
     os.write(source, GOOD)
-    with Run(place, ["wmo", "-q", f"{HOST}:{port}"], source=f"/proc/self/fd/{given}") as run:
+    words = ["wmo", "-q"]
+    with hold_port() as held, Run(place, [*words, f"{HOST}:{port_of(held)}"], source=f"/proc/self/fd/{given}") as run:
         expect_run(run.end(), (69, b"", b"ldm: net fault\n"), "a node that is not there")
     expect(os.read(given, 100), GOOD, "what is left of a stream where nobody listens")
     os.close(given)
