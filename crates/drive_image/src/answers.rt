@@ -32,14 +32,10 @@ pub struct Answer {
     pub opened: Opened,
 }
 
-/// A disk whose file has these bytes, attached.
+/// A disk whose file has these bytes. It is to be attached.
 pub fn disk_of(trial: &mut Trial, file: &[u8]) -> MemDisk {
     let alloc = trial.alloc();
-    let mut disk = MemDisk::new(alloc, copied(trial, file), Vec::new(alloc));
-    if disk.attach("file").is_err() {
-        trial.lack_memory();
-    }
-    disk
+    MemDisk::new(alloc, copied(trial, file), Vec::new(alloc))
 }
 
 /// Saves the image of a queue, through the bound of a disk.
@@ -76,6 +72,10 @@ fn count_rows(book: &Book) -> u32 {
 // What was opened of a file: the queue's numbers, where its image is that file again.
 fn shown(trial: &mut Trial, file: &[u8], book: &Book) -> Opened {
     let mut again = disk_of(trial, b"");
+    if again.attach("file").is_err() {
+        trial.lack_memory();
+        return Opened::Differs;
+    }
     if save(trial.alloc(), book, &mut again) != SaveEnd::Saved || again.bytes() != file {
         return Opened::Differs;
     }
@@ -89,8 +89,12 @@ fn shown(trial: &mut Trial, file: &[u8], book: &Book) -> Opened {
 }
 
 /// Opens a file of these bytes.
-pub fn opened(trial: &mut Trial, file: &[u8]) -> Opened {
+pub fn open_file(trial: &mut Trial, file: &[u8]) -> Opened {
     let mut disk = disk_of(trial, file);
+    if disk.attach("file").is_err() {
+        trial.lack_memory();
+        return Opened::Differs;
+    }
     match open(trial.alloc(), &mut disk) {
         Ok(book) => shown(trial, file, &book),
         Err(fault) => Opened::Refused(fault),

@@ -1,7 +1,8 @@
 //! Files: bytes that a case has, or the image of a queue that a case names.
 
-use crate::answers::{Answer, Row, copied, disk_of, opened, save, tell_answer};
+use crate::answers::{Answer, Row, copied, disk_of, open_file, save, tell_answer};
 use ldm_book::{Book, InsertReply};
+use ldm_disk::Disk;
 use ldm_drive::Trial;
 use ldm_image::SaveEnd;
 use ldm_types::{Actor, Feed, Info, Micros, Signature};
@@ -44,6 +45,10 @@ fn image_of(trial: &mut Trial) -> Vec<u8> {
         return Vec::new(trial.alloc());
     };
     let mut disk = disk_of(trial, b"");
+    if disk.attach("file").is_err() {
+        trial.lack_memory();
+        return Vec::new(trial.alloc());
+    }
     if save(trial.alloc(), &book, &mut disk) != SaveEnd::Saved {
         trial.refuse("not saved");
     }
@@ -61,7 +66,7 @@ pub fn file_of(trial: &mut Trial) -> Vec<u8> {
 fn tell_one(trial: &mut Trial, file: &[u8]) {
     let answer = Answer {
         end: None,
-        opened: opened(trial, file),
+        opened: open_file(trial, file),
     };
     tell_answer(trial, answer);
 }
@@ -69,7 +74,7 @@ fn tell_one(trial: &mut Trial, file: &[u8]) {
 fn add_one(trial: &mut Trial, row: &mut Row, file: &[u8]) {
     let answer = Answer {
         end: None,
-        opened: opened(trial, file),
+        opened: open_file(trial, file),
     };
     row.add(trial, answer);
 }

@@ -1,6 +1,6 @@
 //! Savings of which each call in turn fails, and what opens of what a crash leaves then.
 
-use crate::answers::{Answer, Row, copied, opened, save};
+use crate::answers::{Answer, Opened, Row, copied, open_file, save};
 use crate::files::{file_of, queue_of};
 use ldm_book::Book;
 use ldm_disk::{Disk, MemDisk};
@@ -29,13 +29,17 @@ fn broken_off(trial: &mut Trial, file: &[u8], book: &Book, how: Failing, call: u
     let mut disk = MemDisk::new(alloc, copied(trial, file), failing);
     if disk.attach("file").is_err() {
         trial.refuse("not attached");
+        return Answer {
+            end: None,
+            opened: Opened::Differs,
+        };
     }
     if how == Failing::Stop {
         disk.stop_at(call);
     }
     let end = save(alloc, book, &mut disk);
     let left = disk.crash();
-    let opened = opened(trial, left.bytes());
+    let opened = open_file(trial, left.bytes());
     Answer {
         end: Some(end),
         opened,
