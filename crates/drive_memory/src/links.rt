@@ -4,7 +4,7 @@ ghost use Rattle.ldm_outside.specs.Link.{IsNotClosed};
 
 use ldm_drive::Trial;
 use ldm_drive_outside::{bytes_in, copied, numbers, push, tell_bytes, tell_count, tell_word};
-use ldm_outside::{Got, Link, LinkScript, MemLink, Way, send_all};
+use ldm_outside::{Awaited, Got, Link, LinkScript, MemLink, Way, send_all};
 
 // A link that gives five bytes in pieces of 2, of 1 and of what is left, and takes two bytes a call.
 fn link_of(trial: &mut Trial, has_end: bool, failing: Vec<u64>) -> MemLink
@@ -26,7 +26,7 @@ fn hear<K: Link>(trial: &mut Trial, link: &mut K, count: u64)
 {
     for _ in 0..count {
         let mut buffer = [0; 4];
-        match link.recv(&mut buffer) {
+        match link.recv(&mut buffer, Awaited::Feed) {
             Got::Bytes(n) => tell_bytes(trial, &buffer[..n]),
             Got::End => tell_word(trial, "end"),
             Got::Failed => tell_word(trial, "failed"),

@@ -3,7 +3,7 @@ ghost use Rattle.ldm_outside.specs.Link.{IsNotClosed};
 
 use crate::words::{tell_number, tell_word};
 use ldm_drive::Trial;
-use ldm_outside::{Got, Link, Put};
+use ldm_outside::{Awaited, Got, Link, Put};
 
 /// One call of `recv`, with room for eight bytes.
 pub fn listen<K: Link>(link: &mut K) -> Got
@@ -11,7 +11,7 @@ pub fn listen<K: Link>(link: &mut K) -> Got
     ensures { IsNotClosed (K.tells link.new) }
 {
     let mut buffer = [0; 8];
-    link.recv(&mut buffer)
+    link.recv(&mut buffer, Awaited::Feed)
 }
 
 /// Adds what a call gave, in a word.

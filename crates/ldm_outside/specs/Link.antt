@@ -96,6 +96,12 @@ abbrev pub SendGives : Put → List ℕ → LinkRecord → LinkRecord → Type 0
 SendGives (put.Took n) piece old new = (n ≤ length piece) × (0 < length piece → 0 < n) × Sent old (take n piece) new
 SendGives put.Failed piece old new = Failing old new
 
+-- What one call of `check_peer` did.
+abbrev pub ChecksPeer : Result (Unit {0}) LinkFailed → LinkRecord → LinkRecord → Type 0
+-- the peer is there, as far as the link knows
+ChecksPeer (Ok done) old new = new ≡ old
+ChecksPeer (Err failed) old new = Failing old new
+
 -- A call of `close` closes the link, and changes nothing else.
 abbrev pub Closes : LinkRecord → LinkRecord → Type 0
 Closes old new = new ≡ record old { closed = true }

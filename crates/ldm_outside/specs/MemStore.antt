@@ -21,6 +21,8 @@ pub record StoreState : Type 0 where
   pub opened : List (List ℕ)
   -- all files that there are
   pub files : List File
+  -- the numbers of the files that were flushed
+  pub flushed : List FileNo
   pub plan : Plan
 
 -- what it tells
@@ -32,11 +34,13 @@ told_by_store s = record {
   paths = s.paths;
   opened = Some s.opened;
   files = Some s.files;
+  flushed = Some s.flushed;
 }
 
 -- a store of these files, of which none was opened
 abbrev pub first_store : List File → List ℕ → StoreState
-first_store files failing = record { faults = 0; long = 0; paths = []; opened = []; files = files; plan = first_plan failing }
+first_store files failing =
+    record { faults = 0; long = 0; paths = []; opened = []; files = files; flushed = []; plan = first_plan failing }
 
 -- the place of the first file under a path
 abbrev pub place_under : List ℕ → List File → Option ℕ
@@ -61,11 +65,6 @@ store_failed old = record old { faults = raised old.faults; plan = after_call ol
 abbrev pub store_changed : FileNo → (List ℕ → List ℕ) → StoreState → StoreState
 store_changed file change old =
     record old { files = with_file (at_number file.0 old.paths) change old.files; plan = after_call old.plan }
-
--- How a call begins: it is counted, and where its number is on the list of those that fail it fails.
-abbrev pub BeginsCall : Result (Unit {0}) Failed → StoreState → StoreState → Type 0
-BeginsCall (Ok done) old new = (next_fails old.plan ≡ false) × (new ≡ store_called old)
-BeginsCall (Err failed) old new = (next_fails old.plan ≡ true) × (new ≡ store_failed old)
 
 -- What one call of `read_file` did: it fails where its plan says so, and where there is no file.
 abbrev pub ReadsFileAsPlanned : FileRead → List ℕ → ℕ → StoreState → StoreState → Type 0
@@ -104,6 +103,12 @@ WritesFileAsPlanned (put.Took n) file piece old new =
     × (n ≡ min (length piece) old.plan.most)
     × (new ≡ store_changed file (λ bytes. bytes ++ take n piece) old)
 WritesFileAsPlanned put.Failed file piece old new = new ≡ store_failed old
+
+-- What one call of `flush` did. Without memory for the number a call fails too.
+abbrev pub FlushesFileAsPlanned : Result (Unit {0}) Failed → FileNo → StoreState → StoreState → Type 0
+FlushesFileAsPlanned (Ok done) file old new =
+    (next_fails old.plan ≡ false) × (new ≡ record old { flushed = old.flushed ++ file ∷ []; plan = after_call old.plan })
+FlushesFileAsPlanned (Err failed) file old new = new ≡ store_failed old
 
 -- What one call of `shut` did.
 abbrev pub ShutsFileAsPlanned : Result (Unit {0}) Failed → FileNo → StoreState → StoreState → Type 0

@@ -28,6 +28,8 @@ pub record StoreRecord : Type 0 where
   pub opened : Option (List (List ℕ))
   -- all files that there are, in the order in which they were made, where it tells them
   pub files : Option (List File)
+  -- the numbers of the files that were flushed, one for each call and in order, where it tells them
+  pub flushed : Option (List FileNo)
 
 -- the bytes under a path: those of the first file that has it
 abbrev pub bytes_under : List ℕ → List File → Option (List ℕ)
@@ -116,10 +118,14 @@ WritesFile (put.Took n) file piece old new =
     (n ≤ length piece) × (0 < length piece → 0 < n) × ChangesFile file (λ bytes. bytes ++ take n piece) old new
 WritesFile put.Failed file piece old new = StoreFails old new
 
+-- the store after a file was flushed
+abbrev pub with_flushed : FileNo → StoreRecord → StoreRecord
+with_flushed file old = record old { flushed = option_map (λ files. files ++ file ∷ []) old.flushed }
+
 -- What one call of `flush` did.
-abbrev pub FlushesFile : Result (Unit {0}) Failed → StoreRecord → StoreRecord → Type 0
-FlushesFile (Ok done) old new = new ≡ old
-FlushesFile (Err failed) old new = StoreFails old new
+abbrev pub FlushesFile : Result (Unit {0}) Failed → FileNo → StoreRecord → StoreRecord → Type 0
+FlushesFile (Ok done) file old new = new ≡ with_flushed file old
+FlushesFile (Err failed) file old new = StoreFails old new
 
 -- What one call of `shut` did.
 abbrev pub ShutsFile : Result (Unit {0}) Failed → FileNo → StoreRecord → StoreRecord → Type 0

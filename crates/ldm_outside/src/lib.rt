@@ -37,7 +37,7 @@ pub use fault::Failed;
 pub use gate::{Gate, GateCall, Go};
 pub use io::{Got, Put, Sink, SinkFailed, Source, write_all};
 pub use launcher::{ChildNo, Launcher};
-pub use link::{Link, LinkFailed, Passed, Way, send_all};
+pub use link::{Awaited, Link, LinkFailed, Passed, Way, send_all};
 pub use mem_clock::MemClock;
 pub use mem_dial::{DialCall, MemDial};
 pub use mem_door::{MemDoor, MemPeer};

@@ -22,12 +22,32 @@ pub struct Passed {
     pub byte: u8,
 }
 
+/// What is awaited of a peer. No clause speaks of it: a link may fail the sooner, the less the peer may keep it waiting.
+#[derive(Clone, Copy, Debug, PartialEq, Eq)]
+pub enum Awaited {
+    /// The first byte of a request, which the peer sends when it likes.
+    Request,
+    /// The first byte of a reply to what was sent.
+    Reply,
+    /// The first byte of what a feed brings.
+    Feed,
+    /// The bytes behind the first ones of a record.
+    Rest,
+}
+
+impl Awaited {
+    /// The rest of a record where one was begun, and else this.
+    pub fn or_rest(self, is_begun: bool) -> Awaited {
+        if is_begun { Awaited::Rest } else { self }
+    }
+}
+
 /// A stream of bytes to another program and one back.
 ///
 /// Bytes are received as from a [`Source`](crate::Source) and sent as to a [`Sink`](crate::Sink). Only `close` closes
 /// a link, and a closed one neither receives nor sends.
 pub trait Link {
-    ghost use Rattle.ldm_outside.specs.Link.{RecvGives, SendGives, Closes};
+    ghost use Rattle.ldm_outside.specs.Link.{RecvGives, SendGives, ChecksPeer, Closes};
 
     /// What it tells: what passed, byte by byte and both ways in one order, and the bytes that it has left to give, if
     /// it tells these; how often it failed and was at its end; and whether it was closed. A count stands still at the
@@ -38,7 +58,7 @@ pub trait Link {
     ///
     /// A failure loses no byte, so a caller may go on after it. The buffer behind the bytes that came, and all of it
     /// where none came, may hold anything.
-    fn recv(&mut self, into: &mut [u8]) -> Got
+    fn recv(&mut self, into: &mut [u8], awaited: Awaited) -> Got
         requires room { 0 < length into.old }
         requires not_closed { IsNotClosed (tells self.old) }
         ensures given { RecvGives result into.new (tells self.old) (tells self.new) }
@@ -52,6 +72,15 @@ pub trait Link {
     fn send(&mut self, piece: &[u8]) -> Put
         requires not_closed { IsNotClosed (tells self.old) }
         ensures sent { SendGives result piece.now (tells self.old) (tells self.new) }
+        ensures faults_kept { (tells self.old).faults ≤ (tells self.new).faults }
+        ensures still_open { IsNotClosed (tells self.new) };
+
+    /// Looks whether the peer is still there. It waits for nothing, and takes no byte.
+    ///
+    /// It fails where the link knows that the peer closed its side or went.
+    fn check_peer(&mut self) -> Result<(), LinkFailed>
+        requires not_closed { IsNotClosed (tells self.old) }
+        ensures checked { ChecksPeer result (tells self.old) (tells self.new) }
         ensures faults_kept { (tells self.old).faults ≤ (tells self.new).faults }
         ensures still_open { IsNotClosed (tells self.new) };
 

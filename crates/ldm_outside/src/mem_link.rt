@@ -1,16 +1,17 @@
 //! Links in memory, which do as a script says.
-ghost use Rattle.std.specs.Prelude.{◌≡◌, true, ◌<◌, ◌≤◌, length, take, drop, OnOk, OnErr};
+ghost use Rattle.std.specs.Prelude.{◌≡◌, true, ◌<◌, ◌≤◌, length, take, drop, OnOk, OnErr, IsOk};
 ghost use Rattle.ldm_outside.specs.Link.{then_all};
 ghost use Rattle.ldm_outside.specs.MemLink.{next_piece};
 
 use crate::calls::Calls;
 use crate::io::{Got, Put};
-use crate::link::{Link, Passed, Way};
+use crate::link::{Awaited, Link, LinkFailed, Passed, Way};
 use std::alloc::{AllocError, Global};
 use std::collections::VecDeque;
 use std::marker::Model;
 
-/// What a link in memory is to do. Its calls of `recv` and `send` are numbered together, from 1.
+/// What a link in memory is to do. Its calls of `recv` and `send` are numbered together, from 1. Its peer is always
+/// there.
 #[derive(Drop)]
 pub struct LinkScript {
     /// All bytes that it gives.
@@ -125,7 +126,7 @@ impl Link for MemLink {
 
     ghost tells = { told_by_link };
 
-    fn recv(&mut self, into: &mut [u8]) -> Got
+    fn recv(&mut self, into: &mut [u8], _awaited: Awaited) -> Got
         requires room { 0 < length into.old }
         requires not_closed { IsNotClosed (told_by_link self.old) }
         ensures given { RecvGives result into.new (told_by_link self.old) (told_by_link self.new) }
@@ -174,6 +175,14 @@ impl Link for MemLink {
             return Put::Failed;
         }
         Put::Took(n)
+    }
+
+    fn check_peer(&mut self) -> Result<(), LinkFailed>
+        requires not_closed { IsNotClosed (told_by_link self.old) }
+        ensures there { IsOk result }
+        ensures same { self.new ≡ self.old }
+    {
+        Ok(())
     }
 
     fn close(&mut self)

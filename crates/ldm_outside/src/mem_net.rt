@@ -140,6 +140,7 @@ impl Dial for MemNet {
 }
 
 impl Net for MemNet {
+    ghost use Rattle.std.specs.Prelude.{option_map, Some};
     ghost use Rattle.ldm_outside.specs.MemDial.{told_by_dial};
     ghost use Rattle.ldm_outside.specs.Net.{StationsGive};
     ghost use Rattle.ldm_outside.specs.MemNet.{told_by_station, StationsAsPlanned};
@@ -155,6 +156,8 @@ impl Net for MemNet {
     type StationGate = MemGate;
 
     ghost kept = { λ s. s.kept };
+
+    ghost port_asked = { λ s. option_map (λ call. call.port) s.asked };
 
     fn stations(&mut self, port: u16, count: u32, idles: Option<u32>) -> Manned<MemStation>
         ensures given { StationsGive told_by_station result count idles (told_by_dial self.old.dial)

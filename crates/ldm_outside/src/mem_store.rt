@@ -229,6 +229,7 @@ fn read(alloc: Global, files: &[MemFile], path: &str, limit: u64) -> FileRead
 pub struct MemStore {
     files: Vec<MemFile>,
     opened: Opened,
+    flushed: Vec<FileNo>,
     calls: Calls,
     long: u64,
 }
@@ -244,6 +245,7 @@ impl Model for MemStore {
       paths = s.opened.now.entries;
       opened = s.opened.ever.items;
       files = s.files.items;
+      flushed = s.flushed.items;
       plan = s.calls.plan;
     } };
 }
@@ -259,6 +261,7 @@ impl MemStore {
                 now: BTreeMap::new(alloc),
                 ever: Vec::new(alloc),
             },
+            flushed: Vec::new(alloc),
             calls: Calls::new(failing),
             long: 0,
         }
@@ -285,6 +288,13 @@ impl MemStore {
         self.opened.ever.as_slice()
     }
 
+    /// The numbers of the files that were flushed, one for each call and in order.
+    pub fn flushed(&self) -> &[FileNo]
+        ensures { result.now ≡ self.now.flushed }
+    {
+        self.flushed.as_slice()
+    }
+
     /// How often it failed.
     pub fn faults(&self) -> u64
         ensures { result ≡ self.now.faults }
@@ -305,7 +315,7 @@ impl Store for MemStore {
     ghost use Rattle.ldm_outside.specs.Store.{WritesFile, FlushesFile, ShutsFile};
     ghost use Rattle.ldm_outside.specs.MemStore.{told_by_store, ReadsFileAsPlanned, OpensFileAsPlanned};
     ghost use Rattle.ldm_outside.specs.MemStore.{EmptiesFileAsPlanned, WritesFileAsPlanned, ShutsFileAsPlanned};
-    ghost use Rattle.ldm_outside.specs.MemStore.{BeginsCall};
+    ghost use Rattle.ldm_outside.specs.MemStore.{FlushesFileAsPlanned};
 
     ghost tells = { told_by_store };
 
@@ -376,14 +386,18 @@ impl Store for MemStore {
         Put::Took(n)
     }
 
-    fn flush(&mut self, _file: FileNo) -> Result<(), Failed>
-        requires { IsOpen _file (told_by_store self.old) }
-        ensures flushed { FlushesFile result (told_by_store self.old) (told_by_store self.new) }
+    fn flush(&mut self, file: FileNo) -> Result<(), Failed>
+        requires { IsOpen file (told_by_store self.old) }
+        ensures flushed { FlushesFile result file (told_by_store self.old) (told_by_store self.new) }
         ensures faults_kept { self.old.faults ≤ self.new.faults }
         ensures paths_kept { self.new.paths ≡ self.old.paths }
-        ensures planned { BeginsCall result self.old self.new }
+        ensures planned { FlushesFileAsPlanned result file self.old self.new }
     {
-        self.calls.begin()
+        self.calls.begin()?;
+        match self.flushed.push(file) {
+            Ok(()) => Ok(()),
+            Err(_) => Err(self.calls.fail()),
+        }
     }
 
     fn shut(&mut self, file: FileNo) -> Result<(), Failed>

@@ -1,5 +1,5 @@
 //! Nets, which hand each worker an outside of its own.
-ghost use Rattle.std.specs.Prelude.{◌≡◌, List};
+ghost use Rattle.std.specs.Prelude.{◌≡◌, ℕ, List, Option, Some};
 ghost use Rattle.ldm_outside.specs.declared.net.Station.{Station};
 
 use crate::clock::Clock;
@@ -54,6 +54,9 @@ pub trait Net: Dial {
     ghost kept: { Self → List
         (Station Self.StationDoor Self.StationDial Self.StationLog Self.StationClock Self.StationGate) };
 
+    /// The port that it was asked to let peers in at last; none before it was asked.
+    ghost port_asked: { Self → Option ℕ };
+
     /// Hands out so many new stations, whose doors let in what comes to that port. The gate of a station stops after so
     /// many idle calls, or never where no number is given, if it tells this.
     fn stations(
@@ -74,7 +77,8 @@ pub trait Net: Dial {
             (station_tells Self.StationDoor.tells Self.StationDial.tells Self.StationLog.tells Self.StationClock.tells
             Self.StationGate.tells)
             result count idles (Self.tells self.old) (Self.tells self.new) }
-        ensures kept { kept self.new ≡ kept self.old };
+        ensures kept { kept self.new ≡ kept self.old }
+        ensures asked { port_asked self.new ≡ Some port };
 
     /// Keeps the stations as they are, in place of those that it kept. It needs no memory.
     fn keep(
@@ -90,5 +94,6 @@ pub trait Net: Dial {
         >,
     )
         ensures kept { kept self.new ≡ stations.items }
-        ensures same { Self.tells self.new ≡ Self.tells self.old };
+        ensures same { Self.tells self.new ≡ Self.tells self.old }
+        ensures asked { port_asked self.new ≡ port_asked self.old };
 }

@@ -32,8 +32,8 @@ pub trait Store {
     ghost use Rattle.ldm_outside.specs.Store.{WritesFile, FlushesFile, ShutsFile};
 
     /// What it tells: the files that are open now, with their numbers and paths, and the number that comes next; how
-    /// often it failed and found a file too long; and if it tells these, all files that it ever opened and all that
-    /// there are. A count stands still at the end of `u64`.
+    /// often it failed and found a file too long; and if it tells these, all files that it ever opened, all that there
+    /// are, and its calls of `flush` that went well. A count stands still at the end of `u64`.
     ghost tells: { Self → StoreRecord };
 
     /// Reads the file under the path, which may have so many bytes at most.
@@ -67,7 +67,7 @@ pub trait Store {
     /// Hands all that was written to the system.
     fn flush(&mut self, file: FileNo) -> Result<(), Failed>
         requires { IsOpen file (tells self.old) }
-        ensures flushed { FlushesFile result (tells self.old) (tells self.new) }
+        ensures flushed { FlushesFile result file (tells self.old) (tells self.new) }
         ensures faults_kept { (tells self.old).faults ≤ (tells self.new).faults }
         ensures paths_kept { (tells self.new).paths ≡ (tells self.old).paths };
 
