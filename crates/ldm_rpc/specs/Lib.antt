@@ -1,6 +1,11 @@
 pub mod Reading
+pub mod Stages
+pub mod Marking
 pub mod RecordsView
 pub mod Taking
 pub mod Spelling
 pub mod Streams
 pub mod Fronts
+pub mod Coming
+pub mod KeptView
+pub mod FrontRecordsView

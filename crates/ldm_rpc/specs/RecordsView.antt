@@ -1,31 +1,12 @@
 -- What contracts see of a reader, and what it keeps.
-use Rattle.std.specs.Prelude.{◌≡◌, ℕ, ◌+◌, ◌^◌, ◌<◌, ◌≤◌, length}
+use Rattle.std.specs.Prelude.{length}
 use Rattle.std.specs.Vec.{vec_capacity}
-use Rattle.ldm_rpc.specs.declared.stage.Stage.{Stage}
-use Rattle.ldm_rpc.specs.declared.stage.Stage.TheVariants.{Header, Fragment, Whole, Faulty}
 use Rattle.ldm_rpc.specs.declared.records.Records.TheInside.{Inside}
-use Rattle.ldm_rpc.specs.declared.records.TheConstants.{LARGEST_KEPT}
+use Rattle.ldm_rpc.specs.Marking.{reading_at, AreMarks}
 use Rattle.ldm_rpc.specs.Reading.{Reading}
 
 abbrev pub reading_of : Inside → Reading
-reading_of r = record { limit = r.limit; content = r.content.items; next_header_at = r.next_header_at; stage = r.stage }
+reading_of r = reading_at r.marks r.content.items
 
--- Fewer than four bytes of a header came. The fragment in hand has bytes to come, for which there is room behind
--- those of the content so far.
-abbrev pub StageFits : Stage → ℕ → ℕ → Type 0
-StageFits (Header came number) len limit = (came < 4) × (number < 256 ^ came)
-StageFits (Fragment left last) len limit = (0 < left) × (len + left ≤ limit)
-StageFits Whole len limit = Unit {0}
-StageFits (Faulty fault) len limit = Unit {0}
-
--- Before the first byte of a record no large buffer is kept. Within a fragment there was a header.
-abbrev pub KeepsLittle : Stage → ℕ → ℕ → Type 0
-KeepsLittle (Header came number) next_header_at capacity = next_header_at + came ≡ 0 → capacity ≤ LARGEST_KEPT
-KeepsLittle (Fragment left last) next_header_at capacity = 0 < next_header_at
-KeepsLittle Whole next_header_at capacity = Unit {0}
-KeepsLittle (Faulty fault) next_header_at capacity = Unit {0}
-
-pub record IsKept (r : Inside) : Type 0 where
-  pub within : length r.content.items ≤ r.limit
-  pub stage : StageFits r.stage (length r.content.items) r.limit
-  pub little : KeepsLittle r.stage r.next_header_at (vec_capacity r.content)
+abbrev pub IsKept : Inside → Type 0
+IsKept r = AreMarks r.marks (length r.content.items) (vec_capacity r.content)

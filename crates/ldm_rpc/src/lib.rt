@@ -5,14 +5,20 @@
 //! are the number of its bytes, which may be zero. The content of a record is the bytes of its fragments, joined.
 #![tactic(auto)]
 
+mod came;
 mod fault;
+mod front_records;
 mod in_place;
+mod kept;
 mod laws;
+mod marks;
 mod records;
 mod stage;
 
 pub use fault::RpcFault;
+pub use front_records::{Front, FrontRecords};
 pub use in_place::InPlace;
+pub use kept::LEAST_FRONT;
 pub use laws::{
     no_record_begins_another, pending_from_the_first_byte, pieces_join, pushes_read_the_stream,
     records_are_read, too_long_at_the_header, what_is_read_is_spelled,

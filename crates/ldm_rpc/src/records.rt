@@ -6,14 +6,15 @@ ghost use Rattle.ldm_rpc.specs.declared.records.TheConstants.{LARGEST_KEPT};
 ghost use Rattle.std.specs.Option.{option_copied};
 ghost use Rattle.ldm_rpc.specs.declared.fault.RpcFault.{RpcFault};
 ghost use Rattle.ldm_rpc.specs.declared.stage.Stage.TheVariants.{Faulty};
-ghost use Rattle.ldm_rpc.specs.Reading.{after, after_byte, after_header, begun, bytes_taken, is_faulty};
+ghost use Rattle.ldm_rpc.specs.Reading.{after, after_byte, begun, bytes_taken, is_faulty};
 ghost use Rattle.ldm_rpc.specs.Reading.{is_open, is_pending, is_whole, next_of, whole_of};
 ghost use Rattle.ldm_rpc.specs.Spelling.{BeginsSingle};
-ghost use Rattle.ldm_rpc.specs.Taking.{IsFaultOf, TakesFront, answer_at};
+ghost use Rattle.ldm_rpc.specs.Taking.{IsFaultOf, TakesFront};
 
 use crate::fault::RpcFault;
 use crate::in_place::{HEADER, InPlace, single_in};
-use crate::stage::{LAST_FRAGMENT, Stage, stage_before};
+use crate::marks::Marks;
+use crate::stage::{Stage, stage_before};
 use std::alloc::{AllocError, Global};
 use std::marker::Model;
 
@@ -30,10 +31,8 @@ pub const LARGEST_KEPT: usize = 4_194_304;
 /// announces. What a record took is kept for the next one, up to [`LARGEST_KEPT`] bytes.
 #[derive(Debug, Drop)]
 pub struct Records {
-    limit: u32,
+    marks: Marks,
     content: Vec<u8>,
-    next_header_at: u64,
-    stage: Stage,
 }
 
 impl Model for Records {
@@ -55,10 +54,8 @@ impl Records {
         ensures { result ≡ begun limit }
     {
         Records {
-            limit,
+            marks: Marks::before_record(limit),
             content: Vec::new(alloc),
-            next_header_at: 0,
-            stage: Stage::Header { came: 0, number: 0 },
         }
     }
 
@@ -82,7 +79,7 @@ impl Records {
                 Err(_) => return Err(RpcFault::OutOfMemory),
             }
         }
-        self.answer(taken)
+        self.marks.answer(taken)
     }
 
     /// The content of a complete record, without its fragment headers. `None` exactly where no record is complete.
@@ -90,7 +87,7 @@ impl Records {
         ensures content { option_copied result ≡ whole_of self.now }
         ensures within { IfSome result (λ content. length content.now ≤ self.now.limit) }
     {
-        match self.stage {
+        match self.marks.stage {
             Stage::Whole => Some(self.content.as_slice()),
             _ => None,
         }
@@ -102,10 +99,9 @@ impl Records {
         ensures after { self.new ≡ next_of self.old }
         ensures ready { is_whole self.new ≡ false }
     {
-        if let Stage::Whole = self.stage {
+        if let Stage::Whole = self.marks.stage {
             empty(&mut self.content);
-            self.next_header_at = 0;
-            self.stage = Stage::Header { came: 0, number: 0 };
+            self.marks = Marks::before_record(self.marks.limit);
         }
     }
 
@@ -129,7 +125,7 @@ impl Records {
         if !self.is_begun() {
             return None;
         }
-        let content = single_in(piece, self.limit)?;
+        let content = single_in(piece, self.marks.limit)?;
         Some(InPlace {
             content,
             taken: HEADER + content.len(),
@@ -140,22 +136,7 @@ impl Records {
     pub fn pending(&self) -> bool
         ensures { result ≡ is_pending self.now }
     {
-        match self.stage {
-            Stage::Header { came, .. } => came > 0 || self.next_header_at > 0,
-            Stage::Fragment { .. } => true,
-            Stage::Whole => false,
-            Stage::Faulty(_) => true,
-        }
-    }
-
-    // What a push answers that has taken so many bytes.
-    fn answer(&self, taken: usize) -> Result<usize, RpcFault>
-        ensures { result ≡ answer_at self.now.stage taken }
-    {
-        match self.stage {
-            Stage::Faulty(fault) => Err(fault),
-            _ => Ok(taken),
-        }
+        self.marks.are_pending()
     }
 
     // Whether it is before the first byte of a record.
@@ -163,9 +144,9 @@ impl Records {
         ensures is { result ≡ true → self.now ≡ begun self.now.limit }
         ensures is_not { result ≡ false → ¬ (self.now ≡ begun self.now.limit) }
     {
-        match self.stage {
+        match self.marks.stage {
             Stage::Header { came, .. } => {
-                came == 0 && self.next_header_at == 0 && self.content.is_empty()
+                came == 0 && self.marks.next_header_at == 0 && self.content.is_empty()
             }
             _ => false,
         }
@@ -174,7 +155,7 @@ impl Records {
     fn is_open(&self) -> bool
         ensures { result ≡ is_open self.now }
     {
-        matches!(self.stage, Stage::Header { .. } | Stage::Fragment { .. })
+        self.marks.are_open()
     }
 
     // Takes the front of a piece: one byte of a header, or all that is there of a fragment.
@@ -184,7 +165,7 @@ impl Records {
         ensures taken { IfOk result (λ n. TakesFront self.old piece.now n self.new) }
         ensures fault { OnErr result (self.new.stage ≡ Faulty RpcFault.OutOfMemory) }
     {
-        match self.stage {
+        match self.marks.stage {
             Stage::Header { came, number } => {
                 self.take_header_byte(came, number, piece[0]);
                 Ok(1)
@@ -194,36 +175,13 @@ impl Records {
         }
     }
 
-    #[tactic(auto, using(crate::proofs::Steps::one_more_digit), unfolding(crate::specs::Reading::after_byte))]
     fn take_header_byte(&mut self, came: u8, number: u32, byte: u8)
         requires stage { self.old.stage ≡ Stage.Header came number }
         requires small { (came < 4) × (number < 256 ^ came) }
         ensures { self.new ≡ after_byte self.old byte }
     {
-        let number = number * 256 + u32::from(byte);
-        if came == 3 {
-            self.begin_fragment(number);
-        } else {
-            self.stage = Stage::Header {
-                came: came + 1,
-                number,
-            };
-        }
-    }
-
-    // What a header says, of which all four bytes came.
-    fn begin_fragment(&mut self, number: u32)
-        ensures { self.new ≡ after_header self.old number }
-    {
-        let len = number % LAST_FRAGMENT;
-        if len > self.limit - self.content.len() as u32 {
-            self.stage = Stage::Faulty(RpcFault::TooLong {
-                at: self.next_header_at,
-            });
-        } else {
-            self.next_header_at = self.next_header_at.saturating_add(4 + u64::from(len));
-            self.stage = stage_before(len, number >= LAST_FRAGMENT);
-        }
+        let len = self.content.len() as u32;
+        self.marks.take_header_byte(came, number, byte, len);
     }
 
     // Bytes of the fragment in hand, in one copy.
@@ -235,16 +193,16 @@ impl Records {
     {
         let count = piece.len().min(left as usize);
         if self.content.extend_from_slice(&piece[..count]).is_err() {
-            self.stage = Stage::Faulty(RpcFault::OutOfMemory);
+            self.marks.stage = Stage::Faulty(RpcFault::OutOfMemory);
             return Err(AllocError);
         }
-        self.stage = stage_before(left - count as u32, last);
+        self.marks.stage = stage_before(left - count as u32, last);
         Ok(count)
     }
 }
 
 // Empties a buffer, and gives it back where it is large.
-fn empty(buffer: &mut Vec<u8>)
+pub(crate) fn empty(buffer: &mut Vec<u8>)
     ensures empty { buffer.new.items ≡ [] }
     ensures small { vec_capacity buffer.new ≤ LARGEST_KEPT }
 {

@@ -1,4 +1,6 @@
-use Rattle.std.proofs.Common.{arith}
+use Rattle.std.proofs.Common.{◌≡◌, ap, subst, arith}
+use Rattle.ldm_rpc.specs.Reading.{Reading}
+use Rattle.ldm_rpc.specs.Taking.{answer_at}
 use Rattle.ldm_rpc.proofs.Pushed.{HasTaken, all_taken, answers, end_taken}
 use Rattle.ldm_rpc.proofs.records.Records.push.Goals as goal
 use Rattle.ldm_rpc.proofs.records.Records.push.Goals.{then-loop-taken-test+else-is_open, else-loop-taken-test}
@@ -13,7 +15,9 @@ returns c =
       | then-loop-taken-test+else-is_open w ↦ end_taken old now piece n (grind arith) c.loop-taken.invariant
       | else-loop-taken-test w ↦ all_taken old now piece n (omega arith) c.loop-taken.invariant
     ] in
-    let answer = answers old now piece n c.answer.result c.requires ended c.answer.ensures in
+    let said : c.answer.result ≡ answer_at now.stage n =
+    subst (λ stage. c.answer.result ≡ answer_at stage n) (ap (λ (r : Reading). r.stage) c.self-2.view_is) c.answer.ensures in
+    let answer = answers old now piece n c.answer.result c.requires ended said in
     record {
       after = answer.after;
       taken = answer.taken;

@@ -8,5 +8,5 @@ pub returns-clause-taken : goal.returns-clause-taken
 returns-clause-taken c =
     let items : c.extend_from_slice.new.self.items ≡ c.self.inside.content.items ++ take c.min-count.result c.args.piece.now = grind (arith, common_steps) in
     let ended : c.stage_before-self-inside.result ≡ stage_before (c.args.left - c.min-count.result) c.args.last = c.stage_before-self-inside.ensures in
-    takes_some_content c.self.inside.limit c.self.inside.content.items c.extend_from_slice.new.self.items c.self.inside.next_header_at c.self.inside.stage c.stage_before-self-inside.result
+    takes_some_content c.self.inside.marks.limit c.self.inside.content.items c.extend_from_slice.new.self.items c.self.inside.marks.next_header_at c.self.inside.marks.stage c.stage_before-self-inside.result
     c.args.self.now c.args.left c.args.last c.args.piece.now c.min-count.result c.self.view_is c.requires.stage (grind arith) (omega (arith, c.min-count.ensures)) (omega (arith, c.min-count.ensures)) items ended
