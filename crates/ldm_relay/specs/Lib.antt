@@ -14,3 +14,4 @@ pub mod Fits
 pub mod Bodies
 pub mod Owed
 pub mod FeedCalls
+pub mod Fronts

@@ -10,6 +10,7 @@ mod call;
 mod class;
 mod fault;
 mod feed;
+mod front;
 mod header;
 mod laws;
 mod length;
@@ -24,6 +25,7 @@ pub use body::{BodyPlace, CallWithBody, write_head, write_with_room};
 pub use call::read_call;
 pub use fault::RelayFault;
 pub use feed::{FeedCall, read_feed_call};
+pub use front::{CallFront, LONGEST_CALL, read_call_front};
 pub use laws::{
     a_refusal_is_no_result, credentials_are_passed_over, what_is_read_is_written,
     what_is_written_is_read,
