@@ -11,7 +11,7 @@ abbrev pub IsClassFaultOf : List Spec → ClassFault → Type 0
 IsClassFaultOf specs (BadPattern place) = bad_place specs ≡ Some place
 IsClassFaultOf specs OutOfMemory = Unit {0}
 
--- the cause of a fault in building one pattern, that of the specification at a place
+-- the cause of a fault in reading or building one pattern, that of the specification at a place
 abbrev pub IsBuildFaultOf : List ℕ → ℕ → ClassFault → Type 0
 IsBuildFaultOf pattern at (BadPattern place) = (place ≡ at) × (pattern_meaning pattern ≡ None)
 IsBuildFaultOf pattern at OutOfMemory = Unit {0}

@@ -15,7 +15,11 @@ use std::alloc::{AllocError, AllocFailed, Global};
 use std::marker::Model;
 use thiserror::Error;
 
-/// Why a class is not built.
+/// What the built patterns of a class take in all, in bytes, at the most. Each pattern has an equal share, which is what
+/// `regex` counts of it: the tables that it searches by. A pattern that would take more is `OutOfMemory`.
+pub const BUILT_MOST: usize = 4 << 20;
+
+/// Why a class is not built, or its patterns are not all read.
 #[derive(Clone, Copy, Debug, PartialEq, Eq, Error)]
 pub enum ClassFault {
     /// A pattern is not UTF-8, the grammar of `regex` reads no pattern in it, or it nests too deep.
@@ -24,7 +28,7 @@ pub enum ClassFault {
         /// The place of the first such specification, from 0.
         spec: u32,
     },
-    /// There is too little memory, or a pattern would take more than `regex` allows one.
+    /// There is too little memory, or a pattern that is to be built would take more than its share of [`BUILT_MOST`].
     #[error("no memory")]
     OutOfMemory,
 }
@@ -72,11 +76,22 @@ impl Model for Class {
 }
 
 impl Class {
+    /// Reads the patterns of a class, and builds nothing. A specification of feed NONE with the pattern `SIG=` and 32
+    /// hexadecimal digits names a signature and is not read.
+    ///
+    /// `BadPattern` comes where it comes from [`Class::build`]. What passes here can be `OutOfMemory` there.
+    pub fn check(alloc: Global, spec: &ClassSpec) -> Result<(), ClassFault>
+        ensures { MatchResult result (λ _. bad_place spec.now.specs.items ≡ None)
+            (IsClassFaultOf spec.now.specs.items) }
+    {
+        check_patterns(alloc, spec.specs.as_slice())
+    }
+
     /// Builds the patterns of a class, each once. A specification of feed NONE with the pattern `SIG=` and 32
     /// hexadecimal digits names a signature and is not built.
     ///
     /// `BadPattern` comes only where a pattern is not UTF-8, the grammar of `regex` reads none in it, or it nests
-    /// deeper than 250. A pattern that is read and would take more than `regex` allows one is `OutOfMemory`.
+    /// deeper than 250. A pattern that is read and would take more than its share of [`BUILT_MOST`] is `OutOfMemory`.
     pub fn build(alloc: Global, spec: &ClassSpec) -> Result<Class, ClassFault>
         ensures { MatchResult result (λ class. (class ≡ spec.now) × (bad_place spec.now.specs.items ≡ None))
             (IsClassFaultOf spec.now.specs.items) }
@@ -129,6 +144,30 @@ impl Class {
     }
 }
 
+// Reads each pattern of these specifications, in order.
+fn check_patterns(alloc: Global, specs: &[Spec]) -> Result<(), ClassFault>
+    requires { length specs.now ≤ MOST_SPECS }
+    ensures { MatchResult result (λ _. bad_place specs.now ≡ None) (IsClassFaultOf specs.now) }
+{
+    for (place, spec) in specs.iter().enumerate() {
+        if resumption(spec).is_none() {
+            check(alloc, spec.pattern.as_slice(), place as u32)?;
+        }
+    }
+    Ok(())
+}
+
+// Reads the pattern of the specification at a place.
+fn check(alloc: Global, pattern: &[u8], place: u32) -> Result<(), ClassFault>
+    ensures { MatchResult result (λ _. IsSome (pattern_meaning pattern.now)) (IsBuildFaultOf pattern.now place) }
+{
+    match Pattern::check(alloc, pattern) {
+        Ok(()) => Ok(()),
+        Err(Refusal::Meaningless) => Err(ClassFault::BadPattern { spec: place }),
+        Err(Refusal::OutOfMemory) => Err(ClassFault::OutOfMemory),
+    }
+}
+
 // A search for each specification with a pattern, in order.
 fn searches_of(alloc: Global, specs: &[Spec]) -> Result<Vec<Search>, ClassFault>
     requires { length specs.now ≤ MOST_SPECS }
@@ -137,9 +176,10 @@ fn searches_of(alloc: Global, specs: &[Spec]) -> Result<Vec<Search>, ClassFault>
         (IsClassFaultOf specs.now) }
 {
     let mut searches = Vec::with_capacity(alloc, specs.len())?;
+    let most = BUILT_MOST / specs.len().max(1);
     for (place, spec) in specs.iter().enumerate() {
         if resumption(spec).is_none() {
-            let pattern = build(alloc, spec.pattern.as_slice(), place as u32)?;
+            let pattern = build(alloc, spec.pattern.as_slice(), most, place as u32)?;
             searches.push(Search {
                 feed: spec.feed,
                 pattern,
@@ -149,13 +189,13 @@ fn searches_of(alloc: Global, specs: &[Spec]) -> Result<Vec<Search>, ClassFault>
     Ok(searches)
 }
 
-// The pattern of the specification at a place.
-fn build(alloc: Global, pattern: &[u8], place: u32) -> Result<Pattern, ClassFault>
+// The pattern of the specification at a place, where it takes no more than that.
+fn build(alloc: Global, pattern: &[u8], most: usize, place: u32) -> Result<Pattern, ClassFault>
     ensures { MatchResult result
         (λ built. (built ≡ pattern.now) × IsSome (pattern_meaning pattern.now))
         (IsBuildFaultOf pattern.now place) }
 {
-    match Pattern::build(alloc, pattern) {
+    match Pattern::build_within(alloc, pattern, most) {
         Ok(built) => Ok(built),
         Err(Refusal::Meaningless) => Err(ClassFault::BadPattern { spec: place }),
         Err(Refusal::OutOfMemory) => Err(ClassFault::OutOfMemory),

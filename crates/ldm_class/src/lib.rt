@@ -17,7 +17,7 @@ mod search;
 mod verdict;
 
 pub use answers::{Reduced, Verdict};
-pub use class::{Class, ClassFault};
+pub use class::{BUILT_MOST, Class, ClassFault};
 pub use class_matcher::ClassMatcher;
 pub use host_policy::HostPolicy;
 pub use policy::{Policy, PolicyFault};

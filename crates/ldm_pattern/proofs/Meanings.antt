@@ -6,7 +6,7 @@ use Rattle.std.specs.Prelude.{nat_le, cond}
 use Rattle.std.specs.Str.{chars, is_utf8}
 use Rattle.regex.proofs.ForCallers.{is_match_alike}
 use Rattle.regex.specs.Bytes.{regex_config, regex_pattern, regex_source, IsReadFromSource}
-use Rattle.regex.specs.Failures.{IsRightKind}
+use Rattle.regex.specs.Failures.{IsPattern, IsRightKind}
 use Rattle.regex.specs.Names.{names_of}
 use Rattle.regex.specs.Patterns.{Re, SameCaptures, find}
 use Rattle.regex.specs.Sources.{IsRefusal}
@@ -17,6 +17,7 @@ use Rattle.regex_syntax.specs.Brackets.{Nested}
 use Rattle.regex_syntax.specs.Grammar.{Names, group_count, read}
 use Rattle.regex_syntax.specs.Verdict.{Reads, Refuses}
 use Rattle.regex_syntax.specs.declared.error.Error as parser
+use Rattle.regex_syntax.specs.declared.error.ErrorKind.{ErrorKind}
 use Rattle.regex_syntax.specs.declared.error.ErrorKind.TheVariants.{OutOfMemory}
 use Rattle.ldm_pattern.specs.Patterns.{byte_config, if_shallow, pattern_meaning, is_found, found}
 
@@ -43,6 +44,12 @@ some_of (Some x) P h = refl
 pub built_is_pattern : (r : Regex) → IsUtf8 (regex_source r) → regex_config r ≡ byte_config → IsReadFromSource r →
     IsSome (pattern_meaning (regex_source r))
 built_is_pattern r utf8 config h = some_of _ _ (means_what_is_built r utf8 config h)
+
+-- a text in which the grammar reads a tree, within the limit on nesting, is a pattern
+pub pattern_of_read : (source : List ℕ) → IsUtf8 source → IsPattern byte_config source → IsSome (pattern_meaning source)
+unfolding Reads pattern_meaning
+pattern_of_read source utf8 (hir, names, h) =
+    rw (is_utf8-from_IsUtf8 source utf8) (some_of _ _ (shallow_as (read byte_config (chars source)) _ names h))
 
 alike : (m : Option Re) (a : Re) (text : List ℕ) → ((k : ℕ) → get_or text k 0 < 256) → IsSomeAnd m (SameCaptures a) →
     is_some (find a text 0) ≡ is_found m text
@@ -82,16 +89,19 @@ no_tree_means_nothing source h = rw h (same_either (is_utf8 source))
     same_either true = refl
     same_either false = refl
 
--- a text that was refused for its syntax is no pattern
-pub nothing_of_refused : (source : List ℕ) (error : Error) (e : parser.Error) → error ≡ Syntax e → IsRefusal byte_config source error →
-    IsRightKind byte_config source error → pattern_meaning source ≡ None
+-- a text that the parser refuses, but for want of memory, is no pattern
+pub nothing_of_unread : (source : List ℕ) (kind : ErrorKind) → kind ≢ OutOfMemory → Refuses byte_config source kind → pattern_meaning source ≡ None
 unfolding Refuses
-nothing_of_refused source error e is refused right =
-    let not_memory : e.kind ≢ OutOfMemory = rw is at right in
-    elim (refused e is) [
+nothing_of_unread source kind not_memory refused =
+    elim refused [
       | inl memory ↦ absurd (not_memory memory)
       | inr other ↦ elim other [
         | inl none ↦ no_tree_means_nothing source (rw none)
         | inr deep ↦ no_tree_means_nothing source (deep_means_nothing (read byte_config (chars source)) deep.1)
       ]
     ]
+
+-- a text that was refused for its syntax is no pattern
+pub nothing_of_refused : (source : List ℕ) (error : Error) (e : parser.Error) → error ≡ Syntax e → IsRefusal byte_config source error →
+    IsRightKind byte_config source error → pattern_meaning source ≡ None
+nothing_of_refused source error e is refused right = nothing_of_unread source e.kind (rw is at right) (refused e is)

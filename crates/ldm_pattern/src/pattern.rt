@@ -8,8 +8,9 @@ ghost use Rattle.ldm_pattern.specs.Refusals.{IsRefusedFor};
 use crate::groups::Groups;
 use crate::matcher::Matcher;
 use ldm_types::OutOfMemory;
-use regex::Error;
 use regex::bytes::Regex;
+use regex::{Error, RegexBuilder};
+use regex_syntax::{Config, ErrorKind};
 use std::alloc::{AllocError, Global};
 use std::marker::Model;
 
@@ -52,18 +53,50 @@ impl Model for Pattern {
 }
 
 impl Pattern {
+    /// What `regex` lets one pattern take that [`Pattern::build`] builds, in bytes.
+    pub const LARGEST: usize = 10 << 20;
+
     /// The pattern of these bytes.
     pub fn build(alloc: Global, source: &[u8]) -> Result<Pattern, Refusal>
+        ensures { MatchResult result (λ pattern. (pattern ≡ source.now) × IsSome (pattern_meaning source.now))
+            (IsRefusedFor source.now) }
+    {
+        Pattern::build_within(alloc, source, Pattern::LARGEST)
+    }
+
+    /// The pattern of these bytes, if what is built of it takes about as many bytes as `most` or fewer. A larger one
+    /// is `OutOfMemory`.
+    pub fn build_within(alloc: Global, source: &[u8], most: usize) -> Result<Pattern, Refusal>
         ensures { MatchResult result (λ pattern. (pattern ≡ source.now) × IsSome (pattern_meaning source.now))
             (IsRefusedFor source.now) }
     {
         let Ok(text) = str::from_utf8(source) else {
             return Err(Refusal::Meaningless);
         };
-        match Regex::new(alloc, text) {
+        match RegexBuilder::new(text).size_limit(most).build_bytes(alloc) {
             Ok(regex) => Ok(Pattern { regex }),
             Err(Error::Syntax(_)) => Err(Refusal::Meaningless),
             Err(_) => Err(Refusal::OutOfMemory),
+        }
+    }
+
+    /// Whether these bytes are a pattern. They are read, and nothing is built.
+    pub fn check(alloc: Global, source: &[u8]) -> Result<(), Refusal>
+        ensures { MatchResult result (λ _. IsSome (pattern_meaning source.now)) (IsRefusedFor source.now) }
+    {
+        let Ok(text) = str::from_utf8(source) else {
+            return Err(Refusal::Meaningless);
+        };
+        let config = Config {
+            utf8: false,
+            ..Config::default()
+        };
+        let Err(error) = regex_syntax::parse(alloc, text, &config) else {
+            return Ok(());
+        };
+        match error.kind {
+            ErrorKind::OutOfMemory => Err(Refusal::OutOfMemory),
+            _ => Err(Refusal::Meaningless),
         }
     }
 
