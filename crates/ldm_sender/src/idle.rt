@@ -11,9 +11,9 @@ use crate::end::SendEnd;
 use crate::standing::{Standing, count_call};
 use ldm_outside::{Clock, Gate, Go, Link};
 use ldm_relay::{Isalive, Message, write_message};
-use ldm_session::{is_silent_since, send_gathered};
+use ldm_session::{is_silent_since, send_before_rest};
 
-/// Sends all that is gathered and asks the gate. Where it says to go on, an IS_ALIVE is gathered if nothing was sent
+/// Sends all that is gathered, looks whether the peer is still there, and asks the gate. Where that says to go on, an IS_ALIVE is gathered if nothing was sent
 /// for long.
 pub fn wait_idle<K: Link, C: Clock, G: Gate>(
     standing: &mut Standing,
@@ -28,7 +28,7 @@ pub fn wait_idle<K: Link, C: Clock, G: Gate>(
         (situation_of (moment_of pass (K.tells link.old) (C.tells clock.old) out.old.items) log (G.tells gate.old))
         (situation_of (moment_of pass (K.tells link.new) (C.tells clock.new) out.new.items) log (G.tells gate.new)) }
 {
-    send_gathered(out, link)?;
+    send_before_rest(out, link)?;
     if let Go::Stop = gate.idle() {
         return Err(SendEnd::Stopped);
     }

@@ -37,6 +37,19 @@ pub fn send_gathered<K: Link>(gathered: &mut Vec<u8>, link: &mut K) -> Result<()
     Ok(())
 }
 
+/// Sends all that was gathered, and looks whether the peer is still there, as a session does before it rests.
+pub fn send_before_rest<K: Link>(gathered: &mut Vec<u8>, link: &mut K) -> Result<(), LinkFailed>
+    requires { IsNotClosed (K.tells link.old) }
+    ensures sent { SendsSome result gathered.old.items (K.tells link.old) gathered.new.items (K.tells link.new) }
+    ensures empty { OnOk result (gathered.new.items ≡ []) }
+    ensures room { vec_capacity gathered.old ≤ vec_capacity gathered.new }
+    ensures faults_kept { (K.tells link.old).faults ≤ (K.tells link.new).faults }
+    ensures still_open { IsNotClosed (K.tells link.new) }
+{
+    send_gathered(gathered, link)?;
+    link.check_peer()
+}
+
 /// Sends all that was gathered where it is [`GATHERED`] bytes or more, and else nothing.
 pub fn send_where_full<K: Link>(gathered: &mut Vec<u8>, link: &mut K) -> Result<(), LinkFailed>
     requires { IsNotClosed (K.tells link.old) }

@@ -11,7 +11,7 @@ mod replies;
 mod waiting;
 
 pub use gaps::{LONGEST_NAME, write_gap};
-pub use gathering::{GATHERED, room_to_gather, send_gathered, send_where_full};
+pub use gathering::{GATHERED, room_to_gather, send_before_rest, send_gathered, send_where_full};
 pub use idle::{LONGEST_SILENCE, is_silent_since};
 pub use limits::LONGEST_STREAM;
 pub use replies::{NoReply, Replies};

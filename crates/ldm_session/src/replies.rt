@@ -4,7 +4,7 @@ ghost use Rattle.ldm_outside.specs.Link.{IsNotClosed};
 ghost use Rattle.ldm_session.specs.Owed.{IsReplyTo};
 
 use crate::waiting::Waiting;
-use ldm_outside::{Got, Link};
+use ldm_outside::{Awaited, Got, Link};
 use ldm_relay::{LARGEST_REPLY, Message, Procedure, SoonAnswer, read_reply};
 use ldm_rpc::{Records, RpcFault};
 use ldm_types::OutOfMemory;
@@ -126,7 +126,8 @@ impl Replies {
         ensures ends_kept { (K.tells link.old).ends ≤ (K.tells link.new).ends }
         ensures still_open { IsNotClosed (K.tells link.new) }
     {
-        match self.waiting.fill(link) {
+        let awaited = Awaited::Reply.or_rest(self.records.pending());
+        match self.waiting.fill(link, awaited) {
             Got::Bytes(_) => Ok(()),
             Got::End => Err(NoReply::PeerEnd { at: self.came }),
             Got::Failed => Err(NoReply::LinkFault),

@@ -3,7 +3,7 @@ ghost use Rattle.std.specs.Prelude.{◌≡◌, ◌≤◌, [], IfOk, length, drop
 ghost use Rattle.ldm_outside.specs.Link.{IsNotClosed};
 ghost use Rattle.ldm_session.specs.Filling.{Fills};
 
-use ldm_outside::{Got, Link};
+use ldm_outside::{Awaited, Got, Link};
 use ldm_types::OutOfMemory;
 use std::alloc::Global;
 use std::marker::Model;
@@ -61,7 +61,7 @@ impl Waiting {
     }
 
     // Receives a piece in place of all that waits.
-    pub(crate) fn fill<K: Link>(&mut self, link: &mut K) -> Got
+    pub(crate) fn fill<K: Link>(&mut self, link: &mut K, awaited: Awaited) -> Got
         requires { IsNotClosed (K.tells link.old) }
         ensures given { Fills result self.new (K.tells link.old) (K.tells link.new) }
         ensures faults_kept { (K.tells link.old).faults ≤ (K.tells link.new).faults }
@@ -70,7 +70,7 @@ impl Waiting {
     {
         self.from = 0;
         self.to = 0;
-        let got = link.recv(self.buffer.as_mut_slice());
+        let got = link.recv(self.buffer.as_mut_slice(), awaited);
         if let Got::Bytes(count) = got {
             self.to = count;
         }
