@@ -1,6 +1,7 @@
 //! A receiver that is given a stream in pieces.
 ghost use Rattle.std.specs.Prelude.{◌≡◌, ◌++◌, ◌∷◌, [], true, false, IfOk, OnOk, OnErr, None, Some, cond};
 ghost use Rattle.std.specs.Option.{option_map};
+ghost use Rattle.ldm_rpc.specs.Reading.{is_pending};
 ghost use Rattle.ldm_shared.specs.Passes.{IsPassOf, IsSamePass};
 ghost use Rattle.ldm_intake.specs.Opening.{requesting, accepting, request_of};
 ghost use Rattle.ldm_intake.specs.Room.{records_of};
@@ -102,6 +103,13 @@ impl<'a> Receiver<'a> {
             self.owes = false;
         }
         Ok(())
+    }
+
+    /// Whether a record of the stream was begun and is not complete.
+    pub fn is_pending(&self) -> bool
+        ensures { result ≡ is_pending self.now.hand.reading }
+    {
+        self.stream.is_pending()
     }
 
     /// The signature of the last product that was offered to the queue or declined, or the one that was given.

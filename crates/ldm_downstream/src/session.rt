@@ -19,7 +19,7 @@ use crate::limits::LONGEST_PIECE;
 use crate::taker::Taker;
 use ldm_class::{Class, Policy};
 use ldm_intake::RecvEnd;
-use ldm_outside::{Clock, Got, Link, Sink};
+use ldm_outside::{Awaited, Clock, Got, Link, Sink};
 use ldm_shared::{Pass, Shared};
 use ldm_types::{Micros, OutOfMemory, Signature};
 use std::alloc::Global;
@@ -346,7 +346,8 @@ impl<'a> Session<'a> {
             (ungated_tells K.tells E.tells C.tells link.old log.old clock.old)
             (ungated_tells K.tells E.tells C.tells link.new log.new clock.new) }
     {
-        match link.recv(self.piece.as_mut_slice()) {
+        let awaited = Awaited::Feed.or_rest(self.taker.receiver.is_pending());
+        match link.recv(self.piece.as_mut_slice(), awaited) {
             Got::Bytes(count) => {
                 let now = clock.now();
                 let piece = &self.piece[..count];

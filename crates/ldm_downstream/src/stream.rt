@@ -2,7 +2,7 @@
 ghost use Rattle.std.specs.Prelude.{◌≡◌, ◌≤◌, ◌<◌, ◌+◌, ◌∷◌, [], ℕ, true, false, IfOk, IfNone};
 ghost use Rattle.std.specs.Prelude.{IfSome, MatchOption, OnOk, OnErr, None, Some, List, length};
 ghost use Rattle.std.specs.Option.{option_copied, option_map};
-ghost use Rattle.ldm_rpc.specs.Reading.{is_faulty};
+ghost use Rattle.ldm_rpc.specs.Reading.{is_faulty, is_pending};
 ghost use Rattle.ldm_rpc.specs.Streams.{Position};
 ghost use Rattle.ldm_session.specs.declared.limits.TheConstants.{LONGEST_STREAM};
 ghost use Rattle.ldm_shared.specs.Passes.{IsPassOf, IsSamePass, PassView};
@@ -64,6 +64,13 @@ impl<'a> Stream<'a> {
         ensures { result.now ≡ self.now.receiving }
     {
         &self.intake
+    }
+
+    /// Whether a record was begun and is not complete.
+    pub(crate) fn is_pending(&self) -> bool
+        ensures { result ≡ is_pending self.now.hand.reading }
+    {
+        self.records.pending()
     }
 
     /// How it ends where the stream ends there.

@@ -13,7 +13,7 @@ use crate::end::{GatherEnd, Handled};
 use crate::handler::Handler;
 use ldm_downstream::{Pushed, Receiver};
 use ldm_intake::RecvEnd;
-use ldm_outside::{Clock, Got, Link, Sink, send_all, write_all};
+use ldm_outside::{Awaited, Clock, Got, Link, Sink, send_all, write_all};
 use ldm_shared::{Pass, Shared};
 use std::sync::Wait;
 
@@ -76,7 +76,8 @@ pub(crate) fn turn<H: Wait, K: Link, E: Sink, C: Clock, A, B, W: Handler<A, B>>(
         (lent_of (scene_of handler.new first.new second.new pass.new (E.tells log.new)) (K.tells link.new)
         (C.tells clock.new))) }
 {
-    let count = match link.recv(buffers.piece.as_mut_slice()) {
+    let awaited = Awaited::Feed.or_rest(receiver.is_pending());
+    let count = match link.recv(buffers.piece.as_mut_slice(), awaited) {
         Got::Bytes(count) => count,
         Got::End => return Turned::AtEnd,
         Got::Failed => return Turned::Over(GatherEnd::Received(RecvEnd::LinkFault)),

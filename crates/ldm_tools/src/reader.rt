@@ -5,7 +5,7 @@ ghost use Rattle.ldm_rpc.specs.Reading.{is_whole};
 ghost use Rattle.ldm_rpc.specs.Streams.{Placed};
 
 use crate::waiting::Waiting;
-use ldm_outside::{Got, Link};
+use ldm_outside::{Awaited, Got, Link};
 use ldm_relay::LARGEST_REPLY;
 use ldm_rpc::{Records, RpcFault};
 use ldm_session::LONGEST_STREAM;
@@ -146,7 +146,8 @@ impl LinkReader {
         if room == 0 {
             return Err(NoRecord::StreamLimit);
         }
-        match self.waiting.fill(link, room) {
+        let awaited = Awaited::Reply.or_rest(self.records.pending());
+        match self.waiting.fill(link, room, awaited) {
             Got::Bytes(_) => Ok(()),
             Got::End => Err(NoRecord::Ended { at: self.came }),
             Got::Failed => Err(NoRecord::LinkFault),

@@ -3,7 +3,7 @@ ghost use Rattle.std.specs.Prelude.{◌≡◌, ◌<◌, ◌≤◌, [], IfOk, len
 ghost use Rattle.ldm_outside.specs.Link.{IsNotClosed, RecvGives};
 ghost use Rattle.ldm_tools.specs.Filling.{Fills, GotMost};
 
-use ldm_outside::{Got, Link};
+use ldm_outside::{Awaited, Got, Link};
 use ldm_types::OutOfMemory;
 use std::alloc::Global;
 use std::marker::Model;
@@ -56,7 +56,7 @@ impl Waiting {
     }
 
     // Receives a piece of at most so many bytes in place of all that waits.
-    pub(crate) fn fill<K: Link>(&mut self, link: &mut K, most: u64) -> Got
+    pub(crate) fn fill<K: Link>(&mut self, link: &mut K, most: u64, awaited: Awaited) -> Got
         requires not_closed { IsNotClosed (K.tells link.old) }
         requires some { 0 < most }
         ensures given { Fills result most self.new (K.tells link.old) (K.tells link.new) }
@@ -67,7 +67,7 @@ impl Waiting {
         self.from = 0;
         self.to = 0;
         let room = most.min(self.buffer.len() as u64) as usize;
-        let got = receive(link, self.buffer.as_mut_slice(), room);
+        let got = receive(link, self.buffer.as_mut_slice(), room, awaited);
         if let Got::Bytes(count) = got {
             self.to = count;
         }
@@ -76,7 +76,7 @@ impl Waiting {
 }
 
 // Receives at most so many bytes into the front of the buffer.
-fn receive<K: Link>(link: &mut K, into: &mut [u8], most: usize) -> Got
+fn receive<K: Link>(link: &mut K, into: &mut [u8], most: usize, awaited: Awaited) -> Got
     requires not_closed { IsNotClosed (K.tells link.old) }
     requires some { 0 < most }
     requires room { most ≤ length into.old }
@@ -86,5 +86,5 @@ fn receive<K: Link>(link: &mut K, into: &mut [u8], most: usize) -> Got
     ensures ends_kept { (K.tells link.old).ends ≤ (K.tells link.new).ends }
     ensures still_open { IsNotClosed (K.tells link.new) }
 {
-    link.recv(&mut into[..most])
+    link.recv(&mut into[..most], awaited)
 }

@@ -1,7 +1,7 @@
 -- What the bytes that a link gave come to.
 use Rattle.std.specs.Prelude.{ℕ, ◌-◌, Bool, true, false, ◌&&◌, not, nat_le, List, take, Option, Some, None, if◌then◌else◌}
 use Rattle.ldm_types.specs.declared.class.ClassSpec.{ClassSpec}
-use Rattle.ldm_relay.specs.declared.message.TheConstants.{LARGEST_RECORD}
+use Rattle.ldm_relay.specs.declared.front.TheConstants.{LONGEST_CALL}
 use Rattle.ldm_rpc.specs.Reading.{is_faulty, is_pending}
 use Rattle.ldm_rpc.specs.Streams.{Position, at_start, records_in, in_hand}
 use Rattle.ldm_watch.specs.declared.end.WatchEnd.{WatchEnd}
@@ -13,7 +13,7 @@ use Rattle.ldm_watch.specs.Watched.{Watched, opening, watched}
 
 -- before the first byte of a stream
 abbrev pub beginning : Position
-beginning = at_start LARGEST_RECORD
+beginning = at_start LONGEST_CALL
 
 -- what is taken of bytes that come: all, up to the limit of a stream
 abbrev pub within : Position → List ℕ → List ℕ

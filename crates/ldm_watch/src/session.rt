@@ -22,7 +22,7 @@ use crate::stop::Stop;
 use crate::stream::Stream;
 use crate::watching::{Phase, Watching, number_of_request};
 use ldm_class::Class;
-use ldm_outside::{Got, Link, Sink, send_all, write_all};
+use ldm_outside::{Awaited, Got, Link, Sink, send_all, write_all};
 use ldm_session::LONGEST_STREAM;
 use ldm_types::OutOfMemory;
 use std::alloc::Global;
@@ -134,7 +134,8 @@ impl Session {
             → RunsOn class count old self.old.stream (watch_tells K.tells S.tells link.old sink.old)
             → Rounds result class count old self.new.stream (watch_tells K.tells S.tells link.new sink.new) }
     {
-        match link.recv(self.piece.as_mut_slice()) {
+        let awaited = Awaited::Feed.or_rest(self.stream.is_pending());
+        match link.recv(self.piece.as_mut_slice(), awaited) {
             Got::Bytes(count) => self.take(link, sink, count),
             Got::End => Some(self.stream.at_end()),
             Got::Failed => Some(WatchEnd::LinkFault),

@@ -2,7 +2,7 @@
 ghost use Rattle.std.specs.Prelude.{◌≡◌, ◌≤◌, ◌<◌, ◌+◌, ◌∷◌, [], ℕ, true, false, IfOk, IfNone};
 ghost use Rattle.std.specs.Prelude.{IfSome, MatchOption, OnOk, OnErr, None, Some, length};
 ghost use Rattle.std.specs.Option.{option_copied};
-ghost use Rattle.ldm_rpc.specs.Reading.{is_faulty};
+ghost use Rattle.ldm_rpc.specs.Reading.{is_faulty, is_pending};
 ghost use Rattle.ldm_rpc.specs.Streams.{Position};
 ghost use Rattle.ldm_session.specs.declared.limits.TheConstants.{LONGEST_STREAM};
 ghost use Rattle.ldm_watch.specs.Taking.{Finds, standing};
@@ -12,7 +12,7 @@ ghost use Rattle.ldm_watch.specs.Turns.{Turns, Runs, Passes};
 use crate::end::WatchEnd;
 use crate::stop::Stop;
 use crate::watching::{Phase, Watching};
-use ldm_relay::LARGEST_RECORD;
+use ldm_relay::LONGEST_CALL;
 use ldm_rpc::{Records, RpcFault};
 use ldm_session::LONGEST_STREAM;
 use std::alloc::Global;
@@ -48,10 +48,17 @@ impl Stream {
         Stream {
             alloc,
             watching,
-            records: Records::create(alloc, LARGEST_RECORD),
+            records: Records::create(alloc, LONGEST_CALL),
             begins: 0,
             came: 0,
         }
+    }
+
+    /// Whether a record was begun and is not complete.
+    pub(crate) fn is_pending(&self) -> bool
+        ensures { result ≡ is_pending self.now.hand.reading }
+    {
+        self.records.pending()
     }
 
     /// How it ends where the stream ends there.
