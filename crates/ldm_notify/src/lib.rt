@@ -1,8 +1,9 @@
 //! One who tells of products: the end of a session that was asked for notices (NOTIFYME), and sends one for each
 //! product that is due.
 //!
-//! [`notify`] answers a request and tells of products. What a session of notices is stands in `specs/`, as plain data:
-//! see `Notifying`; and what the call says at each of its ends: see `Notifies`.
+//! [`notify`] answers a request and tells of products; [`notify_asked`] does where the class is not built yet. What a
+//! session of notices is stands in `specs/`, as plain data: see `Notifying`; and what the call says at each of its ends:
+//! see `Notifies`.
 #![tactic(auto)]
 
 mod course;
@@ -15,4 +16,4 @@ mod one_turn;
 
 pub use end::NotifyEnd;
 pub use examples::worked_examples;
-pub use notifying::notify;
+pub use notifying::{notify, notify_asked};

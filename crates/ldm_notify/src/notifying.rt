@@ -1,12 +1,15 @@
 //! The call that tells of products.
-ghost use Rattle.std.specs.Prelude.{◌≡◌, ◌≤◌, length, Bool, false, None, []};
+ghost use Rattle.std.specs.Prelude.{◌≡◌, ◌≢◌, ◌≤◌, length, Bool, false, None, [], List, ℕ};
+ghost use Rattle.ldm_outside.specs.Gate.{GateRecord};
+ghost use Rattle.ldm_outside.specs.Io.{SinkRecord};
 ghost use Rattle.ldm_outside.specs.Link.{IsNotClosed};
-ghost use Rattle.ldm_outside.specs.Session.{session_tells, KeepsFaults};
+ghost use Rattle.ldm_outside.specs.Session.{SessionRecord, session_tells, KeepsFaults};
 ghost use Rattle.ldm_shared.specs.Passes.{IsPassOf, IsSamePass, PassView, Makes};
 ghost use Rattle.ldm_reader.specs.Reader.{HasCursor};
 ghost use Rattle.ldm_session.specs.declared.gaps.TheConstants.{LONGEST_NAME};
 ghost use Rattle.ldm_class.specs.Access.{reduce};
-ghost use Rattle.ldm_class.specs.Rules.{rules_for};
+ghost use Rattle.ldm_class.specs.Classes.{bad_place};
+ghost use Rattle.ldm_class.specs.Rules.{Rules, rules_for};
 ghost use Rattle.ldm_class.specs.declared.answers.Reduced.TheVariants as reduced;
 ghost use Rattle.ldm_sender.specs.Acts.{situation_of};
 ghost use Rattle.ldm_sender.specs.Asked.{Asked, IsAskedOf};
@@ -18,7 +21,7 @@ ghost use Rattle.ldm_notify.specs.Notifies.{HasNotified, Notifies, NotifiesTo};
 
 use crate::course::turns;
 use crate::end::{NotifyEnd, notify_end};
-use ldm_class::{Class, ClassMatcher, HostPolicy, Policy, Reduced};
+use ldm_class::{Class, ClassFault, ClassMatcher, HostPolicy, Policy, Reduced};
 use ldm_outside::{Clock, Gate, Link, Sink};
 use ldm_reader::{Reader, products_stay};
 use ldm_relay::{ClassAnswer, Notifyme};
@@ -192,8 +195,81 @@ fn notify_class<H: Wait, K: Link, E: Sink, G: Gate, C: Clock>(
     }
 }
 
-// Answers a request, and tells of products.
-fn notify_asked<H: Wait, K: Link, E: Sink, G: Gate, C: Clock>(
+// Answers a request for a class of which only that is left to the host.
+fn decline_whole<K: Link, C: Clock>(
+    alloc: Global,
+    link: &mut K,
+    clock: &mut C,
+    ask: &Notifyme,
+    left: Reduced,
+) -> SendEnd
+    requires not_closed { IsNotClosed (K.tells link.old) }
+    requires not_whole { left ≢ reduced.Same }
+    ensures { (host : List ℕ) (rules : Rules) (pass : PassView) (log : SinkRecord) (gate : GateRecord)
+        → reduce (rules_for false rules) host ask.now.class ≡ left →
+        let before : SessionRecord = record
+        { link = K.tells link.old; log = log; clock = C.tells clock.old; gate = gate } in
+        let after : SessionRecord = record
+        { link = K.tells link.new; log = log; clock = C.tells clock.new; gate = gate } in
+        NotifiesTo result (asked_of host rules ask.now) pass pass before after × KeepsFaults before after }
+{
+    match left {
+        Reduced::Same => unreachable!(),
+        Reduced::Fewer(fewer) => {
+            match decline(alloc, ask.xid, ClassAnswer::Reclass(fewer), link, clock) {
+                Ok(()) => SendEnd::Reclassed,
+                Err(end) => end,
+            }
+        }
+        Reduced::Nothing { rule } => {
+            match decline(alloc, ask.xid, ClassAnswer::Denied, link, clock) {
+                Ok(()) => SendEnd::Denied { rule },
+                Err(end) => end,
+            }
+        }
+    }
+}
+
+// Answers a request for a class that is not built yet, and tells of products.
+fn notify_unbuilt<H: Wait, K: Link, E: Sink, G: Gate, C: Clock>(
+    rt: &H,
+    alloc: Global,
+    shared: &Shared,
+    pass: &mut Pass,
+    link: &mut K,
+    log: &mut E,
+    gate: &mut G,
+    clock: &mut C,
+    host: &[u8],
+    ask: &Notifyme,
+    policy: &Policy,
+) -> SendEnd
+    requires of { IsPassOf shared.now pass.old }
+    requires means { bad_place ask.now.class.specs.items ≡ None }
+    requires name { length host.now ≤ LONGEST_NAME }
+    requires not_closed { IsNotClosed (K.tells link.old) }
+    ensures kept { IsSamePass pass.old pass.new }
+    ensures notified { NotifiesTo result (asked_of host.now policy.now ask.now) pass.old pass.new
+        (session_tells K.tells E.tells C.tells G.tells link.old log.old clock.old gate.old)
+        (session_tells K.tells E.tells C.tells G.tells link.new log.new clock.new gate.new)
+        × KeepsFaults (session_tells K.tells E.tells C.tells G.tells link.old log.old clock.old gate.old)
+        (session_tells K.tells E.tells C.tells G.tells link.new log.new clock.new gate.new) }
+{
+    match policy.reduce(alloc, host, &ask.class, false) {
+        Ok(Reduced::Same) => match Class::build(alloc, &ask.class) {
+            Ok(class) => notify_class(
+                rt, alloc, shared, pass, link, log, gate, clock, host, ask, &class, policy,
+            ),
+            Err(ClassFault::BadPattern { .. }) => unreachable!(),
+            Err(ClassFault::OutOfMemory) => SendEnd::OutOfMemory,
+        },
+        Ok(left) => decline_whole(alloc, link, clock, ask, left),
+        Err(_) => SendEnd::OutOfMemory,
+    }
+}
+
+// Answers a request for a class that is built, and tells of products.
+fn notify_built<H: Wait, K: Link, E: Sink, G: Gate, C: Clock>(
     rt: &H,
     alloc: Global,
     shared: &Shared,
@@ -218,22 +294,11 @@ fn notify_asked<H: Wait, K: Link, E: Sink, G: Gate, C: Clock>(
         × KeepsFaults (session_tells K.tells E.tells C.tells G.tells link.old log.old clock.old gate.old)
         (session_tells K.tells E.tells C.tells G.tells link.new log.new clock.new gate.new) }
 {
-    match policy.reduce(alloc, host, class.spec(), false) {
+    match policy.reduce(alloc, host, &ask.class, false) {
         Ok(Reduced::Same) => notify_class(
             rt, alloc, shared, pass, link, log, gate, clock, host, ask, class, policy,
         ),
-        Ok(Reduced::Fewer(fewer)) => {
-            match decline(alloc, ask.xid, ClassAnswer::Reclass(fewer), link, clock) {
-                Ok(()) => SendEnd::Reclassed,
-                Err(end) => end,
-            }
-        }
-        Ok(Reduced::Nothing { rule }) => {
-            match decline(alloc, ask.xid, ClassAnswer::Denied, link, clock) {
-                Ok(()) => SendEnd::Denied { rule },
-                Err(end) => end,
-            }
-        }
+        Ok(left) => decline_whole(alloc, link, clock, ask, left),
         Err(_) => SendEnd::OutOfMemory,
     }
 }
@@ -241,8 +306,41 @@ fn notify_asked<H: Wait, K: Link, E: Sink, G: Gate, C: Clock>(
 /// Answers a peer's NOTIFYME and tells it of products: a notice of each product that is due goes out, in the order of
 /// the queue, until the gate says to stop or something ends it. Losses are log lines.
 ///
+/// The rules are asked first. The class is built only where all of it is left to the host; one that cannot be built
+/// then is [`NotifyEnd::OutOfMemory`].
+///
 /// The cursor that was opened is closed at every end but [`NotifyEnd::Worn`], and the link at [`NotifyEnd::Stopped`]
 /// alone.
+pub fn notify_asked<H: Wait, K: Link, E: Sink, G: Gate, C: Clock>(
+    rt: &H,
+    alloc: Global,
+    shared: &Shared,
+    pass: &mut Pass,
+    link: &mut K,
+    log: &mut E,
+    gate: &mut G,
+    clock: &mut C,
+    host: &[u8],
+    ask: &Notifyme,
+    policy: &Policy,
+) -> NotifyEnd
+    requires of { IsPassOf shared.now pass.old }
+    requires means { bad_place ask.now.class.specs.items ≡ None }
+    requires name { length host.now ≤ LONGEST_NAME }
+    requires not_closed { IsNotClosed (K.tells link.old) }
+    ensures kept { IsSamePass pass.old pass.new }
+    ensures counts { KeepsFaults (session_tells K.tells E.tells C.tells G.tells link.old log.old clock.old gate.old)
+        (session_tells K.tells E.tells C.tells G.tells link.new log.new clock.new gate.new) }
+    ensures notified { Notifies result (asked_of host.now policy.now ask.now) pass.old pass.new
+        (session_tells K.tells E.tells C.tells G.tells link.old log.old clock.old gate.old)
+        (session_tells K.tells E.tells C.tells G.tells link.new log.new clock.new gate.new) }
+{
+    notify_end(notify_unbuilt(
+        rt, alloc, shared, pass, link, log, gate, clock, host, ask, policy,
+    ))
+}
+
+/// [`notify_asked`], where the class is built already.
 pub fn notify<H: Wait, K: Link, E: Sink, G: Gate, C: Clock>(
     rt: &H,
     alloc: Global,
@@ -268,7 +366,7 @@ pub fn notify<H: Wait, K: Link, E: Sink, G: Gate, C: Clock>(
         (session_tells K.tells E.tells C.tells G.tells link.old log.old clock.old gate.old)
         (session_tells K.tells E.tells C.tells G.tells link.new log.new clock.new gate.new) }
 {
-    notify_end(notify_asked(
+    notify_end(notify_built(
         rt, alloc, shared, pass, link, log, gate, clock, host, ask, class, policy,
     ))
 }

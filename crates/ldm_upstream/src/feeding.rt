@@ -1,7 +1,9 @@
 //! The call that feeds.
-ghost use Rattle.std.specs.Prelude.{◌≡◌, ◌≤◌, length, Bool, false, None, [], List, ℕ};
+ghost use Rattle.std.specs.Prelude.{◌≡◌, ◌≢◌, ◌≤◌, length, Bool, false, None, [], List, ℕ};
+ghost use Rattle.ldm_outside.specs.Gate.{GateRecord};
+ghost use Rattle.ldm_outside.specs.Io.{SinkRecord};
 ghost use Rattle.ldm_outside.specs.Link.{IsNotClosed};
-ghost use Rattle.ldm_outside.specs.Session.{session_tells, KeepsFaults};
+ghost use Rattle.ldm_outside.specs.Session.{SessionRecord, session_tells, KeepsFaults};
 ghost use Rattle.ldm_shared.specs.Passes.{IsPassOf, IsSamePass, PassView, Makes};
 ghost use Rattle.ldm_reader.specs.Reader.{HasCursor};
 ghost use Rattle.ldm_session.specs.Hearing.{Heard};
@@ -12,12 +14,13 @@ ghost use Rattle.ldm_sender.specs.Does.{moment_of};
 ghost use Rattle.ldm_sender.specs.Stopping.{KeepsCursor};
 ghost use Rattle.ldm_sender.specs.Opening.{Opened, IsAnswerTo, opening_entries};
 ghost use Rattle.ldm_class.specs.Access.{reduce};
-ghost use Rattle.ldm_class.specs.Rules.{rules_for};
+ghost use Rattle.ldm_class.specs.Classes.{bad_place};
+ghost use Rattle.ldm_class.specs.Rules.{Rules, rules_for};
 ghost use Rattle.ldm_class.specs.declared.answers.Reduced.TheVariants as reduced;
 ghost use Rattle.ldm_upstream.specs.Feeds.{Feeds, HasFed};
 
 use crate::course::turns;
-use ldm_class::{Class, ClassMatcher, HostPolicy, Policy, Reduced};
+use ldm_class::{Class, ClassFault, ClassMatcher, HostPolicy, Policy, Reduced};
 use ldm_outside::{Clock, Gate, Link, Sink};
 use ldm_reader::{Reader, products_stay};
 use ldm_relay::{ClassAnswer, Feedme};
@@ -203,8 +206,46 @@ fn feed_class<H: Wait, K: Link, E: Sink, G: Gate, C: Clock>(
     }
 }
 
+// Answers a request for a class of which only that is left to the host.
+fn decline_whole<K: Link, C: Clock>(
+    alloc: Global,
+    link: &mut K,
+    clock: &mut C,
+    ask: &Feedme,
+    left: Reduced,
+) -> SendEnd
+    requires not_closed { IsNotClosed (K.tells link.old) }
+    requires not_whole { left ≢ reduced.Same }
+    ensures { (host ahead : List ℕ) (rules : Rules) (pass : PassView) (log : SinkRecord) (gate : GateRecord)
+        → reduce (rules_for false rules) host ask.now.class ≡ left →
+        let before : SessionRecord = record
+        { link = K.tells link.old; log = log; clock = C.tells clock.old; gate = gate } in
+        let after : SessionRecord = record
+        { link = K.tells link.new; log = log; clock = C.tells clock.new; gate = gate } in
+        Feeds result (asked_of host rules ask.now) ahead pass pass before after × KeepsFaults before after }
+{
+    match left {
+        Reduced::Same => unreachable!(),
+        Reduced::Fewer(fewer) => {
+            match decline(alloc, ask.xid, ClassAnswer::Reclass(fewer), link, clock) {
+                Ok(()) => SendEnd::Reclassed,
+                Err(end) => end,
+            }
+        }
+        Reduced::Nothing { rule } => {
+            match decline(alloc, ask.xid, ClassAnswer::Denied, link, clock) {
+                Ok(()) => SendEnd::Denied { rule },
+                Err(end) => end,
+            }
+        }
+    }
+}
+
 /// Answers a peer's FEEDME and feeds its connection: each product that is due goes out, in the order of the queue,
 /// until the gate says to stop or something ends it. Losses are log lines.
+///
+/// The rules are asked first. The class is built only where all of it is left to the host; one that cannot be built
+/// then is `SendEnd::OutOfMemory`.
 ///
 /// The link may have given bytes that nobody looked at, with the request or behind it: these are `ahead`, and the first
 /// that are heard of the peer. Places count from the first of them.
@@ -221,12 +262,11 @@ pub fn feed_behind<H: Wait, K: Link, E: Sink, G: Gate, C: Clock>(
     clock: &mut C,
     host: &[u8],
     ask: &Feedme,
-    class: &Class,
     policy: &Policy,
     ahead: &[u8],
 ) -> SendEnd
     requires of { IsPassOf shared.now pass.old }
-    requires built { class.now ≡ ask.now.class }
+    requires means { bad_place ask.now.class.specs.items ≡ None }
     requires name { length host.now ≤ LONGEST_NAME }
     requires not_closed { IsNotClosed (K.tells link.old) }
     ensures kept { IsSamePass pass.old pass.new }
@@ -236,27 +276,20 @@ pub fn feed_behind<H: Wait, K: Link, E: Sink, G: Gate, C: Clock>(
         (session_tells K.tells E.tells C.tells G.tells link.old log.old clock.old gate.old)
         (session_tells K.tells E.tells C.tells G.tells link.new log.new clock.new gate.new) }
 {
-    match policy.reduce(alloc, host, class.spec(), false) {
-        Ok(Reduced::Same) => feed_class(
-            rt, alloc, shared, pass, link, log, gate, clock, host, ask, class, policy, ahead,
-        ),
-        Ok(Reduced::Fewer(fewer)) => {
-            match decline(alloc, ask.xid, ClassAnswer::Reclass(fewer), link, clock) {
-                Ok(()) => SendEnd::Reclassed,
-                Err(end) => end,
-            }
-        }
-        Ok(Reduced::Nothing { rule }) => {
-            match decline(alloc, ask.xid, ClassAnswer::Denied, link, clock) {
-                Ok(()) => SendEnd::Denied { rule },
-                Err(end) => end,
-            }
-        }
+    match policy.reduce(alloc, host, &ask.class, false) {
+        Ok(Reduced::Same) => match Class::build(alloc, &ask.class) {
+            Ok(class) => feed_class(
+                rt, alloc, shared, pass, link, log, gate, clock, host, ask, &class, policy, ahead,
+            ),
+            Err(ClassFault::BadPattern { .. }) => unreachable!(),
+            Err(ClassFault::OutOfMemory) => SendEnd::OutOfMemory,
+        },
+        Ok(left) => decline_whole(alloc, link, clock, ask, left),
         Err(_) => SendEnd::OutOfMemory,
     }
 }
 
-/// [`feed_behind`], where the link gave nothing that nobody looked at.
+/// [`feed_behind`], where the class is built already and the link gave nothing that nobody looked at.
 pub fn feed<H: Wait, K: Link, E: Sink, G: Gate, C: Clock>(
     rt: &H,
     alloc: Global,
@@ -282,19 +315,23 @@ pub fn feed<H: Wait, K: Link, E: Sink, G: Gate, C: Clock>(
         (session_tells K.tells E.tells C.tells G.tells link.old log.old clock.old gate.old)
         (session_tells K.tells E.tells C.tells G.tells link.new log.new clock.new gate.new) }
 {
-    feed_behind(
-        rt,
-        alloc,
-        shared,
-        pass,
-        link,
-        log,
-        gate,
-        clock,
-        host,
-        ask,
-        class,
-        policy,
-        &[],
-    )
+    match policy.reduce(alloc, host, &ask.class, false) {
+        Ok(Reduced::Same) => feed_class(
+            rt,
+            alloc,
+            shared,
+            pass,
+            link,
+            log,
+            gate,
+            clock,
+            host,
+            ask,
+            class,
+            policy,
+            &[],
+        ),
+        Ok(left) => decline_whole(alloc, link, clock, ask, left),
+        Err(_) => SendEnd::OutOfMemory,
+    }
 }

@@ -1,44 +1,20 @@
-use Rattle.std.proofs.Common.{◌∙◌, false, sym, ap, refl}
-use Rattle.ldm_types.specs.declared.class.ClassSpec.{ClassSpec}
-use Rattle.ldm_class.specs.Access.{reduce}
-use Rattle.ldm_class.specs.Rules.{rules_for}
-use Rattle.ldm_shared.proofs.Made.{calls_none}
+use Rattle.std.proofs.Common.{sym, subst}
+use Rattle.ldm_outside.specs.Session.{session_tells}
+use Rattle.ldm_sender.specs.declared.end.SendEnd.{SendEnd}
 use Rattle.ldm_notify.specs.Notifying.{asked_of}
-use Rattle.ldm_sender.specs.Opening.{Denied, Reclassed}
-use Rattle.ldm_sender.proofs.Unturned.{denied, reclassed, answer_breaks, short}
-use Rattle.ldm_notify.proofs.Unnoted.{unnoted}
+use Rattle.ldm_notify.specs.Notifies.{NotifiesTo}
+use Rattle.ldm_notify.proofs.Unnoted.{awaits_none}
 use Rattle.ldm_notify.proofs.notifying.notify_asked.Goals as goal
 
-pub returns-in-Ok-clause-notified : goal.returns-in-Ok-clause-notified
-returns-in-Ok-clause-notified g c =
-    let asked = asked_of c.args.host.now c.args.policy.now c.args.ask.now in
-    let at = rw c.in-Ok-Fewer.field-0-is at c.in-Ok-Fewer.ensures in
-    let is = sym (at ∙ ap (λ (x : ClassSpec). reduce (rules_for false c.args.policy.now) c.args.host.now x) (c.spec.ensures ∙ c.requires.built)) in
-    (unnoted _ asked _ _ _ _ (reclassed asked c.in-Ok-Fewer.fewer c.args.pass.now _ _ _ _ _ _ c.requires.not_closed is (c.in-Ok.ensures.declines c.args.pass.now)))
+pub notify_end-requires : goal.notify_end-requires
+notify_end-requires g c = awaits_none c.notify_unbuilt.result _ _ _ _ _ c.notify_unbuilt.ensures.notified.0
 
-pub returns-in-Err-decline-clause-notified : goal.returns-in-Err-decline-clause-notified
-returns-in-Err-decline-clause-notified g c =
-    let asked = asked_of c.args.host.now c.args.policy.now c.args.ask.now in
-    let at = rw c.in-Ok-Fewer.field-0-is at c.in-Ok-Fewer.ensures in
-    let is = sym (at ∙ ap (λ (x : ClassSpec). reduce (rules_for false c.args.policy.now) c.args.host.now x) (c.spec.ensures ∙ c.requires.built)) in
-    (unnoted _ asked _ _ _ _ (answer_breaks c.in-Err-decline.end asked (Reclassed c.in-Ok-Fewer.fewer) c.args.pass.now c.args.pass.now _ _ _ _ _ _ c.requires.not_closed is (λ actor. refl) (calls_none c.args.pass.now)
-    (c.in-Err-decline.ensures.declines c.args.pass.now)))
+pub returns-clause-counts : goal.returns-clause-counts
+returns-clause-counts g c = c.notify_unbuilt.ensures.notified.1
 
-pub returns-in-Ok-decline-clause-notified : goal.returns-in-Ok-decline-clause-notified
-returns-in-Ok-decline-clause-notified g c =
+pub returns-clause-notified : goal.returns-clause-notified
+returns-clause-notified g c =
     let asked = asked_of c.args.host.now c.args.policy.now c.args.ask.now in
-    let at = rw c.in-Ok-Nothing.field-0-is at c.in-Ok-Nothing.ensures in
-    let is = sym (at ∙ ap (λ (x : ClassSpec). reduce (rules_for false c.args.policy.now) c.args.host.now x) (c.spec.ensures ∙ c.requires.built)) in
-    (unnoted _ asked _ _ _ _ (denied asked c.in-Ok-Nothing.rule c.args.pass.now _ _ _ _ _ _ c.requires.not_closed is (c.in-Ok-decline.ensures.declines c.args.pass.now)))
-
-pub returns-in-Err-decline-2-clause-notified : goal.returns-in-Err-decline-2-clause-notified
-returns-in-Err-decline-2-clause-notified g c =
-    let asked = asked_of c.args.host.now c.args.policy.now c.args.ask.now in
-    let at = rw c.in-Ok-Nothing.field-0-is at c.in-Ok-Nothing.ensures in
-    let is = sym (at ∙ ap (λ (x : ClassSpec). reduce (rules_for false c.args.policy.now) c.args.host.now x) (c.spec.ensures ∙ c.requires.built)) in
-    (unnoted _ asked _ _ _ _ (answer_breaks c.in-Err-decline-2.end asked (Denied c.in-Ok-Nothing.rule) c.args.pass.now c.args.pass.now _ _ _ _ _ _ c.requires.not_closed is (λ actor. refl) (calls_none c.args.pass.now)
-    (c.in-Err-decline-2.ensures.declines c.args.pass.now)))
-
-pub returns-in-Err-clause-notified : goal.returns-in-Err-clause-notified
-returns-in-Err-clause-notified g c =
-    (unnoted _ _ _ _ _ _ (short (asked_of c.args.host.now c.args.policy.now c.args.ask.now) c.args.pass.now _ _ _ _ c.requires.not_closed))
+    let before = session_tells g.K.Link.tells g.E.Sink.tells g.C.Clock.tells g.G.Gate.tells c.args.link.now c.args.log.now c.args.clock.now c.args.gate.now in
+    let after = session_tells g.K.Link.tells g.E.Sink.tells g.C.Clock.tells g.G.Gate.tells c.notify_unbuilt.new.link c.notify_unbuilt.new.log c.notify_unbuilt.new.clock c.notify_unbuilt.new.gate in
+    subst (λ (why : SendEnd). NotifiesTo why asked c.args.pass.now c.notify_unbuilt.new.pass before after) (sym c.notify_end.ensures) c.notify_unbuilt.ensures.notified.0
