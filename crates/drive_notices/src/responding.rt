@@ -6,6 +6,7 @@ use ldm_drive::Trial;
 use ldm_drive_sessions::{
     Case, clock_of, hold_some, insert_all, policy_of, queue_of, reserve_all, tell_bytes, tell_queue,
 };
+use ldm_rpc::Front;
 use ldm_serve::{RespondFault, Responded, respond};
 use ldm_shared::{Pass, Shared};
 use std::sync::Wait;
@@ -46,8 +47,15 @@ fn respond_all<H: Wait>(
     let mut clock = clock_of(trial, case);
     for content in &case.streams {
         let alloc = trial.alloc();
+        let Ok(len) = u32::try_from(content.len()) else {
+            return trial.refuse("no record");
+        };
+        let held = Front {
+            bytes: content,
+            len,
+        };
         let next = respond(
-            rt, alloc, shared, pass, &mut clock, policy, &case.host, content, owed,
+            rt, alloc, shared, pass, &mut clock, policy, &case.host, held, owed,
         );
         match next {
             Ok(next) => tell_next(trial, &next),
@@ -60,18 +68,18 @@ fn respond_all<H: Wait>(
 fn tell_next(trial: &mut Trial, next: &Responded) {
     match next {
         Responded::GoesOn => trial.tell("GoesOn "),
-        Responded::Feeds { ask, class } => {
+        Responded::Feeds { ask } => {
             trial.tell("Feeds ");
             trial.tell_number(u64::from(ask.max_hereis));
-            tell_specs(trial, class.spec().specs.len());
+            tell_specs(trial, ask.class.specs.len());
         }
         Responded::Receives { class } => {
             trial.tell("Receives");
             tell_specs(trial, class.spec().specs.len());
         }
-        Responded::Notifies { class, .. } => {
+        Responded::Notifies { ask } => {
             trial.tell("Notifies");
-            tell_specs(trial, class.spec().specs.len());
+            tell_specs(trial, ask.class.specs.len());
         }
         Responded::Refused => trial.tell("Refused "),
         Responded::Denied { rule } => {

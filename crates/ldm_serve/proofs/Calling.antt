@@ -19,7 +19,7 @@ use Rattle.ldm_upstream.specs.Feeding as feeding
 use Rattle.ldm_notify.specs.Turn as notice
 use Rattle.ldm_notify.specs.Turns as notice_turns
 use Rattle.ldm_notify.specs.Notifying as notifying
-use Rattle.ldm_serve.specs.Steps.{Client}
+use Rattle.ldm_serve.specs.Client.{Client}
 use Rattle.ldm_serve.specs.Kept.{AllPutIn, PutsIn}
 
 abbrev PutsNone : Event → Type 0

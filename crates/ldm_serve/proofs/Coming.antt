@@ -15,7 +15,7 @@ use Rattle.ldm_session.specs.Exchange.{Exchanged}
 use Rattle.ldm_session.proofs.CallerLemmas.{AnsweredAll-nothing, Exchanged-failing, Exchanged-gave, Exchanged-nothing, Exchanged-then_given}
 use Rattle.ldm_serve.specs.declared.end.ServeEnd.{ServeEnd}
 use Rattle.ldm_serve.specs.declared.end.ServeEnd.TheVariants as end
-use Rattle.ldm_serve.specs.Steps.{Client}
+use Rattle.ldm_serve.specs.Client.{Client}
 use Rattle.ldm_serve.specs.Connection.{Answers, Moment, Reaches, moment_of}
 use Rattle.ldm_serve.specs.Rounds.{IsServed, ReadsOn, Runs, end_at, outliving}
 use Rattle.ldm_serve.specs.ServingView.{beginning}

@@ -21,7 +21,8 @@ use Rattle.ldm_serve.specs.Answering.{answering}
 use Rattle.ldm_serve.specs.Respond.{respond}
 use Rattle.ldm_serve.specs.Response.{Response, Says, Puts, Figures, Feeds, Receives, Notifies, Refuses, Denies}
 use Rattle.ldm_serve.specs.Responds.{AsksClock, IsGiven, Standing}
-use Rattle.ldm_serve.specs.Steps.{AreSteps, Client, Does, Step, asked_for, entries_of, instants_of, is_outlived, messages_of, placed_of, response_of}
+use Rattle.ldm_serve.specs.Client.{Client}
+use Rattle.ldm_serve.specs.Steps.{AreSteps, Does, Step, asked_for, entries_of, instants_of, is_outlived, messages_of, placed_of, response_of}
 use Rattle.ldm_serve.specs.Turns.{AnswersAll}
 
 -- ---- the clock
@@ -100,13 +101,13 @@ module _ (client : Client) where
 
   -- ---- one step
 
-  abbrev pub step_of : (placed : Placed) (old new : Standing) → IsGiven (respond client.rules client.host placed.content) old new → Step
+  abbrev pub step_of : (placed : Placed) (old new : Standing) → IsGiven (respond client placed.content) old new → Step
   step_of placed old new given = record { placed = placed; now = given.now; made = given.made; messages = given.messages }
 
-  pub does-given : (placed : Placed) (old new : Standing) (given : IsGiven (respond client.rules client.host placed.content) old new)
+  pub does-given : (placed : Placed) (old new : Standing) (given : IsGiven (respond client placed.content) old new)
       → old.pass.actor ≡ client.actor → Does client (step_of placed old new given ∷ []) old new
   does-given placed old new given by =
-      let response = respond client.rules client.host placed.content in
+      let response = respond client placed.content in
       record {
         by = by;
         are = (subst (λ (actor : ℕ). Leads actor (answering response given.now) given.made given.messages) by given.leads, tt);

@@ -27,7 +27,7 @@ use Rattle.ldm_intake.specs.Settled.{is_feeding}
 use Rattle.ldm_intake.specs.Step.{Step, Goes, Bad, Declined}
 use Rattle.ldm_intake.specs.Taken.{Arrival, Taken, after_step, taken, taken_none, discards}
 use Rattle.ldm_intake.proofs.FeedCourses.{feeding}
-use Rattle.ldm_serve.specs.Steps.{Client}
+use Rattle.ldm_serve.specs.Client.{Client}
 use Rattle.ldm_serve.specs.Kept.{AllTellNone, MayHandIn, WasReserved}
 use Rattle.ldm_serve.proofs.PuttingIn.{AsksOnly, asks-if, asks-then, reserved-more}
 

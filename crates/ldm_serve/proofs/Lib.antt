@@ -1,4 +1,8 @@
 pub mod Lengths
+pub mod Cases
+pub mod Pushing
+pub mod Fronts
+pub mod Meaning
 pub mod Giving
 pub mod Knowing
 pub mod KeepingRules
@@ -16,4 +20,4 @@ pub mod HandingIn
 pub mod Pushed
 pub mod Calling
 pub mod Telling
-pub mod Keeping
+pub mod Keeps

@@ -28,7 +28,7 @@ use Rattle.ldm_notify.specs.declared.end.NotifyEnd.TheVariants as notified
 use Rattle.ldm_notify.specs.Notifying as notifying
 use Rattle.ldm_notify.specs.Notifies.{Notifies}
 use Rattle.ldm_notify.specs.Turn as notify_turn
-use Rattle.ldm_serve.specs.Steps.{Client}
+use Rattle.ldm_serve.specs.Client.{Client}
 use Rattle.ldm_serve.specs.Connection.{Moment}
 use Rattle.ldm_serve.specs.Becoming.{Narrows}
 

@@ -7,7 +7,8 @@ use Rattle.std.proofs.lemmas.List.{map-append}
 use Rattle.std.proofs.lemmas.List.Concat.{flat_map-append}
 use Rattle.ldm_types.specs.declared.class.ClassSpec.{ClassSpec}
 use Rattle.ldm_relay.specs.Sent.{Sent}
-use Rattle.ldm_serve.specs.Steps.{AllOutlived, AreSteps, Client, IsStep, Step, asked_for, instants_of, is_outlived, messages_of, response_of}
+use Rattle.ldm_serve.specs.Client.{Client}
+use Rattle.ldm_serve.specs.Steps.{AllOutlived, AreSteps, IsStep, Step, asked_for, instants_of, is_outlived, messages_of, response_of}
 use Rattle.ldm_serve.specs.Outlived.{Answered, AreOutlived, IsNarrowedTo, Narrowed, Outlived, instants_for, instants_for_all, messages_for, messages_for_all, narrower, step_of}
 use Rattle.ldm_serve.specs.Connection.{Answers, instants_in, messages_in, steps_in}
 use Rattle.ldm_serve.specs.Rounds.{outliving}

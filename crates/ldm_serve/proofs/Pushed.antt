@@ -22,7 +22,7 @@ use Rattle.ldm_downstream.specs.Pieces.{Piece, arrivals, beginning, hand}
 use Rattle.ldm_downstream.specs.Taking.{Takes, BeginsNext, BreaksOff, GivesUp}
 use Rattle.ldm_downstream.specs.Received.{received, with_hand}
 use Rattle.ldm_downstream.specs.Receives as receives
-use Rattle.ldm_serve.specs.Steps.{Client}
+use Rattle.ldm_serve.specs.Client.{Client}
 use Rattle.ldm_serve.specs.Kept.{AllPutIn, AllTellNone}
 use Rattle.ldm_serve.proofs.PuttingIn.{AsksOnly, all_put-append, asks-then, begins-asked, leads-asked}
 use Rattle.ldm_serve.proofs.HandingIn.{Keeps, StepKeeps, TakenKeeps, accepting-keeps, closing-keeps, record-keeps, taken-keeps}

@@ -8,7 +8,7 @@ use Rattle.ldm_model.specs.declared.event.Event.{Event}
 use Rattle.ldm_model.specs.declared.event.Event.TheVariants.{Reserve}
 use Rattle.ldm_model.specs.declared.event.Entry.{Entry}
 use Rattle.ldm_intake.specs.Course.{Course, Comes, Asks, then, Leads, Begins, entry_by}
-use Rattle.ldm_serve.specs.Steps.{Client}
+use Rattle.ldm_serve.specs.Client.{Client}
 use Rattle.ldm_serve.specs.Kept.{AllPutIn, PutsIn, WasReserved}
 
 module _ (client : Client) where

@@ -21,7 +21,8 @@ use Rattle.ldm_session.proofs.CallerLemmas.{AnsweredAll-then, Exchanged-front, E
 use Rattle.ldm_sender.specs.Does.{IsPart}
 use Rattle.ldm_intake.specs.Room.{records_of}
 use Rattle.ldm_serve.specs.Responds.{stands}
-use Rattle.ldm_serve.specs.Steps.{Client, Does, Step, entries_of, instants_of, messages_of, placed_of}
+use Rattle.ldm_serve.specs.Client.{Client}
+use Rattle.ldm_serve.specs.Steps.{Does, Step, entries_of, instants_of, messages_of, placed_of}
 use Rattle.ldm_serve.specs.Connection.{Answers, Moment, Reaches, entries_in, messages_in, placed_in, steps_in}
 use Rattle.ldm_serve.specs.Rounds.{ReadsOn, outliving}
 use Rattle.ldm_serve.specs.ServingView.{beginning}

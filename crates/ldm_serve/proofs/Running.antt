@@ -17,7 +17,7 @@ use Rattle.ldm_serve.specs.Responds.{Standing}
 use Rattle.ldm_serve.specs.declared.serving.Answered.{Answered}
 use Rattle.ldm_serve.specs.declared.serving.Answered.TheVariants as answered
 use Rattle.ldm_serve.specs.Served.{BreaksOff, GoesOn, IsOver, IsTooLong, IsWorn, Serves}
-use Rattle.ldm_serve.specs.Steps.{Client}
+use Rattle.ldm_serve.specs.Client.{Client}
 use Rattle.ldm_serve.specs.Turns.{AnswersAll, Reads, RunsOutAt, Stops, TakesFirst, TurnsOver, behind, first_of}
 use Rattle.ldm_serve.proofs.Doing.{answers-none, answers-then}
 use Rattle.ldm_serve.proofs.First.{next-ready, next-sound}

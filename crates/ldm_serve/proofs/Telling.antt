@@ -1,5 +1,5 @@
 -- What a host is told: the answers to its records have nothing of a product, and a feeding and a session of notices keep to the ALLOW rules.
-use Rattle.std.proofs.Common.{◌≡◌, ℕ, ◌+◌, ◌&&◌, nat_le, Bool, true, false, List, [], ◌∷◌, ◌++◌, None, Result, Ok, Err, refl, sym, subst, append_assoc, append-nil}
+use Rattle.std.proofs.Common.{◌≡◌, ℕ, ◌+◌, ◌&&◌, nat_le, Bool, true, false, List, [], ◌∷◌, ◌++◌, None, refl, sym, subst, append_assoc, append-nil}
 use Rattle.std.specs.Prelude.{if◌then◌else◌}
 use Rattle.std.proofs.lemmas.Bool.{and_parts}
 use Rattle.std.proofs.lemmas.List.Elements.{Contains-append_left, Contains-push}
@@ -12,7 +12,6 @@ use Rattle.ldm_class.specs.declared.answers.Reduced.TheVariants.{Same, Fewer, No
 use Rattle.ldm_model.specs.declared.event.Entry.{Entry}
 use Rattle.ldm_model.specs.declared.event.Reply.{Reply}
 use Rattle.ldm_model.specs.declared.event.Reply.TheVariants as reply
-use Rattle.ldm_relay.specs.Reading.{call_of}
 use Rattle.ldm_relay.specs.Sent.{Sent}
 use Rattle.ldm_relay.specs.Sent as sent
 use Rattle.ldm_relay.specs.declared.fault.RelayFault.{RelayFault}
@@ -29,7 +28,7 @@ use Rattle.ldm_intake.specs.Course.{Comes, Leads}
 use Rattle.ldm_serve.specs.declared.hiya.TheConstants.{MAX_HEREIS}
 use Rattle.ldm_serve.specs.Access.{may_know, may_push}
 use Rattle.ldm_serve.specs.Answering.{answering, put_replies, stat_replies}
-use Rattle.ldm_serve.specs.Respond.{means_all, respond, to_call, to_fault, to_offer, to_reading}
+use Rattle.ldm_serve.specs.Respond.{means_all, respond, to_call, to_fault, to_offer}
 use Rattle.ldm_serve.specs.Response.{Response, Says, Puts, Figures, Feeds, Receives, Notifies, Refuses, Denies}
 use Rattle.ldm_upstream.specs.Turn as feed
 use Rattle.ldm_upstream.specs.Turns as feed_turns
@@ -38,10 +37,12 @@ use Rattle.ldm_upstream.specs.Blocks.{blocks}
 use Rattle.ldm_notify.specs.Turn as notice
 use Rattle.ldm_notify.specs.Turns as notice_turns
 use Rattle.ldm_notify.specs.Notifying as notifying
-use Rattle.ldm_serve.specs.Steps.{AreSteps, Client, Step, messages_of, response_of}
+use Rattle.ldm_serve.specs.Client.{Client}
+use Rattle.ldm_serve.specs.Steps.{AreSteps, Step, messages_of, response_of}
 use Rattle.ldm_serve.specs.Outlived.{Outlived, Answered, Narrowed, AreOutlived, messages_for, messages_for_all, narrower}
 use Rattle.ldm_serve.specs.Connection.{Answers, messages_in}
 use Rattle.ldm_serve.specs.Kept.{AllTell, AllTellNone, MayHave, Tells, TellsNone, WasAnnounced}
+use Rattle.ldm_serve.proofs.Cases.{each_response}
 use Rattle.ldm_serve.proofs.HandingIn.{none-append}
 
 -- ---- answers have nothing of a product
@@ -104,12 +105,8 @@ module _ (client : Client) where
   says-call (sent.Qstat xid) = says-if (may_know client.rules client.host) (Figures xid) (Says (sent.QstatReply xid None ∷ [])) tt (tt, tt)
   says-call _ = tt
 
-  says-reading : (reading : Result Sent RelayFault) → SaysNone (to_reading client.rules client.host reading)
-  says-reading (Ok call) = says-call call
-  says-reading (Err fault) = says-fault fault
-
-  says : (content : List ℕ) → SaysNone (respond client.rules client.host content)
-  says content = says-reading (call_of content)
+  says : (content : List ℕ) → SaysNone (respond client content)
+  says = each_response client SaysNone says-call says-fault (λ xid answer. (tt, tt)) tt
 
   answers-none : (response : Response) (now : ℕ) (made : List Entry) (messages : List Sent) → SaysNone response → Leads client.actor (answering response now) made messages → AllTellNone messages
   answers-none (Says owed) now made messages none leads = comes-none client.actor owed messages made none leads

@@ -19,7 +19,8 @@ use Rattle.ldm_serve.specs.Responds.{RunsOut, Standing, goes_on, stands}
 use Rattle.ldm_serve.specs.declared.end.ServeEnd.{ServeEnd}
 use Rattle.ldm_serve.specs.declared.end.ServeEnd.TheVariants as end
 use Rattle.ldm_serve.specs.declared.serving.Answered.{Answered}
-use Rattle.ldm_serve.specs.Steps.{Client, Step, placed_of, response_of}
+use Rattle.ldm_serve.specs.Client.{Client}
+use Rattle.ldm_serve.specs.Steps.{Step, placed_of, response_of}
 use Rattle.ldm_serve.specs.Turns.{AnswersAll, RunsOutAt}
 use Rattle.ldm_serve.specs.Served.{BreaksOff, GoesOn, IsOver, IsTooLong, IsWorn, Serves}
 use Rattle.ldm_serve.specs.Outlived.{IsNarrowedTo, Narrowed, Outlived, narrower}
@@ -189,7 +190,7 @@ module _ (client : Client) (begins : Moment) (p : Position) (bytes : List ℕ) (
 
     -- the next record asks the queue, which can have no call more
     front-worn : (asks : Placed) (behind : List Placed) → others ≡ asks ∷ behind → (pass : PassView) (clock : ClockRecord) (out : List ℕ)
-        → RunsOut (respond client.rules client.host asks.content) between (stands pass clock out) → IsNotClosed now.outside.link
+        → RunsOut (respond client asks.content) between (stands pass clock out) → IsNotClosed now.outside.link
         → IsServed end.Worn client begins (asked now pass clock)
     unfolding b-of there
     front-worn asks behind is pass clock out runs unclosed =

@@ -1,6 +1,8 @@
 -- What a record asks of a server, as code has it.
-use Rattle.std.specs.Prelude.{◌≡◌, ℕ, List, [], length}
+use Rattle.std.specs.Prelude.{◌≡◌, ℕ, List, [], length, Result, Ok, Err}
 use Rattle.ldm_class.specs.Rules.{Rules}
+use Rattle.ldm_relay.specs.Sent.{Sent}
+use Rattle.ldm_relay.specs.declared.fault.RelayFault.{RelayFault}
 use Rattle.ldm_serve.specs.declared.reading.Asked.{Asked}
 use Rattle.ldm_serve.specs.declared.reading.Asked.TheVariants as asked
 use Rattle.ldm_serve.specs.Respond.{to_feedme, to_notifyme, to_hiya, to_put, to_qstat, to_fault}
@@ -20,3 +22,9 @@ to_asked rules host (asked.Unread fault) = to_fault fault
 abbrev pub IsSizedAsked : Asked → Type 0
 IsSizedAsked (asked.Put m) = length m.body.now ≡ m.info.size
 IsSizedAsked _ = Unit {0}
+
+-- it could not be read as a call exactly where that is so, for that fault
+abbrev pub IsUnread : Result Sent RelayFault → Asked → Type 0
+IsUnread (Err fault) one = one ≡ asked.Unread fault
+IsUnread (Ok call) (asked.Unread fault) = ⊥
+IsUnread (Ok call) _ = Unit {0}

@@ -27,7 +27,7 @@ use Rattle.ldm_serve.specs.declared.responded.Responded.{Responded}
 use Rattle.ldm_serve.specs.declared.responded.Responded.TheVariants as responded
 use Rattle.ldm_serve.specs.declared.end.ServeEnd.{ServeEnd}
 use Rattle.ldm_serve.specs.declared.end.ServeEnd.TheVariants as end
-use Rattle.ldm_serve.specs.Steps.{Client}
+use Rattle.ldm_serve.specs.Client.{Client}
 use Rattle.ldm_serve.specs.Connection.{Moment}
 
 -- the outside of a session that asks no gate
@@ -36,13 +36,13 @@ ungated outside = record { link = outside.link; log = outside.log; clock = outsi
 
 -- from now on a feeding, with the bytes behind the request ahead of those that the link gives; it ended so
 abbrev pub IsFed : SendEnd → Responded → Client → List ℕ → (old new : Moment) → Type 0
-IsFed why (responded.Feeds ask class) client ahead old new =
+IsFed why (responded.Feeds ask) client ahead old new =
     Feeds why (asked_of client.host client.rules ask) ahead old.pass new.pass old.outside new.outside × (why ≡ send.Reclassed → ⊥)
 IsFed why _ client ahead old new = ⊥
 
 -- from now on a notifying, which hears nothing of the peer
 abbrev pub IsNotified : NotifyEnd → Responded → Client → (old new : Moment) → Type 0
-IsNotified why (responded.Notifies ask class) client old new =
+IsNotified why (responded.Notifies ask) client old new =
     Notifies why (notifying.asked_of client.host client.rules ask) old.pass new.pass old.outside new.outside × (why ≡ notified.Reclassed → ⊥)
 IsNotified why _ client old new = ⊥
 
@@ -89,9 +89,9 @@ pub record Narrows (client : Client) (class : ClassSpec) (told : ClassSpec → L
   pub gate : new.outside.gate ≡ old.outside.gate
 
 abbrev pub NarrowsBy : Responded → Client → (old new : Moment) → Type 0
-NarrowsBy (responded.Feeds ask class) client old new =
+NarrowsBy (responded.Feeds ask) client old new =
     Narrows client ask.class (λ fewer. sent.FeedmeReply ask.xid (class_answer.Reclass fewer) ∷ []) old new
-NarrowsBy (responded.Notifies ask class) client old new =
+NarrowsBy (responded.Notifies ask) client old new =
     Narrows client ask.class (λ fewer. sent.NotifymeReply ask.xid (class_answer.Reclass fewer) ∷ []) old new
 NarrowsBy _ client old new = ⊥
 

@@ -8,7 +8,8 @@ use Rattle.ldm_shared.specs.Passes.{PassView, Calls}
 use Rattle.ldm_session.specs.Exchange.{Exchanged, AnsweredAll}
 use Rattle.ldm_sender.specs.Does.{IsPart}
 use Rattle.ldm_intake.specs.Room.{records_of}
-use Rattle.ldm_serve.specs.Steps.{Client, Step, AreSteps, entries_of, instants_of, messages_of}
+use Rattle.ldm_serve.specs.Client.{Client}
+use Rattle.ldm_serve.specs.Steps.{Step, AreSteps, entries_of, instants_of, messages_of}
 use Rattle.ldm_serve.specs.Outlived.{Outlived, AreOutlived, instants_for_all, messages_for_all, step_of}
 use Rattle.ldm_serve.specs.ServingView.{beginning}
 

@@ -6,7 +6,7 @@ use Rattle.ldm_serve.specs.declared.responded.Responded.TheVariants as responded
 use Rattle.ldm_serve.specs.Responds.{Standing}
 use Rattle.ldm_serve.specs.declared.serving.Answered.{Answered}
 use Rattle.ldm_serve.specs.declared.serving.Answered.TheVariants as answered
-use Rattle.ldm_serve.specs.Steps.{Client}
+use Rattle.ldm_serve.specs.Client.{Client}
 use Rattle.ldm_serve.specs.Turns.{AnswersAll, EndsWith, RunsOutAt}
 
 -- a content, if there is one, as the record that begins there
@@ -17,9 +17,9 @@ found at (Some content) = record { at = at; content = content } ∷ []
 -- how a record that begins there ends the session, if it does
 abbrev pub stop_of : Responded → ℕ → Answered
 stop_of responded.GoesOn at = answered.On
-stop_of (responded.Feeds ask class) at = answered.Over (responded.Feeds ask class) at
+stop_of (responded.Feeds ask) at = answered.Over (responded.Feeds ask) at
 stop_of (responded.Receives class) at = answered.Over (responded.Receives class) at
-stop_of (responded.Notifies ask class) at = answered.Over (responded.Notifies ask class) at
+stop_of (responded.Notifies ask) at = answered.Over (responded.Notifies ask) at
 stop_of responded.Refused at = answered.Over responded.Refused at
 stop_of (responded.Denied rule) at = answered.Over (responded.Denied rule) at
 

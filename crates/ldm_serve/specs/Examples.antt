@@ -1,5 +1,5 @@
 -- Worked examples, worked out by hand from the rules: what a server responds, and what is asked of its queue.
-use Rattle.std.specs.Prelude.{◌≡◌, ℕ, List, [], ◌∷◌, length, codes, replicate, Some, None}
+use Rattle.std.specs.Prelude.{◌≡◌, ℕ, List, [], ◌∷◌, length, codes, replicate, Some, None, Err}
 use Rattle.ldm_types.specs.Info.{Metadata}
 use Rattle.ldm_types.specs.declared.class.ClassSpec.{ClassSpec}
 use Rattle.ldm_types.specs.declared.class.Spec.{Spec}
@@ -10,12 +10,14 @@ use Rattle.ldm_model.specs.declared.event.Reply.TheVariants as reply
 use Rattle.ldm_relay.specs.Sent as sent
 use Rattle.ldm_relay.specs.Spelling.{written, record_of}
 use Rattle.ldm_relay.specs.declared.fault.RelayFault.TheVariants.{NotRpc, WrongProgram, WrongProcedure, BadMessage}
+use Rattle.ldm_relay.specs.declared.front.CallFront.TheVariants as front
 use Rattle.ldm_relay.specs.declared.message.ClassAnswer.TheVariants as class_answer
 use Rattle.ldm_relay.specs.declared.message.PutAnswer.TheVariants as put_answer
 use Rattle.ldm_relay.specs.declared.message.Refusal.TheVariants as refusal
 use Rattle.ldm_intake.specs.Course.{Leads, entry_by}
 use Rattle.ldm_serve.specs.Answering.{answering}
-use Rattle.ldm_serve.specs.Respond.{to_call, to_fault, to_offer}
+use Rattle.ldm_serve.specs.Client.{Client}
+use Rattle.ldm_serve.specs.Respond.{to_call, to_cut, to_fault, to_long, to_offer, to_unread}
 use Rattle.ldm_serve.specs.Response.{Says, Puts, Figures, Receives, Refuses, Denies}
 
 abbrev pub spec_of : ℕ → Spec
@@ -80,3 +82,28 @@ Faults =
 -- a whole HEREIS has no place here, and is not answered
 abbrev pub OutOfPlace : Type 0
 OutOfPlace = to_call (with_allow no_rules open_rule) (codes "h") (sent.Hereis 1 info body) ≡ Refuses []
+
+-- a host that no rule is about, and one that may hand in products, both of a queue with the smallest arena
+abbrev pub unknown : Client
+unknown = record { rules = no_rules; host = codes "h"; actor = 0; arena = 64 }
+
+abbrev pub known : Client
+known = record { rules = record { allow = []; accept = rule ∷ [] }; host = codes "h"; actor = 0; arena = 64 }
+
+-- A PUT that the rules refuse is denied, whether its body is cut short or bytes stand behind it.
+abbrev pub RefusedUnread : Type 0
+RefusedUnread =
+    (to_unread unknown (BadMessage 8 60) (front.Put 8 info) ≡ Says (sent.PutReply 8 put_answer.Denied ∷ []))
+    × ((content : List ℕ) → to_long unknown content (front.Put 8 info) ≡ Says (sent.PutReply 8 put_answer.Denied ∷ []))
+
+-- A product of 100 bytes takes 152 bytes of an arena, which one of 64 has not. One of 4 bytes takes 56: whether its body
+-- is there decides.
+abbrev pub TooLargeUnread : Type 0
+TooLargeUnread =
+    (to_unread known (BadMessage 8 60) (front.Put 8 (record info { size = 100 })) ≡ Says (sent.PutReply 8 (put_answer.TooBig 152 64) ∷ []))
+    × ((content : List ℕ) → to_long known content (front.Put 8 (record info { size = 100 })) ≡ Says (sent.PutReply 8 (put_answer.TooBig 152 64) ∷ []))
+    × (to_unread known (BadMessage 8 60) (front.Put 8 info) ≡ Refuses (sent.Refused 8 refusal.GarbageArguments ∷ []))
+
+-- A long record that is no call is not answered.
+abbrev pub LongRefused : Type 0
+LongRefused = to_cut (Err (NotRpc 4)) ≡ Refuses []

@@ -13,7 +13,7 @@ use Rattle.ldm_relay.specs.Sent as sent
 use Rattle.ldm_session.specs.Exchange.{Exchanged}
 use Rattle.ldm_intake.specs.Course.{entry_by}
 use Rattle.ldm_intake.specs.Room.{records_of}
-use Rattle.ldm_serve.specs.Steps.{Client}
+use Rattle.ldm_serve.specs.Client.{Client}
 
 -- ---- what a host hands in
 

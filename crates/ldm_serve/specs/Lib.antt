@@ -1,5 +1,6 @@
 pub mod Response
 pub mod Access
+pub mod Client
 pub mod Respond
 pub mod Answering
 pub mod AskedView
@@ -7,6 +8,7 @@ pub mod Responds
 pub mod Examples
 pub mod Steps
 pub mod ServingView
+pub mod Keeping
 pub mod Turns
 pub mod Contents
 pub mod Served

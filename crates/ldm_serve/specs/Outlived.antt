@@ -9,7 +9,8 @@ use Rattle.ldm_relay.specs.Sent.{Sent}
 use Rattle.ldm_relay.specs.Sent as sent
 use Rattle.ldm_relay.specs.declared.message.ClassAnswer.TheVariants as class_answer
 use Rattle.ldm_serve.specs.Response.{Response, Feeds, Notifies}
-use Rattle.ldm_serve.specs.Steps.{Client, Step, IsStep, asked_for, is_outlived, response_of}
+use Rattle.ldm_serve.specs.Client.{Client}
+use Rattle.ldm_serve.specs.Steps.{Step, IsStep, asked_for, is_outlived, response_of}
 
 -- A record that the session outlived.
 pub data Outlived : Type 0 where

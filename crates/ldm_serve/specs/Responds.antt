@@ -1,7 +1,8 @@
 -- What responding to one record does, by how it ends.
-use Rattle.std.specs.Prelude.{◌≡◌, ℕ, ◌+◌, ◌≤◌, true, List, [], ◌++◌, length, Result, MatchResult}
+use Rattle.std.specs.Prelude.{◌≡◌, ℕ, ◌+◌, ◌≤◌, true, List, [], ◌++◌, length, None, Result, MatchResult}
 use Rattle.std.specs.Global.{Vec}
 use Rattle.std.specs.Vec.{vec_len, vec_capacity}
+use Rattle.ldm_class.specs.Classes.{bad_place}
 use Rattle.ldm_outside.specs.Clock.{ClockRecord, Answers}
 use Rattle.ldm_model.specs.declared.event.Entry.{Entry}
 use Rattle.ldm_relay.specs.Sent.{Sent}
@@ -22,11 +23,20 @@ abbrev pub goes_on : Response → Responded
 goes_on (Says messages) = responded.GoesOn
 goes_on (Puts xid info body) = responded.GoesOn
 goes_on (Figures xid) = responded.GoesOn
-goes_on (Feeds xid class max_hereis) = responded.Feeds (record { xid = xid; class = class; max_hereis = max_hereis }) class
+goes_on (Feeds xid class max_hereis) = responded.Feeds (record { xid = xid; class = class; max_hereis = max_hereis })
 goes_on (Receives class messages) = responded.Receives class
-goes_on (Notifies xid class) = responded.Notifies (record { xid = xid; class = class }) class
+goes_on (Notifies xid class) = responded.Notifies (record { xid = xid; class = class })
 goes_on (Refuses messages) = responded.Refused
 goes_on (Denies rule messages) = responded.Denied rule
+
+-- each pattern of the class means something that the peer is to be fed, or told of
+abbrev pub HasMeaning : Responded → Type 0
+HasMeaning responded.GoesOn = Unit {0}
+HasMeaning (responded.Feeds ask) = bad_place ask.class.specs.items ≡ None
+HasMeaning (responded.Receives class) = Unit {0}
+HasMeaning (responded.Notifies ask) = bad_place ask.class.specs.items ≡ None
+HasMeaning responded.Refused = Unit {0}
+HasMeaning (responded.Denied rule) = Unit {0}
 
 -- What a response changes: the pass, what the clock tells, and the bytes that the peer is owed.
 pub record Standing : Type 0 where

@@ -8,7 +8,7 @@ use Rattle.ldm_rpc.specs.Streams.{Position, in_hand}
 use Rattle.ldm_session.specs.declared.limits.TheConstants.{LONGEST_STREAM}
 use Rattle.ldm_serve.specs.declared.end.ServeEnd.{ServeEnd}
 use Rattle.ldm_serve.specs.declared.end.ServeEnd.TheVariants as end
-use Rattle.ldm_serve.specs.Steps.{Client}
+use Rattle.ldm_serve.specs.Client.{Client}
 use Rattle.ldm_serve.specs.Outlived.{Outlived}
 use Rattle.ldm_serve.specs.Connection.{Answers, Moment, Reaches}
 use Rattle.ldm_serve.specs.Serve.{ServesAll}

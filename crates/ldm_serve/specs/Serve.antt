@@ -12,7 +12,8 @@ use Rattle.ldm_serve.specs.Respond.{respond}
 use Rattle.ldm_serve.specs.Responds.{RunsOut, goes_on, stands}
 use Rattle.ldm_serve.specs.declared.end.ServeEnd.{ServeEnd}
 use Rattle.ldm_serve.specs.declared.end.ServeEnd.TheVariants as end
-use Rattle.ldm_serve.specs.Steps.{Client, Step, response_of}
+use Rattle.ldm_serve.specs.Client.{Client}
+use Rattle.ldm_serve.specs.Steps.{Step, response_of}
 use Rattle.ldm_serve.specs.Connection.{Answers, Moment, Reaches, placed_in}
 use Rattle.ldm_serve.specs.Becoming.{Becomes}
 use Rattle.ldm_serve.specs.ServingView.{beginning}
@@ -43,7 +44,7 @@ pub record EndsWorn (client : Client) (answers : Answers) (taken : List ℕ) (ol
   pub asks : Placed
   pub others : List Placed
   pub records : placed_in answers ++ asks ∷ others ≡ records_in beginning taken
-  pub runs_out : RunsOut (respond client.rules client.host asks.content) (stands old.pass old.outside.clock []) (stands new.pass new.outside.clock [])
+  pub runs_out : RunsOut (respond client asks.content) (stands old.pass old.outside.clock []) (stands new.pass new.outside.clock [])
   pub same : new ≡ record old { pass = new.pass; outside = record old.outside { clock = new.outside.clock } }
 
 -- how a connection ends that came to here

@@ -6,7 +6,7 @@ use Rattle.ldm_serve.specs.declared.responded.Responded.{Responded}
 use Rattle.ldm_serve.specs.Responds.{Standing}
 use Rattle.ldm_serve.specs.declared.serving.Answered.{Answered}
 use Rattle.ldm_serve.specs.declared.serving.Answered.TheVariants as answered
-use Rattle.ldm_serve.specs.Steps.{Client}
+use Rattle.ldm_serve.specs.Client.{Client}
 use Rattle.ldm_serve.specs.Turns.{AnswersAll, EndsWith, RunsOutAt}
 
 -- All records that the bytes complete were answered, and the session goes on.

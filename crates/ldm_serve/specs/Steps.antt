@@ -2,7 +2,6 @@
 use Rattle.std.specs.Prelude.{◌≡◌, ℕ, Bool, true, false, List, [], ◌∷◌, ◌++◌, map}
 use Rattle.std.specs.List.{flat_map, list_all}
 use Rattle.ldm_rpc.specs.Streams.{Placed}
-use Rattle.ldm_class.specs.Rules.{Rules}
 use Rattle.ldm_model.specs.declared.event.Entry.{Entry}
 use Rattle.ldm_relay.specs.Sent.{Sent}
 use Rattle.ldm_shared.specs.Passes.{Calls}
@@ -12,15 +11,10 @@ use Rattle.ldm_intake.specs.Room.{records_of}
 use Rattle.ldm_serve.specs.declared.responded.Responded.{Responded}
 use Rattle.ldm_serve.specs.declared.responded.Responded.TheVariants as responded
 use Rattle.ldm_serve.specs.Answering.{answering}
+use Rattle.ldm_serve.specs.Client.{Client}
 use Rattle.ldm_serve.specs.Respond.{respond}
 use Rattle.ldm_serve.specs.Response.{Response, Puts}
 use Rattle.ldm_serve.specs.Responds.{Standing, goes_on}
-
--- Who is served: the rules of access, the host, and the actor that calls the queue for it.
-pub record Client : Type 0 where
-  pub rules : Rules
-  pub host : List ℕ
-  pub actor : ℕ
 
 -- A record that was answered.
 pub record Step : Type 0 where
@@ -34,7 +28,7 @@ pub record Step : Type 0 where
   pub messages : List Sent
 
 abbrev pub response_of : Client → Step → Response
-response_of client step = respond client.rules client.host step.placed.content
+response_of client step = respond client step.placed.content
 
 -- the calls are just those that the record asks for, and the messages those that it then comes to
 abbrev pub IsStep : Client → Step → Type 0
@@ -47,9 +41,9 @@ AreSteps client (step ∷ steps) = IsStep client step × AreSteps client steps
 -- whether the next record is read
 abbrev pub is_on : Responded → Bool
 is_on responded.GoesOn = true
-is_on (responded.Feeds ask class) = false
+is_on (responded.Feeds ask) = false
 is_on (responded.Receives class) = false
-is_on (responded.Notifies ask class) = false
+is_on (responded.Notifies ask) = false
 is_on responded.Refused = false
 is_on (responded.Denied rule) = false
 

@@ -7,7 +7,8 @@ use Rattle.ldm_serve.specs.Respond.{respond}
 use Rattle.ldm_serve.specs.Responds.{Standing, RunsOut, goes_on}
 use Rattle.ldm_serve.specs.declared.serving.Answered.{Answered}
 use Rattle.ldm_serve.specs.declared.serving.Answered.TheVariants as answered
-use Rattle.ldm_serve.specs.Steps.{Client, Step, AllOutlived, Does, is_on, placed_of, response_of}
+use Rattle.ldm_serve.specs.Client.{Client}
+use Rattle.ldm_serve.specs.Steps.{Step, AllOutlived, Does, is_on, placed_of, response_of}
 
 -- the record that bytes complete first, if they complete one
 abbrev pub first_of : Position → List ℕ → List Placed
@@ -43,7 +44,7 @@ pub record EndsWith (client : Client) (next : Responded) (placed : Placed) (old 
 -- the queue can have no call more, where the first of these records asks for one
 abbrev pub RunsOutAt : Client → List Placed → Standing → Standing → Type 0
 RunsOutAt client [] old new = ⊥
-RunsOutAt client (placed ∷ records) old new = RunsOut (respond client.rules client.host placed.content) old new
+RunsOutAt client (placed ∷ records) old new = RunsOut (respond client placed.content) old new
 
 -- the first record was answered, and its end read
 pub record TurnsOver (client : Client) (next : Responded) (at : ℕ) (p : Position) (bytes : List ℕ) (n : ℕ) (q : Position) (old new : Standing) : Type 0 where

@@ -20,8 +20,8 @@ pub(crate) fn feedme(
     ensures { (pass : PassView) (clock : ClockRecord) → Responds result (to_feedme ask.xid ask.class ask.max_hereis)
         (stands pass clock out.old.items) (stands pass clock out.new.items) }
 {
-    match Class::build(alloc, &ask.class) {
-        Ok(class) => Ok(Responded::Feeds { ask, class }),
+    match Class::check(alloc, &ask.class) {
+        Ok(()) => Ok(Responded::Feeds { ask }),
         Err(ClassFault::BadPattern { .. }) => {
             let xid = ask.xid;
             let answer = ClassAnswer::BadPattern;
@@ -41,8 +41,8 @@ pub(crate) fn notifyme(
     ensures { (pass : PassView) (clock : ClockRecord) → Responds result (to_notifyme ask.xid ask.class)
         (stands pass clock out.old.items) (stands pass clock out.new.items) }
 {
-    match Class::build(alloc, &ask.class) {
-        Ok(class) => Ok(Responded::Notifies { ask, class }),
+    match Class::check(alloc, &ask.class) {
+        Ok(()) => Ok(Responded::Notifies { ask }),
         Err(ClassFault::BadPattern { .. }) => {
             let xid = ask.xid;
             let answer = ClassAnswer::BadPattern;

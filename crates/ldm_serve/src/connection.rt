@@ -16,7 +16,7 @@ use crate::taking::{end_at, receive, take};
 use ldm_class::Policy;
 use ldm_conf::Conf;
 use ldm_downstream::LONGEST_PIECE;
-use ldm_outside::{Clock, Gate, Got, Link, Sink};
+use ldm_outside::{Awaited, Clock, Gate, Got, Link, Sink};
 use ldm_session::{LONGEST_STREAM, room_to_gather};
 use ldm_shared::{Pass, Shared};
 use ldm_types::OutOfMemory;
@@ -46,7 +46,7 @@ pub fn serve<H: Wait, K: Link, E: Sink, G: Gate, C: Clock>(
     ensures kept { IsSamePass pass.old pass.new }
     ensures counts { KeepsFaults (session_tells K.tells E.tells C.tells G.tells link.old log.old clock.old gate.old)
         (session_tells K.tells E.tells C.tells G.tells link.new log.new clock.new gate.new) }
-    ensures serves { ServesAll result (record { rules = conf.now.policy; host = host.now; actor = pass.old.actor })
+    ensures serves { ServesAll result (record { rules = conf.now.policy; host = host.now; actor = pass.old.actor; arena = shared.now.arena })
         (moment_of pass.old (session_tells K.tells E.tells C.tells G.tells link.old log.old clock.old gate.old))
         (moment_of pass.new (session_tells K.tells E.tells C.tells G.tells link.new log.new clock.new gate.new)) }
 {
@@ -111,7 +111,7 @@ impl Server {
         requires room { 0 < vec_len self.old.piece }
         ensures kept { IsSamePass pass.old pass.new }
         ensures runs { Runs (Some result)
-            (record { rules = policy.now; host = host.now; actor = pass.old.actor }) self.old.serving []
+            (record { rules = policy.now; host = host.now; actor = pass.old.actor; arena = shared.now.arena }) self.old.serving []
             self.new.serving
             (moment_of pass.old (session_tells K.tells E.tells C.tells G.tells link.old log.old clock.old gate.old))
             (moment_of pass.new (session_tells K.tells E.tells C.tells G.tells link.new log.new clock.new gate.new)) }
@@ -153,7 +153,7 @@ impl Server {
         ensures empty { IfNone result (self.new.out.items ≡ []) }
         ensures room { 0 < vec_len self.new.piece }
         ensures runs { Runs result
-            (record { rules = policy.now; host = host.now; actor = pass.old.actor }) self.old.serving []
+            (record { rules = policy.now; host = host.now; actor = pass.old.actor; arena = shared.now.arena }) self.old.serving []
             self.new.serving
             (moment_of pass.old (session_tells K.tells E.tells C.tells G.tells link.old log.old clock.old gate.old))
             (moment_of pass.new (session_tells K.tells E.tells C.tells G.tells link.new log.new clock.new gate.new)) }
@@ -162,7 +162,8 @@ impl Server {
         if room == 0 {
             return Some(ServeEnd::StreamLimit);
         }
-        match receive(link, self.piece.as_mut_slice(), room) {
+        let awaited = Awaited::Request.or_rest(self.serving.is_pending());
+        match receive(link, self.piece.as_mut_slice(), room, awaited) {
             Got::Bytes(count) => {
                 let piece = &self.piece[..count];
                 take(

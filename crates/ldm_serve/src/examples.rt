@@ -1,5 +1,6 @@
 //! Worked examples.
 ghost use Rattle.ldm_serve.specs.Examples.{Accepted, AcceptedLength, Reclassed, Denied};
+ghost use Rattle.ldm_serve.specs.Examples.{LongRefused, RefusedUnread, TooLargeUnread};
 ghost use Rattle.ldm_serve.specs.Examples.{NoRules, Known, Inserted, Faults, OutOfPlace};
 
 /// What the definition says of single records. It does nothing.
@@ -14,4 +15,7 @@ pub fn worked_examples()
     ensures inserted { Inserted }
     ensures faults { Faults }
     ensures out_of_place { OutOfPlace }
+    ensures refused_unread { RefusedUnread }
+    ensures too_large_unread { TooLargeUnread }
+    ensures long_refused { LongRefused }
 {}

@@ -1,5 +1,7 @@
 //! HIYA.
-ghost use Rattle.std.specs.Prelude.{◌≡◌, ℕ, ◌++◌, ◌∷◌, [], OnOk, OnErr};
+ghost use Rattle.std.specs.Prelude.{◌≡◌, ℕ, ◌++◌, ◌∷◌, [], None, OnOk, OnErr};
+ghost use Rattle.ldm_class.specs.Classes.{bad_place};
+ghost use Rattle.ldm_class.specs.declared.answers.Reduced.TheVariants as reduced;
 ghost use Rattle.ldm_outside.specs.Clock.{ClockRecord};
 ghost use Rattle.ldm_relay.specs.Sent as sent;
 ghost use Rattle.ldm_shared.specs.Passes.{PassView};
@@ -11,7 +13,7 @@ use crate::responded::{RespondFault, Responded};
 use crate::saying::say;
 use ldm_class::{Class, ClassFault, Policy, Reduced};
 use ldm_relay::{ClassAnswer, Hiya, HiyaReply, Message};
-use ldm_types::OutOfMemory;
+use ldm_types::{ClassSpec, OutOfMemory};
 use std::alloc::Global;
 
 /// The size of the largest product that is to come whole from a peer that pushes, in bytes.
@@ -44,10 +46,10 @@ pub(crate) fn hiya(
         → Responds result (to_hiya policy.now host.now offer.xid offer.class)
         (stands pass clock out.old.items) (stands pass clock out.new.items) }
 {
-    match Class::build(alloc, &offer.class) {
-        Ok(class) => {
+    match Class::check(alloc, &offer.class) {
+        Ok(()) => {
             let left = policy.reduce(alloc, host, &offer.class, true)?;
-            offered(offer.xid, class, left, out)
+            offered(alloc, offer.xid, &offer.class, left, out)
         }
         Err(ClassFault::BadPattern { .. }) => {
             say_hiya(offer.xid, ClassAnswer::BadPattern, out)?;
@@ -57,21 +59,20 @@ pub(crate) fn hiya(
     }
 }
 
-// Goes on by what the rules leave of the class that is offered.
+// Goes on by what the rules leave of the class that is offered. It is built only where that is all of it.
 fn offered(
+    alloc: Global,
     xid: u32,
-    class: Class,
+    class: &ClassSpec,
     left: Reduced,
     out: &mut Vec<u8>,
 ) -> Result<Responded, RespondFault>
-    ensures { (pass : PassView) (clock : ClockRecord) → Responds result (to_offer xid class left)
+    requires { bad_place class.now.specs.items ≡ None }
+    ensures { (pass : PassView) (clock : ClockRecord) → Responds result (to_offer xid class.now left)
         (stands pass clock out.old.items) (stands pass clock out.new.items) }
 {
     match left {
-        Reduced::Same => {
-            say_hiya(xid, ClassAnswer::Ok, out)?;
-            Ok(Responded::Receives { class })
-        }
+        Reduced::Same => accept(alloc, xid, class, out),
         Reduced::Fewer(fewer) => {
             say_hiya(xid, ClassAnswer::Reclass(fewer), out)?;
             Ok(Responded::GoesOn)
@@ -80,5 +81,26 @@ fn offered(
             say_hiya(xid, ClassAnswer::Denied, out)?;
             Ok(Responded::Denied { rule })
         }
+    }
+}
+
+// Accepts all of the class that is offered.
+fn accept(
+    alloc: Global,
+    xid: u32,
+    class: &ClassSpec,
+    out: &mut Vec<u8>,
+) -> Result<Responded, RespondFault>
+    requires { bad_place class.now.specs.items ≡ None }
+    ensures { (pass : PassView) (clock : ClockRecord) → Responds result (to_offer xid class.now reduced.Same)
+        (stands pass clock out.old.items) (stands pass clock out.new.items) }
+{
+    match Class::build(alloc, class) {
+        Ok(class) => {
+            say_hiya(xid, ClassAnswer::Ok, out)?;
+            Ok(Responded::Receives { class })
+        }
+        Err(ClassFault::BadPattern { .. }) => unreachable!(),
+        Err(ClassFault::OutOfMemory) => Err(RespondFault::OutOfMemory),
     }
 }

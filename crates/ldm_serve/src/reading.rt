@@ -1,8 +1,9 @@
 //! Which calls a server reads.
 ghost use Rattle.std.specs.Prelude.{◌≡◌, ℕ, List};
 ghost use Rattle.ldm_class.specs.Rules.{Rules};
-ghost use Rattle.ldm_serve.specs.AskedView.{to_asked, IsSizedAsked};
-ghost use Rattle.ldm_serve.specs.Respond.{respond};
+ghost use Rattle.ldm_relay.specs.Reading.{call_of};
+ghost use Rattle.ldm_serve.specs.AskedView.{to_asked, IsSizedAsked, IsUnread};
+ghost use Rattle.ldm_serve.specs.Respond.{to_reading};
 
 use ldm_relay::{Feedme, Hiya, Message, Notifyme, Put, RelayFault, read_call};
 
@@ -23,7 +24,8 @@ pub enum Asked<'a> {
 
 /// What the content of a record asks of a server.
 pub fn read_asked(content: &[u8]) -> Asked<'_>
-    ensures asked { (rules : Rules) (host : List ℕ) → respond rules host content.now ≡ to_asked rules host result }
+    ensures asked { (rules : Rules) (host : List ℕ) → to_reading rules host (call_of content.now) ≡ to_asked rules host result }
+    ensures unread { IsUnread (call_of content.now) result }
     ensures sized { IsSizedAsked result }
 {
     match read_call(content) {

@@ -9,12 +9,13 @@ use thiserror::Error;
 pub enum Responded {
     /// The next record is read.
     GoesOn,
-    /// From now on a feeding, which answers the request. The class is built of that of the request.
-    Feeds { ask: Feedme, class: Class },
+    /// From now on a feeding, which answers the request. Each pattern of its class means something; none is built yet.
+    Feeds { ask: Feedme },
     /// From now on a receiving of what the peer pushes. The class is built of the one that the peer offered.
     Receives { class: Class },
-    /// From now on a notifying, which answers the request. The class is built of that of the request.
-    Notifies { ask: Notifyme, class: Class },
+    /// From now on a notifying, which answers the request. Each pattern of its class means something; none is built
+    /// yet.
+    Notifies { ask: Notifyme },
     /// The record is refused.
     Refused,
     /// The ACCEPT rules leave nothing of what the peer offered: the number of the first rule about the host, or 0 for

@@ -1,20 +1,20 @@
 //! What reads the calls of a connection, and answers them.
-ghost use Rattle.std.specs.Prelude.{◌≡◌, ◌<◌, ◌≤◌, ◌+◌, ◌^◌, false, length};
-ghost use Rattle.std.specs.Option.{option_copied};
+ghost use Rattle.std.specs.Prelude.{◌≡◌, ◌<◌, ◌≤◌, ◌+◌, ◌^◌, ℕ, List, Option, false, length};
 ghost use Rattle.ldm_rpc.specs.Reading.{is_faulty, is_pending};
 ghost use Rattle.ldm_shared.specs.Passes.{IsPassOf, IsSamePass};
+ghost use Rattle.ldm_serve.specs.Keeping.{IsFrontIn};
 ghost use Rattle.ldm_serve.specs.Responds.{stands};
 ghost use Rattle.ldm_serve.specs.ServingView.{beginning};
 ghost use Rattle.ldm_serve.specs.Served.{Serves};
 ghost use Rattle.ldm_serve.specs.Turns.{Turns};
 ghost use Rattle.ldm_serve.specs.Contents.{Finds, stop_of};
 
+use crate::keeping::Keeping;
 use crate::responded::{RespondFault, Responded};
 use crate::responding::respond;
 use ldm_class::Policy;
 use ldm_outside::Clock;
-use ldm_relay::LARGEST_RECORD;
-use ldm_rpc::{Records, RpcFault};
+use ldm_rpc::{Front, RpcFault};
 use ldm_shared::{Pass, Shared};
 use std::alloc::Global;
 use std::marker::Model;
@@ -38,7 +38,7 @@ pub enum Answered {
 /// What reads the calls of a connection, from its first byte on. Contracts see what is in hand of the stream.
 #[derive(Drop)]
 pub struct Serving {
-    records: Records,
+    records: Keeping,
     begins: u64,
     came: u64,
 }
@@ -61,7 +61,7 @@ impl Serving {
         ensures { result ≡ beginning }
     {
         Serving {
-            records: Records::create(alloc, LARGEST_RECORD),
+            records: Keeping::create(alloc),
             begins: 0,
             came: 0,
         }
@@ -78,7 +78,7 @@ impl Serving {
     pub fn is_pending(&self) -> bool
         ensures { result ≡ is_pending self.now.reading }
     {
-        self.records.pending()
+        self.records.is_pending()
     }
 
     /// Takes bytes, and answers the records that they complete, one behind the other, up to one that the session does
@@ -100,7 +100,7 @@ impl Serving {
         requires room { self.old.came + length bytes.now < 2 ^ 64 }
         ensures kept { IsSamePass pass.old pass.new }
         ensures serves { Serves result
-            (record { rules = policy.now; host = host.now; actor = pass.old.actor }) self.old bytes.now self.new
+            (record { rules = policy.now; host = host.now; actor = pass.old.actor; arena = shared.now.arena }) self.old bytes.now self.new
             (stands pass.old (C.tells clock.old) out.old.items) (stands pass.new (C.tells clock.new) out.new.items) }
     {
         // What is kept is known here.
@@ -134,21 +134,22 @@ impl Serving {
         requires room { self.old.came + length bytes.now < 2 ^ 64 }
         ensures kept { IsSamePass pass.old pass.new }
         ensures turns { Turns result
-            (record { rules = policy.now; host = host.now; actor = pass.old.actor }) self.old bytes.now self.new
+            (record { rules = policy.now; host = host.now; actor = pass.old.actor; arena = shared.now.arena }) self.old bytes.now self.new
             (stands pass.old (C.tells clock.old) out.old.items) (stands pass.new (C.tells clock.new) out.new.items) }
     {
         let at = self.begins;
-        let count = match self.records.push(bytes) {
+        let pushed = self
+            .records
+            .push(alloc, policy, host, shared.arena(), bytes);
+        let count = match pushed {
             Ok(count) => count,
             Err(RpcFault::TooLong { .. }) => return Err(Answered::TooLong { at }),
             Err(RpcFault::OutOfMemory) => return Err(Answered::OutOfMemory),
         };
         self.came += count as u64;
-        let content = self.records.whole();
-        let is_whole = content.is_some();
-        let stop = answer_content(
-            rt, alloc, shared, pass, clock, policy, host, content, at, out,
-        );
+        let held = self.records.whole();
+        let is_whole = held.is_some();
+        let stop = answer_content(rt, alloc, shared, pass, clock, policy, host, held, at, out);
         self.records.next();
         if is_whole {
             self.begins = self.came;
@@ -160,7 +161,7 @@ impl Serving {
     }
 }
 
-// Answers the content of a record that begins there, if there is one.
+// Answers a record that begins there, if there is one.
 fn answer_content<H: Wait, C: Clock>(
     rt: &H,
     alloc: Global,
@@ -169,20 +170,20 @@ fn answer_content<H: Wait, C: Clock>(
     clock: &mut C,
     policy: &Policy,
     host: &[u8],
-    content: Option<&[u8]>,
+    held: Option<Front<'_>>,
     at: u64,
     out: &mut Vec<u8>,
 ) -> Answered
     requires { IsPassOf shared.now pass.old }
     ensures kept { IsSamePass pass.old pass.new }
-    ensures finds { Finds result (record { rules = policy.now; host = host.now; actor = pass.old.actor }) at
-        (option_copied content.entry)
+    ensures finds { (content : Option (List ℕ)) → IsFrontIn held.entry content → Finds result
+        (record { rules = policy.now; host = host.now; actor = pass.old.actor; arena = shared.now.arena }) at content
         (stands pass.old (C.tells clock.old) out.old.items) (stands pass.new (C.tells clock.new) out.new.items) }
 {
-    let Some(content) = content else {
+    let Some(held) = held else {
         return Answered::On;
     };
-    match respond(rt, alloc, shared, pass, clock, policy, host, content, out) {
+    match respond(rt, alloc, shared, pass, clock, policy, host, held, out) {
         Ok(next) => stop_of(next, at),
         Err(RespondFault::Worn) => Answered::Worn,
         Err(RespondFault::OutOfMemory) => Answered::OutOfMemory,

@@ -11,7 +11,7 @@ use crate::end::ServeEnd;
 use crate::going_on::go_on;
 use crate::serving::{Answered, Serving};
 use ldm_class::Policy;
-use ldm_outside::{Clock, Gate, Got, Link, Sink};
+use ldm_outside::{Awaited, Clock, Gate, Got, Link, Sink};
 use ldm_session::send_gathered;
 use ldm_shared::{Pass, Shared};
 use std::alloc::Global;
@@ -44,7 +44,7 @@ pub(crate) fn take<H: Wait, K: Link, E: Sink, G: Gate, C: Clock>(
     ensures sound { IfNone result (HasRoom serving.new 0) }
     ensures empty { IfNone result (out.new.items ≡ []) }
     ensures runs { Runs result
-        (record { rules = policy.now; host = host.now; actor = pass.old.actor }) serving.old piece.now serving.new
+        (record { rules = policy.now; host = host.now; actor = pass.old.actor; arena = shared.now.arena }) serving.old piece.now serving.new
         (moment_of pass.old (session_tells K.tells E.tells C.tells G.tells link.old log.old clock.old gate.old))
         (moment_of pass.new (session_tells K.tells E.tells C.tells G.tells link.new log.new clock.new gate.new)) }
 {
@@ -88,7 +88,7 @@ fn take_some<H: Wait, K: Link, E: Sink, G: Gate, C: Clock>(
     ensures advances { IfOk result (λ count. Advances count serving.old bytes.now serving.new) }
     ensures empty { IfOk result (λ count. out.new.items ≡ []) }
     ensures takes { Takes result
-        (record { rules = policy.now; host = host.now; actor = pass.old.actor }) serving.old bytes.now serving.new
+        (record { rules = policy.now; host = host.now; actor = pass.old.actor; arena = shared.now.arena }) serving.old bytes.now serving.new
         (moment_of pass.old (session_tells K.tells E.tells C.tells G.tells link.old log.old clock.old gate.old))
         (moment_of pass.new (session_tells K.tells E.tells C.tells G.tells link.new log.new clock.new gate.new)) }
 {
@@ -119,7 +119,7 @@ fn take_some<H: Wait, K: Link, E: Sink, G: Gate, C: Clock>(
 }
 
 /// Receives a piece, of no more bytes than there is room for in the stream.
-pub(crate) fn receive<K: Link>(link: &mut K, piece: &mut [u8], room: u64) -> Got
+pub(crate) fn receive<K: Link>(link: &mut K, piece: &mut [u8], room: u64, awaited: Awaited) -> Got
     requires not_closed { IsNotClosed (K.tells link.old) }
     requires some { 0 < length piece.old }
     requires room { 0 < room }
@@ -130,7 +130,7 @@ pub(crate) fn receive<K: Link>(link: &mut K, piece: &mut [u8], room: u64) -> Got
     ensures still_open { IsNotClosed (K.tells link.new) }
 {
     let most = min(room, piece.len() as u64) as usize;
-    link.recv(&mut piece[..most])
+    link.recv(&mut piece[..most], awaited)
 }
 
 /// How a connection ends where its stream does.

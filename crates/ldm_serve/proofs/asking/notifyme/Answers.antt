@@ -1,5 +1,4 @@
-use Rattle.std.proofs.Common.{[], ◌∷◌, refl, sym, ap, append-nil}
-use Rattle.ldm_types.specs.declared.class.ClassSpec.{ClassSpec}
+use Rattle.std.proofs.Common.{[], ◌∷◌, refl, sym, append-nil}
 use Rattle.ldm_relay.specs.Sent as sent
 use Rattle.ldm_relay.specs.declared.message.ClassAnswer.TheVariants as class_answer
 use Rattle.ldm_serve.specs.declared.responded.Responded.TheVariants as responded
@@ -13,9 +12,9 @@ returns-in-Ok c = λ pass clock.
     let ask = c.args.ask in
     let bad = sent.NotifymeReply ask.xid class_answer.BadPattern ∷ [] in
     let out = c.args.out.now.items in
-    given_at_once pass clock (to_notifyme ask.xid ask.class) (Notifies ask.xid ask.class) (responded.Notifies ask c.in-Ok.class) [] out out
-    (all_mean ask.class (Notifies ask.xid ask.class) (Says bad) c.in-Ok.ensures.1)
-    (ap (λ (k : ClassSpec). responded.Notifies ask k) c.in-Ok.ensures.0) refl refl (sym (append-nil out))
+    given_at_once pass clock (to_notifyme ask.xid ask.class) (Notifies ask.xid ask.class) (responded.Notifies ask) [] out out
+    (all_mean ask.class (Notifies ask.xid ask.class) (Says bad) c.in-Ok.ensures)
+    refl refl refl (sym (append-nil out))
 
 pub returns-in_ok-say-in-Err-BadPattern : goal.returns-in_ok-say-in-Err-BadPattern
 returns-in_ok-say-in-Err-BadPattern c = λ pass clock.

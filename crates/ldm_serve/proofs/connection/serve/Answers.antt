@@ -3,13 +3,13 @@ use Rattle.ldm_outside.specs.Session.{session_tells}
 use Rattle.ldm_rpc.specs.Streams.{Position}
 use Rattle.ldm_serve.specs.Connection.{moment_of}
 use Rattle.ldm_serve.specs.Rounds.{Runs}
-use Rattle.ldm_serve.specs.Steps.{Client}
+use Rattle.ldm_serve.specs.Client.{Client}
 use Rattle.ldm_serve.proofs.Coming.{begins-reads, memory-begins}
 use Rattle.ldm_serve.proofs.connection.serve.Goals as goal
 
 pub returns-in-Ok-clause-counts : goal.returns-in-Ok-clause-counts
 returns-in-Ok-clause-counts g c =
-    let client : Client = record { rules = c.args.conf.now.policy; host = c.args.host.now; actor = c.args.pass.now.actor } in
+    let client : Client = record { rules = c.args.conf.now.policy; host = c.args.host.now; actor = c.args.pass.now.actor; arena = c.args.shared.now.arena } in
     let now = moment_of c.args.pass.now (session_tells g.K.Link.tells g.E.Sink.tells g.C.Clock.tells g.G.Gate.tells c.args.link.now c.args.log.now c.args.clock.now c.args.gate.now) in
     let new = moment_of c.run.new.pass (session_tells g.K.Link.tells g.E.Sink.tells g.C.Clock.tells g.G.Gate.tells c.run.new.link c.run.new.log c.run.new.clock c.run.new.gate) in
     let runs = subst (λ (p : Position). Runs (Some c.run.result) client p [] c.run.new.self.serving now new) c.in-Ok.ensures.serving c.run.ensures.runs in
@@ -17,7 +17,7 @@ returns-in-Ok-clause-counts g c =
 
 pub returns-in-Ok-clause-serves : goal.returns-in-Ok-clause-serves
 returns-in-Ok-clause-serves g c =
-    let client : Client = record { rules = c.args.conf.now.policy; host = c.args.host.now; actor = c.args.pass.now.actor } in
+    let client : Client = record { rules = c.args.conf.now.policy; host = c.args.host.now; actor = c.args.pass.now.actor; arena = c.args.shared.now.arena } in
     let now = moment_of c.args.pass.now (session_tells g.K.Link.tells g.E.Sink.tells g.C.Clock.tells g.G.Gate.tells c.args.link.now c.args.log.now c.args.clock.now c.args.gate.now) in
     let new = moment_of c.run.new.pass (session_tells g.K.Link.tells g.E.Sink.tells g.C.Clock.tells g.G.Gate.tells c.run.new.link c.run.new.log c.run.new.clock c.run.new.gate) in
     let runs = subst (λ (p : Position). Runs (Some c.run.result) client p [] c.run.new.self.serving now new) c.in-Ok.ensures.serving c.run.ensures.runs in
@@ -25,12 +25,12 @@ returns-in-Ok-clause-serves g c =
 
 pub returns-in-Err-clause-counts : goal.returns-in-Err-clause-counts
 returns-in-Err-clause-counts g c =
-    let client : Client = record { rules = c.args.conf.now.policy; host = c.args.host.now; actor = c.args.pass.now.actor } in
+    let client : Client = record { rules = c.args.conf.now.policy; host = c.args.host.now; actor = c.args.pass.now.actor; arena = c.args.shared.now.arena } in
     let now = moment_of c.args.pass.now (session_tells g.K.Link.tells g.E.Sink.tells g.C.Clock.tells g.G.Gate.tells c.args.link.now c.args.log.now c.args.clock.now c.args.gate.now) in
     let served = memory-begins client now refl c.requires.not_closed in served.counts
 
 pub returns-in-Err-clause-serves : goal.returns-in-Err-clause-serves
 returns-in-Err-clause-serves g c =
-    let client : Client = record { rules = c.args.conf.now.policy; host = c.args.host.now; actor = c.args.pass.now.actor } in
+    let client : Client = record { rules = c.args.conf.now.policy; host = c.args.host.now; actor = c.args.pass.now.actor; arena = c.args.shared.now.arena } in
     let now = moment_of c.args.pass.now (session_tells g.K.Link.tells g.E.Sink.tells g.C.Clock.tells g.G.Gate.tells c.args.link.now c.args.log.now c.args.clock.now c.args.gate.now) in
     let served = memory-begins client now refl c.requires.not_closed in served.serves

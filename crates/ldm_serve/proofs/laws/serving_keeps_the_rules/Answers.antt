@@ -1,10 +1,10 @@
-use Rattle.ldm_serve.proofs.Keeping.{InsertsByRules, puts-in, sends}
+use Rattle.ldm_serve.proofs.Keeps.{InsertsByRules, puts-in, sends}
 use Rattle.ldm_serve.proofs.Telling.{messages-none}
 use Rattle.ldm_serve.proofs.laws.serving_keeps_the_rules.Goals as goal
 
 pub returns-clause-puts_in : goal.returns-clause-puts_in
 returns-clause-puts_in c end client old new made serves calls =
-    let inserts : InsertsByRules client = λ content now entries. c.rules_are_kept.ensures.inserts client.rules client.host content now client.actor entries in
+    let inserts : InsertsByRules client = λ content now entries. c.rules_are_kept.ensures.inserts client content now client.actor entries in
     puts-in client end old new serves inserts made calls
 
 pub returns-clause-sends : goal.returns-clause-sends

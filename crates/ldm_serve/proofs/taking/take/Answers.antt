@@ -3,7 +3,7 @@ use Rattle.std.proofs.lemmas.Bool.{both_ways, ne_eqb}
 use Rattle.ldm_outside.specs.Session.{session_tells}
 use Rattle.ldm_serve.specs.Connection.{moment_of}
 use Rattle.ldm_serve.specs.Rounds.{ReadsOn, Takes}
-use Rattle.ldm_serve.specs.Steps.{Client}
+use Rattle.ldm_serve.specs.Client.{Client}
 use Rattle.ldm_serve.proofs.Reaching.{same-actor, same-then}
 use Rattle.ldm_serve.proofs.Turning.{rest-is, room-behind}
 use Rattle.ldm_serve.proofs.taking.take.Goals as goal
@@ -23,7 +23,7 @@ loop-rest-init g c = record {
 
 pub loop-rest-preserved : goal.loop-rest-preserved
 loop-rest-preserved g c =
-    let client : Client = record { rules = c.args.policy.now; host = c.args.host.now; actor = c.args.pass.now.actor } in
+    let client : Client = record { rules = c.args.policy.now; host = c.args.host.now; actor = c.args.pass.now.actor; arena = c.args.shared.now.arena } in
     let cur = moment_of c.loop-rest.pass (session_tells g.K.Link.tells g.E.Sink.tells g.C.Clock.tells g.G.Gate.tells c.loop-rest.link c.loop-rest.log c.loop-rest.clock c.loop-rest.gate) in
     let new = moment_of c.take_some.new.pass (session_tells g.K.Link.tells g.E.Sink.tells g.C.Clock.tells g.G.Gate.tells c.take_some.new.link c.take_some.new.log c.take_some.new.clock c.take_some.new.gate) in
     let rest = c.loop-rest.rest.now in
@@ -43,7 +43,7 @@ loop-rest-preserved g c =
 
 pub returns-in-Err-clause-runs : goal.returns-in-Err-clause-runs
 returns-in-Err-clause-runs g c =
-    let client : Client = record { rules = c.args.policy.now; host = c.args.host.now; actor = c.args.pass.now.actor } in
+    let client : Client = record { rules = c.args.policy.now; host = c.args.host.now; actor = c.args.pass.now.actor; arena = c.args.shared.now.arena } in
     let cur = moment_of c.loop-rest.pass (session_tells g.K.Link.tells g.E.Sink.tells g.C.Clock.tells g.G.Gate.tells c.loop-rest.link c.loop-rest.log c.loop-rest.clock c.loop-rest.gate) in
     let new = moment_of c.take_some.new.pass (session_tells g.K.Link.tells g.E.Sink.tells g.C.Clock.tells g.G.Gate.tells c.take_some.new.link c.take_some.new.log c.take_some.new.clock c.take_some.new.gate) in
     let same : c.loop-rest.pass.actor ≡ client.actor = same-actor c.args.pass.now c.loop-rest.pass c.loop-rest.invariant.same in
@@ -58,7 +58,7 @@ returns-clause-sound g c =
 
 pub returns-clause-runs : goal.returns-clause-runs
 returns-clause-runs g c =
-    let client : Client = record { rules = c.args.policy.now; host = c.args.host.now; actor = c.args.pass.now.actor } in
+    let client : Client = record { rules = c.args.policy.now; host = c.args.host.now; actor = c.args.pass.now.actor; arena = c.args.shared.now.arena } in
     let cur = moment_of c.loop-rest.pass (session_tells g.K.Link.tells g.E.Sink.tells g.C.Clock.tells g.G.Gate.tells c.loop-rest.link c.loop-rest.log c.loop-rest.clock c.loop-rest.gate) in
     λ begins here.
     subst (λ (rest : List ℕ). ReadsOn client begins c.loop-rest.serving rest cur) (is_empty c.loop-rest.rest.now c.loop-rest-test.ensures) (c.loop-rest.invariant.reads begins here)

@@ -1,18 +1,19 @@
 use Rattle.std.proofs.Common.{◌≡◌, ℕ, ◌-◌, ◌≤◌, false, true, length, take, drop, refl, ap, sym, subst, ◌∙◌, arith}
 use Rattle.std.proofs.lemmas.Result.{err_from_is_err_and}
 use Rattle.ldm_outside.specs.Session.{session_tells}
-use Rattle.ldm_serve.specs.Responds.{stands}
+use Rattle.ldm_serve.specs.Responds.{HasMeaning, stands}
 use Rattle.ldm_serve.specs.declared.serving.Answered.TheVariants as answered
 use Rattle.ldm_serve.specs.Connection.{moment_of}
 use Rattle.ldm_serve.specs.Rounds.{Advances, ReadsOn}
-use Rattle.ldm_serve.specs.Steps.{Client, response_of}
+use Rattle.ldm_serve.specs.Client.{Client}
+use Rattle.ldm_serve.proofs.Meaning.{responds_with_meaning}
 use Rattle.ldm_serve.proofs.Reaching.{puts-all, puts-front, same-actor}
 use Rattle.ldm_serve.proofs.Turning.{all-failed, from-empty, long-served, memory-served, on-advances, on-reads, over-advances, over-failed, over-reads, over-served, rest-is, worn-served}
 use Rattle.ldm_serve.proofs.taking.take_some.Goals as goal
 
 pub returns-in_err-send_gathered-in-On-clause-takes : goal.returns-in_err-send_gathered-in-On-clause-takes
 returns-in_err-send_gathered-in-On-clause-takes g c =
-    let client : Client = record { rules = c.args.policy.now; host = c.args.host.now; actor = c.args.pass.now.actor } in
+    let client : Client = record { rules = c.args.policy.now; host = c.args.host.now; actor = c.args.pass.now.actor; arena = c.args.shared.now.arena } in
     let bytes = c.args.bytes.now in
     let p = c.args.serving.now in
     let q = c.answer.new.self in
@@ -31,7 +32,7 @@ returns-in_err-send_gathered-in-On-clause-takes g c =
 
 pub returns-in_ok-send_gathered-in-On-clause-advances : goal.returns-in_ok-send_gathered-in-On-clause-advances
 returns-in_ok-send_gathered-in-On-clause-advances g c =
-    let client : Client = record { rules = c.args.policy.now; host = c.args.host.now; actor = c.args.pass.now.actor } in
+    let client : Client = record { rules = c.args.policy.now; host = c.args.host.now; actor = c.args.pass.now.actor; arena = c.args.shared.now.arena } in
     let bytes = c.args.bytes.now in
     let p = c.args.serving.now in
     let q = c.answer.new.self in
@@ -44,7 +45,7 @@ returns-in_ok-send_gathered-in-On-clause-advances g c =
 
 pub returns-in_ok-send_gathered-in-On-clause-takes : goal.returns-in_ok-send_gathered-in-On-clause-takes
 returns-in_ok-send_gathered-in-On-clause-takes g c =
-    let client : Client = record { rules = c.args.policy.now; host = c.args.host.now; actor = c.args.pass.now.actor } in
+    let client : Client = record { rules = c.args.policy.now; host = c.args.host.now; actor = c.args.pass.now.actor; arena = c.args.shared.now.arena } in
     let bytes = c.args.bytes.now in
     let p = c.args.serving.now in
     let q = c.answer.new.self in
@@ -61,7 +62,7 @@ returns-in_ok-send_gathered-in-On-clause-takes g c =
 
 pub returns-in_err-send_gathered-in-TooLong-clause-takes : goal.returns-in_err-send_gathered-in-TooLong-clause-takes
 returns-in_err-send_gathered-in-TooLong-clause-takes g c =
-    let client : Client = record { rules = c.args.policy.now; host = c.args.host.now; actor = c.args.pass.now.actor } in
+    let client : Client = record { rules = c.args.policy.now; host = c.args.host.now; actor = c.args.pass.now.actor; arena = c.args.shared.now.arena } in
     let bytes = c.args.bytes.now in
     let p = c.args.serving.now in
     let q = c.answer.new.self in
@@ -80,7 +81,7 @@ returns-in_err-send_gathered-in-TooLong-clause-takes g c =
 
 pub returns-in_ok-send_gathered-in-TooLong-clause-takes : goal.returns-in_ok-send_gathered-in-TooLong-clause-takes
 returns-in_ok-send_gathered-in-TooLong-clause-takes g c =
-    let client : Client = record { rules = c.args.policy.now; host = c.args.host.now; actor = c.args.pass.now.actor } in
+    let client : Client = record { rules = c.args.policy.now; host = c.args.host.now; actor = c.args.pass.now.actor; arena = c.args.shared.now.arena } in
     let bytes = c.args.bytes.now in
     let p = c.args.serving.now in
     let q = c.answer.new.self in
@@ -97,7 +98,7 @@ returns-in_ok-send_gathered-in-TooLong-clause-takes g c =
 
 pub returns-in-Worn-clause-takes : goal.returns-in-Worn-clause-takes
 returns-in-Worn-clause-takes g c =
-    let client : Client = record { rules = c.args.policy.now; host = c.args.host.now; actor = c.args.pass.now.actor } in
+    let client : Client = record { rules = c.args.policy.now; host = c.args.host.now; actor = c.args.pass.now.actor; arena = c.args.shared.now.arena } in
     let bytes = c.args.bytes.now in
     let p = c.args.serving.now in
     let q = c.answer.new.self in
@@ -110,7 +111,7 @@ returns-in-Worn-clause-takes g c =
 
 pub returns-in-OutOfMemory-clause-takes : goal.returns-in-OutOfMemory-clause-takes
 returns-in-OutOfMemory-clause-takes g c =
-    let client : Client = record { rules = c.args.policy.now; host = c.args.host.now; actor = c.args.pass.now.actor } in
+    let client : Client = record { rules = c.args.policy.now; host = c.args.host.now; actor = c.args.pass.now.actor; arena = c.args.shared.now.arena } in
     let bytes = c.args.bytes.now in
     let p = c.args.serving.now in
     let q = c.answer.new.self in
@@ -123,7 +124,7 @@ returns-in-OutOfMemory-clause-takes g c =
 
 pub returns-in_err-send_gathered-in-Over-clause-takes : goal.returns-in_err-send_gathered-in-Over-clause-takes
 returns-in_err-send_gathered-in-Over-clause-takes g c =
-    let client : Client = record { rules = c.args.policy.now; host = c.args.host.now; actor = c.args.pass.now.actor } in
+    let client : Client = record { rules = c.args.policy.now; host = c.args.host.now; actor = c.args.pass.now.actor; arena = c.args.shared.now.arena } in
     let bytes = c.args.bytes.now in
     let p = c.args.serving.now in
     let q = c.answer.new.self in
@@ -142,7 +143,7 @@ returns-in_err-send_gathered-in-Over-clause-takes g c =
 
 pub slice_bounds-ahead-count : goal.slice_bounds-ahead-count
 slice_bounds-ahead-count g c =
-    let client : Client = record { rules = c.args.policy.now; host = c.args.host.now; actor = c.args.pass.now.actor } in
+    let client : Client = record { rules = c.args.policy.now; host = c.args.host.now; actor = c.args.pass.now.actor; arena = c.args.shared.now.arena } in
     let bytes = c.args.bytes.now in
     let p = c.args.serving.now in
     let q = c.answer.new.self in
@@ -158,7 +159,7 @@ slice_bounds-ahead-count g c =
 
 pub slice_bounds-ahead-start : goal.slice_bounds-ahead-start
 slice_bounds-ahead-start g c =
-    let client : Client = record { rules = c.args.policy.now; host = c.args.host.now; actor = c.args.pass.now.actor } in
+    let client : Client = record { rules = c.args.policy.now; host = c.args.host.now; actor = c.args.pass.now.actor; arena = c.args.shared.now.arena } in
     let bytes = c.args.bytes.now in
     let p = c.args.serving.now in
     let q = c.answer.new.self in
@@ -172,20 +173,20 @@ slice_bounds-ahead-start g c =
     let most : came - before ≤ length bytes = omega (arith, n_is, advances.most) in
     most
 
-pub go_on-requires-clause-built : goal.go_on-requires-clause-built
-go_on-requires-clause-built g c =
-    let client : Client = record { rules = c.args.policy.now; host = c.args.host.now; actor = c.args.pass.now.actor } in
+pub go_on-requires-clause-means : goal.go_on-requires-clause-means
+go_on-requires-clause-means g c =
+    let client : Client = record { rules = c.args.policy.now; host = c.args.host.now; actor = c.args.pass.now.actor; arena = c.args.shared.now.arena } in
     let bytes = c.args.bytes.now in
     let p = c.args.serving.now in
     let q = c.answer.new.self in
     let out = c.answer.new.out.items in
     let after = stands c.answer.new.pass (g.C.Clock.tells c.answer.new.clock) out in
     let serves = from-empty (answered.Over c.in-Over.next c.in-Over.at) client p bytes q c.args.pass.now (g.C.Clock.tells c.args.clock.now) c.args.out.now.items after c.requires.empty c.in-Over.ensures.serves in
-    (response_of client serves.ends.step, serves.ends.next_is)
+    subst HasMeaning (sym serves.ends.next_is) (responds_with_meaning client serves.ends.step.placed.content)
 
 pub go_on-requires-clause-over : goal.go_on-requires-clause-over
 go_on-requires-clause-over g c =
-    let client : Client = record { rules = c.args.policy.now; host = c.args.host.now; actor = c.args.pass.now.actor } in
+    let client : Client = record { rules = c.args.policy.now; host = c.args.host.now; actor = c.args.pass.now.actor; arena = c.args.shared.now.arena } in
     let bytes = c.args.bytes.now in
     let p = c.args.serving.now in
     let q = c.answer.new.self in
@@ -196,7 +197,7 @@ go_on-requires-clause-over g c =
 
 pub returns-in-Some-clause-takes : goal.returns-in-Some-clause-takes
 returns-in-Some-clause-takes g c =
-    let client : Client = record { rules = c.args.policy.now; host = c.args.host.now; actor = c.args.pass.now.actor } in
+    let client : Client = record { rules = c.args.policy.now; host = c.args.host.now; actor = c.args.pass.now.actor; arena = c.args.shared.now.arena } in
     let bytes = c.args.bytes.now in
     let p = c.args.serving.now in
     let q = c.answer.new.self in
@@ -222,7 +223,7 @@ returns-in-Some-clause-takes g c =
 
 pub returns-in-None-clause-advances : goal.returns-in-None-clause-advances
 returns-in-None-clause-advances g c =
-    let client : Client = record { rules = c.args.policy.now; host = c.args.host.now; actor = c.args.pass.now.actor } in
+    let client : Client = record { rules = c.args.policy.now; host = c.args.host.now; actor = c.args.pass.now.actor; arena = c.args.shared.now.arena } in
     let bytes = c.args.bytes.now in
     let p = c.args.serving.now in
     let q = c.answer.new.self in
@@ -238,7 +239,7 @@ returns-in-None-clause-advances g c =
 
 pub returns-in-None-clause-takes : goal.returns-in-None-clause-takes
 returns-in-None-clause-takes g c =
-    let client : Client = record { rules = c.args.policy.now; host = c.args.host.now; actor = c.args.pass.now.actor } in
+    let client : Client = record { rules = c.args.policy.now; host = c.args.host.now; actor = c.args.pass.now.actor; arena = c.args.shared.now.arena } in
     let bytes = c.args.bytes.now in
     let p = c.args.serving.now in
     let q = c.answer.new.self in

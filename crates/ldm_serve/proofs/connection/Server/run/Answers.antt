@@ -2,7 +2,7 @@ use Rattle.std.proofs.Common.{◌≡◌, ℕ, [], Some, None, refl, subst}
 use Rattle.ldm_outside.specs.Session.{session_tells}
 use Rattle.ldm_serve.specs.Connection.{moment_of}
 use Rattle.ldm_serve.specs.Rounds.{Runs}
-use Rattle.ldm_serve.specs.Steps.{Client}
+use Rattle.ldm_serve.specs.Client.{Client}
 use Rattle.ldm_serve.proofs.Reaching.{same-actor, same-then}
 use Rattle.ldm_serve.proofs.connection.Server.run.Goals as goal
 
@@ -18,7 +18,7 @@ loop-init g c = record {
 
 pub loop-preserved : goal.loop-preserved
 loop-preserved g c =
-    let client : Client = record { rules = c.args.policy.now; host = c.args.host.now; actor = c.args.pass.now.actor } in
+    let client : Client = record { rules = c.args.policy.now; host = c.args.host.now; actor = c.args.pass.now.actor; arena = c.args.shared.now.arena } in
     let cur = moment_of c.loop.pass (session_tells g.K.Link.tells g.E.Sink.tells g.C.Clock.tells g.G.Gate.tells c.loop.link c.loop.log c.loop.clock c.loop.gate) in
     let new = moment_of c.turn.new.pass (session_tells g.K.Link.tells g.E.Sink.tells g.C.Clock.tells g.G.Gate.tells c.turn.new.link c.turn.new.log c.turn.new.clock c.turn.new.gate) in
     let same : c.loop.pass.actor ≡ client.actor = same-actor c.args.pass.now c.loop.pass c.loop.invariant.same in
@@ -34,7 +34,7 @@ loop-preserved g c =
 
 pub returns-in-Some-turn-clause-runs : goal.returns-in-Some-turn-clause-runs
 returns-in-Some-turn-clause-runs g c =
-    let client : Client = record { rules = c.args.policy.now; host = c.args.host.now; actor = c.args.pass.now.actor } in
+    let client : Client = record { rules = c.args.policy.now; host = c.args.host.now; actor = c.args.pass.now.actor; arena = c.args.shared.now.arena } in
     let cur = moment_of c.loop.pass (session_tells g.K.Link.tells g.E.Sink.tells g.C.Clock.tells g.G.Gate.tells c.loop.link c.loop.log c.loop.clock c.loop.gate) in
     let new = moment_of c.turn.new.pass (session_tells g.K.Link.tells g.E.Sink.tells g.C.Clock.tells g.G.Gate.tells c.turn.new.link c.turn.new.log c.turn.new.clock c.turn.new.gate) in
     let same : c.loop.pass.actor ≡ client.actor = same-actor c.args.pass.now c.loop.pass c.loop.invariant.same in

@@ -10,9 +10,9 @@ use Rattle.ldm_serve.proofs.connection.Server.run.Given as goal
 abbrev pub invariant-loop : goal.invariant-loop
 invariant-loop g l = record {
   reads : (begins : Moment)
-      → ReadsOn (record { rules = l.policy; host = l.host; actor = l.fn.pass.actor }) begins l.fn.self.serving []
+      → ReadsOn (record { rules = l.policy; host = l.host; actor = l.fn.pass.actor; arena = l.shared.arena }) begins l.fn.self.serving []
       (moment_of l.fn.pass (session_tells g.K.Link.tells g.E.Sink.tells g.C.Clock.tells g.G.Gate.tells l.fn.link l.fn.log l.fn.clock l.fn.gate))
-      → ReadsOn (record { rules = l.policy; host = l.host; actor = l.fn.pass.actor }) begins l.self.serving []
+      → ReadsOn (record { rules = l.policy; host = l.host; actor = l.fn.pass.actor; arena = l.shared.arena }) begins l.self.serving []
       (moment_of l.pass (session_tells g.K.Link.tells g.E.Sink.tells g.C.Clock.tells g.G.Gate.tells l.link l.log l.clock l.gate));
   sound : HasRoom l.self.serving 0;
   empty : l.self.out.items ≡ [];

@@ -4,13 +4,13 @@ use Rattle.ldm_session.specs.declared.limits.TheConstants.{LONGEST_STREAM}
 use Rattle.ldm_serve.specs.declared.end.ServeEnd.{ServeEnd}
 use Rattle.ldm_serve.specs.Connection.{moment_of}
 use Rattle.ldm_serve.specs.Rounds.{IsServed, ReadsOn}
-use Rattle.ldm_serve.specs.Steps.{Client}
+use Rattle.ldm_serve.specs.Client.{Client}
 use Rattle.ldm_serve.proofs.Coming.{came-reads, ended-served, failed-served, limit-served, runs-behind, take-into}
 use Rattle.ldm_serve.proofs.connection.Server.turn.Goals as goal
 
 pub returns-then-room-eq0-clause-runs : goal.returns-then-room-eq0-clause-runs
 returns-then-room-eq0-clause-runs g c =
-    let client : Client = record { rules = c.args.policy.now; host = c.args.host.now; actor = c.args.pass.now.actor } in
+    let client : Client = record { rules = c.args.policy.now; host = c.args.host.now; actor = c.args.pass.now.actor; arena = c.args.shared.now.arena } in
     let now = moment_of c.args.pass.now (session_tells g.K.Link.tells g.E.Sink.tells g.C.Clock.tells g.G.Gate.tells c.args.link.now c.args.log.now c.args.clock.now c.args.gate.now) in
     let p = c.args.self.now.serving in
     let full : p.came ≡ LONGEST_STREAM = omega (arith, c.if-room-eq0.true, c.came-room.ensures, c.requires.sound.room) in
@@ -18,7 +18,7 @@ returns-then-room-eq0-clause-runs g c =
 
 pub returns-in-Bytes-clause-runs : goal.returns-in-Bytes-clause-runs
 returns-in-Bytes-clause-runs g c =
-    let client : Client = record { rules = c.args.policy.now; host = c.args.host.now; actor = c.args.pass.now.actor } in
+    let client : Client = record { rules = c.args.policy.now; host = c.args.host.now; actor = c.args.pass.now.actor; arena = c.args.shared.now.arena } in
     let now = moment_of c.args.pass.now (session_tells g.K.Link.tells g.E.Sink.tells g.C.Clock.tells g.G.Gate.tells c.args.link.now c.args.log.now c.args.clock.now c.args.gate.now) in
     let mid = moment_of c.args.pass.now (session_tells g.K.Link.tells g.E.Sink.tells g.C.Clock.tells g.G.Gate.tells c.receive.new.link c.args.log.now c.args.clock.now c.args.gate.now) in
     let new = moment_of c.take.new.pass (session_tells g.K.Link.tells g.E.Sink.tells g.C.Clock.tells g.G.Gate.tells c.take.new.link c.take.new.log c.take.new.clock c.take.new.gate) in
@@ -38,7 +38,7 @@ returns-in-Bytes-clause-runs g c =
 
 pub returns-in-End-clause-runs : goal.returns-in-End-clause-runs
 returns-in-End-clause-runs g c =
-    let client : Client = record { rules = c.args.policy.now; host = c.args.host.now; actor = c.args.pass.now.actor } in
+    let client : Client = record { rules = c.args.policy.now; host = c.args.host.now; actor = c.args.pass.now.actor; arena = c.args.shared.now.arena } in
     let now = moment_of c.args.pass.now (session_tells g.K.Link.tells g.E.Sink.tells g.C.Clock.tells g.G.Gate.tells c.args.link.now c.args.log.now c.args.clock.now c.args.gate.now) in
     let mid = moment_of c.args.pass.now (session_tells g.K.Link.tells g.E.Sink.tells g.C.Clock.tells g.G.Gate.tells c.receive.new.link c.args.log.now c.args.clock.now c.args.gate.now) in
     λ begins here.
@@ -48,7 +48,7 @@ returns-in-End-clause-runs g c =
 
 pub returns-in-Failed-clause-runs : goal.returns-in-Failed-clause-runs
 returns-in-Failed-clause-runs g c =
-    let client : Client = record { rules = c.args.policy.now; host = c.args.host.now; actor = c.args.pass.now.actor } in
+    let client : Client = record { rules = c.args.policy.now; host = c.args.host.now; actor = c.args.pass.now.actor; arena = c.args.shared.now.arena } in
     let now = moment_of c.args.pass.now (session_tells g.K.Link.tells g.E.Sink.tells g.C.Clock.tells g.G.Gate.tells c.args.link.now c.args.log.now c.args.clock.now c.args.gate.now) in
     λ begins here.
     failed-served client begins c.args.self.now.serving now here c.receive.new.piece (g.K.Link.tells c.receive.new.link) c.in-Failed.ensures.faults_kept c.in-Failed.ensures.ends_kept

@@ -1,7 +1,7 @@
 use Rattle.std.proofs.Common.{◌≡◌, ℕ, true, eqb, List, [], ◌∷◌, length, refl, sym, subst, arith}
 use Rattle.std.proofs.lemmas.Bool.{both_ways, ne_eqb}
 use Rattle.ldm_serve.specs.Responds.{stands}
-use Rattle.ldm_serve.specs.Steps.{Client}
+use Rattle.ldm_serve.specs.Client.{Client}
 use Rattle.ldm_serve.specs.Turns.{Stops, TakesFirst}
 use Rattle.ldm_serve.proofs.Running.{runs-none, runs-more, runs-all, same-client, stops-all}
 use Rattle.ldm_serve.proofs.serving.Serving.answer.Goals as goal
@@ -12,13 +12,13 @@ is_empty (byte ∷ bytes) e = absurd (both_ways (eqb (length (byte ∷ bytes)) 0
 
 pub loop-rest-init : goal.loop-rest-init
 loop-rest-init g c =
-    let client : Client = record { rules = c.args.policy.now; host = c.args.host.now; actor = c.args.pass.now.actor } in
+    let client : Client = record { rules = c.args.policy.now; host = c.args.host.now; actor = c.args.pass.now.actor; arena = c.args.shared.now.arena } in
     runs-none client c.args.self.now c.args.bytes.now (stands c.args.pass.now (g.C.Clock.tells c.args.clock.now) c.args.out.now.items) refl
     (rw (← c.self.view_is) c.self.invariant) c.requires.sound
 
 pub loop-rest-preserved : goal.loop-rest-preserved
 loop-rest-preserved g c =
-    let client : Client = record { rules = c.args.policy.now; host = c.args.host.now; actor = c.args.pass.now.actor } in
+    let client : Client = record { rules = c.args.policy.now; host = c.args.host.now; actor = c.args.pass.now.actor; arena = c.args.shared.now.arena } in
     let old = stands c.args.pass.now (g.C.Clock.tells c.args.clock.now) c.args.out.now.items in
     let cur = stands c.loop-rest.pass (g.C.Clock.tells c.loop-rest.clock) c.loop-rest.out.items in
     let new = stands c.answer_first.new.pass (g.C.Clock.tells c.answer_first.new.clock) c.answer_first.new.out.items in
@@ -28,7 +28,7 @@ loop-rest-preserved g c =
 
 pub returns-in-Err-clause-serves : goal.returns-in-Err-clause-serves
 returns-in-Err-clause-serves g c =
-    let client : Client = record { rules = c.args.policy.now; host = c.args.host.now; actor = c.args.pass.now.actor } in
+    let client : Client = record { rules = c.args.policy.now; host = c.args.host.now; actor = c.args.pass.now.actor; arena = c.args.shared.now.arena } in
     let old = stands c.args.pass.now (g.C.Clock.tells c.args.clock.now) c.args.out.now.items in
     let cur = stands c.loop-rest.pass (g.C.Clock.tells c.loop-rest.clock) c.loop-rest.out.items in
     let new = stands c.answer_first.new.pass (g.C.Clock.tells c.answer_first.new.clock) c.answer_first.new.out.items in
@@ -38,7 +38,7 @@ returns-in-Err-clause-serves g c =
 
 pub returns-clause-serves : goal.returns-clause-serves
 returns-clause-serves g c =
-    let client : Client = record { rules = c.args.policy.now; host = c.args.host.now; actor = c.args.pass.now.actor } in
+    let client : Client = record { rules = c.args.policy.now; host = c.args.host.now; actor = c.args.pass.now.actor; arena = c.args.shared.now.arena } in
     let old = stands c.args.pass.now (g.C.Clock.tells c.args.clock.now) c.args.out.now.items in
     let cur = stands c.loop-rest.pass (g.C.Clock.tells c.loop-rest.clock) c.loop-rest.out.items in
     runs-all client c.args.self.now c.args.bytes.now old c.loop-rest.self c.loop-rest.rest.now cur c.loop-rest.invariant (is_empty c.loop-rest.rest.now c.loop-rest-test.ensures)

@@ -39,7 +39,8 @@ use Rattle.ldm_notify.specs.Notifying as notifying
 use Rattle.ldm_notify.specs.Notifies.{send_end}
 use Rattle.ldm_serve.specs.declared.end.ServeEnd.{ServeEnd}
 use Rattle.ldm_serve.specs.declared.end.ServeEnd.TheVariants as end
-use Rattle.ldm_serve.specs.Steps.{AreSteps, Client, IsStep, Step, entries_of, response_of}
+use Rattle.ldm_serve.specs.Client.{Client}
+use Rattle.ldm_serve.specs.Steps.{AreSteps, IsStep, Step, entries_of, response_of}
 use Rattle.ldm_serve.specs.Outlived.{AreOutlived, Outlived, Answered, Narrowed, step_of}
 use Rattle.ldm_serve.specs.Connection.{Answers, Moment, entries_in, messages_in, steps_in}
 use Rattle.ldm_serve.specs.Becoming.{IsDenied, IsFed, IsNotified, IsReceived, IsRefused, ungated}
@@ -53,7 +54,7 @@ use Rattle.ldm_serve.proofs.Telling.{feeding-tells, messages-none, none-tell, no
 -- what is known of responses: no record has a product inserted but by the rules
 abbrev pub InsertsByRules : Client → Type 0
 InsertsByRules client = (content : List ℕ) (now : ℕ) (made : List Entry) (time : ℕ) (info : Metadata) (body : List ℕ)
-    → Begins client.actor (answering (respond client.rules client.host content) now) made → Contains (events_of made) (Insert time info body) → MayHandIn client info
+    → Begins client.actor (answering (respond client content) now) made → Contains (events_of made) (Insert time info body) → MayHandIn client info
 
 part_rest : (whole : Bool) (part all : List ℕ) → IsPart whole part all → (rest : List ℕ) × (part ++ rest ≡ all)
 part_rest true part all is = ([], append-nil part ∙ is)
@@ -143,7 +144,7 @@ module _ (client : Client) where
         nothing (subst (λ (moment : Moment). Calls old.pass moment.pass []) (sym same) (calls_none old.pass)) (ap (λ (moment : Moment). moment.outside.link) same)
 
     fed : (why : SendEnd) (next : Responded) (ahead : List ℕ) → IsFed why next client ahead old new → Behind before owed old new
-    fed why (responded.Feeds ask class) ahead is =
+    fed why (responded.Feeds ask) ahead is =
         let feeds = is.0 in
         let asked = asked_of client.host client.rules ask in
         let all = feeding.entries_of old.pass.actor asked feeds.feeding in
@@ -166,7 +167,7 @@ module _ (client : Client) where
     fed why _ ahead is = absurd is
 
     told : (why : NotifyEnd) (next : Responded) → IsNotified why next client old new → Behind before owed old new
-    told why (responded.Notifies ask class) is =
+    told why (responded.Notifies ask) is =
         let notifies = is.0 in
         let asked = notifying.asked_of client.host client.rules ask in
         let end = send_end why in
