@@ -6,10 +6,11 @@ use Rattle.ldm_outside.specs.Door.{DoorRecord, AcceptGives, DoorTakesBack}
 use Rattle.ldm_outside.specs.Io.{SinkRecord}
 use Rattle.ldm_outside.specs.Link.{LinkRecord}
 use Rattle.ldm_outside.proofs.CallerLemmas.{Rose-later}
+use Rattle.ldm_shared.specs.Passes.{SharedView, PassView, IsPassOf}
 use Rattle.ldm_serve.specs.declared.end.ServeEnd.{ServeEnd}
 use Rattle.ldm_serve.specs.Connection.{Moment as Situation, moment_of}
 use Rattle.ldm_serve.specs.Serve.{ServesAll}
-use Rattle.ldm_serve.specs.Steps.{Client}
+use Rattle.ldm_serve.specs.Client.{Client}
 use Rattle.ldm_node.specs.declared.stop.NodeStop.{NodeStop}
 use Rattle.ldm_node.specs.declared.stop.NodeStop.TheVariants.{Done, NetFault, LogFault, Worn, OutOfMemory}
 use Rattle.ldm_node.specs.DoorMoments.{Moment, with_door}
@@ -17,6 +18,14 @@ use Rattle.ldm_node.specs.Visits.{client_of, outside, peer_of, visit_of}
 use Rattle.ldm_node.specs.DoorWorks.{FailsAt, LastVisit}
 use Rattle.ldm_node.specs.VisitSteps.{AdmitsOne, Finishes, HoldsOne}
 use Rattle.ldm_node.proofs.VisitServing.{serves-log_failed, serves-stopped, serves-worn}
+
+-- the pass that serves tells the arena, since it is of the queue
+pub served-by : (end : ServeEnd) (rules : Rules) (host : List ℕ) (shared : SharedView) (pass : PassView) (before after : Situation) → IsPassOf shared pass
+    → ServesAll end (record { rules = rules; host = host; actor = pass.actor; arena = shared.arena }) before after
+    → ServesAll end (client_of rules host pass) before after
+served-by end rules host shared pass before after of serves =
+    let P : ℕ → Type 0 = λ arena. let client : Client = record { rules = rules; host = host; actor = pass.actor; arena = arena } in ServesAll end client before after in
+    subst P (sym of.arena) serves
 
 -- the log failed, within the session or behind it
 log-rose : (end : ServeEnd) (client : Client) (before after : Situation) (log : SinkRecord) → ServesAll end client before after

@@ -17,7 +17,8 @@ use Rattle.ldm_serve.specs.declared.end.ServeEnd.TheVariants as serving
 use Rattle.ldm_serve.specs.Becoming.{IsDenied, IsRefused}
 use Rattle.ldm_serve.specs.Connection.{Moment}
 use Rattle.ldm_serve.specs.Serve.{EndsByLength, EndsByRecord, ServesAll}
-use Rattle.ldm_serve.specs.Steps.{Client, response_of}
+use Rattle.ldm_serve.specs.Client.{Client}
+use Rattle.ldm_serve.specs.Steps.{response_of}
 use Rattle.ldm_session.specs.Gaps.{gap_log}
 use Rattle.ldm_node.specs.VisitsTold.{AreLosses, AreOwn, is_logged}
 use Rattle.ldm_node.proofs.VisitServing.{was-fed, was-notified, was-received}
@@ -59,17 +60,17 @@ wrote-nothing old new same = record { lines = []; are = refl; taken = Takes-noth
 
 refused-same : (place : ℕ) (next : Responded) (at : ℕ) (old new : Moment) → IsRefused place next at old new → new ≡ old
 refused-same place responded.GoesOn at old new is = absurd is
-refused-same place (responded.Feeds ask class) at old new is = absurd is
+refused-same place (responded.Feeds ask) at old new is = absurd is
 refused-same place (responded.Receives class) at old new is = absurd is
-refused-same place (responded.Notifies ask class) at old new is = absurd is
+refused-same place (responded.Notifies ask) at old new is = absurd is
 refused-same place responded.Refused at old new is = is.1
 refused-same place (responded.Denied rule) at old new is = absurd is
 
 denied-same : (rule : ℕ) (next : Responded) (old new : Moment) → IsDenied rule next old new → new ≡ old
 denied-same rule responded.GoesOn old new is = absurd is
-denied-same rule (responded.Feeds ask class) old new is = absurd is
+denied-same rule (responded.Feeds ask) old new is = absurd is
 denied-same rule (responded.Receives class) old new is = absurd is
-denied-same rule (responded.Notifies ask class) old new is = absurd is
+denied-same rule (responded.Notifies ask) old new is = absurd is
 denied-same rule responded.Refused old new is = absurd is
 denied-same rule (responded.Denied first) old new is = is.1
 

@@ -28,7 +28,8 @@ use Rattle.ldm_serve.specs.declared.end.ServeEnd.TheVariants as serving
 use Rattle.ldm_serve.specs.Becoming.{IsFed, IsNotified, IsReceived, ungated}
 use Rattle.ldm_serve.specs.Connection.{Moment}
 use Rattle.ldm_serve.specs.Serve.{ServesAll}
-use Rattle.ldm_serve.specs.Steps.{Client, response_of}
+use Rattle.ldm_serve.specs.Client.{Client}
+use Rattle.ldm_serve.specs.Steps.{response_of}
 use Rattle.ldm_node.specs.declared.stop.NodeStop.TheVariants.{Done, LogFault, Worn}
 use Rattle.ldm_node.specs.ServingEnds.{stop_by, stop_of_sending}
 use Rattle.ldm_node.specs.SessionEnds.{stop_of_receiving}
@@ -44,10 +45,10 @@ pub record WasFed (why : SendEnd) (client : Client) (ahead : List ℕ) (old new 
 pub was-fed : (why : SendEnd) (next : Responded) (client : Client) (ahead : List ℕ) (old new : Moment) → IsFed why next client ahead old new
     → WasFed why client ahead old new
 was-fed why responded.GoesOn client ahead old new is = absurd is
-was-fed why (responded.Feeds ask class) client ahead old new is =
+was-fed why (responded.Feeds ask) client ahead old new is =
     record { asked = asked_of client.host client.rules ask; host_is = refl; feeds = is.0 }
 was-fed why (responded.Receives class) client ahead old new is = absurd is
-was-fed why (responded.Notifies ask class) client ahead old new is = absurd is
+was-fed why (responded.Notifies ask) client ahead old new is = absurd is
 was-fed why responded.Refused client ahead old new is = absurd is
 was-fed why (responded.Denied rule) client ahead old new is = absurd is
 
@@ -59,9 +60,9 @@ pub record WasNotified (why : NotifyEnd) (client : Client) (old new : Moment) : 
 
 pub was-notified : (why : NotifyEnd) (next : Responded) (client : Client) (old new : Moment) → IsNotified why next client old new → WasNotified why client old new
 was-notified why responded.GoesOn client old new is = absurd is
-was-notified why (responded.Feeds ask class) client old new is = absurd is
+was-notified why (responded.Feeds ask) client old new is = absurd is
 was-notified why (responded.Receives class) client old new is = absurd is
-was-notified why (responded.Notifies ask class) client old new is =
+was-notified why (responded.Notifies ask) client old new is =
     record { asked = notifying.asked_of client.host client.rules ask; host_is = refl; notifies = is.0 }
 was-notified why responded.Refused client old new is = absurd is
 was-notified why (responded.Denied rule) client old new is = absurd is
@@ -79,7 +80,7 @@ pub record WasReceived (why : RecvEnd) (old new : Moment) : Type 0 where
 pub was-received : (why : RecvEnd) (next : Responded) (client : Client) (ahead : List ℕ) (old new : Moment) → IsReceived why next client ahead old new
     → WasReceived why old new
 was-received why responded.GoesOn client ahead old new is = absurd is
-was-received why (responded.Feeds ask class) client ahead old new is = absurd is
+was-received why (responded.Feeds ask) client ahead old new is = absurd is
 was-received why (responded.Receives class) client ahead old new is =
     let receives = is.0.1 in
     let P : PassView → Type 0 = λ pass. Cause why pass (ungated old.outside) (ungated new.outside) in
@@ -92,7 +93,7 @@ was-received why (responded.Receives class) client ahead old new is =
       logged = receives.receives.passed.logged;
       cause = subst P receives.pass_is receives.receives.cause;
     }
-was-received why (responded.Notifies ask class) client ahead old new is = absurd is
+was-received why (responded.Notifies ask) client ahead old new is = absurd is
 was-received why responded.Refused client ahead old new is = absurd is
 was-received why (responded.Denied rule) client ahead old new is = absurd is
 

@@ -12,7 +12,7 @@ use Rattle.ldm_shared.specs.Passes.{PassView}
 use Rattle.ldm_serve.specs.declared.end.ServeEnd.{ServeEnd}
 use Rattle.ldm_serve.specs.Connection.{moment_of}
 use Rattle.ldm_serve.specs.Serve.{ServesAll}
-use Rattle.ldm_serve.specs.Steps.{Client}
+use Rattle.ldm_serve.specs.Client.{Client}
 use Rattle.ldm_node.specs.Lines.{Logs, session_line}
 use Rattle.ldm_node.specs.ServingEnds.{end_of_serving}
 use Rattle.ldm_node.specs.DoorMoments.{Moment, with_door}
@@ -29,9 +29,9 @@ visit_of host end = record { host = host; end = end }
 abbrev pub line_of : Visit → List ℕ
 line_of visit = session_line visit.host (end_of_serving visit.end)
 
--- who is served: the host by the rules, with a pass
+-- who is served: the host by the rules, with a pass, whose arena is that of its queue
 abbrev pub client_of : Rules → List ℕ → PassView → Client
-client_of rules host pass = record { rules = rules; host = host; actor = pass.actor }
+client_of rules host pass = record { rules = rules; host = host; actor = pass.actor; arena = pass.arena }
 
 -- what a session uses: the link, and of a station the log, the clock and the gate
 abbrev pub outside : LinkRecord → SinkRecord → StationRecord → SessionRecord

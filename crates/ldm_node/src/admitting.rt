@@ -107,7 +107,8 @@ fn serve_peer<H: Wait, D: Door, I: Dial, E: Sink, C: Clock, G: Gate>(
         (session_tells D.Link.tells E.tells C.tells G.tells link.old station.old.log station.old.clock station.old.gate)
         (session_tells D.Link.tells E.tells C.tells G.tells link.new station.new.log station.new.clock
         station.new.gate) }
-    ensures serves { ServesAll result (record { rules = conf.now.policy; host = host.now; actor = pass.old.actor })
+    ensures serves { ServesAll result
+        (record { rules = conf.now.policy; host = host.now; actor = pass.old.actor; arena = shared.now.arena })
         (moment_of pass.old
         (session_tells D.Link.tells E.tells C.tells G.tells link.old station.old.log station.old.clock
         station.old.gate))
