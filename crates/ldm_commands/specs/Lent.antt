@@ -119,4 +119,5 @@ module _ {K F L T : Type 0} (tells : Tells K F L T) where
     launcher = tells.launcher world.launcher;
     net = world.net;
     kept = world.kept;
+    port = world.port;
   }

@@ -1,5 +1,5 @@
 -- What contracts see of the world of the program.
-use Rattle.std.specs.Prelude.{◌≡◌, ◌≤◌, List}
+use Rattle.std.specs.Prelude.{◌≡◌, ◌≤◌, ℕ, List, Option}
 use Rattle.ldm_disk.specs.Told.{DiskRecord}
 use Rattle.ldm_outside.specs.Clock.{ClockRecord}
 use Rattle.ldm_outside.specs.Dial.{DialRecord}
@@ -21,11 +21,13 @@ pub record WorldView (K F L T : Type 0) : Type 0 where
   pub net : DialRecord
   -- the stations that the net keeps
   pub kept : List T
+  -- the port that the net was asked for last
+  pub port : Option ℕ
   pub disk : DiskRecord
 
 abbrev pub world_view : {S K E C F L N D T : Type 0} → (S → SourceRecord) → (E → SinkRecord) → (C → ClockRecord) → (N → DialRecord) → (N → List T)
-    → (D → DiskRecord) → World S K E C F L N D → WorldView K F L T
-world_view source log clock net kept disk world = record {
+    → (N → Option ℕ) → (D → DiskRecord) → World S K E C F L N D → WorldView K F L T
+world_view source log clock net kept port disk world = record {
   source = source world.streams.source;
   sink = world.streams.sink;
   log = log world.streams.log;
@@ -34,6 +36,7 @@ world_view source log clock net kept disk world = record {
   launcher = world.launcher;
   net = net world.net;
   kept = kept world.net;
+  port = port world.net;
   disk = disk world.disk;
 }
 
@@ -54,6 +57,7 @@ pub record OnlyStreams {K F L T : Type 0} (old new : WorldView K F L T) : Type 0
   pub launcher : new.launcher ≡ old.launcher
   pub net : new.net ≡ old.net
   pub kept : new.kept ≡ old.kept
+  pub port : new.port ≡ old.port
   pub disk : new.disk ≡ old.disk
 
 -- ---- a world of which some parts are those of another: what a command leaves that is lent just these
@@ -65,7 +69,7 @@ module _ {K F L T : Type 0} where
 
   -- these and the net
   abbrev pub with_net : WorldView K F L T → WorldView K F L T → WorldView K F L T
-  with_net other world = record (with_sinks other world) { net = other.net; kept = other.kept }
+  with_net other world = record (with_sinks other world) { net = other.net; kept = other.kept; port = other.port }
 
   -- these and the clock
   abbrev pub with_cat : WorldView K F L T → WorldView K F L T → WorldView K F L T
@@ -97,6 +101,7 @@ module _ {K F L T : Type 0} where
     log = other.log;
     net = other.net;
     kept = other.kept;
+    port = other.port;
     clock = other.clock;
     store = other.store;
     launcher = other.launcher;

@@ -29,8 +29,8 @@ pub(crate) fn feed_chain<
         (station_tells N.StationDoor.tells N.StationDial.tells N.StationLog.tells N.StationClock.tells
         N.StationGate.tells) in
         Done tells (form.Chain (chain_view words.entry)) result
-        (world_view S.tells E.tells C.tells N.tells N.kept D.tells world.old)
-        (world_view S.tells E.tells C.tells N.tells N.kept D.tells world.new) }
+        (world_view S.tells E.tells C.tells N.tells N.kept N.port_asked D.tells world.old)
+        (world_view S.tells E.tells C.tells N.tells N.kept N.port_asked D.tells world.new) }
 {
     let setup = ChainSetup {
         conf: words.conf,

@@ -34,8 +34,8 @@ where
         (station_tells N.StationDoor.tells N.StationDial.tells N.StationLog.tells N.StationClock.tells
         N.StationGate.tells) in
         Done tells (form.Node (node_view words.now)) result
-        (world_view S.tells E.tells C.tells N.tells N.kept D.tells world.old)
-        (world_view S.tells E.tells C.tells N.tells N.kept D.tells world.new) }
+        (world_view S.tells E.tells C.tells N.tells N.kept N.port_asked D.tells world.old)
+        (world_view S.tells E.tells C.tells N.tells N.kept N.port_asked D.tells world.new) }
 {
     let setup = NodeSetup {
         arena: words.arena,

@@ -55,25 +55,25 @@ where
         (station_tells N.StationDoor.tells N.StationDial.tells N.StationLog.tells N.StationClock.tells
         N.StationGate.tells) in
         RunEnds tells (command_of (map string_bytes words.now)) (take_memory (map string_bytes words.now)) result
-        (world_view S.tells E.tells C.tells N.tells N.kept D.tells world.old)
-        (world_view S.tells E.tells C.tells N.tells N.kept D.tells world.new) }
+        (world_view S.tells E.tells C.tells N.tells N.kept N.port_asked D.tells world.old)
+        (world_view S.tells E.tells C.tells N.tells N.kept N.port_asked D.tells world.new) }
     ensures law { let tells = tells_of K.tells F.tells L.tells
         (station_tells N.StationDoor.tells N.StationDial.tells N.StationLog.tells N.StationClock.tells
         N.StationGate.tells) in
         RunObeysLaw tells (command_of (map string_bytes words.now)) (take_memory (map string_bytes words.now)) result
-        (world_view S.tells E.tells C.tells N.tells N.kept D.tells world.old)
-        (world_view S.tells E.tells C.tells N.tells N.kept D.tells world.new) }
+        (world_view S.tells E.tells C.tells N.tells N.kept N.port_asked D.tells world.old)
+        (world_view S.tells E.tells C.tells N.tells N.kept N.port_asked D.tells world.new) }
     ensures completes { let tells = tells_of K.tells F.tells L.tells
         (station_tells N.StationDoor.tells N.StationDial.tells N.StationLog.tells N.StationClock.tells
         N.StationGate.tells) in
         RunCompletes tells (command_of (map string_bytes words.now)) result
-        (world_view S.tells E.tells C.tells N.tells N.kept D.tells world.old)
-        (world_view S.tells E.tells C.tells N.tells N.kept D.tells world.new) }
+        (world_view S.tells E.tells C.tells N.tells N.kept N.port_asked D.tells world.old)
+        (world_view S.tells E.tells C.tells N.tells N.kept N.port_asked D.tells world.new) }
     ensures faults_kept { let tells = tells_of K.tells F.tells L.tells
         (station_tells N.StationDoor.tells N.StationDial.tells N.StationLog.tells N.StationClock.tells
         N.StationGate.tells) in
-        KeepsAllFaults tells (world_view S.tells E.tells C.tells N.tells N.kept D.tells world.old)
-        (world_view S.tells E.tells C.tells N.tells N.kept D.tells world.new) }
+        KeepsAllFaults tells (world_view S.tells E.tells C.tells N.tells N.kept N.port_asked D.tells world.old)
+        (world_view S.tells E.tells C.tells N.tells N.kept N.port_asked D.tells world.new) }
 {
     match read_command(alloc, words) {
         Ok(command) => run(rt, alloc, command, world),
@@ -102,8 +102,9 @@ where
     ensures { let tells = tells_of K.tells F.tells L.tells
         (station_tells N.StationDoor.tells N.StationDial.tells N.StationLog.tells N.StationClock.tells
         N.StationGate.tells) in
-        Done tells (form_of command.entry) result (world_view S.tells E.tells C.tells N.tells N.kept D.tells world.old)
-        (world_view S.tells E.tells C.tells N.tells N.kept D.tells world.new) }
+        Done tells (form_of command.entry) result
+        (world_view S.tells E.tells C.tells N.tells N.kept N.port_asked D.tells world.old)
+        (world_view S.tells E.tells C.tells N.tells N.kept N.port_asked D.tells world.new) }
 {
     match command {
         Command::Play { arena, slots } => play(alloc, arena, slots, &mut world.streams),

@@ -27,8 +27,8 @@ pub(crate) fn save_queue<
         (station_tells N.StationDoor.tells N.StationDial.tells N.StationLog.tells N.StationClock.tells
         N.StationGate.tells) in
         Done tells (form.Save (save_view words.now)) result
-        (world_view S.tells E.tells C.tells N.tells N.kept D.tells world.old)
-        (world_view S.tells E.tells C.tells N.tells N.kept D.tells world.new) }
+        (world_view S.tells E.tells C.tells N.tells N.kept N.port_asked D.tells world.old)
+        (world_view S.tells E.tells C.tells N.tells N.kept N.port_asked D.tells world.new) }
 {
     save(
         alloc,
@@ -55,8 +55,8 @@ pub(crate) fn resume_queue<
         (station_tells N.StationDoor.tells N.StationDial.tells N.StationLog.tells N.StationClock.tells
         N.StationGate.tells) in
         Done tells (form.Resume path.now) result
-        (world_view S.tells E.tells C.tells N.tells N.kept D.tells world.old)
-        (world_view S.tells E.tells C.tells N.tells N.kept D.tells world.new) }
+        (world_view S.tells E.tells C.tells N.tells N.kept N.port_asked D.tells world.old)
+        (world_view S.tells E.tells C.tells N.tells N.kept N.port_asked D.tells world.new) }
 {
     resume(alloc, path, &mut world.streams, &mut world.disk)
 }
@@ -76,8 +76,8 @@ pub(crate) fn check_queue<
         (station_tells N.StationDoor.tells N.StationDial.tells N.StationLog.tells N.StationClock.tells
         N.StationGate.tells) in
         Done tells (form.Pqcheck path.now) result
-        (world_view S.tells E.tells C.tells N.tells N.kept D.tells world.old)
-        (world_view S.tells E.tells C.tells N.tells N.kept D.tells world.new) }
+        (world_view S.tells E.tells C.tells N.tells N.kept N.port_asked D.tells world.old)
+        (world_view S.tells E.tells C.tells N.tells N.kept N.port_asked D.tells world.new) }
 {
     pqcheck(
         alloc,

@@ -38,8 +38,8 @@ pub(crate) fn tell_figures<
         (station_tells N.StationDoor.tells N.StationDial.tells N.StationLog.tells N.StationClock.tells
         N.StationGate.tells) in
         Done tells (form.Pqmon (address_view peer.now)) result
-        (world_view S.tells E.tells C.tells N.tells N.kept D.tells world.old)
-        (world_view S.tells E.tells C.tells N.tells N.kept D.tells world.new) }
+        (world_view S.tells E.tells C.tells N.tells N.kept N.port_asked D.tells world.old)
+        (world_view S.tells E.tells C.tells N.tells N.kept N.port_asked D.tells world.new) }
 {
     pqmon(
         alloc,
@@ -68,8 +68,8 @@ pub(crate) fn act_on_products<
         (station_tells N.StationDoor.tells N.StationDial.tells N.StationLog.tells N.StationClock.tells
         N.StationGate.tells) in
         Done tells (form.Pqact (act_view words.now)) result
-        (world_view S.tells E.tells C.tells N.tells N.kept D.tells world.old)
-        (world_view S.tells E.tells C.tells N.tells N.kept D.tells world.new) }
+        (world_view S.tells E.tells C.tells N.tells N.kept N.port_asked D.tells world.old)
+        (world_view S.tells E.tells C.tells N.tells N.kept N.port_asked D.tells world.new) }
 {
     pqact(
         rt,
@@ -104,8 +104,8 @@ pub(crate) fn write_bodies<
         (station_tells N.StationDoor.tells N.StationDial.tells N.StationLog.tells N.StationClock.tells
         N.StationGate.tells) in
         Done tells (form.Pqcat (receiving_view words.now)) result
-        (world_view S.tells E.tells C.tells N.tells N.kept D.tells world.old)
-        (world_view S.tells E.tells C.tells N.tells N.kept D.tells world.new) }
+        (world_view S.tells E.tells C.tells N.tells N.kept N.port_asked D.tells world.old)
+        (world_view S.tells E.tells C.tells N.tells N.kept N.port_asked D.tells world.new) }
 {
     pqcat(
         rt,
@@ -137,8 +137,8 @@ pub(crate) fn tell_products<
         (station_tells N.StationDoor.tells N.StationDial.tells N.StationLog.tells N.StationClock.tells
         N.StationGate.tells) in
         Done tells (form.Notifyme (receiving_view words.now)) result
-        (world_view S.tells E.tells C.tells N.tells N.kept D.tells world.old)
-        (world_view S.tells E.tells C.tells N.tells N.kept D.tells world.new) }
+        (world_view S.tells E.tells C.tells N.tells N.kept N.port_asked D.tells world.old)
+        (world_view S.tells E.tells C.tells N.tells N.kept N.port_asked D.tells world.new) }
 {
     notifyme(
         alloc,
@@ -168,8 +168,8 @@ pub(crate) fn put_files<
         (station_tells N.StationDoor.tells N.StationDial.tells N.StationLog.tells N.StationClock.tells
         N.StationGate.tells) in
         Done tells (form.Pqinsert (insert_view words.now)) result
-        (world_view S.tells E.tells C.tells N.tells N.kept D.tells world.old)
-        (world_view S.tells E.tells C.tells N.tells N.kept D.tells world.new) }
+        (world_view S.tells E.tells C.tells N.tells N.kept N.port_asked D.tells world.old)
+        (world_view S.tells E.tells C.tells N.tells N.kept N.port_asked D.tells world.new) }
 {
     let insertion = Insertion {
         host: words.peer.host.as_slice(),
@@ -207,8 +207,8 @@ pub(crate) fn put_bulletins<
         (station_tells N.StationDoor.tells N.StationDial.tells N.StationLog.tells N.StationClock.tells
         N.StationGate.tells) in
         Done tells (form.Wmo (wmo_view words.now)) result
-        (world_view S.tells E.tells C.tells N.tells N.kept D.tells world.old)
-        (world_view S.tells E.tells C.tells N.tells N.kept D.tells world.new) }
+        (world_view S.tells E.tells C.tells N.tells N.kept N.port_asked D.tells world.old)
+        (world_view S.tells E.tells C.tells N.tells N.kept N.port_asked D.tells world.new) }
 {
     let ingestion = Ingestion {
         host: words.peer.host.as_slice(),
@@ -244,8 +244,8 @@ pub(crate) fn count_products<
         (station_tells N.StationDoor.tells N.StationDial.tells N.StationLog.tells N.StationClock.tells
         N.StationGate.tells) in
         Done tells (form.Pqstats (stats_view words.now)) result
-        (world_view S.tells E.tells C.tells N.tells N.kept D.tells world.old)
-        (world_view S.tells E.tells C.tells N.tells N.kept D.tells world.new) }
+        (world_view S.tells E.tells C.tells N.tells N.kept N.port_asked D.tells world.old)
+        (world_view S.tells E.tells C.tells N.tells N.kept N.port_asked D.tells world.new) }
 {
     let asked = StatsAsked {
         host: words.peer.host.as_slice(),

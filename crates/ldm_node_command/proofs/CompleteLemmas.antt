@@ -75,11 +75,11 @@ module _ {S : Type 0} (tells : S → StationRecord) (setup : Setup) (old new : O
   idle_for : (why : NodeFault) → StaysIdle tells why setup old new → status_of_fault why ≡ status.NoMemory
   idle_for (NotTaken why) (none, leaves, same) = ap status_of_conf (takes_none why setup.path old.store new.store none free.files free.conf free.told free.reads free.store_works)
   idle_for (NotMade fault) (conf, taken, bad, leaves, same) = made_for fault conf taken bad
-  idle_for (NotListening listen.Failed) (conf, taken, good, fails, kept, same) = absurd (free.net_works fails.0)
-  idle_for (NotListening listen.OutOfMemory) (conf, taken, good, fails, kept, same) = refl
-  idle_for (NotStarted start.Failed) (conf, taken, good, listens, stops) =
+  idle_for (NotListening listen.Failed) (conf, taken, good, fails, port, kept, same) = absurd (free.net_works fails.0)
+  idle_for (NotListening listen.OutOfMemory) (conf, taken, good, fails, port, kept, same) = refl
+  idle_for (NotStarted start.Failed) (conf, taken, good, listens, port, stops) =
       absurd (free.launcher_works (subst (λ (n : ℕ). Rose n new.launcher.faults) (faults-with_commands stops.started old.launcher) stops.fails.0))
-  idle_for (NotStarted start.OutOfMemory) (conf, taken, good, listens, stops) = refl
+  idle_for (NotStarted start.OutOfMemory) (conf, taken, good, listens, port, stops) = refl
 
   ran_well : (ran : Ran) (conf : ConfView) → RunsNode tells ran setup conf old new → EndsWell (status_of_node (Ok ran))
   ran_well ran conf runs =

@@ -4,5 +4,6 @@ pub mod ConfLemmas
 pub mod SharedConf
 pub mod RunLemmas
 pub mod LawLemmas
+pub mod HistoryLemmas
 pub mod CompleteLemmas
 pub mod ToldLemmas

@@ -77,14 +77,14 @@ module _ {S : Type 0} (tells : S → StationRecord) (setup : Setup) (code : ℕ)
   pub idle_of : (why : NodeFault) → StaysIdle tells why setup old new → new.sink ≡ old.sink → IsIdle tells setup.idles old new
   idle_of (NotTaken why) (none, leaves, same) nothing = record { sink = nothing; unused = inl leaves.kept }
   idle_of (NotMade fault) (conf, taken, bad, leaves, same) nothing = record { sink = nothing; unused = inl leaves.kept }
-  idle_of (NotListening why) (conf, taken, good, fails, kept, same) nothing = record { sink = nothing; unused = inl kept }
-  idle_of (NotStarted why) (conf, taken, good, listens, stops) nothing = record { sink = nothing; unused = inr listens.are_new }
+  idle_of (NotListening why) (conf, taken, good, fails, port, kept, same) nothing = record { sink = nothing; unused = inl kept }
+  idle_of (NotStarted why) (conf, taken, good, listens, port, stops) nothing = record { sink = nothing; unused = inr listens.are_new }
 
   pub idle_told : (why : NodeFault) → StaysIdle tells why setup old new → IsIdle tells setup.idles old new → ¬ (code ≡ 0) → Told
   idle_told (NotTaken why) (none, leaves, same) idle failed = ([], no_child same, inr (record { none = refl; failed = failed }))
   idle_told (NotMade fault) (conf, taken, bad, leaves, same) idle failed = none_started conf taken same idle failed
-  idle_told (NotListening why) (conf, taken, good, fails, kept, same) idle failed = none_started conf taken same idle failed
-  idle_told (NotStarted start.Failed) (conf, taken, good, listens, stops) idle failed = (
+  idle_told (NotListening why) (conf, taken, good, fails, port, kept, same) idle failed = none_started conf taken same idle failed
+  idle_told (NotStarted start.Failed) (conf, taken, good, listens, port, stops) idle failed = (
     map child_of stops.started,
     children-fails (with_commands stops.started old.launcher) new.launcher stops.fails ∙ children-with_commands stops.started before old.launcher told,
     inl (record {
@@ -96,7 +96,7 @@ module _ {S : Type 0} (tells : S → StationRecord) (setup : Setup) (code : ℕ)
       waited = λ is. absurd (failed is);
     }),
   )
-  idle_told (NotStarted start.OutOfMemory) (conf, taken, good, listens, same) idle failed = none_started conf taken same idle failed
+  idle_told (NotStarted start.OutOfMemory) (conf, taken, good, listens, port, same) idle failed = none_started conf taken same idle failed
 
   -- all commands were started, and waited for as far as this tells
   pub attended : (waited : Result (Unit {0}) Failed) (conf : ConfView) → Takes conf setup.path old.store new.store → Attends waited conf old.launcher new.launcher

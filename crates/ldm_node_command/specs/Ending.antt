@@ -37,14 +37,16 @@ module _ {S : Type 0} (tells : S → StationRecord) where
   StaysIdle (NotMade fault) setup old new =
       (conf : ConfView) × Takes conf setup.path old.store new.store × IsFaultOf setup.arena setup.slots (passes_for setup conf) fault
       × LeavesNet old new × (new.launcher ≡ old.launcher)
-  -- the net gave no stations, and no program was started
+  -- the net, asked for the port of the setup, gave no stations, and no program was started
   StaysIdle (NotListening why) setup old new =
       (conf : ConfView) × Takes conf setup.path old.store new.store × IsGoodSize setup conf
-      × FailsToListen why old.net new.net × (new.kept ≡ old.kept) × (new.launcher ≡ old.launcher)
-  -- not all programs were started, and the net keeps the stations as it gave them
+      × FailsToListen why old.net new.net × (new.port ≡ Some setup.port)
+      × (new.kept ≡ old.kept) × (new.launcher ≡ old.launcher)
+  -- not all programs were started, and the net keeps the stations as it gave them for the port of the setup
   StaysIdle (NotStarted why) setup old new =
       (conf : ConfView) × Takes conf setup.path old.store new.store × IsGoodSize setup conf
-      × Listens tells setup conf new.kept old.net new.net × StopsStarting why conf.commands old.launcher new.launcher
+      × Listens tells setup conf new.kept old.net new.net × (new.port ≡ Some setup.port)
+      × StopsStarting why conf.commands old.launcher new.launcher
 
   abbrev pub NodeEnds : Result Ran NodeFault → Setup → Outside S → Outside S → Type 0
   -- a node was run

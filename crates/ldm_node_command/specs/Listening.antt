@@ -10,7 +10,7 @@ use Rattle.ldm_node_command.specs.declared.listening.ListenFault.TheVariants.{Fa
 use Rattle.ldm_node_command.specs.Setup.{Setup}
 
 module _ {S : Type 0} (tells : S → StationRecord) where
-  -- The net gave a new station for each worker, and did nothing else. A net does not tell the port that it was asked for.
+  -- The net gave a new station for each worker, and did nothing else.
   pub record Listens (setup : Setup) (conf : ConfView) (given : List S) (old new : DialRecord) : Type 0 where
     pub count : length given ≡ setup.workers + length conf.requests
     pub are_new : All (λ station. IsNew setup.idles (tells station)) given

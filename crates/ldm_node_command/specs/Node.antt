@@ -1,5 +1,5 @@
 -- A node that was run, between its configuration and the last line.
-use Rattle.std.specs.Prelude.{◌≡◌, ℕ, List, map, Result}
+use Rattle.std.specs.Prelude.{◌≡◌, ℕ, List, map, Some, Result}
 use Rattle.ldm_outside.specs.declared.fault.Failed.{Failed}
 use Rattle.ldm_outside.specs.Io.{WritesAll}
 use Rattle.ldm_outside.specs.Launcher.{LauncherRecord}
@@ -53,7 +53,8 @@ module _ {S : Type 0} (tells : S → StationRecord) where
   pub record RunsNode (ran : Ran) (setup : Setup) (conf : ConfView) (old new : Outside S) : Type 0 where
     -- there is a queue for it
     pub good : IsGoodSize setup conf
-    -- the net gave a station for each worker
+    -- the net was asked for the port of the setup, and gave a station for each worker
+    pub at_port : new.port ≡ Some setup.port
     pub given : List S
     pub listens : Listens tells setup conf given old.net new.net
     -- the programs were started, the workers worked until all had stopped, and the net keeps the stations as they left them

@@ -16,6 +16,8 @@ pub record Outside (S : Type 0) : Type 0 where
   pub net : DialRecord
   -- the stations that the net keeps
   pub kept : List S
+  -- the port that the net was asked for last
+  pub port : Option ℕ
 
 -- No count fell.
 pub record KeepsFaults {S : Type 0} (old new : Outside S) : Type 0 where
@@ -30,6 +32,7 @@ pub record KeepsFaults {S : Type 0} (old new : Outside S) : Type 0 where
 pub record LeavesNet {S : Type 0} (old new : Outside S) : Type 0 where
   pub net : new.net ≡ old.net
   pub kept : new.kept ≡ old.kept
+  pub port : new.port ≡ old.port
 
 -- No worker of a node worked: nothing was written to the sink, and the net keeps what it kept, or stations that are new.
 pub record IsIdle {S : Type 0} (tells : S → StationRecord) (idles : Option ℕ) (old new : Outside S) : Type 0 where

@@ -7,6 +7,7 @@
 
 mod commands;
 mod ending;
+mod laws;
 mod listening;
 mod passes;
 mod progress;
@@ -17,6 +18,7 @@ mod statuses;
 
 pub use commands::StartFault;
 pub use ending::{NodeFault, Ran};
+pub use laws::line_is_of_a_history;
 pub use listening::ListenFault;
 pub use progress::{Step, Steps};
 pub use run::{run_node, run_steps};

@@ -39,6 +39,7 @@ pub(crate) fn listen<N: Net>(
         (setup_of setup.now) (conf_view conf.now) stations.items (N.tells net.old) (N.tells net.new)) }
     ensures fails { IfErr result (λ why. FailsToListen why (N.tells net.old) (N.tells net.new)) }
     ensures kept { N.kept net.new ≡ N.kept net.old }
+    ensures asked { N.port_asked net.new ≡ Some setup.now.options.port }
     ensures noted { OnOk result (steps.new ≡ Some step.Listening) }
     ensures faults_kept { (N.tells net.old).faults ≤ (N.tells net.new).faults }
 {

@@ -71,6 +71,7 @@ where
               launcher.old;
           net = N.tells net.old;
           kept = N.kept net.old;
+          port = N.port_asked net.old;
         })
         (record {
           sink = K.tells sink.new;
@@ -80,6 +81,7 @@ where
               launcher.new;
           net = N.tells net.new;
           kept = N.kept net.new;
+          port = N.port_asked net.new;
         }) }
     ensures law { ObeysNodeLaw
         (station_tells N.StationDoor.tells N.StationDial.tells N.StationLog.tells N.StationClock.tells
@@ -93,6 +95,7 @@ where
               launcher.old;
           net = N.tells net.old;
           kept = N.kept net.old;
+          port = N.port_asked net.old;
         })
         (record {
           sink = K.tells sink.new;
@@ -102,6 +105,7 @@ where
               launcher.new;
           net = N.tells net.new;
           kept = N.kept net.new;
+          port = N.port_asked net.new;
         }) }
     ensures completes { NodeCompletes
         (station_tells N.StationDoor.tells N.StationDial.tells N.StationLog.tells N.StationClock.tells
@@ -115,6 +119,7 @@ where
               launcher.old;
           net = N.tells net.old;
           kept = N.kept net.old;
+          port = N.port_asked net.old;
         })
         (record {
           sink = K.tells sink.new;
@@ -124,6 +129,7 @@ where
               launcher.new;
           net = N.tells net.new;
           kept = N.kept net.new;
+          port = N.port_asked net.new;
         }) }
     ensures commands { TellsCommands
         (station_tells N.StationDoor.tells N.StationDial.tells N.StationLog.tells N.StationClock.tells
@@ -137,6 +143,7 @@ where
               launcher.old;
           net = N.tells net.old;
           kept = N.kept net.old;
+          port = N.port_asked net.old;
         })
         (record {
           sink = K.tells sink.new;
@@ -146,6 +153,7 @@ where
               launcher.new;
           net = N.tells net.new;
           kept = N.kept net.new;
+          port = N.port_asked net.new;
         }) }
     ensures faults_kept { KeepsFaults
         (record {
@@ -156,6 +164,7 @@ where
               launcher.old;
           net = N.tells net.old;
           kept = N.kept net.old;
+          port = N.port_asked net.old;
         })
         (record {
           sink = K.tells sink.new;
@@ -165,6 +174,7 @@ where
               launcher.new;
           net = N.tells net.new;
           kept = N.kept net.new;
+          port = N.port_asked net.new;
         }) }
 {
     let mut steps = Steps::new();
@@ -199,6 +209,7 @@ where
           launcher = L.tells launcher.old;
           net = N.tells net.old;
           kept = N.kept net.old;
+          port = N.port_asked net.old;
         })
         (record {
           sink = K.tells sink.new;
@@ -207,6 +218,7 @@ where
           launcher = L.tells launcher.new;
           net = N.tells net.new;
           kept = N.kept net.new;
+          port = N.port_asked net.new;
         }) }
     ensures order { OnOk result (steps.new ≡ Some step.Line) }
     ensures sink_kept { (K.tells sink.old).faults ≤ (K.tells sink.new).faults }
@@ -311,6 +323,7 @@ fn keep_stations<N: Net>(
     requires before { steps.old ≡ Some step.Workers }
     ensures kept { N.kept net.new ≡ stations.items }
     ensures same { N.tells net.new ≡ N.tells net.old }
+    ensures asked { N.port_asked net.new ≡ N.port_asked net.old }
     ensures noted { steps.new ≡ Some step.Keeping }
 {
     steps.make(Step::Keeping);

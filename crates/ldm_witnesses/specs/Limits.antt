@@ -17,6 +17,7 @@ use Rattle.ldm_exercise.specs.declared.order.TheConstants as drawn
 use Rattle.ldm_rpc.specs.declared.stage.TheConstants as fragments
 use Rattle.ldm_rpc.specs.declared.records.TheConstants as records
 use Rattle.ldm_relay.specs.declared.message.TheConstants as messages
+use Rattle.ldm_relay.specs.declared.front.TheConstants as fronts
 use Rattle.ldm_relay.specs.declared.procedure.TheConstants as procedures
 use Rattle.ldm_session.specs.declared.limits.TheConstants as streams
 use Rattle.ldm_session.specs.declared.gathering.TheConstants as gathering
@@ -83,6 +84,7 @@ pub record MessageLimits : Type 0 where
   pub largest_content : messages.LARGEST_CONTENT ≡ 1073742848
   pub largest_record : messages.LARGEST_RECORD ≡ 1073742848
   pub largest_reply : messages.LARGEST_REPLY ≡ 1024
+  pub longest_call : fronts.LONGEST_CALL ≡ 10240
   pub program : procedures.PROGRAM ≡ 300029
   pub version : procedures.VERSION ≡ 6
 

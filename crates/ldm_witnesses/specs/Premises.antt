@@ -58,6 +58,7 @@ store = record {
   paths = [];
   opened = Some [];
   files = Some (record { path = codes "ldmd.conf"; bytes = line (codes "# all") } ∷ []);
+  flushed = Some [];
 }
 
 -- the class of all products whose feedtypes have the second bit
@@ -111,10 +112,11 @@ node_before = record {
   launcher = launcher;
   net = dial;
   kept = [];
+  port = None;
 }
 
 abbrev pub node_after : Outside StationRecord
-node_after = record node_before { kept = station ∷ [] }
+node_after = record node_before { kept = station ∷ []; port = Some setup.port }
 
 abbrev pub NodeIsUnhindered : Type 0
 NodeIsUnhindered = NodeUnhindered (λ (it : StationRecord). it) setup node_before node_after

@@ -12,8 +12,8 @@ returns-in-Exercise g c =
     let source = g.S.Source.tells in
     let tells = tells_of g.K.Sink.tells g.F.Store.tells g.L.Launcher.tells
     (station_tells g.N.StationDoor.Door.tells g.N.StationDial.Dial.tells g.N.StationLog.Sink.tells g.N.StationClock.Clock.tells g.N.StationGate.Gate.tells) in
-    let old = world_view source g.E.Sink.tells g.C.Clock.tells g.N.Dial.tells g.N.Net.kept g.D.Disk.tells c.args.world.now in
-    let new = world_view source g.E.Sink.tells g.C.Clock.tells g.N.Dial.tells g.N.Net.kept g.D.Disk.tells (record c.args.world.now { streams = c.exercise.new.streams }) in
+    let old = world_view source g.E.Sink.tells g.C.Clock.tells g.N.Dial.tells g.N.Net.kept g.N.Net.port_asked g.D.Disk.tells c.args.world.now in
+    let new = world_view source g.E.Sink.tells g.C.Clock.tells g.N.Dial.tells g.N.Net.kept g.N.Net.port_asked g.D.Disk.tells (record c.args.world.now { streams = c.exercise.new.streams }) in
     subst (λ (command : Command). Done tells (form_of command) c.exercise.result old new) (sym c.in-Exercise.is) (record {
       does = (c.exercise.ensures.ends source, search rules);
       law = c.exercise.ensures.law source;

@@ -21,6 +21,7 @@ returns-clause-law g c =
       launcher = g.L.Launcher.tells at.launcher.now;
       net = g.N.Dial.tells at.net.now;
       kept = g.N.Net.kept at.net.now;
+      port = g.N.Net.port_asked at.net.now;
     } in
     let new : Outside S = record {
       sink = g.K.Sink.tells left.sink;
@@ -29,6 +30,7 @@ returns-clause-law g c =
       launcher = g.L.Launcher.tells left.launcher;
       net = g.N.Dial.tells left.net;
       kept = g.N.Net.kept left.net;
+      port = g.N.Net.port_asked left.net;
     } in
     node_obeys tells (setup_of at.setup.now) c.report.result old new c.run_steps-ending.result (c.run_steps-ending.ensures.ends old.log new.log) c.report.ensures.tells
 
@@ -46,6 +48,7 @@ returns-clause-completes g c = λ free.
       launcher = g.L.Launcher.tells at.launcher.now;
       net = g.N.Dial.tells at.net.now;
       kept = g.N.Net.kept at.net.now;
+      port = g.N.Net.port_asked at.net.now;
     } in
     let new : Outside S = record {
       sink = g.K.Sink.tells left.sink;
@@ -54,6 +57,7 @@ returns-clause-completes g c = λ free.
       launcher = g.L.Launcher.tells left.launcher;
       net = g.N.Dial.tells left.net;
       kept = g.N.Net.kept left.net;
+      port = g.N.Net.port_asked left.net;
     } in
     node_completes tells (setup_of at.setup.now) old new free c.run_steps-ending.result c.report.result (c.run_steps-ending.ensures.ends old.log new.log) c.report.ensures.tells
 
@@ -71,6 +75,7 @@ returns-clause-commands g c =
       launcher = g.L.Launcher.tells at.launcher.now;
       net = g.N.Dial.tells at.net.now;
       kept = g.N.Net.kept at.net.now;
+      port = g.N.Net.port_asked at.net.now;
     } in
     let new : Outside S = record {
       sink = g.K.Sink.tells left.sink;
@@ -79,5 +84,6 @@ returns-clause-commands g c =
       launcher = g.L.Launcher.tells left.launcher;
       net = g.N.Dial.tells left.net;
       kept = g.N.Net.kept left.net;
+      port = g.N.Net.port_asked left.net;
     } in
     tells_commands tells (setup_of at.setup.now) c.report.result old new c.run_steps-ending.result (c.run_steps-ending.ensures.ends old.log new.log) c.report.ensures.tells

@@ -15,7 +15,7 @@ returns-in_err-shared-clause-ends g c = λ log_before log_after.
     let p = err_from_is_err_and c.from_residual-in_err-shared.result c.from_residual-in_err-shared.ensures.1 in
     let taken = takes c.in_ok-conf.conf c.args.setup.now.conf.now (g.F.Store.tells c.args.store.now) (g.F.Store.tells c.take_conf.new.store) c.in_ok-conf.ensures.takes
     c.in_ok-conf.ensures.completes in
-    rw (p.1, p.2) ((conf_view c.in_ok-conf.conf, taken, c.in_err-shared.ensures.fault, record { net = refl; kept = refl }, refl), refl)
+    rw (p.1, p.2) ((conf_view c.in_ok-conf.conf, taken, c.in_err-shared.ensures.fault, record { net = refl; kept = refl; port = refl }, refl), refl)
 
 pub returns-in_err-stations-clause-ends : goal.returns-in_err-stations-clause-ends
 returns-in_err-stations-clause-ends g c = λ log_before log_after.
@@ -23,7 +23,7 @@ returns-in_err-stations-clause-ends g c = λ log_before log_after.
     let taken = takes c.in_ok-conf.conf c.args.setup.now.conf.now (g.F.Store.tells c.args.store.now) (g.F.Store.tells c.take_conf.new.store) c.in_ok-conf.ensures.takes
     c.in_ok-conf.ensures.completes in
     rw (p.1, p.2)
-    ((conf_view c.in_ok-conf.conf, taken, c.in_ok-shared.ensures.good, c.in_err-stations.ensures.fails, c.listen.ensures.kept, refl), refl)
+    ((conf_view c.in_ok-conf.conf, taken, c.in_ok-shared.ensures.good, c.in_err-stations.ensures.fails, c.listen.ensures.asked, c.listen.ensures.kept, refl), refl)
 
 pub returns-in-Err-clause-ends : goal.returns-in-Err-clause-ends
 returns-in-Err-clause-ends g c = λ log_before log_after.
@@ -41,7 +41,7 @@ returns-in-Err-clause-ends g c = λ log_before log_after.
     let listens =
     listened tells (setup_of c.args.setup.now) conf c.in_ok-stations.stations.items (g.N.Net.kept c.keep.new.self) before behind (g.N.Dial.tells c.keep.new.self)
     c.keep.ensures.kept c.keep.ensures.same c.in_ok-stations.ensures.listens in
-    ((conf, taken, c.in_ok-shared.ensures.good, listens, stopped), refl)
+    ((conf, taken, c.in_ok-shared.ensures.good, listens, c.keep.ensures.asked ∙ c.listen.ensures.asked, stopped), refl)
 
 pub returns-clause-ends : goal.returns-clause-ends
 returns-clause-ends g c = λ log_before log_after.
@@ -67,6 +67,7 @@ returns-clause-ends g c = λ log_before log_after.
       taken,
       record {
         good = c.in_ok-shared.ensures.good;
+        at_port = c.keep_stations.ensures.asked ∙ c.listen.ensures.asked;
         given = given;
         listens = listened tells setup conf given given before behind (g.N.Dial.tells c.keep_stations.new.net) refl c.keep_stations.ensures.same c.in_ok-stations.ensures.listens;
         last = left.pass;

@@ -41,6 +41,7 @@ returns-clause-messages c = record {
   largest_content = refl;
   largest_record = refl;
   largest_reply = refl;
+  longest_call = refl;
   program = refl;
   version = refl;
 }
