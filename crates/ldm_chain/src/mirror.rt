@@ -11,7 +11,7 @@ ghost use Rattle.ldm_chain.specs.Ending.{end_pushed};
 use crate::told::{Passing, Told};
 use ldm_downstream::{Pushed, Receiver};
 use ldm_intake::RecvEnd;
-use ldm_outside::{Got, Link, Put};
+use ldm_outside::{Awaited, Got, Link, LinkFailed, Put};
 use ldm_session::LONGEST_STREAM;
 use ldm_shared::{Pass, Shared};
 use ldm_types::Micros;
@@ -178,12 +178,12 @@ impl<'a, 'p, H, B: Begun> Mirror<'a, 'p, H, B> {
 
 impl<'a, 'p, H: Wait, B: Begun> Link for Mirror<'a, 'p, H, B> {
     ghost use Rattle.std.specs.Prelude.{drop, true};
-    ghost use Rattle.ldm_outside.specs.Link.{IsNotClosed, RecvGives, SendGives};
+    ghost use Rattle.ldm_outside.specs.Link.{ChecksPeer, IsNotClosed, RecvGives, SendGives};
     ghost use Rattle.ldm_chain.specs.MirrorView.{RecvsFrom, SendsTo, told_by_mirror};
 
     ghost tells = { told_by_mirror };
 
-    fn recv(&mut self, into: &mut [u8]) -> Got
+    fn recv(&mut self, into: &mut [u8], _awaited: Awaited) -> Got
         requires room { 0 < length into.old }
         requires not_closed { IsNotClosed (told_by_mirror self.old) }
         ensures given { RecvGives result into.new (told_by_mirror self.old) (told_by_mirror self.new) }
@@ -236,6 +236,16 @@ impl<'a, 'p, H: Wait, B: Begun> Link for Mirror<'a, 'p, H, B> {
         self.told = self.told.then(&Passing::Sent(piece));
         self.sent += piece.len() as u64;
         Put::Took(piece.len())
+    }
+
+    fn check_peer(&mut self) -> Result<(), LinkFailed>
+        requires not_closed { IsNotClosed (told_by_mirror self.old) }
+        ensures checked { ChecksPeer result (told_by_mirror self.old) (told_by_mirror self.new) }
+        ensures faults_kept { self.old.faults ≤ self.new.faults }
+        ensures still_open { IsNotClosed (told_by_mirror self.new) }
+        ensures same { self.new ≡ self.old }
+    {
+        Ok(())
     }
 
     fn close(&mut self)

@@ -1,9 +1,12 @@
 -- The numbers of a chain that has not fed each node: for `queues_are_of_histories`.
-use Rattle.std.proofs.Common.{◌≡◌, ◌∙◌, ◌⊎◌, ℕ, List, Bool, true, false, inl, inr, refl, sym, ap}
+use Rattle.std.proofs.Common.{◌≡◌, ◌∙◌, ◌⊎◌, ℕ, List, [], ◌∷◌, Bool, true, false, inl, inr, refl, sym, ap}
 use Rattle.std.specs.Prelude.{◌==◌, if◌then◌else◌}
 use Rattle.std.specs.List.{AllByRecursion}
 use Rattle.ldm_outside.specs.Io.{WritesFront}
+use Rattle.ldm_model.specs.declared.event.Entry.{Entry}
 use Rattle.ldm_model.specs.State.{State}
+use Rattle.ldm_model.specs.History.{after}
+use Rattle.ldm_calls.specs.Lawful.{IsLawful}
 use Rattle.ldm_status.specs.declared.status.Status.{Status}
 use Rattle.ldm_status.specs.Status.{code_of}
 use Rattle.ldm_command_files.specs.declared.conf_file.ConfNotTaken.TheVariants as untaken_conf
@@ -18,6 +21,7 @@ use Rattle.ldm_chain.specs.declared.node.ChainEnd.TheVariants as chain_end
 use Rattle.ldm_chain_command.specs.declared.fault.ChainFault.{ChainFault}
 use Rattle.ldm_chain_command.specs.declared.fault.ChainFault.TheVariants as stop
 use Rattle.ldm_chain_command.specs.Work.{ChainOutside, ChainWork}
+use Rattle.ldm_chain_command.specs.Script.{script_played}
 use Rattle.ldm_chain_command.specs.Queues.{nodes_text}
 use Rattle.ldm_chain_command.specs.Ending.{Chains}
 use Rattle.ldm_chain_command.specs.Law.{ChainWritesNothing, IsLawfulQueue, IsUnchained, ObeysChainLaw}
@@ -67,6 +71,14 @@ unfed-other (chain_end.Feed end) rules work cause = fed-other end
 unfed-other (chain_end.Receive end) rules work cause = received-other end
 unfed-other chain_end.OutOfMemory rules work cause = refl
 
+-- the calls of a queue are a history that obeys the law, and it stands so after them: as the law says it
+abbrev IsOfHistory : ChainWork → State → Type 0
+IsOfHistory work queue = (history : List Entry) × IsLawful work.arena work.slots history × (queue ≡ after work.arena work.slots history)
+
+of-histories : (work : ChainWork) (queues : List State) → AllByRecursion (IsLawfulQueue work) queues → AllByRecursion (IsOfHistory work) queues
+of-histories work [] lawful = tt
+of-histories work (queue ∷ queues) lawful = ((lawful.0.history, lawful.0.lawful, lawful.0.state), of-histories work queues lawful.1)
+
 module _ (work : ChainWork) (old new : ChainOutside) where
   stop-other : (why : ChainFault) → IsUnchained why work old new → IsOther (status_of_stop why)
   unfolding is_other
@@ -102,6 +114,11 @@ module _ (work : ChainWork) (old new : ChainOutside) where
   ]
 
   pub chained : (code : ℕ) → HasText code → ObeysChainLaw work code old new
-      → (queues : List State) × (Chains work queues old new × AllByRecursion (IsLawfulQueue work) queues × WritesFront old.streams.sink (nodes_text 1 queues) new.streams.sink)
+      → (queues : List State)
+      × ((chains : Chains work queues old new)
+      × IsLawful work.arena work.slots (script_played work.arena work.slots chains.script).playing.history
+      × AllByRecursion (IsOfHistory work) queues
+      × WritesFront old.streams.sink (nodes_text 1 queues) new.streams.sink)
   chained code has (inl nothing) = absurd (no-text code has nothing)
-  chained code has (inr lawful) = (lawful.queues, (lawful.chains, lawful.queues_lawful, lawful.front))
+  chained code has (inr lawful) =
+      (lawful.queues, (lawful.chains, lawful.script_lawful, of-histories work lawful.queues lawful.queues_lawful, lawful.front))
