@@ -34,16 +34,15 @@ unfolding begun
 same_command words others options world same = again_by words others (runs_under (command_of words) world) world same
 
 -- an entry that is found is one less where it is removed
-pub one_less : (test : List ℕ → Bool) (entries : List (List ℕ × ℕ)) (child : ℕ) → lookup test entries ≡ Some child →
-    length (remove_entry test entries) + 1 ≡ length entries
-one_less test [] child found = absurd cc
-one_less test (entry ∷ entries) child found = by_test (test entry.0) refl (one_less test entries child) found
-  where
-    by_test : (b : Bool) → b ≡ test entry.0 → (lookup test entries ≡ Some child → length (remove_entry test entries) + 1 ≡ length entries) →
-        cond b (Some entry.1) (lookup test entries) ≡ Some child →
-        length (cond b entries (entry ∷ remove_entry test entries)) + 1 ≡ length (entry ∷ entries)
-    by_test true is later found = omega arith
-    by_test false is later found = let less = later found in omega (arith, less)
+module _ {K A : Type 0} (test : K → Bool) where
+  pub one_less : (entries : List (K × A)) (found : A) → lookup test entries ≡ Some found → length (remove_entry test entries) + 1 ≡ length entries
+  one_less [] found is = absurd cc
+  one_less (entry ∷ entries) found is = by_test (test entry.0) (one_less entries found) is
+    where
+      by_test : (b : Bool) → (lookup test entries ≡ Some found → length (remove_entry test entries) + 1 ≡ length entries) →
+          cond b (Some entry.1) (lookup test entries) ≡ Some found → length (cond b entries (entry ∷ remove_entry test entries)) + 1 ≡ length (entry ∷ entries)
+      by_test true later is = omega arith
+      by_test false later is = let less = later is in omega (arith, less)
 
 pub few_with_room : (world : World) → length world.piped ≤ MOST_PIPED → length (with_room world).piped < MOST_PIPED
 unfolding with_room

@@ -173,3 +173,11 @@ last_is kept it =
     at_end : (others : List Entry) → slice_get (others ++ it ∷ []) (length others) ≡ Some it
     at_end [] = refl
     at_end (other ∷ others) = at_end others
+
+-- entries that are some have a last one
+pub last_part : (kept : List Entry) → 0 < length kept → (front : List Entry) × (it : Entry) × (kept ≡ front ++ it ∷ [])
+last_part [] some = absurd (omega (arith, some))
+last_part (it ∷ []) some = ([], it, refl)
+last_part (it ∷ other ∷ others) some =
+    let rest = last_part (other ∷ others) (omega arith) in
+    (it ∷ rest.0, rest.1, ap (λ (all : List Entry). it ∷ all) rest.2)

@@ -8,3 +8,4 @@ pub mod JoinLemmas
 pub mod ProgramSteps
 pub mod StepLemmas
 pub mod OutputsLemmas
+pub mod FewOpen

@@ -53,7 +53,7 @@ begun_is_seen : (action : Given) (old new : Kept) → BeginsKept answer.Ready (a
 begun_is_seen (given.ToFile path options) old new becomes =
     let text = string_bytes path in
     let first = used_first text old.store.next (number_under text old.files) old.files in
-    ap (λ (p : List ℕ). record { target = FileTarget p; strip = options.strip; close = options.close })
+    ap (λ (p : List ℕ). record { target = FileTarget p; strip = options.strip; close = options.close; flush = options.flush })
     (ap newest_path (becomes.0.files_now ∙ first.2))
 begun_is_seen (given.ToProgram program options) old new becomes = refl
 begun_is_seen (given.Start program wait) old new becomes = refl

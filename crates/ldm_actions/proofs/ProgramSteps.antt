@@ -10,13 +10,13 @@ use Rattle.ldm_outside.specs.Launcher.{IsTaking, LauncherFails, LauncherRecord, 
 use Rattle.ldm_outside.specs.Store.{File}
 use Rattle.ldm_outside.proofs.StoreLemmas.{IsTaking-before, IsTaking-last, IsTaking-others, IsTaking-waited}
 use Rattle.ldm_actions.specs.declared.limits.TheConstants.{MOST_PIPED}
-use Rattle.ldm_actions.specs.Effects.{all_over, closed, ended, last_of, piped_by, with_first_over, with_new, with_room}
-use Rattle.ldm_actions.specs.Kept.{Differs, number_under, raised, raised_by}
+use Rattle.ldm_actions.specs.Effects.{all_over, closed, ended, piped_by, with_first_over, with_new, with_room}
+use Rattle.ldm_actions.specs.Kept.{Differs, last_of, number_under, raised, raised_by}
 use Rattle.ldm_actions.specs.Parts.{all_over_parts, over_parts, room_parts}
 use Rattle.ldm_actions.specs.Programs.{ChangesOr, EndsChild, IsOneOf, KeepsPrograms, ProgramSide, ProgramsBecome, ProgramsFail, by_program, closing_parts, first_parts, full_parts, last_parts, outside_with, program_side, start_parts, with_child_over, with_input_closed, with_last_over, with_program, world_with}
 use Rattle.ldm_actions.specs.World.{Outside, World, child_no, command_of, input_shut, over}
 use Rattle.ldm_actions.proofs.Commands.{one_less}
-use Rattle.ldm_actions.proofs.KeptLemmas.{Entry, apart_found, apart_front, apart_last, differs_under, each_both, each_found, each_front, each_then, last_is, not_under_front, take_front}
+use Rattle.ldm_actions.proofs.KeptLemmas.{Entry, apart_found, apart_front, apart_last, differs_under, each_both, each_found, each_front, each_then, last_is, last_part, not_under_front, take_front}
 
 module _ (old new : LauncherRecord) where
   -- a child takes bytes still where another was ended
@@ -221,14 +221,6 @@ uses_raised words command number kept new launcher its_own found is keeps =
           faults = refl;
           keeps = subst (λ (all : List Entry). KeepsPrograms (program_side all launcher)) (sym now) (uses_kept (command_of words) number kept launcher found keeps);
         }
-
--- entries that are some have a last one
-last_part : (kept : List Entry) → 0 < length kept → (front : List Entry) × (it : Entry) × (kept ≡ front ++ it ∷ [])
-last_part [] some = absurd (omega (arith, some))
-last_part (it ∷ []) some = ([], it, refl)
-last_part (it ∷ other ∷ others) some =
-    let rest = last_part (other ∷ others) (omega arith) in
-    (it ∷ rest.0, rest.1, ap (λ (all : List Entry). it ∷ all) rest.2)
 
 over_behind : (front : List Entry) (it : Entry) (outside : Outside) → all_over (front ++ it ∷ []) outside ≡ all_over front (over it.1 outside)
 over_behind [] it outside = refl

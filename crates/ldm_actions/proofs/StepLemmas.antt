@@ -1,5 +1,5 @@
 -- What a step of files, or of programs, is to all that is kept.
-use Rattle.std.proofs.Common.{◌≡◌, ◌≢◌, ◌∙◌, ℕ, inl, inr, Bool, true, false, cond, List, [], ◌∷◌, ◌++◌, drop, Option, Some, option_map, Ok, Err, refl, sym, ap, subst, arith}
+use Rattle.std.proofs.Common.{◌≡◌, ◌≢◌, ◌∙◌, ℕ, inl, inr, Bool, true, false, cond, List, [], ◌∷◌, ◌++◌, drop, length, Option, Some, option_map, Ok, Err, refl, sym, ap, subst, arith}
 use Rattle.std.specs.Prelude.{slice_get, String}
 use Rattle.std.specs.declared.alloc.Global.{Global}
 use Rattle.ldm_outside.specs.declared.fault.Failed.{Failed}
@@ -14,7 +14,7 @@ use Rattle.ldm_actions.specs.declared.options.PipeOptions.{PipeOptions}
 use Rattle.ldm_actions.specs.Effects.{ToFile, ToProgram, Start, Nothing, Nowhere, File as FileTarget, Child, begun, closed, executed, fed_to, finished, finished_by, given, opened}
 use Rattle.ldm_actions.specs.Hands.{newest_path}
 use Rattle.ldm_actions.specs.Kept.{Each, IsNewest}
-use Rattle.ldm_actions.specs.OpenFiles.{BeginsFile, FileSide, FilesBecome, FilesFail, IsOpenUnder, file_no, file_side, files_begun}
+use Rattle.ldm_actions.specs.OpenFiles.{BeginsFile, FileSide, FilesBecome, FilesFail, IsOpenUnder, all_shut, file_no, file_side, files_begun, store_finished}
 use Rattle.ldm_actions.specs.Outputs.{Becomes, BeginsKept, ClosesKept, FinishesKept, GivesKept, Kept, Keeps, files_after_finish, kept_in, world_of}
 use Rattle.ldm_actions.specs.Parts.{begin_parts, finish_parts, finish_parts_by}
 use Rattle.ldm_actions.specs.Programs.{BeginsProgram, Executes, IsOneOf, ProgramSide, ProgramsBecome, ProgramsFail, closing_parts, outside_with, program_side, running_after, with_child_gone, with_child_over, with_executed, world_with}
@@ -45,21 +45,24 @@ module _ (files files' piped : List Entry) (store store' : StoreRecord) (launche
     record {
       world_now = ap (λ (all : Option (List File)). world_with all (program_side piped launcher)) becomes.files_now ∙ opened_is options.overwrite path;
       files_now = becomes.kept_now;
+      only_kept = becomes.no_more;
       keeps = record { files = becomes.keeps; programs = keeps.programs };
       store_faults = becomes.faults;
       long = becomes.long;
       launcher_faults = refl;
     },
-    refl,
+    (becomes.store_now, refl),
   )
   file_begun answer.StoreFault path options keeps (inl fails) = record {
     rose = fails.rose;
+    few_open = fails.few_open;
     stands = inl (ap (λ (all : Option (List File)). outside_with all launcher) fails.files_now);
     long = fails.long;
     launcher = refl;
   }
   file_begun answer.StoreFault path options keeps (inr both) = record {
     rose = both.1.rose;
+    few_open = both.1.few_open;
     stands = inr
         (subst (λ (b : Bool). IsOneOf (cond b (made path (outside_with store.files launcher) ∷ []) []) (outside_with store'.files launcher)) (sym both.0)
         (inl (ap (λ (all : Option (List File)). outside_with all launcher) both.1.files_now)));
@@ -75,27 +78,30 @@ module _ (files files' piped : List Entry) (store store' : StoreRecord) (launche
   file_finished path false = refl
 
   -- it was finished
-  pub file_is_finished : (path : List ℕ) (strip close : Bool) → Keeps old_files →
-      FilesBecome (cond close (drop 1 files) files) store.files (file_side files store) (file_side files' store') × (store'.next ≡ store.next) →
-      FinishesKept done.Ok (record { target = FileTarget path; strip = strip; close = close }) old_files new_files
+  pub file_is_finished : (path : List ℕ) (strip close flush : Bool) → Keeps old_files →
+      FilesBecome (cond close (drop 1 files) files) store.files (store_finished flush close files store) (file_side files store) (file_side files' store')
+      × (store'.next ≡ store.next) →
+      FinishesKept done.Ok (record { target = FileTarget path; strip = strip; close = close; flush = flush }) old_files new_files
   unfolding finished
-  file_is_finished path strip close keeps both = (
+  file_is_finished path strip close flush keeps both = (
     record {
       world_now = ap (λ (all : Option (List File)). world_with all (program_side piped launcher)) both.0.files_now;
       files_now = both.0.kept_now ∙ file_finished path close;
+      only_kept = both.0.no_more;
       keeps = record { files = both.0.keeps; programs = keeps.programs };
       store_faults = both.0.faults;
       long = both.0.long;
       launcher_faults = refl;
     },
-    refl,
+    (both.0.store_now, refl),
   )
 
-  pub file_not_finished : (path : List ℕ) (strip close : Bool) → FilesFail store.files (file_side files store) (file_side files' store') →
-      FinishesKept done.StoreFault (record { target = FileTarget path; strip = strip; close = close }) old_files new_files
+  pub file_not_finished : (path : List ℕ) (strip close flush : Bool) → FilesFail store.files (file_side files store) (file_side files' store') →
+      FinishesKept done.StoreFault (record { target = FileTarget path; strip = strip; close = close; flush = flush }) old_files new_files
   unfolding finish_parts
-  file_not_finished path strip close fails = record {
+  file_not_finished path strip close flush fails = record {
     rose = fails.rose;
+    few_open = fails.few_open;
     stands = inl (ap (λ (all : Option (List File)). outside_with all launcher) fails.files_now);
     long = fails.long;
     launcher = refl;
@@ -117,6 +123,7 @@ module _ (files piped piped' : List Entry) (store : StoreRecord) (launcher launc
     record {
       world_now = becomes.world store.files;
       files_now = refl;
+      only_kept = λ only. only;
       keeps = record { files = keeps.files; programs = becomes.keeps };
       store_faults = refl;
       long = refl;
@@ -125,19 +132,26 @@ module _ (files piped piped' : List Entry) (store : StoreRecord) (launcher launc
     refl,
   )
   program_begun answer.StoreFault words options keeps never = absurd never
-  program_begun answer.LaunchFault words options keeps fails = record { rose = fails.rose; stands = fails.stands store.files; store_faults = refl; long = refl }
+  program_begun answer.LaunchFault words options keeps fails = record {
+    store_now = refl;
+    rose = fails.rose;
+    stands = fails.stands store.files;
+    store_faults = refl;
+    long = refl;
+  }
   program_begun answer.OutOfMemory words options keeps same =
       ap (λ (side : ProgramSide). kept_in files side.kept store side.launcher) same
 
   -- it was finished
-  pub program_finished : (strip close : Bool) → Keeps old_programs →
+  pub program_finished : (strip close flush : Bool) → Keeps old_programs →
       ProgramsBecome (finished_by Child close) (program_side piped launcher) (program_side piped' launcher') →
-      FinishesKept done.Ok (record { target = Child; strip = strip; close = close }) old_programs new_programs
+      FinishesKept done.Ok (record { target = Child; strip = strip; close = close; flush = flush }) old_programs new_programs
   unfolding finished
-  program_finished strip close keeps becomes = (
+  program_finished strip close flush keeps becomes = (
     record {
       world_now = becomes.world store.files;
       files_now = refl;
+      only_kept = λ only. only;
       keeps = record { files = keeps.files; programs = becomes.keeps };
       store_faults = refl;
       long = refl;
@@ -146,11 +160,17 @@ module _ (files piped piped' : List Entry) (store : StoreRecord) (launcher launc
     refl,
   )
 
-  pub program_not_finished : (strip close : Bool) →
+  pub program_not_finished : (strip close flush : Bool) →
       ProgramsFail (finish_parts_by Child close) (program_side piped launcher) (program_side piped' launcher') →
-      FinishesKept done.LaunchFault (record { target = Child; strip = strip; close = close }) old_programs new_programs
+      FinishesKept done.LaunchFault (record { target = Child; strip = strip; close = close; flush = flush }) old_programs new_programs
   unfolding finish_parts
-  program_not_finished strip close fails = record { rose = fails.rose; stands = fails.stands store.files; store_faults = refl; long = refl }
+  program_not_finished strip close flush fails = record {
+    store_now = refl;
+    rose = fails.rose;
+    stands = fails.stands store.files;
+    store_faults = refl;
+    long = refl;
+  }
 
 -- a program was started
 module _ (files piped : List Entry) (store : StoreRecord) (launcher launcher' : LauncherRecord) where
@@ -193,6 +213,7 @@ module _ (files piped : List Entry) (store : StoreRecord) (launcher launcher' : 
           ∙ ap (λ (outside : Outside). record { outside = outside; piped = piped })
           (executed_is wait done.0 ∙ ap (λ (w : List (List ℕ)). executed wait w (outside_with store.files launcher)) done.1);
       files_now = refl;
+      only_kept = λ only. only;
       keeps = record {
         files = keeps.files;
         programs = record {
@@ -214,12 +235,14 @@ module _ (files piped : List Entry) (store : StoreRecord) (launcher launcher' : 
       BeginsKept answer.LaunchFault (Start words wait) (kept_in files piped store launcher) (kept_in files piped store launcher')
   unfolding begin_parts
   program_not_executed words wait failed (inl fails) = record {
+    store_now = refl;
     rose = fails.0;
     stands = inl (ap (outside_with store.files) fails.1);
     store_faults = refl;
     long = refl;
   }
   program_not_executed words wait failed (inr both) = record {
+    store_now = refl;
     rose = both.3.0;
     stands = inr
         (subst (λ (b : Bool). IsOneOf (cond b (started words false (outside_with store.files launcher) ∷ []) []) (outside_with store.files launcher')) (sym both.2)
@@ -230,20 +253,29 @@ module _ (files piped : List Entry) (store : StoreRecord) (launcher launcher' : 
 
 -- an action that does nothing
 becomes_same : (now : Kept) → Keeps now → Becomes (world_of now) now.files now now
-becomes_same now keeps = record { world_now = refl; files_now = refl; keeps = keeps; store_faults = refl; long = refl; launcher_faults = refl }
+becomes_same now keeps = record {
+  world_now = refl;
+  files_now = refl;
+  only_kept = λ only. only;
+  keeps = keeps;
+  store_faults = refl;
+  long = refl;
+  launcher_faults = refl;
+}
 
 pub nothing_begun : (now : Kept) → Keeps now → BeginsKept answer.Ready Nothing now now
 unfolding begun
 nothing_begun now keeps = (becomes_same now keeps, (refl, refl))
 
-pub nothing_given : (strip close : Bool) (bytes : List ℕ) (now : Kept) → Keeps now →
-    GivesKept done.Ok (record { target = Nowhere; strip = strip; close = close }) bytes now now
+pub nothing_given : (strip close flush : Bool) (bytes : List ℕ) (now : Kept) → Keeps now →
+    GivesKept done.Ok (record { target = Nowhere; strip = strip; close = close; flush = flush }) bytes now now
 unfolding given
-nothing_given strip close bytes now keeps = (becomes_same now keeps, (refl, refl))
+nothing_given strip close flush bytes now keeps = (becomes_same now keeps, (refl, refl))
 
-pub nothing_finished : (strip close : Bool) (now : Kept) → Keeps now → FinishesKept done.Ok (record { target = Nowhere; strip = strip; close = close }) now now
+pub nothing_finished : (strip close flush : Bool) (now : Kept) → Keeps now →
+    FinishesKept done.Ok (record { target = Nowhere; strip = strip; close = close; flush = flush }) now now
 unfolding finished
-nothing_finished strip close now keeps = (becomes_same now keeps, (refl, refl))
+nothing_finished strip close flush now keeps = (becomes_same now keeps, (refl, refl))
 
 -- a piece was written to the file that was used last
 module _ (files piped : List Entry) (store store' : StoreRecord) (launcher : LauncherRecord) (it : Entry) (newest : IsNewest it files)
@@ -257,15 +289,16 @@ module _ (files piped : List Entry) (store store' : StoreRecord) (launcher : Lau
       (with_appended (file_no it.1) bytes store).files ≡ option_map (with_changed (newest_path files) (λ before. before ++ bytes)) store.files
   appended_files bytes = ap (λ (of : Option (List ℕ)). option_map (with_file of (λ before. before ++ bytes)) store.files) is_under
 
-  pub file_given : (strip close : Bool) (bytes : List ℕ) → store' ≡ with_appended (file_no it.1) (kept strip bytes) store →
-      GivesKept done.Ok (record { target = FileTarget (newest_path files); strip = strip; close = close }) bytes (kept_in files piped store launcher)
-      (kept_in files piped store' launcher)
+  pub file_given : (strip close flush : Bool) (bytes : List ℕ) → store' ≡ with_appended (file_no it.1) (kept strip bytes) store →
+      GivesKept done.Ok (record { target = FileTarget (newest_path files); strip = strip; close = close; flush = flush }) bytes
+      (kept_in files piped store launcher) (kept_in files piped store' launcher)
   unfolding given
-  file_given strip close bytes is = (
+  file_given strip close flush bytes is = (
     record {
       world_now = ap (λ (all : Option (List File)). world_with all (program_side piped launcher))
           (ap (λ (s : StoreRecord). s.files) is ∙ appended_files (kept strip bytes));
       files_now = refl;
+      only_kept = λ only. omega (arith, only, ap (λ (s : StoreRecord). length s.paths) is);
       keeps = record {
         files = keeps_changed store store' files it.1 (λ before. before ++ kept strip bytes) is keeps.files;
         programs = keeps.programs;
@@ -280,11 +313,12 @@ module _ (files piped : List Entry) (store store' : StoreRecord) (launcher : Lau
       store_is : store' ≡ record store { files = store'.files }
       store_is = is ∙ ap (λ (all : Option (List File)). record store { files = all }) (sym (ap (λ (s : StoreRecord). s.files) is))
 
-  pub file_not_given : (strip close : Bool) (bytes : List ℕ) (failed : Failed) → AppendsAll (Err failed) (file_no it.1) (kept strip bytes) store store' →
-      GivesKept done.StoreFault (record { target = FileTarget (newest_path files); strip = strip; close = close }) bytes
+  pub file_not_given : (strip close flush : Bool) (bytes : List ℕ) (failed : Failed) → AppendsAll (Err failed) (file_no it.1) (kept strip bytes) store store' →
+      GivesKept done.StoreFault (record { target = FileTarget (newest_path files); strip = strip; close = close; flush = flush }) bytes
       (kept_in files piped store launcher) (kept_in files piped store' launcher)
-  file_not_given strip close bytes failed front = record {
+  file_not_given strip close flush bytes failed front = record {
     rose = front.fails.0;
+    few_open = λ only. omega (arith, only, keeps.files.few, ap (λ (s : StoreRecord). length s.paths) front.fails.1);
     stands = record {
       front = front.front;
       rest = front.rest;
@@ -303,15 +337,16 @@ module _ (files piped : List Entry) (store : StoreRecord) (launcher launcher' : 
       outside_with store.files (with_given (child_no it.1) bytes launcher) ≡ fed_to (slice_get piped 0) bytes (outside_with store.files launcher)
   fed_is bytes = ap (λ (all : List Entry). fed_to (slice_get all 0) bytes (outside_with store.files launcher)) (sym newest.is)
 
-  pub child_given : (strip close : Bool) (bytes : List ℕ) → launcher' ≡ with_given (child_no it.1) (kept strip bytes) launcher →
-      GivesKept done.Ok (record { target = Child; strip = strip; close = close }) bytes (kept_in files piped store launcher)
+  pub child_given : (strip close flush : Bool) (bytes : List ℕ) → launcher' ≡ with_given (child_no it.1) (kept strip bytes) launcher →
+      GivesKept done.Ok (record { target = Child; strip = strip; close = close; flush = flush }) bytes (kept_in files piped store launcher)
       (kept_in files piped store launcher')
   unfolding given
-  child_given strip close bytes is = (
+  child_given strip close flush bytes is = (
     record {
       world_now = ap (λ (outside : Outside). record { outside = outside; piped = piped })
           (ap (outside_with store.files) is ∙ fed_is (kept strip bytes));
       files_now = refl;
+      only_kept = λ only. only;
       keeps = record {
         files = keeps.files;
         programs = record {
@@ -331,10 +366,11 @@ module _ (files piped : List Entry) (store : StoreRecord) (launcher launcher' : 
       launcher_is : launcher' ≡ record launcher { children = launcher'.children }
       launcher_is = is ∙ ap (λ (all : Option (List ChildRecord)). record launcher { children = all }) (sym (ap (λ (l : LauncherRecord). l.children) is))
 
-  pub child_not_given : (strip close : Bool) (bytes : List ℕ) (failed : Failed) → FeedsAll (Err failed) (child_no it.1) (kept strip bytes) launcher launcher' →
-      GivesKept done.LaunchFault (record { target = Child; strip = strip; close = close }) bytes (kept_in files piped store launcher)
+  pub child_not_given : (strip close flush : Bool) (bytes : List ℕ) (failed : Failed) → FeedsAll (Err failed) (child_no it.1) (kept strip bytes) launcher launcher' →
+      GivesKept done.LaunchFault (record { target = Child; strip = strip; close = close; flush = flush }) bytes (kept_in files piped store launcher)
       (kept_in files piped store launcher')
-  child_not_given strip close bytes failed front = record {
+  child_not_given strip close flush bytes failed front = record {
+    store_now = refl;
     rose = front.fails.0;
     stands = record {
       front = front.front;
@@ -352,27 +388,33 @@ pub files_not_closed : (files files' piped : List Entry) (store store' : StoreRe
     ClosesKept done.StoreFault (kept_in files piped store launcher) (kept_in files' piped store' launcher)
 files_not_closed files files' piped store store' launcher fails = record {
   rose = fails.rose;
+  few_open = fails.few_open;
   stands = inl (ap (λ (all : Option (List File)). outside_with all launcher) fails.files_now);
   long = fails.long;
   launcher = refl;
 }
 
 module _ (files files' piped piped' : List Entry) (store store' : StoreRecord) (launcher launcher' : LauncherRecord)
-    (shut : FilesBecome [] store.files (file_side files store) (file_side files' store') × (store'.next ≡ store.next)) where
+    (shut : FilesBecome [] store.files (all_shut files store) (file_side files store) (file_side files' store') × (store'.next ≡ store.next)) where
   pub all_closed : ProgramsBecome closed (program_side piped launcher) (program_side piped' launcher') →
       ClosesKept done.Ok (kept_in files piped store launcher) (kept_in files' piped' store' launcher')
-  all_closed becomes = record {
-    world_now = becomes.world store'.files ∙ ap (λ (all : Option (List File)). closed (world_with all (program_side piped launcher))) shut.0.files_now;
-    files_now = shut.0.kept_now;
-    keeps = record { files = shut.0.keeps; programs = becomes.keeps };
-    store_faults = shut.0.faults;
-    long = shut.0.long;
-    launcher_faults = becomes.faults;
-  }
+  all_closed becomes = (
+    record {
+      world_now = becomes.world store'.files ∙ ap (λ (all : Option (List File)). closed (world_with all (program_side piped launcher))) shut.0.files_now;
+      files_now = shut.0.kept_now;
+      only_kept = shut.0.no_more;
+      keeps = record { files = shut.0.keeps; programs = becomes.keeps };
+      store_faults = shut.0.faults;
+      long = shut.0.long;
+      launcher_faults = becomes.faults;
+    },
+    shut.0.store_now,
+  )
 
   pub programs_not_closed : ProgramsFail closing_parts (program_side piped launcher) (program_side piped' launcher') →
       ClosesKept done.LaunchFault (kept_in files piped store launcher) (kept_in files' piped' store' launcher')
   programs_not_closed fails = record {
+    store_now = shut.0.store_now;
     rose = fails.rose;
     stands = inr
         (subst (λ (all : Option (List File)). IsOneOf (closing_parts (world_with all (program_side piped launcher))) (outside_with store'.files launcher'))

@@ -1,9 +1,10 @@
 -- What stands after an action. It is begun, is given the body of the product in pieces, and is finished.
-use Rattle.std.specs.Prelude.{ℕ, ◌-◌, Bool, true, false, nat_lt, bytes_eq, if◌then◌else◌, List, [], ◌∷◌, length, take, drop, slice_get, Option, Some, None}
+use Rattle.std.specs.Prelude.{ℕ, ◌-◌, Bool, true, false, nat_lt, bytes_eq, if◌then◌else◌, List, [], ◌∷◌, length, take, drop, Option, Some, None}
 use Rattle.std.specs.Map.{lookup, remove_entry}
 use Rattle.ldm_actions.specs.declared.limits.TheConstants.{MOST_PIPED}
 use Rattle.ldm_actions.specs.declared.options.FileOptions.{FileOptions}
 use Rattle.ldm_actions.specs.declared.options.PipeOptions.{PipeOptions}
+use Rattle.ldm_actions.specs.Kept.{first_of, last_of}
 use Rattle.ldm_actions.specs.Strip.{kept}
 use Rattle.ldm_actions.specs.World.{Outside, World, appended, command_of, emptied, fed, made, over, started, waited}
 
@@ -32,12 +33,14 @@ pub record InHand : Type 0 where
   pub strip : Bool
   -- what it writes to is shut after the body
   pub close : Bool
+  -- its file is flushed after the body, before it is shut
+  pub flush : Bool
 
 abbrev pub in_hand : Action → InHand
-in_hand (ToFile path options) = record { target = File path; strip = options.strip; close = options.close }
-in_hand (ToProgram words options) = record { target = Child; strip = options.strip; close = options.close }
-in_hand (Start words wait) = record { target = Nowhere; strip = false; close = false }
-in_hand Nothing = record { target = Nowhere; strip = false; close = false }
+in_hand (ToFile path options) = record { target = File path; strip = options.strip; close = options.close; flush = options.flush }
+in_hand (ToProgram words options) = record { target = Child; strip = options.strip; close = options.close; flush = false }
+in_hand (Start words wait) = record { target = Nowhere; strip = false; close = false; flush = false }
+in_hand Nothing = record { target = Nowhere; strip = false; close = false; flush = false }
 
 -- the file of a path is there, and has no bytes where it is to be written anew
 abbrev pub opened : Bool → List ℕ → Outside → Outside
@@ -46,10 +49,6 @@ opened overwrite path outside = if overwrite then emptied path (made path outsid
 -- a program was started that has no input, and it has ended where it is waited for
 abbrev pub executed : Bool → List (List ℕ) → Outside → Outside
 executed wait words outside = if wait then waited outside.next (started words false outside) else started words false outside
-
--- the child under PIPE that was written longest ago
-abbrev pub last_of : List (List ℕ × ℕ) → Option (List ℕ × ℕ)
-last_of piped = slice_get piped (length piped - 1)
 
 -- a child is over, if it is one
 abbrev pub ended : Option (List ℕ × ℕ) → Outside → Outside
@@ -95,7 +94,7 @@ fed_to (Some it) bytes outside = fed it.1 bytes outside
 abbrev pub written : Target → List ℕ → World → World
 written Nowhere bytes world = world
 written (File path) bytes world = record world { outside = appended path bytes world.outside }
-written Child bytes world = record world { outside = fed_to (slice_get world.piped 0) bytes world.outside }
+written Child bytes world = record world { outside = fed_to (first_of world.piped) bytes world.outside }
 
 -- after an action was given a piece of the body
 unfoldable pub given : InHand → List ℕ → World → World
@@ -103,14 +102,14 @@ given hand bytes world = written hand.target (kept hand.strip bytes) world
 
 -- the child under PIPE that was written last is over
 abbrev pub with_first_over : World → World
-with_first_over world = record { outside = ended (slice_get world.piped 0) world.outside; piped = drop 1 world.piped }
+with_first_over world = record { outside = ended (first_of world.piped) world.outside; piped = drop 1 world.piped }
 
 abbrev pub finished_by : Target → Bool → World → World
 finished_by Nowhere close world = world
 finished_by (File path) close world = world
 finished_by Child close world = if close then with_first_over world else world
 
--- after an action was finished. That its file is flushed or shut changes no bytes
+-- after an action was finished. That its file is flushed or shut changes no bytes: `store_finished` of OpenFiles says what it does
 unfoldable pub finished : InHand → World → World
 finished hand world = finished_by hand.target hand.close world
 

@@ -33,7 +33,7 @@ target_of place.Child files = Child
 
 -- the action in hand, by the files that are kept open
 abbrev pub seen_with : List (List ℕ × ℕ) → Hand → InHand
-seen_with files hand = record { target = target_of hand.place files; strip = hand.strip; close = hand.close }
+seen_with files hand = record { target = target_of hand.place files; strip = hand.strip; close = hand.close; flush = hand.flush }
 
 abbrev pub hand_seen : Option Hand → List (List ℕ × ℕ) → Option InHand
 hand_seen hand files = option_map (seen_with files) hand

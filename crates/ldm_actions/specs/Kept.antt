@@ -1,6 +1,6 @@
 -- What is kept open or running, under names: the paths of files, the commands of programs. Each has the number that the store or
 -- the launcher gave it, and the one that was used last comes first.
-use Rattle.std.specs.Prelude.{◌≡◌, ◌≢◌, ℕ, List, [], ◌∷◌, ◌++◌, Option, Some, None, bytes_eq, remove, slice_index_or}
+use Rattle.std.specs.Prelude.{◌≡◌, ◌≢◌, ℕ, ◌-◌, List, [], ◌∷◌, ◌++◌, Option, Some, None, bytes_eq, length, remove, slice_get, slice_index_or}
 use Rattle.std.specs.Map.{lookup, remove_entry}
 
 -- P holds of each entry
@@ -16,6 +16,14 @@ Differs it other = (it.0 ≢ other.0) × (it.1 ≢ other.1)
 abbrev pub AreApart : List (List ℕ × ℕ) → Type 0
 AreApart [] = Unit {0}
 AreApart (it ∷ others) = Each (Differs it) others × AreApart others
+
+-- the entry that was used last
+abbrev pub first_of : List (List ℕ × ℕ) → Option (List ℕ × ℕ)
+first_of kept = slice_get kept 0
+
+-- the entry that was used longest ago
+abbrev pub last_of : List (List ℕ × ℕ) → Option (List ℕ × ℕ)
+last_of kept = slice_get kept (length kept - 1)
 
 -- the number under a name
 abbrev pub number_under : List ℕ → List (List ℕ × ℕ) → Option ℕ

@@ -1,5 +1,5 @@
 -- What an `Outputs` keeps, and what each call of it does.
-use Rattle.std.specs.Prelude.{◌≡◌, ℕ, Bool, true, false, List, [], drop, Option, Some, None, IsSome}
+use Rattle.std.specs.Prelude.{◌≡◌, ℕ, ◌≤◌, Bool, true, false, List, [], drop, length, Option, Some, None, IsSome}
 use Rattle.ldm_outside.specs.Count.{Rose}
 use Rattle.ldm_outside.specs.Launcher.{LauncherRecord}
 use Rattle.ldm_outside.specs.Store.{StoreRecord}
@@ -13,7 +13,8 @@ use Rattle.ldm_actions.specs.declared.hand.Hand.{Hand}
 use Rattle.ldm_actions.specs.Effects.{Action, ToFile, ToProgram, Start, Nothing, InHand, Target, Nowhere, File, Child, begun, closed, finished, given, in_hand}
 use Rattle.ldm_actions.specs.Hands.{hand_seen}
 use Rattle.ldm_actions.specs.Kept.{IsNewest}
-use Rattle.ldm_actions.specs.OpenFiles.{KeepsFiles, file_side, used}
+use Rattle.ldm_actions.specs.declared.limits.TheConstants.{MOST_OPEN}
+use Rattle.ldm_actions.specs.OpenFiles.{KeepsFiles, all_shut, file_side, store_begun, store_finished, used}
 use Rattle.ldm_actions.specs.Parts.{IsGivenPart, begin_parts, close_parts, finish_parts}
 use Rattle.ldm_actions.specs.Programs.{IsOneOf, KeepsPrograms, program_side, running_after, world_with}
 use Rattle.ldm_actions.specs.World.{Outside, World}
@@ -33,28 +34,35 @@ pub record Keeps (now : Kept) : Type 0 where
   pub files : KeepsFiles (file_side now.files now.store)
   pub programs : KeepsPrograms (program_side now.piped now.launcher)
 
+-- No more files are open in the store than are kept: since each that is kept is open, nothing else is.
+abbrev pub OpensOnlyKept : Kept → Type 0
+OpensOnlyKept now = length now.store.paths ≤ length now.files
+
 -- what stands
 abbrev pub world_of : Kept → World
 world_of now = world_with now.store.files (program_side now.piped now.launcher)
 
--- No call failed. This world stands now, and these files are kept open.
+-- No call failed. This world stands now, these files are kept open, and nothing else is open where nothing else was.
 pub record Becomes (world : World) (files : List (List ℕ × ℕ)) (old new : Kept) : Type 0 where
   pub world_now : world_of new ≡ world
   pub files_now : new.files ≡ files
+  pub only_kept : OpensOnlyKept old → OpensOnlyKept new
   pub keeps : Keeps new
   pub store_faults : new.store.faults ≡ old.store.faults
   pub long : new.store.long ≡ old.store.long
   pub launcher_faults : new.launcher.faults ≡ old.launcher.faults
 
--- The store failed, and what stands is such.
+-- The store failed, and what stands is such. At most 32 files are open, where nothing else was open than what is kept.
 pub record StoreStops (IsPart : Outside → Type 0) (old new : Kept) : Type 0 where
   pub rose : Rose old.store.faults new.store.faults
+  pub few_open : OpensOnlyKept old → length new.store.paths ≤ MOST_OPEN
   pub stands : IsPart (world_of new).outside
   pub long : new.store.long ≡ old.store.long
   pub launcher : new.launcher ≡ old.launcher
 
--- The launcher failed, and what stands is such.
-pub record LauncherStops (IsPart : Outside → Type 0) (old new : Kept) : Type 0 where
+-- The launcher failed, and what stands is such. This is what the store tells.
+pub record LauncherStops (IsPart : Outside → Type 0) (store : StoreRecord) (old new : Kept) : Type 0 where
+  pub store_now : new.store ≡ store
   pub rose : Rose old.launcher.faults new.launcher.faults
   pub stands : IsPart (world_of new).outside
   pub store_faults : new.store.faults ≡ old.store.faults
@@ -67,15 +75,11 @@ files_after_begin (ToProgram words options) old = old.files
 files_after_begin (Start words wait) old = old.files
 files_after_begin Nothing old = old.files
 
--- what is left alone by writing to a target
-abbrev pub Leaves : Target → Kept → Kept → Type 0
-Leaves Nowhere old new = (new.store ≡ old.store) × (new.launcher ≡ old.launcher)
-Leaves (File path) old new = new.launcher ≡ old.launcher
-Leaves Child old new = new.store ≡ old.store
-
--- What is left alone by beginning an action. A program that was started by EXEC is told no more: it has ended, or was let go.
+-- What the store and the launcher tell after an action was begun, besides what stands. The file of an action is opened with room
+-- for it, where it is not kept. A program that was started by EXEC is told no more: it has ended, or was let go.
 abbrev pub BeginLeaves : Action → Kept → Kept → Type 0
-BeginLeaves (ToFile path options) old new = new.launcher ≡ old.launcher
+BeginLeaves (ToFile path options) old new =
+    (new.store ≡ store_begun options.overwrite path old.files old.store) × (new.launcher ≡ old.launcher)
 BeginLeaves (ToProgram words options) old new = new.store ≡ old.store
 BeginLeaves (Start words wait) old new = (new.store ≡ old.store) × (new.launcher.running ≡ running_after words old.launcher)
 BeginLeaves Nothing old new = (new.store ≡ old.store) × (new.launcher ≡ old.launcher)
@@ -85,14 +89,20 @@ abbrev pub BeginsKept : Begun → Action → Kept → Kept → Type 0
 BeginsKept answer.Ready action old new =
     Becomes (begun action (world_of old)) (files_after_begin action old) old new × BeginLeaves action old new
 BeginsKept answer.StoreFault action old new = StoreStops (IsOneOf (begin_parts action (world_of old))) old new
-BeginsKept answer.LaunchFault action old new = LauncherStops (IsOneOf (begin_parts action (world_of old))) old new
+BeginsKept answer.LaunchFault action old new = LauncherStops (IsOneOf (begin_parts action (world_of old))) old.store old new
 BeginsKept answer.OutOfMemory action old new = new ≡ old
 
--- What each further call did: all of it, or what stands is such.
-abbrev pub GoesOn : Done → Type 0 → (Outside → Type 0) → Kept → Kept → Type 0
-GoesOn done.Ok all IsPart old new = all
-GoesOn done.StoreFault all IsPart old new = StoreStops IsPart old new
-GoesOn done.LaunchFault all IsPart old new = LauncherStops IsPart old new
+-- What a further call did where one failed: what stands is such. Where the launcher failed, this is what the store tells.
+abbrev pub Stops : Done → (Outside → Type 0) → StoreRecord → Kept → Kept → Type 0
+Stops done.Ok IsPart store old new = ⊥
+Stops done.StoreFault IsPart store old new = StoreStops IsPart old new
+Stops done.LaunchFault IsPart store old new = LauncherStops IsPart store old new
+
+-- What each further call did: all of it, or it was stopped.
+abbrev pub GoesOn : Done → Type 0 → Type 0 → Type 0
+GoesOn done.Ok all stops = all
+GoesOn done.StoreFault all stops = stops
+GoesOn done.LaunchFault all stops = stops
 
 -- nothing that the store and the launcher tell changed but the bytes of files, or those that children were given
 abbrev pub OnlyGives : Target → Kept → Kept → Type 0
@@ -102,7 +112,8 @@ OnlyGives Child old new = (new.store ≡ old.store) × (new.launcher ≡ record 
 
 abbrev pub GivesKept : Done → InHand → List ℕ → Kept → Kept → Type 0
 GivesKept result hand bytes old new =
-    GoesOn result (Becomes (given hand bytes (world_of old)) old.files old new × OnlyGives hand.target old new) (IsGivenPart hand bytes (world_of old)) old new
+    GoesOn result (Becomes (given hand bytes (world_of old)) old.files old new × OnlyGives hand.target old new)
+    (Stops result (IsGivenPart hand bytes (world_of old)) old.store old new)
 
 -- the files that are kept open after an action was finished
 abbrev pub files_after_finish : Target → Bool → List (List ℕ × ℕ) → List (List ℕ × ℕ)
@@ -111,14 +122,28 @@ files_after_finish (File path) false files = files
 files_after_finish Nowhere close files = files
 files_after_finish Child close files = files
 
+abbrev pub LeavesBy : Target → Bool → Bool → Kept → Kept → Type 0
+LeavesBy Nowhere flush close old new = (new.store ≡ old.store) × (new.launcher ≡ old.launcher)
+LeavesBy (File path) flush close old new =
+    (new.store ≡ store_finished flush close old.files old.store) × (new.launcher ≡ old.launcher)
+LeavesBy Child flush close old new = new.store ≡ old.store
+
+-- What the store and the launcher tell after an action was finished, besides what stands. The file that was used last has been
+-- flushed once more, and it is not open any more, where that is wanted.
+abbrev pub FinishLeaves : InHand → Kept → Kept → Type 0
+FinishLeaves hand old new = LeavesBy hand.target hand.flush hand.close old new
+
 abbrev pub FinishesKept : Done → InHand → Kept → Kept → Type 0
 FinishesKept result hand old new =
     GoesOn result
-    (Becomes (finished hand (world_of old)) (files_after_finish hand.target hand.close old.files) old new × Leaves hand.target old new)
-    (IsOneOf (finish_parts hand (world_of old))) old new
+    (Becomes (finished hand (world_of old)) (files_after_finish hand.target hand.close old.files) old new × FinishLeaves hand old new)
+    (Stops result (IsOneOf (finish_parts hand (world_of old))) old.store old new)
 
+-- All files that are kept are shut, also where the launcher failed behind that.
 abbrev pub ClosesKept : Done → Kept → Kept → Type 0
-ClosesKept result old new = GoesOn result (Becomes (closed (world_of old)) [] old new) (IsOneOf (close_parts (world_of old))) old new
+ClosesKept result old new =
+    GoesOn result (Becomes (closed (world_of old)) [] old new × (new.store ≡ all_shut old.files old.store))
+    (Stops result (IsOneOf (close_parts (world_of old))) (all_shut old.files old.store) old new)
 
 -- An action in hand writes to what was used last.
 abbrev pub IsOfKept : Target → List (List ℕ × ℕ) → List (List ℕ × ℕ) → Type 0
@@ -172,6 +197,11 @@ KeepsUnlessSpent now = now.outputs.spent ≡ None → KeepsAll now
 -- what was just made keeps nothing, of whatever store and launcher
 abbrev pub KeepsOfAny : OutputsView → Type 0
 KeepsOfAny outputs = (store : StoreRecord) (launcher : LauncherRecord) → KeepsUnlessSpent (standing outputs store launcher)
+
+-- At most 32 files are open in the store. Where the `Outputs` is not spent, they are those that it keeps.
+pub record OpensFew (now : Standing) : Type 0 where
+  pub few : length now.store.paths ≤ MOST_OPEN
+  pub only_kept : now.outputs.spent ≡ None → OpensOnlyKept (kept_by now)
 
 -- an action is in hand, of one that is not spent
 abbrev pub HasHand : OutputsView → Type 0

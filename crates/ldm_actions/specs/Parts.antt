@@ -1,9 +1,10 @@
 -- What may stand where an action fails. Its effects are made one after another, by calls of a store and a launcher, and each front
 -- of them is one of these.
-use Rattle.std.specs.Prelude.{◌≡◌, ℕ, Bool, false, nat_lt, if◌then◌else◌, List, [], ◌∷◌, ◌++◌, length, slice_get, Option, Some, None}
+use Rattle.std.specs.Prelude.{◌≡◌, ℕ, Bool, false, nat_lt, if◌then◌else◌, List, [], ◌∷◌, ◌++◌, length, Option, Some, None}
 use Rattle.ldm_actions.specs.declared.limits.TheConstants.{MOST_PIPED}
 use Rattle.ldm_actions.specs.Effects.{Action, ToFile, ToProgram, Start, Nothing, InHand, Target, Nowhere, File, Child}
-use Rattle.ldm_actions.specs.Effects.{all_over, last_of, runs_under, with_room, written}
+use Rattle.ldm_actions.specs.Effects.{all_over, runs_under, with_room, written}
+use Rattle.ldm_actions.specs.Kept.{first_of, last_of}
 use Rattle.ldm_actions.specs.Strip.{kept}
 use Rattle.ldm_actions.specs.World.{Outside, World, command_of, input_shut, made, started}
 
@@ -42,7 +43,7 @@ pub record IsGivenPart (hand : InHand) (bytes : List ℕ) (world : World) (outsi
 abbrev pub finish_parts_by : Target → Bool → World → List Outside
 finish_parts_by Nowhere close world = []
 finish_parts_by (File path) close world = world.outside ∷ []
-finish_parts_by Child close world = if close then over_parts (slice_get world.piped 0) world.outside else []
+finish_parts_by Child close world = if close then over_parts (first_of world.piped) world.outside else []
 
 -- where the end of an action fails: its file could not be flushed or shut; or its child is not over
 unfoldable pub finish_parts : InHand → World → List Outside

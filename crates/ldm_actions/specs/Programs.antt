@@ -1,5 +1,5 @@
 -- Programs that run under PIPE, and what each step of keeping them does.
-use Rattle.std.specs.Prelude.{◌≡◌, ℕ, ◌-◌, ◌≤◌, ◌⊎◌, Bool, false, true, nat_lt, if◌then◌else◌, List, [], ◌∷◌, length, slice_get, take, Option, option_map, Result, Ok, Err, String}
+use Rattle.std.specs.Prelude.{◌≡◌, ℕ, ◌-◌, ◌≤◌, ◌⊎◌, Bool, false, true, nat_lt, if◌then◌else◌, List, [], ◌∷◌, length, take, Option, option_map, Result, Ok, Err, String}
 use Rattle.std.specs.declared.alloc.Global.{Global}
 use Rattle.ldm_outside.specs.Count.{Rose}
 use Rattle.ldm_outside.specs.declared.fault.Failed.{Failed}
@@ -10,8 +10,8 @@ use Rattle.ldm_outside.specs.Store.{File}
 use Rattle.ldm_actions.specs.declared.answers.Begun.{Begun}
 use Rattle.ldm_actions.specs.declared.answers.Begun.TheVariants as begun
 use Rattle.ldm_actions.specs.declared.limits.TheConstants.{MOST_PIPED}
-use Rattle.ldm_actions.specs.Effects.{ended, last_of, piped_by, runs_under, with_new, with_room}
-use Rattle.ldm_actions.specs.Kept.{AreApart, Each}
+use Rattle.ldm_actions.specs.Effects.{ended, piped_by, runs_under, with_new, with_room}
+use Rattle.ldm_actions.specs.Kept.{AreApart, Each, first_of, last_of}
 use Rattle.ldm_actions.specs.Parts.{all_over_parts, over_parts, pipe_parts}
 use Rattle.ldm_actions.specs.World.{Outside, World, child_no, command_of}
 
@@ -89,7 +89,7 @@ last_parts world = over_parts (last_of world.piped) world.outside
 
 -- the child that was written last is over
 abbrev pub first_parts : World → List Outside
-first_parts world = over_parts (slice_get world.piped 0) world.outside
+first_parts world = over_parts (first_of world.piped) world.outside
 
 -- one more may run
 abbrev pub full_parts : World → List Outside

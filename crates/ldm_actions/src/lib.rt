@@ -24,7 +24,7 @@ mod writing;
 pub use action::Action;
 pub use answers::{Begun, Done, Fault};
 pub use examples::{worked_examples_of_files, worked_examples_of_programs};
-pub use laws::{few_run_under_pipe, one_child_for_one_command, pieces_join};
+pub use laws::{few_files_are_open, few_run_under_pipe, one_child_for_one_command, pieces_join};
 pub use limits::{MOST_OPEN, MOST_PIPED};
 pub use options::{FileOptions, PipeOptions};
 pub use outputs::Outputs;

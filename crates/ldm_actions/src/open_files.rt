@@ -1,9 +1,9 @@
 //! Files that are kept open.
 ghost use Rattle.std.specs.Prelude.{◌≡◌, ◌-◌, ◌<◌, [], None, drop, if◌then◌else◌, length, string_bytes, take};
-ghost use Rattle.ldm_outside.specs.Store.{FlushesFile};
-ghost use Rattle.ldm_actions.specs.Kept.{number_under};
-ghost use Rattle.ldm_actions.specs.OpenFiles.{BeginsFile, KeepsFiles, KeepsOr, OpensNew};
-ghost use Rattle.ldm_actions.specs.OpenFiles.{OpensWithRoom, UsesFile, file_side, with_room_open};
+ghost use Rattle.ldm_actions.specs.Kept.{first_of, last_of, number_under};
+ghost use Rattle.ldm_actions.specs.OpenFiles.{BeginsFile, KeepsFiles, KeepsOr, OpensNew, OpensWithRoom, UsesFile};
+ghost use Rattle.ldm_actions.specs.OpenFiles.{all_shut, file_side, flushed_in, shut_in, store_finished};
+ghost use Rattle.ldm_actions.specs.OpenFiles.{store_with_room, with_room_open};
 
 use crate::answers::Begun;
 use crate::limits::MOST_OPEN;
@@ -14,7 +14,7 @@ use ldm_outside::{Failed, FileNo, Store};
 // Shuts the file that was used longest ago, if there is one.
 fn shut_oldest<F: Store>(files: &mut Recent, store: &mut F) -> Result<(), Failed>
     requires { KeepsFiles (file_side files.old (F.tells store.old)) }
-    ensures { KeepsOr result (take (length files.old - 1) files.old)
+    ensures { KeepsOr result (take (length files.old - 1) files.old) (shut_in (last_of files.old) (F.tells store.old))
         (file_side files.old (F.tells store.old))
         (file_side files.new (F.tells store.new)) }
 {
@@ -27,7 +27,7 @@ fn shut_oldest<F: Store>(files: &mut Recent, store: &mut F) -> Result<(), Failed
 // Makes room for one more file.
 fn make_room<F: Store>(files: &mut Recent, store: &mut F) -> Result<(), Failed>
     requires { KeepsFiles (file_side files.old (F.tells store.old)) }
-    ensures { KeepsOr result (with_room_open files.old)
+    ensures { KeepsOr result (with_room_open files.old) (store_with_room files.old (F.tells store.old))
         (file_side files.old (F.tells store.old))
         (file_side files.new (F.tells store.new)) }
 {
@@ -119,7 +119,7 @@ pub(crate) fn begin<F: Store>(
 // Shuts the file that was used last, if there is one.
 fn shut_newest<F: Store>(files: &mut Recent, store: &mut F) -> Result<(), Failed>
     requires { KeepsFiles (file_side files.old (F.tells store.old)) }
-    ensures { KeepsOr result (drop 1 files.old)
+    ensures { KeepsOr result (drop 1 files.old) (shut_in (first_of files.old) (F.tells store.old))
         (file_side files.old (F.tells store.old))
         (file_side files.new (F.tells store.new)) }
 {
@@ -133,7 +133,9 @@ fn shut_newest<F: Store>(files: &mut Recent, store: &mut F) -> Result<(), Failed
 fn flush_newest<F: Store>(files: &Recent, store: &mut F) -> Result<(), Failed>
     requires keeps { KeepsFiles (file_side files.now (F.tells store.old)) }
     requires some { 0 < length files.now }
-    ensures { FlushesFile result (F.tells store.old) (F.tells store.new) }
+    ensures { KeepsOr result files.now (flushed_in (first_of files.now) (F.tells store.old))
+        (file_side files.now (F.tells store.old))
+        (file_side files.now (F.tells store.new)) }
 {
     store.flush(FileNo(files.newest()))
 }
@@ -148,6 +150,7 @@ pub(crate) fn finish<F: Store>(
     requires keeps { KeepsFiles (file_side files.old (F.tells store.old)) }
     requires some { 0 < length files.old }
     ensures { KeepsOr result (if close then drop 1 files.old else files.old)
+        (store_finished flush close files.old (F.tells store.old))
         (file_side files.old (F.tells store.old))
         (file_side files.new (F.tells store.new)) }
 {
@@ -163,7 +166,9 @@ pub(crate) fn finish<F: Store>(
 /// Shuts all, from the one that was used longest ago to the one that was used last.
 pub(crate) fn close_all<F: Store>(files: &mut Recent, store: &mut F) -> Result<(), Failed>
     requires { KeepsFiles (file_side files.old (F.tells store.old)) }
-    ensures { KeepsOr result [] (file_side files.old (F.tells store.old)) (file_side files.new (F.tells store.new)) }
+    ensures { KeepsOr result [] (all_shut files.old (F.tells store.old))
+        (file_side files.old (F.tells store.old))
+        (file_side files.new (F.tells store.new)) }
 {
     while files.len() > 0 {
         shut_oldest(files, store)?;

@@ -83,7 +83,7 @@ closes_store answer old new closes = by_spent old.outputs.spent answer closes
   where
     by_spent : (spent : Option Fault) (answer : Done) → ClosesBy spent answer old new → old.store.faults ≤ new.store.faults
     by_spent (Some fault) answer closes = omega (arith, ap (λ (s : Standing). s.store.faults) closes.1)
-    by_spent None done.Ok closes = omega (arith, closes.0.store_faults)
+    by_spent None done.Ok closes = omega (arith, closes.0.0.store_faults)
     by_spent None done.StoreFault closes = rose_le old.store.faults new.store.faults closes.0.rose
     by_spent None done.LaunchFault closes = omega (arith, closes.0.store_faults)
 
@@ -92,7 +92,7 @@ closes_launcher answer old new closes = by_spent old.outputs.spent answer closes
   where
     by_spent : (spent : Option Fault) (answer : Done) → ClosesBy spent answer old new → old.launcher.faults ≤ new.launcher.faults
     by_spent (Some fault) answer closes = omega (arith, ap (λ (s : Standing). s.launcher.faults) closes.1)
-    by_spent None done.Ok closes = omega (arith, closes.0.launcher_faults)
+    by_spent None done.Ok closes = omega (arith, closes.0.0.launcher_faults)
     by_spent None done.StoreFault closes = omega (arith, ap (λ (l : LauncherRecord). l.faults) closes.0.launcher)
     by_spent None done.LaunchFault closes = rose_le old.launcher.faults new.launcher.faults closes.0.rose
 
@@ -203,7 +203,7 @@ module _ (entries : List EntryView) (k : ℕ) (old new : Situation) (p1 p2 : Pas
       let stands = follows.ends.0.carried in
       let now = closed_of done.Ok mid (standing left new.store new.launcher) stands.as_before closes in
       let unpiped : World → World = λ w. record { outside = w.outside; piped = [] } in
-      ap unpiped now.0.world_now ∙ ap closed stands.world
+      ap unpiped now.0.0.world_now ∙ ap closed stands.world
   stands_after end.Stopped done.StoreFault follows closes = tt
   stands_after end.Stopped done.LaunchFault follows closes = tt
   stands_after why answer follows closes = tt

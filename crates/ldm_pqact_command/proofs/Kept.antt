@@ -80,7 +80,7 @@ closes_count answer old new closes = by_spent old.outputs.spent answer closes
     by_spent : (spent : Option Fault) (answer : Done) → ClosesBy spent answer old new → Counted old new
     by_spent (Some fault) answer closes =
         record { store = omega (arith, ap (λ (s : Standing). s.store.faults) closes.1); launcher = omega (arith, ap (λ (s : Standing). s.launcher.faults) closes.1) }
-    by_spent None done.Ok closes = record { store = omega (arith, closes.0.store_faults); launcher = omega (arith, closes.0.launcher_faults) }
+    by_spent None done.Ok closes = record { store = omega (arith, closes.0.0.store_faults); launcher = omega (arith, closes.0.0.launcher_faults) }
     by_spent None done.StoreFault closes = record {
       store = rose_le old.store.faults new.store.faults closes.0.rose;
       launcher = omega (arith, ap (λ (l : LauncherRecord). l.faults) closes.0.launcher);

@@ -1,6 +1,7 @@
-use Rattle.std.proofs.Common.{sym, subst, List, ◌-◌, length, take}
-use Rattle.ldm_actions.specs.OpenFiles.{KeepsFiles, KeepsOr, file_side}
-use Rattle.ldm_actions.proofs.FileSteps.{shuts_oldest}
+use Rattle.std.proofs.Common.{◌≡◌, ◌∙◌, Ok, sym, subst, List, ◌-◌, length, take}
+use Rattle.ldm_actions.specs.Kept.{last_of}
+use Rattle.ldm_actions.specs.OpenFiles.{KeepsFiles, KeepsOr, file_side, shut_in}
+use Rattle.ldm_actions.proofs.FileSteps.{shuts_no_oldest, shuts_oldest}
 use Rattle.ldm_actions.proofs.KeptLemmas.{Entry}
 use Rattle.ldm_actions.proofs.open_files.shut_oldest.Goals as goal
 
@@ -9,7 +10,17 @@ returns-in-Some g c =
     let old = g.F.Store.tells c.args.store.now in
     let new = g.F.Store.tells c.shut.new.self in
     let kept = c.take_oldest.new.self in
-    subst (λ (all : List Entry). KeepsFiles (file_side all old) → KeepsOr c.shut.result (take (length all - 1) all) (file_side all old) (file_side kept new))
+    subst
+    (λ (all : List Entry). KeepsFiles (file_side all old) → KeepsOr c.shut.result (take (length all - 1) all) (shut_in (last_of all) old) (file_side all old)
+    (file_side kept new))
     (sym c.in-Some.ensures.1)
     (shuts_oldest c.shut.result (c.in-Some.ensures.0, c.in-Some.number) kept old new c.shut.ensures.shut)
     c.requires
+
+pub returns-in-None : goal.returns-in-None
+returns-in-None g c =
+    let store = g.F.Store.tells c.args.store.now in
+    let files = c.args.files.now in
+    let same : files ≡ c.take_oldest.new.self = c.in-None.ensures.0 ∙ sym c.in-None.ensures.1 in
+    subst (λ (now : List Entry). KeepsOr (Ok tt) (take (length files - 1) files) (shut_in (last_of files) store) (file_side files store) (file_side now store)) same
+    (shuts_no_oldest files store c.in-None.ensures.0 c.requires)

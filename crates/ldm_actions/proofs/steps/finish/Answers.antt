@@ -11,9 +11,9 @@ returns-in-Nowhere g c =
     let hand = c.args.hand in
     let old = kept_in c.args.files.now c.args.piped.now (g.F.Store.tells c.args.store.now) (g.L.Launcher.tells c.args.launcher.now) in
     subst
-    (λ (place : Place). FinishesKept done.Ok (record { target = target_of place c.args.files.now; strip = hand.strip; close = hand.close }) old old)
+    (λ (place : Place). FinishesKept done.Ok (record { target = target_of place c.args.files.now; strip = hand.strip; close = hand.close; flush = hand.flush }) old old)
     (sym c.in-Nowhere.is)
-    (nothing_finished hand.strip hand.close old c.requires.keeps)
+    (nothing_finished hand.strip hand.close hand.flush old c.requires.keeps)
 
 pub returns-in-Ok : goal.returns-in-Ok
 returns-in-Ok g c =
@@ -24,10 +24,10 @@ returns-in-Ok g c =
     let store_now = g.F.Store.tells c.finish.new.store in
     let launcher = g.L.Launcher.tells c.args.launcher.now in
     subst
-    (λ (place : Place). FinishesKept done.Ok (record { target = target_of place files; strip = hand.strip; close = hand.close })
+    (λ (place : Place). FinishesKept done.Ok (record { target = target_of place files; strip = hand.strip; close = hand.close; flush = hand.flush })
     (kept_in files piped store launcher) (kept_in c.finish.new.files piped store_now launcher))
     (sym c.in-File.is)
-    (file_is_finished files c.finish.new.files piped store store_now launcher (newest_path files) hand.strip hand.close c.requires.keeps c.in-Ok.ensures)
+    (file_is_finished files c.finish.new.files piped store store_now launcher (newest_path files) hand.strip hand.close hand.flush c.requires.keeps c.in-Ok.ensures)
 
 pub returns-in-Err : goal.returns-in-Err
 returns-in-Err g c =
@@ -38,10 +38,10 @@ returns-in-Err g c =
     let store_now = g.F.Store.tells c.finish.new.store in
     let launcher = g.L.Launcher.tells c.args.launcher.now in
     subst
-    (λ (place : Place). FinishesKept done.StoreFault (record { target = target_of place files; strip = hand.strip; close = hand.close })
+    (λ (place : Place). FinishesKept done.StoreFault (record { target = target_of place files; strip = hand.strip; close = hand.close; flush = hand.flush })
     (kept_in files piped store launcher) (kept_in c.finish.new.files piped store_now launcher))
     (sym c.in-File.is)
-    (file_not_finished files c.finish.new.files piped store store_now launcher (newest_path files) hand.strip hand.close c.in-Err.ensures)
+    (file_not_finished files c.finish.new.files piped store store_now launcher (newest_path files) hand.strip hand.close hand.flush c.in-Err.ensures)
 
 pub returns-in-Ok-finish : goal.returns-in-Ok-finish
 returns-in-Ok-finish g c =
@@ -53,10 +53,10 @@ returns-in-Ok-finish g c =
     let launcher = g.L.Launcher.tells c.args.launcher.now in
     let launcher_now = g.L.Launcher.tells c.finish-in-Child.new.launcher in
     subst
-    (λ (place : Place). FinishesKept done.Ok (record { target = target_of place files; strip = hand.strip; close = hand.close })
+    (λ (place : Place). FinishesKept done.Ok (record { target = target_of place files; strip = hand.strip; close = hand.close; flush = hand.flush })
     (kept_in files piped store launcher) (kept_in files piped_now store launcher_now))
     (sym c.in-Child.is)
-    (program_finished files piped piped_now store launcher launcher_now hand.strip hand.close c.requires.keeps c.in-Ok-finish.ensures)
+    (program_finished files piped piped_now store launcher launcher_now hand.strip hand.close hand.flush c.requires.keeps c.in-Ok-finish.ensures)
 
 pub returns-in-Err-finish : goal.returns-in-Err-finish
 returns-in-Err-finish g c =
@@ -68,7 +68,7 @@ returns-in-Err-finish g c =
     let launcher = g.L.Launcher.tells c.args.launcher.now in
     let launcher_now = g.L.Launcher.tells c.finish-in-Child.new.launcher in
     subst
-    (λ (place : Place). FinishesKept done.LaunchFault (record { target = target_of place files; strip = hand.strip; close = hand.close })
+    (λ (place : Place). FinishesKept done.LaunchFault (record { target = target_of place files; strip = hand.strip; close = hand.close; flush = hand.flush })
     (kept_in files piped store launcher) (kept_in files piped_now store launcher_now))
     (sym c.in-Child.is)
-    (program_not_finished files piped piped_now store launcher launcher_now hand.strip hand.close c.in-Err-finish.ensures)
+    (program_not_finished files piped piped_now store launcher launcher_now hand.strip hand.close hand.flush c.in-Err-finish.ensures)

@@ -11,9 +11,9 @@ returns-in-Nowhere g c =
     let hand = c.args.hand in
     let old = kept_in c.args.files.now c.args.piped.now (g.F.Store.tells c.args.store.now) (g.L.Launcher.tells c.args.launcher.now) in
     subst
-    (λ (place : Place). GivesKept done.Ok (record { target = target_of place c.args.files.now; strip = hand.strip; close = hand.close }) c.args.bytes.now old old)
+    (λ (place : Place). GivesKept done.Ok (record { target = target_of place c.args.files.now; strip = hand.strip; close = hand.close; flush = hand.flush }) c.args.bytes.now old old)
     (sym c.in-Nowhere.is)
-    (nothing_given hand.strip hand.close c.args.bytes.now old c.requires.keeps)
+    (nothing_given hand.strip hand.close hand.flush c.args.bytes.now old c.requires.keeps)
 
 pub returns-in-Ok : goal.returns-in-Ok
 returns-in-Ok g c =
@@ -24,10 +24,10 @@ returns-in-Ok g c =
     let store_now = g.F.Store.tells c.append_kept.new.store in
     let launcher = g.L.Launcher.tells c.args.launcher.now in
     subst
-    (λ (place : Place). GivesKept done.Ok (record { target = target_of place files; strip = hand.strip; close = hand.close }) c.args.bytes.now
+    (λ (place : Place). GivesKept done.Ok (record { target = target_of place files; strip = hand.strip; close = hand.close; flush = hand.flush }) c.args.bytes.now
     (kept_in files piped store launcher) (kept_in files piped store_now launcher))
     (sym c.in-File.is)
-    (file_given files piped store store_now launcher (c.newest.ensures.0, c.newest.result) c.newest.ensures.1 c.requires.keeps hand.strip hand.close
+    (file_given files piped store store_now launcher (c.newest.ensures.0, c.newest.result) c.newest.ensures.1 c.requires.keeps hand.strip hand.close hand.flush
     c.args.bytes.now c.in-Ok.ensures)
 
 pub returns-in-Err : goal.returns-in-Err
@@ -39,10 +39,10 @@ returns-in-Err g c =
     let store_now = g.F.Store.tells c.append_kept.new.store in
     let launcher = g.L.Launcher.tells c.args.launcher.now in
     subst
-    (λ (place : Place). GivesKept done.StoreFault (record { target = target_of place files; strip = hand.strip; close = hand.close }) c.args.bytes.now
+    (λ (place : Place). GivesKept done.StoreFault (record { target = target_of place files; strip = hand.strip; close = hand.close; flush = hand.flush }) c.args.bytes.now
     (kept_in files piped store launcher) (kept_in files piped store_now launcher))
     (sym c.in-File.is)
-    (file_not_given files piped store store_now launcher (c.newest.ensures.0, c.newest.result) c.newest.ensures.1 c.requires.keeps hand.strip hand.close
+    (file_not_given files piped store store_now launcher (c.newest.ensures.0, c.newest.result) c.newest.ensures.1 c.requires.keeps hand.strip hand.close hand.flush
     c.args.bytes.now c.in-Err.field-0 c.in-Err.ensures)
 
 pub returns-in-Ok-feed_kept : goal.returns-in-Ok-feed_kept
@@ -54,8 +54,8 @@ returns-in-Ok-feed_kept g c =
     let launcher = g.L.Launcher.tells c.args.launcher.now in
     let launcher_now = g.L.Launcher.tells c.feed_kept.new.launcher in
     subst
-    (λ (place : Place). GivesKept done.Ok (record { target = target_of place files; strip = hand.strip; close = hand.close }) c.args.bytes.now
+    (λ (place : Place). GivesKept done.Ok (record { target = target_of place files; strip = hand.strip; close = hand.close; flush = hand.flush }) c.args.bytes.now
     (kept_in files piped store launcher) (kept_in files piped store launcher_now))
     (sym c.in-Child.is)
-    (child_given files piped store launcher launcher_now (c.newest-in-Child.ensures.0, c.newest-in-Child.result) c.newest-in-Child.ensures.1 c.requires.keeps hand.strip hand.close
+    (child_given files piped store launcher launcher_now (c.newest-in-Child.ensures.0, c.newest-in-Child.result) c.newest-in-Child.ensures.1 c.requires.keeps hand.strip hand.close hand.flush
     c.args.bytes.now c.in-Ok-feed_kept.ensures)
