@@ -1,4 +1,5 @@
 pub mod Places
+pub mod Fronts
 pub mod Joins
 pub mod Outside
 pub mod Laws

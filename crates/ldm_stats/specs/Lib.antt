@@ -1,5 +1,6 @@
 pub mod Place
 pub mod PlaceOrder
+pub mod Fronts
 pub mod Totals
 pub mod Joining
 pub mod Table

@@ -1,10 +1,12 @@
 //! What products are counted by.
 ghost use Rattle.std.specs.Prelude.{◌≡◌, ◌≤◌, length, Some, refl};
-ghost use Rattle.std.specs.Ordering.{eq_by_cmp};
+ghost use Rattle.std.specs.Ordering.{eq_by_cmp, nat_cmp};
+ghost use Rattle.std.specs.Cmp.Lexicographic.{slice_cmp};
 ghost use Rattle.std.specs.Cmp.{partial_equiv_from_equiv, eq_by_cmp_equiv, partial_order_from_total};
 ghost use Rattle.ldm_stats.specs.Place.{place_cmp};
 ghost use Rattle.ldm_stats.specs.Totals.{hour_of as hour_counted, place_of};
 ghost use Rattle.ldm_stats.specs.PlaceOrder.{places_total};
+ghost use Rattle.ldm_stats.specs.Fronts.{front};
 
 use arrayvec::ArrayVec;
 use ldm_types::{Feed, Info, LONGEST_ORIGIN, Micros};
@@ -133,10 +135,38 @@ impl Ord for Place {
     fn cmp(&self, other: &Place) -> Ordering {
         match self.hour.cmp(&other.hour) {
             Ordering::Equal => match self.feed.0.cmp(&other.feed.0) {
-                Ordering::Equal => self.origin().cmp(other.origin()),
+                Ordering::Equal => origin_cmp(self.origin(), other.origin()),
                 order => order,
             },
             order => order,
         }
     }
+}
+
+// Two origins by their bytes. Where both have eight, the first eight of each are compared as one number, since most
+// origins differ there.
+fn origin_cmp<'a>(one: &'a [u8], other: &'a [u8]) -> Ordering
+    ensures { result ≡ slice_cmp nat_cmp one.now other.now }
+{
+    if one.len() >= 8 && other.len() >= 8 {
+        let one_front = front_of(one);
+        let other_front = front_of(other);
+        if one_front < other_front {
+            return Ordering::Less;
+        }
+        if other_front < one_front {
+            return Ordering::Greater;
+        }
+    }
+    one.cmp(other)
+}
+
+// The number that the first eight bytes spell, the greatest first.
+fn front_of(origin: &[u8]) -> u64
+    requires { 8 ≤ length origin.now }
+    ensures { result ≡ front 8 0 origin.now }
+{
+    u64::from_be_bytes([
+        origin[0], origin[1], origin[2], origin[3], origin[4], origin[5], origin[6], origin[7],
+    ])
 }

@@ -1,0 +1,71 @@
+-- Bytes are ordered as the numbers that their first ones spell, where these differ.
+use Rattle.std.proofs.Common.{◌≡◌, ◌∙◌, ℕ, zero, suc, ◌+◌, ◌*◌, ◌<◌, ◌≤◌, List, [], ◌∷◌, length, get_or, refl, sym, ap, subst, arith}
+use Rattle.std.specs.declared.cmp.Ordering.{Ordering}
+use Rattle.std.specs.declared.cmp.Ordering.TheVariants.{Less, Equal, Greater}
+use Rattle.std.specs.Ordering.{nat_cmp, ordering_then, MatchOrdering}
+use Rattle.std.specs.Cmp.{nat_cmp_is}
+use Rattle.std.specs.Cmp.Lexicographic.{slice_cmp}
+use Rattle.std.proofs.lemmas.Cmp.{ranked}
+use Rattle.ldm_stats.specs.Fronts.{front}
+
+abbrev pub AreBytes : List ℕ → Type 0
+AreBytes xs = (k : ℕ) → get_or xs k 0 < 256
+
+rises : (n a b : ℕ) (xs ys : List ℕ) → n ≤ length xs → n ≤ length ys → AreBytes xs → a < b → front n a xs < front n b ys
+rises zero a b xs ys p q h less = less
+rises (suc n) a b [] ys p q h less = absurd (omega arith)
+rises (suc n) a b (x ∷ xs) [] p q h less = absurd (omega arith)
+rises (suc n) a b (x ∷ xs) (y ∷ ys) p q h less =
+    let small : x < 256 = h 0 in
+    rises n (a * 256 + x) (b * 256 + y) xs ys (omega arith) (omega arith) (λ k. h (suc k)) (omega arith)
+
+pub by_fronts : (n a : ℕ) (xs ys : List ℕ) → n ≤ length xs → n ≤ length ys → AreBytes xs → AreBytes ys
+    → (front n a xs ≡ front n a ys → ⊥) → slice_cmp nat_cmp xs ys ≡ nat_cmp (front n a xs) (front n a ys)
+by_fronts zero a xs ys p q g h differ = absurd (differ refl)
+by_fronts (suc n) a [] ys p q g h differ = absurd (omega arith)
+by_fronts (suc n) a (x ∷ xs) [] p q g h differ = absurd (omega arith)
+by_fronts (suc n) a (x ∷ xs) (y ∷ ys) p q g h differ =
+    by (by_fronts n (a * 256 + x) xs ys (omega arith) (omega arith) (λ k. g (suc k)) (λ k. h (suc k))) (nat_cmp x y) refl
+    (ranked x y (nat_cmp x y) refl)
+  where
+    by : ((front n (a * 256 + x) xs ≡ front n (a * 256 + x) ys → ⊥) → slice_cmp nat_cmp xs ys ≡ nat_cmp (front n (a * 256 + x) xs) (front n (a * 256 + x) ys))
+        → (r : Ordering) → nat_cmp x y ≡ r → MatchOrdering r (x < y) (x ≡ y) (y < x)
+        → ordering_then (nat_cmp x y) (slice_cmp nat_cmp xs ys) ≡ nat_cmp (front n (a * 256 + x) xs) (front n (a * 256 + y) ys)
+    by rest Less e l =
+        let under : x < y = l in
+        let t = rises n (a * 256 + x) (a * 256 + y) xs ys (omega arith) (omega arith) (λ k. g (suc k)) (omega arith) in
+        ap (λ (r : Ordering). ordering_then r (slice_cmp nat_cmp xs ys)) e ∙ nat_cmp_is _ _ Less t
+    by rest Greater e l =
+        let over : y < x = l in
+        let t = rises n (a * 256 + y) (a * 256 + x) ys xs (omega arith) (omega arith) (λ k. h (suc k)) (omega arith) in
+        ap (λ (r : Ordering). ordering_then r (slice_cmp nat_cmp xs ys)) e ∙ nat_cmp_is _ _ Greater t
+    by rest Equal e l =
+        let level : x ≡ y = l in
+        let other = λ (z : ℕ). front n (a * 256 + z) ys in
+        let P : ℕ → Type 0 = λ z. slice_cmp nat_cmp xs ys ≡ nat_cmp (front n (a * 256 + x) xs) (other z) in
+        ap (λ (r : Ordering). ordering_then r (slice_cmp nat_cmp xs ys)) e
+        ∙ subst P level (rest (λ same. differ (same ∙ ap other level)))
+
+pub eight_are : (xs : List ℕ) → 8 ≤ length xs
+    → get_or xs 0 0 * 72057594037927936 + get_or xs 1 0 * 281474976710656 + get_or xs 2 0 * 1099511627776 + get_or xs 3 0 * 4294967296
+    + get_or xs 4 0 * 16777216 + get_or xs 5 0 * 65536 + get_or xs 6 0 * 256 + get_or xs 7 0 ≡ front 8 0 xs
+eight_are [] le = absurd (omega arith)
+eight_are (a ∷ []) le = absurd (omega arith)
+eight_are (a ∷ b ∷ []) le = absurd (omega arith)
+eight_are (a ∷ b ∷ c ∷ []) le = absurd (omega arith)
+eight_are (a ∷ b ∷ c ∷ d ∷ []) le = absurd (omega arith)
+eight_are (a ∷ b ∷ c ∷ d ∷ e ∷ []) le = absurd (omega arith)
+eight_are (a ∷ b ∷ c ∷ d ∷ e ∷ f ∷ []) le = absurd (omega arith)
+eight_are (a ∷ b ∷ c ∷ d ∷ e ∷ f ∷ g ∷ []) le = absurd (omega arith)
+eight_are (a ∷ b ∷ c ∷ d ∷ e ∷ f ∷ g ∷ h ∷ xs) le = omega arith
+
+module _ (xs ys : List ℕ) (x y : ℕ) (long_x : 8 ≤ length xs) (long_y : 8 ≤ length ys) (g : AreBytes xs) (h : AreBytes ys) (e : x ≡ front 8 0 xs) (f : y ≡ front 8 0 ys) where
+  pub less_by : x < y → Less ≡ slice_cmp nat_cmp xs ys
+  less_by less =
+      let under : front 8 0 xs < front 8 0 ys = omega (arith, e, f, less) in
+      nat_cmp_is _ _ Less under ∙ sym (by_fronts 8 0 xs ys long_x long_y g h (λ same. omega (arith, same, under)))
+
+  pub greater_by : y < x → Greater ≡ slice_cmp nat_cmp xs ys
+  greater_by less =
+      let over : front 8 0 ys < front 8 0 xs = omega (arith, e, f, less) in
+      nat_cmp_is _ _ Greater over ∙ sym (by_fronts 8 0 xs ys long_x long_y g h (λ same. omega (arith, same, over)))
