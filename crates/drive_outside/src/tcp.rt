@@ -14,11 +14,12 @@ use std::rt::HostRuntime;
 use std::time::Duration;
 
 // Limits that a test can wait for.
-fn short() -> Timeouts {
+fn short(rt: HostRuntime) -> Timeouts {
     Timeouts {
         connect: Duration::from_millis(100),
         silent: Duration::from_millis(100),
         stalled: Duration::from_millis(100),
+        ..Timeouts::new(rt)
     }
 }
 
@@ -127,7 +128,7 @@ fn greets<I: Dial, D: Door>(dial: &mut I, door: &mut D, port: u16, count: u64) -
 // So many sessions, one after another.
 fn sessions(rt: HostRuntime, trial: &mut Trial) {
     let count = trial.number();
-    let Some(mut both) = door_and_dial(rt, Timeouts::new()) else {
+    let Some(mut both) = door_and_dial(rt, Timeouts::new(rt)) else {
         return trial.refuse("the system failed");
     };
     let came = greets(&mut both.dial, &mut both.door, both.port, count);
@@ -163,7 +164,7 @@ fn two_ends(rt: HostRuntime, trial: &mut Trial, timeouts: Timeouts) -> Option<En
 
 // A peer that talks, and closes.
 fn talks(rt: HostRuntime, trial: &mut Trial) {
-    match two_ends(rt, trial, Timeouts::new()) {
+    match two_ends(rt, trial, Timeouts::new(rt)) {
         Some(mut ends) => talk(trial, &mut ends.near, &mut ends.far),
         None => trial.refuse("the system failed"),
     }
@@ -171,7 +172,7 @@ fn talks(rt: HostRuntime, trial: &mut Trial) {
 
 // A peer that goes with bytes that it did not read: the system resets the connection.
 fn resets(rt: HostRuntime, trial: &mut Trial) {
-    let Some(Ends { mut near, far }) = two_ends(rt, trial, Timeouts::new()) else {
+    let Some(Ends { mut near, far }) = two_ends(rt, trial, Timeouts::new(rt)) else {
         return trial.refuse("the system failed");
     };
     tell_put(trial, near.send(b"ab"));
@@ -181,7 +182,7 @@ fn resets(rt: HostRuntime, trial: &mut Trial) {
 
 // A peer that never speaks, and one that stops reading.
 fn waits(rt: HostRuntime, trial: &mut Trial) {
-    let Some(mut ends) = two_ends(rt, trial, short()) else {
+    let Some(mut ends) = two_ends(rt, trial, short(rt)) else {
         return trial.refuse("the system failed");
     };
     tell_got(trial, listen(&mut ends.near));
@@ -196,7 +197,7 @@ fn half_peer(rt: HostRuntime, port: u16) -> Option<TcpStream> {
 }
 
 fn halves(rt: HostRuntime, trial: &mut Trial) {
-    let Some(mut both) = door_and_dial(rt, Timeouts::new()) else {
+    let Some(mut both) = door_and_dial(rt, Timeouts::new(rt)) else {
         return trial.refuse("the system failed");
     };
     let Some(_peer) = half_peer(rt, both.port) else {
@@ -238,7 +239,7 @@ fn fails_unanswered<I: Dial>(dial: &mut I, port: u16) -> bool
 
 // A door that lets nobody in.
 fn unanswered(rt: HostRuntime, trial: &mut Trial) {
-    let Some(mut both) = door_and_dial(rt, short()) else {
+    let Some(mut both) = door_and_dial(rt, short(rt)) else {
         return trial.refuse("the system failed");
     };
     let failed = fails_unanswered(&mut both.dial, both.port);
@@ -303,10 +304,12 @@ fn busy(rt: HostRuntime, trial: &mut Trial) {
     let Some(mut station) = station_at(rt, port) else {
         return trial.refuse("the system failed");
     };
-    let mut dial = RealDial::new(rt, Timeouts::new());
+    let mut dial = RealDial::new(rt, Timeouts::new(rt));
     let Dialled::Linked(mut peer) = dial.connect(b"127.0.0.1", port) else {
         return trial.refuse("the system failed");
     };
+    // a peer that said nothing comes to no door of a net
+    let _ = peer.send(b"a");
     let Came::Peer { mut link, .. } = station.door.accept() else {
         return trial.refuse("the system failed");
     };
@@ -371,7 +374,7 @@ fn visit(rt: HostRuntime, trial: &mut Trial) {
 // Connects to a host, and sends it a greeting.
 fn call(rt: HostRuntime, trial: &mut Trial) {
     let host = trial.word();
-    let mut dial = RealDial::new(rt, Timeouts::new());
+    let mut dial = RealDial::new(rt, Timeouts::new(rt));
     match dial.connect(host.as_bytes(), next_port(trial)) {
         Dialled::Linked(mut link) => tell_put(trial, link.send(b"hello")),
         Dialled::Failed => tell_word(trial, "failed"),

@@ -4,7 +4,9 @@
 //! world, and the words.
 #![tactic(auto)]
 
-use ldm_adapters::{RealClock, RealDisk, RealLauncher, RealNet, RealSink, RealSource, RealStore};
+use ldm_adapters::{
+    RealClock, RealDisk, RealLauncher, RealNet, RealSink, RealSource, RealStore, StandardStreams,
+};
 use ldm_commands::{World, run_ldm};
 use ldm_status::{Status, Streams};
 use std::env;
@@ -19,6 +21,8 @@ fn words(rt: &HostRuntime) -> io::Result<Vec<String>> {
 }
 
 fn main(rt: HostRuntime) -> ExitCode {
+    // before anything is opened, and up to the end
+    let _streams = StandardStreams::hold(rt);
     let mut world = World {
         streams: Streams {
             source: RealSource::new(rt.stdin()),

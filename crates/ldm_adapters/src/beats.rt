@@ -1,4 +1,4 @@
-//! What cuts the sleep of a gate short.
+//! What cuts the sleep of a gate short, and what makes it longer.
 
 use std::alloc::{AllocError, Global};
 use std::sync::Arc;
@@ -8,12 +8,14 @@ use std::sync::atomic::{AtomicBool, AtomicU64, Ordering};
 /// gates of those stations that feed look sooner.
 ///
 /// Only a station whose door let a peer in feeds. Who asks for products at a dial waits its whole time before it asks
-/// again.
+/// again: the longer, the more tries of this station in a row came to nothing.
 #[derive(Drop)]
 pub struct Beats {
     count: Arc<AtomicU64>,
     // Whether the door of this station let a peer in.
     serves: Arc<AtomicBool>,
+    // How many tries of this station in a row came to nothing.
+    misses: Arc<AtomicU64>,
 }
 
 impl Beats {
@@ -22,6 +24,7 @@ impl Beats {
         Ok(Beats {
             count: Arc::new(alloc, AtomicU64::new(0))?,
             serves: Arc::new(alloc, AtomicBool::new(false))?,
+            misses: Arc::new(alloc, AtomicU64::new(0))?,
         })
     }
 
@@ -30,6 +33,7 @@ impl Beats {
         Ok(Beats {
             count: Arc::try_clone(&self.count)?,
             serves: Arc::new(alloc, AtomicBool::new(false))?,
+            misses: Arc::new(alloc, AtomicU64::new(0))?,
         })
     }
 
@@ -38,6 +42,7 @@ impl Beats {
         Ok(Beats {
             count: Arc::try_clone(&self.count)?,
             serves: Arc::try_clone(&self.serves)?,
+            misses: Arc::try_clone(&self.misses)?,
         })
     }
 
@@ -59,5 +64,20 @@ impl Beats {
     /// How often bytes came.
     pub fn count(&self) -> u64 {
         self.count.load(Ordering::SeqCst)
+    }
+
+    /// A try of the dial came to nothing.
+    pub fn miss(&self) {
+        let _ = self.misses.fetch_add(1, Ordering::SeqCst);
+    }
+
+    /// A try of the dial came to a session.
+    pub fn hit(&self) {
+        self.misses.store(0, Ordering::SeqCst);
+    }
+
+    /// How many tries of the dial came to nothing since one came to a session.
+    pub fn misses(&self) -> u64 {
+        self.misses.load(Ordering::SeqCst)
     }
 }

@@ -12,6 +12,10 @@ use ldm_outside::{Dial, Dialled};
 use std::net::{TcpStream, ToSocketAddrs};
 use std::rt::HostRuntime;
 use std::str;
+use std::time::{Duration, Instant};
+
+/// How long a session lasts at least that did not come to nothing, in seconds.
+pub const SESSION_SECONDS: u64 = 10;
 
 /// A dial over TCP. It tells nothing of whom it was asked for.
 ///
@@ -24,6 +28,8 @@ pub struct RealDial {
     beats: Option<Beats>,
     faults: u64,
     links: RealLending,
+    // When the last link was connected.
+    connected: Option<Instant>,
 }
 
 impl RealDial {
@@ -44,6 +50,26 @@ impl RealDial {
             beats,
             faults: 0,
             links: RealLending::new(),
+            connected: None,
+        }
+    }
+
+    // Whether the session over the last link came to something.
+    fn is_hit(&self) -> bool {
+        match self.connected {
+            Some(connected) => connected
+                .elapsed(&self.rt)
+                .is_ok_and(|lasted| lasted >= Duration::from_secs(SESSION_SECONDS)),
+            None => false,
+        }
+    }
+
+    // Tells the gate of the station what a try came to.
+    fn tell(&self, is_hit: bool) {
+        match &self.beats {
+            Some(beats) if is_hit => beats.hit(),
+            Some(beats) => beats.miss(),
+            None => {}
         }
     }
 
@@ -83,10 +109,12 @@ impl Dial for RealDial {
         let beats = self.beats.as_ref().and_then(|beats| beats.share().ok());
         match connect(self.rt, host, port, self.timeouts, beats) {
             Some(link) => {
+                self.connected = Instant::now(&self.rt).ok();
                 self.links.hand_out();
                 Dialled::Linked(link)
             }
             None => {
+                self.tell(false);
                 self.fail();
                 Dialled::Failed
             }
@@ -94,6 +122,7 @@ impl Dial for RealDial {
     }
 
     fn give_back(&mut self, link: RealLink) {
+        self.tell(self.is_hit());
         self.links.take_back(link);
     }
 }

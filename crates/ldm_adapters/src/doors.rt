@@ -7,6 +7,7 @@ ghost use Rattle.ldm_adapters.specs.Told.{told_by_door, told_by_link};
 use crate::beats::Beats;
 use crate::lending::RealLending;
 use crate::links::{RealLink, Timeouts};
+use crate::lobby::Way;
 use arrayvec::{ArrayString, ArrayVec};
 use ldm_outside::{Came, Door, LONGEST_HOST};
 use std::fmt::Write;
@@ -18,7 +19,7 @@ use std::net::{IpAddr, TcpListener, TcpStream};
 /// The host of a peer is the text of its address.
 #[derive(Drop)]
 pub struct RealDoor {
-    listener: TcpListener,
+    entry: Entry,
     timeouts: Timeouts,
     beats: Option<Beats>,
     faults: u64,
@@ -26,24 +27,60 @@ pub struct RealDoor {
     links: RealLending,
 }
 
+// How peers come to a door.
+#[derive(Drop)]
+enum Entry {
+    // As they come to a listener.
+    Listener(TcpListener),
+    // From a lobby, once they spoke.
+    Lobby(Way),
+}
+
+impl Entry {
+    // The next peer, and its address. Its link is out from now on.
+    fn wait(&self) -> io::Result<(TcpStream, IpAddr)> {
+        match self {
+            Entry::Listener(listener) => accept_peer(listener),
+            Entry::Lobby(way) => way.wait(),
+        }
+    }
+
+    // The link of the last peer is out no more.
+    fn give_back(&self) {
+        if let Entry::Lobby(way) = self {
+            way.give_back();
+        }
+    }
+
+    fn port(&self) -> io::Result<u16> {
+        match self {
+            Entry::Listener(listener) => Ok(listener.local_addr()?.port()),
+            Entry::Lobby(way) => way.port(),
+        }
+    }
+}
+
 impl RealDoor {
     /// A door where what comes to the listener comes in, over links that wait no longer than this.
     pub fn new(listener: TcpListener, timeouts: Timeouts) -> RealDoor
         ensures { IsNewDoor (told_by_door result) }
     {
-        RealDoor::beating(listener, timeouts, None)
+        RealDoor::made(Entry::Listener(listener), timeouts, None)
     }
 
-    /// The same, over whose links each piece that comes is a beat.
-    pub(crate) fn beating(
-        listener: TcpListener,
-        timeouts: Timeouts,
-        beats: Option<Beats>,
-    ) -> RealDoor
+    /// A door where those of a lobby come in who spoke, over links that wait no longer than this, and of which each
+    /// piece that comes is a beat.
+    pub(crate) fn of_lobby(way: Way, timeouts: Timeouts, beats: Beats) -> RealDoor
+        ensures { IsNewDoor (told_by_door result) }
+    {
+        RealDoor::made(Entry::Lobby(way), timeouts, Some(beats))
+    }
+
+    fn made(entry: Entry, timeouts: Timeouts, beats: Option<Beats>) -> RealDoor
         ensures { IsNewDoor (told_by_door result) }
     {
         RealDoor {
-            listener,
+            entry,
             timeouts,
             beats,
             faults: 0,
@@ -75,7 +112,7 @@ impl RealDoor {
 
     /// The port that it listens on.
     pub fn port(&self) -> io::Result<u16> {
-        Ok(self.listener.local_addr()?.port())
+        self.entry.port()
     }
 }
 
@@ -104,13 +141,13 @@ fn is_passing(kind: ErrorKind) -> bool {
 
 // A link to the next peer, with the text of its address.
 fn next_peer(
-    listener: &TcpListener,
+    entry: &Entry,
     timeouts: Timeouts,
     beats: Option<Beats>,
 ) -> Option<(ArrayVec<u8, LONGEST_HOST>, RealLink)>
     ensures { IfSome result (λ peer. IsFresh (told_by_link peer.1)) }
 {
-    let (stream, address) = accept_peer(listener).ok()?;
+    let (stream, address) = entry.wait().ok()?;
     Some((
         host_of(address)?,
         RealLink::new(stream, timeouts, beats).ok()?,
@@ -124,7 +161,7 @@ impl Door for RealDoor {
 
     fn accept(&mut self) -> Came<RealLink> {
         let beats = self.beats.as_ref().and_then(|beats| beats.share().ok());
-        match next_peer(&self.listener, self.timeouts, beats) {
+        match next_peer(&self.entry, self.timeouts, beats) {
             Some((host, link)) => {
                 if let Some(beats) = &self.beats {
                     beats.serve();
@@ -134,6 +171,7 @@ impl Door for RealDoor {
                 Came::Peer { host, link }
             }
             None => {
+                self.entry.give_back();
                 self.faults = self.faults.saturating_add(1);
                 Came::Failed
             }
@@ -141,6 +179,7 @@ impl Door for RealDoor {
     }
 
     fn give_back(&mut self, link: RealLink) {
+        self.entry.give_back();
         self.links.take_back(link);
     }
 }

@@ -8,7 +8,7 @@ use crate::streams::write_once;
 use ldm_outside::{Failed, FileNo, FileRead, Put, Store};
 use std::alloc::{AllocError, Global};
 use std::collections::BTreeMap;
-use std::fs::{self, File, OpenOptions};
+use std::fs::{self, File, Metadata, OpenOptions};
 use std::io::{self, ErrorKind, Read, Write};
 use std::marker::Model;
 use std::os::unix::fs::FileTypeExt;
@@ -118,16 +118,36 @@ impl OpenFiles {
     }
 }
 
+// Whether a path leads to what this program was started with: a pipe there is somebody's output.
+fn is_given(path: &str) -> bool {
+    path == "/dev/stdin" || path.starts_with("/dev/fd/")
+}
+
+// Whether what was found under the path is read: a file, or a pipe that the program was started with.
+fn is_read(path: &str, found: &Metadata) -> bool {
+    found.is_file() || found.file_type().is_fifo() && is_given(path)
+}
+
+// Opens the file under the path, to be read. A FIFO, a device and a folder are refused before they are opened: the
+// opening of a FIFO would wait for who writes it.
+fn open_to_read(rt: HostRuntime, path: &str) -> io::Result<File> {
+    if !is_read(path, &fs::metadata(&rt, path)?) {
+        return Err(io::Error::from(ErrorKind::Unsupported));
+    }
+    fs::open(&rt, path)
+}
+
 // At most so many bytes from the front of the file under the path.
 fn read_front(rt: HostRuntime, alloc: Global, path: &str, most: u64) -> io::Result<Vec<u8>> {
     let mut bytes = Vec::new(alloc);
-    fs::open(&rt, path)?.take(most).read_to_end(&mut bytes)?;
+    open_to_read(rt, path)?.take(most).read_to_end(&mut bytes)?;
     Ok(bytes)
 }
 
 /// The files of the system. It does not tell what they have.
 ///
-/// Reading stops one byte behind the limit. A file that is opened is made where it is missing, with its folders.
+/// Reading stops one byte behind the limit. A FIFO or a device that is to be read is a fault, and is not waited for,
+/// but for a pipe under `/dev/stdin` or `/dev/fd/`. A file that is opened is made where it is missing, with its folders.
 /// Nothing is kept of a file that was shut.
 #[derive(Drop)]
 pub struct RealStore {
@@ -190,6 +210,7 @@ impl Store for RealStore {
       paths = s.opened.files.entries;
       opened = None;
       files = None;
+      flushed = None;
     } };
 
     fn read_file(&mut self, alloc: Global, path: &str, limit: u64) -> FileRead {

@@ -18,8 +18,15 @@ pub const LOOK_MILLISECONDS: u64 = 5;
 /// How long an idle call sleeps where bytes came since the last one, in milliseconds.
 pub const BUSY_MILLISECONDS: u64 = 1;
 
+/// The longest sleep of an idle call after tries that came to nothing, in seconds.
+pub const LONGEST_REST_SECONDS: u64 = 30;
+
 /// A gate that lets every call of an actor pass. An idle call sleeps for [`IDLE_MILLISECONDS`]; after so many of these,
 /// where a number was given, it stops. It tells after how many more.
+///
+/// A gate with no number, of a station whose dial tried in vain, sleeps so long after the first of these tries, and
+/// after each further one in a row twice as long, but no longer than [`LONGEST_REST_SECONDS`]. A try is in vain that
+/// does not come to a session of [`SESSION_SECONDS`](crate::SESSION_SECONDS).
 ///
 /// A gate with no number, of a station whose door let a peer in, sleeps no longer than [`BUSY_MILLISECONDS`] where
 /// bytes came over any link of its net since its last idle call, and ends its sleep within [`LOOK_MILLISECONDS`] where
@@ -66,10 +73,23 @@ impl RealGate {
         }
     }
 
+    // How many tries in a row came to nothing, where that matters here.
+    fn misses(&self) -> u64 {
+        match &self.beats {
+            Some(beats) if !beats.serves() => beats.misses(),
+            _ => 0,
+        }
+    }
+
     // Sleeps for one idle call, or until it is worth looking at the queue again. Answers how often bytes had come
     // before.
     fn rest(&self) -> u64 {
         let heard = self.heard();
+        let misses = self.misses();
+        if misses > 0 {
+            thread::sleep(&self.rt, rest_after(misses));
+            return heard;
+        }
         if heard != self.seen {
             thread::sleep(&self.rt, Duration::from_millis(BUSY_MILLISECONDS));
             return heard;
@@ -82,6 +102,19 @@ impl RealGate {
         }
         heard
     }
+}
+
+// How long to sleep after so many tries in a row that came to nothing.
+fn rest_after(misses: u64) -> Duration {
+    let longest = Duration::from_secs(LONGEST_REST_SECONDS);
+    let mut rest = Duration::from_millis(IDLE_MILLISECONDS);
+    for _ in 1..misses {
+        if rest >= longest {
+            break;
+        }
+        rest = rest.saturating_mul(2);
+    }
+    rest.min(longest)
 }
 
 impl Gate for RealGate {

@@ -14,20 +14,37 @@ mod disk;
 mod doors;
 mod files;
 mod gate;
+mod keeper;
 mod lending;
+mod limited;
 mod links;
+mod lobby;
 mod net;
+mod pace;
 mod processes;
+mod seats;
+mod standard;
 mod streams;
+mod waiting;
 
 pub use children::RealLauncher;
 pub use clock::RealClock;
-pub use dials::RealDial;
+pub use dials::{RealDial, SESSION_SECONDS};
 pub use disk::RealDisk;
 pub use doors::RealDoor;
 pub use files::RealStore;
-pub use gate::{BUSY_MILLISECONDS, IDLE_MILLISECONDS, LOOK_MILLISECONDS, RealGate};
+pub use gate::{
+    BUSY_MILLISECONDS, IDLE_MILLISECONDS, LONGEST_REST_SECONDS, LOOK_MILLISECONDS, RealGate,
+};
+pub use keeper::NO_ROOM_SECONDS;
 pub use lending::RealLending;
-pub use links::{CONNECT_SECONDS, RealLink, SILENT_SECONDS, STALLED_SECONDS, Timeouts};
+pub use limited::PEER_MILLISECONDS;
+pub use links::{
+    CONNECT_SECONDS, GRACE_SECONDS, REPLY_SECONDS, REQUEST_SECONDS, RealLink, SILENT_SECONDS,
+    STALLED_SECONDS, Timeouts,
+};
 pub use net::{RealNet, RealStation};
+pub use pace::SLOWEST_RATE;
+pub use standard::StandardStreams;
 pub use streams::{RealSink, RealSource};
+pub use waiting::{FIRST_BYTES_SECONDS, WAITING_MOST, WAITING_OF_ONE_ADDRESS};

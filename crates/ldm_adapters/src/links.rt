@@ -1,51 +1,76 @@
 //! Links over TCP.
 
 use crate::beats::Beats;
-use crate::streams::{read_once, write_once};
-use ldm_outside::{Got, Link, Put};
+use crate::limited::LimitedStream;
+use ldm_outside::{Awaited, Got, Link, LinkFailed, Put};
 use std::io;
-use std::net::{Shutdown, TcpStream};
+use std::net::TcpStream;
+use std::rt::HostRuntime;
 use std::time::Duration;
 
 /// How long a dial waits for one address of a host to answer, in seconds.
 pub const CONNECT_SECONDS: u64 = 10;
 
-/// How long a link waits for bytes of its peer, in seconds.
+/// How long a link waits for the first bytes of what a feed brings, and for any of the rest of a record, in seconds.
 pub const SILENT_SECONDS: u64 = 120;
 
-/// How long a link waits for its peer to take bytes, in seconds.
+/// How long a link waits in one write for its peer to take bytes, in seconds.
 pub const STALLED_SECONDS: u64 = 120;
 
-/// How long a dial and a link wait for a peer: a call that waited so long has failed. Each is above 0; where one is 0,
-/// no link is made.
-#[derive(Clone, Copy, Debug)]
+/// How long a link waits for a request, in seconds, from the last answer that was sent on. What comes meanwhile and is
+/// answered by nothing does not put that off.
+pub const REQUEST_SECONDS: u64 = 60;
+
+/// How long a link waits for a reply and its rest, in seconds, from the last bytes that were sent on.
+pub const REPLY_SECONDS: u64 = 120;
+
+/// How long a link waits for the rest of a record, and in writes for its peer to take bytes, beside the time that the
+/// bytes which moved take at [`SLOWEST_RATE`](crate::SLOWEST_RATE), in seconds.
+pub const GRACE_SECONDS: u64 = 20;
+
+/// How long a dial and a link wait for a peer, by a clock of the system that is not set: a call that waited so long has
+/// failed. Each is above 0; where one of the socket's is 0, no link is made.
+#[derive(Clone, Copy)]
 pub struct Timeouts {
+    /// Whose clock it is.
+    pub rt: HostRuntime,
     /// For one address of a host to answer.
     pub connect: Duration,
-    /// For bytes of the peer.
+    /// For bytes of a feed, and of the rest of a record.
     pub silent: Duration,
-    /// For the peer to take bytes.
+    /// For the peer to take bytes, in one write.
     pub stalled: Duration,
+    /// For a request.
+    pub request: Duration,
+    /// For a reply.
+    pub reply: Duration,
+    /// For the rest of a record, and for the peer to take bytes, beside the time of those that moved.
+    pub grace: Duration,
 }
 
 impl Timeouts {
-    /// [`CONNECT_SECONDS`], [`SILENT_SECONDS`] and [`STALLED_SECONDS`].
-    pub fn new() -> Timeouts {
+    /// [`CONNECT_SECONDS`], [`SILENT_SECONDS`], [`STALLED_SECONDS`], [`REQUEST_SECONDS`], [`REPLY_SECONDS`] and
+    /// [`GRACE_SECONDS`].
+    pub fn new(rt: HostRuntime) -> Timeouts {
         Timeouts {
+            rt,
             connect: Duration::from_secs(CONNECT_SECONDS),
             silent: Duration::from_secs(SILENT_SECONDS),
             stalled: Duration::from_secs(STALLED_SECONDS),
+            request: Duration::from_secs(REQUEST_SECONDS),
+            reply: Duration::from_secs(REPLY_SECONDS),
+            grace: Duration::from_secs(GRACE_SECONDS),
         }
     }
 }
 
 /// A link over TCP. It tells no bytes.
 ///
-/// A peer that vanishes is a fault, and no signal comes; so is one that is waited for too long. A closed link is shut
-/// down in both directions.
+/// A peer that vanishes is a fault, and no signal comes; so is one that is waited for too long. What it is waited for
+/// says how long: [`Timeouts`]. A closed link is shut down in both directions.
 #[derive(Drop)]
 pub struct RealLink {
-    stream: TcpStream,
+    stream: LimitedStream,
     beats: Option<Beats>,
     ends: u64,
     faults: u64,
@@ -66,11 +91,8 @@ impl RealLink {
     ) -> io::Result<RealLink>
         ensures { IfOk result (λ link. IsFresh (told_by_link link)) }
     {
-        stream.set_read_timeout(Some(timeouts.silent))?;
-        stream.set_write_timeout(Some(timeouts.stalled))?;
-        let _ = stream.set_nodelay(true);
         Ok(RealLink {
-            stream,
+            stream: LimitedStream::new(stream, timeouts)?,
             beats,
             ends: 0,
             faults: 0,
@@ -97,8 +119,8 @@ impl Link for RealLink {
 
     ghost tells = { told_by_link };
 
-    fn recv(&mut self, into: &mut [u8]) -> Got {
-        let got = read_once(&mut self.stream, into);
+    fn recv(&mut self, into: &mut [u8], awaited: Awaited) -> Got {
+        let got = self.stream.receive(into, awaited);
         match got {
             Got::Bytes(_) => {
                 if let Some(beats) = &self.beats {
@@ -112,15 +134,23 @@ impl Link for RealLink {
     }
 
     fn send(&mut self, piece: &[u8]) -> Put {
-        let put = write_once(&mut self.stream, piece);
+        let put = self.stream.send(piece);
         if put == Put::Failed {
             self.faults = self.faults.saturating_add(1);
         }
         put
     }
 
+    fn check_peer(&mut self) -> Result<(), LinkFailed> {
+        if self.stream.is_there() {
+            return Ok(());
+        }
+        self.faults = self.faults.saturating_add(1);
+        Err(LinkFailed)
+    }
+
     fn close(&mut self) {
-        let _ = self.stream.shutdown(Shutdown::Both);
+        self.stream.close();
         self.closed = true;
     }
 }

@@ -10,28 +10,29 @@ use crate::dials::RealDial;
 use crate::doors::RealDoor;
 use crate::gate::RealGate;
 use crate::links::{RealLink, Timeouts};
+use crate::lobby::{Lobby, Way};
 use crate::streams::RealSink;
 use ldm_outside::{Dial, Dialled, Manned, Net, Station};
-use std::alloc::AllocError;
 use std::io::{self, ErrorKind};
 use std::net::{IpAddr, Ipv4Addr, Ipv6Addr, SocketAddr, TcpListener};
 use std::rt::{HostRuntime, Stderr};
+use std::sync::Arc;
 
 /// The outside of one worker, whose log is standard error.
 pub type RealStation = Station<RealDoor, RealDial, RealSink<Stderr>, RealClock, RealGate>;
 
-// A station whose door lets in what comes to the listener.
+// A station whose door lets in those of the lobby who spoke.
 fn station(
     rt: HostRuntime,
-    listener: TcpListener,
+    lobby: &Arc<Lobby>,
     timeouts: Timeouts,
     idles: Option<u32>,
     beats: Beats,
-) -> Result<RealStation, AllocError>
+) -> io::Result<RealStation>
     ensures { IfOk result (λ made. IsNew idles (told_by_station made)) }
 {
     Ok(Station {
-        door: RealDoor::beating(listener, timeouts, Some(beats.share()?)),
+        door: RealDoor::of_lobby(Way::new(lobby)?, timeouts, beats.share()?),
         dial: RealDial::beating(rt, timeouts, Some(beats.share()?)),
         log: RealSink::new(rt.stderr()),
         clock: RealClock::new(rt),
@@ -49,7 +50,7 @@ fn listen(rt: HostRuntime, port: u16) -> io::Result<TcpListener> {
     }
 }
 
-// So many stations, whose doors share one listener.
+// So many stations, whose doors share one lobby.
 fn man(
     rt: HostRuntime,
     port: u16,
@@ -60,12 +61,12 @@ fn man(
     ensures count { IfOk result (λ made. vec_len made ≡ count) }
     ensures new { IfOk result (λ made. All (λ one. IsNew idles (told_by_station one)) made.items) }
 {
-    let listener = listen(rt, port)?;
+    let lobby = Arc::new(rt.alloc(), Lobby::new(rt, listen(rt, port)?)?)?;
     let beats = Beats::new(rt.alloc())?;
     let mut made = Vec::with_capacity(rt.alloc(), count as usize)?;
     for _ in 0..count {
         let beats = beats.beside(rt.alloc())?;
-        let one = station(rt, listener.try_clone()?, timeouts, idles, beats)?;
+        let one = station(rt, &lobby, timeouts, idles, beats)?;
         made.push_reserved(one);
     }
     Ok(made)
@@ -77,6 +78,8 @@ pub struct RealNet {
     dial: RealDial,
     rt: HostRuntime,
     timeouts: Timeouts,
+    // The port that it was asked for last.
+    port: Option<u16>,
     kept: Vec<RealStation>,
 }
 
@@ -86,7 +89,7 @@ impl RealNet {
         ensures kept { result.kept.items ≡ [] }
         ensures dial { IsNewDial (told_by_dial result.dial) }
     {
-        RealNet::with_timeouts(rt, Timeouts::new())
+        RealNet::with_timeouts(rt, Timeouts::new(rt))
     }
 
     /// The same, with links that wait no longer than this.
@@ -98,6 +101,7 @@ impl RealNet {
             dial: RealDial::new(rt, timeouts),
             rt,
             timeouts,
+            port: None,
             kept: Vec::new(rt.alloc()),
         }
     }
@@ -120,6 +124,7 @@ impl Dial for RealNet {
 }
 
 impl Net for RealNet {
+    ghost use Rattle.std.specs.Prelude.{Some};
     ghost use Rattle.ldm_outside.specs.Net.{StationsGive};
     ghost use Rattle.ldm_adapters.specs.Told.{told_by_dial};
 
@@ -135,11 +140,15 @@ impl Net for RealNet {
 
     ghost kept = { λ s. s.kept.items };
 
+    ghost port_asked = { λ s. s.port };
+
     fn stations(&mut self, port: u16, count: u32, idles: Option<u32>) -> Manned<RealStation>
         ensures given { StationsGive told_by_station result count idles (told_by_dial self.old.dial)
             (told_by_dial self.new.dial) }
         ensures kept { self.new.kept.items ≡ self.old.kept.items }
+        ensures asked { self.new.port ≡ Some port }
     {
+        self.port = Some(port);
         match man(self.rt, port, count, self.timeouts, idles) {
             Ok(made) => Manned::Stations(made),
             Err(error) if error.kind() == ErrorKind::OutOfMemory => Manned::OutOfMemory,
@@ -153,6 +162,7 @@ impl Net for RealNet {
     fn keep(&mut self, stations: Vec<RealStation>)
         ensures kept { self.new.kept.items ≡ stations.items }
         ensures same { told_by_dial self.new.dial ≡ told_by_dial self.old.dial }
+        ensures asked { self.new.port ≡ self.old.port }
     {
         self.kept = stations;
     }

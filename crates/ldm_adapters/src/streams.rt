@@ -130,7 +130,7 @@ impl<W: Write> Sink for RealSink<W> {
 }
 
 // What a reader's answer, at a buffer that has room, means of a source.
-fn told_of_read(answer: io::Result<usize>) -> Got
+pub(crate) fn told_of_read(answer: io::Result<usize>) -> Got
     ensures { MatchResult answer (λ n. result ≡ (if n == 0 then Got.End else Got.Bytes n)) (λ _. result ≡ Got.Failed) }
 {
     match answer {
@@ -142,7 +142,7 @@ fn told_of_read(answer: io::Result<usize>) -> Got
 
 // What a writer's answer, at a piece of so many bytes, means of a sink: to take nothing of a piece that is not empty
 // is to fail.
-fn told_of_write(answer: io::Result<usize>, len: usize) -> Put
+pub(crate) fn told_of_write(answer: io::Result<usize>, len: usize) -> Put
     ensures { MatchResult answer (λ n. result ≡ (if not (n == 0) || len == 0 then Put.Took n else Put.Failed))
         (λ _. result ≡ Put.Failed) }
 {
