@@ -46,8 +46,11 @@ IS_HERE = b"a product that is the last of a case"
 # A file that takes no byte.
 FULL = pathlib.Path("/dev/full")
 
-# Enough workers for subscribers that went: a feeding with nothing to send finds that out with its next IS_ALIVE.
+# Enough workers for subscribers that went: a feeding with nothing to send finds that out within a second.
 MANY = ["-w", 24]
+
+# More rests than any case has: with a number of them each is short, also behind sessions that ended early.
+SHORT_RESTS = ["-x", 1_000_000]
 
 
 def until(probe, what, seconds=STEP):
@@ -371,7 +374,7 @@ def relays_over_links_that_break(place):
     products = [product._replace(signed=number(i) * 4) for i, product in enumerate(products)]
     a.put_all(products)
     link = BreakingLink(a.port, [draw.choice([1, 31, 32, 33, *range(1_000, 130_000, 997)]) for _ in range(40)])
-    b = place.node(f"REQUEST ANY .* {link.at}\nALLOW ANY .*\n")
+    b = place.node(f"REQUEST ANY .* {link.at}\nALLOW ANY .*\n", *SHORT_RESTS)
     until(lambda: b.stat().queued == len(products), "the node has all products", 3 * STEP)
     with b.connect() as subscriber:
         expect(subscriber.subscribe([(ANY, b".*")]), number(OK), "the answer to a FEEDME")
@@ -417,7 +420,7 @@ def asks_until_it_is_fed(place):
         (reply(2, number(OK)) + call(1, HEREIS, Product(b"a", b"1").whole()) + call(2, IS_ALIVE), "ended"),
     ]
     with Upstream() as upstream:
-        node = place.node(f'REQUEST IDS|DDPLUS "^a" {HOST}:{upstream.port}\nALLOW ANY .*\n')
+        node = place.node(f'REQUEST IDS|DDPLUS "^a" {HOST}:{upstream.port}\nALLOW ANY .*\n', *SHORT_RESTS)
         for answer, _ in first:
             with upstream.hears(asked + number(BLOCK)) as peer:
                 peer.send(answer)
@@ -584,7 +587,12 @@ def wrong_calls():
         yield f"{procedure} with an ident of 2^32 - 1 bytes", changed(whole, 80, number(2**32 - 1)), garbage, "badframe"
         yield f"{procedure} with a size of 5", changed(whole, 88, number(5)), garbage, "badframe"
         yield f"{procedure} with a size of 3", changed(whole, 88, number(3)), garbage, "badframe"
-        yield f"{procedure} with a size of 2^32 - 1", changed(whole, 88, number(2**32 - 1)), garbage, "badframe"
+        # of a PUT the metadata decide, and what follows them is not asked for
+        need = (len(P.metadata()) + 2**32 - 1 + 7) // 8 * 8
+        too_big = reply(7, number(TOO_BIG) + struct.pack(">2Q", need, 65_536)), None
+        yield f"{procedure} with a size of 2^32 - 1", changed(whole, 88, number(2**32 - 1)), *(
+            too_big if procedure == PUT else (garbage, "badframe")
+        )
         yield f"{procedure} with a zero byte", changed(whole, 84, b"\0"), garbage, "badframe"
         yield f"{procedure} with wrong padding", changed(whole, 85, b"\1"), garbage, "badframe"
         yield f"{procedure} with wrong micros", changed(whole, 44, number(1_000_000)), garbage, "badframe"
@@ -1099,7 +1107,8 @@ def tells_what_cannot_be_written(place):
     port = free_port()
     program = place.start("node", "-p", port, "-w", 1, "none.conf", log=FULL)
     until(lambda: listens(port), "the node listens")
-    connect(port).connection.close()
+    with connect(port) as peer:
+        peer.send(bytes(1))
     expect(place.end(program), (76, Stat(0, 0, 0, 0, ARENA).line().encode(), b""), "a node whose log is full")
 
 
@@ -1865,4 +1874,5 @@ def main():
     sys.exit(not all([try_case(case) for case in cases]))
 
 
-main()
+if __name__ == "__main__":
+    main()
