@@ -2,6 +2,7 @@ pub mod Walks
 pub mod Steps
 pub mod Pushed
 pub mod Joined
+pub mod Pushing
 pub mod Spelled
 pub mod Single
 pub mod Once

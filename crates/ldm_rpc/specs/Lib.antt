@@ -9,3 +9,4 @@ pub mod Fronts
 pub mod Coming
 pub mod KeptView
 pub mod FrontRecordsView
+pub mod Keeping

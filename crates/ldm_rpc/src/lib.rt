@@ -9,7 +9,9 @@ mod came;
 mod fault;
 mod front_records;
 mod in_place;
+mod keeper;
 mod kept;
+mod kept_records;
 mod laws;
 mod marks;
 mod records;
@@ -18,7 +20,9 @@ mod stage;
 pub use fault::RpcFault;
 pub use front_records::{Front, FrontRecords};
 pub use in_place::InPlace;
+pub use keeper::Keeper;
 pub use kept::LEAST_FRONT;
+pub use kept_records::KeptRecords;
 pub use laws::{
     no_record_begins_another, pending_from_the_first_byte, pieces_join, pushes_read_the_stream,
     records_are_read, too_long_at_the_header, what_is_read_is_spelled,
