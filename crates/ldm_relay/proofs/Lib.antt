@@ -14,3 +14,7 @@ pub mod Records
 pub mod Sized
 pub mod Bodies
 pub mod FeedCalls
+pub mod Puts
+pub mod Short
+pub mod HeaderFronts
+pub mod LongRecords

@@ -5,6 +5,8 @@ use Rattle.ldm_xdr.specs.Reading.{info_in}
 use Rattle.ldm_relay.specs.declared.fault.RelayFault.{RelayFault}
 use Rattle.ldm_relay.specs.declared.front.CallFront.{CallFront}
 use Rattle.ldm_relay.specs.declared.front.CallFront.TheVariants as front
+use Rattle.ldm_relay.specs.declared.front.FeedFront.{FeedFront}
+use Rattle.ldm_relay.specs.declared.front.FeedFront.TheVariants as feed_front
 use Rattle.ldm_relay.specs.declared.header.CallHeader.{CallHeader}
 use Rattle.ldm_relay.specs.declared.procedure.Procedure.{Procedure}
 use Rattle.ldm_relay.specs.declared.procedure.Procedure.TheVariants as procedure
@@ -36,3 +38,23 @@ front_behind (Err left) = front.Other
 -- What some bytes begin with. No more of them is asked than the header, and of a PUT the metadata.
 unfoldable pub front_of : List ℕ → CallFront
 front_of bytes = front_behind (call_header_in bytes)
+
+-- what a call of that procedure is in a feed
+abbrev pub feed_front_by : Procedure → FeedFront
+feed_front_by procedure.Hereis = feed_front.Hereis
+feed_front_by procedure.Blkdata = feed_front.Blkdata
+feed_front_by _ = feed_front.Other
+
+-- the same, where the header names a procedure
+abbrev pub feed_front_called : Result Procedure RelayFault → FeedFront
+feed_front_called (Ok called) = feed_front_by called
+feed_front_called (Err fault) = feed_front.Other
+
+-- the same, where there is a header
+abbrev pub feed_front_behind : Result (CallHeader × List ℕ) ℕ → FeedFront
+feed_front_behind (Ok header) = feed_front_called (called header.0)
+feed_front_behind (Err left) = feed_front.Other
+
+-- What some bytes of a feed begin with. No more of them is asked than the header.
+unfoldable pub feed_front_of : List ℕ → FeedFront
+feed_front_of bytes = feed_front_behind (call_header_in bytes)

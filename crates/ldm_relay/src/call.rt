@@ -75,7 +75,7 @@ fn read_body<'a>(
         Procedure::Blkdata => Ok(Message::Blkdata(read_blkdata(xid, fields)?)),
         Procedure::Isalive => Ok(Message::Isalive(Isalive { xid })),
         Procedure::Qstat => Ok(Message::Qstat(Qstat { xid })),
-        Procedure::Put => read_put(xid, fields),
+        Procedure::Put => read_put_body(xid, fields),
         Procedure::Notification => read_notification(xid, fields),
         Procedure::Notifyme => read_notifyme(xid, fields),
     }
@@ -105,7 +105,7 @@ fn read_hiya<'a>(xid: u32, fields: &mut Fields<'a>) -> Result<Message<'a>, usize
 }
 
 #[tactic(auto, unfolding(crate::specs::Calls::put_in))]
-fn read_put<'a>(xid: u32, fields: &mut Fields<'a>) -> Result<Message<'a>, usize>
+fn read_put_body<'a>(xid: u32, fields: &mut Fields<'a>) -> Result<Message<'a>, usize>
     ensures read { Gives sent_of result (put_in xid fields.old) fields.new }
     ensures fits { IfOk result (λ m. Fits (sent_of m)) }
 {

@@ -1,6 +1,6 @@
 //! What the front of a call says by itself.
 ghost use Rattle.std.specs.Prelude.{◌≡◌};
-ghost use Rattle.ldm_relay.specs.Fronts.{front_of};
+ghost use Rattle.ldm_relay.specs.Fronts.{front_of, feed_front_of};
 
 use crate::header::{called, read_call_header};
 use crate::procedure::Procedure;
@@ -12,6 +12,11 @@ use ldm_xdr::Fields;
 /// The header has at most 840 bytes, with a credential and a verifier of 400 bytes each; a class has at most 32
 /// specifications, whose patterns have at most 255 bytes each. So the longest FEEDME has less than 9,400.
 pub const LONGEST_CALL: u32 = 10_240;
+
+/// The most bytes of the content of a BLKDATA.
+///
+/// The header has at most 840 bytes; a signature, two numbers and a block of 16,384 bytes follow it.
+pub const LONGEST_BLOCK_CALL: u32 = 20_480;
 
 /// What a call begins with.
 #[derive(Drop)]
@@ -49,5 +54,32 @@ pub fn read_call_front(bytes: &[u8]) -> CallFront
         },
         Ok(Procedure::Hereis | Procedure::Blkdata) => CallFront::Carries,
         _ => CallFront::Other,
+    }
+}
+
+/// What a record of a feed begins with.
+#[derive(Clone, Copy, Debug, PartialEq, Eq)]
+pub enum FeedFront {
+    /// A HEREIS.
+    Hereis,
+    /// A BLKDATA.
+    Blkdata,
+    /// Another call, or none: it carries no bytes of a product.
+    Other,
+}
+
+/// What the content of a record of a feed begins with. No more of it is read than the header of a call.
+#[tactic(auto, unfolding(crate::specs::Fronts::feed_front_of))]
+pub fn read_feed_front(bytes: &[u8]) -> FeedFront
+    ensures { result ≡ feed_front_of bytes.now }
+{
+    let mut fields = Fields::of(bytes);
+    let Ok(header) = read_call_header(&mut fields) else {
+        return FeedFront::Other;
+    };
+    match called(header) {
+        Ok(Procedure::Hereis) => FeedFront::Hereis,
+        Ok(Procedure::Blkdata) => FeedFront::Blkdata,
+        _ => FeedFront::Other,
     }
 }

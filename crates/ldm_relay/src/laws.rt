@@ -1,10 +1,14 @@
 //! What holds of all messages. These functions do nothing: their contracts are the laws.
-ghost use Rattle.std.specs.Prelude.{◌≡◌, ℕ, ◌<◌, ◌^◌, ◌++◌, List, All, Ok, Err};
+ghost use Rattle.std.specs.Prelude.{◌≡◌, ℕ, ◌<◌, ◌^◌, ◌++◌, List, All, Ok, Err, length, take};
 ghost use Rattle.ldm_relay.specs.declared.procedure.Procedure.{Procedure};
 ghost use Rattle.ldm_relay.specs.Sent.{Sent};
 ghost use Rattle.ldm_relay.specs.declared.procedure.Answered.{Answered};
 ghost use Rattle.ldm_relay.specs.declared.message.Refusal.{Refusal};
 ghost use Rattle.ldm_relay.specs.declared.fault.RelayFault.TheVariants.{BadMessage};
+ghost use Rattle.ldm_relay.specs.declared.front.FeedFront.TheVariants as feed_front;
+ghost use Rattle.ldm_relay.specs.declared.front.TheConstants.{LONGEST_CALL, LONGEST_BLOCK_CALL};
+ghost use Rattle.ldm_relay.specs.FeedCalls.{IsNoFeedCall};
+ghost use Rattle.ldm_relay.specs.Fronts.{feed_front_of};
 ghost use Rattle.ldm_relay.specs.Sent as sent;
 ghost use Rattle.ldm_relay.specs.Procedure.{number_of, procedure_of};
 ghost use Rattle.ldm_relay.specs.Fits.{Fits, RefusalFits, AuthenticationFits};
@@ -47,4 +51,18 @@ pub fn credentials_are_passed_over()
         → AuthenticationFits verifier
         → reply_of number (reply_header xid ++ body) ≡ Ok m
         → reply_of number (reply_header_with xid verifier ++ body) ≡ Ok m }
+{}
+
+/// Of a record that is longer than the longest call the front tells whether it can be a call of a feed; no reply is as
+/// long.
+pub fn long_records_carry()
+    ensures others { (content : List ℕ) → LONGEST_CALL < length content
+        → feed_front_of (take LONGEST_CALL content) ≡ feed_front.Other → IsNoFeedCall (call_of content) }
+    ensures blocks { (content : List ℕ) → LONGEST_BLOCK_CALL < length content
+        → feed_front_of (take LONGEST_CALL content) ≡ feed_front.Blkdata → IsNoFeedCall (call_of content) }
+    // Nor is a refusal.
+    ensures replies { (number : ℕ) (content : List ℕ) (m : Sent) → LONGEST_CALL < length content
+        → ¬ (reply_of number content ≡ Ok m) }
+    ensures refusals { (content : List ℕ) (m : Sent) → LONGEST_CALL < length content
+        → ¬ (refusal_of content ≡ Ok m) }
 {}

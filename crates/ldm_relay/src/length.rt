@@ -4,6 +4,7 @@ ghost use Rattle.std.specs.List.{flat_map};
 ghost use Rattle.ldm_types.specs.Info.{pad4, metadata_len};
 ghost use Rattle.ldm_xdr.specs.Spelling.{spelling, hyper, Fits as InfoFits};
 ghost use Rattle.ldm_relay.specs.MessageView.{sent_of};
+ghost use Rattle.ldm_relay.specs.Sent as sent;
 ghost use Rattle.ldm_relay.specs.Spelling.{class_bytes, class_answer_bytes, stat_bytes};
 ghost use Rattle.ldm_relay.specs.Spelling.{put_answer_bytes, refusal_bytes, written};
 ghost use Rattle.ldm_relay.specs.Bodies.{body_len, with_body, front_of, CanCarry};
@@ -60,7 +61,7 @@ pub(crate) fn content_len(message: &Message) -> usize
             xid: m.xid,
             info: &m.info,
         }),
-        Message::PutReply(m) => reply_header_len(m.xid) + put_answer_len(m.answer),
+        Message::PutReply(m) => put_reply_len(m.xid, m.answer),
         Message::Notifyme(m) => call_header_len(m.xid) + class_len(&m.class),
         Message::NotifymeReply(m) => reply_header_len(m.xid) + class_answer_len(&m.answer),
         Message::Notification(m) => call_header_len(m.xid) + spelling_len(&m.info),
@@ -87,6 +88,16 @@ pub(crate) fn call_len(call: &CallWithBody) -> usize
             len,
         } => call_header_len(*xid) + block_len(*signature, *number, *len),
     }
+}
+
+/// The length of the content of the record of the reply to a PUT.
+#[tactic(auto, using(crate::proofs::Lengths::lengths), unfolding(crate::specs::Spelling::written))]
+pub(crate) fn put_reply_len(xid: u32, answer: PutAnswer) -> usize
+    ensures value { result ≡ length (written (sent.PutReply xid answer)) }
+    ensures bound { result ≤ 52 }
+    ensures fits { Fits (sent.PutReply xid answer) }
+{
+    reply_header_len(xid) + put_answer_len(answer)
 }
 
 // Each header begins with the number of the call.

@@ -16,6 +16,8 @@ mod laws;
 mod length;
 mod message;
 mod procedure;
+mod put;
+mod put_reply;
 mod record;
 mod refusal;
 mod reply;
@@ -25,10 +27,12 @@ pub use body::{BodyPlace, CallWithBody, write_head, write_with_room};
 pub use call::read_call;
 pub use fault::RelayFault;
 pub use feed::{FeedCall, read_feed_call};
-pub use front::{CallFront, LONGEST_CALL, read_call_front};
+pub use front::{
+    CallFront, FeedFront, LONGEST_BLOCK_CALL, LONGEST_CALL, read_call_front, read_feed_front,
+};
 pub use laws::{
-    a_refusal_is_no_result, credentials_are_passed_over, what_is_read_is_written,
-    what_is_written_is_read,
+    a_refusal_is_no_result, credentials_are_passed_over, long_records_carry,
+    what_is_read_is_written, what_is_written_is_read,
 };
 pub use message::{
     Blkdata, ClassAnswer, Comingsoon, ComingsoonReply, Feedme, FeedmeReply, Hereis, Hiya,
@@ -37,6 +41,8 @@ pub use message::{
     Refused, SoonAnswer, Stat,
 };
 pub use procedure::{PROGRAM, Procedure, VERSION};
+pub use put::read_put;
+pub use put_reply::write_put_reply;
 pub use record::write_message;
 pub use refusal::read_refusal;
 pub use reply::read_reply;

@@ -193,7 +193,7 @@ fn put_qstat_reply(out: &mut Vec<u8>, xid: u32, stat: Option<Stat>)
 }
 
 #[tactic(auto, using(crate::proofs::Appending::appending), unfolding(crate::specs::Spelling::written))]
-fn put_put_reply(out: &mut Vec<u8>, xid: u32, answer: PutAnswer)
+pub(crate) fn put_put_reply(out: &mut Vec<u8>, xid: u32, answer: PutAnswer)
     requires { HasRoom out.old (written (sent.PutReply xid answer)) }
     ensures { Appends out.old out.new (written (sent.PutReply xid answer)) }
 {
