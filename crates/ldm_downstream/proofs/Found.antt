@@ -1,12 +1,13 @@
 -- A record that was found, by what taking it came to.
-use Rattle.std.proofs.Common.{◌≡◌, ℕ, ◌+◌, ◌<◌, ◌≤◌, length, Bool, true, false, List, [], ◌∷◌, ◌++◌, Option, Some, None, inl, inr, refl, ap, sym, subst, ◌∙◌}
-use Rattle.std.proofs.lemmas.List.{append-nil}
+use Rattle.std.proofs.Common.{◌≡◌, ℕ, ◌+◌, ◌<◌, ◌≤◌, length, Bool, true, false, List, [], ◌∷◌, ◌++◌, Option, Some, None, inl, inr, refl, ap, sym, subst, ◌∙◌, arith}
+use Rattle.std.proofs.lemmas.List.{append-nil, take_all}
 use Rattle.ldm_rpc.specs.declared.fault.RpcFault.{RpcFault}
 use Rattle.ldm_rpc.specs.declared.fault.RpcFault.TheVariants.{TooLong as too_long, OutOfMemory as out_of_memory}
 use Rattle.ldm_rpc.specs.declared.stage.Stage.TheVariants.{Faulty}
 use Rattle.ldm_rpc.specs.Reading.{Reading, after, begun, bytes_taken, is_faulty, is_faulty_at, is_whole, is_whole_at, next_of, whole_of}
 use Rattle.ldm_rpc.specs.Streams.{Position, given}
-use Rattle.ldm_rpc.specs.Taking.{IsFaultOf}
+use Rattle.ldm_rpc.specs.declared.front_records.Front.{Front}
+use Rattle.ldm_rpc.specs.Keeping.{IsFaultIn, IsFrontIn, IsFrontOf}
 use Rattle.ldm_model.specs.declared.event.Entry.{Entry}
 use Rattle.ldm_relay.specs.declared.message.ClassAnswer.{ClassAnswer}
 use Rattle.ldm_shared.specs.Passes.{Calls}
@@ -19,13 +20,15 @@ use Rattle.ldm_intake.specs.Record.{record_course}
 use Rattle.ldm_intake.specs.Room.{records_of}
 use Rattle.ldm_intake.specs.Step.{Step, Goes, Bad, Declined}
 use Rattle.ldm_intake.specs.Taken.{Arrival, taken_none, taken}
+use Rattle.ldm_intake.specs.declared.record_end.AnswerEnd.{AnswerEnd}
+use Rattle.ldm_intake.specs.declared.record_end.AnswerEnd.TheVariants as answer_end
 use Rattle.ldm_intake.specs.declared.record_end.MessageEnd.{MessageEnd}
 use Rattle.ldm_intake.specs.declared.record_end.MessageEnd.TheVariants as message_end
-use Rattle.ldm_intake.specs.TakesRecord.{Standing, GoesOn, RunsOut, TakesRecord}
+use Rattle.ldm_intake.specs.TakesRecord.{Standing, GoesOn, RunsOut, TakesAnswer, TakesRecord}
 use Rattle.ldm_intake.proofs.TakenRecords.{stepped, leads-one}
 use Rattle.ldm_downstream.specs.Pieces.{arrived}
 use Rattle.ldm_downstream.specs.Taking.{Takes, BreaksOff}
-use Rattle.ldm_downstream.specs.Turns.{Reads, TakesAll, Turns, StopsBy, TooLong, Cuts, Finds, found, first_of, behind, turned, end_of_fault, end_of_message}
+use Rattle.ldm_downstream.specs.Turns.{Reads, TakesAll, Turns, StopsBy, TooLong, Cuts, Finds, found, first_of, behind, turned, end_of_answer, end_of_fault, end_of_message}
 use Rattle.ldm_downstream.proofs.Followed.{takes-none, breaks-here}
 
 -- what one record came to
@@ -100,6 +103,36 @@ found-message now at content message_end.Bad end old new none takes = found-bad 
 found-message now at content message_end.Worn end old new none takes = found-worn now at content old new takes
 found-message now at content message_end.OutOfMemory end old new none takes = found-memory now at content old new takes
 
+-- the reply to a request that was found
+pub found-answer : (now at : ℕ) (content : List ℕ) (by : AnswerEnd) (old new : Standing)
+    → TakesAnswer by (record_course old.receiving now content) old new → Finds (end_of_answer by at) now at (Some content) old new
+found-answer now at content answer_end.Goes old new takes = found-goes now at content old new takes
+found-answer now at content answer_end.Bad old new takes = found-bad now at content old new takes.0 takes.1
+found-answer now at content (answer_end.Declined answer) old new takes = found-declined now at content answer old new takes.0 takes.1
+found-answer now at content answer_end.OutOfMemory old new takes = found-memory now at content old new takes
+
+-- where not less is kept of a content than it has, all of it is
+pub all_kept : (held : Front) (content : List ℕ) → IsFrontOf held content → (length held.bytes.now < held.len → ⊥) → held.bytes.now ≡ content
+all_kept held content of full =
+    let len = of.len in
+    of.front ∙ take_all (length held.bytes.now) content (omega (arith, len, full))
+
+-- a record that was found, by what is kept of it
+pub held-none : (now at : ℕ) (content : Option (List ℕ)) (end : Option RecvEnd) (old : Standing) → IsFrontIn None content → end ≡ None → Finds end now at content old old
+held-none now at None end old is none = rw none (takes-none old)
+held-none now at (Some content) end old is none = absurd is
+
+pub held-front : (now at : ℕ) (held : Front) (content : Option (List ℕ)) (end : Option RecvEnd) (old new : Standing) → IsFrontIn (Some held) content
+    → ((bytes : List ℕ) → IsFrontOf held bytes → Finds end now at (Some bytes) old new) → Finds end now at content old new
+held-front now at held None end old new is finds = absurd is
+held-front now at held (Some content) end old new is finds = finds content is
+
+pub held-all : (now at : ℕ) (held : Front) (content : Option (List ℕ)) (end : Option RecvEnd) (old new : Standing) → IsFrontIn (Some held) content
+    → (length held.bytes.now < held.len → ⊥) → Finds end now at (Some held.bytes.now) old new → Finds end now at content old new
+held-all now at held None end old new is full finds = absurd is
+held-all now at held (Some content) end old new is full finds =
+    subst (λ (bytes : List ℕ). Finds end now at (Some bytes) old new) (all_kept held content is full) finds
+
 -- ---- the first record in some bytes
 
 found-of : (now begins : ℕ) (r : Reading) (b : Bool) → is_whole r ≡ b → found now begins (whole_of r) ≡ arrived now (given begins r)
@@ -123,11 +156,10 @@ first-too_long now p bytes fault old faulty =
     }
 
 -- Bytes begin a record that is too long, or for which there is no memory.
-pub first-faulty : (now : ℕ) (p : Position) (bytes : List ℕ) (new : Reading) (fault : RpcFault) → IsFaultOf p.reading bytes new fault
+pub first-faulty : (now : ℕ) (p : Position) (bytes : List ℕ) (fault : RpcFault) → IsFaultIn p.reading bytes fault
     → (old : Standing) → Cuts (end_of_fault fault p.begins) (first_of now p bytes) (behind p bytes) old old
-first-faulty now p bytes new (too_long place) is old =
-    inl (first-too_long now p bytes (too_long place) old (ap (λ (s : Reading). s.stage) (sym is.0) ∙ is.1))
-first-faulty now p bytes new out_of_memory is old = inr (quiet (first_of now p bytes) old old refl)
+first-faulty now p bytes (too_long place) is old = inl (first-too_long now p bytes (too_long place) old is)
+first-faulty now p bytes out_of_memory is old = inr (quiet (first_of now p bytes) old old refl)
 
 -- what taking the record came to ended it
 pub first-ends : (now : ℕ) (p : Position) (bytes : List ℕ) (end : RecvEnd) (old new : Standing)

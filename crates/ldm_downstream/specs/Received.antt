@@ -1,12 +1,12 @@
 -- What the pieces of a stream come to.
-use Rattle.std.specs.Prelude.{◌≡◌, Bool, ◌&&◌, not, nat_le, List, Option, Some, None, if◌then◌else◌}
+use Rattle.std.specs.Prelude.{◌≡◌, Bool, ◌&&◌, ◌||◌, is_some, not, nat_le, List, Option, Some, None, if◌then◌else◌}
 use Rattle.ldm_rpc.specs.Reading.{is_faulty, is_pending}
 use Rattle.ldm_rpc.specs.Streams.{Position}
 use Rattle.ldm_intake.specs.declared.end.RecvEnd.{RecvEnd}
 use Rattle.ldm_intake.specs.declared.end.RecvEnd.TheVariants.{Ended, Truncated, BadFrame, StreamLimit}
 use Rattle.ldm_intake.specs.Course.{Course, Comes, then}
 use Rattle.ldm_intake.specs.Receiving.{Receiving}
-use Rattle.ldm_intake.specs.Settled.{is_settled}
+use Rattle.ldm_intake.specs.Settled.{is_feeding, is_settled}
 use Rattle.ldm_intake.specs.Taken.{Taken, taken_none, taken}
 use Rattle.ldm_session.specs.declared.limits.TheConstants.{LONGEST_STREAM}
 use Rattle.ldm_downstream.specs.Pieces.{Piece, arrivals, hand}
@@ -30,6 +30,10 @@ with_hand p t = record t { end = end_behind p t.end }
 -- the bytes behind them make, if a record made none.
 abbrev pub received : Receiving → Position → List Piece → Course Taken
 received s p pieces = (then) (taken (taken_none s) (arrivals p pieces)) (λ (t : Taken). Comes (with_hand (hand p pieces) t))
+
+-- Whether a record, or in a feed a product in blocks, was begun there and is not complete. Where the reply to a request is owed, no product is.
+abbrev pub is_within : Position → Receiving → Bool
+is_within p s = is_pending p.reading || (is_feeding s.phase && is_some s.pending)
 
 -- whether a stream may end there: behind a record, with no product pending and no reply to a request owed
 abbrev pub is_edge : Position → Receiving → Bool

@@ -5,6 +5,8 @@ use Rattle.ldm_rpc.specs.Streams.{Position, forgets, given, records_in, in_hand}
 use Rattle.ldm_shared.specs.declared.steps.TheConstants.{MOST_TURNS}
 use Rattle.ldm_rpc.specs.declared.fault.RpcFault.{RpcFault}
 use Rattle.ldm_rpc.specs.declared.fault.RpcFault.TheVariants as rpc_fault
+use Rattle.ldm_intake.specs.declared.record_end.AnswerEnd.{AnswerEnd}
+use Rattle.ldm_intake.specs.declared.record_end.AnswerEnd.TheVariants as answer_end
 use Rattle.ldm_intake.specs.declared.record_end.MessageEnd.{MessageEnd}
 use Rattle.ldm_intake.specs.declared.record_end.MessageEnd.TheVariants as message_end
 use Rattle.ldm_intake.specs.declared.end.RecvEnd.{RecvEnd}
@@ -118,7 +120,8 @@ abbrev pub Passes : Option RecvEnd → Piece → Position → Position → Stand
 Passes None piece p q old new = TakesPiece piece p q old new
 Passes (Some end) piece p q old new = Stops end (arrivals p (piece ∷ [])) (hand p (piece ∷ [])) old new
 
--- how a record that begins there ends a receiving: one that is too long or for which there is no memory, or a message of a feed
+-- how a record that begins there ends a receiving: one that is too long or for which there is no memory, a message of a feed, or the reply to a
+-- request
 abbrev pub end_of_fault : RpcFault → ℕ → RecvEnd
 end_of_fault (rpc_fault.TooLong place) at = BadFrame at
 end_of_fault rpc_fault.OutOfMemory at = OutOfMemory
@@ -128,3 +131,9 @@ end_of_message end message_end.Goes at = end
 end_of_message end message_end.Bad at = Some (BadFrame at)
 end_of_message end message_end.Worn at = Some Worn
 end_of_message end message_end.OutOfMemory at = Some OutOfMemory
+
+abbrev pub end_of_answer : AnswerEnd → ℕ → Option RecvEnd
+end_of_answer answer_end.Goes at = None
+end_of_answer answer_end.Bad at = Some (BadFrame at)
+end_of_answer (answer_end.Declined answer) at = Some (Refused answer)
+end_of_answer answer_end.OutOfMemory at = Some OutOfMemory

@@ -2,6 +2,7 @@
 #![tactic(auto)]
 
 mod ends;
+mod keeping;
 mod laws;
 mod limits;
 mod receiver;

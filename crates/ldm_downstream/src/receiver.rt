@@ -49,7 +49,7 @@ impl<'a> Model for Receiver<'a> {
 
 impl<'a> Receiver<'a> {
     ghost use Rattle.ldm_downstream.specs.ReceiverView.{before_stream, moment};
-    ghost use Rattle.ldm_downstream.specs.Received.{GoesOnAt, at_stream_end};
+    ghost use Rattle.ldm_downstream.specs.Received.{GoesOnAt, at_stream_end, is_within};
     ghost use Rattle.ldm_downstream.specs.Pushing.{PushesAt, Finishes, FailsAt, EndsAt, answer_of};
 
     /// A receiver that asks for the products of a class, behind the last one that was received, if there is one.
@@ -110,6 +110,13 @@ impl<'a> Receiver<'a> {
         ensures { result ≡ is_pending self.now.hand.reading }
     {
         self.stream.is_pending()
+    }
+
+    /// Whether a record of the stream, or a product in blocks, was begun and is not complete: the peer owes the rest.
+    pub fn is_within(&self) -> bool
+        ensures { result ≡ is_within self.now.hand self.now.receiving }
+    {
+        self.stream.is_within()
     }
 
     /// The signature of the last product that was offered to the queue or declined, or the one that was given.

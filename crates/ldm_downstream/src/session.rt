@@ -346,7 +346,7 @@ impl<'a> Session<'a> {
             (ungated_tells K.tells E.tells C.tells link.old log.old clock.old)
             (ungated_tells K.tells E.tells C.tells link.new log.new clock.new) }
     {
-        let awaited = Awaited::Feed.or_rest(self.taker.receiver.is_pending());
+        let awaited = Awaited::Feed.or_rest(self.taker.receiver.is_within());
         match link.recv(self.piece.as_mut_slice(), awaited) {
             Got::Bytes(count) => {
                 let now = clock.now();

@@ -1,7 +1,8 @@
 //! What takes the bytes of a stream: its records, one after another.
 ghost use Rattle.std.specs.Prelude.{◌≡◌, ◌≤◌, ◌<◌, ◌+◌, ◌∷◌, [], ℕ, true, false, IfOk, IfNone};
-ghost use Rattle.std.specs.Prelude.{IfSome, MatchOption, OnOk, OnErr, None, Some, List, length};
-ghost use Rattle.std.specs.Option.{option_copied, option_map};
+ghost use Rattle.std.specs.Prelude.{IfSome, MatchOption, OnOk, OnErr, None, Option, Some, List, length};
+ghost use Rattle.std.specs.Option.{option_map};
+ghost use Rattle.ldm_rpc.specs.Keeping.{IsFrontIn, IsFrontOf};
 ghost use Rattle.ldm_rpc.specs.Reading.{is_faulty, is_pending};
 ghost use Rattle.ldm_rpc.specs.Streams.{Position};
 ghost use Rattle.ldm_session.specs.declared.limits.TheConstants.{LONGEST_STREAM};
@@ -9,15 +10,17 @@ ghost use Rattle.ldm_shared.specs.Passes.{IsPassOf, IsSamePass, PassView};
 ghost use Rattle.ldm_intake.specs.Settled.{is_feeding};
 ghost use Rattle.ldm_intake.specs.TakesRecord.{stands};
 ghost use Rattle.ldm_downstream.specs.Pieces.{beginning};
-ghost use Rattle.ldm_downstream.specs.Received.{GoesOnAt, at_stream_end};
+ghost use Rattle.ldm_downstream.specs.Received.{GoesOnAt, at_stream_end, is_within};
 ghost use Rattle.ldm_downstream.specs.Pushing.{ClosesIf, Pushes, is_worn};
 ghost use Rattle.ldm_downstream.specs.ReceiverView.{moment};
-ghost use Rattle.ldm_downstream.specs.Turns.{Finds, Turns, Runs, Passes, end_of_fault, end_of_message, turned};
+ghost use Rattle.ldm_downstream.specs.Turns.{Finds, Turns, Runs, Passes, end_of_answer, end_of_fault};
+ghost use Rattle.ldm_downstream.specs.Turns.{end_of_message, turned};
 
 use crate::ends::is_worn;
+use crate::keeping::RecordKeeper;
 use ldm_intake::{AnswerEnd, Intake, MessageEnd, RecvEnd};
 use ldm_relay::LARGEST_RECORD;
-use ldm_rpc::{Records, RpcFault};
+use ldm_rpc::{Front, KeptRecords, RpcFault};
 use ldm_session::LONGEST_STREAM;
 use ldm_shared::{Pass, Shared, Turn};
 use ldm_types::{Micros, OutOfMemory, Signature};
@@ -29,7 +32,7 @@ use std::sync::Wait;
 #[derive(Drop)]
 pub(crate) struct Stream<'a> {
     intake: Intake<'a>,
-    records: Records,
+    records: KeptRecords,
     begins: u64,
     came: u64,
 }
@@ -53,7 +56,7 @@ impl<'a> Stream<'a> {
     {
         Stream {
             intake,
-            records: Records::create(alloc, LARGEST_RECORD),
+            records: KeptRecords::create(alloc, LARGEST_RECORD),
             begins: 0,
             came: 0,
         }
@@ -70,14 +73,21 @@ impl<'a> Stream<'a> {
     pub(crate) fn is_pending(&self) -> bool
         ensures { result ≡ is_pending self.now.hand.reading }
     {
-        self.records.pending()
+        self.records.is_pending()
+    }
+
+    /// Whether a record, or a product in blocks, was begun and is not complete.
+    pub(crate) fn is_within(&self) -> bool
+        ensures { result ≡ is_within self.now.hand self.now.receiving }
+    {
+        self.records.is_pending() || (self.intake.is_feeding() && !self.intake.is_settled())
     }
 
     /// How it ends where the stream ends there.
     pub(crate) fn at_end(&self) -> RecvEnd
         ensures { result ≡ at_stream_end self.now.hand self.now.receiving }
     {
-        if !self.records.pending() && self.intake.is_settled() {
+        if !self.records.is_pending() && self.intake.is_settled() {
             RecvEnd::Ended
         } else {
             RecvEnd::Truncated { at: self.came }
@@ -218,13 +228,12 @@ impl<'a> Stream<'a> {
         let Some(found) = self.records.whole_in(bytes) else {
             return self.take_pushed(shared, rt, pass, bytes, now, out, notes, end);
         };
-        let content = Some(found.content);
         take_content(
             &mut self.intake,
             shared,
             rt,
             pass,
-            content,
+            found.content,
             self.begins,
             now,
             out,
@@ -259,7 +268,8 @@ impl<'a> Stream<'a> {
             (moment self.old.receiving pass.old out.old notes.old)
             (moment self.new.receiving pass.new out.new notes.new) }
     {
-        let count = match self.records.push(bytes) {
+        let mut keeper = RecordKeeper::of(self.intake.is_feeding());
+        let count = match self.records.push(&mut keeper, bytes) {
             Ok(count) => count,
             Err(fault) => {
                 end_by_fault(end, fault, self.begins);
@@ -267,14 +277,14 @@ impl<'a> Stream<'a> {
             }
         };
         self.came += count as u64;
-        let content = self.records.whole();
-        let is_whole = content.is_some();
-        take_content(
+        let held = self.records.whole();
+        let is_whole = held.is_some();
+        take_held(
             &mut self.intake,
             shared,
             rt,
             pass,
-            content,
+            held,
             self.begins,
             now,
             out,
@@ -293,13 +303,13 @@ impl<'a> Stream<'a> {
     }
 }
 
-// Takes the content of a record that begins there, if there is one. Where that ends the receiving, the end is written.
-fn take_content<H: Wait>(
+// Takes what is kept of a record that begins there, if there is one. Where that ends the receiving, the end is written.
+fn take_held<H: Wait>(
     intake: &mut Intake<'_>,
     shared: &Shared,
     rt: &H,
     pass: &mut Pass,
-    content: Option<&[u8]>,
+    held: Option<Front<'_>>,
     at: u64,
     now: Micros,
     out: &mut Vec<u8>,
@@ -309,12 +319,40 @@ fn take_content<H: Wait>(
     requires of { IsPassOf shared.now pass.old }
     requires going { end.old ≡ None }
     ensures kept { IsSamePass pass.old pass.new }
-    ensures finds { Finds end.new now at (option_copied content.entry) (moment intake.old pass.old out.old notes.old)
+    ensures finds { (content : Option (List ℕ)) → IsFrontIn held.entry content
+        → Finds end.new now at content (moment intake.old pass.old out.old notes.old)
         (moment intake.new pass.new out.new notes.new) }
 {
-    let Some(content) = content else {
+    let Some(held) = held else {
         return;
     };
+    if held.bytes.len() < held.len as usize {
+        take_front(intake, held, at, end);
+    } else {
+        let content = held.bytes;
+        take_content(intake, shared, rt, pass, content, at, now, out, notes, end);
+    }
+}
+
+// Takes the content of a record that begins there. Where that ends the receiving, the end is written.
+fn take_content<H: Wait>(
+    intake: &mut Intake<'_>,
+    shared: &Shared,
+    rt: &H,
+    pass: &mut Pass,
+    content: &[u8],
+    at: u64,
+    now: Micros,
+    out: &mut Vec<u8>,
+    notes: &mut Vec<u8>,
+    end: &mut Option<RecvEnd>,
+)
+    requires of { IsPassOf shared.now pass.old }
+    requires going { end.old ≡ None }
+    ensures kept { IsSamePass pass.old pass.new }
+    ensures finds { Finds end.new now at (Some content.now) (moment intake.old pass.old out.old notes.old)
+        (moment intake.new pass.new out.new notes.new) }
+{
     if intake.is_feeding() {
         match intake.take_message(shared, rt, pass, content, now, out, notes) {
             MessageEnd::Goes => {}
@@ -353,6 +391,18 @@ fn end_by_message(end: &mut Option<RecvEnd>, by: MessageEnd, at: u64)
     }
 }
 
+// How the reply to a request that begins there ends the receiving, if it does.
+fn end_of_answer(by: AnswerEnd, at: u64) -> Option<RecvEnd>
+    ensures { result ≡ end_of_answer by at }
+{
+    match by {
+        AnswerEnd::Goes => None,
+        AnswerEnd::Bad => Some(RecvEnd::BadFrame { at }),
+        AnswerEnd::Declined(answer) => Some(RecvEnd::Refused { answer }),
+        AnswerEnd::OutOfMemory => Some(RecvEnd::OutOfMemory),
+    }
+}
+
 // Takes the record of a reply to a request that begins there. Where that ends the receiving, the end is written.
 #[cold]
 #[inline(never)]
@@ -367,10 +417,21 @@ fn take_answer(
     ensures { (now : ℕ) (pass : PassView) (notes : List ℕ) → Finds end.new now at (Some content.now)
         (stands intake.old pass out.old.items notes) (stands intake.new pass out.new.items notes) }
 {
-    *end = match intake.take_answer(content, out) {
-        AnswerEnd::Goes => None,
-        AnswerEnd::Bad => Some(RecvEnd::BadFrame { at }),
-        AnswerEnd::Declined(answer) => Some(RecvEnd::Refused { answer }),
-        AnswerEnd::OutOfMemory => Some(RecvEnd::OutOfMemory),
-    };
+    *end = end_of_answer(intake.take_answer(content, out), at);
+}
+
+// Takes a record that begins there and of which less is kept than all. Where that ends the receiving, the end is
+// written.
+#[cold]
+#[inline(never)]
+fn take_front(intake: &Intake<'_>, held: Front<'_>, at: u64, end: &mut Option<RecvEnd>)
+    requires { end.old ≡ None }
+    ensures { (content : List ℕ) (now : ℕ) (pass : PassView) (out notes : List ℕ) → IsFrontOf held.entry content
+        → Finds end.new now at (Some content) (stands intake.now pass out notes) (stands intake.now pass out notes) }
+{
+    if intake.is_feeding() {
+        end_by_message(end, intake.take_front(held), at);
+    } else {
+        *end = end_of_answer(intake.take_answer_front(held), at);
+    }
 }

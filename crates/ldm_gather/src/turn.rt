@@ -76,7 +76,7 @@ pub(crate) fn turn<H: Wait, K: Link, E: Sink, C: Clock, A, B, W: Handler<A, B>>(
         (lent_of (scene_of handler.new first.new second.new pass.new (E.tells log.new)) (K.tells link.new)
         (C.tells clock.new))) }
 {
-    let awaited = Awaited::Feed.or_rest(receiver.is_pending());
+    let awaited = Awaited::Feed.or_rest(receiver.is_within());
     let count = match link.recv(buffers.piece.as_mut_slice(), awaited) {
         Got::Bytes(count) => count,
         Got::End => return Turned::AtEnd,

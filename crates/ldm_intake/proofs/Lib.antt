@@ -7,3 +7,4 @@ pub mod QuietEnds
 pub mod Replying
 pub mod TakenRecords
 pub mod FeedCourses
+pub mod KeptFronts

@@ -8,6 +8,7 @@ mod asking;
 mod blocks;
 mod end;
 mod examples;
+mod fronts;
 mod intake;
 mod messages;
 mod moves;
