@@ -1,5 +1,5 @@
 -- What holds of each response to a call, to a fault and to the metadata of a PUT holds of each response.
-use Rattle.std.proofs.Common.{◌+◌, Bool, true, false, ℕ, List, [], ◌∷◌, length, take, nat_le, Option, Some, None, Result, Ok, Err}
+use Rattle.std.proofs.Common.{Bool, true, false, ℕ, List, [], ◌∷◌, length, take, nat_le, Option, Some, None, Result, Ok, Err}
 use Rattle.std.specs.Prelude.{if◌then◌else◌, nat_lt}
 use Rattle.ldm_types.specs.Info.{Metadata}
 use Rattle.ldm_relay.specs.Fronts.{front_of}

@@ -1,5 +1,5 @@
 -- What is responded, by what is kept of a record.
-use Rattle.std.proofs.Common.{◌≡◌, ℕ, ◌+◌, ◌<◌, ◌≤◌, Bool, true, false, nat_le, List, [], ◌∷◌, length, take, take_all, take-take, Option, Some, None, Result, Ok, Err, refl, sym, ap, ◌∙◌, arith, inl, inr}
+use Rattle.std.proofs.Common.{◌≡◌, ℕ, ◌<◌, ◌≤◌, nat_le, List, [], length, take, take_all, take-take, Option, Result, Ok, Err, refl, sym, ap, ◌∙◌, arith, inl, inr}
 use Rattle.std.specs.Prelude.{nat_lt}
 use Rattle.std.proofs.lemmas.Bool.{cond-true, cond-false, le-leb, le-ltb, lt-leb, lt-ltb}
 use Rattle.ldm_types.specs.Info.{Metadata}
@@ -16,11 +16,11 @@ use Rattle.ldm_relay.specs.declared.message.PutAnswer.{PutAnswer}
 use Rattle.ldm_rpc.specs.declared.front_records.Front.{Front}
 use Rattle.ldm_serve.specs.AskedView.{IsUnread, to_asked}
 use Rattle.ldm_serve.specs.Client.{Client}
-use Rattle.ldm_serve.specs.Keeping.{IsFrontOf}
+use Rattle.ldm_rpc.specs.Keeping.{IsFrontOf}
 use Rattle.ldm_serve.specs.declared.reading.Asked.{Asked}
 use Rattle.ldm_serve.specs.declared.reading.Asked.TheVariants as asked
 use Rattle.ldm_serve.specs.Respond.{answered_by, front_answer, longest_put, respond, to_carried, to_cut, to_fault, to_large, to_long, to_reading, to_short, to_unread}
-use Rattle.ldm_serve.specs.Response.{Response, Refuses}
+use Rattle.ldm_serve.specs.Response.{Refuses}
 
 -- ---- what is read
 

@@ -1,6 +1,5 @@
 pub mod Lengths
 pub mod Cases
-pub mod Pushing
 pub mod Fronts
 pub mod Meaning
 pub mod Giving

@@ -1,5 +1,5 @@
 -- Where a record asks to be fed, or to be told of products, each pattern of its class means something.
-use Rattle.std.proofs.Common.{◌≡◌, ℕ, Bool, true, false, List, ◌∷◌, [], Option, Some, None, refl}
+use Rattle.std.proofs.Common.{◌≡◌, ℕ, Bool, true, false, List, Option, Some, None, refl}
 use Rattle.std.specs.Prelude.{if◌then◌else◌, is_none}
 use Rattle.ldm_types.specs.declared.class.ClassSpec.{ClassSpec}
 use Rattle.ldm_class.specs.Access.{reduce}
@@ -13,7 +13,7 @@ use Rattle.ldm_relay.specs.declared.fault.RelayFault.{RelayFault}
 use Rattle.ldm_relay.specs.declared.fault.RelayFault.TheVariants.{NotRpc, WrongProgram, WrongProcedure, BadMessage}
 use Rattle.ldm_serve.specs.Access.{may_know, may_push}
 use Rattle.ldm_serve.specs.Client.{Client}
-use Rattle.ldm_serve.specs.Respond.{means_all, respond, to_call, to_fault, to_feedme, to_hiya, to_notifyme, to_offer, to_put, to_qstat}
+use Rattle.ldm_serve.specs.Respond.{means_all, respond, to_call, to_fault, to_offer}
 use Rattle.ldm_serve.specs.Response.{Response, Says, Feeds, Notifies}
 use Rattle.ldm_serve.specs.Responds.{HasMeaning, goes_on}
 use Rattle.ldm_serve.proofs.Cases.{each_response}

@@ -240,10 +240,10 @@ module _ (client : Client) (p : Position) (bytes : List ℕ) (old : Standing) (q
     records = all_are;
   }
 
-  pub stops-all : (stop : Answered) (t : Position) (new : Standing) → Stops stop client q rest t cur new → Serves stop client p bytes t old new
+  pub stops-all : (stop : Answered) (next : Responded) (t : Position) (new : Standing) → Stops stop next client q rest t cur new → Serves stop next client p bytes t old new
   unfolding r
-  stops-all answered.On t new stops = absurd stops
-  stops-all (answered.Over next at) t new stops = over-all next at stops.0 t new stops.1
-  stops-all (answered.TooLong at) t new stops = let faulty = stage_of_fault r r.stage refl stops.0 in too_long-all at new faulty.0 faulty.1 stops.1 stops.2
-  stops-all answered.Worn t new stops = worn-all new stops
-  stops-all answered.OutOfMemory t new stops = memory-all new stops
+  stops-all answered.On next t new stops = absurd stops
+  stops-all (answered.Over at) next t new stops = over-all next at stops.0 t new stops.1
+  stops-all (answered.TooLong at) next t new stops = let faulty = stage_of_fault r r.stage refl stops.0 in too_long-all at new faulty.0 faulty.1 stops.1 stops.2
+  stops-all answered.Worn next t new stops = worn-all new stops
+  stops-all answered.OutOfMemory next t new stops = memory-all new stops

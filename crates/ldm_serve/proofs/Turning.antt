@@ -1,5 +1,6 @@
 -- What serving a connection comes to, by what its bytes came to.
-use Rattle.std.proofs.Common.{◌≡◌, ℕ, ◌+◌, ◌-◌, ◌<◌, ◌≤◌, Bool, true, false, List, [], ◌∷◌, ◌++◌, length, take, drop, refl, ap, sym, subst, ◌∙◌, arith, inl, inr, append-nil, append_assoc, length-append}
+use Rattle.std.proofs.Common.{◌≡◌, ℕ, ◌+◌, ◌-◌, ◌<◌, ◌≤◌, Bool, true, false, List, [], ◌∷◌, ◌++◌, length, take, drop, Option, Some, None, Err, refl, ap, sym, subst, ◌∙◌, arith, inl, inr, append-nil, append_assoc, length-append}
+use Rattle.std.specs.Prelude.{IfNone, is_some}
 use Rattle.std.proofs.lemmas.List.{drop_all, length-drop, map-append, take_all}
 use Rattle.ldm_types.specs.declared.class.ClassSpec.{ClassSpec}
 use Rattle.ldm_outside.specs.Clock.{ClockRecord}
@@ -27,7 +28,8 @@ use Rattle.ldm_serve.specs.Outlived.{IsNarrowedTo, Narrowed, Outlived, narrower}
 use Rattle.ldm_serve.specs.Connection.{Answers, Moment, Reaches, moment_of, placed_in}
 use Rattle.ldm_serve.specs.Becoming.{Becomes, NarrowsBy}
 use Rattle.ldm_serve.specs.Serve.{EndsByRecord, LeavesLink, ServesAll}
-use Rattle.ldm_serve.specs.Rounds.{Advances, HasRoom, IsServed, ReadsOn, outliving}
+use Rattle.ldm_serve.specs.Reading.{EndsAt}
+use Rattle.ldm_serve.specs.Rounds.{Advances, HasRoom, IsServed, ReadsOn, Runs, Takes, outliving}
 use Rattle.ldm_serve.specs.ServingView.{beginning}
 use Rattle.ldm_serve.proofs.Doing.{does-then}
 use Rattle.ldm_serve.proofs.Outliving.{answered, extends-answered, extends-ended, extends-narrowed}
@@ -370,9 +372,9 @@ over-advances client next at p bytes q old new over =
     }
 
 -- nothing was gathered before
-pub from-empty : (stop : Answered) (client : Client) (p : Position) (bytes : List ℕ) (q : Position) (pass : PassView) (clock : ClockRecord) (out : List ℕ) (new : Standing) → out ≡ []
-    → Serves stop client p bytes q (stands pass clock out) new → Serves stop client p bytes q (stands pass clock []) new
-from-empty stop client p bytes q pass clock out new none serves = subst (λ (o : List ℕ). Serves stop client p bytes q (stands pass clock o) new) none serves
+pub from-empty : (stop : Answered) (next : Responded) (client : Client) (p : Position) (bytes : List ℕ) (q : Position) (pass : PassView) (clock : ClockRecord) (out : List ℕ) (new : Standing) → out ≡ []
+    → Serves stop next client p bytes q (stands pass clock out) new → Serves stop next client p bytes q (stands pass clock []) new
+from-empty stop next client p bytes q pass clock out new none serves = subst (λ (o : List ℕ). Serves stop next client p bytes q (stands pass clock o) new) none serves
 
 -- ---- a loop over bytes
 
@@ -385,3 +387,27 @@ pub room-behind : (n : ℕ) (p : Position) (bytes : List ℕ) (q : Position) (le
 room-behind n p bytes q left room advances is =
     let len : length left ≡ length bytes - n = ap length is ∙ length-drop n bytes in
     record { sound = advances.sound; room = omega (arith, len, room.room, advances.came, advances.most) }
+
+-- ---- an end that was written
+
+-- it came to that one
+pub ends-written : (client : Client) (p : Position) (bytes : List ℕ) (q : Position) (old new : Moment) (written : Option ServeEnd) (why : ServeEnd) → written ≡ Some why
+    → ((end : ServeEnd) → written ≡ Some end → Takes (Err end) client p bytes q old new) → EndsAt written client p bytes q old new
+ends-written client p bytes q old new None why is takes = absurd (cc is)
+ends-written client p bytes q old new (Some end) why is takes = takes end refl
+
+-- what is behind the bytes that were taken before comes to it
+pub ends-run : (client : Client) (p : Position) (bytes : List ℕ) (first : Position) (all : List ℕ) (q last : Position) (begin old new : Moment) (written : Option ServeEnd)
+    → ((begins : Moment) → ReadsOn client begins first all begin → ReadsOn client begins p bytes old) → EndsAt written client p bytes q old new
+    → Runs written client first all last begin new
+ends-run client p bytes first all q last begin old new None reads ends = absurd ends
+ends-run client p bytes first all q last begin old new (Some end) reads ends = λ begins here. ends begins (reads begins here)
+
+pub ends-not : (X : Type 0) (client : Client) (p : Position) (bytes : List ℕ) (q : Position) (old new : Moment) (written : Option ServeEnd)
+    → EndsAt written client p bytes q old new → IfNone written X
+ends-not X client p bytes q old new None ends = absurd ends
+ends-not X client p bytes q old new (Some end) ends = tt
+
+pub none-written : (written : Option ServeEnd) → is_some written ≡ false → written ≡ None
+none-written None none = refl
+none-written (Some end) none = absurd (cc none)

@@ -1,14 +1,15 @@
 pub mod Response
 pub mod Access
 pub mod Client
+pub mod ClientView
 pub mod Respond
 pub mod Answering
 pub mod AskedView
 pub mod Responds
+pub mod InParts
 pub mod Examples
 pub mod Steps
 pub mod ServingView
-pub mod Keeping
 pub mod Turns
 pub mod Contents
 pub mod Served
@@ -17,4 +18,5 @@ pub mod Connection
 pub mod Becoming
 pub mod Serve
 pub mod Rounds
+pub mod Reading
 pub mod Kept

@@ -56,10 +56,10 @@ pub record BreaksOff (client : Client) (p : Position) (bytes : List ℕ) (old ne
   pub answers : AnswersAll client front old new
   pub records : front ++ others ≡ records_in p bytes
 
--- what bytes come to that come from a place in the stream on
-abbrev pub Serves : Answered → Client → Position → List ℕ → Position → Standing → Standing → Type 0
-Serves answered.On client p bytes q old new = GoesOn client p bytes q old new
-Serves (answered.Over next at) client p bytes q old new = IsOver client next at p bytes q old new
-Serves (answered.TooLong at) client p bytes q old new = IsTooLong client at p bytes old new
-Serves answered.Worn client p bytes q old new = IsWorn client p bytes old new
-Serves answered.OutOfMemory client p bytes q old new = BreaksOff client p bytes old new
+-- what bytes come to that come from a place in the stream on, where that was written of how the connection goes on
+abbrev pub Serves : Answered → Responded → Client → Position → List ℕ → Position → Standing → Standing → Type 0
+Serves answered.On next client p bytes q old new = GoesOn client p bytes q old new
+Serves (answered.Over at) next client p bytes q old new = IsOver client next at p bytes q old new
+Serves (answered.TooLong at) next client p bytes q old new = IsTooLong client at p bytes old new
+Serves answered.Worn next client p bytes q old new = IsWorn client p bytes old new
+Serves answered.OutOfMemory next client p bytes q old new = BreaksOff client p bytes old new

@@ -54,18 +54,26 @@ pub record TurnsOver (client : Client) (next : Responded) (at : ℕ) (p : Positi
   pub at_is : at ≡ placed.at
   pub ends : EndsWith client next placed old new
 
--- how that ends the session
-abbrev pub Stops : Answered → Client → Position → List ℕ → Position → Standing → Standing → Type 0
-Stops answered.On client p bytes q old new = ⊥
-Stops (answered.Over next at) client p bytes q old new = (n : ℕ) × TurnsOver client next at p bytes n q old new
-Stops (answered.TooLong at) client p bytes q old new = (is_faulty (behind p bytes).reading ≡ true) × (at ≡ p.begins) × (new ≡ old)
-Stops answered.Worn client p bytes q old new = RunsOutAt client (first_of p bytes) old new
-Stops answered.OutOfMemory client p bytes q old new = new ≡ old
+-- how that ends the session, where that was written of how the connection goes on
+abbrev pub Stops : Answered → Responded → Client → Position → List ℕ → Position → Standing → Standing → Type 0
+Stops answered.On next client p bytes q old new = ⊥
+Stops (answered.Over at) next client p bytes q old new = (n : ℕ) × TurnsOver client next at p bytes n q old new
+Stops (answered.TooLong at) next client p bytes q old new = (is_faulty (behind p bytes).reading ≡ true) × (at ≡ p.begins) × (new ≡ old)
+Stops answered.Worn next client p bytes q old new = RunsOutAt client (first_of p bytes) old new
+Stops answered.OutOfMemory next client p bytes q old new = new ≡ old
 
 pub record TakesFirst (client : Client) (p : Position) (bytes : List ℕ) (n : ℕ) (q : Position) (old new : Standing) : Type 0 where
   pub reads : Reads p bytes n q
   pub answers : AnswersAll client (first_of p bytes) old new
 
-abbrev pub Turns : Result ℕ Answered → Client → Position → List ℕ → Position → Standing → Standing → Type 0
-Turns (Ok n) client p bytes q old new = TakesFirst client p bytes n q old new
-Turns (Err stop) client p bytes q old new = Stops stop client p bytes q old new
+abbrev pub Turns : Result ℕ Answered → Responded → Client → Position → List ℕ → Position → Standing → Standing → Type 0
+Turns (Ok n) next client p bytes q old new = TakesFirst client p bytes n q old new
+Turns (Err stop) next client p bytes q old new = Stops stop next client p bytes q old new
+
+-- how many bytes were taken, or how that ends the session
+abbrev pub turned : ℕ → Answered → Result ℕ Answered
+turned n answered.On = Ok n
+turned n (answered.Over at) = Err (answered.Over at)
+turned n (answered.TooLong at) = Err (answered.TooLong at)
+turned n answered.Worn = Err answered.Worn
+turned n answered.OutOfMemory = Err answered.OutOfMemory

@@ -7,15 +7,14 @@ ghost use Rattle.ldm_serve.specs.Answering.{put_replies, stat_replies};
 ghost use Rattle.ldm_serve.specs.Responds.{HasAnswerRoom};
 
 use ldm_model::InsertReply;
-use ldm_relay::{Message, PutAnswer, PutReply, QstatReply, Stat, write_message};
+use ldm_relay::{Message, PutAnswer, QstatReply, Stat, write_message, write_put_reply};
 
 // Appends the answer to the PUT of that number.
 pub(crate) fn put_answer(out: &mut Vec<u8>, xid: u32, answer: PutAnswer)
     requires { HasAnswerRoom out.old }
     ensures { out.new.items ≡ out.old.items ++ records_of (sent.PutReply xid answer ∷ []) }
 {
-    let message = Message::PutReply(PutReply { xid, answer });
-    if write_message(&message, out).is_err() {
+    if write_put_reply(xid, answer, out).is_err() {
         unreachable!();
     }
 }

@@ -1,19 +1,22 @@
 //! Serving one connection.
-ghost use Rattle.std.specs.Prelude.{◌≡◌, ◌<◌, ◌≤◌, [], length, Some, IfNone, IfOk};
+ghost use Rattle.std.specs.Prelude.{◌≡◌, ◌<◌, ◌≤◌, [], true, is_some, length, Some, IfNone, IfOk};
 ghost use Rattle.std.specs.Vec.{vec_len};
 ghost use Rattle.ldm_outside.specs.Link.{IsNotClosed};
 ghost use Rattle.ldm_outside.specs.Session.{KeepsFaults, session_tells};
 ghost use Rattle.ldm_shared.specs.Passes.{IsPassOf, IsSamePass};
 ghost use Rattle.ldm_session.specs.declared.gaps.TheConstants.{LONGEST_NAME};
 ghost use Rattle.ldm_serve.specs.Connection.{moment_of};
-ghost use Rattle.ldm_serve.specs.Rounds.{HasRoom, Runs};
+ghost use Rattle.ldm_serve.specs.ClientView.{client_by};
+ghost use Rattle.ldm_serve.specs.Reading.{ReadsCalls};
+ghost use Rattle.ldm_serve.specs.Rounds.{Runs};
 ghost use Rattle.ldm_serve.specs.Serve.{ServesAll};
 ghost use Rattle.ldm_serve.specs.ServingView.{beginning};
 
+use crate::client::Client;
 use crate::end::ServeEnd;
+use crate::responded::Responded;
 use crate::serving::Serving;
-use crate::taking::{end_at, receive, take};
-use ldm_class::Policy;
+use crate::taking::{Connection, Stop, end_by, receive};
 use ldm_conf::Conf;
 use ldm_downstream::LONGEST_PIECE;
 use ldm_outside::{Awaited, Clock, Gate, Got, Link, Sink};
@@ -50,41 +53,37 @@ pub fn serve<H: Wait, K: Link, E: Sink, G: Gate, C: Clock>(
         (moment_of pass.old (session_tells K.tells E.tells C.tells G.tells link.old log.old clock.old gate.old))
         (moment_of pass.new (session_tells K.tells E.tells C.tells G.tells link.new log.new clock.new gate.new)) }
 {
-    match Server::begin(alloc) {
-        Ok(mut server) => server.run(
-            rt,
-            alloc,
-            shared,
-            pass,
-            link,
-            log,
-            gate,
-            clock,
-            host,
-            &conf.policy,
-        ),
+    let client = Client::of(alloc, &conf.policy, host, shared.arena());
+    match Server::begin(alloc, client) {
+        Ok(mut server) => server.run(rt, shared, pass, link, log, gate, clock),
         Err(OutOfMemory) => ServeEnd::OutOfMemory,
     }
 }
 
-// What reads the calls of a connection, what is gathered for the peer, and the memory for a piece.
+// A connection, and the memory for a piece of it.
 #[derive(Drop)]
-struct Server {
-    serving: Serving,
-    out: Vec<u8>,
+struct Server<'a> {
+    connection: Connection<'a>,
     piece: Vec<u8>,
 }
 
-impl Server {
+impl<'a> Server<'a> {
     // Before the first byte. It takes all its memory.
-    fn begin(alloc: Global) -> Result<Server, OutOfMemory>
-        ensures serving { IfOk result (λ server. server.serving ≡ beginning) }
-        ensures empty { IfOk result (λ server. server.out.items ≡ []) }
+    fn begin(alloc: Global, client: Client<'a>) -> Result<Server<'a>, OutOfMemory>
+        ensures client { IfOk result (λ server. server.connection.client ≡ client.entry) }
+        ensures begins { IfOk result (λ server. server.connection.serving ≡ beginning) }
+        ensures reads { IfOk result (λ server. ReadsCalls server.connection 0) }
         ensures room { IfOk result (λ server. 0 < vec_len server.piece) }
     {
-        Ok(Server {
+        let connection = Connection {
+            client,
             serving: Serving::begin(alloc),
             out: room_to_gather(alloc)?,
+            next: Responded::GoesOn,
+            end: None,
+        };
+        Ok(Server {
+            connection,
             piece: vec![in alloc; 0u8; LONGEST_PIECE]?,
         })
     }
@@ -93,97 +92,85 @@ impl Server {
     fn run<H: Wait, K: Link, E: Sink, G: Gate, C: Clock>(
         &mut self,
         rt: &H,
-        alloc: Global,
         shared: &Shared,
         pass: &mut Pass,
         link: &mut K,
         log: &mut E,
         gate: &mut G,
         clock: &mut C,
-        host: &[u8],
-        policy: &Policy,
     ) -> ServeEnd
         requires of { IsPassOf shared.now pass.old }
-        requires name { length host.now ≤ LONGEST_NAME }
+        requires name { length self.old.connection.client.host ≤ LONGEST_NAME }
         requires not_closed { IsNotClosed (K.tells link.old) }
-        requires sound { HasRoom self.old.serving 0 }
-        requires empty { self.old.out.items ≡ [] }
+        requires reads { ReadsCalls self.old.connection 0 }
         requires room { 0 < vec_len self.old.piece }
         ensures kept { IsSamePass pass.old pass.new }
-        ensures runs { Runs (Some result)
-            (record { rules = policy.now; host = host.now; actor = pass.old.actor; arena = shared.now.arena }) self.old.serving []
-            self.new.serving
+        ensures runs { Runs (Some result) (client_by self.old.connection.client pass.old.actor) self.old.connection.serving []
+            self.new.connection.serving
             (moment_of pass.old (session_tells K.tells E.tells C.tells G.tells link.old log.old clock.old gate.old))
             (moment_of pass.new (session_tells K.tells E.tells C.tells G.tells link.new log.new clock.new gate.new)) }
     {
         for _ in rt.forever() {
-            match self.turn(
-                rt, alloc, shared, pass, link, log, gate, clock, host, policy,
-            ) {
-                Some(end) => return end,
-                None => {}
+            self.turn(rt, shared, pass, link, log, gate, clock);
+            if self.connection.end.is_some() {
+                return take_end(&mut self.connection.end);
             }
         }
         unreachable!()
     }
 
-    // Receives a piece and takes it. Answers the end, where it came to one.
+    // Receives a piece and takes it. The end is written, where it came to one.
     fn turn<H: Wait, K: Link, E: Sink, G: Gate, C: Clock>(
         &mut self,
         rt: &H,
-        alloc: Global,
         shared: &Shared,
         pass: &mut Pass,
         link: &mut K,
         log: &mut E,
         gate: &mut G,
         clock: &mut C,
-        host: &[u8],
-        policy: &Policy,
-    ) -> Option<ServeEnd>
+    )
         requires of { IsPassOf shared.now pass.old }
-        requires name { length host.now ≤ LONGEST_NAME }
+        requires name { length self.old.connection.client.host ≤ LONGEST_NAME }
         requires not_closed { IsNotClosed (K.tells link.old) }
-        requires sound { HasRoom self.old.serving 0 }
-        requires empty { self.old.out.items ≡ [] }
+        requires reads { ReadsCalls self.old.connection 0 }
         requires room { 0 < vec_len self.old.piece }
         ensures kept { IsSamePass pass.old pass.new }
-        ensures still_open { IfNone result (IsNotClosed (K.tells link.new)) }
-        ensures sound { IfNone result (HasRoom self.new.serving 0) }
-        ensures empty { IfNone result (self.new.out.items ≡ []) }
+        ensures same { self.new.connection.client ≡ self.old.connection.client }
+        ensures still_open { IfNone self.new.connection.end (IsNotClosed (K.tells link.new)) }
+        ensures reads { IfNone self.new.connection.end (ReadsCalls self.new.connection 0) }
         ensures room { 0 < vec_len self.new.piece }
-        ensures runs { Runs result
-            (record { rules = policy.now; host = host.now; actor = pass.old.actor; arena = shared.now.arena }) self.old.serving []
-            self.new.serving
+        ensures runs { Runs self.new.connection.end (client_by self.old.connection.client pass.old.actor)
+            self.old.connection.serving [] self.new.connection.serving
             (moment_of pass.old (session_tells K.tells E.tells C.tells G.tells link.old log.old clock.old gate.old))
             (moment_of pass.new (session_tells K.tells E.tells C.tells G.tells link.new log.new clock.new gate.new)) }
     {
-        let room = LONGEST_STREAM - self.serving.came();
+        let room = LONGEST_STREAM - self.connection.serving.came();
         if room == 0 {
-            return Some(ServeEnd::StreamLimit);
+            return end_by(&mut self.connection.end, Stop::StreamLimit);
         }
-        let awaited = Awaited::Request.or_rest(self.serving.is_pending());
+        let awaited = Awaited::Request.or_rest(self.connection.serving.is_pending());
         match receive(link, self.piece.as_mut_slice(), room, awaited) {
             Got::Bytes(count) => {
                 let piece = &self.piece[..count];
-                take(
-                    rt,
-                    alloc,
-                    shared,
-                    pass,
-                    link,
-                    log,
-                    gate,
-                    clock,
-                    host,
-                    policy,
-                    &mut self.serving,
-                    &mut self.out,
-                    piece,
-                )
+                self.connection
+                    .take(rt, shared, pass, link, log, gate, clock, piece);
             }
-            Got::End => Some(end_at(&self.serving)),
-            Got::Failed => Some(ServeEnd::LinkFault),
+            Got::End => self.connection.end_here(),
+            Got::Failed => end_by(&mut self.connection.end, Stop::LinkFault),
         }
+    }
+}
+
+// Takes the end that was written.
+#[cold]
+#[inline(never)]
+fn take_end(end: &mut Option<ServeEnd>) -> ServeEnd
+    requires { is_some end.old ≡ true }
+    ensures { end.old ≡ Some result }
+{
+    match end.take() {
+        Some(end) => end,
+        None => unreachable!(),
     }
 }

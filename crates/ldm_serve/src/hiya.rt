@@ -9,9 +9,10 @@ ghost use Rattle.ldm_intake.specs.Room.{records_of};
 ghost use Rattle.ldm_serve.specs.Respond.{to_hiya, to_offer};
 ghost use Rattle.ldm_serve.specs.Responds.{Responds, stands};
 
+use crate::client::Client;
 use crate::responded::{RespondFault, Responded};
 use crate::saying::say;
-use ldm_class::{Class, ClassFault, Policy, Reduced};
+use ldm_class::{Class, ClassFault, Reduced};
 use ldm_relay::{ClassAnswer, Hiya, HiyaReply, Message};
 use ldm_types::{ClassSpec, OutOfMemory};
 use std::alloc::Global;
@@ -36,20 +37,18 @@ fn say_hiya(xid: u32, answer: ClassAnswer, out: &mut Vec<u8>) -> Result<(), OutO
 
 // An offer to push the products of a class.
 pub(crate) fn hiya(
-    alloc: Global,
-    policy: &Policy,
-    host: &[u8],
+    client: &Client<'_>,
     offer: Hiya,
     out: &mut Vec<u8>,
 ) -> Result<Responded, RespondFault>
     ensures { (pass : PassView) (clock : ClockRecord)
-        → Responds result (to_hiya policy.now host.now offer.xid offer.class)
+        → Responds result (to_hiya client.now.rules client.now.host offer.xid offer.class)
         (stands pass clock out.old.items) (stands pass clock out.new.items) }
 {
-    match Class::check(alloc, &offer.class) {
+    match Class::check(client.alloc(), &offer.class) {
         Ok(()) => {
-            let left = policy.reduce(alloc, host, &offer.class, true)?;
-            offered(alloc, offer.xid, &offer.class, left, out)
+            let left = client.left_of(&offer.class, true)?;
+            offered(client.alloc(), offer.xid, &offer.class, left, out)
         }
         Err(ClassFault::BadPattern { .. }) => {
             say_hiya(offer.xid, ClassAnswer::BadPattern, out)?;

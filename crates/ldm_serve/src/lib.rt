@@ -6,6 +6,7 @@
 
 mod answers;
 mod asking;
+mod client;
 mod connection;
 mod end;
 mod examples;
@@ -33,4 +34,3 @@ pub use laws::serving_keeps_the_rules;
 pub use responded::{RespondFault, Responded};
 pub use responding::respond;
 pub use response_laws::rules_are_kept;
-pub use serving::{Answered, Serving};

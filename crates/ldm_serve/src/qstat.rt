@@ -8,32 +8,30 @@ ghost use Rattle.ldm_serve.specs.Response.{Figures};
 ghost use Rattle.ldm_serve.specs.Responds.{HasAnswerRoom, Responds, stands};
 
 use crate::answers::{figures_of, put_stat};
+use crate::client::Client;
 use crate::responded::{RespondFault, Responded};
 use crate::saying::answer_room;
 use arrayvec::ArrayVec;
-use ldm_class::{Policy, Reduced};
+use ldm_class::Reduced;
 use ldm_shared::{Pass, Shared, Turn};
 use ldm_types::{ClassSpec, Micros, OutOfMemory};
-use std::alloc::Global;
 use std::sync::Wait;
 
 // A question for the figures of the queue.
 pub(crate) fn qstat<H: Wait>(
     rt: &H,
-    alloc: Global,
     shared: &Shared,
     pass: &mut Pass,
-    policy: &Policy,
-    host: &[u8],
+    client: &Client<'_>,
     xid: u32,
     out: &mut Vec<u8>,
 ) -> Result<Responded, RespondFault>
     requires { IsPassOf shared.now pass.old }
-    ensures { (clock : ClockRecord) → Responds result (to_qstat policy.now host.now xid)
+    ensures { (clock : ClockRecord) → Responds result (to_qstat client.now.rules client.now.host xid)
         (stands pass.old clock out.old.items) (stands pass.new clock out.new.items) }
 {
     answer_room(out)?;
-    if may_know(alloc, policy, host)? {
+    if may_know(client)? {
         return figures(rt, shared, pass, xid, out);
     }
     put_stat(out, xid, None);
@@ -64,10 +62,10 @@ fn figures<H: Wait>(
 
 // Whether some ALLOW rule is about the host: the number of the first one comes with what is left of a class without
 // specifications.
-fn may_know(alloc: Global, policy: &Policy, host: &[u8]) -> Result<bool, OutOfMemory>
-    ensures { IfOk result (λ known. known ≡ may_know policy.now host.now) }
+fn may_know(client: &Client<'_>) -> Result<bool, OutOfMemory>
+    ensures { IfOk result (λ known. known ≡ may_know client.now.rules client.now.host) }
 {
-    match policy.reduce(alloc, host, &no_class(), false)? {
+    match client.left_of(&no_class(), false)? {
         Reduced::Nothing { rule } => Ok(rule != 0),
         Reduced::Same => unreachable!(),
         Reduced::Fewer(_) => unreachable!(),

@@ -1,32 +1,33 @@
 //! What reads the calls of a connection, and answers them.
-ghost use Rattle.std.specs.Prelude.{◌≡◌, ◌<◌, ◌≤◌, ◌+◌, ◌^◌, ℕ, List, Option, false, length};
+ghost use Rattle.std.specs.Prelude.{◌≡◌, ◌<◌, ◌≤◌, ◌+◌, ◌^◌, ℕ, List, Option, IfOk, false, if◌then◌else◌, length};
 ghost use Rattle.ldm_rpc.specs.Reading.{is_faulty, is_pending};
 ghost use Rattle.ldm_shared.specs.Passes.{IsPassOf, IsSamePass};
-ghost use Rattle.ldm_serve.specs.Keeping.{IsFrontIn};
+ghost use Rattle.ldm_serve.specs.ClientView.{client_by};
+ghost use Rattle.ldm_rpc.specs.Keeping.{IsFrontIn};
 ghost use Rattle.ldm_serve.specs.Responds.{stands};
 ghost use Rattle.ldm_serve.specs.ServingView.{beginning};
 ghost use Rattle.ldm_serve.specs.Served.{Serves};
-ghost use Rattle.ldm_serve.specs.Turns.{Turns};
+ghost use Rattle.ldm_serve.specs.Turns.{Turns, turned};
 ghost use Rattle.ldm_serve.specs.Contents.{Finds, stop_of};
 
-use crate::keeping::Keeping;
+use crate::client::Client;
 use crate::responded::{RespondFault, Responded};
-use crate::responding::respond;
-use ldm_class::Policy;
+use crate::responding::answer;
 use ldm_outside::Clock;
-use ldm_rpc::{Front, RpcFault};
+use ldm_relay::LARGEST_RECORD;
+use ldm_rpc::{Front, KeptRecords, RpcFault};
 use ldm_shared::{Pass, Shared};
 use std::alloc::Global;
 use std::marker::Model;
 use std::sync::Wait;
 
-/// What the bytes of a connection came to.
-#[derive(Drop)]
-pub enum Answered {
+/// What the bytes of a connection came to. How the connection goes on behind its last record is written beside it.
+#[derive(Clone, Copy)]
+pub(crate) enum Answered {
     /// All were taken, and the session goes on.
     On,
     /// The session does not outlive the record that begins at that byte. What stands behind it was not taken.
-    Over { next: Responded, at: u64 },
+    Over { at: u64 },
     /// The record that begins at that byte is longer than the largest one.
     TooLong { at: u64 },
     /// The queue has had all the calls that it can have.
@@ -37,8 +38,8 @@ pub enum Answered {
 
 /// What reads the calls of a connection, from its first byte on. Contracts see what is in hand of the stream.
 #[derive(Drop)]
-pub struct Serving {
-    records: Keeping,
+pub(crate) struct Serving {
+    records: KeptRecords,
     begins: u64,
     came: u64,
 }
@@ -57,57 +58,59 @@ impl Model for Serving {
 
 impl Serving {
     /// Before the first byte of a connection. It takes no memory.
-    pub fn begin(alloc: Global) -> Serving
+    pub(crate) fn begin(alloc: Global) -> Serving
         ensures { result ≡ beginning }
     {
         Serving {
-            records: Keeping::create(alloc),
+            records: KeptRecords::create(alloc, LARGEST_RECORD),
             begins: 0,
             came: 0,
         }
     }
 
     /// How many bytes were taken.
-    pub fn came(&self) -> u64
+    pub(crate) fn came(&self) -> u64
         ensures { result ≡ self.now.came }
     {
         self.came
     }
 
     /// Whether a record was begun and is not complete.
-    pub fn is_pending(&self) -> bool
+    pub(crate) fn is_pending(&self) -> bool
         ensures { result ≡ is_pending self.now.reading }
     {
         self.records.is_pending()
     }
 
     /// Takes bytes, and answers the records that they complete, one behind the other, up to one that the session does
-    /// not outlive. What the peer is owed is appended to `out`.
-    pub fn answer<H: Wait, C: Clock>(
+    /// not outlive. What the peer is owed is appended to `out`, and how the connection goes on behind that last record
+    /// is written to `next`.
+    pub(crate) fn answer<H: Wait, C: Clock>(
         &mut self,
         rt: &H,
-        alloc: Global,
         shared: &Shared,
         pass: &mut Pass,
         clock: &mut C,
-        policy: &Policy,
-        host: &[u8],
+        client: &mut Client<'_>,
         bytes: &[u8],
         out: &mut Vec<u8>,
+        next: &mut Responded,
     ) -> Answered
         requires of { IsPassOf shared.now pass.old }
         requires sound { is_faulty self.old.reading ≡ false }
         requires room { self.old.came + length bytes.now < 2 ^ 64 }
+        requires going { next.old ≡ Responded.GoesOn }
         ensures kept { IsSamePass pass.old pass.new }
-        ensures serves { Serves result
-            (record { rules = policy.now; host = host.now; actor = pass.old.actor; arena = shared.now.arena }) self.old bytes.now self.new
+        ensures same { client.new ≡ client.old }
+        ensures on { result ≡ Answered.On → next.new ≡ Responded.GoesOn }
+        ensures serves { Serves result next.new (client_by client.old pass.old.actor) self.old bytes.now self.new
             (stands pass.old (C.tells clock.old) out.old.items) (stands pass.new (C.tells clock.new) out.new.items) }
     {
         // What is kept is known here.
         let _ = &self.records;
         let mut rest = bytes;
         while !rest.is_empty() {
-            match self.answer_first(rt, alloc, shared, pass, clock, policy, host, rest, out) {
+            match self.answer_first(rt, shared, pass, clock, client, rest, out, next) {
                 Ok(count) => rest = &rest[count..],
                 Err(stop) => return stop,
             }
@@ -116,32 +119,69 @@ impl Serving {
     }
 
     // Takes the record that these bytes complete first, or all of them where they complete none, and answers it. Tells
-    // how many bytes that are, or how the record ends the session.
+    // how many bytes that are, or how the record ends the session. A record that lies whole in the bytes is read where
+    // it lies.
     fn answer_first<H: Wait, C: Clock>(
         &mut self,
         rt: &H,
-        alloc: Global,
         shared: &Shared,
         pass: &mut Pass,
         clock: &mut C,
-        policy: &Policy,
-        host: &[u8],
+        client: &mut Client<'_>,
         bytes: &[u8],
         out: &mut Vec<u8>,
+        next: &mut Responded,
     ) -> Result<usize, Answered>
         requires of { IsPassOf shared.now pass.old }
         requires some { 0 < length bytes.now }
         requires room { self.old.came + length bytes.now < 2 ^ 64 }
+        requires going { next.old ≡ Responded.GoesOn }
         ensures kept { IsSamePass pass.old pass.new }
-        ensures turns { Turns result
-            (record { rules = policy.now; host = host.now; actor = pass.old.actor; arena = shared.now.arena }) self.old bytes.now self.new
+        ensures same { client.new ≡ client.old }
+        ensures going { IfOk result (λ _. next.new ≡ Responded.GoesOn) }
+        ensures turns { Turns result next.new (client_by client.old pass.old.actor) self.old bytes.now self.new
+            (stands pass.old (C.tells clock.old) out.old.items) (stands pass.new (C.tells clock.new) out.new.items) }
+    {
+        let Some(found) = self.records.whole_in(bytes) else {
+            return self.answer_pushed(rt, shared, pass, clock, client, bytes, out, next);
+        };
+        let held = Some(Front {
+            bytes: found.content,
+            len: found.content.len() as u32,
+        });
+        let answered = answer_held(rt, shared, pass, clock, client, held, out, next);
+        let stop = stop_of(answered, next, self.begins);
+        let count = found.taken;
+        self.came += count as u64;
+        self.begins = self.came;
+        turned(count, stop)
+    }
+
+    // The same, of a record that is joined in a buffer: one of more than one fragment, or that does not lie whole in
+    // these bytes.
+    fn answer_pushed<H: Wait, C: Clock>(
+        &mut self,
+        rt: &H,
+        shared: &Shared,
+        pass: &mut Pass,
+        clock: &mut C,
+        client: &mut Client<'_>,
+        bytes: &[u8],
+        out: &mut Vec<u8>,
+        next: &mut Responded,
+    ) -> Result<usize, Answered>
+        requires of { IsPassOf shared.now pass.old }
+        requires some { 0 < length bytes.now }
+        requires room { self.old.came + length bytes.now < 2 ^ 64 }
+        requires going { next.old ≡ Responded.GoesOn }
+        ensures kept { IsSamePass pass.old pass.new }
+        ensures same { client.new ≡ client.old }
+        ensures going { IfOk result (λ _. next.new ≡ Responded.GoesOn) }
+        ensures turns { Turns result next.new (client_by client.old pass.old.actor) self.old bytes.now self.new
             (stands pass.old (C.tells clock.old) out.old.items) (stands pass.new (C.tells clock.new) out.new.items) }
     {
         let at = self.begins;
-        let pushed = self
-            .records
-            .push(alloc, policy, host, shared.arena(), bytes);
-        let count = match pushed {
+        let count = match self.records.push(client, bytes) {
             Ok(count) => count,
             Err(RpcFault::TooLong { .. }) => return Err(Answered::TooLong { at }),
             Err(RpcFault::OutOfMemory) => return Err(Answered::OutOfMemory),
@@ -149,53 +189,65 @@ impl Serving {
         self.came += count as u64;
         let held = self.records.whole();
         let is_whole = held.is_some();
-        let stop = answer_content(rt, alloc, shared, pass, clock, policy, host, held, at, out);
+        let answered = answer_held(rt, shared, pass, clock, client, held, out, next);
         self.records.next();
-        if is_whole {
-            self.begins = self.came;
-        }
-        match stop {
-            Answered::On => Ok(count),
-            stop => Err(stop),
-        }
+        self.begins = begins_behind(is_whole, at, self.came);
+        turned(count, stop_of(answered, next, at))
     }
 }
 
-// Answers a record that begins there, if there is one.
-fn answer_content<H: Wait, C: Clock>(
+// Answers a record, if there is one.
+fn answer_held<H: Wait, C: Clock>(
     rt: &H,
-    alloc: Global,
     shared: &Shared,
     pass: &mut Pass,
     clock: &mut C,
-    policy: &Policy,
-    host: &[u8],
+    client: &mut Client<'_>,
     held: Option<Front<'_>>,
-    at: u64,
     out: &mut Vec<u8>,
-) -> Answered
-    requires { IsPassOf shared.now pass.old }
+    next: &mut Responded,
+) -> Result<(), RespondFault>
+    requires of { IsPassOf shared.now pass.old }
+    requires going { next.old ≡ Responded.GoesOn }
     ensures kept { IsSamePass pass.old pass.new }
-    ensures finds { (content : Option (List ℕ)) → IsFrontIn held.entry content → Finds result
-        (record { rules = policy.now; host = host.now; actor = pass.old.actor; arena = shared.now.arena }) at content
+    ensures same { client.new ≡ client.old }
+    ensures finds { (at : ℕ) (content : Option (List ℕ)) → IsFrontIn held.entry content → Finds (stop_of result next.new at)
+        next.new (client_by client.old pass.old.actor) at content
         (stands pass.old (C.tells clock.old) out.old.items) (stands pass.new (C.tells clock.new) out.new.items) }
 {
-    let Some(held) = held else {
-        return Answered::On;
-    };
-    match respond(rt, alloc, shared, pass, clock, policy, host, held, out) {
-        Ok(next) => stop_of(next, at),
+    match held {
+        Some(held) => answer(rt, shared, pass, clock, client, held, out, next),
+        None => Ok(()),
+    }
+}
+
+// Where the record in hand begins, behind one that is complete or in it.
+fn begins_behind(is_whole: bool, at: u64, came: u64) -> u64
+    ensures { result ≡ (if is_whole then came else at) }
+{
+    if is_whole { came } else { at }
+}
+
+// How a record that begins there ends the session, if it does.
+fn stop_of(answered: Result<(), RespondFault>, next: &Responded, at: u64) -> Answered
+    ensures { result ≡ stop_of answered next.now at }
+{
+    match answered {
+        Ok(()) => match next {
+            Responded::GoesOn => Answered::On,
+            _ => Answered::Over { at },
+        },
         Err(RespondFault::Worn) => Answered::Worn,
         Err(RespondFault::OutOfMemory) => Answered::OutOfMemory,
     }
 }
 
-// How a record that begins there ends the session, if it does.
-fn stop_of(next: Responded, at: u64) -> Answered
-    ensures { result ≡ stop_of next at }
+// How many bytes were taken, or how that ends the session.
+fn turned(count: usize, stop: Answered) -> Result<usize, Answered>
+    ensures { result ≡ turned count stop }
 {
-    match next {
-        Responded::GoesOn => Answered::On,
-        next => Answered::Over { next, at },
+    match stop {
+        Answered::On => Ok(count),
+        stop => Err(stop),
     }
 }

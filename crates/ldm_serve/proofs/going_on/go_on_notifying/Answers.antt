@@ -1,16 +1,17 @@
 use Rattle.ldm_outside.specs.Session.{session_tells}
 use Rattle.ldm_serve.specs.Connection.{moment_of}
 use Rattle.ldm_serve.specs.Client.{Client}
+use Rattle.ldm_serve.specs.ClientView.{client_by}
 use Rattle.ldm_serve.proofs.Narrowing.{notifying-narrows}
 use Rattle.ldm_serve.proofs.going_on.go_on_notifying.Goals as goal
 
 pub returns-in-Reclassed-clause-goes : goal.returns-in-Reclassed-clause-goes
 returns-in-Reclassed-clause-goes g c at ahead =
-    let client : Client = record { rules = c.args.policy.now; host = c.args.host.now; actor = c.args.pass.now.actor; arena = c.args.shared.now.arena } in
+    let client : Client = client_by c.args.client.now c.args.pass.now.actor in
     let tells = session_tells g.K.Link.tells g.E.Sink.tells g.C.Clock.tells g.G.Gate.tells in
     let old = moment_of c.args.pass.now (tells c.args.link.now c.args.log.now c.args.clock.now c.args.gate.now) in
     let new = moment_of c.notify_asked.new.pass (tells c.notify_asked.new.link c.notify_asked.new.log c.notify_asked.new.clock c.notify_asked.new.gate) in
-    notifying-narrows client c.args.ask.now old new c.in-Reclassed.ensures.notified
+    notifying-narrows client c.args.ask.now old new (rw (c.host.ensures, c.policy.ensures) at c.in-Reclassed.ensures.notified)
 
 pub returns-in_default-clause-goes : goal.returns-in_default-clause-goes
-returns-in_default-clause-goes g c at ahead = (c.notify_asked.ensures.notified, c.in_default.not-Reclassed)
+returns-in_default-clause-goes g c at ahead = (rw (c.host.ensures, c.policy.ensures) at c.notify_asked.ensures.notified, c.in_default.not-Reclassed)

@@ -12,9 +12,9 @@ use Rattle.ldm_serve.proofs.hiya.hiya.Goals as goal
 pub returns-in_ok-say_hiya-in-Err-BadPattern : goal.returns-in_ok-say_hiya-in-Err-BadPattern
 returns-in_ok-say_hiya-in-Err-BadPattern c = λ pass clock.
     let offer = c.args.offer in
-    let rules = c.args.policy.now in
+    let rules = c.args.client.now.rules in
     let bad = sent.HiyaReply offer.xid MAX_HEREIS class_answer.BadPattern ∷ [] in
     let place = rw c.in-Err-BadPattern.field-0-is at c.in-Err-BadPattern.ensures in
-    given_at_once pass clock (to_hiya rules c.args.host.now offer.xid offer.class) (Says bad) responded.GoesOn bad c.args.out.now.items c.say_hiya.new.out.items
-    (one_means_nothing offer.class (to_offer offer.xid offer.class (reduce rules.accept c.args.host.now offer.class)) (Says bad) c.in-Err-BadPattern.field-0-0 place)
+    given_at_once pass clock (to_hiya rules c.args.client.now.host offer.xid offer.class) (Says bad) responded.GoesOn bad c.args.out.now.items c.say_hiya.new.out.items
+    (one_means_nothing offer.class (to_offer offer.xid offer.class (reduce rules.accept c.args.client.now.host offer.class)) (Says bad) c.in-Err-BadPattern.field-0-0 place)
     refl refl refl c.in_ok-say_hiya-in-Err-BadPattern.ensures.ok

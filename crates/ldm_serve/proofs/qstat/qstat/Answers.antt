@@ -10,8 +10,8 @@ use Rattle.ldm_serve.proofs.qstat.qstat.Goals as goal
 
 pub returns : goal.returns
 returns g c = λ clock.
-    let rules = c.args.policy.now in
-    let host = c.args.host.now in
+    let rules = c.args.client.now.rules in
+    let host = c.args.client.now.host in
     let xid = c.args.xid in
     let said = sent.QstatReply xid None ∷ [] in
     given_at_once c.args.pass.now clock (to_qstat rules host xid) (Says said) responded.GoesOn said c.args.out.now.items c.put_stat.new.out.items

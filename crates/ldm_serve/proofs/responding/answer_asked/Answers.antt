@@ -12,22 +12,22 @@ returns-in-Hiya-clause-responds g c =
     let pass = c.args.pass.now in
     let clock = g.C.Clock.tells c.args.clock.now in
     subst (λ (r : Response). Responds c.hiya.result r (stands pass clock c.args.out.now.items) (stands pass clock c.hiya.new.out.items))
-    (sym (ap (to_asked c.args.policy.now c.args.host.now) c.in-Hiya.is)) (c.hiya.ensures pass clock)
+    (sym (ap (to_asked c.args.client.now.rules c.args.client.now.host) c.in-Hiya.is)) (c.hiya.ensures pass clock)
 
 pub returns-in-Qstat-clause-kept : goal.returns-in-Qstat-clause-kept
 returns-in-Qstat-clause-kept g c =
     let clock = g.C.Clock.tells c.args.clock.now in
-    keeps_pass c.qstat.result (to_qstat c.args.policy.now c.args.host.now c.in-Qstat.xid) (stands c.args.pass.now clock c.args.out.now.items)
+    keeps_pass c.qstat.result (to_qstat c.args.client.now.rules c.args.client.now.host c.in-Qstat.xid) (stands c.args.pass.now clock c.args.out.now.items)
     (stands c.qstat.new.pass clock c.qstat.new.out.items) (c.qstat.ensures clock)
 
 pub returns-in-Isalive-clause-responds : goal.returns-in-Isalive-clause-responds
 returns-in-Isalive-clause-responds g c =
     let out = c.args.out.now.items in
-    given_at_once c.args.pass.now (g.C.Clock.tells c.args.clock.now) (to_asked c.args.policy.now c.args.host.now c.args.asked) (Says []) responded.GoesOn [] out out
-    (ap (to_asked c.args.policy.now c.args.host.now) c.in-Isalive.is) refl refl refl (sym (append-nil out))
+    given_at_once c.args.pass.now (g.C.Clock.tells c.args.clock.now) (to_asked c.args.client.now.rules c.args.client.now.host c.args.asked) (Says []) responded.GoesOn [] out out
+    (ap (to_asked c.args.client.now.rules c.args.client.now.host) c.in-Isalive.is) refl refl refl (sym (append-nil out))
 
 pub returns-in-OutOfPlace-clause-responds : goal.returns-in-OutOfPlace-clause-responds
 returns-in-OutOfPlace-clause-responds g c =
     let out = c.args.out.now.items in
-    given_at_once c.args.pass.now (g.C.Clock.tells c.args.clock.now) (to_asked c.args.policy.now c.args.host.now c.args.asked) (Refuses []) responded.Refused [] out out
-    (ap (to_asked c.args.policy.now c.args.host.now) c.in-OutOfPlace.is) refl refl refl (sym (append-nil out))
+    given_at_once c.args.pass.now (g.C.Clock.tells c.args.clock.now) (to_asked c.args.client.now.rules c.args.client.now.host c.args.asked) (Refuses []) responded.Refused [] out out
+    (ap (to_asked c.args.client.now.rules c.args.client.now.host) c.in-OutOfPlace.is) refl refl refl (sym (append-nil out))
