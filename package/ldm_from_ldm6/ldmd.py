@@ -148,12 +148,8 @@ def entry(found):
         if len(pattern) > LONGEST_PATTERN:
             raise LeftOut(f"a pattern that is asked for has at most {LONGEST_PATTERN} bytes")
         put(found[3], host(found[3].text), ["a port has no leading zero here"])
-        if len(found) == 5:
-            transfer = found[4].text.upper()
-            if transfer not in ("PRIMARY", "ALTERNATE"):
-                raise LeftOut(f"nothing follows the host here: {found[4].text}")
-            edits.append((found[3].end, found[4].end, ""))
-            reasons.append(f"there is no {transfer} here: every host sends products of up to 16,384 bytes whole, and announces others")
+        if len(found) == 5 and found[4].text.upper() not in ("PRIMARY", "ALTERNATE"):
+            raise LeftOut(f"only PRIMARY or ALTERNATE follows the host: {found[4].text}")
     return edits, reasons, looks
 
 

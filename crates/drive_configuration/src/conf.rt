@@ -109,6 +109,10 @@ fn tell_request(trial: &mut Trial, request: &Request) {
     trial.tell_shown(request.host.as_slice());
     trial.tell(" at ");
     trial.tell_value(&request.port);
+    trial.tell(" ");
+    trial.tell_text(request.transfer.name());
+    trial.tell(" ");
+    trial.tell_value(&request.transfer.max_hereis());
 }
 
 fn tell_command(trial: &mut Trial, command: &Command) {

@@ -9,15 +9,17 @@ use Rattle.ldm_class.specs.PolicyFaults.{bad_from}
 use Rattle.ldm_conf.specs.declared.conf.Conf.{Conf}
 use Rattle.ldm_conf.specs.declared.command.Command.{Command}
 use Rattle.ldm_conf.specs.declared.request.Request.{Request as CodeRequest}
+use Rattle.ldm_conf.specs.declared.transfer.Transfer.{Transfer}
 
--- the class to ask for, and whom
+-- the class to ask for, whom, and how its products are to come
 pub record RequestView : Type 0 where
   pub class : ClassSpec
   pub host : List ℕ
   pub port : ℕ
+  pub transfer : Transfer
 
 abbrev pub request_view : CodeRequest → RequestView
-request_view request = record { class = request.class; host = request.host.items; port = request.port }
+request_view request = record { class = request.class; host = request.host.items; port = request.port; transfer = request.transfer }
 
 -- the words of a program to start
 abbrev pub command_view : Command → List (List ℕ)

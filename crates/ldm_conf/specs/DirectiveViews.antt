@@ -12,7 +12,7 @@ use Rattle.ldm_conf.specs.Statements.{Statement, Blank, Adds, Includes}
 abbrev pub directive_view : code.Directive → Directive
 directive_view (directive.Allow feed host ok not) = Allow (allow_rule feed.0 host.now (option_copied ok) (option_copied not))
 directive_view (directive.Accept feed pattern host) = Accept (accept_rule feed.0 pattern.now host.now)
-directive_view (directive.Request feed pattern address) = Request (record { class = all_times feed.0 pattern.items; host = address.host.items; port = address.port })
+directive_view (directive.Request feed pattern address transfer) = Request (record { class = all_times feed.0 pattern.items; host = address.host.items; port = address.port; transfer = transfer })
 directive_view (directive.Exec command) = Exec (parts_of command.text.now)
 
 abbrev pub statement_view : code_statement.Statement → Statement

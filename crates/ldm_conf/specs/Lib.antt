@@ -2,6 +2,7 @@ pub mod Lines
 pub mod Addresses
 pub mod Commands
 pub mod Keywords
+pub mod Transfers
 pub mod Confs
 pub mod Statements
 pub mod Reading

@@ -11,11 +11,14 @@ use Rattle.ldm_conf.specs.declared.fault.ConfKind.{ConfKind}
 use Rattle.ldm_conf.specs.declared.fault.ConfKind.TheVariants as kind
 use Rattle.ldm_conf.specs.declared.keyword.Keyword.{Keyword}
 use Rattle.ldm_conf.specs.declared.keyword.Keyword.TheVariants as keyword
+use Rattle.ldm_conf.specs.declared.transfer.Transfer.{Transfer}
+use Rattle.ldm_conf.specs.declared.transfer.Transfer.TheVariants.{Alternate}
 use Rattle.ldm_conf.specs.Addresses.{Address, address_of}
 use Rattle.ldm_conf.specs.Commands.{is_command, parts_of}
 use Rattle.ldm_conf.specs.Confs.{Directive, Allow, Accept, Request, Exec, all_times, has_bad_pattern}
 use Rattle.ldm_conf.specs.Keywords.{keyword_of}
 use Rattle.ldm_conf.specs.Lines.{without_return}
+use Rattle.ldm_conf.specs.Transfers.{transfer_of}
 
 pub data Statement : Type 0 where
   -- it has no word
@@ -50,15 +53,19 @@ accepting (feedtype ∷ pattern ∷ host ∷ []) = adding feedtype (λ feed. Acc
 accepting words = Err kind.Fields
 
 -- a pattern has at most so many bytes in a class
-abbrev pub asking_for : List ℕ → List ℕ → Address → Result Statement ConfKind
-asking_for feedtype pattern address =
+abbrev pub asking_for : List ℕ → List ℕ → Transfer → Address → Result Statement ConfKind
+asking_for feedtype pattern transfer address =
     if nat_le (length pattern) LONGEST_PATTERN
-    then adding feedtype (λ feed. Request (record { class = all_times feed pattern; host = address.host; port = address.port }))
+    then adding feedtype (λ feed. Request (record { class = all_times feed pattern; host = address.host; port = address.port; transfer = transfer }))
     else Err kind.Fields
 
--- `REQUEST feedtype pattern host[:port]`
+abbrev pub asking_at : List ℕ → List ℕ → List ℕ → Transfer → Result Statement ConfKind
+asking_at feedtype pattern address transfer = ok_or (address_of address) kind.Fields >>= asking_for feedtype pattern transfer
+
+-- `REQUEST feedtype pattern host[:port] [PRIMARY|ALTERNATE]`, which without a word says ALTERNATE
 abbrev pub requesting : List (List ℕ) → Result Statement ConfKind
-requesting (feedtype ∷ pattern ∷ address ∷ []) = ok_or (address_of address) kind.Fields >>= asking_for feedtype pattern
+requesting (feedtype ∷ pattern ∷ address ∷ []) = asking_at feedtype pattern address Alternate
+requesting (feedtype ∷ pattern ∷ address ∷ transfer ∷ []) = ok_or (transfer_of transfer) kind.Fields >>= asking_at feedtype pattern address
 requesting words = Err kind.Fields
 
 -- `EXEC command`

@@ -57,11 +57,17 @@ impl Conf {
                 feed,
                 pattern,
                 address,
+                transfer,
             } => {
                 self.requests.reserve(1)?;
                 let class = Class::build(alloc, &all_times(feed, pattern))?;
                 let Address { host, port } = address;
-                self.requests.push(Request { class, host, port })?;
+                self.requests.push(Request {
+                    class,
+                    host,
+                    port,
+                    transfer,
+                })?;
             }
             Directive::Exec { command } => {
                 self.commands.reserve(1)?;

@@ -2,6 +2,7 @@
 
 use crate::address::Address;
 use crate::command::CommandText;
+use crate::transfer::Transfer;
 use arrayvec::ArrayVec;
 use ldm_types::{Feed, LONGEST_PATTERN};
 
@@ -26,6 +27,7 @@ pub enum Directive<'a> {
         feed: Feed,
         pattern: ArrayVec<u8, LONGEST_PATTERN>,
         address: Address,
+        transfer: Transfer,
     },
     /// A program to start.
     Exec {

@@ -15,7 +15,8 @@ pub enum ConfKind {
     Keyword,
     /// There are too few or too many words, a quote is left open, a quoted word is followed by anything but a blank, a
     /// tab or the line's end, or a word has not the form that it needs: a pattern of REQUEST of at most 255 bytes, a
-    /// host of 1 to 255 bytes, a port from 1 to 65,535, a command that is UTF-8 and has a part, a path that is UTF-8.
+    /// host of 1 to 255 bytes, a port from 1 to 65,535, PRIMARY or ALTERNATE, a command that is UTF-8 and has a part, a
+    /// path that is UTF-8.
     #[error("its words do not read")]
     Fields,
     /// The feedtype is no feed expression.

@@ -47,7 +47,8 @@ impl Keyword {
     }
 }
 
-fn is_name(name: &[u8], word: &[u8]) -> bool
+/// Whether a word is that name, in letters of either case.
+pub fn is_name(name: &[u8], word: &[u8]) -> bool
     ensures { result ≡ str_eq_ignore_ascii_case name.now word.now }
 {
     name.eq_ignore_ascii_case(word)

@@ -13,6 +13,7 @@ mod lines;
 mod parse;
 mod reader;
 mod request;
+mod transfer;
 mod words;
 
 pub use address::Address;
@@ -20,6 +21,10 @@ pub use addresses::{read_address, read_port};
 pub use command::Command;
 pub use conf::Conf;
 pub use fault::{ConfFault, ConfKind};
-pub use limits::{DEEPEST_INCLUDE, DEFAULT_PORT, LONGEST_HOST_NAME, MOST_FILES};
+pub use limits::{
+    ALTERNATE_MAX_HEREIS, DEEPEST_INCLUDE, DEFAULT_PORT, LONGEST_HOST_NAME, MOST_FILES,
+    PRIMARY_MAX_HEREIS,
+};
 pub use reader::read_conf;
 pub use request::Request;
+pub use transfer::Transfer;

@@ -12,5 +12,12 @@ pub const LONGEST_HOST_NAME: usize = 255;
 /// The port of a node where none is named.
 pub const DEFAULT_PORT: u16 = 388;
 
+/// The size of the largest product that a REQUEST line asks for whole, in one message, where it says PRIMARY.
+pub const PRIMARY_MAX_HEREIS: u32 = 1_048_576;
+
+/// The size of the largest product that a REQUEST line asks for whole, in one message, where it says ALTERNATE, or
+/// nothing.
+pub const ALTERNATE_MAX_HEREIS: u32 = 16_384;
+
 // How many words stand behind a keyword at most.
 pub(crate) const MOST_WORDS: usize = 4;

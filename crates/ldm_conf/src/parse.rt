@@ -4,7 +4,7 @@ ghost use Rattle.std.specs.Option.{option_copied};
 ghost use Rattle.ldm_class.specs.Rules.{allow_rule};
 ghost use Rattle.ldm_conf.specs.Confs as confs;
 ghost use Rattle.ldm_conf.specs.Statements.{statement_of, said, adding, feed_of, allowing};
-ghost use Rattle.ldm_conf.specs.Statements.{accepting, requesting, executing, including};
+ghost use Rattle.ldm_conf.specs.Statements.{accepting, requesting, asking_at, executing, including};
 ghost use Rattle.ldm_conf.specs.Kept.{lent};
 ghost use Rattle.ldm_conf.specs.LineFaults.{IsKindOf};
 ghost use Rattle.ldm_conf.specs.DirectiveViews.{statement_view};
@@ -15,6 +15,7 @@ use crate::directive::{Directive, Statement};
 use crate::fault::ConfKind;
 use crate::keyword::Keyword;
 use crate::lines::without_return;
+use crate::transfer::Transfer;
 use crate::words::read_words;
 use arrayvec::ArrayVec;
 use ldm_feedtype::read_feed;
@@ -106,13 +107,31 @@ fn read_request<'a>(words: &[&'a [u8]]) -> Result<Statement<'a>, ConfKind>
     ensures { let meaning = requesting (lent words.now) in MatchResult result
         (λ statement. meaning ≡ Ok (statement_view statement)) (IsKindOf meaning) }
 {
-    let [feedtype, pattern, address] = words else {
-        return Err(ConfKind::Fields);
-    };
+    match words {
+        [feedtype, pattern, address] => request(feedtype, pattern, address, Transfer::Alternate),
+        [feedtype, pattern, address, transfer] => {
+            let Some(transfer) = Transfer::of_name(transfer) else {
+                return Err(ConfKind::Fields);
+            };
+            request(feedtype, pattern, address, transfer)
+        }
+        _ => Err(ConfKind::Fields),
+    }
+}
+
+fn request<'a>(
+    feedtype: &[u8],
+    pattern: &[u8],
+    address: &[u8],
+    transfer: Transfer,
+) -> Result<Statement<'a>, ConfKind>
+    ensures { let meaning = asking_at feedtype.now pattern.now address.now transfer in MatchResult result
+        (λ statement. meaning ≡ Ok (statement_view statement)) (IsKindOf meaning) }
+{
     let Some(address) = read_address(address) else {
         return Err(ConfKind::Fields);
     };
-    let Ok(pattern) = ArrayVec::try_from(*pattern) else {
+    let Ok(pattern) = ArrayVec::try_from(pattern) else {
         return Err(ConfKind::Fields);
     };
     let feed = read_feedtype(feedtype)?;
@@ -120,6 +139,7 @@ fn read_request<'a>(words: &[&'a [u8]]) -> Result<Statement<'a>, ConfKind>
         feed,
         pattern,
         address,
+        transfer,
     }))
 }
 

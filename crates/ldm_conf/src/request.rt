@@ -2,6 +2,7 @@
 ghost use Rattle.std.specs.Prelude.{◌<◌, length};
 
 use crate::limits::LONGEST_HOST_NAME;
+use crate::transfer::Transfer;
 use arrayvec::ArrayVec;
 use ldm_class::Class;
 
@@ -14,6 +15,8 @@ pub struct Request {
     pub host: ArrayVec<u8, LONGEST_HOST_NAME>,
     /// The port, at least 1.
     pub port: u16,
+    /// How the products are to come.
+    pub transfer: Transfer,
     pub ghost host_some: { 0 < length host.items },
     pub ghost port_some: { 0 < port },
 }

@@ -7,6 +7,7 @@ use Rattle.ldm_outside.specs.Io.{SinkRecord}
 use Rattle.ldm_outside.specs.Link.{LinkRecord}
 use Rattle.ldm_outside.specs.Session.{SessionRecord, no_gate}
 use Rattle.ldm_conf.specs.Confs.{RequestView}
+use Rattle.ldm_conf.specs.Transfers.{max_hereis}
 use Rattle.ldm_intake.specs.declared.end.RecvEnd.{RecvEnd}
 use Rattle.ldm_intake.specs.Opening.{requesting}
 use Rattle.ldm_intake.specs.Receiving.{Receiving}
@@ -15,7 +16,6 @@ use Rattle.ldm_downstream.specs.Receives.{ReceivesAll}
 use Rattle.ldm_node.specs.declared.stop.NodeStop.{NodeStop}
 use Rattle.ldm_node.specs.SessionEnds.{end_of_receiving, stop_of_receiving}
 use Rattle.ldm_node.specs.Lines.{Logs, session_line, unreached_line}
-use Rattle.ldm_node.specs.declared.limits.TheConstants.{MAX_HEREIS}
 use Rattle.ldm_node.specs.RequestMoments.{Moment, with_dial}
 
 -- What a try came to: the dial failed; or there was a session, with its end, and the signature of the last product before it and
@@ -28,9 +28,9 @@ pub data Try : Type 0 where
 abbrev pub peer_of : RequestView → Asked
 peer_of request = record { host = request.host; port = request.port }
 
--- what is asked of it, behind the last product
+-- what is asked of it, behind the last product, and which products are to come whole
 abbrev pub asking : RequestView → Option (List ℕ) → Receiving
-asking request last = requesting request.class last MAX_HEREIS
+asking request last = requesting request.class last (max_hereis request.transfer)
 
 -- what a session uses, which asks no gate
 abbrev pub outside : LinkRecord → SinkRecord → ClockRecord → SessionRecord

@@ -7,7 +7,6 @@
 
 mod admitting;
 mod door_worker;
-mod limits;
 mod line_examples;
 mod lines;
 mod options;
@@ -28,7 +27,6 @@ mod visit_examples;
 mod visit_laws;
 
 pub use door_worker::work_door;
-pub use limits::MAX_HEREIS;
 pub use line_examples::worked_examples_of_lines;
 pub use lines::{write_session, write_unreached};
 pub use options::{NodeEnd, NodeOptions};

@@ -1,6 +1,7 @@
 //! A check of the definitions: worked examples that compute.
 ghost use Rattle.std.specs.Prelude.{◌≡◌, codes, length, None};
-ghost use Rattle.ldm_node.specs.TryExamples.{sample_lines, sample_request, sample_tries};
+ghost use Rattle.ldm_node.specs.TryExamples.{sample_lines, sample_primary, sample_request, sample_tries};
+ghost use Rattle.ldm_node.specs.Tries.{asking};
 ghost use Rattle.ldm_node.specs.TriesTold.{Follow, asked_by, log_of};
 
 /// Worked examples of what is told of tries.
@@ -9,4 +10,7 @@ pub fn worked_examples_of_tries()
         ≡ codes "unreached h\nunwanted q\nsession h ended\nsession h outofmemory\n" }
     ensures asked { length (asked_by sample_request sample_tries) ≡ 3 }
     ensures resumed { Follow None sample_tries }
+    // A PRIMARY line asks for larger products whole.
+    ensures alternate { (asking sample_request None).max_hereis ≡ 16384 }
+    ensures primary { (asking sample_primary None).max_hereis ≡ 1048576 }
 {}

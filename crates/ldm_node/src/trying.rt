@@ -8,7 +8,6 @@ ghost use Rattle.ldm_conf.specs.Confs.{request_view};
 ghost use Rattle.ldm_node.specs.RequestMoments.{moment, KeepsCounts};
 ghost use Rattle.ldm_node.specs.TrySteps.{HoldsOne, TriesOne};
 
-use crate::limits::MAX_HEREIS;
 use crate::lines::write_unreached;
 use crate::stop::NodeStop;
 use crate::try_end::finish;
@@ -92,7 +91,7 @@ fn hold_session<H: Wait, D: Door, I: Dial, E: Sink, C: Clock, G: Gate>(
         &mut station.clock,
         &request.class,
         *last,
-        MAX_HEREIS,
+        request.transfer.max_hereis(),
     );
     station.dial.give_back(link);
     *last = received.last;

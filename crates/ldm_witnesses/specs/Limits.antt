@@ -29,7 +29,6 @@ use Rattle.ldm_downstream.specs.declared.limits.TheConstants as pieces
 use Rattle.ldm_watch.specs.declared.limits.TheConstants as watched
 use Rattle.ldm_serve.specs.declared.hiya.TheConstants as offers
 use Rattle.ldm_serve.specs.declared.saying.TheConstants as sayings
-use Rattle.ldm_node.specs.declared.limits.TheConstants as requests
 use Rattle.ldm_outside.specs.declared.door.TheConstants as doors
 use Rattle.ldm_text.specs.declared.limits.TheConstants as texts
 use Rattle.ldm_conf.specs.declared.limits.TheConstants as confs
@@ -100,7 +99,6 @@ pub record SessionLimits : Type 0 where
   pub longest_piece_of_notices : watched.LONGEST_PIECE ≡ 65536
   pub hereis_that_is_taken : offers.MAX_HEREIS ≡ 16384
   pub longest_answer_of_a_link : sayings.LONGEST_ANSWER ≡ 72
-  pub hereis_that_is_asked_for : requests.MAX_HEREIS ≡ 16384
   pub longest_host : doors.LONGEST_HOST ≡ 64
 
 -- Configurations and words.
@@ -110,6 +108,8 @@ pub record FileLimits : Type 0 where
   pub most_files : confs.MOST_FILES ≡ 1024
   pub longest_host_name : confs.LONGEST_HOST_NAME ≡ 255
   pub default_port : confs.DEFAULT_PORT ≡ 388
+  pub hereis_of_primary : confs.PRIMARY_MAX_HEREIS ≡ 1048576
+  pub hereis_of_alternate : confs.ALTERNATE_MAX_HEREIS ≡ 16384
   pub most_classes : words.MOST_CLASSES ≡ 7
   pub first_year : days.FIRST_YEAR ≡ 1969
   pub last_year : days.LAST_YEAR ≡ 2201

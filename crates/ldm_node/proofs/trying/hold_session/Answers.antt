@@ -17,5 +17,5 @@ returns-clause-holds g c =
     let log = g.E.Sink.tells c.receive-received.new.log in
     let P : List ℕ → Type 0 = λ host. Finishes c.finish.result c.receive-received.result.end host log after.log in
     holds-one c.finish.result c.receive-received.result.end (request_view c.args.request.now) (g.I.Link.Link.tells c.args.link) (g.I.Link.Link.tells c.receive-received.new.link)
-    log old new c.receive-received.ensures.receives c.receive-received.ensures.completes c.receive-received.ensures.counts.log c.give_back.ensures.given_back
+    log old new (rw c.max_hereis.ensures at c.receive-received.ensures.receives) (rw c.max_hereis.ensures at c.receive-received.ensures.completes) c.receive-received.ensures.counts.log c.give_back.ensures.given_back
     (subst P c.as_slice.ensures.value c.finish.ensures.finishes) refl

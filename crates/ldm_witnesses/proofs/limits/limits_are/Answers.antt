@@ -58,7 +58,6 @@ returns-clause-sessions c = record {
   longest_piece_of_notices = refl;
   hereis_that_is_taken = refl;
   longest_answer_of_a_link = refl;
-  hereis_that_is_asked_for = refl;
   longest_host = refl;
 }
 
@@ -69,6 +68,8 @@ returns-clause-files c = record {
   most_files = refl;
   longest_host_name = refl;
   default_port = refl;
+  hereis_of_primary = refl;
+  hereis_of_alternate = refl;
   most_classes = refl;
   first_year = refl;
   last_year = refl;
