@@ -6,10 +6,7 @@ use Rattle.std.specs.Ordering.{nat_cmp, ordering_then, MatchOrdering}
 use Rattle.std.specs.Cmp.{nat_cmp_is}
 use Rattle.std.specs.Cmp.Lexicographic.{slice_cmp}
 use Rattle.std.proofs.lemmas.Cmp.{ranked}
-use Rattle.ldm_stats.specs.Fronts.{front}
-
-abbrev pub AreBytes : List ℕ → Type 0
-AreBytes xs = (k : ℕ) → get_or xs k 0 < 256
+use Rattle.ldm_stats.specs.Fronts.{front, AreBytes, TellsFront}
 
 rises : (n a b : ℕ) (xs ys : List ℕ) → n ≤ length xs → n ≤ length ys → AreBytes xs → a < b → front n a xs < front n b ys
 rises zero a b xs ys p q h less = less
@@ -59,13 +56,16 @@ eight_are (a ∷ b ∷ c ∷ d ∷ e ∷ f ∷ []) le = absurd (omega arith)
 eight_are (a ∷ b ∷ c ∷ d ∷ e ∷ f ∷ g ∷ []) le = absurd (omega arith)
 eight_are (a ∷ b ∷ c ∷ d ∷ e ∷ f ∷ g ∷ h ∷ xs) le = omega arith
 
-module _ (xs ys : List ℕ) (x y : ℕ) (long_x : 8 ≤ length xs) (long_y : 8 ≤ length ys) (g : AreBytes xs) (h : AreBytes ys) (e : x ≡ front 8 0 xs) (f : y ≡ front 8 0 ys) where
+module _ (xs ys : List ℕ) (x y : ℕ) (tells_x : TellsFront x xs) (tells_y : TellsFront y ys) (some_x : 0 < x) (some_y : 0 < y) where
+  told : (x ≡ y → ⊥) → slice_cmp nat_cmp xs ys ≡ nat_cmp x y
+  told differ =
+      let one = tells_x some_x in
+      let other = tells_y some_y in
+      let apart : front 8 0 xs ≡ front 8 0 ys → ⊥ = λ same. differ (one.1 ∙ same ∙ sym other.1) in
+      by_fronts 8 0 xs ys one.0 other.0 one.2 other.2 apart ∙ ap (λ (n : ℕ). nat_cmp n (front 8 0 ys)) (sym one.1) ∙ ap (λ (n : ℕ). nat_cmp x n) (sym other.1)
+
   pub less_by : x < y → Less ≡ slice_cmp nat_cmp xs ys
-  less_by less =
-      let under : front 8 0 xs < front 8 0 ys = omega (arith, e, f, less) in
-      nat_cmp_is _ _ Less under ∙ sym (by_fronts 8 0 xs ys long_x long_y g h (λ same. omega (arith, same, under)))
+  less_by less = nat_cmp_is _ _ Less less ∙ sym (told (λ same. omega (arith, same, less)))
 
   pub greater_by : y < x → Greater ≡ slice_cmp nat_cmp xs ys
-  greater_by less =
-      let over : front 8 0 ys < front 8 0 xs = omega (arith, e, f, less) in
-      nat_cmp_is _ _ Greater over ∙ sym (by_fronts 8 0 xs ys long_x long_y g h (λ same. omega (arith, same, over)))
+  greater_by less = nat_cmp_is _ _ Greater less ∙ sym (told (λ same. omega (arith, same, less)))

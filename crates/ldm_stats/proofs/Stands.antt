@@ -1,12 +1,13 @@
 -- What a table stands for once products were added.
-use Rattle.std.proofs.Common.{◌≡◌, ℕ, ◌+◌, ◌≤◌, Bool, true, false, cond, refl, sym, ap, ◌∙◌, List, [], ◌∷◌, ◌++◌, filter, map, arith, Some, None, nat_lt, subst, max}
+use Rattle.std.proofs.Common.{◌≡◌, ℕ, ◌+◌, ◌≤◌, Bool, true, false, cond, refl, sym, ap, ◌∙◌, List, [], ◌∷◌, ◌++◌, filter, map, arith, Some, None, nat_lt, subst, max, ◌<◌}
+use Rattle.std.specs.Prelude.{Option}
 use Rattle.std.specs.Ordering.{eq_by_cmp}
 use Rattle.std.specs.BTreeMap.{is_at}
 use Rattle.std.proofs.lemmas.Bool.Decides.{nat_tests}
 use Rattle.std.proofs.lemmas.List.Elements.{filter-append}
 use Rattle.std.proofs.lemmas.Map.Entries.{lookup-filter-keys}
 use Rattle.ldm_stats.specs.Place.{Place, place_cmp}
-use Rattle.ldm_stats.specs.Totals.{Product, place_of, greatest_hour, kept, total_of, at_place, totals_at, totals}
+use Rattle.ldm_stats.specs.Totals.{Product, Total, place_of, greatest_hour, kept, total_of, at_place, totals_at, totals}
 use Rattle.ldm_stats.specs.Joining.{Entries, joined, total_at, within, IsAscending, IsJoined}
 use Rattle.ldm_stats.specs.Table.{Table, StandsFor}
 use Rattle.ldm_stats.proofs.Places.{same_place}
@@ -91,6 +92,44 @@ added one after both products product s h v e f ascends =
     (has_totals after.window after.hour products one.entries first (omega (arith, hour)))
     (has_one after.window after.hour product)
     h hour f ascends
+
+-- ---- a product of an hour that is kept, where the greatest hour stays
+
+apart_by : (b : Bool) (window hour : ℕ) (place other : Place) → eq_by_cmp place_cmp place other ≡ b →
+    nat_lt hour (place.hour + window) ≡ false → nat_lt hour (other.hour + window) ≡ true → b ≡ false
+apart_by true window hour place other t far near =
+    let alike = hours_alike window hour place other t in
+    absurd (cc)
+apart_by false window hour place other f far near = refl
+
+here_by : (b : Bool) (place : Place) (product : Product) (one both : Entries) (products : List Product) →
+    total_at place both ≡ joined (total_at place one) (total_at place ((place_of product, total_of (product ∷ [])) ∷ [])) →
+    total_at place one ≡ cond b (some_total (at_place place products)) None →
+    (b ≡ false → eq_by_cmp place_cmp place (place_of product) ≡ false) →
+    total_at place both ≡ cond b (some_total (at_place place (products ++ product ∷ []))) None
+here_by true place product one both products h k apart =
+    both_by true place one ((place_of product, total_of (product ∷ [])) ∷ []) both products (product ∷ []) h (λ t. k)
+    (λ t. one_by (eq_by_cmp place_cmp place (place_of product)) product)
+here_by false place product one both products h k apart =
+    h ∙ ap (λ (o : Option Total). joined o (total_at place ((place_of product, total_of (product ∷ [])) ∷ []))) k
+    ∙ ap (λ b. joined None (cond b (Some (total_of (product ∷ []))) None)) (apart refl)
+
+pub added_here : (one after : Table) (products : List Product) (product : Product) → StandsFor one products →
+    IsJoined one.entries ((place_of product, total_of (product ∷ [])) ∷ []) after.entries →
+    after.window ≡ one.window → after.hour ≡ one.hour → (place_of product).hour ≤ one.hour → one.hour < (place_of product).hour + one.window →
+    IsAscending after.entries → StandsFor after (products ++ product ∷ [])
+added_here one after products product s h v e le close ascends =
+    let greatest : greatest_hour (products ++ product ∷ []) ≡ greatest_hour products = omega (arith, greatest_hour-append products (product ∷ []), s.hour, le) in
+    let near : nat_lt (greatest_hour products) ((place_of product).hour + after.window) ≡ true = grind (arith, nat_tests, s.hour, v, close) in
+    record {
+      hour = e ∙ s.hour ∙ sym greatest;
+      entries = same_totals after.window (products ++ product ∷ []) after.entries ascends (λ place.
+          let before : total_at place one.entries ≡ cond (nat_lt (greatest_hour products) (place.hour + after.window)) (some_total (at_place place products)) None =
+          ap (λ (l : Entries). total_at place l) (s.entries ∙ ap (λ n. totals n products) (sym v)) ∙ at_totals place after.window products in
+          here_by (nat_lt (greatest_hour products) (place.hour + after.window)) place product one.entries after.entries products (h place) before
+          (λ far. apart_by (eq_by_cmp place_cmp place (place_of product)) after.window (greatest_hour products) place (place_of product) refl far near)
+          ∙ ap (λ n. cond (nat_lt n (place.hour + after.window)) (some_total (at_place place (products ++ product ∷ []))) None) (sym greatest));
+    }
 
 append_none : (xs : List Product) → xs ++ [] ≡ xs
 append_none [] = refl

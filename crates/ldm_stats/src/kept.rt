@@ -69,6 +69,7 @@ impl Kept {
     pub fn join(&mut self, place: Place, total: Total) -> Result<(), OutOfMemory>
         requires { count_of self.old + total.count < 2 ^ 32 }
         ensures totals { OnOk result (IsJoined self.old ((place, total) ∷ []) self.new) }
+        ensures ascending { OnOk result (IsAscending self.new) }
         ensures count { OnOk result (count_of self.new ≡ count_of self.old + total.count) }
         ensures kept { OnErr result (self.new ≡ self.old) }
     {

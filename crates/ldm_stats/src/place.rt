@@ -6,7 +6,7 @@ ghost use Rattle.std.specs.Cmp.{partial_equiv_from_equiv, eq_by_cmp_equiv, parti
 ghost use Rattle.ldm_stats.specs.Place.{place_cmp};
 ghost use Rattle.ldm_stats.specs.Totals.{hour_of as hour_counted, place_of};
 ghost use Rattle.ldm_stats.specs.PlaceOrder.{places_total};
-ghost use Rattle.ldm_stats.specs.Fronts.{front};
+ghost use Rattle.ldm_stats.specs.Fronts.{TellsFront};
 
 use arrayvec::ArrayVec;
 use ldm_types::{Feed, Info, LONGEST_ORIGIN, Micros};
@@ -25,6 +25,9 @@ const HOUR: u64 = 3_600_000_000;
 pub struct Place {
     hour: u32,
     feed: Feed,
+    // The number that the first eight bytes of the origin spell, the greatest first, or 0 where it has fewer. Most
+    // origins differ there, and then a search reads no text.
+    front: u64,
     origin: ArrayVec<u8, LONGEST_ORIGIN>,
 }
 
@@ -52,6 +55,7 @@ impl Place {
         Place {
             hour: hour_of(info.arrival()),
             feed: info.feed(),
+            front: front_of(info.origin()),
             origin,
         }
     }
@@ -94,6 +98,7 @@ impl Clone for Place {
         Ok(Place {
             hour: self.hour,
             feed: self.feed,
+            front: self.front,
             origin: self.origin.clone()?,
         })
     }
@@ -135,7 +140,7 @@ impl Ord for Place {
     fn cmp(&self, other: &Place) -> Ordering {
         match self.hour.cmp(&other.hour) {
             Ordering::Equal => match self.feed.0.cmp(&other.feed.0) {
-                Ordering::Equal => origin_cmp(self.origin(), other.origin()),
+                Ordering::Equal => origin_cmp(self, other),
                 order => order,
             },
             order => order,
@@ -143,29 +148,28 @@ impl Ord for Place {
     }
 }
 
-// Two origins by their bytes. Where both have eight, the first eight of each are compared as one number, since most
-// origins differ there.
-fn origin_cmp<'a>(one: &'a [u8], other: &'a [u8]) -> Ordering
-    ensures { result ≡ slice_cmp nat_cmp one.now other.now }
+// By the bytes of the origins. Where the fronts of both tell, and differ, these are compared alone.
+fn origin_cmp<'a>(one: &'a Place, other: &'a Place) -> Ordering
+    ensures { result ≡ slice_cmp nat_cmp one.now.origin other.now.origin }
 {
-    if one.len() >= 8 && other.len() >= 8 {
-        let one_front = front_of(one);
-        let other_front = front_of(other);
-        if one_front < other_front {
+    if one.front != 0 && other.front != 0 {
+        if one.front < other.front {
             return Ordering::Less;
         }
-        if other_front < one_front {
+        if other.front < one.front {
             return Ordering::Greater;
         }
     }
-    one.cmp(other)
+    one.origin().cmp(other.origin())
 }
 
-// The number that the first eight bytes spell, the greatest first.
+// The number that the first eight bytes spell, the greatest first, or 0 where there are fewer.
 fn front_of(origin: &[u8]) -> u64
-    requires { 8 ≤ length origin.now }
-    ensures { result ≡ front 8 0 origin.now }
+    ensures { TellsFront result origin.now }
 {
+    if origin.len() < 8 {
+        return 0;
+    }
     u64::from_be_bytes([
         origin[0], origin[1], origin[2], origin[3], origin[4], origin[5], origin[6], origin[7],
     ])

@@ -81,7 +81,10 @@ impl Stats {
             return Ok(());
         }
         self.kept.join(Place::of(info), Total::of(time, info))?;
-        self.advance(hour);
+        // Only a later hour lets others fall behind.
+        if self.hour < hour {
+            self.advance(hour);
+        }
         Ok(())
     }
 
