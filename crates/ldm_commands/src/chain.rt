@@ -14,6 +14,7 @@ use std::alloc::Global;
 use std::sync::Wait;
 
 /// Feeds a chain of queues from a script, as its words say.
+#[inline(never)]
 pub(crate) fn feed_chain<
     H: Wait,
     S: Source,

@@ -16,6 +16,7 @@ use std::sync::Wait;
 use std::thread::Threads;
 
 /// Runs a node, as its words say.
+#[inline(never)]
 pub(crate) fn run_words<
     H: Threads + Wait + Sync,
     S: Source,

@@ -82,7 +82,8 @@ where
     }
 }
 
-// Does a command.
+// Does a command. What most of them do stands in functions that are not inlined here, so that none has the room on the
+// stack that the others need.
 fn run<
     H: Threads + Wait + Sync,
     S: Source,

@@ -13,6 +13,7 @@ use ldm_words::SaveWords;
 use std::alloc::Global;
 
 /// Plays a script over a queue, and saves the queue in a file, as its words say.
+#[inline(never)]
 pub(crate) fn save_queue<
     S: Source,
     K: Sink,
@@ -41,6 +42,7 @@ pub(crate) fn save_queue<
 }
 
 /// Opens the queue in a file, plays a script over it, and saves it there.
+#[inline(never)]
 pub(crate) fn resume_queue<
     S: Source,
     K: Sink,
@@ -62,6 +64,7 @@ pub(crate) fn resume_queue<
 }
 
 /// Writes the figures of the queue in a file.
+#[inline(never)]
 pub(crate) fn check_queue<
     S: Source,
     K: Sink,

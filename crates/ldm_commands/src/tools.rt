@@ -23,6 +23,7 @@ use std::alloc::Global;
 use std::sync::Wait;
 
 /// Writes the figures of a node's queue.
+#[inline(never)]
 pub(crate) fn tell_figures<
     S: Source,
     K: Sink,
@@ -52,6 +53,7 @@ pub(crate) fn tell_figures<
 }
 
 /// Acts on the products of a node.
+#[inline(never)]
 pub(crate) fn act_on_products<
     H: Wait,
     S: Source,
@@ -88,6 +90,7 @@ pub(crate) fn act_on_products<
 }
 
 /// Writes the bodies of the products of a node.
+#[inline(never)]
 pub(crate) fn write_bodies<
     H: Wait,
     S: Source,
@@ -122,6 +125,7 @@ pub(crate) fn write_bodies<
 }
 
 /// Writes a line for each product of a node.
+#[inline(never)]
 pub(crate) fn tell_products<
     S: Source,
     K: Sink,
@@ -153,6 +157,7 @@ pub(crate) fn tell_products<
 }
 
 /// Puts files into the queue of a node.
+#[inline(never)]
 pub(crate) fn put_files<
     S: Source,
     K: Sink,
@@ -192,6 +197,7 @@ pub(crate) fn put_files<
 }
 
 /// Puts the bulletins of the source into the queue of a node.
+#[inline(never)]
 pub(crate) fn put_bulletins<
     S: Source,
     K: Sink,
@@ -228,6 +234,7 @@ pub(crate) fn put_bulletins<
 }
 
 /// Writes how much of the products of a node came in each hour.
+#[inline(never)]
 pub(crate) fn count_products<
     H: Wait,
     S: Source,

@@ -20,6 +20,8 @@ use std::sync::Wait;
 /// the link back, writes the line of the session, and asks the gate. Where the dial fails, it writes a line of that. It
 /// stops too where its log fails, and where the queue has had all its calls. For want of memory a session ends, and not
 /// the worker.
+// (in a frame of its own, that a worker of a door has no need of)
+#[inline(never)]
 pub fn work_request<H: Wait, D: Door, I: Dial, E: Sink, C: Clock, G: Gate>(
     rt: &H,
     alloc: Global,

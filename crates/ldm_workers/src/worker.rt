@@ -15,6 +15,8 @@ pub(crate) struct Worker<T> {
 
 impl<T> Worker<T> {
     /// Does its work.
+    // In a frame of its own: the halving of the workers above it has a level for each doubling of their number.
+    #[inline(never)]
     pub(crate) fn run<H: Wait, W: Work<T>>(&mut self, rt: &H, shared: &Shared, work: &W)
         requires { Begins (W.begins work.now) shared.now self.old }
         ensures { Works (W.works work.now) self.old self.new }
