@@ -43,6 +43,8 @@ MIB = 2**20
 MOST_MEMORY = 30 * MIB
 # How long who asks for figures waits at most, in seconds.
 PROMPT = 2
+# How long the rest of an announced product may take of which nothing comes, and how late a machine with much other work may tell its end.
+REST, LATE = 20, 8
 LARGE = 300 * MIB
 
 
@@ -380,9 +382,9 @@ def heavy_patterns(place):
 # Peers that have rights
 
 
-def announces_much_and_sends_little(place):
-    """A host that may push one ident announces a product that fills the arena, and sends a byte of its first block each 20 seconds. Up
-    to its end nothing else can be put in; then all can."""
+def announces_much(place, parts, pause):
+    """A host that may push one ident announces a product that fills the arena, and then sends the next of these parts at each pause. Up to
+    its end nothing else can be put in; then all can."""
     large = Product(b"one", b"", EXP, signed=b"l" * 16).metadata()
     large = large[:-4] + number(ARENA - len(large))
     small = [Product(b"small", f"{i}".encode()) for i in range(3)]
@@ -392,11 +394,21 @@ def announces_much_and_sends_little(place):
         peer.xid = 0
         expect(peer.ask(nodes.COMINGSOON, large + number(BLOCK)), number(OK), "the answer to a COMINGSOON")
         expect(feeder.put(small[1])[0], LOCKED, "the answer to a PUT meanwhile")
-        block = call(2, BLKDATA, b"l" * 16 + number(0) + number(BLOCK) + bytes(BLOCK))
-        ends = until_all_closed([peer], 60, by_bytes(block), 20)
+        ends = until_all_closed([peer], 60, parts, pause)
         until(lambda: feeder.stat().held == 0, "nothing is held behind it", 5)
         expect(feeder.put(small[2])[0], ADMITTED, "the answer to a PUT then")
     return attacked.told(f"closed after {ends[0]:.1f} s")
+
+
+def announces_much_and_sends_little(place):
+    """Such a host, which sends a byte of the first block of its product each 20 seconds."""
+    block = call(2, BLKDATA, b"l" * 16 + number(0) + number(BLOCK) + bytes(BLOCK))
+    return announces_much(place, by_bytes(block), 20)
+
+
+def announces_much_and_tells_that_it_lives(place):
+    """Such a host, which sends an IS_ALIVE each 5 seconds, and no block of its product."""
+    return announces_much(place, itertools.repeat(call(2, IS_ALIVE)), 5)
 
 
 def subscribers_that_take_little(place):
@@ -576,6 +588,7 @@ CASES = [
     large_records,
     heavy_patterns,
     announces_much_and_sends_little,
+    announces_much_and_tells_that_it_lives,
     subscribers_that_take_little,
     subscribers_that_do_not_reply,
     upstreams_that_give_nothing,

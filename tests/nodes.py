@@ -332,11 +332,12 @@ def resumes_a_cut_session(place):
 
 class BreakingLink:
     """A port that leads to a node, over links that break: each after as many bytes of the node as the next number says. Where no number is
-    left, links last."""
+    left, links last. What the node sent is kept."""
 
     def __init__(self, port, lasts):
         self.port = port
         self.lasts = list(lasts)
+        self.sent = b""
         self.listener = socket.create_server((HOST, 0))
         self.at = f"{HOST}:{self.listener.getsockname()[1]}"
         threading.Thread(target=self.work, daemon=True).start()
@@ -354,6 +355,7 @@ class BreakingLink:
                 piece = feeding.recv(min(left, 65_536))
                 if not piece:
                     break
+                self.sent += piece
                 asking.sendall(piece)
                 left -= len(piece)
             for connection in (asking, feeding):
@@ -386,6 +388,39 @@ def relays_over_links_that_break(place):
     odd = [line for line in ends if line.split()[2:] not in (["truncated"], ["ended"], ["linkfault"])]
     expect(odd, [], "lines of the log that have no place there")
     link.listener.close()
+
+
+def ways_of(stream):
+    """How products come in a stream of records: HEREIS or COMINGSOON each."""
+    found, content = [], b""
+    while len(stream) >= 4:
+        (length,) = struct.unpack_from(">I", stream)
+        at = 4 + length % 2**31
+        content, stream = content + stream[4:at], stream[at:]
+        if length >= 2**31:
+            found.append(struct.unpack_from(">I", content, 20)[0] if len(content) >= 40 else None)
+            content = b""
+    return [procedure for procedure in found if procedure in (HEREIS, COMINGSOON)]
+
+
+def asks_for_products_whole(place):
+    """A node is asked by others, each of which has another last word in its REQUEST line. PRIMARY asks for products of up to 1,048,576 bytes
+    whole, ALTERNATE, as no word, for those of up to 16,384; each has all products."""
+    draw = random.Random(29)
+    sizes = [0, BLOCK, BLOCK + 1, 100_000, 1_048_576, 1_048_577]
+    products = [Product(f"{size}".encode(), draw.randbytes(size), seqno=i) for i, size in enumerate(sizes)]
+    a = place.node(OPEN, *MANY)
+    a.put_all(products)
+    for word, whole in (("PRIMARY", 1_048_576), ("pRIMARy", 1_048_576), ("ALTERNATE", BLOCK), ("alternate", BLOCK), ("", BLOCK)):
+        link = BreakingLink(a.port, [])
+        b = place.node(f"REQUEST ANY .* {link.at} {word}\nALLOW ANY .*\n")
+        until(lambda b=b: b.stat().queued == len(products), f"the node with {word!r} has all products")
+        with b.connect() as subscriber:
+            expect(subscriber.subscribe([(ANY, b".*")]), number(OK), "the answer to a FEEDME")
+            expect_products(subscriber.products(len(products)), products, f"what came by {word!r}")
+        expect(ways_of(link.sent), [HEREIS if size <= whole else COMINGSOON for size in sizes], f"how products came by {word!r}")
+        b.stop()
+        link.listener.close()
 
 
 def asks_until_it_is_fed(place):
@@ -820,6 +855,34 @@ def accepts_by_host(place):
         peer.send(call(1, HEREIS, P.whole()))
     expect(node.stat(), Stat(0, 0, 0, 0, ARENA), "the figures")
     expect(node.log()[0], "unwanted p", "the log")
+
+
+def refuses_long_records_of_a_feed(place):
+    """Whoever may push sends records of a feed that are longer than any of their kind, of which a front is kept alone: each ends the
+    session as a bad frame. A product that is not wanted is passed over however long it is, and one that is wanted is queued."""
+    node = place.node("ACCEPT 2 ^x .*\nALLOW ANY .*\n", "-w", 2)
+    asks = product_class([(DDS, b".*")])
+    wanted = Product(b"x", bytes(300_000), feed=DDS)
+    for long in (
+        call(2, IS_ALIVE, bytes(100_000)),
+        call(2, COMINGSOON, wanted.metadata() + number(BLOCK) + bytes(100_000)),
+        call(2, BLKDATA, wanted.signature + number(0) + string(bytes(100_000))),
+        call(2, QSTAT, bytes(100_000)),
+        record(b"?" * 100_000),
+    ):
+        before = len(node.log())
+        with node.connect() as peer:
+            expect(peer.ask(HIYA, asks), number(BLOCK) + number(OK), "the answer to a HIYA")
+            peer.send(long)
+            expect(peer.rest(), b"", "what comes of a long record")
+        until(lambda: len(node.log()) > before, "the line of the session")
+        expect(node.log()[before:], ["session 127.0.0.1 badframe"], "the log")
+    before = len(node.log())
+    with node.connect() as peer:
+        expect(peer.ask(HIYA, asks), number(BLOCK) + number(OK), "the answer to a HIYA")
+        peer.send(call(2, HEREIS, Product(b"y", bytes(200_000), feed=DDS).whole()) + call(3, HEREIS, wanted.whole()))
+        until(lambda: node.stat().admitted == 1, "a product")
+    expect(node.log()[before], "unwanted y", "the log")
 
 
 def is_asked_over_ipv6(place):
@@ -1814,6 +1877,7 @@ CASES = [
     relays_what_is_due,
     resumes_a_cut_session,
     relays_over_links_that_break,
+    asks_for_products_whole,
     asks_until_it_is_fed,
     feeds_both_ways,
     serves_two_at_once,
@@ -1824,6 +1888,7 @@ CASES = [
     tells_a_wrong_reply,
     goes_on_behind_reclass,
     accepts_by_host,
+    refuses_long_records_of_a_feed,
     is_asked_over_ipv6,
     stays_as_it_was,
     bears_a_slow_peer,
