@@ -8,6 +8,7 @@
 //! load take ADDRESS COUNT                    is fed so many products
 //! load append ADDRESS COUNT FOLDER           is fed so many, and appends each to the file of its ident; 32 files are open at most
 //! load relay ADDRESS ADDRESS SIZE COUNT      puts into the first, and is fed by the second
+//! load fan ADDRESS SIZE COUNT SUBSCRIBERS    puts into a node that feeds each of so many subscribers
 //! load delay ADDRESS ADDRESS TIMES           the same with single products, one at a time
 //! load stream SIZE COUNT                     sends such products over one plain stream
 //! load redis|nats|mqtt ADDRESS SIZE COUNT    publishes such bodies to a broker, and subscribes them
@@ -223,11 +224,11 @@ struct Load<'a> {
 
 /// Puts products in on one connection. Does not wait for a reply before it sends the next one, but for room: by what passed where
 /// that is looked at, else by the replies.
-fn put(address: &str, load: &Load, passed: Option<&Passed>) -> io::Result<()> {
+fn put(address: &str, load: &Load, passed: &[Passed]) -> io::Result<()> {
     let mut stream = connect(address)?;
     let mut replies = Records::new(stream.try_clone()?);
-    let answered = Passed::default();
-    let passed = passed.unwrap_or(&answered);
+    let answered = [Passed::default()];
+    let passed = if passed.is_empty() { &answered } else { passed };
     thread::scope(|scope| {
         let hearing = scope.spawn(|| {
             for _ in 0..load.count {
@@ -235,14 +236,14 @@ fn put(address: &str, load: &Load, passed: Option<&Passed>) -> io::Result<()> {
                 if number_at(reply, 20) != 0 || number_at(reply, 24) != 0 {
                     return wrong(format!("a product is refused: {:?}", &reply[20..]));
                 }
-                answered.add();
+                answered[0].add();
             }
             Ok(())
         });
         let mut bodies = Bodies::new(load.size);
         let mut record = Vec::new();
         for i in 0..load.count {
-            passed.wait_for_room(i, load.size);
+            passed.iter().for_each(|it| it.wait_for_room(i, load.size));
             let ident = (load.ident)(i);
             put_call(&mut record, i as u32, signature(load.run, i), ident.as_bytes(), bodies.numbered(i));
             stream.write_all(&record)?;
@@ -261,17 +262,29 @@ fn take_all(mut next: impl FnMut(u64) -> io::Result<()>, count: u64, passed: &Pa
 }
 
 fn relay(from: &str, to: &str, size: usize, count: u64) -> io::Result<Duration> {
-    let passed = Passed::default();
+    fan(from, to, size, count, 1)
+}
+
+/// Puts products into the first node, which are fed to so many subscribers by the second.
+fn fan(from: &str, to: &str, size: usize, count: u64, subscribers: usize) -> io::Result<Duration> {
     let run = run_number();
-    // what an earlier run left is not taken
-    let mut subscriber = Subscriber::new(to, &format!("^{run}$"))?;
+    let passed: Vec<Passed> = (0..subscribers).map(|_| Passed::default()).collect();
+    let mut fed = Vec::new();
+    for _ in 0..subscribers {
+        // what an earlier run left is not taken
+        fed.push(Subscriber::new(to, &format!("^{run}$"))?);
+    }
     thread::sleep(Duration::from_millis(200));
     let load = Load { size, count, run, ident: &|_| run.to_string() };
     let begun = Instant::now();
     thread::scope(|scope| {
-        let taking = scope.spawn(|| take_all(|i| check(subscriber.next()?.1, size, i), count, &passed));
-        put(from, &load, Some(&passed))?;
-        taking.join().unwrap()
+        let taking: Vec<_> = fed
+            .into_iter()
+            .zip(&passed)
+            .map(|(mut it, passed)| scope.spawn(move || take_all(|i| check(it.next()?.1, size, i), count, passed)))
+            .collect();
+        put(from, &load, &passed)?;
+        taking.into_iter().try_for_each(|it| it.join().unwrap())
     })?;
     Ok(begun.elapsed())
 }
@@ -519,12 +532,13 @@ fn run(words: &[&str]) -> io::Result<String> {
             let names = count(names);
             let load = Load { size: size(bytes), count: count(number), run: run_number(), ident: &|i| (i % names).to_string() };
             let begun = Instant::now();
-            put(address, &load, None)?;
+            put(address, &load, &[])?;
             begun.elapsed()
         }
         ["take", address, number] => take(address, count(number))?,
         ["append", address, number, folder] => append(address, count(number), Path::new(folder))?,
         ["relay", from, to, bytes, number] => relay(from, to, size(bytes), count(number))?,
+        ["fan", address, bytes, number, many] => fan(address, address, size(bytes), count(number), size(many))?,
         ["stream", bytes, number] => stream(size(bytes), count(number))?,
         ["redis", address, bytes, number] => through_broker(Broker::Redis, address, size(bytes), count(number))?,
         ["nats", address, bytes, number] => through_broker(Broker::Nats, address, size(bytes), count(number))?,
