@@ -9,7 +9,7 @@ ghost use Rattle.ldm_class.specs.Searches.{search_of};
 
 use crate::class_matcher::ClassMatcher;
 use crate::search::{Search, resumption};
-use ldm_pattern::{Pattern, Refusal};
+use ldm_pattern::{BoundedPattern, Pattern, Refusal};
 use ldm_types::{ClassSpec, Info, MOST_SPECS, OutOfMemory, Signature, Spec};
 use std::alloc::{AllocError, AllocFailed, Global};
 use std::marker::Model;
@@ -190,12 +190,17 @@ fn searches_of(alloc: Global, specs: &[Spec]) -> Result<Vec<Search>, ClassFault>
 }
 
 // The pattern of the specification at a place, where it takes no more than that.
-fn build(alloc: Global, pattern: &[u8], most: usize, place: u32) -> Result<Pattern, ClassFault>
+fn build(
+    alloc: Global,
+    pattern: &[u8],
+    most: usize,
+    place: u32,
+) -> Result<BoundedPattern, ClassFault>
     ensures { MatchResult result
         (λ built. (built ≡ pattern.now) × IsSome (pattern_meaning pattern.now))
         (IsBuildFaultOf pattern.now place) }
 {
-    match Pattern::build_within(alloc, pattern, most) {
+    match BoundedPattern::build(alloc, pattern, most) {
         Ok(built) => Ok(built),
         Err(Refusal::Meaningless) => Err(ClassFault::BadPattern { spec: place }),
         Err(Refusal::OutOfMemory) => Err(ClassFault::OutOfMemory),

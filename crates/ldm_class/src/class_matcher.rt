@@ -5,10 +5,14 @@ ghost use Rattle.ldm_class.specs.Classes.{wants};
 ghost use Rattle.ldm_class.specs.Searches.{search_of, search_wants};
 
 use crate::search::Search;
-use ldm_pattern::Matcher;
+use ldm_pattern::BoundedMatcher;
 use ldm_types::{ClassSpec, Feed, Info, OutOfMemory};
 use std::alloc::Global;
 use std::marker::Model;
+
+/// What the tables take in all by which the patterns of a class are searched for, in bytes, about and at the most. Each
+/// pattern has an equal share.
+pub const MATCHERS_MOST: usize = 4 << 20;
 
 /// What a class wants, asked for many products: what its searches need is kept for the next product, and no call fails.
 /// Contracts see the class.
@@ -60,7 +64,7 @@ impl<'c> ClassMatcher<'c> {
 #[derive(Drop)]
 struct KeptSearch<'c> {
     feed: Feed,
-    matcher: Matcher<'c>,
+    matcher: BoundedMatcher<'c>,
 }
 
 impl<'c> Model for KeptSearch<'c> {
@@ -87,10 +91,11 @@ fn kept_searches<'c>(
     ensures { IfOk result (λ kept. kept.items ≡ searches.now) }
 {
     let mut kept = Vec::with_capacity(alloc, searches.len())?;
+    let most = MATCHERS_MOST / searches.len().max(1);
     for search in searches {
         kept.push(KeptSearch {
             feed: search.feed,
-            matcher: search.pattern.matcher(alloc)?,
+            matcher: search.pattern.matcher(alloc, most)?,
         })?;
     }
     Ok(kept)

@@ -18,7 +18,7 @@ mod verdict;
 
 pub use answers::{Reduced, Verdict};
 pub use class::{BUILT_MOST, Class, ClassFault};
-pub use class_matcher::ClassMatcher;
+pub use class_matcher::{ClassMatcher, MATCHERS_MOST};
 pub use host_policy::HostPolicy;
 pub use policy::{Policy, PolicyFault};
 pub use reduce::same_is_left_whole;

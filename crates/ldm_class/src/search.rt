@@ -3,7 +3,7 @@ ghost use Rattle.std.specs.Prelude.{◌≡◌, is_some};
 ghost use Rattle.std.specs.Option.{option_map};
 ghost use Rattle.ldm_class.specs.Classes.{is_resumption, signature_in};
 
-use ldm_pattern::Pattern;
+use ldm_pattern::BoundedPattern;
 use ldm_signature::read_hex;
 use ldm_types::{Feed, Signature, Spec};
 
@@ -11,7 +11,7 @@ use ldm_types::{Feed, Signature, Spec};
 #[derive(Drop)]
 pub struct Search {
     pub feed: Feed,
-    pub pattern: Pattern,
+    pub pattern: BoundedPattern,
 }
 
 /// The signature that a specification names, if it names one in place of a pattern.

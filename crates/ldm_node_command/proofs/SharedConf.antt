@@ -28,6 +28,7 @@ use Rattle.regex.specs.contracts.pattern.Pattern as Pattern
 use Rattle.regex.specs.contracts.bytes.regex.Regex as Regex
 use Rattle.arrayvec.proofs.array_vec.ArrayVec.TheSendSync as array_vec
 use Rattle.ldm_types.proofs.class.ClassSpec.TheSendSync as class_spec
+use Rattle.ldm_pattern.specs.contracts.bounded.BoundedPattern as Bounded
 use Rattle.ldm_pattern.specs.contracts.pattern.Pattern as Built
 use Rattle.ldm_class.specs.contracts.rule.Rule as Rule
 use Rattle.ldm_class.specs.contracts.search.Search as Search
@@ -80,8 +81,11 @@ Built-sync = search (sendable, Regex-sync) depth 20
 pub Rule-sync : IsSync Rule.the_row
 Rule-sync = search (sendable, Built-sync) depth 20
 
+pub Bounded-sync : IsSync Bounded.the_row
+Bounded-sync = search (sendable, crosses, vec.the_sync, global.the_sync, dfa.the_field_sync) depth 20
+
 pub Search-sync : IsSync (Search.the_field).row
-Search-sync = search (sendable, Built-sync) depth 20
+Search-sync = search (sendable, Bounded-sync) depth 20
 
 pub Policy-sync : IsSync Policy.the_row
 Policy-sync = search (sendable, crosses, vec.the_sync, global.the_sync, Rule-sync) depth 20

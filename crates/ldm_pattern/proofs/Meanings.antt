@@ -6,20 +6,22 @@ use Rattle.std.specs.Prelude.{nat_le, cond}
 use Rattle.std.specs.Str.{chars, is_utf8}
 use Rattle.regex.proofs.ForCallers.{is_match_alike}
 use Rattle.regex.specs.Bytes.{regex_config, regex_pattern, regex_source, IsReadFromSource}
-use Rattle.regex.specs.Failures.{IsPattern, IsRightKind}
+use Rattle.regex.specs.Failures.{IsRightKind}
 use Rattle.regex.specs.Names.{names_of}
 use Rattle.regex.specs.Patterns.{Re, SameCaptures, find}
 use Rattle.regex.specs.Sources.{IsRefusal}
 use Rattle.regex.specs.declared.bytes.regex.Regex.{Regex}
 use Rattle.regex.specs.declared.error.Error.{Error}
 use Rattle.regex.specs.declared.error.Error.TheVariants.{Syntax}
+use Rattle.regex_hir.specs.Meaning.{meaning}
+use Rattle.regex_hir.specs.declared.hir.Hir.{Hir}
 use Rattle.regex_syntax.specs.Brackets.{Nested}
 use Rattle.regex_syntax.specs.Grammar.{Names, group_count, read}
 use Rattle.regex_syntax.specs.Verdict.{Reads, Refuses}
 use Rattle.regex_syntax.specs.declared.error.Error as parser
 use Rattle.regex_syntax.specs.declared.error.ErrorKind.{ErrorKind}
 use Rattle.regex_syntax.specs.declared.error.ErrorKind.TheVariants.{OutOfMemory}
-use Rattle.ldm_pattern.specs.Patterns.{byte_config, if_shallow, pattern_meaning, is_found, found}
+use Rattle.ldm_pattern.specs.Patterns.{byte_config, if_shallow, pattern_meaning, IsMeantBy, is_found, found}
 
 shallow_as : (o : Option (Nested Re × Names)) (a : Re) (names : Names) →
     IsSomeAnd o (λ (re, found). (re.depth ≤ byte_config.nest_limit) × SameCaptures a re.value × (names ≡ found) × (group_count a ≤ length names)) →
@@ -45,11 +47,16 @@ pub built_is_pattern : (r : Regex) → IsUtf8 (regex_source r) → regex_config 
     IsSome (pattern_meaning (regex_source r))
 built_is_pattern r utf8 config h = some_of _ _ (means_what_is_built r utf8 config h)
 
--- a text in which the grammar reads a tree, within the limit on nesting, is a pattern
-pub pattern_of_read : (source : List ℕ) → IsUtf8 source → IsPattern byte_config source → IsSome (pattern_meaning source)
+-- a tree that the grammar reads in a text, within the limit on nesting, matches what the text means
+pub meant_by_read : (source : List ℕ) → IsUtf8 source → (hir : Hir) (names : Names) → Reads byte_config source hir names →
+    IsMeantBy source (meaning hir)
 unfolding Reads pattern_meaning
-pattern_of_read source utf8 (hir, names, h) =
-    rw (is_utf8-from_IsUtf8 source utf8) (some_of _ _ (shallow_as (read byte_config (chars source)) _ names h))
+meant_by_read source utf8 hir names h =
+    rw (is_utf8-from_IsUtf8 source utf8) (shallow_as (read byte_config (chars source)) (meaning hir) names h)
+
+-- a pattern of which a tree matches what it means, means something
+pub meant_is_pattern : (source : List ℕ) (re : Re) → IsMeantBy source re → IsSome (pattern_meaning source)
+meant_is_pattern source re h = some_of _ _ h
 
 alike : (m : Option Re) (a : Re) (text : List ℕ) → ((k : ℕ) → get_or text k 0 < 256) → IsSomeAnd m (SameCaptures a) →
     is_some (find a text 0) ≡ is_found m text

@@ -4,3 +4,5 @@ pub mod MatcherView
 pub mod GroupNumbers
 pub mod Parts
 pub mod Refusals
+pub mod BoundedView
+pub mod BoundedMatcherView

@@ -1,7 +1,7 @@
 -- Where a pattern is found in a text: the patterns and the search are those of `regex` on bytes.
-use Rattle.std.specs.Prelude.{ℕ, Bool, false, nat_le, List, Option, Some, None, is_some, if◌then◌else◌}
+use Rattle.std.specs.Prelude.{ℕ, Bool, false, nat_le, List, Option, Some, None, is_some, IsSomeAnd, if◌then◌else◌}
 use Rattle.std.specs.Str.{chars, is_utf8}
-use Rattle.regex.specs.Patterns.{Re, Config, default_config, find}
+use Rattle.regex.specs.Patterns.{Re, Config, SameCaptures, default_config, find}
 use Rattle.regex_syntax.specs.Brackets.{Nested}
 use Rattle.regex_syntax.specs.Grammar.{Names, read}
 
@@ -17,6 +17,10 @@ if_shallow (Some (tree, names)) = if nat_le tree.depth byte_config.nest_limit th
 -- what a pattern means. None where it is not UTF-8, where the grammar reads no pattern in it, or where it nests too deep
 unfoldable pub pattern_meaning : List ℕ → Option Re
 pattern_meaning pattern = if is_utf8 pattern then if_shallow (read byte_config (chars pattern)) else None
+
+-- a tree matches what a pattern means, with the same captures
+abbrev pub IsMeantBy : List ℕ → Re → Type 0
+IsMeantBy pattern re = IsSomeAnd (pattern_meaning pattern) (SameCaptures re)
 
 -- whether a match of what a pattern means begins somewhere in a text
 abbrev pub is_found : Option Re → List ℕ → Bool

@@ -2,7 +2,8 @@
 ghost use Rattle.std.specs.Prelude.{◌≡◌, IfOk, None, IsSome, is_some, MatchResult};
 ghost use Rattle.std.specs.Option.{option_map};
 ghost use Rattle.ldm_pattern.specs.Parts.{group_parts, parts_of};
-ghost use Rattle.ldm_pattern.specs.Patterns.{pattern_meaning, found};
+ghost use Rattle.ldm_pattern.specs.Patterns.{pattern_meaning, IsMeantBy, found};
+ghost use Rattle.regex_hir.specs.Meaning.{meaning};
 ghost use Rattle.ldm_pattern.specs.Refusals.{IsRefusedFor};
 
 use crate::groups::Groups;
@@ -10,7 +11,7 @@ use crate::matcher::Matcher;
 use ldm_types::OutOfMemory;
 use regex::bytes::Regex;
 use regex::{Error, RegexBuilder};
-use regex_syntax::{Config, ErrorKind};
+use regex_syntax::{Config, ErrorKind, Parsed};
 use std::alloc::{AllocError, Global};
 use std::marker::Model;
 
@@ -84,20 +85,8 @@ impl Pattern {
     pub fn check(alloc: Global, source: &[u8]) -> Result<(), Refusal>
         ensures { MatchResult result (λ _. IsSome (pattern_meaning source.now)) (IsRefusedFor source.now) }
     {
-        let Ok(text) = str::from_utf8(source) else {
-            return Err(Refusal::Meaningless);
-        };
-        let config = Config {
-            utf8: false,
-            ..Config::default()
-        };
-        let Err(error) = regex_syntax::parse(alloc, text, &config) else {
-            return Ok(());
-        };
-        match error.kind {
-            ErrorKind::OutOfMemory => Err(Refusal::OutOfMemory),
-            _ => Err(Refusal::Meaningless),
-        }
+        read(alloc, source)?;
+        Ok(())
     }
 
     /// What searches for it in many texts.
@@ -133,5 +122,25 @@ impl Pattern {
             Some(captures) => Ok(Some(Groups::of(&captures))),
             None => Ok(None),
         }
+    }
+}
+
+// What the grammar reads in these bytes.
+pub(crate) fn read(alloc: Global, source: &[u8]) -> Result<Parsed, Refusal>
+    ensures { MatchResult result (λ parsed. IsMeantBy source.now (meaning parsed.hir)) (IsRefusedFor source.now) }
+{
+    let Ok(text) = str::from_utf8(source) else {
+        return Err(Refusal::Meaningless);
+    };
+    let config = Config {
+        utf8: false,
+        ..Config::default()
+    };
+    match regex_syntax::parse(alloc, text, &config) {
+        Ok(parsed) => Ok(parsed),
+        Err(error) => match error.kind {
+            ErrorKind::OutOfMemory => Err(Refusal::OutOfMemory),
+            _ => Err(Refusal::Meaningless),
+        },
     }
 }
