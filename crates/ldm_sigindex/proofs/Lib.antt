@@ -1,8 +1,7 @@
-pub mod Chains
+pub mod Closing
 pub mod Kept
-pub mod Places
-pub mod Put
-pub mod Reached
-pub mod Slots
+pub mod Occupied
+pub mod Read
+pub mod Round
 pub mod Tables
-pub mod TakenOut
+pub mod Walked

@@ -39,7 +39,7 @@ absent table bytes k none at =
     both_ways (bytes_eq bytes bytes) (sym (ap (has bytes) (get_or_from_slice_get table k (Some bytes) None at)) ∙ other) ((bytes_eq-Decides bytes bytes).1 refl)
 
 -- what stands in a table with one more signature
-was_put : (table : Table) (i a : ℕ) (bytes held : List ℕ) → slice_get (set table i (Some bytes)) a ≡ Some (Some held) → ((a ≡ i) × (bytes ≡ held)) ⊎ (slice_get table a ≡ Some (Some held))
+pub was_put : (table : Table) (i a : ℕ) (bytes held : List ℕ) → slice_get (set table i (Some bytes)) a ≡ Some (Some held) → ((a ≡ i) × (bytes ≡ held)) ⊎ (slice_get table a ≡ Some (Some held))
 was_put [] i a bytes held at = inr at
 was_put (one ∷ rest) zero zero bytes held at = inl (refl, cc)
 was_put (one ∷ rest) zero (suc a) bytes held at = inr at
@@ -47,14 +47,14 @@ was_put (one ∷ rest) (suc i) zero bytes held at = inr at
 was_put (one ∷ rest) (suc i) (suc a) bytes held at = ⊎_elim (λ p. inl (ap suc p.0, p.1)) (λ there. inr there) (was_put rest i a bytes held at)
 
 -- what stands in a table with one signature less
-was_left : (table : Table) (i a : ℕ) (held : List ℕ) → slice_get (set table i None) a ≡ Some (Some held) → slice_get table a ≡ Some (Some held)
+pub was_left : (table : Table) (i a : ℕ) (held : List ℕ) → slice_get (set table i None) a ≡ Some (Some held) → slice_get table a ≡ Some (Some held)
 was_left [] i a held at = at
 was_left (one ∷ rest) zero zero held at = absurd cc
 was_left (one ∷ rest) zero (suc a) held at = at
 was_left (one ∷ rest) (suc i) zero held at = at
 was_left (one ∷ rest) (suc i) (suc a) held at = was_left rest i a held at
 
-none_stands : (slots a : ℕ) (held : List ℕ) → slice_get (replicate {A = Option (List ℕ)} slots None) a ≡ Some (Some held) → ⊥
+pub none_stands : (slots a : ℕ) (held : List ℕ) → slice_get (replicate {A = Option (List ℕ)} slots None) a ≡ Some (Some held) → ⊥
 none_stands zero a held at = cc
 none_stands (suc slots) zero held at = cc
 none_stands (suc slots) (suc a) held at = none_stands slots a held at
@@ -85,3 +85,8 @@ get-set_other (one ∷ rest) zero zero x apart = absurd (apart refl)
 get-set_other (one ∷ rest) zero (suc k) x apart = refl
 get-set_other (one ∷ rest) (suc i) zero x apart = refl
 get-set_other (one ∷ rest) (suc i) (suc k) x apart = get-set_other rest i k x (λ same. apart (ap suc same))
+
+pub get-set_same : {X : Type 0} (xs : List X) (i : ℕ) (x : X) → i < length xs → slice_get (set xs i x) i ≡ Some x
+get-set_same [] i x lt = absurd (omega arith)
+get-set_same (one ∷ rest) zero x lt = refl
+get-set_same (one ∷ rest) (suc i) x lt = get-set_same rest i x (omega arith)

@@ -2,7 +2,7 @@
 ghost use Rattle.std.specs.Prelude.{◌≡◌, IfOk, IfSome, IsSome, None, Some, replicate, set, slice_get};
 ghost use Rattle.ldm_sigindex.specs.Index.{IsOneToOne, slot_of};
 
-use crate::chain::{self, END, Slot};
+use crate::entries::{self, END, Entry};
 use ldm_types::{OutOfMemory, Signature};
 use std::alloc::Global;
 use std::marker::Model;
@@ -13,20 +13,21 @@ use std::marker::Model;
 /// slots have the same one.
 #[derive(Drop)]
 pub struct SigIndex {
-    /// The first slot of each chain, or `END`.
-    heads: Vec<u32>,
-    slots: Vec<Slot>,
+    /// Where the slots' signatures are found.
+    entries: Vec<Entry>,
+    /// The signature of each slot that has one.
+    slots: Vec<Option<Signature>>,
 }
 
 impl Model for SigIndex {
     ghost use Rattle.ldm_sigindex.specs.Index.{Table};
-    ghost use Rattle.ldm_sigindex.specs.Chains.{table_of, IsKept};
+    ghost use Rattle.ldm_sigindex.specs.Entries.{table_of, IsKept};
 
     ghost Value = { Table };
 
     ghost view = { λ index. table_of index.slots.items };
 
-    ghost invariant = { λ index. IsKept index.heads.items index.slots.items };
+    ghost invariant = { λ index. IsKept index.entries.items (table_of index.slots.items) };
 }
 
 impl SigIndex {
@@ -35,9 +36,10 @@ impl SigIndex {
     pub fn create(alloc: Global, slots: u32) -> Result<SigIndex, OutOfMemory>
         ensures { IfOk result (λ index. index ≡ replicate slots None) }
     {
-        let heads = vec![in alloc; END; (slots as usize).next_power_of_two()]?;
-        let slots = chain::empty_slots(alloc, slots)?;
-        Ok(SigIndex { heads, slots })
+        let free = Entry { mark: 0, slot: END };
+        let entries = vec![in alloc; free; (2 * slots as usize).next_power_of_two()]?;
+        let slots = vec![in alloc; None; slots as usize]?;
+        Ok(SigIndex { entries, slots })
     }
 
     /// Gives a slot that has none a signature that no slot has.
@@ -47,12 +49,11 @@ impl SigIndex {
         ensures put { self.new ≡ set self.old slot (Some s.0) }
         ensures one_to_one { IsOneToOne self.new }
     {
-        let home = chain::home(&s, self.heads.len());
-        self.slots[slot as usize] = Slot {
-            signature: s,
-            next: self.heads[home],
-        };
-        self.heads[home] = slot;
+        let mark = entries::mark(&s);
+        let home = entries::home(mark, self.entries.len());
+        let place = entries::free_place(&self.entries, home);
+        self.entries[place] = Entry { mark, slot };
+        self.slots[slot as usize] = Some(s);
     }
 
     /// Takes a signature from the slot that has it.
@@ -61,14 +62,10 @@ impl SigIndex {
         ensures taken { IfSome (slot_of self.old s.now.0) (λ slot. self.new ≡ set self.old slot None) }
         ensures one_to_one { IsOneToOne self.new }
     {
-        let (home, place) = chain::locate(&self.heads, &self.slots, s);
-        let taken = &mut self.slots[place.slot as usize];
-        let next = taken.next;
-        taken.next = place.slot;
-        if place.before == END {
-            self.heads[home] = next;
-        } else {
-            self.slots[place.before as usize].next = next;
+        if let Some(place) = entries::seek(&self.entries, &self.slots, s) {
+            let slot = self.entries[place].slot;
+            self.slots[slot as usize] = None;
+            entries::close(&mut self.entries, place);
         }
     }
 
@@ -77,11 +74,7 @@ impl SigIndex {
         ensures slot { result ≡ slot_of self.now s.now.0 }
         ensures one_to_one { IsOneToOne self.now }
     {
-        let (_, place) = chain::locate(&self.heads, &self.slots, s);
-        if place.slot == END {
-            None
-        } else {
-            Some(place.slot)
-        }
+        let place = entries::seek(&self.entries, &self.slots, s)?;
+        Some(self.entries[place].slot)
     }
 }

@@ -1,7 +1,7 @@
 //! Which slot of a queue holds the product of a signature.
 #![tactic(auto)]
 
-mod chain;
+mod entries;
 mod index;
 
 pub use index::SigIndex;

@@ -1,46 +1,50 @@
-use Rattle.std.proofs.Common.{arith}
-use Rattle.ldm_sigindex.proofs.Places.{sought_same}
-use Rattle.ldm_sigindex.proofs.TakenOut.{is_taken_first, is_taken_later, slot_before_inside, slot_inside}
+use Rattle.std.proofs.Common.{◌≡◌, ◌<◌, length, set, None, refl, subst, sym, List, arith}
+use Rattle.std.proofs.lemmas.List.{with_items_is}
+use Rattle.ldm_sigindex.specs.declared.entries.Entry.{Entry}
+use Rattle.ldm_sigindex.specs.declared.entries.TheConstants.{END}
+use Rattle.ldm_sigindex.specs.Entries.{free_of, slot_at, table_of}
+use Rattle.ldm_sigindex.proofs.Kept.{is_left, is_taken, is_told, place_inside, read_inside, sought}
+use Rattle.ldm_sigindex.proofs.Occupied.{has_free}
 use Rattle.ldm_sigindex.proofs.index.SigIndex.take_out.Goals as goal
 
-pub index_mut-taken-requires : goal.index_mut-taken-requires
-index_mut-taken-requires c =
-    let s = sought_same c.self.inside.heads.items _ c.self.inside.slots.items _ c.locate-home.result.0 c.args.s.now.0 c.locate-home.result.1 c.deref.ensures.value c.deref-2.ensures.value c.locate-home.ensures in
-    let inside = slot_inside _ _ _ _ _ _ s c.self.view_is c.requires in
+pub index-requires : goal.index-requires
+index-requires c =
+    let is = sought c.self.inside.entries.items c.deref.result.now c.self.inside.slots.items c.deref-2.result.now c.args.s.now.0 c.in-Some.place c.deref.ensures.value c.deref-2.ensures.value c.in-Some.ensures.found in
+    let inside = place_inside c.self.inside.entries.items c.self.inside.slots.items c.args.self.now c.args.s.now.0 c.in-Some.place c.self.invariant c.self.view_is is in
     omega arith
 
-pub index_mut-requires-else-place : goal.index_mut-requires-else-place
-index_mut-requires-else-place c =
-    let s = sought_same c.self.inside.heads.items _ c.self.inside.slots.items _ c.locate-home.result.0 c.args.s.now.0 c.locate-home.result.1 c.deref.ensures.value c.deref-2.ensures.value c.locate-home.ensures in
-    let inside = slot_before_inside _ _ _ _ _ _ s c.self.view_is c.requires c.index_mut-taken.result.now c.index_mut-taken.ensures.value c.if-place.false in
+pub index_mut-requires : goal.index_mut-requires
+index_mut-requires c =
+    let is = sought c.self.inside.entries.items c.deref.result.now c.self.inside.slots.items c.deref-2.result.now c.args.s.now.0 c.in-Some.place c.deref.ensures.value c.deref-2.ensures.value c.in-Some.ensures.found in
+    let inside = read_inside c.self.inside.entries.items c.self.inside.slots.items c.args.self.now c.args.s.now.0 c.in-Some.place c.self.invariant c.self.view_is is c.index.result.now c.index.ensures in
     omega arith
+
+pub close-requires-clause-taken : goal.close-requires-clause-taken
+close-requires-clause-taken c =
+    let is = sought c.self.inside.entries.items c.deref.result.now c.self.inside.slots.items c.deref-2.result.now c.args.s.now.0 c.in-Some.place c.deref.ensures.value c.deref-2.ensures.value c.in-Some.ensures.found in
+    subst (λ (entries : List Entry). slot_at entries c.in-Some.place ≡ END → ⊥) (sym c.deref_mut.ensures.value)
+    (is_taken c.self.inside.entries.items c.self.inside.slots.items c.args.self.now c.args.s.now.0 c.in-Some.place c.self.invariant c.self.view_is is)
+
+pub close-requires-clause-free : goal.close-requires-clause-free
+close-requires-clause-free c =
+    subst (λ (entries : List Entry). free_of entries < length entries) (sym c.deref_mut.ensures.value) (has_free c.self.inside.entries.items (table_of c.self.inside.slots.items) c.self.invariant)
 
 pub invariant_of-self : goal.invariant_of-self
 invariant_of-self c =
-    let s = sought_same c.self.inside.heads.items _ c.self.inside.slots.items _ c.locate-home.result.0 c.args.s.now.0 c.locate-home.result.1 c.deref.ensures.value c.deref-2.ensures.value c.locate-home.ensures in
-    (is_taken_first _ _ _ _ _ _ s c.self.view_is c.requires c.index_mut-taken.result.now c.index_mut-taken.ensures.value c.if-place.true).kept
+    let is = sought c.self.inside.entries.items c.deref.result.now c.self.inside.slots.items c.deref-2.result.now c.args.s.now.0 c.in-Some.place c.deref.ensures.value c.deref-2.ensures.value c.in-Some.ensures.found in
+    (is_left c.self.inside.entries.items c.self.inside.slots.items c.args.self.now c.args.s.now.0 c.in-Some.place c.self.invariant c.self.view_is is c.index.result.now c.index.ensures
+    c.deref_mut.result.now c.close.new.entries _ c.deref_mut.ensures.value (with_items_is c.self.inside.entries c.close.new.entries (omega (arith, c.close.auto.entries, c.deref_mut.ensures.len))) c.close.ensures).kept
 
-pub returns-then-place-clause-taken : goal.returns-then-place-clause-taken
-returns-then-place-clause-taken c =
-    let s = sought_same c.self.inside.heads.items _ c.self.inside.slots.items _ c.locate-home.result.0 c.args.s.now.0 c.locate-home.result.1 c.deref.ensures.value c.deref-2.ensures.value c.locate-home.ensures in
-    (is_taken_first _ _ _ _ _ _ s c.self.view_is c.requires c.index_mut-taken.result.now c.index_mut-taken.ensures.value c.if-place.true).view
+pub returns-in-Some-clause-taken : goal.returns-in-Some-clause-taken
+returns-in-Some-clause-taken c =
+    let is = sought c.self.inside.entries.items c.deref.result.now c.self.inside.slots.items c.deref-2.result.now c.args.s.now.0 c.in-Some.place c.deref.ensures.value c.deref-2.ensures.value c.in-Some.ensures.found in
+    is_told c.self.inside.entries.items c.self.inside.slots.items c.args.self.now c.args.s.now.0 c.in-Some.place c.self.invariant c.self.view_is is c.index.result.now c.index.ensures
+    (set c.self.inside.slots.items c.index.result.now.slot None)
+    (is_left c.self.inside.entries.items c.self.inside.slots.items c.args.self.now c.args.s.now.0 c.in-Some.place c.self.invariant c.self.view_is is c.index.result.now c.index.ensures
+    c.deref_mut.result.now c.close.new.entries c.close.new.entries c.deref_mut.ensures.value refl c.close.ensures).view
 
-pub returns-then-place-clause-one_to_one : goal.returns-then-place-clause-one_to_one
-returns-then-place-clause-one_to_one c =
-    let s = sought_same c.self.inside.heads.items _ c.self.inside.slots.items _ c.locate-home.result.0 c.args.s.now.0 c.locate-home.result.1 c.deref.ensures.value c.deref-2.ensures.value c.locate-home.ensures in
-    (is_taken_first _ _ _ _ _ _ s c.self.view_is c.requires c.index_mut-taken.result.now c.index_mut-taken.ensures.value c.if-place.true).one_to_one
-
-pub invariant_of-self-else-place : goal.invariant_of-self-else-place
-invariant_of-self-else-place c =
-    let s = sought_same c.self.inside.heads.items _ c.self.inside.slots.items _ c.locate-home.result.0 c.args.s.now.0 c.locate-home.result.1 c.deref.ensures.value c.deref-2.ensures.value c.locate-home.ensures in
-    (is_taken_later _ _ _ _ _ _ s c.self.view_is c.requires c.index_mut-taken.result.now c.index_mut-else-place.result.now c.index_mut-taken.ensures.value c.if-place.false c.index_mut-else-place.ensures.value).kept
-
-pub returns-else-place-clause-taken : goal.returns-else-place-clause-taken
-returns-else-place-clause-taken c =
-    let s = sought_same c.self.inside.heads.items _ c.self.inside.slots.items _ c.locate-home.result.0 c.args.s.now.0 c.locate-home.result.1 c.deref.ensures.value c.deref-2.ensures.value c.locate-home.ensures in
-    (is_taken_later _ _ _ _ _ _ s c.self.view_is c.requires c.index_mut-taken.result.now c.index_mut-else-place.result.now c.index_mut-taken.ensures.value c.if-place.false c.index_mut-else-place.ensures.value).view
-
-pub returns-else-place-clause-one_to_one : goal.returns-else-place-clause-one_to_one
-returns-else-place-clause-one_to_one c =
-    let s = sought_same c.self.inside.heads.items _ c.self.inside.slots.items _ c.locate-home.result.0 c.args.s.now.0 c.locate-home.result.1 c.deref.ensures.value c.deref-2.ensures.value c.locate-home.ensures in
-    (is_taken_later _ _ _ _ _ _ s c.self.view_is c.requires c.index_mut-taken.result.now c.index_mut-else-place.result.now c.index_mut-taken.ensures.value c.if-place.false c.index_mut-else-place.ensures.value).one_to_one
+pub returns-in-Some-clause-one_to_one : goal.returns-in-Some-clause-one_to_one
+returns-in-Some-clause-one_to_one c =
+    let is = sought c.self.inside.entries.items c.deref.result.now c.self.inside.slots.items c.deref-2.result.now c.args.s.now.0 c.in-Some.place c.deref.ensures.value c.deref-2.ensures.value c.in-Some.ensures.found in
+    (is_left c.self.inside.entries.items c.self.inside.slots.items c.args.self.now c.args.s.now.0 c.in-Some.place c.self.invariant c.self.view_is is c.index.result.now c.index.ensures
+    c.deref_mut.result.now c.close.new.entries _ c.deref_mut.ensures.value (with_items_is c.self.inside.entries c.close.new.entries (omega (arith, c.close.auto.entries, c.deref_mut.ensures.len))) c.close.ensures).one_to_one
