@@ -38,6 +38,7 @@ pub mod CountLemmas
 pub mod StatLemmas
 pub mod SpanLemmas
 pub mod PartLemmas
+pub mod GatherLemmas
 pub mod OpenLemmas
 pub mod HeldRoomLemmas
 pub mod FoundLemmas

@@ -1,5 +1,6 @@
 -- Reservation places as contracts see them, and what becomes of the open ones where one place changes.
-use Rattle.std.proofs.Common.{◌≡◌, ℕ, zero, suc, ◌+◌, ◌<◌, true, false, get_or, List, [], ◌∷◌, ◌++◌, length, map, set, Option, Some, None, refl, sym, ap, ◌∙◌, arith}
+use Rattle.std.proofs.Common.{◌≡◌, ℕ, zero, suc, ◌+◌, ◌<◌, ◌≤◌, true, false, get_or, List, [], ◌∷◌, ◌++◌, length, map}
+use Rattle.std.proofs.Common.{set, Option, Some, None, refl, sym, ap, ◌∙◌, arith}
 use Rattle.std.specs.Prelude.{is_none}
 use Rattle.std.specs.List.{position, position_from, position_or_len}
 use Rattle.std.proofs.lemmas.Grind.{common_steps}
@@ -24,6 +25,12 @@ pub open-places : (places : KeptPlaces) → length (open_places places) ≡ leng
 open-places [] = refl
 open-places (None ∷ places) = open-places places
 open-places (Some place ∷ places) = ap suc (open-places places)
+
+-- no more are open than there are
+pub few_open : (places : KeptPlaces) → length (open_places places) ≤ length places
+few_open [] = omega arith
+few_open (None ∷ places) = omega (arith, few_open places)
+few_open (Some place ∷ places) = omega (arith, few_open places)
 
 pub none-none : (o : Option KeptPlace) → option_map reservation_of o ≡ None → o ≡ None
 none-none None e = refl

@@ -1,7 +1,8 @@
 -- What is kept of the reservation places, each of which has a slot.
-use Rattle.std.specs.Prelude.{ℕ, List, [], ◌∷◌, map, is_none, position, slice_index_or, Option, Some, None}
+use Rattle.std.specs.Prelude.{◌≡◌, ℕ, List, [], ◌∷◌, length, map, is_none, position, slice_index_or, Option, Some, None}
 use Rattle.std.specs.Option.{option_map}
 use Rattle.ldm_timeindex.specs.Times.{Queued}
+use Rattle.ldm_model.specs.declared.numbers.TheConstants.ReserveNo.{COUNT}
 use Rattle.ldm_book.specs.declared.reservations.Place.{Place}
 use Rattle.ldm_book.specs.View.{Kept, KeptReservation, Reservations}
 use Rattle.ldm_book.specs.RowKept.{kept_row}
@@ -42,6 +43,16 @@ abbrev pub open_places : KeptPlaces → List KeptPlace
 open_places [] = []
 open_places (None ∷ places) = open_places places
 open_places (Some place ∷ places) = place ∷ open_places places
+
+-- 1 for an open place, 0 for an empty one
+abbrev pub count_one : Option KeptPlace → ℕ
+count_one None = 0
+count_one (Some place) = 1
+
+-- there are as many places as reservation numbers, and so many of them are open
+pub record AreCounted (places : KeptPlaces) (opened : ℕ) : Type 0 where
+  pub many : length places ≡ COUNT
+  pub counted : opened ≡ length (open_places places)
 
 -- their products, as entries of slots: each has number 0 and time 0
 abbrev pub place_entries : KeptPlaces → List Queued

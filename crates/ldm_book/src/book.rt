@@ -563,16 +563,23 @@ impl Book {
         }
     }
 
-    // Writes where the held products and the reserved regions lie, by their places, to the front of the spans. How many
-    // they are.
-    fn gather_held(&self, spans: &mut [Span]) -> usize
-        requires { length spans.old ≡ CursorNo.COUNT + ReserveNo.COUNT }
+    // Writes where the held products and the reserved regions of the places from one up to another lie, behind the
+    // first so many spans, which are those of the places before. How many there are then.
+    fn gather_places(&self, spans: &mut [Span], count: usize, from: u32, to: u32) -> usize
+        requires order { from ≤ to }
+        requires within { to ≤ CursorNo.COUNT + ReserveNo.COUNT }
+        requires long { to ≤ length spans.old }
+        requires few { count ≤ from }
+        requires cursors { length self.now.cursors ≡ CursorNo.COUNT }
+        requires reservations { length self.now.reservations ≡ ReserveNo.COUNT }
+        requires known { take count spans.old ≡ filter is_some_part
+            (take from (held_spans self.now.rows self.now.cursors self.now.reservations)) }
         ensures spans { take result spans.new ≡ filter is_some_part
-            (held_spans self.now.rows self.now.cursors self.now.reservations) }
-        ensures few { result ≤ length spans.old }
+            (take to (held_spans self.now.rows self.now.cursors self.now.reservations)) }
+        ensures few { result ≤ to }
     {
-        let mut count = 0;
-        for place in 0..CursorNo::COUNT + ReserveNo::COUNT {
+        let mut count = count;
+        for place in from..to {
             let span = self.span_at(place);
             if span.back > 0 {
                 spans[count] = span;
@@ -580,6 +587,28 @@ impl Book {
             }
         }
         count
+    }
+
+    // Writes where the held products and the reserved regions lie, by their places, to the front of the spans. How many
+    // they are. No place is looked at that is behind the last whose cursor holds a product, and none of a reservation
+    // where there are none.
+    fn gather_held(&self, spans: &mut [Span]) -> usize
+        requires { length spans.old ≡ CursorNo.COUNT + ReserveNo.COUNT }
+        ensures spans { take result spans.new ≡ filter is_some_part
+            (held_spans self.now.rows self.now.cursors self.now.reservations) }
+        ensures few { result ≤ length spans.old }
+    {
+        let reserved = self.products.count_reserved();
+        let count = self.gather_places(spans, 0, 0, self.cursors.held_end());
+        if reserved == 0 {
+            return count;
+        }
+        self.gather_places(
+            spans,
+            count,
+            CursorNo::COUNT,
+            CursorNo::COUNT + ReserveNo::COUNT,
+        )
     }
 
     // How many regions are held: those of the products that cursors hold, each counted once, and the reserved ones.

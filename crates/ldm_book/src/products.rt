@@ -300,6 +300,7 @@ impl Products {
     pub(crate) fn count_reserved(&self) -> u64
         ensures count { result ≡ length (open_kept self.now.reservations) }
         ensures few { result ≤ ReserveNo.COUNT }
+        ensures many { length self.now.reservations ≡ ReserveNo.COUNT }
     {
         self.reserved.count()
     }

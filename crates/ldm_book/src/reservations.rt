@@ -1,7 +1,7 @@
 //! The reservation places of a queue.
 ghost use Rattle.std.specs.Prelude.{◌≡◌, ◌<◌, length, replicate, set, IfOk, None};
 ghost use Rattle.std.specs.Option.{option_map};
-ghost use Rattle.ldm_book.specs.Reserved.{kept_place, kept_places, least_empty, open_places, place_at};
+ghost use Rattle.ldm_book.specs.Reserved.{count_one, kept_place, least_empty, open_places, place_at};
 
 use crate::row::Row;
 use ldm_model::ReserveNo;
@@ -25,18 +25,18 @@ pub(crate) struct Place {
 #[derive(Drop)]
 pub(crate) struct Reservations {
     places: Vec<Option<Place>>,
+    // How many of them are open.
+    opened: u64,
 }
 
 impl Model for Reservations {
-    ghost use Rattle.std.specs.Prelude.{◌≡◌, length};
-    ghost use Rattle.ldm_model.specs.declared.numbers.TheConstants.ReserveNo.{COUNT};
-    ghost use Rattle.ldm_book.specs.Reserved.{KeptPlaces, kept_places};
+    ghost use Rattle.ldm_book.specs.Reserved.{KeptPlaces, AreCounted, kept_places};
 
     ghost Value = { KeptPlaces };
 
     ghost view = { λ r. kept_places r.places.items };
 
-    ghost invariant = { λ r. length r.places.items ≡ COUNT };
+    ghost invariant = { λ r. AreCounted (kept_places r.places.items) r.opened };
 }
 
 impl Reservations {
@@ -46,7 +46,7 @@ impl Reservations {
     {
         let mut places = Vec::with_capacity(alloc, ReserveNo::COUNT as usize)?;
         places.resize(ReserveNo::COUNT as usize, None)?;
-        Ok(Reservations { places })
+        Ok(Reservations { places, opened: 0 })
     }
 
     /// The least empty place. `None` exactly where all are taken.
@@ -66,7 +66,7 @@ impl Reservations {
         ensures count { result ≡ length (open_places self.now) }
         ensures many { length self.now ≡ ReserveNo.COUNT }
     {
-        count_open(&self.places)
+        self.opened
     }
 
     /// The reservation of a place, if it is open.
@@ -84,19 +84,18 @@ impl Reservations {
         ensures many { length self.old ≡ ReserveNo.COUNT }
         ensures bound { r < ReserveNo.COUNT }
     {
-        self.places[r.get() as usize] = place;
+        let at = r.get() as usize;
+        self.opened = self.opened + count_one(&place) - count_one(&self.places[at]);
+        self.places[at] = place;
     }
 }
 
-// How many of these places are open.
-fn count_open(places: &[Option<Place>]) -> u64
-    ensures { result ≡ length (open_places (kept_places places.now)) }
+// 1 for an open place, 0 for an empty one.
+fn count_one(place: &Option<Place>) -> u64
+    ensures { result ≡ count_one (option_map kept_place place.now) }
 {
-    let mut count = 0;
-    for place in places {
-        if place.is_some() {
-            count += 1;
-        }
+    match place {
+        Some(_) => 1,
+        None => 0,
     }
-    count
 }

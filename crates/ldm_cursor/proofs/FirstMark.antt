@@ -1,9 +1,10 @@
--- The least place with a mark, and the least without one.
+-- The least place with a mark, the least without one, and the end of the marks.
 use Rattle.std.proofs.Common.{◌≡◌, ℕ, ◌+◌, ◌-◌, ◌^◌, ◌<◌, ◌≤◌, Option, Some, None, ⊎_elim, sym, ap, ◌∙◌, subst, arith}
-use Rattle.std.specs.Int.{bit_at, w64, trailing_ones, trailing_zeros}
+use Rattle.std.specs.Int.{bit_at, w64, leading_zeros, trailing_ones, trailing_zeros}
 use Rattle.std.specs.Option.{MatchOption, SomeIff}
 use Rattle.std.proofs.lemmas.Bool.{cases_lt}
-use Rattle.std.proofs.lemmas.Nat.Bits.{bit_at-trailing_ones, bit_at-trailing_zeros, bit_at_ones}
+use Rattle.std.proofs.lemmas.Nat.{leading_length}
+use Rattle.std.proofs.lemmas.Nat.Bits.{bit_at-trailing_ones, bit_at-trailing_zeros, bit_at_above, bit_at_ones}
 use Rattle.ldm_cursor.specs.Marks.{IsFirstUnmarked}
 use lib.Count.{trailing_of_zero}
 
@@ -53,3 +54,9 @@ fewer_marks old new k bound marked unmarked =
     let bit : bit_at old k ≡ bit_at new k = ap (λ n. bit_at n k) same in
     absurd (omega arith))
     (cases_lt new old)
+
+-- no bit is at the length of a number or above it
+pub bit_at-end : (n : ℕ) → n < 2 ^ 64 → (i : ℕ) → 64 - leading_zeros w64 n ≤ i → bit_at n i ≡ 0
+bit_at-end n below i bound =
+    let length = leading_length 64 n below in
+    bit_at_above n length.0 i length.2 (omega (arith, length.1))

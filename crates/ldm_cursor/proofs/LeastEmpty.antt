@@ -4,7 +4,7 @@ use Rattle.std.specs.Int.{bit_at}
 use Rattle.std.specs.List.{position_or_len}
 use Rattle.std.proofs.lemmas.Grind.{common_steps}
 use Rattle.std.proofs.lemmas.List.Sums.{position_or_len_is}
-use Rattle.ldm_cursor.specs.Kept.{IsKept, mark_of}
+use Rattle.ldm_cursor.specs.Kept.{AreMarked, mark_of}
 use Rattle.ldm_cursor.specs.Marks.{IsFirstUnmarked}
 use Rattle.ldm_types.specs.Cursors.{KeptCursor, Places}
 use Rattle.ldm_cursor.specs.Places.{cursor_at, least_empty}
@@ -17,20 +17,20 @@ is_none-unmarked : (place : Option KeptCursor) → mark_of place ≡ 0 → is_no
 is_none-unmarked None mark = refl
 is_none-unmarked (Some cursor) mark = absurd (omega (arith, mark))
 
-pub least_empty-unmarked : (places : Places) (marks k : ℕ) → IsKept places marks → k < 64 → IsFirstUnmarked marks k → Some k ≡ least_empty places
-least_empty-unmarked places marks k kept bound first =
-    let many : length places ≡ 64 = kept.many in
+pub least_empty-unmarked : (places : Places) (marks k : ℕ) → length places ≡ 64 → AreMarked mark_of places marks
+    → k < 64 → IsFirstUnmarked marks k → Some k ≡ least_empty places
+least_empty-unmarked places marks k many marked bound first =
     let at : position_or_len is_none places ≡ k =
     position_or_len_is is_none places k None (omega arith)
-    (λ i before. is_none-marked (cursor_at places i) (sym (kept.marked i (omega arith)) ∙ first.before i before))
-    (λ inside. is_none-unmarked (cursor_at places k) (sym (kept.marked k bound) ∙ first.unmarked)) in
+    (λ i before. is_none-marked (cursor_at places i) (sym (marked i (omega arith)) ∙ first.before i before))
+    (λ inside. is_none-unmarked (cursor_at places k) (sym (marked k bound) ∙ first.unmarked)) in
     grind (arith, common_steps)
 
-pub least_empty-none : (places : Places) (marks : ℕ) → IsKept places marks → ((i : ℕ) → i < 64 → bit_at marks i ≡ 1) → None ≡ least_empty places
-least_empty-none places marks kept all =
-    let many : length places ≡ 64 = kept.many in
+pub least_empty-none : (places : Places) (marks : ℕ) → length places ≡ 64 → AreMarked mark_of places marks
+    → ((i : ℕ) → i < 64 → bit_at marks i ≡ 1) → None ≡ least_empty places
+least_empty-none places marks many marked all =
     let at : position_or_len is_none places ≡ length places =
     position_or_len_is is_none places (length places) None (omega arith)
-    (λ i before. is_none-marked (cursor_at places i) (sym (kept.marked i (omega arith)) ∙ all i (omega arith)))
+    (λ i before. is_none-marked (cursor_at places i) (sym (marked i (omega arith)) ∙ all i (omega arith)))
     (λ inside. absurd (omega arith)) in
     grind (arith, common_steps)

@@ -6,7 +6,7 @@ use Rattle.std.proofs.lemmas.Bool.{cases_eq}
 use Rattle.std.proofs.lemmas.List.{ext_get_or, get_or_default, get_or-map, length-map, length-set}
 use Rattle.std.proofs.lemmas.Nat.Bits.{bit_at-zero}
 use Rattle.ldm_cursor.specs.declared.cursor.Cursor.{Cursor}
-use Rattle.ldm_cursor.specs.Kept.{IsKept, kept_of, mark_of, place_of, places_of}
+use Rattle.ldm_cursor.specs.Kept.{AreMarked, kept_of, mark_of, place_of, places_of}
 use Rattle.ldm_cursor.specs.Marks.{LosesMark}
 use Rattle.ldm_types.specs.Cursors.{KeptCursor}
 use Rattle.ldm_cursor.specs.Places.{CountsBelow, HasCountsBelow, with_loss}
@@ -23,16 +23,16 @@ no_loss n feed None mark = refl
 no_loss n feed (Some cursor) mark = absurd (omega (arith, mark))
 
 -- at first every open place is marked
-pub LostElsewhere-none : (n feed marks : ℕ) (items : List (Option Cursor)) → IsKept (places_of items) marks → LostElsewhere n feed marks items items
-LostElsewhere-none n feed marks items kept =
-    let many : length items ≡ 64 = sym (length-map items place_of) ∙ kept.many in
+pub LostElsewhere-none : (n feed marks : ℕ) (items : List (Option Cursor)) → length items ≡ 64
+    → AreMarked mark_of (places_of items) marks → LostElsewhere n feed marks items items
+LostElsewhere-none n feed marks items many marked =
     record {
       many = many;
       before = many;
       rest = λ k bound marked. refl;
       done = λ k bound unmarked.
           let here : get_or (places_of items) k None ≡ place_of (get_or items k None) = get_or-map place_of items k None None (omega arith) in
-          no_loss n feed (place_of (get_or items k None)) (ap mark_of (sym here) ∙ sym (kept.marked k bound) ∙ unmarked);
+          no_loss n feed (place_of (get_or items k None)) (ap mark_of (sym here) ∙ sym (marked k bound) ∙ unmarked);
     }
 
 -- what stands at a place

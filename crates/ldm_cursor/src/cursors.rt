@@ -1,8 +1,9 @@
 //! The cursors of a queue.
 ghost use Rattle.std.specs.Prelude.{◌≡◌, ℕ, ◌^◌, ◌<◌, ◌≤◌, ◌↔◌, IsTrue, IsSome, IsSomeAnd, IfOk};
-ghost use Rattle.std.specs.Prelude.{IfSome, MatchOption, None, length, map, replicate};
+ghost use Rattle.std.specs.Prelude.{IfSome, MatchOption, None, drop, length, map, replicate};
+ghost use Rattle.std.specs.List.{All};
 ghost use Rattle.std.specs.Option.{option_map};
-ghost use Rattle.ldm_cursor.specs.Kept.{IsKept, kept_of, place_of, places_of};
+ghost use Rattle.ldm_cursor.specs.Kept.{AreMarked, IsKept, kept_of, mark_of, place_of, places_of};
 ghost use Rattle.ldm_cursor.specs.Places.{CountsBelow, after_hold, after_move, after_release, after_tell, count_held};
 ghost use Rattle.ldm_cursor.specs.Places.{cursor_at, held_at, held_of, is_held, is_last_hold, least_empty, new_cursor};
 ghost use Rattle.ldm_cursor.specs.Places.{numbers_of, with_change, with_cursor, with_loss, without_cursor};
@@ -25,6 +26,8 @@ pub struct Cursors {
     places: Vec<Option<Cursor>>,
     // The places that have a cursor.
     taken: Marks,
+    // The places whose cursor holds a product.
+    holding: Marks,
 }
 
 impl Model for Cursors {
@@ -35,7 +38,7 @@ impl Model for Cursors {
 
     ghost view = { λ cursors. places_of cursors.places.items };
 
-    ghost invariant = { λ cursors. IsKept (places_of cursors.places.items) cursors.taken.bits };
+    ghost invariant = { λ cursors. IsKept (places_of cursors.places.items) cursors.taken.bits cursors.holding.bits };
 }
 
 impl Cursors {
@@ -48,6 +51,7 @@ impl Cursors {
         Ok(Cursors {
             places,
             taken: Marks::none(),
+            holding: Marks::none(),
         })
     }
 
@@ -79,7 +83,7 @@ impl Cursors {
     pub fn holds(&self, n: u64) -> bool
         ensures { result ≡ is_held n self.now }
     {
-        any_holds(&self.places, n)
+        any_holds(self.holders(), n)
     }
 
     /// The number of the product that the cursor of a place holds. `None` where the place is empty, too.
@@ -98,7 +102,16 @@ impl Cursors {
         ensures count { result ≡ count_held self.now }
         ensures many { length self.now ≡ CursorNo.COUNT }
     {
-        count_last_holds(&self.places)
+        count_last_holds(self.holders())
+    }
+
+    /// The least number from which on no place has a cursor that holds a product.
+    pub fn held_end(&self) -> u32
+        ensures bound { result ≤ CursorNo.COUNT }
+        ensures free { All (λ place. held_of place ≡ None) (drop result self.now) }
+        ensures many { length self.now ≡ CursorNo.COUNT }
+    {
+        self.holding.end()
     }
 
     /// The product of that number and feed left the queue: counts it as lost at each cursor that it was still to
@@ -174,6 +187,7 @@ impl Cursors {
             unreachable!()
         };
         cursor.hold(n);
+        self.holding.mark(k);
     }
 
     /// Ends the hold of a cursor, and answers the number of the product that it held. `None` exactly where it
@@ -187,7 +201,9 @@ impl Cursors {
         let Some(cursor) = &mut self.places[k.get() as usize] else {
             unreachable!()
         };
-        cursor.let_go()
+        let held = cursor.let_go();
+        self.holding.unmark(k);
+        held
     }
 
     /// How many losses of a cursor were not told yet, and the least and the greatest of their numbers. They are
@@ -225,6 +241,16 @@ impl Cursors {
     {
         self.places[k.get() as usize] = None;
         self.taken.unmark(k);
+        self.holding.unmark(k);
+    }
+
+    /// The places up to the last whose cursor holds a product: none behind them does.
+    fn holders(&self) -> &[Option<Cursor>]
+        ensures held { (n : ℕ) → is_held n (places_of result.now) ≡ is_held n self.now }
+        ensures count { count_held (places_of result.now) ≡ count_held self.now }
+        ensures many { length self.now ≡ CursorNo.COUNT }
+    {
+        &self.places[..self.holding.end() as usize]
     }
 
     /// The cursor of an open place.
@@ -282,7 +308,8 @@ fn count_last_holds(places: &[Option<Cursor>]) -> u64
 
 /// Counts the product of that number and feed as lost at each cursor that it was still to come to.
 fn lose_each(places: &mut [Option<Cursor>], taken: Marks, n: u64, feed: Feed)
-    requires kept { IsKept (places_of places.old) taken.bits }
+    requires many { length places.old ≡ CursorNo.COUNT }
+    requires marked { AreMarked mark_of (places_of places.old) taken.bits }
     requires counts { CountsBelow (2 ^ 63) (places_of places.old) }
     ensures { places_of places.new ≡ map (with_loss n feed.0) (places_of places.old) }
 {

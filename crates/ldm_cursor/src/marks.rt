@@ -27,6 +27,14 @@ impl Marks {
         CursorNo::new(self.bits.trailing_ones())
     }
 
+    /// The least number from which on no place is marked.
+    pub fn end(self) -> u32
+        ensures bound { result ≤ 64 }
+        ensures rest { (i : ℕ) → result ≤ i → bit_at self.bits i ≡ 0 }
+    {
+        64 - self.bits.leading_zeros()
+    }
+
     /// Marks a place.
     pub fn mark(&mut self, k: CursorNo)
         ensures marked { bit_at self.new.bits k ≡ 1 }

@@ -5,7 +5,7 @@ use Rattle.ldm_cursor.proofs.WithLoss.{LostElsewhere-none, LostElsewhere-more, H
 use Rattle.ldm_cursor.proofs.cursors.lose_each.Goals as goal
 
 pub loop-k-init : goal.loop-k-init
-loop-k-init c = LostElsewhere-none c.args.n c.args.feed.0 c.args.taken.bits c.args.places.now c.requires.kept
+loop-k-init c = LostElsewhere-none c.args.n c.args.feed.0 c.args.taken.bits c.args.places.now c.requires.many c.requires.marked
 
 pub lose-requires : goal.lose-requires
 lose-requires c =

@@ -27,7 +27,8 @@ returns-then-is_none c =
     let items = c.self.inside.places.items in
     let r = c.loop-r.r in
     let bound : r < 64 = omega (arith, c.loop-r-test.true) in
-    let inside : r < length items = omega (arith, bound, c.self.invariant) in
+    let inside : r < length items =
+    omega (arith, bound, c.self.invariant.many, length-map items (option_map kept_place)) in
     let here = none_read items r c.index.result.now inside c.index.ensures ∙ none_from c.index.result.now c.if-is_none.ensures in
     some_of c.new.result (r < 64) r c.new.ensures bound
     ∙ least_here (kept_places items) r (omega (arith, inside, length-map items (option_map kept_place))) c.loop-r.invariant here
@@ -37,7 +38,8 @@ pub loop-r-preserved : goal.loop-r-preserved
 loop-r-preserved c = λ k below.
     let items = c.self.inside.places.items in
     let r = c.loop-r.r in
-    let inside : r < length items = omega (arith, c.loop-r-test.true, c.self.invariant) in
+    let inside : r < length items =
+    omega (arith, c.loop-r-test.true, c.self.invariant.many, length-map items (option_map kept_place)) in
     elim (cases_eq k r) [
       | inl same ↦ ap (λ (i : ℕ). is_none (place_at (kept_places items) i)) same ∙ none_read items r c.index.result.now inside c.index.ensures ∙ some_from c.index.result.now c.if-is_none.ensures
       | inr other ↦ c.loop-r.invariant k (omega (arith, other))
@@ -46,5 +48,6 @@ loop-r-preserved c = λ k below.
 pub returns : goal.returns
 returns c =
     let items = c.self.inside.places.items in
-    least_none (kept_places items) (λ i inside. c.loop-r.invariant i (omega (arith, inside, length-map items (option_map kept_place), c.self.invariant, c.loop-r-test.false)))
+    least_none (kept_places items)
+    (λ i inside. c.loop-r.invariant i (omega (arith, inside, c.self.invariant.many, c.loop-r-test.false)))
     ∙ ap least_empty c.self.view_is

@@ -1,7 +1,7 @@
-use Rattle.std.proofs.Common.{◌-◌, ◌++◌, List, Option, None, take, replicate, vec_len, refl, subst, sym, ap, ◌∙◌}
+use Rattle.std.proofs.Common.{◌-◌, ◌++◌, List, Option, None, take, replicate, vec_len, refl, sym, ap, ◌∙◌}
 use Rattle.ldm_cursor.specs.declared.cursor.Cursor.{Cursor}
-use Rattle.ldm_cursor.specs.Kept.{IsKept, places_of}
-use Rattle.ldm_cursor.proofs.IsKept.{kept-none}
+use Rattle.ldm_cursor.specs.Kept.{places_of}
+use Rattle.ldm_cursor.proofs.IsKept.{kept-none, kept-view}
 use Rattle.ldm_cursor.proofs.cursors.Cursors.create.Goals as goal
 
 pub returns : goal.returns
@@ -14,4 +14,4 @@ returns c =
     ∙ ap (λ n. replicate {A = Option Cursor} (64 - n) None) made.len)
 
 pub invariant_of-result : goal.invariant_of-result
-invariant_of-result c = subst (λ places. IsKept places c.none.result.bits) (sym (returns c)) (kept-none 64 c.none.result.bits refl c.none.ensures)
+invariant_of-result c = kept-view (sym (returns c)) (kept-none 64 c.none.result.bits c.none-2.result.bits refl c.none.ensures c.none-2.ensures)

@@ -1,8 +1,8 @@
-use Rattle.std.proofs.Common.{subst, sym, arith}
+use Rattle.std.proofs.Common.{sym, ◌∙◌, arith}
 use Rattle.std.proofs.lemmas.List.{length-map}
-use Rattle.ldm_cursor.specs.Kept.{IsKept, place_of}
-use Rattle.ldm_cursor.specs.Places.{after_hold}
-use Rattle.ldm_cursor.proofs.IsKept.{kept-change}
+use Rattle.ldm_cursor.specs.Kept.{place_of}
+use Rattle.ldm_cursor.specs.Places.{after_hold, cursor_at}
+use Rattle.ldm_cursor.proofs.IsKept.{hold_mark_of-after_hold, kept-change, kept-view}
 use Rattle.ldm_cursor.proofs.PlacesOf.{with_change-written}
 use Rattle.ldm_cursor.proofs.cursors.Cursors.hold.Goals as goal
 
@@ -15,5 +15,11 @@ returns-clause-held c =
 pub invariant_of-self : goal.invariant_of-self
 invariant_of-self c =
     let taken = c.self.inside.taken.bits in
-    let kept = subst (λ places. IsKept places taken) c.self.view_is c.self.invariant in
-    subst (λ places. IsKept places taken) (sym (returns-clause-held c)) (kept-change c.args.self.now c.args.k taken (after_hold c.args.n) (omega (arith, kept.many)) kept)
+    let old = c.self.inside.holding.bits in
+    let new = c.mark.new.self.bits in
+    let place = cursor_at c.args.self.now c.args.k in
+    let kept = kept-view c.self.view_is c.self.invariant in
+    kept-view (sym (returns-clause-held c))
+    (kept-change c.args.self.now c.args.k taken old new (after_hold c.args.n) (omega (arith, kept.many)) kept
+    (c.mark.ensures.marked ∙ hold_mark_of-after_hold c.args.n place c.requires.opened)
+    (λ i bound other. c.mark.ensures.others i other))

@@ -1,6 +1,6 @@
-use Rattle.std.proofs.Common.{◌≡◌, ℕ, Option, Some, None, sym, subst, rules}
-use Rattle.ldm_cursor.specs.Kept.{IsKept}
+use Rattle.std.proofs.Common.{◌≡◌, ℕ, Option, Some, None, sym, rules}
 use Rattle.ldm_cursor.specs.Places.{least_empty}
+use Rattle.ldm_cursor.proofs.IsKept.{kept-view}
 use Rattle.ldm_cursor.proofs.LeastEmpty.{least_empty-none, least_empty-unmarked}
 use Rattle.ldm_cursor.proofs.cursors.Cursors.is_full.Goals as goal
 
@@ -9,12 +9,12 @@ some_none k o is none = cc
 
 pub returns-in-Some : goal.returns-in-Some
 returns-in-Some c =
-    let kept = subst (λ places. IsKept places c.self.inside.taken.bits) c.self.view_is c.self.invariant in
-    let least = least_empty-unmarked c.args.self.now c.self.inside.taken.bits c.in-Some.field-0 kept c.in-Some.ensures.bound c.in-Some.ensures.first in
+    let kept = kept-view c.self.view_is c.self.invariant in
+    let least = least_empty-unmarked c.args.self.now c.self.inside.taken.bits c.in-Some.field-0 kept.many kept.opened c.in-Some.ensures.bound c.in-Some.ensures.first in
     record { full = (λ no. absurd cc, λ none. absurd (some_none c.in-Some.field-0 (least_empty c.args.self.now) least none)) }
 
 pub returns-in-None : goal.returns-in-None
 returns-in-None c =
-    let kept = subst (λ places. IsKept places c.self.inside.taken.bits) c.self.view_is c.self.invariant in
-    let none = least_empty-none c.args.self.now c.self.inside.taken.bits kept c.in-None.ensures.first in
+    let kept = kept-view c.self.view_is c.self.invariant in
+    let none = least_empty-none c.args.self.now c.self.inside.taken.bits kept.many kept.opened c.in-None.ensures.first in
     record { full = (λ yes. sym none, search rules) }

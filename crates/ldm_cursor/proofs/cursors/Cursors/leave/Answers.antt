@@ -1,8 +1,8 @@
-use Rattle.std.proofs.Common.{set, None, subst, sym, ap, ◌∙◌, arith}
+use Rattle.std.proofs.Common.{set, None, sym, ap, ◌∙◌, arith}
 use Rattle.std.proofs.lemmas.List.{map-set}
-use Rattle.ldm_cursor.specs.Kept.{IsKept, place_of}
+use Rattle.ldm_cursor.specs.Kept.{place_of}
 use Rattle.ldm_types.specs.Cursors.{Places}
-use Rattle.ldm_cursor.proofs.IsKept.{kept-set}
+use Rattle.ldm_cursor.proofs.IsKept.{kept-set, kept-view}
 use Rattle.ldm_cursor.proofs.cursors.Cursors.leave.Goals as goal
 
 pub returns-clause-left : goal.returns-clause-left
@@ -15,6 +15,11 @@ pub invariant_of-self : goal.invariant_of-self
 invariant_of-self c =
     let old = c.self.inside.taken.bits in
     let new = c.unmark.new.self.bits in
-    let kept = subst (λ places. IsKept places old) c.self.view_is c.self.invariant in
-    subst (λ places. IsKept places new) (sym (returns-clause-left c))
-    (kept-set c.args.self.now c.args.k old new None (omega (arith, kept.many)) kept c.unmark.ensures.unmarked.unmarked c.unmark.ensures.unmarked.others)
+    let held = c.self.inside.holding.bits in
+    let holding = c.unmark-2.new.self.bits in
+    let kept = kept-view c.self.view_is c.self.invariant in
+    let closed = c.unmark.ensures.unmarked in
+    let free = c.unmark-2.ensures.unmarked in
+    kept-view (sym (returns-clause-left c))
+    (kept-set c.args.self.now c.args.k old new held holding None (omega (arith, kept.many)) kept
+    closed.unmarked closed.others free.unmarked free.others)

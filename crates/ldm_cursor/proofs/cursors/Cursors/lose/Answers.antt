@@ -1,10 +1,10 @@
-use Rattle.std.proofs.Common.{List, Option, map, subst, sym, ap, ◌∙◌, arith}
+use Rattle.std.proofs.Common.{List, Option, map, sym, ap, ◌∙◌, arith}
 use Rattle.std.proofs.lemmas.List.{with_items_is}
 use Rattle.ldm_cursor.specs.declared.cursor.Cursor.{Cursor}
-use Rattle.ldm_cursor.specs.Kept.{IsKept, places_of}
+use Rattle.ldm_cursor.specs.Kept.{places_of}
 use Rattle.ldm_types.specs.Cursors.{Places}
 use Rattle.ldm_cursor.specs.Places.{with_loss}
-use Rattle.ldm_cursor.proofs.IsKept.{kept-with_loss}
+use Rattle.ldm_cursor.proofs.IsKept.{kept-view, kept-with_loss}
 use Rattle.ldm_cursor.proofs.cursors.Cursors.lose.Goals as goal
 
 pub returns-clause-lost : goal.returns-clause-lost
@@ -16,6 +16,7 @@ returns-clause-lost c =
 
 pub invariant_of-self : goal.invariant_of-self
 invariant_of-self c =
-    let marks = c.self.inside.taken.bits in
-    let kept = subst (λ places. IsKept places marks) c.self.view_is c.self.invariant in
-    subst (λ places. IsKept places marks) (sym (returns-clause-lost c)) (kept-with_loss c.args.n c.args.feed.0 marks c.args.self.now kept)
+    let taken = c.self.inside.taken.bits in
+    let holding = c.self.inside.holding.bits in
+    let kept = kept-view c.self.view_is c.self.invariant in
+    kept-view (sym (returns-clause-lost c)) (kept-with_loss c.args.n c.args.feed.0 taken holding c.args.self.now kept)

@@ -1,8 +1,8 @@
-use Rattle.std.proofs.Common.{refl, subst, sym, arith}
+use Rattle.std.proofs.Common.{refl, sym, arith}
 use Rattle.std.proofs.lemmas.List.{length-map}
-use Rattle.ldm_cursor.specs.Kept.{IsKept, place_of}
+use Rattle.ldm_cursor.specs.Kept.{place_of}
 use Rattle.ldm_cursor.specs.Places.{after_move}
-use Rattle.ldm_cursor.proofs.IsKept.{kept-change}
+use Rattle.ldm_cursor.proofs.IsKept.{hold_mark_of-after_move, kept-change_beside, kept-view}
 use Rattle.ldm_cursor.proofs.PlacesOf.{with_change-written}
 use Rattle.ldm_cursor.proofs.cursors.Cursors.to_end.Goals as goal
 
@@ -15,5 +15,8 @@ returns-clause-moved c =
 pub invariant_of-self : goal.invariant_of-self
 invariant_of-self c =
     let taken = c.self.inside.taken.bits in
-    let kept = subst (λ places. IsKept places taken) c.self.view_is c.self.invariant in
-    subst (λ places. IsKept places taken) (sym (returns-clause-moved c)) (kept-change c.args.self.now c.args.k taken (after_move c.args.at) (omega (arith, kept.many)) kept)
+    let holding = c.self.inside.holding.bits in
+    let kept = kept-view c.self.view_is c.self.invariant in
+    kept-view (sym (returns-clause-moved c))
+    (kept-change_beside c.args.self.now c.args.k taken holding (after_move c.args.at) (omega (arith, kept.many)) kept
+    (hold_mark_of-after_move c.args.at))
