@@ -121,10 +121,13 @@ fn index_of(ring: &Ring, bound: &Bound) -> usize
     requires { IsRising (all_queued ring.now.entries) }
     ensures { result ≡ position_or_len (reaches bound.now) (all_queued ring.now.entries) }
 {
+    let expected = expected_at(ring, bound);
+    let mut looks = 0u8;
     let mut low = 0;
     let mut high = ring.len();
     while low < high {
-        let middle = low + (high - low) / 2;
+        let middle = place_to_look(low, high, expected, looks);
+        looks = looks.saturating_add(1);
         if bound.is_reached(&ring.get(middle)) {
             high = middle;
         } else {
@@ -132,4 +135,36 @@ fn index_of(ring: &Ring, bound: &Bound) -> usize
         }
     }
     low
+}
+
+/// Where the first entry of at least a number stands if no number is missing from there on: mostly none is, since the oldest
+/// products are evicted first. It is a guess.
+fn expected_at(ring: &Ring, bound: &Bound) -> usize {
+    let Bound::AtLeast(n) = bound else {
+        return usize::MAX;
+    };
+    let Some(last) = ring.len().checked_sub(1) else {
+        return 0;
+    };
+    let newest = ring.get(last).n;
+    let behind = newest.saturating_sub(*n);
+    last.saturating_sub(behind as usize)
+}
+
+/// Where to look between two places: first where an entry is expected, then before it, and from then on in the middle.
+fn place_to_look(low: usize, high: usize, expected: usize, looks: u8) -> usize
+    requires { low < high }
+    ensures from { low ≤ result }
+    ensures to { result < high }
+{
+    let guess = match looks {
+        0 => expected,
+        1 => expected.saturating_sub(1),
+        _ => usize::MAX,
+    };
+    if low <= guess && guess < high {
+        guess
+    } else {
+        low + (high - low) / 2
+    }
 }

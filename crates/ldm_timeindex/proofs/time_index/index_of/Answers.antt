@@ -1,4 +1,4 @@
-use Rattle.std.proofs.Common.{◌-◌, ◌+◌, ◌/◌, sym, ap, ◌∙◌, arith}
+use Rattle.std.proofs.Common.{sym, ap, ◌∙◌, arith}
 use Rattle.std.proofs.lemmas.List.{get_or-map, length-map}
 use Rattle.std.proofs.lemmas.Option.{get_or_from_slice_get}
 use Rattle.ldm_timeindex.specs.Kept.{queued_of, reaches, all_queued}
@@ -8,7 +8,7 @@ use Rattle.ldm_timeindex.proofs.time_index.index_of.Goals as goal
 pub loop-low-preserved-then-is_reached : goal.loop-low-preserved-then-is_reached
 loop-low-preserved-then-is_reached c =
     let entries = c.args.ring.now.entries in
-    let middle = c.loop-low.low + (c.loop-low.high - c.loop-low.low) / 2 in
+    let middle = c.place_to_look-middle.result in
     let d = queued_of c.get.result in
     let few = length-map entries queued_of in
     let read =
@@ -20,7 +20,7 @@ loop-low-preserved-then-is_reached c =
 pub loop-low-preserved : goal.loop-low-preserved
 loop-low-preserved c =
     let entries = c.args.ring.now.entries in
-    let middle = c.loop-low.low + (c.loop-low.high - c.loop-low.low) / 2 in
+    let middle = c.place_to_look-middle.result in
     let d = queued_of c.get.result in
     let few = length-map entries queued_of in
     let read =
