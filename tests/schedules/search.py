@@ -34,7 +34,7 @@ BODY = {
                     self.speak(seat, slept);
                     return Turn::Done(());
                 }
-            } else if looks < LOOKS && !self.may_sleep() {
+            } else if looks < LOOKS {
                 looks += 1;
                 spin_loop();
             } else {
@@ -136,11 +136,9 @@ class Now:
             return [(queue, me._replace(at="see"), None)]
         return [(queue._replace(word=queue.word + 1), self.taken(me), None)]
 
-    @line("} else if looks < LOOKS && !self.may_sleep() {")
+    # it looks again, or no more: that reads nothing that is shared
     def look(self, queue, me):
         sleeps = (queue, me._replace(slept=True, at="say"), None)
-        if queue.may_sleep:
-            return [sleeps]
         return [sleeps, (queue, me._replace(at="see"), None)]
 
     # sleep

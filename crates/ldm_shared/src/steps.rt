@@ -33,7 +33,8 @@ const MAY_SLEEP: usize = 1;
 // The first word where it counts so many calls, with no turn taken.
 const WORN: u64 = 2 * MOST_TURNS;
 
-// How often a caller looks at a turn that is taken before it sleeps, where no other sleeps yet.
+// How often a caller looks at a turn that is taken before it sleeps. It looks as often where others sleep: else one that
+// slept would have all that meet it sleep, and each be woken by a call of the system.
 const LOOKS: u32 = 100;
 
 impl Shared {
@@ -153,7 +154,7 @@ impl Shared {
                     self.speak(seat, slept);
                     return Turn::Done(());
                 }
-            } else if looks < LOOKS && !self.may_sleep() {
+            } else if looks < LOOKS {
                 looks += 1;
                 spin_loop();
             } else {
