@@ -52,6 +52,11 @@ WriteGives (put.Took n) piece old new = (n ≤ length piece) × (0 < length piec
 -- the sink failed, and took nothing
 WriteGives put.Failed piece old new = Rose old.faults new.faults × (new.written ≡ old.written)
 
+-- What one call of `flush` did: nothing more was taken. Where it failed, some of what was taken may not have been handed on.
+abbrev pub FlushGives : Result (Unit {0}) SinkFailed → SinkRecord → SinkRecord → Type 0
+FlushGives (Ok done) old new = new ≡ old
+FlushGives (Err failed) old new = Rose old.faults new.faults × (new.written ≡ old.written)
+
 -- What writing a whole piece did: all of it was taken; or the sink failed, after a front of it.
 abbrev pub WritesAll : Result (Unit {0}) SinkFailed → List ℕ → SinkRecord → SinkRecord → Type 0
 WritesAll (Ok done) piece old new = Takes old piece new

@@ -1,5 +1,5 @@
 //! Streams of bytes: where they come from and where they go.
-ghost use Rattle.std.specs.Prelude.{◌<◌, ◌≤◌, length};
+ghost use Rattle.std.specs.Prelude.{◌≡◌, ◌<◌, ◌≤◌, length};
 ghost use Rattle.ldm_outside.specs.Io.{SourceRecord, SinkRecord, WritesAll};
 
 /// What a source gave.
@@ -42,7 +42,7 @@ pub trait Source {
 
 /// A stream that bytes are written to.
 pub trait Sink {
-    ghost use Rattle.ldm_outside.specs.Io.{WriteGives};
+    ghost use Rattle.ldm_outside.specs.Io.{WriteGives, FlushGives};
 
     /// What it tells: all bytes that it took, if it tells these, and how often it failed. The count stands still at
     /// the end of `u64`.
@@ -54,6 +54,17 @@ pub trait Sink {
     fn write(&mut self, piece: &[u8]) -> Put
         ensures taken { WriteGives result piece.now (tells self.old) (tells self.new) }
         ensures faults_kept { (tells self.old).faults ≤ (tells self.new).faults };
+
+    /// Lets it keep back, from now on, what it took, until [`Sink::flush`]: so that many small pieces take few calls of
+    /// the system. Who calls this flushes it before it waits for anybody, and at the end.
+    fn gather(&mut self)
+        ensures { tells self.new ≡ tells self.old };
+
+    /// Hands on what it kept back.
+    ///
+    /// Where it fails, a front of that was handed on.
+    fn flush(&mut self) -> Result<(), SinkFailed>
+        ensures { FlushGives result (tells self.old) (tells self.new) };
 }
 
 /// A sink failed, and its count of faults rose.

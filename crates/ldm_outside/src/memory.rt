@@ -3,7 +3,7 @@ ghost use Rattle.std.specs.Prelude.{◌≡◌, ◌<◌, ◌≤◌, [], length, t
 ghost use Rattle.ldm_outside.specs.Memory.{first_plan, with_most};
 
 use crate::calls::Calls;
-use crate::io::{Got, Put, Sink, Source};
+use crate::io::{Got, Put, Sink, SinkFailed, Source};
 use std::alloc::Global;
 use std::marker::Model;
 
@@ -111,7 +111,7 @@ pub(crate) fn copy_front(bytes: &[u8], most: usize, into: &mut [u8]) -> usize
 /// A sink that keeps what it takes. Its calls are numbered from 1, and those of the numbers in a list fail.
 ///
 /// Without memory for what it is to keep, a call fails too. A call that does not fail takes as much of the piece as
-/// the limit allows.
+/// the limit allows. It keeps nothing back, and to flush it is no call.
 #[derive(Drop)]
 pub struct MemSink {
     written: Vec<u8>,
@@ -166,6 +166,7 @@ impl MemSink {
 
 impl Sink for MemSink {
     ghost use Rattle.ldm_outside.specs.Io.{WriteGives};
+    ghost use Rattle.std.specs.Prelude.{Ok};
     ghost use Rattle.ldm_outside.specs.Memory.{told_by_sink, WritesAsPlanned};
 
     ghost tells = { told_by_sink };
@@ -184,5 +185,16 @@ impl Sink for MemSink {
             return Put::Failed;
         }
         Put::Took(n)
+    }
+
+    fn gather(&mut self)
+        ensures { self.new ≡ self.old }
+    {}
+
+    fn flush(&mut self) -> Result<(), SinkFailed>
+        ensures done { result ≡ Ok tt }
+        ensures same { self.new ≡ self.old }
+    {
+        Ok(())
     }
 }

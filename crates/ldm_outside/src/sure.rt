@@ -1,7 +1,7 @@
 //! The forms that never fail: their count of faults is the constant 0.
 ghost use Rattle.std.specs.Prelude.{◌≡◌, ◌<◌, ◌≤◌, length, drop};
 
-use crate::io::{Got, Put, Sink, Source};
+use crate::io::{Got, Put, Sink, SinkFailed, Source};
 use crate::memory::copy_front;
 use std::marker::Model;
 
@@ -66,6 +66,7 @@ impl Source for SureSource {
 pub struct SureSink;
 
 impl Sink for SureSink {
+    ghost use Rattle.std.specs.Prelude.{Ok};
     ghost use Rattle.ldm_outside.specs.Io.{WriteGives};
     ghost use Rattle.ldm_outside.specs.Memory.{told_by_sure_sink};
 
@@ -76,5 +77,13 @@ impl Sink for SureSink {
         ensures whole { result ≡ Put.Took (length piece.now) }
     {
         Put::Took(piece.len())
+    }
+
+    fn gather(&mut self) {}
+
+    fn flush(&mut self) -> Result<(), SinkFailed>
+        ensures { result ≡ Ok tt }
+    {
+        Ok(())
     }
 }

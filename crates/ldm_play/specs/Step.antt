@@ -1,5 +1,5 @@
 -- What the steps of a play do: an order, a line, a piece of the script, the end of the script.
-use Rattle.std.specs.Prelude.{◌≡◌, ℕ, ◌+◌, ◌≤◌, List, true, false, length, Some, None, Result, Ok, Err}
+use Rattle.std.specs.Prelude.{◌≡◌, ◌⊎◌, ℕ, ◌+◌, ◌≤◌, List, true, false, length, Some, None, Result, Ok, Err}
 use Rattle.ldm_outside.specs.Count.{Rose}
 use Rattle.ldm_outside.specs.Io.{SinkRecord, Takes, WritesFront}
 use Rattle.ldm_script.specs.declared.line.TheConstants.{LONGEST_LINE}
@@ -52,3 +52,8 @@ pub record AnswersScript (p : Playing) (script : List ℕ) (player : PlayerView)
 abbrev pub EndGives : Result (Unit {0}) LineFault → Playing → List ℕ → PlayerView → SinkRecord → SinkRecord → Type 0
 EndGives (Ok done) p script player old new = AnswersScript p script player old new
 EndGives (Err why) p script player old new = StopsAt why p (known_lines true script) old new
+
+-- What was played is handed on: all of it; or the sink failed, and took no more.
+abbrev pub IsFlushed : (result played : Result (Unit {0}) LineFault) → SinkRecord → SinkRecord → Type 0
+IsFlushed result played old new =
+    ((result ≡ played) × (new ≡ old)) ⊎ ((result ≡ Err stop.SinkFault) × Rose old.faults new.faults × (new.written ≡ old.written))

@@ -8,7 +8,7 @@ ghost use Rattle.ldm_play.specs.PlayerView.{StandsForPlay};
 ghost use Rattle.ldm_play.specs.PendingView.{fresh_line};
 ghost use Rattle.ldm_play.specs.Ending.{PlayEnds};
 ghost use Rattle.ldm_play.specs.OnBook.{PlaysOn, beside};
-ghost use Rattle.ldm_play.specs.Step.{GoesOn, LineGives, PieceGives, EndGives};
+ghost use Rattle.ldm_play.specs.Step.{GoesOn, LineGives, PieceGives, EndGives, IsFlushed};
 ghost use Rattle.ldm_play.specs.Law.{ObeysPlayLaw};
 ghost use Rattle.ldm_play.specs.Run.{Plays};
 ghost use Rattle.ldm_play.specs.Complete.{Completes};
@@ -19,7 +19,7 @@ use crate::player::{LineFault, Player};
 use crate::statuses::status_of;
 use ldm_book::{Book, CreateFault};
 use ldm_calls::histories_are_lawful;
-use ldm_outside::{Got, Sink, Source};
+use ldm_outside::{Got, Sink, SinkFailed, Source};
 use ldm_script::LONGEST_LINE;
 use ldm_status::Streams;
 use memchr::memchr;
@@ -92,8 +92,37 @@ fn end_line<K: Sink>(
     Ok(())
 }
 
-// Plays the lines that end in a piece of the script, and keeps what is left of it.
+// Hands on what the sink kept back of the answers, however the lines were played. That it failed comes first.
+fn flushed<K: Sink>(played: Result<(), LineFault>, sink: &mut K) -> Result<(), LineFault>
+    ensures flushed { IsFlushed result played (K.tells sink.old) (K.tells sink.new) }
+    ensures faults_kept { (K.tells sink.old).faults ≤ (K.tells sink.new).faults }
+{
+    match sink.flush() {
+        Ok(()) => played,
+        Err(SinkFailed) => Err(LineFault::SinkFault),
+    }
+}
+
+// Plays the lines that end in a piece of the script, and keeps what is left of it. Their answers are handed on then.
 fn play_piece<K: Sink>(
+    player: &mut Player,
+    pending: &mut Pending,
+    piece: &[u8],
+    sink: &mut K,
+) -> Result<(), LineFault>
+    requires { pending.old.number + length piece.now < 2 ^ 64 }
+    ensures played { (p : Playing) (script : List ℕ) (before : SinkRecord)
+        → GoesOn p script player.old pending.old before (K.tells sink.old) →
+        PieceGives result p (script ++ piece.now) player.new pending.new before (K.tells sink.new) }
+    ensures number { OnOk result (pending.new.number ≤ pending.old.number + length piece.now) }
+    ensures faults_kept { (K.tells sink.old).faults ≤ (K.tells sink.new).faults }
+{
+    let played = play_lines(player, pending, piece, sink);
+    flushed(played, sink)
+}
+
+// Plays the lines that end in a piece of the script, and keeps what is left of it.
+fn play_lines<K: Sink>(
     player: &mut Player,
     pending: &mut Pending,
     piece: &[u8],
@@ -117,8 +146,19 @@ fn play_piece<K: Sink>(
     Ok(())
 }
 
-// Plays the last line of a script, which no newline ends.
+// Plays the last line of a script, which no newline ends. Its answer is handed on then.
 fn play_last<K: Sink>(player: &mut Player, pending: &Pending, sink: &mut K) -> Result<(), LineFault>
+    ensures played { (p : Playing) (script : List ℕ) (before : SinkRecord)
+        → GoesOn p script player.old pending.now before (K.tells sink.old) →
+        EndGives result p script player.new before (K.tells sink.new) }
+    ensures faults_kept { (K.tells sink.old).faults ≤ (K.tells sink.new).faults }
+{
+    let played = play_rest(player, pending, sink);
+    flushed(played, sink)
+}
+
+// Plays the last line of a script, which no newline ends.
+fn play_rest<K: Sink>(player: &mut Player, pending: &Pending, sink: &mut K) -> Result<(), LineFault>
     ensures played { (p : Playing) (script : List ℕ) (before : SinkRecord)
         → GoesOn p script player.old pending.now before (K.tells sink.old) →
         EndGives result p script player.new before (K.tells sink.new) }
@@ -130,8 +170,29 @@ fn play_last<K: Sink>(player: &mut Player, pending: &Pending, sink: &mut K) -> R
     player.play_line(pending.number(), pending.as_slice(), sink)
 }
 
-// Reads the script piece by piece, up to its end or its limit, and plays its lines.
+// Plays a script. The sink gathers its answers, which are handed on before more of the script is read: so that who writes a
+// line sees its answer, and many lines that come at once take few calls of the system.
 pub(crate) fn play_script<S: Source, K: Sink>(
+    player: &mut Player,
+    pending: &mut Pending,
+    piece: &mut [u8],
+    source: &mut S,
+    sink: &mut K,
+) -> ScriptEnd
+    requires room { 0 < length piece.old }
+    requires fresh { pending.old ≡ fresh_line 1 }
+    ensures plays { (p : Playing) (log_before log_after : SinkRecord) → StandsForPlay player.old p →
+        PlaysOn result p player.new.book (beside log_before (S.tells source.old) (K.tells sink.old))
+        (beside log_after (S.tells source.new) (K.tells sink.new)) }
+    ensures source_faults_kept { (S.tells source.old).faults ≤ (S.tells source.new).faults }
+    ensures sink_faults_kept { (K.tells sink.old).faults ≤ (K.tells sink.new).faults }
+{
+    sink.gather();
+    play_pieces(player, pending, piece, source, sink)
+}
+
+// Reads the script piece by piece, up to its end or its limit, and plays its lines.
+fn play_pieces<S: Source, K: Sink>(
     player: &mut Player,
     pending: &mut Pending,
     piece: &mut [u8],

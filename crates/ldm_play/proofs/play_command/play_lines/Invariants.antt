@@ -2,7 +2,7 @@ use Rattle.std.proofs.Common.{◌≡◌, ◌+◌, ◌≤◌, ℕ, List, ◌++◌
 use Rattle.ldm_outside.specs.Io.{SinkRecord}
 use Rattle.ldm_script.specs.Resolve.{Playing}
 use Rattle.ldm_play.specs.Step.{GoesOn}
-use Rattle.ldm_play.proofs.play_command.play_piece.Given as goal
+use Rattle.ldm_play.proofs.play_command.play_lines.Given as goal
 
 abbrev pub invariant-loop-at : goal.invariant-loop-at
 invariant-loop-at g l = record {

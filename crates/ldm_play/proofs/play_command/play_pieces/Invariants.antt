@@ -4,7 +4,7 @@ use Rattle.ldm_script.specs.Resolve.{Playing}
 use Rattle.ldm_play.specs.declared.play_command.TheConstants.{SCRIPT_LIMIT}
 use Rattle.ldm_play.specs.PlayerView.{StandsForPlay}
 use Rattle.ldm_play.specs.Step.{GoesOn}
-use Rattle.ldm_play.proofs.play_command.play_script.Given as goal
+use Rattle.ldm_play.proofs.play_command.play_pieces.Given as goal
 
 abbrev pub invariant-loop-taken : goal.invariant-loop-taken
 invariant-loop-taken g l = record {

@@ -6,7 +6,7 @@ use Rattle.ldm_play.specs.PendingView.{PendingView}
 use Rattle.ldm_play.proofs.GoesOnLemmas.{GoesOn-nothing, answers_known_lines}
 use Rattle.ldm_play.specs.OnBook.{beside}
 use Rattle.ldm_play.proofs.PlaysScriptLemmas.{all_answered, stopped_within, stopped_short, failed_short, too_much}
-use Rattle.ldm_play.proofs.play_command.play_script.Goals as goal
+use Rattle.ldm_play.proofs.play_command.play_pieces.Goals as goal
 
 pub loop-taken-init : goal.loop-taken-init
 loop-taken-init g c = record {
