@@ -204,6 +204,11 @@ class Node:
             raise Wrong("the instants of insertion do not rise")
         return first
 
+    def seconds(self):
+        """The processor's time that it took."""
+        fields = pathlib.Path(f"/proc/{self.program.pid}/stat").read_text().rpartition(")")[2].split()
+        return (int(fields[11]) + int(fields[12])) / os.sysconf("SC_CLK_TCK")
+
     def descriptors(self):
         return len(os.listdir(f"/proc/{self.program.pid}/fd"))
 
@@ -1873,6 +1878,45 @@ def starts_anew(place):
     node.until_stat(6, 6, 0)
 
 
+# Subscribers that wait
+
+
+def wakes_who_waits(place):
+    """A product that comes to an idle node is sent to a subscriber at once, by the node and by one that requests it from the node. Who is not
+    woken looks every half second: a quarter of a second in the middle."""
+    one = place.node(OPEN)
+    two = place.node(f"REQUEST ANY .* {one.at}\nALLOW ANY .*\n")
+    for i, node in enumerate((one, two)):
+        with one.connect() as source, node.connect() as subscriber:
+            expect(subscriber.subscribe([(ANY, f"^{i}".encode())]), number(OK), "the answer to a FEEDME")
+            took = []
+            for j in range(24):
+                time.sleep(0.2 + 0.001 * (17 * j % 50))
+                product = Product(b"%d %d" % (i, j), b"the body of %d %d" % (i, j))
+                began = time.monotonic()
+                expect(source.put(product)[0], ADMITTED, "the answer to a PUT")
+                expect_products([subscriber.next_product()], [product], "what a subscriber that waits is sent")
+                if j >= 4:
+                    took.append(time.monotonic() - began)
+        if sorted(took)[10] > 0.1:
+            raise Wrong(f"subscribers of node {i + 1} waited {sorted(took)[10]:.3f} seconds in the middle")
+
+
+def waits_cheaply(place):
+    """Sixty subscribers to which nothing comes take little of the processor."""
+    node = place.node(OPEN, "-w", 62)
+    with contextlib.ExitStack() as stack:
+        for _ in range(60):
+            peer = stack.enter_context(node.connect())
+            expect(peer.subscribe([(ANY, b".*")]), number(OK), "the answer to a FEEDME")
+        time.sleep(1)
+        before = node.seconds()
+        time.sleep(5)
+        took = node.seconds() - before
+    if took > 0.1:
+        raise Wrong(f"60 subscribers that wait took {took:.2f} seconds of 5")
+
+
 CASES = [
     relays_what_is_due,
     resumes_a_cut_session,
@@ -1882,6 +1926,8 @@ CASES = [
     feeds_both_ways,
     serves_two_at_once,
     starts_anew,
+    wakes_who_waits,
+    waits_cheaply,
     answers_wrong_calls,
     takes_no_part_of_a_call,
     keeps_the_rules_of_a_receiving,

@@ -16,7 +16,8 @@ use std::rt::HostRuntime;
 fn answer(rt: HostRuntime, trial: &mut Trial) {
     match trial.word() {
         "source" => streams::source(trial),
-        "sink" => streams::sink(trial),
+        "sink" => streams::sink(trial, false),
+        "gathered" => streams::sink(trial, true),
         "disk" => disk::disk(rt, trial),
         "file" => file::file(rt, trial),
         "shell" => system::run_shell(rt, trial),

@@ -4,7 +4,7 @@ ghost use Rattle.std.specs.Prelude.{◌≤◌, IfOk};
 use ldm_adapters::{RealSink, RealSource};
 use ldm_drive::Trial;
 use ldm_drive_outside::{push, reads, tell_bytes, tell_count, tell_word, writes};
-use ldm_outside::write_all;
+use ldm_outside::{Sink, write_all};
 use std::io::{self, ErrorKind, Read, Write};
 use std::slice;
 
@@ -101,24 +101,37 @@ fn read_of<R: Read + Drop>(trial: &mut Trial, reader: R) {
 }
 
 /// `sink bytes WHOLE PIECE ..`, `sink script ANSWERS WHOLE PIECE ..`: one call for each piece, and then WHOLE is
-/// written whole.
-pub fn sink(trial: &mut Trial) {
+/// written whole. `gathered` in place of `sink`: the sink gathers first, and is flushed twice in the end.
+pub fn sink(trial: &mut Trial, gathers: bool) {
     if trial.word() == "bytes" {
-        let mut sink = RealSink::new(Vec::new(trial.alloc()));
-        write_of(trial, &mut sink);
+        let mut sink = RealSink::new(trial.alloc(), Vec::new(trial.alloc()));
+        write_of(trial, &mut sink, gathers);
         return tell_bytes(trial, sink.into_writer().as_slice());
     }
     let answers = answers(trial);
-    let mut sink = RealSink::new(Scripted {
-        answers: answers.iter(),
-    });
-    write_of(trial, &mut sink);
+    let mut sink = RealSink::new(
+        trial.alloc(),
+        Scripted {
+            answers: answers.iter(),
+        },
+    );
+    write_of(trial, &mut sink, gathers);
 }
 
-fn write_of<W: Write>(trial: &mut Trial, sink: &mut RealSink<W>) {
+fn write_of<W: Write>(trial: &mut Trial, sink: &mut RealSink<W>, gathers: bool) {
+    if gathers {
+        sink.gather();
+    }
     let whole = trial.word();
     writes(trial, sink);
-    let is_whole = write_all(sink, whole.as_bytes()).is_ok();
-    tell_word(trial, if is_whole { "ok" } else { "failed" });
+    tell_done(trial, write_all(sink, whole.as_bytes()).is_ok());
+    if gathers {
+        tell_done(trial, sink.flush().is_ok());
+        tell_done(trial, sink.flush().is_ok());
+    }
     tell_count(trial, "faults", sink.faults());
+}
+
+fn tell_done(trial: &mut Trial, is_done: bool) {
+    tell_word(trial, if is_done { "ok" } else { "failed" });
 }

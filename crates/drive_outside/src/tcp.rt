@@ -279,7 +279,27 @@ fn idles_for<G: Gate>(rt: HostRuntime, gate: &mut G) -> u64 {
     ask(&mut clock).get().saturating_sub(before)
 }
 
-// Whether an idle call is short that comes after bytes came over the link.
+// How long an idle call takes at least that nothing cuts short, in microseconds, and any other at most.
+const LONG: u64 = 450_000;
+
+// Whether an idle call takes its whole time though bytes came over the link, where nobody has come back to it yet.
+fn is_not_cut_short<F: Link, T: Link, G: Gate>(
+    rt: HostRuntime,
+    from: &mut F,
+    to: &mut T,
+    gate: &mut G,
+) -> bool
+    requires from { IsNotClosed (F.tells from.old) }
+    requires to { IsNotClosed (T.tells to.old) }
+    ensures from { IsNotClosed (F.tells from.new) }
+    ensures to { IsNotClosed (T.tells to.new) }
+{
+    let _ = from.send(b"a");
+    let _ = listen(to);
+    idles_for(rt, gate) >= LONG
+}
+
+// Whether an idle call is short that comes after who had bytes that came came back to the link.
 fn is_cut_short<F: Link, T: Link, G: Gate>(
     rt: HostRuntime,
     from: &mut F,
@@ -293,10 +313,12 @@ fn is_cut_short<F: Link, T: Link, G: Gate>(
 {
     let _ = from.send(b"a");
     let _ = listen(to);
-    idles_for(rt, gate) < 45_000
+    let _ = to.send(b"b");
+    idles_for(rt, gate) < LONG
 }
 
-// A station of a net that let a peer in: its gate sleeps its whole time, but where bytes came.
+// A station of a net that let a peer in: its gate sleeps its whole time, but where a link has done with bytes that
+// came.
 fn busy(rt: HostRuntime, trial: &mut Trial) {
     let Some(port) = free_port(rt) else {
         return trial.refuse("the system failed");
@@ -313,7 +335,9 @@ fn busy(rt: HostRuntime, trial: &mut Trial) {
     let Came::Peer { mut link, .. } = station.door.accept() else {
         return trial.refuse("the system failed");
     };
-    let slept = idles_for(rt, &mut station.gate) >= 45_000;
+    let slept = idles_for(rt, &mut station.gate) >= LONG;
+    tell_word(trial, if slept { "slept" } else { "awake" });
+    let slept = is_not_cut_short(rt, &mut peer, &mut link, &mut station.gate);
     tell_word(trial, if slept { "slept" } else { "awake" });
     // a machine with much other work may be slow to wake it
     let is_short = is_cut_short(rt, &mut peer, &mut link, &mut station.gate)

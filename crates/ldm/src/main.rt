@@ -26,8 +26,8 @@ fn main(rt: HostRuntime) -> ExitCode {
     let mut world = World {
         streams: Streams {
             source: RealSource::new(rt.stdin()),
-            sink: RealSink::new(rt.stdout()),
-            log: RealSink::new(rt.stderr()),
+            sink: RealSink::new(rt.alloc(), rt.stdout()),
+            log: RealSink::new(rt.alloc(), rt.stderr()),
         },
         clock: RealClock::new(rt),
         store: RealStore::new(rt),

@@ -1,17 +1,20 @@
-//! What cuts the sleep of a gate short, and what makes it longer.
+//! What cuts the rest of a gate short, and what makes it longer.
 
+use crate::bell::Bell;
 use std::alloc::{AllocError, Global};
+use std::io;
+use std::rt::HostRuntime;
 use std::sync::Arc;
 use std::sync::atomic::{AtomicBool, AtomicU64, Ordering};
 
-/// What the stations of a net share: how often bytes came over one of their links. A product may be queued then, so the
-/// gates of those stations that feed look sooner.
+/// What the stations of a net share: a bell, which is rung where one of their links has done with bytes that came. A
+/// product may have been queued then, so it wakes the gates of those stations that feed.
 ///
 /// Only a station whose door let a peer in feeds. Who asks for products at a dial waits its whole time before it asks
 /// again: the longer, the more tries of this station in a row came to nothing.
 #[derive(Drop)]
 pub struct Beats {
-    count: Arc<AtomicU64>,
+    bell: Arc<Bell>,
     // Whether the door of this station let a peer in.
     serves: Arc<AtomicBool>,
     // How many tries of this station in a row came to nothing.
@@ -20,64 +23,112 @@ pub struct Beats {
 
 impl Beats {
     /// For the first station of a net.
-    pub fn new(alloc: Global) -> Result<Beats, AllocError> {
+    pub(crate) fn new(rt: HostRuntime) -> io::Result<Beats> {
         Ok(Beats {
-            count: Arc::new(alloc, AtomicU64::new(0))?,
-            serves: Arc::new(alloc, AtomicBool::new(false))?,
-            misses: Arc::new(alloc, AtomicU64::new(0))?,
+            bell: Arc::new(rt.alloc(), Bell::new(rt)?)?,
+            serves: Arc::new(rt.alloc(), AtomicBool::new(false))?,
+            misses: Arc::new(rt.alloc(), AtomicU64::new(0))?,
         })
     }
 
     /// For one station more.
-    pub fn beside(&self, alloc: Global) -> Result<Beats, AllocError> {
+    pub(crate) fn beside(&self, alloc: Global) -> Result<Beats, AllocError> {
         Ok(Beats {
-            count: Arc::try_clone(&self.count)?,
+            bell: Arc::try_clone(&self.bell)?,
             serves: Arc::new(alloc, AtomicBool::new(false))?,
             misses: Arc::new(alloc, AtomicU64::new(0))?,
         })
     }
 
     /// For another part of the same station.
-    pub fn share(&self) -> Result<Beats, AllocError> {
+    pub(crate) fn share(&self) -> Result<Beats, AllocError> {
         Ok(Beats {
-            count: Arc::try_clone(&self.count)?,
+            bell: Arc::try_clone(&self.bell)?,
             serves: Arc::try_clone(&self.serves)?,
             misses: Arc::try_clone(&self.misses)?,
         })
     }
 
     /// The door let a peer in.
-    pub fn serve(&self) {
+    pub(crate) fn serve(&self) {
         self.serves.store(true, Ordering::SeqCst);
     }
 
     /// Whether the door let a peer in.
-    pub fn serves(&self) -> bool {
+    pub(crate) fn serves(&self) -> bool {
         self.serves.load(Ordering::SeqCst)
     }
 
-    /// Bytes came.
-    pub fn beat(&self) {
-        let _ = self.count.fetch_add(1, Ordering::SeqCst);
+    /// What is rung.
+    pub(crate) fn bell(&self) -> &Bell {
+        &self.bell
     }
 
-    /// How often bytes came.
-    pub fn count(&self) -> u64 {
-        self.count.load(Ordering::SeqCst)
+    /// A link has done with bytes that came.
+    pub(crate) fn beat(&self) {
+        self.bell.ring();
+    }
+
+    /// How often a link had.
+    pub(crate) fn count(&self) -> u64 {
+        self.bell.rings()
     }
 
     /// A try of the dial came to nothing.
-    pub fn miss(&self) {
+    pub(crate) fn miss(&self) {
         let _ = self.misses.fetch_add(1, Ordering::SeqCst);
     }
 
     /// A try of the dial came to a session.
-    pub fn hit(&self) {
+    pub(crate) fn hit(&self) {
         self.misses.store(0, Ordering::SeqCst);
     }
 
     /// How many tries of the dial came to nothing since one came to a session.
-    pub fn misses(&self) -> u64 {
+    pub(crate) fn misses(&self) -> u64 {
         self.misses.load(Ordering::SeqCst)
+    }
+}
+
+/// When a link beats.
+///
+/// It does not as bytes come, since what is in them is not queued yet. Whoever has the link takes them first, and then
+/// comes back to it, to receive more, to send an answer or to close it: then it beats, before it does anything else. An
+/// answer to a product is sent once that is queued; a product that is answered by nothing is queued before more is
+/// received.
+#[derive(Drop)]
+pub struct Pulse {
+    beats: Option<Beats>,
+    // Whether bytes came since the last beat.
+    is_owed: bool,
+}
+
+impl Pulse {
+    /// Of a link over which nothing came.
+    pub(crate) fn new(beats: Option<Beats>) -> Pulse {
+        Pulse {
+            beats,
+            is_owed: false,
+        }
+    }
+
+    /// Bytes came.
+    pub(crate) fn owe(&mut self) {
+        self.is_owed = true;
+    }
+
+    /// The link is come back to.
+    pub(crate) fn settle(&mut self) {
+        self.end();
+        self.is_owed = false;
+    }
+
+    /// The link is not come back to.
+    pub(crate) fn end(&self) {
+        if let Some(beats) = &self.beats
+            && self.is_owed
+        {
+            beats.beat();
+        }
     }
 }

@@ -40,7 +40,7 @@ impl RealDial {
         RealDial::beating(rt, timeouts, None)
     }
 
-    /// The same, over whose links each piece that comes is a beat.
+    /// The same, whose links beat.
     pub(crate) fn beating(rt: HostRuntime, timeouts: Timeouts, beats: Option<Beats>) -> RealDial
         ensures { IsNewDial (told_by_dial result) }
     {

@@ -68,8 +68,7 @@ impl RealDoor {
         RealDoor::made(Entry::Listener(listener), timeouts, None)
     }
 
-    /// A door where those of a lobby come in who spoke, over links that wait no longer than this, and of which each
-    /// piece that comes is a beat.
+    /// A door where those of a lobby come in who spoke, over links that wait no longer than this, and beat.
     pub(crate) fn of_lobby(way: Way, timeouts: Timeouts, beats: Beats) -> RealDoor
         ensures { IsNewDoor (told_by_door result) }
     {

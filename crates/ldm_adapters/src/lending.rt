@@ -37,6 +37,7 @@ impl RealLending {
     pub(crate) fn take_back(&mut self, link: RealLink)
         ensures { TakesBack (told_by_link link) (told_by_lending self.old) (told_by_lending self.new) }
     {
+        link.end();
         if link.ended() {
             self.ended = self.ended.saturating_add(1);
         }

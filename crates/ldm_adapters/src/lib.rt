@@ -7,6 +7,7 @@
 #![tactic(auto)]
 
 mod beats;
+mod bell;
 mod children;
 mod clock;
 mod dials;
@@ -22,6 +23,7 @@ mod lobby;
 mod net;
 mod pace;
 mod processes;
+mod resting;
 mod seats;
 mod standard;
 mod streams;
@@ -33,9 +35,7 @@ pub use dials::{RealDial, SESSION_SECONDS};
 pub use disk::RealDisk;
 pub use doors::RealDoor;
 pub use files::RealStore;
-pub use gate::{
-    BUSY_MILLISECONDS, IDLE_MILLISECONDS, LONGEST_REST_SECONDS, LOOK_MILLISECONDS, RealGate,
-};
+pub use gate::RealGate;
 pub use keeper::NO_ROOM_SECONDS;
 pub use lending::RealLending;
 pub use limited::PEER_MILLISECONDS;
@@ -45,6 +45,10 @@ pub use links::{
 };
 pub use net::{RealNet, RealStation};
 pub use pace::SLOWEST_RATE;
+pub use resting::{
+    BUSY_MILLISECONDS, CALM_MILLISECONDS, FIRST_BUSY_MICROSECONDS, IDLE_MILLISECONDS,
+    LONGEST_REST_SECONDS, QUIET_MILLISECONDS,
+};
 pub use standard::StandardStreams;
-pub use streams::{RealSink, RealSource};
+pub use streams::{MOST_GATHERED, RealSink, RealSource};
 pub use waiting::{FIRST_BYTES_SECONDS, WAITING_MOST, WAITING_OF_ONE_ADDRESS};

@@ -1,6 +1,6 @@
 //! Links over TCP.
 
-use crate::beats::Beats;
+use crate::beats::{Beats, Pulse};
 use crate::limited::LimitedStream;
 use ldm_outside::{Awaited, Got, Link, LinkFailed, Put};
 use std::io;
@@ -71,7 +71,7 @@ impl Timeouts {
 #[derive(Drop)]
 pub struct RealLink {
     stream: LimitedStream,
-    beats: Option<Beats>,
+    pulse: Pulse,
     ends: u64,
     faults: u64,
     closed: bool,
@@ -82,8 +82,8 @@ impl RealLink {
     ghost use Rattle.ldm_outside.specs.Link.{IsFresh};
     ghost use Rattle.ldm_adapters.specs.Told.{told_by_link};
 
-    /// A link of the stream, which waits no longer than this, and sends each piece at once where the system can. Each
-    /// piece that comes is a beat.
+    /// A link of the stream, which waits no longer than this, and sends each piece at once where the system can. It
+    /// beats when it has done with bytes that came.
     pub(crate) fn new(
         stream: TcpStream,
         timeouts: Timeouts,
@@ -93,11 +93,16 @@ impl RealLink {
     {
         Ok(RealLink {
             stream: LimitedStream::new(stream, timeouts)?,
-            beats,
+            pulse: Pulse::new(beats),
             ends: 0,
             faults: 0,
             closed: false,
         })
+    }
+
+    // It is given back.
+    pub(crate) fn end(&self) {
+        self.pulse.end();
     }
 
     // Whether it ended, and whether it failed.
@@ -120,13 +125,10 @@ impl Link for RealLink {
     ghost tells = { told_by_link };
 
     fn recv(&mut self, into: &mut [u8], awaited: Awaited) -> Got {
+        self.pulse.settle();
         let got = self.stream.receive(into, awaited);
         match got {
-            Got::Bytes(_) => {
-                if let Some(beats) = &self.beats {
-                    beats.beat();
-                }
-            }
+            Got::Bytes(_) => self.pulse.owe(),
             Got::End => self.ends = self.ends.saturating_add(1),
             Got::Failed => self.faults = self.faults.saturating_add(1),
         }
@@ -134,6 +136,7 @@ impl Link for RealLink {
     }
 
     fn send(&mut self, piece: &[u8]) -> Put {
+        self.pulse.settle();
         let put = self.stream.send(piece);
         if put == Put::Failed {
             self.faults = self.faults.saturating_add(1);
@@ -150,6 +153,7 @@ impl Link for RealLink {
     }
 
     fn close(&mut self) {
+        self.pulse.settle();
         self.stream.close();
         self.closed = true;
     }

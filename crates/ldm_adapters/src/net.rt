@@ -11,6 +11,7 @@ use crate::doors::RealDoor;
 use crate::gate::RealGate;
 use crate::links::{RealLink, Timeouts};
 use crate::lobby::{Lobby, Way};
+use crate::resting::Resting;
 use crate::streams::RealSink;
 use ldm_outside::{Dial, Dialled, Manned, Net, Station};
 use std::io::{self, ErrorKind};
@@ -34,9 +35,9 @@ fn station(
     Ok(Station {
         door: RealDoor::of_lobby(Way::new(lobby)?, timeouts, beats.share()?),
         dial: RealDial::beating(rt, timeouts, Some(beats.share()?)),
-        log: RealSink::new(rt.stderr()),
+        log: RealSink::new(rt.alloc(), rt.stderr()),
         clock: RealClock::new(rt),
-        gate: RealGate::beating(rt, idles, Some(beats)),
+        gate: RealGate::resting(rt, idles, Some(Resting::new(rt, beats)?)),
     })
 }
 
@@ -62,7 +63,7 @@ fn man(
     ensures new { IfOk result (λ made. All (λ one. IsNew idles (told_by_station one)) made.items) }
 {
     let lobby = Arc::new(rt.alloc(), Lobby::new(rt, listen(rt, port)?)?)?;
-    let beats = Beats::new(rt.alloc())?;
+    let beats = Beats::new(rt)?;
     let mut made = Vec::with_capacity(rt.alloc(), count as usize)?;
     for _ in 0..count {
         let beats = beats.beside(rt.alloc())?;

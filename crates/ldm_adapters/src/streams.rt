@@ -1,14 +1,19 @@
-//! Streams of the system, as sources and sinks. They hold no byte back: a call of theirs is a call of the reader or the
-//! writer, which is made again where a signal interrupted it.
-ghost use Rattle.std.specs.Prelude.{◌≡◌, ◌≢◌, ◌≤◌, ◌<◌, ◌==◌, ◌||◌, not, length, take};
+//! Streams of the system, as sources and sinks. A call of theirs is a call of the reader or the writer, which is made again
+//! where a signal interrupted it; but a sink that gathers holds back what it took until there is much of it, or until it is
+//! flushed.
+ghost use Rattle.std.specs.Prelude.{◌≡◌, ◌≢◌, ◌≤◌, ◌<◌, ◌==◌, ◌||◌, ◌++◌, [], true, false, not, length, take, OnOk};
 ghost use Rattle.std.specs.Prelude.{MatchResult, IfOk, IfErr, OnErr, if◌then◌else◌};
 ghost use Rattle.std.specs.IoError.{error_kind};
 ghost use Rattle.std.specs.Io.{ReadsAtMost, WritesAtMost};
-ghost use Rattle.std.specs.Io.KnownBytes.{Appends, Consumes, IsAtEnd, Keeps};
+ghost use Rattle.std.specs.Io.KnownBytes.{append_known, Appends, Consumes, IsAtEnd, Keeps};
 ghost use Rattle.ldm_adapters.specs.Front.{GivesFront, TakesFront};
 
-use ldm_outside::{Got, Put, Sink, Source};
+use ldm_outside::{Got, Put, Sink, SinkFailed, Source};
+use std::alloc::Global;
 use std::io::{self, ErrorKind, Read, Write};
+
+/// How many bytes a sink that gathers holds back at most.
+pub const MOST_GATHERED: usize = 65_536;
 
 /// A source over a reader. As a source it does not tell what it has left.
 ///
@@ -22,12 +27,16 @@ pub struct RealSource<R> {
 
 /// A sink over a writer. As a sink it does not tell what it took.
 ///
-/// Where the writer tells, a call adds to what it has as the contract of [`Sink`] says. A writer that takes nothing of
-/// a piece that is not empty has failed.
+/// Where the writer tells, a call adds to what it has and to what is held back as the contract of [`Sink`] says. A writer
+/// that takes nothing of a piece that is not empty has failed.
 #[derive(Debug, Drop)]
 pub struct RealSink<W> {
     writer: W,
     faults: u64,
+    // What was taken and not handed to the writer yet.
+    held: Vec<u8>,
+    // How many bytes may be held back.
+    most: usize,
 }
 
 impl<R: Read> RealSource<R> {
@@ -84,11 +93,18 @@ impl<R: Read> Source for RealSource<R> {
 }
 
 impl<W: Write> RealSink<W> {
-    /// A sink that hands all to the writer.
-    pub fn new(writer: W) -> RealSink<W>
-        ensures { result ≡ record { writer = writer; faults = 0 } }
+    /// A sink that hands all to the writer, at once until it gathers.
+    pub fn new(alloc: Global, writer: W) -> RealSink<W>
+        ensures writer { result.writer ≡ writer }
+        ensures faults { result.faults ≡ 0 }
+        ensures nothing_held { result.held.items ≡ [] }
     {
-        RealSink { writer, faults: 0 }
+        RealSink {
+            writer,
+            faults: 0,
+            held: Vec::new(alloc),
+            most: 0,
+        }
     }
 
     /// How often it failed.
@@ -98,17 +114,53 @@ impl<W: Write> RealSink<W> {
         self.faults
     }
 
-    /// The writer.
+    /// The writer. What was held back is lost.
     pub fn into_writer(self) -> W
         ensures { result ≡ self.writer }
     {
         self.writer
     }
+
+    // Holds a piece back, where it gathers and there is room and memory. Whether it does.
+    fn hold(&mut self, piece: &[u8]) -> bool
+        ensures held { result ≡ true → self.new.held.items ≡ self.old.held.items ++ piece.now }
+        ensures not { result ≡ false → self.new.held.items ≡ self.old.held.items }
+        ensures rest { (self.new.writer ≡ self.old.writer) × (self.new.faults ≡ self.old.faults) }
+    {
+        if self.held.len() >= self.most || piece.len() > self.most - self.held.len() {
+            return false;
+        }
+        self.held.extend_from_slice(piece).is_ok()
+    }
+
+    // Hands what is held back to the writer. Where that fails, what the writer did not take stays.
+    fn hand_on(&mut self) -> Result<(), SinkFailed>
+        ensures done { OnOk result (self.new.held.items ≡ []) }
+        ensures all { Keeps (append_known (W.contents self.old.writer) self.old.held.items)
+            (append_known (W.contents self.new.writer) self.new.held.items) }
+        ensures faults { self.new.faults ≡ self.old.faults }
+    {
+        let mut at = 0;
+        while at < self.held.len() {
+            match told_of_write(
+                write_uninterrupted(&mut self.writer, &self.held[at..]),
+                self.held.len() - at,
+            ) {
+                Put::Took(n) => at += n,
+                Put::Failed => {
+                    self.held.drain(..at);
+                    return Err(SinkFailed);
+                }
+            }
+        }
+        self.held.clear();
+        Ok(())
+    }
 }
 
 impl<W: Write> Sink for RealSink<W> {
     ghost use Rattle.std.specs.Prelude.{Some, None, IfSome};
-    ghost use Rattle.ldm_outside.specs.Io.{WriteGives};
+    ghost use Rattle.ldm_outside.specs.Io.{WriteGives, FlushGives};
 
     ghost tells = { λ s. record { written = None; faults = s.faults } };
 
@@ -117,15 +169,42 @@ impl<W: Write> Sink for RealSink<W> {
             (record { written = None; faults = self.new.faults }) }
         ensures faults_kept { self.old.faults ≤ self.new.faults }
         ensures known { IfSome (W.contents self.old.writer) (λ before. WriteGives result piece.now
-            (record { written = Some before; faults = self.old.faults })
-            (record { written = W.contents self.new.writer; faults = self.new.faults })) }
+            (record { written = Some (before ++ self.old.held.items); faults = self.old.faults })
+            (record { written = append_known (W.contents self.new.writer) self.new.held.items; faults = self.new.faults })) }
     {
+        if self.hold(piece) {
+            return Put::Took(piece.len());
+        }
+        if self.flush().is_err() {
+            return Put::Failed;
+        }
         let put = told_of_write(write_uninterrupted(&mut self.writer, piece), piece.len());
         match put {
             Put::Took(_) => {}
             Put::Failed => self.faults = self.faults.saturating_add(1),
         }
         put
+    }
+
+    fn gather(&mut self)
+        ensures { self.new ≡ record self.old { most = MOST_GATHERED } }
+    {
+        self.most = MOST_GATHERED;
+    }
+
+    fn flush(&mut self) -> Result<(), SinkFailed>
+        ensures flushed { FlushGives result (record { written = None; faults = self.old.faults })
+            (record { written = None; faults = self.new.faults }) }
+        ensures done { OnOk result (self.new.held.items ≡ []) }
+        ensures faults_kept { self.old.faults ≤ self.new.faults }
+        ensures all { Keeps (append_known (W.contents self.old.writer) self.old.held.items)
+            (append_known (W.contents self.new.writer) self.new.held.items) }
+    {
+        let handed = self.hand_on();
+        if handed.is_err() {
+            self.faults = self.faults.saturating_add(1);
+        }
+        handed
     }
 }
 
