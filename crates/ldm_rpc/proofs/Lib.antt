@@ -3,6 +3,7 @@ pub mod Steps
 pub mod Pushed
 pub mod Joined
 pub mod Pushing
+pub mod Filling
 pub mod Spelled
 pub mod Single
 pub mod Once

@@ -17,16 +17,18 @@ pub record KeptView : Type 0 where
 abbrev pub kept_of : Inside → KeptView
 kept_of k = record {
   content = k.came.bytes;
-  kept = length k.bytes.items;
+  kept = k.filled;
   only_front = k.only_front;
   memory = vec_capacity k.bytes;
 }
 
--- Those that are kept are a front of all. Where these are more, the front is not short, and no more is kept than it.
+-- Those that are kept are a front of all, and stand in the buffer. Where these are more, the front is not short, and no
+-- more is kept than it.
 pub record IsFrontKept (k : Inside) : Type 0 where
-  pub front : k.bytes.items ≡ take (length k.bytes.items) k.came.bytes
-  pub enough : length k.bytes.items < length k.came.bytes → LEAST_FRONT ≤ length k.bytes.items
-  pub all : k.only_front ≡ false → length k.bytes.items ≡ length k.came.bytes
+  pub room : k.filled ≤ length k.bytes.items
+  pub front : take k.filled k.bytes.items ≡ take k.filled k.came.bytes
+  pub enough : k.filled < length k.came.bytes → LEAST_FRONT ≤ k.filled
+  pub all : k.only_front ≡ false → k.filled ≡ length k.came.bytes
   pub len : k.len ≡ length k.came.bytes
 
 -- Bytes are kept up to the least front, and behind that no more. The memory is that for these.

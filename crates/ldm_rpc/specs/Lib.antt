@@ -10,3 +10,4 @@ pub mod Coming
 pub mod KeptView
 pub mod FrontRecordsView
 pub mod Keeping
+pub mod Filling

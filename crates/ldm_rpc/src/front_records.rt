@@ -8,8 +8,10 @@ ghost use Rattle.ldm_rpc.specs.Reading.{after, after_byte, begun, bytes_taken, i
 ghost use Rattle.ldm_rpc.specs.Reading.{is_open, is_pending, is_whole, next_of, whole_of};
 ghost use Rattle.ldm_rpc.specs.Spelling.{BeginsSingle};
 ghost use Rattle.ldm_rpc.specs.Taking.{IsFaultOf, TakesFront};
+ghost use Rattle.ldm_rpc.specs.Filling.{IsFilled, filled};
 
 use crate::fault::RpcFault;
+use crate::filler::Filler;
 use crate::in_place::{HEADER, InPlace, single_in};
 use crate::kept::{Kept, LEAST_FRONT};
 use crate::marks::Marks;
@@ -148,6 +150,48 @@ impl FrontRecords {
         LEAST_FRONT.saturating_sub(self.front().len())
     }
 
+    /// How many bytes the fragment in hand still brings: 0 where none is in hand.
+    pub(crate) fn left(&self) -> u32 {
+        match self.marks.stage {
+            Stage::Fragment { left, .. } => left,
+            _ => 0,
+        }
+    }
+
+    /// Takes memory ahead for what the fragment in hand still brings, where that is kept, and for `most` bytes at most.
+    /// It takes none between fragments. Without memory nothing changes.
+    pub(crate) fn reserve(&mut self, most: u64)
+        ensures { self.new ≡ self.old }
+    {
+        if let Stage::Fragment { left, .. } = self.marks.stage {
+            self.kept.reserve(most.min(u64::from(left)) as usize);
+        }
+    }
+
+    /// A [`Filler`] puts bytes of the fragment in hand straight behind those that came: at most so many, and all but the
+    /// last one, so that a record is complete behind a push alone. `None` where no fragment is in hand or just its last
+    /// byte is to come, its bytes are kept no more, or there is no memory for more: then it was not asked.
+    pub(crate) fn fill<S, F: Filler<S>>(
+        &mut self,
+        filler: &mut F,
+        source: &mut S,
+        most: usize,
+    ) -> Option<usize>
+        requires some { 0 < most }
+        requires ready { F.can_fill source.old }
+        ensures none { IfNone result ((self.new ≡ self.old) × (filler.new ≡ filler.old) × (source.new ≡ source.old)) }
+        ensures filled { IfSome result (IsFilled self.old self.new most) }
+        ensures gives { IfSome result
+            (λ _. F.gives filler.old source.old (filled self.old self.new) filler.new source.new) }
+    {
+        match self.marks.stage {
+            Stage::Fragment { left, last } => {
+                self.fill_fragment(left, last, filler, source, most)
+            }
+            _ => None,
+        }
+    }
+
     /// From here on no more bytes of the record in hand are kept than are kept already, or than [`LEAST_FRONT`] where
     /// these are fewer. The next record is kept whole again.
     pub fn keep_front(&mut self)
@@ -262,4 +306,38 @@ impl FrontRecords {
         self.marks.stage = stage_before(left - count as u32, last);
         Ok(count)
     }
+
+    // Bytes of the fragment in hand, straight from a filler.
+    fn fill_fragment<S, F: Filler<S>>(
+        &mut self,
+        left: u32,
+        last: bool,
+        filler: &mut F,
+        source: &mut S,
+        most: usize,
+    ) -> Option<usize>
+        requires stage { self.old.stage ≡ Stage.Fragment left last }
+        requires some { 0 < most }
+        requires ready { F.can_fill source.old }
+        ensures none { IfNone result ((self.new ≡ self.old) × (filler.new ≡ filler.old) × (source.new ≡ source.old)) }
+        ensures filled { IfSome result (IsFilled self.old self.new most) }
+        ensures gives { IfSome result
+            (λ _. F.gives filler.old source.old (filled self.old self.new) filler.new source.new) }
+    {
+        let room = fillable(most, left);
+        if room == 0 {
+            return None;
+        }
+        let count = self.kept.fill(filler, source, room)?;
+        self.marks.stage = stage_before(left - count as u32, last);
+        Some(count)
+    }
+}
+
+// How many bytes of a fragment are filled, of which so many are to come: the last one is not.
+fn fillable(most: usize, left: u32) -> usize
+    ensures most { result ≤ most }
+    ensures left { result ≤ left - 1 }
+{
+    most.min(left.saturating_sub(1) as usize)
 }

@@ -6,11 +6,14 @@ ghost use Rattle.ldm_rpc.specs.Reading.{after, begun, bytes_taken, is_faulty, is
 ghost use Rattle.ldm_rpc.specs.Reading.{is_whole, next_of, whole_of};
 ghost use Rattle.ldm_rpc.specs.Spelling.{BeginsSingle};
 ghost use Rattle.ldm_rpc.specs.Taking.{TakesFront};
+ghost use Rattle.ldm_rpc.specs.Filling.{IsFilled, filled};
 
 use crate::fault::RpcFault;
+use crate::filler::Filler;
 use crate::front_records::{Front, FrontRecords};
 use crate::in_place::InPlace;
 use crate::keeper::Keeper;
+use crate::kept::LEAST_FILL;
 use std::alloc::Global;
 use std::marker::Model;
 
@@ -62,6 +65,46 @@ impl KeptRecords {
             taken += self.push_some(keeper, &piece[taken..])?;
         }
         Ok(taken)
+    }
+
+    /// How many bytes of the record in hand can be filled straight in: all but the last one that the fragment in hand
+    /// still brings, of those that are kept; 0 where these are fewer than [`LEAST_FILL`], or where it is not known yet
+    /// how many are kept.
+    pub fn room_to_fill(&self) -> usize {
+        let came = u64::from(self.records.len());
+        let kept = self.most.map_or(0, |most| most.saturating_sub(came));
+        let left = self.records.left().saturating_sub(1);
+        let room = kept.min(u64::from(left)) as usize;
+        if room < LEAST_FILL { 0 } else { room }
+    }
+
+    /// A [`Filler`] puts bytes straight into the record in hand: one call of it, for `most` bytes at most. The last byte
+    /// of a fragment is left to be pushed, so the record is complete behind a push alone.
+    ///
+    /// `None` where there is no [room to fill](KeptRecords::room_to_fill), or no memory for it: then it was not asked,
+    /// and the bytes are to be pushed.
+    pub fn fill<S, F: Filler<S>>(
+        &mut self,
+        filler: &mut F,
+        source: &mut S,
+        most: usize,
+    ) -> Option<usize>
+        requires ready { F.can_fill source.old }
+        ensures none { IfNone result ((self.new ≡ self.old) × (filler.new ≡ filler.old) × (source.new ≡ source.old)) }
+        ensures filled { IfSome result (IsFilled self.old self.new most) }
+        ensures gives { IfSome result
+            (λ _. F.gives filler.old source.old (filled self.old self.new) filler.new source.new) }
+    {
+        let room = self.room_to_fill().min(most);
+        if room == 0 {
+            return None;
+        }
+        let count = self.records.fill(filler, source, room)?;
+        let came = u64::from(self.records.len());
+        if let Some(kept) = self.most {
+            self.keep_at_most(kept, came);
+        }
+        Some(count)
     }
 
     /// What is kept of a complete record. `None` exactly where no record is complete.
@@ -143,7 +186,8 @@ impl KeptRecords {
         }
     }
 
-    // Keeps no more of the record in hand where that is known to be enough.
+    // Keeps no more of the record in hand where that is known to be enough. Where more is kept, memory for it is taken
+    // at once.
     fn settle<K: Keeper>(&mut self, keeper: &mut K)
         ensures same { keeper.new ≡ keeper.old }
         ensures stays { self.new ≡ self.old }
@@ -151,12 +195,23 @@ impl KeptRecords {
         if self.records.room_to_front() > 0 {
             return;
         }
-        let most = match self.most {
-            Some(most) => most,
-            None => keeper.most_kept(self.records.front()),
-        };
-        self.most = Some(most);
-        if u64::from(self.records.len()) >= most {
+        let came = u64::from(self.records.len());
+        match self.most {
+            Some(most) => self.keep_at_most(most, came),
+            None => {
+                let most = keeper.most_kept(self.records.front());
+                self.most = Some(most);
+                self.records.reserve(most.saturating_sub(came));
+                self.keep_at_most(most, came);
+            }
+        }
+    }
+
+    // Keeps no more of the record in hand, of which so many bytes came, where that is enough.
+    fn keep_at_most(&mut self, most: u64, came: u64)
+        ensures { self.new ≡ self.old }
+    {
+        if came >= most {
             self.records.keep_front();
         }
     }

@@ -7,6 +7,7 @@
 
 mod came;
 mod fault;
+mod filler;
 mod front_records;
 mod in_place;
 mod keeper;
@@ -18,10 +19,11 @@ mod records;
 mod stage;
 
 pub use fault::RpcFault;
+pub use filler::Filler;
 pub use front_records::{Front, FrontRecords};
 pub use in_place::InPlace;
 pub use keeper::Keeper;
-pub use kept::LEAST_FRONT;
+pub use kept::{LEAST_FILL, LEAST_FRONT};
 pub use kept_records::KeptRecords;
 pub use laws::{
     no_record_begins_another, pending_from_the_first_byte, pieces_join, pushes_read_the_stream,

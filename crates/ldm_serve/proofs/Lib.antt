@@ -13,6 +13,7 @@ pub mod Outliving
 pub mod Reaching
 pub mod Turning
 pub mod Coming
+pub mod Receiving
 pub mod Narrowing
 pub mod PuttingIn
 pub mod HandingIn

@@ -19,4 +19,5 @@ pub mod Becoming
 pub mod Serve
 pub mod Rounds
 pub mod Reading
+pub mod Filling
 pub mod Kept

@@ -5,6 +5,7 @@ ghost use Rattle.ldm_outside.specs.Link.{IsNotClosed};
 ghost use Rattle.ldm_outside.specs.Session.{KeepsFaults, session_tells};
 ghost use Rattle.ldm_shared.specs.Passes.{IsPassOf, IsSamePass};
 ghost use Rattle.ldm_session.specs.declared.gaps.TheConstants.{LONGEST_NAME};
+ghost use Rattle.ldm_session.specs.declared.limits.TheConstants.{LONGEST_STREAM};
 ghost use Rattle.ldm_serve.specs.Connection.{moment_of};
 ghost use Rattle.ldm_serve.specs.ClientView.{client_by};
 ghost use Rattle.ldm_serve.specs.Reading.{ReadsCalls};
@@ -119,7 +120,8 @@ impl<'a> Server<'a> {
         unreachable!()
     }
 
-    // Receives a piece and takes it. The end is written, where it came to one.
+    // Receives some bytes and takes them: straight into the record in hand where much of it is to come, and else a
+    // piece. The end is written, where it came to one.
     fn turn<H: Wait, K: Link, E: Sink, G: Gate, C: Clock>(
         &mut self,
         rt: &H,
@@ -149,6 +151,45 @@ impl<'a> Server<'a> {
         if room == 0 {
             return end_by(&mut self.connection.end, Stop::StreamLimit);
         }
+        let awaited = Awaited::Request.or_rest(self.connection.serving.is_pending());
+        let Some(got) = self.connection.serving.fill(link, room, awaited) else {
+            return self.take_piece(rt, shared, pass, link, log, gate, clock);
+        };
+        match got {
+            Got::Bytes(_) => {}
+            Got::End => self.connection.end_here(),
+            Got::Failed => end_by(&mut self.connection.end, Stop::LinkFault),
+        }
+    }
+
+    // Receives a piece and takes it. The end is written, where it came to one.
+    fn take_piece<H: Wait, K: Link, E: Sink, G: Gate, C: Clock>(
+        &mut self,
+        rt: &H,
+        shared: &Shared,
+        pass: &mut Pass,
+        link: &mut K,
+        log: &mut E,
+        gate: &mut G,
+        clock: &mut C,
+    )
+        requires of { IsPassOf shared.now pass.old }
+        requires name { length self.old.connection.client.host ≤ LONGEST_NAME }
+        requires not_closed { IsNotClosed (K.tells link.old) }
+        requires reads { ReadsCalls self.old.connection 0 }
+        requires more { self.old.connection.serving.came < LONGEST_STREAM }
+        requires room { 0 < vec_len self.old.piece }
+        ensures kept { IsSamePass pass.old pass.new }
+        ensures same { self.new.connection.client ≡ self.old.connection.client }
+        ensures still_open { IfNone self.new.connection.end (IsNotClosed (K.tells link.new)) }
+        ensures reads { IfNone self.new.connection.end (ReadsCalls self.new.connection 0) }
+        ensures room { 0 < vec_len self.new.piece }
+        ensures runs { Runs self.new.connection.end (client_by self.old.connection.client pass.old.actor)
+            self.old.connection.serving [] self.new.connection.serving
+            (moment_of pass.old (session_tells K.tells E.tells C.tells G.tells link.old log.old clock.old gate.old))
+            (moment_of pass.new (session_tells K.tells E.tells C.tells G.tells link.new log.new clock.new gate.new)) }
+    {
+        let room = self.connection.serving.piece_room();
         let awaited = Awaited::Request.or_rest(self.connection.serving.is_pending());
         match receive(link, self.piece.as_mut_slice(), room, awaited) {
             Got::Bytes(count) => {

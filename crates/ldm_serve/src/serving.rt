@@ -1,5 +1,8 @@
 //! What reads the calls of a connection, and answers them.
 ghost use Rattle.std.specs.Prelude.{◌≡◌, ◌<◌, ◌≤◌, ◌+◌, ◌^◌, ℕ, List, Option, IfOk, false, if◌then◌else◌, length};
+ghost use Rattle.std.specs.Prelude.{IfNone, IfSome};
+ghost use Rattle.ldm_outside.specs.Link.{IsNotClosed};
+ghost use Rattle.ldm_session.specs.declared.limits.TheConstants.{LONGEST_STREAM};
 ghost use Rattle.ldm_rpc.specs.Reading.{is_faulty, is_pending};
 ghost use Rattle.ldm_shared.specs.Passes.{IsPassOf, IsSamePass};
 ghost use Rattle.ldm_serve.specs.ClientView.{client_by};
@@ -9,15 +12,19 @@ ghost use Rattle.ldm_serve.specs.ServingView.{beginning};
 ghost use Rattle.ldm_serve.specs.Served.{Serves};
 ghost use Rattle.ldm_serve.specs.Turns.{Turns, turned};
 ghost use Rattle.ldm_serve.specs.Contents.{Finds, stop_of};
+ghost use Rattle.ldm_serve.specs.Filling.{Fills};
 
 use crate::client::Client;
+use crate::filling::Receiving;
 use crate::responded::{RespondFault, Responded};
 use crate::responding::answer;
-use ldm_outside::Clock;
+use ldm_outside::{Awaited, Clock, Got, Link};
 use ldm_relay::LARGEST_RECORD;
-use ldm_rpc::{Front, KeptRecords, RpcFault};
+use ldm_rpc::{Front, KeptRecords, LEAST_FRONT, RpcFault};
+use ldm_session::LONGEST_STREAM;
 use ldm_shared::{Pass, Shared};
 use std::alloc::Global;
+use std::cmp::min;
 use std::marker::Model;
 use std::sync::Wait;
 
@@ -36,12 +43,21 @@ pub(crate) enum Answered {
     OutOfMemory,
 }
 
+// A record of more bytes is long: the next one is as long, as a rule.
+const LONGEST_SHORT: usize = 32_768;
+
+// How many bytes are received in a piece where the next record is long, as a rule: what is left of the one in hand, the
+// header of that one, and the front by which it is known how much of it is kept. The rest need not be copied there.
+const SHORT_PIECE: u64 = LEAST_FRONT as u64 + 512;
+
 /// What reads the calls of a connection, from its first byte on. Contracts see what is in hand of the stream.
 #[derive(Drop)]
 pub(crate) struct Serving {
     records: KeptRecords,
     begins: u64,
     came: u64,
+    // Whether the last record that was complete was long.
+    was_long: bool,
 }
 
 impl Model for Serving {
@@ -65,6 +81,7 @@ impl Serving {
             records: KeptRecords::create(alloc, LARGEST_RECORD),
             begins: 0,
             came: 0,
+            was_long: false,
         }
     }
 
@@ -80,6 +97,36 @@ impl Serving {
         ensures { result ≡ is_pending self.now.reading }
     {
         self.records.is_pending()
+    }
+
+    /// How many bytes are received in a piece at most: no more than are taken of a stream.
+    pub(crate) fn piece_room(&self) -> u64
+        requires room { self.now.came < LONGEST_STREAM }
+        ensures some { 0 < result }
+        ensures within { self.now.came + result ≤ LONGEST_STREAM }
+    {
+        let room = LONGEST_STREAM - self.came;
+        if self.was_long {
+            min(room, SHORT_PIECE)
+        } else {
+            room
+        }
+    }
+
+    /// Receives some bytes straight into the record in hand, where much of it is to come, and no more of them than there
+    /// is room for in the stream. `None` where little is to come, or there is no memory: then the link was not asked.
+    pub(crate) fn fill<K: Link>(&mut self, link: &mut K, room: u64, awaited: Awaited) -> Option<Got>
+        requires not_closed { IsNotClosed (K.tells link.old) }
+        requires room { self.old.came + room < 2 ^ 64 }
+        ensures none { IfNone result ((self.new ≡ self.old) × (link.new ≡ link.old)) }
+        ensures fills { IfSome result
+            (λ got. Fills got room self.old self.new (K.tells link.old) (K.tells link.new)) }
+    {
+        let most = room.min(u64::from(LARGEST_RECORD)) as usize;
+        let mut receiving = Receiving::of(awaited);
+        let count = self.records.fill(&mut receiving, link, most)?;
+        self.came += count as u64;
+        Some(receiving.got())
     }
 
     /// Takes bytes, and answers the records that they complete, one behind the other, up to one that the session does
@@ -154,6 +201,7 @@ impl Serving {
         let count = found.taken;
         self.came += count as u64;
         self.begins = self.came;
+        self.was_long = count > LONGEST_SHORT;
         turned(count, stop)
     }
 
@@ -189,9 +237,11 @@ impl Serving {
         self.came += count as u64;
         let held = self.records.whole();
         let is_whole = held.is_some();
+        let was_long = held.map_or(self.was_long, |front| front.len as usize > LONGEST_SHORT);
         let answered = answer_held(rt, shared, pass, clock, client, held, out, next);
         self.records.next();
         self.begins = begins_behind(is_whole, at, self.came);
+        self.was_long = was_long;
         turned(count, stop_of(answered, next, at))
     }
 }
