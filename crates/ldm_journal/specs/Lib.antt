@@ -1,0 +1,11 @@
+pub mod Sound
+pub mod Records
+pub mod Format
+pub mod Standing
+pub mod Pushing
+pub mod Reading
+pub mod Appending
+pub mod Committing
+pub mod Making
+pub mod Opening
+pub mod Runs
