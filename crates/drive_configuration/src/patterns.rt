@@ -2,7 +2,8 @@
 
 use ldm_drive::Trial;
 use ldm_feedtype::{feed_text, read_feed};
-use ldm_pattern::{GroupNo, Pattern};
+use ldm_pattern::{BoundedPattern, GroupNo, Pattern};
+use std::alloc::Global;
 
 /// Answers a case of a pattern or a feed expression.
 pub fn answer(name: &str, trial: &mut Trial) {
@@ -18,13 +19,13 @@ fn find(trial: &mut Trial) {
     let source = trial.word_text();
     let text = trial.text();
     match Pattern::build(trial.alloc(), &source) {
-        Ok(pattern) => tell_found(trial, &pattern, &text),
+        Ok(pattern) => tell_found(trial, &pattern, &source, &text),
         Err(refusal) => trial.tell_debug(&refusal),
     }
 }
 
 // Whether a pattern is found in a text, in each way in which that is asked.
-fn tell_found(trial: &mut Trial, pattern: &Pattern, text: &[u8]) {
+fn tell_found(trial: &mut Trial, pattern: &Pattern, source: &[u8], text: &[u8]) {
     let Ok(is_in) = pattern.is_in(trial.alloc(), text) else {
         return trial.lack_memory();
     };
@@ -34,7 +35,25 @@ fn tell_found(trial: &mut Trial, pattern: &Pattern, text: &[u8]) {
     if matcher.finds(text) != is_in || matcher.finds(text) != is_in {
         return trial.refuse("another answer");
     }
+    // A budget of nothing has room for no table.
+    for most in [Pattern::LARGEST, 0] {
+        if find_within(trial.alloc(), source, text, most) != Some(is_in) {
+            return trial.refuse("another answer within a budget");
+        }
+    }
     trial.tell_value(&is_in);
+}
+
+// Whether a pattern is found in a text by tables within a budget, and without them. None where that is not one answer.
+fn find_within(alloc: Global, source: &[u8], text: &[u8], most: usize) -> Option<bool> {
+    let pattern = BoundedPattern::build(alloc, source, Pattern::LARGEST).ok()?;
+    let is_in = pattern.is_in(alloc, text).ok()?;
+    let mut matcher = pattern.matcher(alloc, most).ok()?;
+    if matcher.finds(text) == is_in && matcher.finds(text) == is_in {
+        Some(is_in)
+    } else {
+        None
+    }
 }
 
 fn part(trial: &mut Trial) {
