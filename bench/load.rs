@@ -10,17 +10,18 @@
 //! load relay ADDRESS ADDRESS SIZE COUNT      puts into the first, and is fed by the second
 //! load fan ADDRESS SIZE COUNT SUBSCRIBERS    puts into a node that feeds each of so many subscribers
 //! load delay ADDRESS ADDRESS TIMES           the same with single products, one at a time
+//! load far PORT ADDRESS MILLISECONDS         listens, and passes on what it is sent so much later, each way, until it is ended
 //! load stream SIZE COUNT                     sends such products over one plain stream
 //! load redis|nats|mqtt ADDRESS SIZE COUNT    publishes such bodies to a broker, and subscribes them
 //! ```
 //!
 //! Each prints how many seconds it took, from the first byte that was sent to the last one that came; `delay` prints the least, the
-//! middle and the greatest time, in milliseconds.
+//! middle, that of 99% and the greatest time, in milliseconds.
 
 use std::collections::HashMap;
 use std::fs::{self, File, OpenOptions};
 use std::io::{self, BufRead, BufReader, Error, ErrorKind, Read, Write};
-use std::net::{TcpListener, TcpStream};
+use std::net::{Shutdown, TcpListener, TcpStream};
 use std::path::Path;
 use std::sync::atomic::{AtomicU64, Ordering};
 use std::sync::mpsc;
@@ -328,6 +329,38 @@ fn delays(from: &str, to: &str, times: u64) -> io::Result<Vec<f64>> {
     Ok(delays)
 }
 
+/// Passes on what comes, so much later.
+fn pass_on_late(mut from: TcpStream, mut to: TcpStream, late: Duration) {
+    let (came, coming) = mpsc::channel::<(Instant, Vec<u8>)>();
+    thread::spawn(move || {
+        for (at, bytes) in coming {
+            thread::sleep((at + late).saturating_duration_since(Instant::now()));
+            if to.write_all(&bytes).is_err() {
+                break;
+            }
+        }
+        let _ = to.shutdown(Shutdown::Write);
+    });
+    thread::spawn(move || {
+        let mut piece = vec![0; 262_144];
+        while let Ok(count @ 1..) = from.read(&mut piece) {
+            if came.send((Instant::now(), piece[..count].to_vec())).is_err() {
+                break;
+            }
+        }
+    });
+}
+
+fn far(port: u16, address: &str, late: Duration) -> io::Result<()> {
+    for stream in TcpListener::bind(("127.0.0.1", port))?.incoming() {
+        let (near, beyond) = (stream?, connect(address)?);
+        near.set_nodelay(true)?;
+        pass_on_late(near.try_clone()?, beyond.try_clone()?, late);
+        pass_on_late(beyond, near, late);
+    }
+    Ok(())
+}
+
 fn stream(size: usize, count: u64) -> io::Result<Duration> {
     let listener = TcpListener::bind("127.0.0.1:0")?;
     let mut sending = connect(&listener.local_addr()?.to_string())?;
@@ -539,14 +572,18 @@ fn run(words: &[&str]) -> io::Result<String> {
         ["append", address, number, folder] => append(address, count(number), Path::new(folder))?,
         ["relay", from, to, bytes, number] => relay(from, to, size(bytes), count(number))?,
         ["fan", address, bytes, number, many] => fan(address, address, size(bytes), count(number), size(many))?,
+        ["far", port, address, late] => {
+            far(port.parse().expect("a port"), address, Duration::from_millis(count(late)))?;
+            return Ok(String::new());
+        }
         ["stream", bytes, number] => stream(size(bytes), count(number))?,
         ["redis", address, bytes, number] => through_broker(Broker::Redis, address, size(bytes), count(number))?,
         ["nats", address, bytes, number] => through_broker(Broker::Nats, address, size(bytes), count(number))?,
         ["mqtt", address, bytes, number] => through_broker(Broker::Mqtt, address, size(bytes), count(number))?,
         ["delay", from, to, times] => {
             let delays = delays(from, to, count(times))?;
-            let middle = delays[delays.len() / 2];
-            return Ok(format!("{:.1} {middle:.1} {:.1}", delays[0], delays[delays.len() - 1]));
+            let at = |part: usize| delays[(delays.len() - 1) * part / 100];
+            return Ok(format!("{:.2} {:.2} {:.2} {:.2}", at(0), at(50), at(99), at(100)));
         }
         _ => return wrong("these are no words of this program"),
     };
