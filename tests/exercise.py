@@ -2,7 +2,7 @@
 """Writes the script of `ldm exercise NUMBER COUNT` as lines, plays it with `ldm play`, sums the answers up, and compares that with
 what the exercise writes.
 
-Called as: tests/exercise.py. The script is drawn as docs/commands.md says.
+Called as: tests/exercise.py. The script is drawn as crates/ldm_exercise/specs/Orders.antt says.
 """
 
 import hashlib
