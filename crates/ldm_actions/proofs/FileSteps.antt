@@ -1,5 +1,5 @@
 -- What the store does to the files that are kept open.
-use Rattle.std.proofs.Common.{◌≡◌, ◌≢◌, ◌∙◌, ℕ, ◌-◌, ◌+◌, ◌<◌, ◌≤◌, Bool, true, false, cond, List, [], ◌∷◌, ◌++◌, length, take, drop, Option, Some, None, option_map, Result, Ok, Err, refl, sym, ap, subst, arith, length-append, length-take}
+use Rattle.std.proofs.Common.{◌≡◌, ◌≢◌, ◌∙◌, ℕ, ◌-◌, ◌+◌, ◌<◌, ◌≤◌, ◌⊎◌, inl, inr, Bool, true, false, cond, List, [], ◌∷◌, ◌++◌, length, take, drop, Option, Some, None, option_map, Result, Ok, Err, refl, sym, ap, subst, arith, length-append, length-take}
 use Rattle.std.specs.Prelude.{IsSome, IfSome, bytes_eq, nat_lt, not}
 use Rattle.std.specs.BTreeMap.{is_at}
 use Rattle.std.specs.Map.{remove_entry}
@@ -7,16 +7,18 @@ use Rattle.std.specs.Ordering.{match_ordering, nat_cmp}
 use Rattle.std.specs.declared.cmp.Ordering.{Ordering}
 use Rattle.std.specs.declared.cmp.Ordering.TheVariants.{Less, Equal, Greater}
 use Rattle.ldm_outside.specs.declared.fault.Failed.{Failed}
+use Rattle.ldm_outside.specs.declared.store.FileNo.{FileNo}
 use Rattle.ldm_outside.specs.Count.{Rose}
 use Rattle.ldm_outside.specs.Numbered.{with_number, without_number}
-use Rattle.ldm_outside.specs.Store.{File, ChangesFile, FlushesFile, IsThere, ShutsFile, StoreFails, StoreRecord, bytes_under, path_of, with_changed, with_file, with_flushed, with_made, with_opened}
+use Rattle.std.proofs.lemmas.Bool.Decides.{nat_tests}
+use Rattle.ldm_outside.specs.Store.{File, ChangesFile, FlushesFile, IsOpen, IsThere, OpensFile, ShutsFile, StoreFails, StoreRecord, bytes_under, path_of, with_changed, with_file, with_flushed, with_made, with_opened}
 use Rattle.ldm_outside.proofs.NumberLemmas.{at-with, at-with-others, at-without-others}
 use Rattle.ldm_outside.proofs.StoreLemmas.{IsOpen-before, IsOpen-changes, IsOpen-last, IsOpen-others}
 use Rattle.ldm_actions.specs.declared.limits.TheConstants.{MOST_OPEN}
-use Rattle.ldm_actions.specs.Kept.{Differs, Each, IsNewest, first_of, last_of, number_under, raised, raised_by}
-use Rattle.ldm_actions.specs.OpenFiles.{FileSide, FilesBecome, FilesFail, IsOpenUnder, KeepsFiles, KeepsOr, OpensNew, OpensWithRoom, all_shut, file_no, file_side, files_begun, files_made, flushed_in, shut_in, store_begun, store_emptied, store_used, store_used_by, store_with_room, used, used_by, with_room_open}
+use Rattle.ldm_actions.specs.Kept.{Differs, Each, IsNewest, first_of, gone_of, last_of, number_under, raised, raised_by, staying}
+use Rattle.ldm_actions.specs.OpenFiles.{FileSide, FilesBecome, FilesFail, IsOpenUnder, KeepsFiles, KeepsOr, OpensAfter, ShutsGone, all_shut, file_no, file_side, files_begun, files_made, flushed_in, shut_in, store_begun, store_emptied, store_used, store_used_by, store_with_room, used, used_by, with_gone_shut, with_room_open}
 use Rattle.ldm_actions.proofs.Commands.{one_less}
-use Rattle.ldm_actions.proofs.KeptLemmas.{Entry, apart_found, apart_front, apart_last, differs_under, each_both, each_found, each_front, each_last, each_then, last_is, last_part, not_under_front, take_front}
+use Rattle.ldm_actions.proofs.KeptLemmas.{Entry, HasRoom, IsFull, apart_found, apart_front, apart_last, differs_under, each_both, each_found, each_front, each_gone, each_last, each_then, last_is, last_part, not_under_front, room_or_full, take_front}
 
 -- one more is there at most where one is put under a number
 one_more : (number : ℕ) (path : List ℕ) (paths : List (ℕ × List ℕ)) → length (with_number number path paths) ≤ length paths + 1
@@ -153,7 +155,7 @@ shuts_oldest (Err failed) it kept old new fails keeps = record {
   long = ap (λ (store : StoreRecord). store.long) fails.1;
 }
 
-pub opens_new : (path : List ℕ) (file : ℕ) (kept : List Entry) (old new : StoreRecord) → number_under path kept ≡ None → length kept < MOST_OPEN →
+opens_new : (path : List ℕ) (file : ℕ) (kept : List Entry) (old new : StoreRecord) → number_under path kept ≡ None → length kept < MOST_OPEN →
     (file ≡ old.next) × (new ≡ with_opened path old) → KeepsFiles (file_side kept old) →
     FilesBecome ((path, old.next) ∷ kept) (files_made path old.files) (with_opened path old) (file_side kept old) (file_side ((path, file) ∷ kept) new)
 opens_new path file kept old new unknown room is keeps = record {
@@ -254,11 +256,44 @@ fails_then kept files store old mid new first fails = record {
   long = fails.long ∙ first.long;
 }
 
-pub opens_after_room : (result : Result (Unit {0}) Failed) (path : List ℕ) (old mid new : FileSide) →
+-- ---- the file of a path is opened that is not kept, and another is shut where there is no room
+
+-- the oldest was shut, by whether there was room
+abbrev ShutsBy : List Entry → StoreRecord → Bool → List Entry → Option ℕ → Type 0
+ShutsBy kept store b left gone =
+    KeepsOr (Ok tt) (cond b kept (take (length kept - 1) kept)) (cond b store (shut_in (last_of kept) store)) (file_side kept store)
+    (file_side left (with_gone_shut gone store))
+
+room_shut : (kept : List Entry) (store : StoreRecord) → KeepsFiles (file_side kept store) →
+    KeepsOr (Ok tt) (with_room_open kept) (store_with_room kept store) (file_side kept store) (file_side (staying kept) (with_gone_shut (gone_of kept) store))
+room_shut kept store keeps = by_room (room_or_full kept keeps.few)
+  where
+    by_room : HasRoom kept ⊎ IsFull kept → ShutsBy kept store (nat_lt (length kept) 32) (staying kept) (gone_of kept)
+    by_room (inl few) =
+        let lt : length kept < 32 = few.0 in
+        let test : nat_lt (length kept) 32 ≡ true = grind (arith, nat_tests) in
+        subst (λ (b : Bool). ShutsBy kept store b (staying kept) (gone_of kept)) (sym test)
+        (subst (λ (left : List Entry). ShutsBy kept store true left (gone_of kept)) (sym few.1)
+        (subst (λ (gone : Option ℕ). ShutsBy kept store true kept gone) (sym few.2) (becomes_same (file_side kept store) keeps, refl)))
+    by_room (inr full) =
+        let ge : 32 ≤ length kept = full.5 in
+        let test : nat_lt (length kept) 32 ≡ false = grind (arith, nat_tests) in
+        let Q : List Entry → Type 0 = λ all.
+        KeepsFiles (file_side all store) →
+        KeepsOr (Ok tt) (take (length all - 1) all) (shut_in (last_of all) store) (file_side all store)
+        (file_side full.0 (with_gone_shut (Some full.1.1) store))
+        in
+        let shuts : Q kept = subst Q (sym full.2) (shuts_oldest (Ok tt) full.1 full.0 store (with_gone_shut (Some full.1.1) store) refl) in
+        subst (λ (b : Bool). ShutsBy kept store b (staying kept) (gone_of kept)) (sym test)
+        (subst (λ (left : List Entry). ShutsBy kept store false left (gone_of kept)) (sym full.3)
+        (subst (λ (gone : Option ℕ). ShutsBy kept store false full.0 gone) (sym full.4) (shuts keeps)))
+
+opens_behind : (path : List ℕ) (old mid new : FileSide) →
     FilesBecome (with_room_open old.kept) old.store.files (store_with_room old.kept old.store) old mid × (mid.store.next ≡ old.store.next) →
-    OpensNew result path mid new →
-    OpensWithRoom result path old new
-opens_after_room (Ok ok) path old mid new room opens = record {
+    FilesBecome ((path, mid.store.next) ∷ mid.kept) (files_made path mid.store.files) (with_opened path mid.store) mid new →
+    FilesBecome ((path, old.store.next) ∷ with_room_open old.kept) (files_made path old.store.files)
+    (with_opened path (store_with_room old.kept old.store)) old new
+opens_behind path old mid new room opens = record {
   kept_now = opens.kept_now ∙ ap (λ (n : ℕ). (path, n) ∷ mid.kept) room.1 ∙ ap (λ (kept : List Entry). (path, old.store.next) ∷ kept) room.0.kept_now;
   files_now = opens.files_now ∙ ap (files_made path) room.0.files_now;
   store_now = opens.store_now ∙ ap (with_opened path) room.0.store_now;
@@ -267,16 +302,68 @@ opens_after_room (Ok ok) path old mid new room opens = record {
   long = opens.long ∙ room.0.long;
   keeps = opens.keeps;
 }
-opens_after_room (Err failed) path old mid new room fails =
-    fails_then (with_room_open old.kept) old.store.files (store_with_room old.kept old.store) old mid new room.0 fails
 
--- a path that is not kept is not kept after there was room made
-pub unknown_with_room : (path : List ℕ) (kept : List Entry) → number_under path kept ≡ None → number_under path (with_room_open kept) ≡ None
-unknown_with_room path kept unknown = by_test (nat_lt (length kept) MOST_OPEN)
-  where
-    by_test : (b : Bool) → number_under path (cond b kept (take (length kept - 1) kept)) ≡ None
-    by_test true = unknown
-    by_test false = not_under_front path (length kept - 1) kept unknown
+-- the entry of a path was reserved, its file was opened, and the entry got its number
+pub opens_reserved : (path : List ℕ) (file : ℕ) (kept now : List Entry) (old new : StoreRecord) → number_under path kept ≡ None →
+    KeepsFiles (file_side kept old) →
+    (file ≡ (with_gone_shut (gone_of kept) old).next) × (new ≡ with_opened path (with_gone_shut (gone_of kept) old)) →
+    now ≡ (path, file) ∷ staying kept →
+    FilesBecome (used path old.next kept) (files_made path old.files) (store_used path kept old) (file_side kept old) (file_side now new)
+opens_reserved path file kept now old new unknown keeps is kept_now =
+    let mid = file_side (staying kept) (with_gone_shut (gone_of kept) old) in
+    let room = room_shut kept old keeps in
+    let few : length (staying kept) < MOST_OPEN = omega (arith, length-take 31 kept) in
+    let opens = opens_new path file (staying kept) mid.store new (not_under_front path 31 kept unknown) few is room.0.keeps in
+    let all = opens_behind path (file_side kept old) mid (file_side ((path, file) ∷ staying kept) new) room opens in
+    subst
+    (λ (entries : List Entry). FilesBecome (used path old.next kept) (files_made path old.files) (store_used path kept old) (file_side kept old)
+    (file_side entries new))
+    (sym kept_now)
+    (subst
+    (λ (found : Option ℕ). FilesBecome (used_by found path old.next kept) (files_made path old.files) (store_used_by found path kept old) (file_side kept old)
+    (file_side ((path, file) ∷ staying kept) new))
+    (sym unknown)
+    all)
+
+-- the store failed, and what is kept then makes no difference
+store_failed : (kept left : List Entry) (old new : StoreRecord) → StoreFails old new → length kept ≤ MOST_OPEN →
+    FilesFail old.files (file_side kept old) (file_side left new)
+store_failed kept left old new fails few = record {
+  rose = fails.0;
+  files_now = ap (λ (store : StoreRecord). store.files) fails.1;
+  few_open = few_after_fault kept old new fails few;
+  long = ap (λ (store : StoreRecord). store.long) fails.1;
+}
+
+gone_failed : (failed : Failed) (gone : Option ℕ) (old new : StoreRecord) → ShutsGone gone (Err failed) old new → StoreFails old new
+gone_failed failed None old new shuts = absurd (cc shuts.0)
+gone_failed failed (Some number) old new shuts = shuts
+
+-- it was reserved, and the store failed
+pub opens_failed : (failed : Failed) (path : List ℕ) (kept now : List Entry) (old new : StoreRecord) → KeepsFiles (file_side kept old) →
+    OpensAfter (Err failed) (gone_of kept) path old new → FilesFail old.files (file_side kept old) (file_side now new)
+opens_failed failed path kept now old new keeps (inl shuts) = store_failed kept now old new (gone_failed failed (gone_of kept) old new shuts) keeps.few
+opens_failed failed path kept now old new keeps (inr fails) =
+    let mid = file_side (staying kept) (with_gone_shut (gone_of kept) old) in
+    let room = room_shut kept old keeps in
+    fails_then (with_room_open kept) old.files (store_with_room kept old) (file_side kept old) mid (file_side now new) room.0
+    (store_failed (staying kept) now mid.store new fails room.0.keeps.few)
+
+-- what goes is open
+pub gone_open : (kept : List Entry) (store : StoreRecord) → KeepsFiles (file_side kept store) →
+    IfSome (gone_of kept) (λ number. IsOpen (file_no number) store)
+gone_open kept store keeps = each_gone (IsOpenUnder store) (λ number. IsOpen (file_no number) store) (λ it opens. opens.is_open) kept 31 keeps.are_open
+
+gone_shut : (gone : Option ℕ) (old mid : StoreRecord) → ShutsGone gone (Ok tt) old mid → mid ≡ with_gone_shut gone old
+gone_shut None old mid shuts = shuts.1
+gone_shut (Some number) old mid shuts = shuts
+
+pub opens_after : (result : Result FileNo Failed) (gone : Option ℕ) (path : List ℕ) (old mid new : StoreRecord) → ShutsGone gone (Ok tt) old mid →
+    OpensFile result path mid new → OpensAfter result gone path old new
+opens_after (Ok file) gone path old mid new shuts opens =
+    subst (λ (store : StoreRecord). OpensFile (Ok file) path store new) (gone_shut gone old mid shuts) opens
+opens_after (Err failed) gone path old mid new shuts fails =
+    inr (subst (λ (store : StoreRecord). StoreFails store new) (gone_shut gone old mid shuts) fails)
 
 -- the newest file that is kept after that of a path was used
 newest_used : (path : List ℕ) (next : ℕ) (found : Option ℕ) (kept : List Entry) (it : Entry) (others : List Entry) →

@@ -1,75 +1,16 @@
--- Entries in the order of their use: what is found, what is left, and what holds of each.
-use Rattle.std.proofs.Common.{◌≡◌, ◌≢◌, ◌∙◌, ℕ, zero, suc, ◌+◌, ◌-◌, ◌<◌, Bool, true, false, cond, List, [], ◌∷◌, ◌++◌, length, get_or, take, Option, Some, None, refl, sym, ap, subst, arith, length-append}
-use Rattle.std.specs.Prelude.{bytes_eq, position, remove, slice_get}
-use Rattle.std.specs.Map.{remove_entry}
+-- Entries in the order of their use: what is found, what goes, what is left, and what holds of each.
+use Rattle.std.proofs.Common.{◌≡◌, ◌≢◌, ◌∙◌, ℕ, zero, suc, ◌-◌, ◌<◌, ◌≤◌, ◌⊎◌, inl, inr, Bool, true, false, cond, List, [], ◌∷◌, ◌++◌, length, take, Option, Some, None, option_map, refl, sym, ap, subst, arith, length-append}
+use Rattle.std.specs.Prelude.{IfSome, IsSome, bytes_eq, is_some, slice_get}
+use Rattle.std.specs.Map.{remove_entry, set_value}
 use Rattle.std.proofs.Math.Seq.{take-append_seam}
-use Rattle.std.proofs.lemmas.Bool.{false≢true}
+use Rattle.std.proofs.lemmas.Bool.{cases_lt, false≢true}
+use Rattle.std.proofs.lemmas.List.{take_all}
+use Rattle.std.proofs.lemmas.Option.{slice_get_past}
 use Rattle.std.proofs.lemmas.Slice.Eq.{bytes_eq-Decides}
-use Rattle.std.proofs.lemmas.List.Quantifiers.{position-Some}
-use Rattle.std.specs.List.{position_from}
-use Rattle.std.proofs.lemmas.Iterator.Adapters.{position_from-zero}
-use Rattle.ldm_actions.specs.Kept.{AreApart, Differs, Each, IsMovedToFront, number_under, raised, raised_by}
+use Rattle.ldm_actions.specs.Kept.{AreApart, Differs, Each, IsNewest, TakesOldest, first_of, gone_of, last_of, number_of, number_under, raised, raised_by, staying}
 
 abbrev pub Entry : Type 0
 Entry = List ℕ × ℕ
-
-module _ (name : List ℕ) where
-  abbrev named : Entry → Bool
-  named it = bytes_eq name it.0
-
-  -- the first entry of the name is at that place
-  abbrev IsFirstNamed : List Entry → ℕ → Entry → Type 0
-  IsFirstNamed kept i d = (i < length kept) × (named (get_or kept i d) ≡ true) × ((k : ℕ) → k < i → named (get_or kept k d) ≡ false)
-
-  behind : (it : Entry) (others : List Entry) (i : ℕ) (d : Entry) → IsFirstNamed (it ∷ others) (suc i) d → IsFirstNamed others i d
-  behind it others i d first = (omega (arith, first.0), first.1, λ k h. first.2 (suc k) (omega (arith, h)))
-
-  first_number : (kept : List Entry) (i : ℕ) (d : Entry) → IsFirstNamed kept i d → number_under name kept ≡ Some (get_or kept i d).1
-  first_number [] i d first = absurd (omega (arith, first.0))
-  first_number (it ∷ others) zero d first = rw (first.1) refl
-  first_number (it ∷ others) (suc i) d first = rw (first.2 0 (omega arith)) (first_number others i d (behind it others i d first))
-
-  first_removed : (kept : List Entry) (i : ℕ) (d : Entry) → IsFirstNamed kept i d → remove_entry (bytes_eq name) kept ≡ remove kept i
-  first_removed [] i d first = absurd (omega (arith, first.0))
-  first_removed (it ∷ others) zero d first = rw (first.1) refl
-  first_removed (it ∷ others) (suc i) d first =
-      rw (first.2 0 (omega arith)) (ap (λ (rest : List Entry). it ∷ rest) (first_removed others i d (behind it others i d first)))
-
-  none_named : (kept : List Entry) (i : ℕ) → position_from named i kept ≡ None → number_under name kept ≡ None
-  none_named [] i none = refl
-  none_named (it ∷ others) i none = by_test (named it) (none_named others (i + 1)) none
-    where
-      by_test : (b : Bool) → (position_from named (i + 1) others ≡ None → number_under name others ≡ None) →
-          cond b (Some i) (position_from named (i + 1) others) ≡ None → cond b (Some it.1) (number_under name others) ≡ None
-      by_test true later none = absurd (cc)
-      by_test false later none = later none
-
-  -- no entry was found
-  pub not_found : (kept : List Entry) → position named kept ≡ None → number_under name kept ≡ None
-  not_found kept none = none_named kept 0 (sym (position_from-zero named kept) ∙ none)
-
-  pub not_raised : (kept : List Entry) → position named kept ≡ None → kept ≡ raised name kept
-  not_raised kept none = ap (λ (found : Option ℕ). raised_by found name kept) (sym (not_found kept none))
-
-  -- one was found, and moved to the front
-  module _ (kept new : List Entry) (i number : ℕ) (at : position named kept ≡ Some i) (moved : IsMovedToFront i number kept new) where
-    pub found_number : Some number ≡ number_under name kept
-    found_number =
-        ap (λ (n : ℕ). Some n) (moved.2 ∙ ap (λ (it : Entry). it.1) moved.1) ∙ sym (first_number kept i moved.0 (position-Some named kept i moved.0 at))
-
-    found_name : name ≡ moved.0.0
-    found_name =
-        let first = position-Some named kept i moved.0 at in
-        let equal : bytes_eq name moved.0.0 ≡ true = ap (λ (it : Entry). bytes_eq name it.0) moved.1 ∙ first.1 in
-        (bytes_eq-Decides name moved.0.0).0 equal
-
-    pub found_raised : new ≡ raised name kept
-    found_raised =
-        moved.3
-        ∙ ap (λ (rest : List Entry). moved.0 ∷ rest) (sym (first_removed kept i moved.0 (position-Some named kept i moved.0 at)))
-        ∙ ap (λ (n : List ℕ). (n, moved.0.1) ∷ remove_entry (bytes_eq name) kept) (sym found_name)
-        ∙ ap (λ (n : ℕ). (name, n) ∷ remove_entry (bytes_eq name) kept) (sym moved.2)
-        ∙ ap (λ (found : Option ℕ). raised_by found name kept) found_number
 
 module _ (P : Entry → Type 0) where
   pub each_front : (kept others : List Entry) → Each P (kept ++ others) → Each P kept
@@ -181,3 +122,91 @@ last_part (it ∷ []) some = ([], it, refl)
 last_part (it ∷ other ∷ others) some =
     let rest = last_part (other ∷ others) (omega arith) in
     (it ∷ rest.0, rest.1, ap (λ (all : List Entry). it ∷ all) rest.2)
+
+-- ---- a name that is there, or is not
+
+pub found_some : (found : Option ℕ) (b : Bool) → b ≡ is_some found → b ≡ true → (number : ℕ) × (found ≡ Some number)
+found_some None b is test = absurd (false≢true (sym is ∙ test))
+found_some (Some number) b is test = (number, refl)
+
+pub found_none : (found : Option ℕ) (b : Bool) → b ≡ is_some found → b ≡ false → found ≡ None
+found_none None b is test = refl
+found_none (Some number) b is test = absurd (false≢true (sym test ∙ is))
+
+-- nothing was raised where no entry has the name
+pub not_raised : (name : List ℕ) (kept new : List Entry) (b : Bool) → b ≡ is_some (number_under name kept) → b ≡ false → new ≡ raised name kept → new ≡ kept
+not_raised name kept new b found test is =
+    is ∙ ap (λ (number : Option ℕ). raised_by number name kept) (found_none (number_under name kept) b found test)
+
+-- the newest entry got its number
+pub numbered : (name : List ℕ) (number other : ℕ) (kept reserved new : List Entry) → reserved ≡ (name, other) ∷ kept →
+    new ≡ set_value (bytes_eq name) reserved number → new ≡ (name, number) ∷ kept
+numbered name number other kept reserved new is set =
+    let equal : bytes_eq name name ≡ true = (bytes_eq-Decides name name).1 refl in
+    set
+    ∙ ap (λ (all : List Entry). set_value (bytes_eq name) all number) is
+    ∙ ap (λ (b : Bool). cond b ((name, number) ∷ kept) ((name, other) ∷ set_value (bytes_eq name) kept number)) equal
+
+-- ---- the newest and the oldest
+
+pub some_first : (kept : List Entry) → 0 < length kept → IsSome (option_map number_of (first_of kept))
+some_first [] some = absurd (omega (arith, some))
+some_first (it ∷ others) some = refl
+
+pub first_newest : (kept : List Entry) (first : Option ℕ) (number : ℕ) → first ≡ option_map number_of (first_of kept) → first ≡ Some number →
+    (name : List ℕ) × IsNewest (name, number) kept
+first_newest [] first number is some = absurd (cc)
+first_newest (it ∷ others) first number is some =
+    let same : it.1 ≡ number = cc in
+    (it.0, record { others = others; is = ap (λ (n : ℕ). (it.0, n) ∷ others) same })
+
+last_taken : (front : List Entry) (it : Entry) →
+    TakesOldest (option_map number_of (last_of (front ++ it ∷ []))) (front ++ it ∷ []) (take (length (front ++ it ∷ []) - 1) (front ++ it ∷ []))
+last_taken front it =
+    let all : List Entry = front ++ it ∷ [] in
+    subst (λ (last : Option Entry). TakesOldest (option_map number_of last) all (take (length all - 1) all)) (sym (last_is front it))
+    (it.0, ap (λ (left : List Entry). left ++ it ∷ []) (sym (take_front front it)))
+
+pub takes_last : (kept : List Entry) → TakesOldest (option_map number_of (last_of kept)) kept (take (length kept - 1) kept)
+takes_last [] = (refl, refl)
+takes_last (first ∷ others) =
+    let last = last_part (first ∷ others) (omega arith) in
+    subst (λ (all : List Entry). TakesOldest (option_map number_of (last_of all)) all (take (length all - 1) all)) (sym last.2)
+    (last_taken last.0 last.1)
+
+-- ---- what goes where one more is kept
+
+-- there is room for one more, and nothing goes
+abbrev pub HasRoom : List Entry → Type 0
+HasRoom kept = (length kept < 32) × (staying kept ≡ kept) × (gone_of kept ≡ None)
+
+-- there is none, and the oldest goes
+abbrev pub IsFull : List Entry → Type 0
+IsFull kept = (front : List Entry) × (it : Entry) × (kept ≡ front ++ it ∷ []) × (staying kept ≡ front) × (gone_of kept ≡ Some it.1) × (32 ≤ length kept)
+
+pub room_or_full : (kept : List Entry) → length kept ≤ 32 → HasRoom kept ⊎ IsFull kept
+room_or_full kept most = elim (cases_lt (length kept) 32) [
+  | inl lt ↦ inl (lt, take_all 31 kept (omega (arith, lt)), ap (option_map number_of) (slice_get_past kept 31 (omega (arith, lt))))
+  | inr ge ↦ inr (full ge)
+]
+  where
+    full : 32 ≤ length kept → IsFull kept
+    full ge =
+        let last = last_part kept (omega (arith, ge)) in
+        let n : 31 ≡ length kept - 1 = omega (arith, most, ge) in (
+          last.0,
+          last.1,
+          last.2,
+          ap (λ (m : ℕ). take m kept) n ∙ ap (λ (all : List Entry). take (length all - 1) all) last.2 ∙ take_front last.0 last.1,
+          ap (λ (m : ℕ). option_map number_of (slice_get kept m)) n
+              ∙ ap (λ (all : List Entry). option_map number_of (last_of all)) last.2
+              ∙ ap (option_map number_of) (last_is last.0 last.1),
+          ge,
+        )
+
+-- what holds of each that is kept holds of what goes
+pub each_gone : (P : Entry → Type 0) (Q : ℕ → Type 0) → ((it : Entry) → P it → Q it.1) → (kept : List Entry) (n : ℕ) → Each P kept →
+    IfSome (option_map number_of (slice_get kept n)) Q
+each_gone P Q step [] n all = tt
+each_gone P Q step (it ∷ kept) zero all = step it all.0
+each_gone P Q step (it ∷ kept) (suc n) all = each_gone P Q step kept n all.1

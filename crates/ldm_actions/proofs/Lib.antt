@@ -2,6 +2,7 @@ pub mod Pieces
 pub mod Commands
 pub mod Fronts
 pub mod KeptLemmas
+pub mod Named
 pub mod TextFronts
 pub mod FileSteps
 pub mod JoinLemmas

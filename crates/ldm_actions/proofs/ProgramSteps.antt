@@ -1,22 +1,23 @@
 -- What the launcher does to the programs that run under PIPE.
 use Rattle.std.proofs.Common.{◌≡◌, ◌≢◌, ◌∙◌, ℕ, ◌-◌, ◌<◌, ◌≤◌, ◌⊎◌, inl, inr, Bool, true, false, cond, List, [], ◌∷◌, ◌++◌, length, take, Option, Some, None, Result, Ok, Err, refl, sym, ap, subst, arith, append_assoc, length-append, length-take}
-use Rattle.std.specs.Prelude.{bytes_eq, nat_lt, String}
+use Rattle.std.specs.Prelude.{IfSome, bytes_eq, nat_lt, String}
 use Rattle.std.specs.Map.{remove_entry}
 use Rattle.std.specs.declared.alloc.Global.{Global}
 use Rattle.std.proofs.lemmas.Bool.Decides.{nat_tests}
 use Rattle.ldm_outside.specs.Count.{Rose}
 use Rattle.ldm_outside.specs.declared.fault.Failed.{Failed}
+use Rattle.ldm_outside.specs.declared.launcher.ChildNo.{ChildNo}
 use Rattle.ldm_outside.specs.Launcher.{IsTaking, LauncherFails, LauncherRecord, spelled, with_started}
 use Rattle.ldm_outside.specs.Store.{File}
 use Rattle.ldm_outside.proofs.StoreLemmas.{IsTaking-before, IsTaking-last, IsTaking-others, IsTaking-waited}
 use Rattle.ldm_actions.specs.declared.limits.TheConstants.{MOST_PIPED}
 use Rattle.ldm_actions.specs.Effects.{all_over, closed, ended, piped_by, with_first_over, with_new, with_room}
-use Rattle.ldm_actions.specs.Kept.{Differs, last_of, number_under, raised, raised_by}
-use Rattle.ldm_actions.specs.Parts.{all_over_parts, over_parts, room_parts}
-use Rattle.ldm_actions.specs.Programs.{ChangesOr, EndsChild, IsOneOf, KeepsPrograms, ProgramSide, ProgramsBecome, ProgramsFail, by_program, closing_parts, first_parts, full_parts, last_parts, outside_with, program_side, start_parts, with_child_over, with_input_closed, with_last_over, with_program, world_with}
+use Rattle.ldm_actions.specs.Kept.{Differs, gone_of, last_of, number_under, raised, raised_by, staying}
+use Rattle.ldm_actions.specs.Parts.{all_over_parts, over_parts, pipe_parts, room_parts}
+use Rattle.ldm_actions.specs.Programs.{ChangesOr, EndsChild, EndsGone, IsOneOf, KeepsPrograms, ProgramSide, ProgramsBecome, ProgramsFail, StartsAfter, StartsProgram, by_program, by_program_parts, closing_parts, first_parts, last_parts, outside_with, program_side, with_child_over, with_gone_over, with_input_closed, with_last_over, world_with}
 use Rattle.ldm_actions.specs.World.{Outside, World, child_no, command_of, input_shut, over}
 use Rattle.ldm_actions.proofs.Commands.{one_less}
-use Rattle.ldm_actions.proofs.KeptLemmas.{Entry, apart_found, apart_front, apart_last, differs_under, each_both, each_found, each_front, each_then, last_is, last_part, not_under_front, take_front}
+use Rattle.ldm_actions.proofs.KeptLemmas.{Entry, HasRoom, IsFull, apart_found, apart_front, apart_last, differs_under, each_both, each_found, each_front, each_gone, each_then, last_is, last_part, not_under_front, room_or_full, take_front}
 
 module _ (old new : LauncherRecord) where
   -- a child takes bytes still where another was ended
@@ -100,7 +101,7 @@ ends_newest (Ok ok) it kept old new is keeps = record {
 ends_newest (Err failed) it kept old new fails keeps = record { rose = ends_rose old new it.1 fails; stands = λ files. ends_stands old new it.1 files fails }
 
 -- there is room
-pub room_there : (side : ProgramSide) → length side.kept < MOST_PIPED → KeepsPrograms side → ProgramsBecome with_room side side
+room_there : (side : ProgramSide) → length side.kept < MOST_PIPED → KeepsPrograms side → ProgramsBecome with_room side side
 unfolding with_room
 room_there side room keeps =
     let test : nat_lt (length side.kept) MOST_PIPED ≡ true = grind (arith, nat_tests) in
@@ -112,26 +113,18 @@ room_there side room keeps =
     }
 
 -- there is none
-pub room_made : (result : Result (Unit {0}) Failed) (old new : ProgramSide) → MOST_PIPED ≤ length old.kept → ChangesOr result with_last_over last_parts old new →
-    ChangesOr result with_room full_parts old new
+room_made : (old new : ProgramSide) → 32 ≤ length old.kept → ProgramsBecome with_last_over old new → ProgramsBecome with_room old new
 unfolding with_room
-room_made (Ok ok) old new full over =
-    let test : nat_lt (length old.kept) MOST_PIPED ≡ false = grind (arith, nat_tests) in
+room_made old new full over =
+    let test : nat_lt (length old.kept) 32 ≡ false = grind (arith, nat_tests) in
     record {
       world = λ files.
           over.world files ∙ ap (λ (b : Bool). cond b (world_with files old) (with_last_over (world_with files old))) (sym test);
       faults = over.faults;
       keeps = over.keeps;
     }
-room_made (Err failed) old new full fails =
-    let test : nat_lt (length old.kept) MOST_PIPED ≡ false = grind (arith, nat_tests) in
-    record {
-      rose = fails.rose;
-      stands = λ files.
-          subst (λ (b : Bool). IsOneOf (cond b [] (last_parts (world_with files old))) (outside_with files new.launcher)) (sym test) (fails.stands files);
-    }
 
-pub starts : (words : List (List ℕ)) (command : List ℕ) (child : ℕ) (kept : List Entry) (old new : LauncherRecord) (told : List (String Global)) →
+starts : (words : List (List ℕ)) (command : List ℕ) (child : ℕ) (kept : List Entry) (old new : LauncherRecord) (told : List (String Global)) →
     spelled told ≡ words → command ≡ command_of words → number_under command kept ≡ None → length kept < MOST_PIPED →
     (child ≡ old.next) × (new ≡ with_started told true old) → KeepsPrograms (program_side kept old) →
     ProgramsBecome (with_new words) (program_side kept old) (program_side ((command, child) ∷ kept) new)
@@ -146,47 +139,139 @@ starts words command child kept old new told spells its_own unknown room is keep
 }
 
 -- one of some is one of more
-pub one_behind : (some more : List Outside) (x : Outside) → IsOneOf more x → IsOneOf (some ++ more) x
+one_behind : (some more : List Outside) (x : Outside) → IsOneOf more x → IsOneOf (some ++ more) x
 one_behind [] more x one = one
 one_behind (y ∷ some) more x one = inr (one_behind some more x one)
 
-pub one_before : (some more : List Outside) (x : Outside) → IsOneOf some x → IsOneOf (some ++ more) x
+one_before : (some more : List Outside) (x : Outside) → IsOneOf some x → IsOneOf (some ++ more) x
 one_before [] more x one = absurd one
 one_before (y ∷ some) more x (inl same) = inl same
 one_before (y ∷ some) more x (inr one) = inr (one_before some more x one)
 
-pub room_fails : (old new : ProgramSide) → ProgramsFail full_parts old new → ProgramsFail room_parts old new
-room_fails old new fails = record {
-  rose = fails.rose;
+-- the oldest could not be ended
+room_failed : (old new : ProgramSide) → 32 ≤ length old.kept → ProgramsFail last_parts old new → ProgramsFail room_parts old new
+room_failed old new full fails =
+    let test : nat_lt (length old.kept) 32 ≡ false = grind (arith, nat_tests) in
+    record {
+      rose = fails.rose;
+      stands = λ files.
+          let world = world_with files old in
+          one_before (cond (nat_lt (length old.kept) 32) [] (last_parts world)) ((with_room world).outside ∷ []) (outside_with files new.launcher)
+          (subst (λ (b : Bool). IsOneOf (cond b [] (last_parts world)) (outside_with files new.launcher)) (sym test) (fails.stands files));
+    }
+
+-- the program could not be started behind that
+start_failed : (old mid new : ProgramSide) → ProgramsBecome with_room old mid → LauncherFails mid.launcher new.launcher → ProgramsFail room_parts old new
+start_failed old mid new room fails = record {
+  rose = subst (λ (faults : ℕ). Rose faults new.launcher.faults) room.faults fails.0;
   stands = λ files.
-      one_before (full_parts (world_with files old)) ((with_room (world_with files old)).outside ∷ []) (outside_with files new.launcher) (fails.stands files);
+      let world = world_with files old in
+      one_behind (cond (nat_lt (length old.kept) 32) [] (last_parts world)) ((with_room world).outside ∷ []) (outside_with files new.launcher)
+      (inl (ap (outside_with files) fails.1 ∙ ap (λ (w : World). w.outside) (room.world files)));
 }
 
--- a command that is not kept is not kept after there was room made
-pub unknown_with_room : (command : List ℕ) (world : World) → number_under command world.piped ≡ None → number_under command (with_room world).piped ≡ None
-unfolding with_room
-unknown_with_room command world unknown = by_test (nat_lt (length world.piped) MOST_PIPED)
-  where
-    by_test : (b : Bool) → number_under command (cond b world (with_last_over world)).piped ≡ None
-    by_test true = unknown
-    by_test false = not_under_front command (length world.piped - 1) world.piped unknown
-
-pub room_kept : (old mid : ProgramSide) → ProgramsBecome with_room old mid → mid.kept ≡ (with_room (world_with None old)).piped
-room_kept old mid room = ap (λ (world : World). world.piped) (room.world None)
-
-pub starts_after_room : (result : Result (Unit {0}) Failed) (words : List (List ℕ)) (old mid new : ProgramSide) → ProgramsBecome with_room old mid →
-    ChangesOr result (with_new words) start_parts mid new → ChangesOr result (with_program words) room_parts old new
-starts_after_room (Ok ok) words old mid new room starts = record {
+starts_behind : (words : List (List ℕ)) (old mid new : ProgramSide) → ProgramsBecome with_room old mid → ProgramsBecome (with_new words) mid new →
+    ProgramsBecome (λ world. with_new words (with_room world)) old new
+starts_behind words old mid new room starts = record {
   world = λ files. starts.world files ∙ ap (with_new words) (room.world files);
   faults = starts.faults ∙ room.faults;
   keeps = starts.keeps;
 }
-starts_after_room (Err failed) words old mid new room fails = record {
-  rose = subst (λ (faults : ℕ). Rose faults new.launcher.faults) room.faults fails.rose;
-  stands = λ files.
-      one_behind (full_parts (world_with files old)) ((with_room (world_with files old)).outside ∷ []) (outside_with files new.launcher)
-      (subst (λ (world : World). IsOneOf (world.outside ∷ []) (outside_with files new.launcher)) (room.world files) (fails.stands files));
-}
+
+-- ---- a program is started under a command that is not kept, and another is ended where there is no room
+
+room_ended : (kept : List Entry) (launcher : LauncherRecord) → KeepsPrograms (program_side kept launcher) →
+    ProgramsBecome with_room (program_side kept launcher) (program_side (staying kept) (with_gone_over (gone_of kept) launcher))
+room_ended kept launcher keeps = by_room (room_or_full kept keeps.few)
+  where
+    by_room : HasRoom kept ⊎ IsFull kept →
+        ProgramsBecome with_room (program_side kept launcher) (program_side (staying kept) (with_gone_over (gone_of kept) launcher))
+    by_room (inl few) =
+        subst (λ (left : List Entry). ProgramsBecome with_room (program_side kept launcher) (program_side left (with_gone_over (gone_of kept) launcher))) (sym few.1)
+        (subst (λ (gone : Option ℕ). ProgramsBecome with_room (program_side kept launcher) (program_side kept (with_gone_over gone launcher))) (sym few.2)
+        (room_there (program_side kept launcher) few.0 keeps))
+    by_room (inr full) =
+        let over = with_gone_over (Some full.1.1) launcher in
+        let Q : List Entry → Type 0 = λ all.
+        KeepsPrograms (program_side all launcher) → ProgramsBecome with_last_over (program_side all launcher) (program_side full.0 over)
+        in
+        let ends : Q kept = subst Q (sym full.2) (ends_oldest (Ok tt) full.1 full.0 launcher over refl) in
+        subst (λ (left : List Entry). ProgramsBecome with_room (program_side kept launcher) (program_side left (with_gone_over (gone_of kept) launcher))) (sym full.3)
+        (subst (λ (gone : Option ℕ). ProgramsBecome with_room (program_side kept launcher) (program_side full.0 (with_gone_over gone launcher))) (sym full.4)
+        (room_made (program_side kept launcher) (program_side full.0 over) full.5 (ends keeps)))
+
+-- the one that goes could not be ended
+gone_failed : (failed : Failed) (kept now : List Entry) (old new : LauncherRecord) → KeepsPrograms (program_side kept old) →
+    EndsGone (gone_of kept) (Err failed) old new → ProgramsFail room_parts (program_side kept old) (program_side now new)
+gone_failed failed kept now old new keeps ends = by_room (room_or_full kept keeps.few)
+  where
+    by_room : HasRoom kept ⊎ IsFull kept → ProgramsFail room_parts (program_side kept old) (program_side now new)
+    by_room (inl few) = let none = subst (λ (gone : Option ℕ). EndsGone gone (Err failed) old new) few.2 ends in absurd (cc none.0)
+    by_room (inr full) =
+        let last = subst (λ (gone : Option ℕ). EndsGone gone (Err failed) old new) full.4 ends in
+        let Q : List Entry → Type 0 = λ all.
+        KeepsPrograms (program_side all old) → ProgramsFail last_parts (program_side all old) (program_side full.0 new)
+        in
+        let fails : Q kept = subst Q (sym full.2) (ends_oldest (Err failed) full.1 full.0 old new last) in
+        let now_fails = room_failed (program_side kept old) (program_side full.0 new) full.5 (fails keeps) in
+        record { rose = now_fails.rose; stands = now_fails.stands }
+
+-- the entry of a command was reserved, its program was started, and the entry got its number
+pub starts_reserved : (words : List (List ℕ)) (command : List ℕ) (child : ChildNo) (kept now : List Entry) (old new : LauncherRecord) →
+    command ≡ command_of words → number_under command kept ≡ None → KeepsPrograms (program_side kept old) →
+    StartsAfter (Ok child) (gone_of kept) words old new → now ≡ (command, child.0) ∷ staying kept →
+    ProgramsBecome (by_program words) (program_side kept old) (program_side now new)
+starts_reserved words command child kept now old new its_own unknown keeps is kept_now =
+    let mid = program_side (staying kept) (with_gone_over (gone_of kept) old) in
+    let room = room_ended kept old keeps in
+    let few : length (staying kept) < MOST_PIPED = omega (arith, length-take 31 kept) in
+    let began =
+    starts words command child.0 (staying kept) mid.launcher new is.0 is.1 its_own (not_under_front command 31 kept unknown) few is.2 room.keeps
+    in
+    let all = starts_behind words (program_side kept old) mid (program_side ((command, child.0) ∷ staying kept) new) room began in
+    let none : number_under (command_of words) kept ≡ None = subst (λ (name : List ℕ). number_under name kept ≡ None) its_own unknown in
+    subst (λ (entries : List Entry). ProgramsBecome (by_program words) (program_side kept old) (program_side entries new)) (sym kept_now)
+    (record {
+      world = λ files. all.world files ∙ ap (λ (found : Option ℕ). piped_by found words (world_with files (program_side kept old))) (sym none);
+      faults = all.faults;
+      keeps = all.keeps;
+    })
+
+-- it was reserved, and the launcher failed
+pub starts_failed : (failed : Failed) (words : List (List ℕ)) (command : List ℕ) (kept now : List Entry) (old new : LauncherRecord) →
+    command ≡ command_of words → number_under command kept ≡ None → KeepsPrograms (program_side kept old) →
+    StartsAfter (Err failed) (gone_of kept) words old new → ProgramsFail (by_program_parts words) (program_side kept old) (program_side now new)
+starts_failed failed words command kept now old new its_own unknown keeps is =
+    let none : number_under (command_of words) kept ≡ None = subst (λ (name : List ℕ). number_under name kept ≡ None) its_own unknown in
+    let fails = by_fault is in
+    record {
+      rose = fails.rose;
+      stands = λ files.
+          subst (λ (found : Option ℕ). IsOneOf (pipe_parts found (world_with files (program_side kept old))) (outside_with files new)) (sym none)
+          (fails.stands files);
+    }
+  where
+    by_fault : StartsAfter (Err failed) (gone_of kept) words old new → ProgramsFail room_parts (program_side kept old) (program_side now new)
+    by_fault (inl ends) = gone_failed failed kept now old new keeps ends
+    by_fault (inr fails) =
+        start_failed (program_side kept old) (program_side (staying kept) (with_gone_over (gone_of kept) old)) (program_side now new) (room_ended kept old keeps) fails
+
+-- what goes takes bytes
+pub gone_taking : (kept : List Entry) (launcher : LauncherRecord) → KeepsPrograms (program_side kept launcher) →
+    IfSome (gone_of kept) (λ number. IsTaking (child_no number) launcher)
+gone_taking kept launcher keeps =
+    each_gone (λ it. IsTaking (child_no it.1) launcher) (λ number. IsTaking (child_no number) launcher) (λ it taking. taking) kept 31 keeps.are_taking
+
+gone_over : (gone : Option ℕ) (old mid : LauncherRecord) → EndsGone gone (Ok tt) old mid → mid ≡ with_gone_over gone old
+gone_over None old mid ends = ends.1
+gone_over (Some number) old mid ends = ends
+
+pub starts_after : (result : Result ChildNo Failed) (gone : Option ℕ) (words : List (List ℕ)) (old mid new : LauncherRecord) →
+    EndsGone gone (Ok tt) old mid → StartsProgram result words true mid new → StartsAfter result gone words old new
+starts_after (Ok child) gone words old mid new ends starts =
+    subst (λ (launcher : LauncherRecord). StartsProgram (Ok child) words true launcher new) (gone_over gone old mid ends) starts
+starts_after (Err failed) gone words old mid new ends fails =
+    inr (subst (λ (launcher : LauncherRecord). LauncherFails launcher new) (gone_over gone old mid ends) fails.2)
 
 -- the program of a command is used that is kept
 uses_kept : (command : List ℕ) (number : ℕ) (kept : List Entry) (launcher : LauncherRecord) → number_under command kept ≡ Some number →

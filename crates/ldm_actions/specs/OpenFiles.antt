@@ -4,7 +4,7 @@ use Rattle.ldm_outside.specs.Count.{Rose}
 use Rattle.ldm_outside.specs.declared.fault.Failed.{Failed}
 use Rattle.ldm_outside.specs.declared.store.FileNo.{FileNo}
 use Rattle.ldm_outside.specs.Numbered.{without_number}
-use Rattle.ldm_outside.specs.Store.{File, IsOpen, StoreRecord, path_of, with_changed, with_flushed, with_made, with_opened}
+use Rattle.ldm_outside.specs.Store.{File, IsOpen, OpensFile, ShutsFile, StoreFails, StoreRecord, path_of, with_changed, with_flushed, with_made, with_opened}
 use Rattle.ldm_actions.specs.declared.answers.Begun.{Begun}
 use Rattle.ldm_actions.specs.declared.answers.Begun.TheVariants as begun
 use Rattle.ldm_actions.specs.declared.limits.TheConstants.{MOST_OPEN}
@@ -42,6 +42,11 @@ OpensNoMore side = length side.store.paths ≤ length side.kept
 abbrev pub shut_in : Option (List ℕ × ℕ) → StoreRecord → StoreRecord
 shut_in None store = store
 shut_in (Some it) store = record store { paths = without_number it.1 store.paths }
+
+-- the same of a file by its number
+abbrev pub with_gone_shut : Option ℕ → StoreRecord → StoreRecord
+with_gone_shut None store = store
+with_gone_shut (Some number) store = record store { paths = without_number number store.paths }
 
 -- after one that is kept was flushed, if there is one: it has been flushed once more
 abbrev pub flushed_in : Option (List ℕ × ℕ) → StoreRecord → StoreRecord
@@ -123,23 +128,20 @@ pub record FilesFail (files : Option (List File)) (old new : FileSide) : Type 0 
   pub few_open : OpensNoMore old → length new.store.paths ≤ MOST_OPEN
   pub long : new.store.long ≡ old.store.long
 
+-- What shutting the file of a number did, if there is one,
+abbrev pub ShutsGone : Option ℕ → Result (Unit {0}) Failed → StoreRecord → StoreRecord → Type 0
+ShutsGone None result old new = (result ≡ Ok tt) × (new ≡ old)
+ShutsGone (Some number) result old new = ShutsFile result (file_no number) old new
+
+-- and opening the file of a path behind that.
+abbrev pub OpensAfter : Result FileNo Failed → Option ℕ → List ℕ → StoreRecord → StoreRecord → Type 0
+OpensAfter (Ok file) gone path old new = OpensFile (Ok file) path (with_gone_shut gone old) new
+OpensAfter (Err failed) gone path old new = ShutsGone gone (Err failed) old new ⊎ StoreFails (with_gone_shut gone old) new
+
 -- What a step did that changes no file: these are kept after it, and this is what the store tells; or the store failed.
 abbrev pub KeepsOr : Result (Unit {0}) Failed → List (List ℕ × ℕ) → StoreRecord → FileSide → FileSide → Type 0
 KeepsOr (Ok ok) kept store old new = FilesBecome kept old.store.files store old new × (new.store.next ≡ old.store.next)
 KeepsOr (Err failed) kept store old new = FilesFail old.store.files old new
-
--- What opening the file of a path did.
-abbrev pub OpensNew : Result (Unit {0}) Failed → List ℕ → FileSide → FileSide → Type 0
-OpensNew (Ok ok) path old new =
-    FilesBecome ((path, old.store.next) ∷ old.kept) (files_made path old.store.files) (with_opened path old.store) old new
-OpensNew (Err failed) path old new = FilesFail old.store.files old new
-
--- What it did with room for it.
-abbrev pub OpensWithRoom : Result (Unit {0}) Failed → List ℕ → FileSide → FileSide → Type 0
-OpensWithRoom (Ok ok) path old new =
-    FilesBecome ((path, old.store.next) ∷ with_room_open old.kept) (files_made path old.store.files)
-    (with_opened path (store_with_room old.kept old.store)) old new
-OpensWithRoom (Err failed) path old new = FilesFail old.store.files old new
 
 -- What using the file of a path did: it is open, and was made where it was not there; or the store failed, before that; or there
 -- was no memory, and nothing was done.

@@ -1,5 +1,5 @@
 -- Programs that run under PIPE, and what each step of keeping them does.
-use Rattle.std.specs.Prelude.{◌≡◌, ℕ, ◌-◌, ◌≤◌, ◌⊎◌, Bool, false, true, nat_lt, if◌then◌else◌, List, [], ◌∷◌, length, take, Option, option_map, Result, Ok, Err, String}
+use Rattle.std.specs.Prelude.{◌≡◌, ℕ, ◌-◌, ◌≤◌, ◌⊎◌, Bool, false, true, if◌then◌else◌, List, [], ◌∷◌, length, take, Option, Some, None, option_map, Result, Ok, Err, String}
 use Rattle.std.specs.declared.alloc.Global.{Global}
 use Rattle.ldm_outside.specs.Count.{Rose}
 use Rattle.ldm_outside.specs.declared.fault.Failed.{Failed}
@@ -10,7 +10,7 @@ use Rattle.ldm_outside.specs.Store.{File}
 use Rattle.ldm_actions.specs.declared.answers.Begun.{Begun}
 use Rattle.ldm_actions.specs.declared.answers.Begun.TheVariants as begun
 use Rattle.ldm_actions.specs.declared.limits.TheConstants.{MOST_PIPED}
-use Rattle.ldm_actions.specs.Effects.{ended, piped_by, runs_under, with_new, with_room}
+use Rattle.ldm_actions.specs.Effects.{ended, piped_by, runs_under}
 use Rattle.ldm_actions.specs.Kept.{AreApart, Each, first_of, last_of}
 use Rattle.ldm_actions.specs.Parts.{all_over_parts, over_parts, pipe_parts}
 use Rattle.ldm_actions.specs.World.{Outside, World, child_no, command_of}
@@ -64,6 +64,16 @@ abbrev pub EndsChild : Result (Unit {0}) Failed → ChildNo → LauncherRecord �
 EndsChild (Ok ok) child old new = new ≡ with_child_over child (with_input_closed child old)
 EndsChild (Err failed) child old new = LauncherFails old new ⊎ LauncherFails (with_input_closed child old) new
 
+-- What ending the child of a number did, if there is one.
+abbrev pub EndsGone : Option ℕ → Result (Unit {0}) Failed → LauncherRecord → LauncherRecord → Type 0
+EndsGone None result old new = (result ≡ Ok tt) × (new ≡ old)
+EndsGone (Some number) result old new = EndsChild result (child_no number) old new
+
+-- the launcher after that
+abbrev pub with_gone_over : Option ℕ → LauncherRecord → LauncherRecord
+with_gone_over None launcher = launcher
+with_gone_over (Some number) launcher = with_child_over (child_no number) (with_input_closed (child_no number) launcher)
+
 -- No call failed, and what stands changed so, whatever files there are.
 pub record ProgramsBecome (change : World → World) (old new : ProgramSide) : Type 0 where
   pub world : (files : Option (List File)) → world_with files new ≡ change (world_with files old)
@@ -91,18 +101,6 @@ last_parts world = over_parts (last_of world.piped) world.outside
 abbrev pub first_parts : World → List Outside
 first_parts world = over_parts (first_of world.piped) world.outside
 
--- one more may run
-abbrev pub full_parts : World → List Outside
-full_parts world = if nat_lt (length world.piped) MOST_PIPED then [] else last_parts world
-
--- a program is started for which there is room
-abbrev pub start_parts : World → List Outside
-start_parts world = world.outside ∷ []
-
--- a program was started with room for it
-abbrev pub with_program : List (List ℕ) → World → World
-with_program words world = with_new words (with_room world)
-
 -- the program of these words is the one that was written last
 abbrev pub by_program : List (List ℕ) → World → World
 by_program words world = piped_by (runs_under (command_of words) world) words world
@@ -117,6 +115,11 @@ closing_parts world = all_over_parts world.piped world.outside
 -- What starting a program did, whose words the launcher was told.
 abbrev pub StartsProgram : Result ChildNo Failed → List (List ℕ) → Bool → LauncherRecord → LauncherRecord → Type 0
 StartsProgram result words piped old new = (told : List (String Global)) × (spelled told ≡ words) × StartsChild result told piped old new
+
+-- What starting a program under PIPE did, behind the end of the child of a number, if there is one.
+abbrev pub StartsAfter : Result ChildNo Failed → Option ℕ → List (List ℕ) → LauncherRecord → LauncherRecord → Type 0
+StartsAfter (Ok child) gone words old new = StartsProgram (Ok child) words true (with_gone_over gone old) new
+StartsAfter (Err failed) gone words old new = EndsGone gone (Err failed) old new ⊎ LauncherFails (with_gone_over gone old) new
 
 -- What giving an action its program did: it runs, as the one that was written last; or the launcher failed; or there was no
 -- memory, and nothing was done.

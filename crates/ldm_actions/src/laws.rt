@@ -35,8 +35,8 @@ pub fn few_run_under_pipe()
     ensures finished { (hand : InHand) (world : World) → length (finished hand world).piped ≤ length world.piped }
 {}
 
-/// Where no file is open in the store at first, at most 32 are after each call, also after one that fails. They are those
-/// that are kept, and none is open once all was closed.
+/// Where no file is open in the store at first, at most 32 are after each call, also after one that fails. They are
+/// those that are kept, and none is open once all was closed.
 pub fn few_files_are_open()
     ensures at_first { (store : StoreRecord) (launcher : LauncherRecord) → store.paths ≡ []
         → OpensFew (standing no_outputs store launcher) }

@@ -1,12 +1,11 @@
 //! Files that are kept open.
-ghost use Rattle.std.specs.Prelude.{◌≡◌, ◌-◌, ◌<◌, [], None, drop, if◌then◌else◌, length, string_bytes, take};
+ghost use Rattle.std.specs.Prelude.{◌≡◌, ◌-◌, ◌<◌, [], IfSome, None, drop, if◌then◌else◌, length, take};
+ghost use Rattle.ldm_outside.specs.Store.{IsOpen};
 ghost use Rattle.ldm_actions.specs.Kept.{first_of, last_of, number_under};
-ghost use Rattle.ldm_actions.specs.OpenFiles.{BeginsFile, KeepsFiles, KeepsOr, OpensNew, OpensWithRoom, UsesFile};
-ghost use Rattle.ldm_actions.specs.OpenFiles.{all_shut, file_side, flushed_in, shut_in, store_finished};
-ghost use Rattle.ldm_actions.specs.OpenFiles.{store_with_room, with_room_open};
+ghost use Rattle.ldm_actions.specs.OpenFiles.{BeginsFile, KeepsFiles, KeepsOr, OpensAfter, ShutsGone, UsesFile};
+ghost use Rattle.ldm_actions.specs.OpenFiles.{all_shut, file_no, file_side, flushed_in, shut_in, store_finished};
 
 use crate::answers::Begun;
-use crate::limits::MOST_OPEN;
 use crate::options::FileOptions;
 use crate::recent::Recent;
 use ldm_outside::{Failed, FileNo, Store};
@@ -24,57 +23,42 @@ fn shut_oldest<F: Store>(files: &mut Recent, store: &mut F) -> Result<(), Failed
     }
 }
 
-// Makes room for one more file.
-fn make_room<F: Store>(files: &mut Recent, store: &mut F) -> Result<(), Failed>
-    requires { KeepsFiles (file_side files.old (F.tells store.old)) }
-    ensures { KeepsOr result (with_room_open files.old) (store_with_room files.old (F.tells store.old))
-        (file_side files.old (F.tells store.old))
-        (file_side files.new (F.tells store.new)) }
+// Shuts the file of that number, if there is one.
+fn shut_gone<F: Store>(store: &mut F, gone: Option<usize>) -> Result<(), Failed>
+    requires { IfSome gone (λ number. IsOpen (file_no number) (F.tells store.old)) }
+    ensures { ShutsGone gone result (F.tells store.old) (F.tells store.new) }
 {
-    if files.len() < MOST_OPEN {
-        return Ok(());
+    match gone {
+        Some(number) => store.shut(FileNo(number)),
+        None => Ok(()),
     }
-    shut_oldest(files, store)
 }
 
-// Opens the file of a path that is not kept.
-fn open<F: Store>(files: &mut Recent, store: &mut F, path: String) -> Result<(), Failed>
-    requires keeps { KeepsFiles (file_side files.old (F.tells store.old)) }
-    requires unknown { number_under (string_bytes path) files.old ≡ None }
-    requires room { length files.old < MOST_OPEN }
-    ensures { OpensNew result (string_bytes path)
-        (file_side files.old (F.tells store.old))
-        (file_side files.new (F.tells store.new)) }
+// Opens the file of a path, after the file of that number was shut, if there is one.
+fn open<F: Store>(store: &mut F, gone: Option<usize>, path: &str) -> Result<FileNo, Failed>
+    requires { IfSome gone (λ number. IsOpen (file_no number) (F.tells store.old)) }
+    ensures { OpensAfter result gone path.now (F.tells store.old) (F.tells store.new) }
 {
-    let file = store.append_to(path.as_str())?;
-    files.add(path, file.0);
-    Ok(())
+    shut_gone(store, gone)?;
+    store.append_to(path)
 }
 
-// The same, with room for it.
-fn open_with_room<F: Store>(files: &mut Recent, store: &mut F, path: String) -> Result<(), Failed>
-    requires keeps { KeepsFiles (file_side files.old (F.tells store.old)) }
-    requires unknown { number_under (string_bytes path) files.old ≡ None }
-    ensures { OpensWithRoom result (string_bytes path)
-        (file_side files.old (F.tells store.old))
-        (file_side files.new (F.tells store.new)) }
-{
-    make_room(files, store)?;
-    open(files, store, path)
-}
-
-// Opens the file of a path that is not kept. All memory is taken before the first call.
+// Opens the file of a path that is not kept. Its entry is there before the first call, so want of memory opens no file
+// and shuts none.
 fn use_new<F: Store>(files: &mut Recent, store: &mut F, path: &str) -> Begun
     requires keeps { KeepsFiles (file_side files.old (F.tells store.old)) }
     requires unknown { number_under path.now files.old ≡ None }
     ensures { UsesFile result path.now (file_side files.old (F.tells store.old))
         (file_side files.new (F.tells store.new)) }
 {
-    let Ok(path) = String::from_str(files.alloc(), path) else {
+    let Ok(gone) = files.reserve(path) else {
         return Begun::OutOfMemory;
     };
-    match open_with_room(files, store, path) {
-        Ok(()) => Begun::Ready,
+    match open(store, gone, path) {
+        Ok(file) => {
+            files.set_number(path, file.0);
+            Begun::Ready
+        }
         Err(Failed) => Begun::StoreFault,
     }
 }
@@ -85,10 +69,10 @@ fn use_file<F: Store>(files: &mut Recent, store: &mut F, path: &str) -> Begun
     ensures { UsesFile result path.now (file_side files.old (F.tells store.old))
         (file_side files.new (F.tells store.new)) }
 {
-    match files.raise(path) {
-        Some(_) => Begun::Ready,
-        None => use_new(files, store, path),
+    if files.raise(path) {
+        return Begun::Ready;
     }
+    use_new(files, store, path)
 }
 
 /// Begins to write to the file of a path, which is then the one that was used last.

@@ -119,8 +119,8 @@ impl Outputs {
         }
     }
 
-    /// Finishes the action in hand: its file is flushed and then shut, or its program's input is shut and the program is
-    /// waited for, where its options say so.
+    /// Finishes the action in hand: its file is flushed and then shut, or its program's input is shut and the program
+    /// is waited for, where its options say so.
     pub fn finish<F: Store, L: Launcher>(&mut self, store: &mut F, launcher: &mut L) -> Done
         requires keeps { KeepsUnlessSpent (standing self.old (F.tells store.old) (L.tells launcher.old)) }
         requires in_hand { HasHand self.old }

@@ -1,16 +1,14 @@
 //! Programs that run under PIPE.
-ghost use Rattle.std.specs.Prelude.{◌≡◌, ◌<◌, None, length, string_bytes};
+ghost use Rattle.std.specs.Prelude.{◌≡◌, IfSome, None};
 ghost use Rattle.ldm_outside.specs.Launcher.{IsTaking};
-ghost use Rattle.ldm_actions.specs.Effects.{Child, closed, finished_by, with_first_over, with_new, with_room};
+ghost use Rattle.ldm_actions.specs.Effects.{Child, closed, finished_by, with_first_over};
 ghost use Rattle.ldm_actions.specs.Kept.{number_under};
-ghost use Rattle.ldm_actions.specs.Parts.{finish_parts_by, room_parts};
-ghost use Rattle.ldm_actions.specs.Programs.{BeginsProgram, ChangesOr, EndsChild, KeepsPrograms, by_program};
-ghost use Rattle.ldm_actions.specs.Programs.{by_program_parts, closing_parts, first_parts, full_parts, last_parts};
-ghost use Rattle.ldm_actions.specs.Programs.{program_side, start_parts, with_last_over, with_program};
-ghost use Rattle.ldm_actions.specs.World.{command_of};
+ghost use Rattle.ldm_actions.specs.Parts.{finish_parts_by};
+ghost use Rattle.ldm_actions.specs.Programs.{BeginsProgram, ChangesOr, EndsChild, EndsGone, KeepsPrograms, StartsAfter};
+ghost use Rattle.ldm_actions.specs.Programs.{closing_parts, first_parts, last_parts, program_side, with_last_over};
+ghost use Rattle.ldm_actions.specs.World.{child_no, command_of};
 
 use crate::answers::Begun;
-use crate::limits::MOST_PIPED;
 use crate::program::Program;
 use crate::recent::Recent;
 use ldm_outside::{ChildNo, Failed, Launcher};
@@ -51,55 +49,55 @@ fn end_newest<L: Launcher>(programs: &mut Recent, launcher: &mut L) -> Result<()
     }
 }
 
-// Makes room for one more program.
-fn make_room<L: Launcher>(programs: &mut Recent, launcher: &mut L) -> Result<(), Failed>
-    requires { KeepsPrograms (program_side programs.old (L.tells launcher.old)) }
-    ensures { ChangesOr result with_room full_parts
-        (program_side programs.old (L.tells launcher.old))
-        (program_side programs.new (L.tells launcher.new)) }
+// Ends the program of that number, if there is one.
+fn end_gone<L: Launcher>(launcher: &mut L, gone: Option<usize>) -> Result<(), Failed>
+    requires { IfSome gone (λ number. IsTaking (child_no number) (L.tells launcher.old)) }
+    ensures { EndsGone gone result (L.tells launcher.old) (L.tells launcher.new) }
 {
-    if programs.len() < MOST_PIPED {
-        return Ok(());
+    match gone {
+        Some(number) => end(launcher, ChildNo(number)),
+        None => Ok(()),
     }
-    end_oldest(programs, launcher)
 }
 
-// Starts a program under a command that is not kept.
+// Starts a program, after the program of that number was ended, if there is one.
 fn start<L: Launcher>(
-    programs: &mut Recent,
     launcher: &mut L,
+    gone: Option<usize>,
     program: &Program,
-    command: String,
-) -> Result<(), Failed>
-    requires keeps { KeepsPrograms (program_side programs.old (L.tells launcher.old)) }
-    requires its_own { string_bytes command ≡ command_of program.now }
-    requires unknown { number_under (string_bytes command) programs.old ≡ None }
-    requires room { length programs.old < MOST_PIPED }
-    ensures { ChangesOr result (with_new program.now) start_parts
-        (program_side programs.old (L.tells launcher.old))
-        (program_side programs.new (L.tells launcher.new)) }
+) -> Result<ChildNo, Failed>
+    requires { IfSome gone (λ number. IsTaking (child_no number) (L.tells launcher.old)) }
+    ensures { StartsAfter result gone program.now (L.tells launcher.old) (L.tells launcher.new) }
 {
-    let child = program.start(launcher, true)?;
-    programs.add(command, child.0);
-    Ok(())
+    end_gone(launcher, gone)?;
+    program.start(launcher, true)
 }
 
-// The same, with room for it.
-fn start_with_room<L: Launcher>(
+// Starts a program under a command that is not kept. Its entry is there before the first call, so want of memory starts
+// no program and ends none.
+fn use_new<L: Launcher>(
     programs: &mut Recent,
     launcher: &mut L,
     program: &Program,
-    command: String,
-) -> Result<(), Failed>
+    command: &str,
+) -> Begun
     requires keeps { KeepsPrograms (program_side programs.old (L.tells launcher.old)) }
-    requires its_own { string_bytes command ≡ command_of program.now }
-    requires unknown { number_under (string_bytes command) programs.old ≡ None }
-    ensures { ChangesOr result (with_program program.now) room_parts
+    requires its_own { command.now ≡ command_of program.now }
+    requires unknown { number_under command.now programs.old ≡ None }
+    ensures { BeginsProgram result program.now
         (program_side programs.old (L.tells launcher.old))
         (program_side programs.new (L.tells launcher.new)) }
 {
-    make_room(programs, launcher)?;
-    start(programs, launcher, program, command)
+    let Ok(gone) = programs.reserve(command) else {
+        return Begun::OutOfMemory;
+    };
+    match start(launcher, gone, program) {
+        Ok(child) => {
+            programs.set_number(command, child.0);
+            Begun::Ready
+        }
+        Err(Failed) => Begun::LaunchFault,
+    }
 }
 
 // Has a program run under its command, as the one that was written last.
@@ -107,21 +105,21 @@ fn use_program<L: Launcher>(
     programs: &mut Recent,
     launcher: &mut L,
     program: &Program,
-    command: String,
-) -> Result<(), Failed>
+    command: &str,
+) -> Begun
     requires keeps { KeepsPrograms (program_side programs.old (L.tells launcher.old)) }
-    requires its_own { string_bytes command ≡ command_of program.now }
-    ensures { ChangesOr result (by_program program.now) (by_program_parts program.now)
+    requires its_own { command.now ≡ command_of program.now }
+    ensures { BeginsProgram result program.now
         (program_side programs.old (L.tells launcher.old))
         (program_side programs.new (L.tells launcher.new)) }
 {
-    match programs.raise(command.as_str()) {
-        Some(_) => Ok(()),
-        None => start_with_room(programs, launcher, program, command),
+    if programs.raise(command) {
+        return Begun::Ready;
     }
+    use_new(programs, launcher, program, command)
 }
 
-/// Has a program run, as the one that was written last. All memory is taken before the first call.
+/// Has a program run, as the one that was written last.
 pub(crate) fn begin<L: Launcher>(
     programs: &mut Recent,
     launcher: &mut L,
@@ -135,10 +133,7 @@ pub(crate) fn begin<L: Launcher>(
     let Ok(command) = program.command(programs.alloc()) else {
         return Begun::OutOfMemory;
     };
-    match use_program(programs, launcher, program, command) {
-        Ok(()) => Begun::Ready,
-        Err(Failed) => Begun::LaunchFault,
-    }
+    use_program(programs, launcher, program, command.as_str())
 }
 
 /// Ends the writing to the program that was written last.

@@ -1,17 +1,15 @@
-use Rattle.std.proofs.Common.{List, ◌∷◌, sym, subst, string_bytes}
-use Rattle.ldm_outside.specs.Store.{with_opened}
-use Rattle.ldm_actions.specs.OpenFiles.{FilesBecome, file_side, files_made}
-use Rattle.ldm_actions.proofs.FileSteps.{opens_new}
-use Rattle.ldm_actions.proofs.KeptLemmas.{Entry}
+use Rattle.std.proofs.Common.{inl}
+use Rattle.std.proofs.lemmas.Result.{err_from_is_err_and}
+use Rattle.ldm_actions.proofs.FileSteps.{opens_after}
 use Rattle.ldm_actions.proofs.open_files.open.Goals as goal
 
 pub returns : goal.returns
 returns g c =
-    let old = g.F.Store.tells c.args.store.now in
-    let new = g.F.Store.tells c.append_to.new.self in
-    let path = string_bytes c.args.path in
-    let kept = c.args.files.now in
-    subst
-    (λ (all : List Entry). FilesBecome ((path, old.next) ∷ kept) (files_made path old.files) (with_opened path old) (file_side kept old) (file_side all new))
-    (sym c.add.ensures)
-    (opens_new path c.in_ok-file.file.0 kept old new c.requires.unknown c.requires.room (rw c.as_str.ensures.value at c.in_ok-file.ensures.opened) c.requires.keeps)
+    let tells = g.F.Store.tells in
+    opens_after c.append_to.result c.args.gone c.args.path.now (tells c.args.store.now) (tells c.shut_gone.new.store) (tells c.append_to.new.self)
+    c.in_ok-shut_gone.ensures c.append_to.ensures.opened
+
+pub returns-in_err-shut_gone : goal.returns-in_err-shut_gone
+returns-in_err-shut_gone g c =
+    let p = err_from_is_err_and c.from_residual.result c.from_residual.ensures.1 in
+    rw p.1 (inl c.in_err-shut_gone.ensures)
