@@ -1,12 +1,16 @@
 //! Who makes the calls of a queue.
-ghost use Rattle.std.specs.Prelude.{◌≤◌, length, IfOk, OnErr};
+ghost use Rattle.std.specs.Prelude.{◌≡◌, ◌≤◌, length, IfOk, OnErr};
+ghost use Rattle.ldm_model.specs.Answers.{insert_answer};
 ghost use Rattle.ldm_model.specs.declared.event.Event.{Event as Asked};
+ghost use Rattle.ldm_model.specs.declared.event.Event.TheVariants as event;
 ghost use Rattle.ldm_model.specs.declared.event.Reply.{Reply as Answered};
 ghost use Rattle.ldm_script.specs.Answer.{reply_of, FitsAnswer};
-ghost use Rattle.ldm_script.specs.OrderView.{event_of, IsWholeCall};
+ghost use Rattle.ldm_script.specs.OrderView.{bytes_of, event_of, IsBody, IsWholeCall};
 ghost use Rattle.ldm_calls.specs.Rooms.{bytes_asked, bytes_brought};
 
-use ldm_script::{Answer, Call};
+use ldm_model::InsertReply;
+use ldm_script::{Answer, Body, Call};
+use ldm_types::{Info, Micros};
 
 /// No call was made: the queue has had all that it can have.
 #[derive(Clone, Copy, Debug, PartialEq, Eq)]
@@ -41,5 +45,23 @@ pub trait Caller {
         requires read_room { bytes_asked call.now ≤ length read_room.old }
         ensures done { IfOk result (λ answer. made self.now queue.old (event_of call.now) (reply_of answer) queue.new) }
         ensures fits { IfOk result FitsAnswer }
+        ensures undone { OnErr result (unmade self.now queue.old queue.new) };
+
+    /// Makes the call of an insertion, as [`Caller::call`] does. The reply itself is answered, which has no room for
+    /// metadata, so that little is moved for each product of many.
+    fn insert(
+        &self,
+        queue: &mut Self::Queue,
+        now: Micros,
+        info: &Info,
+        body: &Body,
+        body_room: &mut [u8],
+    ) -> Result<InsertReply, Unmade>
+        requires may { may_call self.now queue.old }
+        requires body { IsBody body.now }
+        requires size { length (bytes_of body.now) ≡ info.now.size }
+        requires body_room { length (bytes_of body.now) ≤ length body_room.old }
+        ensures done { IfOk result (λ reply.
+            made self.now queue.old (event.Insert now info.now (bytes_of body.now)) (insert_answer reply) queue.new) }
         ensures undone { OnErr result (unmade self.now queue.old queue.new) };
 }

@@ -3,12 +3,12 @@
 use crate::caller::{Caller, Unmade};
 use ldm_book::Book;
 use ldm_model::{
-    actor_is_possible, commit_is_possible, feed_is_possible, fill_is_possible, info_is_possible,
-    insert_is_possible, place_is_possible, reservation_is_possible, signature_is_possible,
-    start_is_possible,
+    InsertReply, actor_is_possible, commit_is_possible, feed_is_possible, fill_is_possible,
+    info_is_possible, insert_is_possible, place_is_possible, reservation_is_possible,
+    signature_is_possible, start_is_possible,
 };
-use ldm_script::{Answer, Call, body_into};
-use ldm_types::Actor;
+use ldm_script::{Answer, Body, Call, body_into};
+use ldm_types::{Actor, Info, Micros};
 
 impl Caller for Actor {
     ghost use Rattle.ldm_calls.specs.OnBook.{BookAnswers};
@@ -32,10 +32,7 @@ impl Caller for Actor {
         actor_is_possible(actor);
         Ok(match call {
             Call::Insert { now, info, body } => {
-                let len = body_into(body, body_room);
-                let body = &body_room[..len];
-                insert_is_possible(*now, info, body);
-                Answer::from(queue.insert(actor, *now, info, body))
+                Answer::from(self.insert(queue, *now, info, body, body_room)?)
             }
             Call::OpenCursor { feed, start } => {
                 feed_is_possible(*feed);
@@ -88,5 +85,21 @@ impl Caller for Actor {
                 Answer::from(queue.discard(actor, *r))
             }
         })
+    }
+
+    fn insert(
+        &self,
+        queue: &mut Book,
+        now: Micros,
+        info: &Info,
+        body: &Body,
+        body_room: &mut [u8],
+    ) -> Result<InsertReply, Unmade> {
+        let actor = *self;
+        actor_is_possible(actor);
+        let len = body_into(body, body_room);
+        let bytes = &body_room[..len];
+        insert_is_possible(now, info, bytes);
+        Ok(queue.insert(actor, now, info, bytes))
     }
 }

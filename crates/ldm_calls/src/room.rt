@@ -1,14 +1,17 @@
 //! The room in which lines are answered.
 ghost use Rattle.std.specs.Prelude.{◌≡◌, ◌≤◌, length, OnOk, OnErr};
 ghost use Rattle.ldm_script.specs.Answer.{reply_of};
-ghost use Rattle.ldm_script.specs.OrderView.{asked_of, IsWhole};
+ghost use Rattle.ldm_script.specs.OrderView.{asked_of, act_with, IsWhole};
 ghost use Rattle.ldm_script.specs.Resolve.{last_after};
 ghost use Rattle.ldm_script.specs.declared.answer.TheConstants.{LONGEST_ANSWER};
 ghost use Rattle.ldm_calls.specs.Lines.{AnswersLine};
 
 use crate::caller::{Caller, Unmade};
-use ldm_script::{Act, Answer, LONGEST_BODY, LONGEST_READ, LastPlaces, Text, write_answer};
-use ldm_types::OutOfMemory;
+use ldm_script::{
+    Act, Answer, LONGEST_BODY, LONGEST_READ, LastPlaces, LentAct, Text, write_answer,
+    write_insert_reply,
+};
+use ldm_types::{Info, OutOfMemory};
 use std::alloc::Global;
 use std::marker::Model;
 
@@ -64,6 +67,60 @@ impl Room {
         ensures kept { OnErr result (last.new ≡ last.old) }
     {
         let Some(call) = act.call(*last) else {
+            write_answer(&act.unresolved(), &mut self.text);
+            return Ok(());
+        };
+        let answer = caller.call(queue, &call, &mut self.body, &mut self.read)?;
+        note_place(last, &answer);
+        write_answer(&answer, &mut self.text);
+        Ok(())
+    }
+
+    /// Does what a line asks for, as [`Room::answer`] does, with these metadata if it has any.
+    #[tactic(auto, using(crate::proofs::Placing::insert_keeps))]
+    pub fn answer_lent<C: Caller>(
+        &mut self,
+        caller: &C,
+        queue: &mut C::Queue,
+        last: &mut LastPlaces,
+        act: &LentAct,
+        info: &Info,
+    ) -> Result<(), Unmade>
+        requires may { C.may_call caller.now queue.old }
+        requires whole { IsWhole (act_with info.now act.now) }
+        ensures answered { OnOk result (AnswersLine (C.made caller.now) (asked_of (act_with info.now act.now))
+            queue.old last.old queue.new last.new self.new) }
+        ensures unmade { OnErr result (C.unmade caller.now queue.old queue.new) }
+        ensures kept { OnErr result (last.new ≡ last.old) }
+    {
+        match act {
+            LentAct::Insert { now, body } => {
+                let reply = caller.insert(queue, *now, info, body, &mut self.body)?;
+                write_insert_reply(reply, &mut self.text);
+                Ok(())
+            }
+            _ => self.answer_call(caller, queue, last, act, info),
+        }
+    }
+
+    // The same of any line: an answer has room for metadata, which is cleared and moved.
+    #[inline(never)]
+    fn answer_call<C: Caller>(
+        &mut self,
+        caller: &C,
+        queue: &mut C::Queue,
+        last: &mut LastPlaces,
+        act: &LentAct,
+        info: &Info,
+    ) -> Result<(), Unmade>
+        requires may { C.may_call caller.now queue.old }
+        requires whole { IsWhole (act_with info.now act.now) }
+        ensures answered { OnOk result (AnswersLine (C.made caller.now) (asked_of (act_with info.now act.now))
+            queue.old last.old queue.new last.new self.new) }
+        ensures unmade { OnErr result (C.unmade caller.now queue.old queue.new) }
+        ensures kept { OnErr result (last.new ≡ last.old) }
+    {
+        let Some(call) = act.call(*last, info) else {
             write_answer(&act.unresolved(), &mut self.text);
             return Ok(());
         };

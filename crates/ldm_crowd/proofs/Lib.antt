@@ -12,3 +12,4 @@ pub mod CrowdPlayLemmas
 pub mod CrowdCompletesLemmas
 pub mod CrowdLawLemmas
 pub mod CrowdHistoryLemmas
+pub mod Brought

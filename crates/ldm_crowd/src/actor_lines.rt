@@ -3,11 +3,11 @@ ghost use Rattle.std.specs.Prelude.{◌≡◌, ◌<◌, ◌≤◌, ◌∷◌, �
 ghost use Rattle.ldm_types.specs.declared.numbers.TheConstants.Actor.{COUNT};
 ghost use Rattle.ldm_model.specs.declared.event.Event.TheVariants as event;
 ghost use Rattle.ldm_script.specs.Order.{Plain};
-ghost use Rattle.ldm_script.specs.OrderView.{asked_of, IsWhole};
+ghost use Rattle.ldm_script.specs.OrderView.{asked_of, act_with, IsWhole};
 ghost use Rattle.ldm_crowd.specs.OrdersView.{IsOrder, asked_lines};
 
-use ldm_script::{Act, Order, read_line};
-use ldm_types::OutOfMemory;
+use ldm_script::{LentAct, LentOrder, read_line_into};
+use ldm_types::{Info, OutOfMemory};
 use std::alloc::Global;
 use std::marker::Model;
 
@@ -63,14 +63,16 @@ impl<'a> ActorLines<'a> {
         self.lines.len()
     }
 
-    /// What the line of that number asks for.
-    pub(crate) fn act(&self, i: usize) -> Act<'_>
+    /// What the line of that number asks for. The metadata of its product, if it has one, are put into the place that
+    /// is lent.
+    pub(crate) fn act(&self, i: usize, info: &mut Info) -> LentAct<'_>
         requires { i < length self.now.lines }
-        ensures asked { asked_of result ≡ slice_index_or (asked_lines self.now) i (Plain event.Stat) }
-        ensures whole { IsWhole result }
+        ensures asked { asked_of (act_with info.new result)
+            ≡ slice_index_or (asked_lines self.now) i (Plain event.Stat) }
+        ensures whole { IsWhole (act_with info.new result) }
     {
-        match read_line(self.lines[i], self.actors) {
-            Ok(Some(Order { actor: _, act })) => act,
+        match read_line_into(self.lines[i], self.actors, info) {
+            Ok(Some(LentOrder { actor: _, act })) => act,
             Ok(None) => unreachable!(),
             Err(_) => unreachable!(),
         }

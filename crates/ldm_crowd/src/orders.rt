@@ -10,8 +10,8 @@ ghost use Rattle.ldm_crowd.specs.OrdersView.{IsFaultOf, IsFaultOfLine, AreDealt,
 ghost use Rattle.ldm_status.specs.declared.whole_script.TheConstants.{LONGEST_SCRIPT};
 
 use crate::actor_lines::ActorLines;
-use ldm_script::read_line;
-use ldm_types::{Actor, OutOfMemory};
+use ldm_script::{blank_info, read_line_into};
+use ldm_types::{Actor, Info, OutOfMemory};
 use memchr::memchr;
 use std::alloc::Global;
 use std::marker::Model;
@@ -95,25 +95,28 @@ fn deal_all<'a>(
         × (orders_from actors 1 (lines_of text.now) ≡ Ok done)) }
     ensures faults { IfErr result (IsFaultOf actors text.now) }
 {
+    let mut info = blank_info();
     let mut number = 1;
     let mut rest = text;
     while let Some(at) = memchr(b'\n', rest) {
-        deal(parts, actors, number, &rest[..at])?;
+        deal(parts, actors, number, &rest[..at], &mut info)?;
         number += 1;
         rest = &rest[at + 1..];
     }
     if rest.is_empty() {
         return Ok(());
     }
-    deal(parts, actors, number, rest)
+    deal(parts, actors, number, rest, &mut info)
 }
 
-// Reads the line of that number, and appends it to those of its actor, where it asks for something.
+// Reads the line of that number, and appends it to those of its actor, where it asks for something. Metadata are put
+// into the place that is lent.
 fn deal<'a>(
     parts: &mut [ActorLines<'a>],
     actors: u32,
     number: u32,
     line: &'a [u8],
+    info: &mut Info,
 ) -> Result<(), OrdersFault>
     requires actors { actors ≤ COUNT }
     requires parts { (done : List Ordered) × AreDealt actors done parts.old }
@@ -123,7 +126,7 @@ fn deal<'a>(
     ensures read { OnOk result (IsOk (reading actors line.now)) }
     ensures faults { IfErr result (IsFaultOfLine actors number line.now) }
 {
-    match read_line(line, actors) {
+    match read_line_into(line, actors, info) {
         Ok(Some(order)) => {
             let part = &mut parts[order.actor.get() as usize];
             match part.add(line) {

@@ -3,7 +3,7 @@ ghost use Rattle.std.specs.Prelude.{◌≡◌, ◌+◌, ◌<◌, ◌≤◌, ◌�
 ghost use Rattle.std.specs.Vec.{vec_len, vec_capacity};
 ghost use Rattle.ldm_model.specs.declared.event.Reply.{Reply};
 ghost use Rattle.ldm_script.specs.Answer.{answer_line};
-ghost use Rattle.ldm_script.specs.OrderView.{asked_of, IsWhole};
+ghost use Rattle.ldm_script.specs.OrderView.{asked_of, act_with, IsWhole};
 ghost use Rattle.ldm_script.specs.Resolve.{no_places};
 ghost use Rattle.ldm_shared.specs.Passes.{IsPassOf, IsSamePass};
 ghost use Rattle.ldm_crowd.specs.Interleaving.{crowd_line};
@@ -19,9 +19,9 @@ use crate::turns::Turns;
 use itoa::Buffer;
 use ldm_calls::Room;
 use ldm_outside::{Gate, Go};
-use ldm_script::{Act, LONGEST_ANSWER, LastPlaces};
+use ldm_script::{LONGEST_ANSWER, LastPlaces, LentAct, blank_info};
 use ldm_shared::{Pass, Shared};
-use ldm_types::Actor;
+use ldm_types::{Actor, Info};
 use ldm_workers::Work;
 use std::alloc::Global;
 use std::sync::Wait;
@@ -106,9 +106,10 @@ impl<G: Gate> Player<G> {
             (G.tells self.old.gate) (G.tells self.new.gate) }
         ensures stops_kept { (G.tells self.old.gate).stops ≤ (G.tells self.new.gate).stops }
     {
+        let mut info = blank_info();
         for i in 0..lines.len() {
-            let act = lines.act(i);
-            self.play_line(rt, shared, pass, room, i as u64, &act)?;
+            let act = lines.act(i, &mut info);
+            self.play_line(rt, shared, pass, room, i as u64, &act, &info)?;
         }
         Ok(())
     }
@@ -122,12 +123,14 @@ impl<G: Gate> Player<G> {
         pass: &mut Pass,
         room: &mut Room,
         i: u64,
-        act: &Act,
+        act: &LentAct,
+        info: &Info,
     ) -> Result<(), CrowdEnd>
         requires of { IsPassOf shared.now pass.old }
-        requires whole { IsWhole act.now }
+        requires whole { IsWhole (act_with info.now act.now) }
         ensures same { IsSamePass pass.old pass.new }
-        ensures played { OnOk result (PlaysLine G.tells i (asked_of act.now) pass.old self.old pass.new self.new) }
+        ensures played { OnOk result
+            (PlaysLine G.tells i (asked_of (act_with info.now act.now)) pass.old self.old pass.new self.new) }
         ensures failed { IfErr result (λ end. LineFails G.tells end i pass.old self.old pass.new self.new) }
         ensures unanswered { OnErr result (self.new.answers.items ≡ self.old.answers.items) }
         ensures stops_kept { (G.tells self.old.gate).stops ≤ (G.tells self.new.gate).stops }
@@ -141,7 +144,7 @@ impl<G: Gate> Player<G> {
             Go::Stop => return Err(CrowdEnd::Stopped),
         }
         let turns = Turns { rt, shared };
-        let Ok(()) = room.answer(&turns, pass, &mut self.last, act) else {
+        let Ok(()) = room.answer_lent(&turns, pass, &mut self.last, act, info) else {
             return Err(CrowdEnd::Worn);
         };
         append_answer(&mut self.answers, actor, room.text());

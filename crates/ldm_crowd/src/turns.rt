@@ -2,8 +2,10 @@
 ghost use Rattle.std.specs.Prelude.{◌≡◌, ℕ, IfOk, OnErr};
 
 use ldm_calls::{Caller, Unmade};
-use ldm_script::{Answer, Call, body_into};
+use ldm_model::InsertReply;
+use ldm_script::{Answer, Body, Call, body_into};
 use ldm_shared::{Pass, Shared, Turn};
+use ldm_types::{Info, Micros};
 use std::sync::Wait;
 
 /// Who makes the calls of a shared queue, each in a turn of its own, and waits for it.
@@ -36,8 +38,7 @@ impl<'a, H: Wait> Caller for Turns<'a, H> {
         let shared = self.shared;
         Ok(match call {
             Call::Insert { now, info, body } => {
-                let len = body_into(body, body_room);
-                Answer::from(done(shared.insert(rt, pass, *now, info, &body_room[..len]))?)
+                Answer::from(self.insert(pass, *now, info, body, body_room)?)
             }
             Call::OpenCursor { feed, start } => {
                 Answer::from(done(shared.open_cursor(rt, pass, *feed, *start))?)
@@ -61,6 +62,20 @@ impl<'a, H: Wait> Caller for Turns<'a, H> {
             Call::Commit { r, now } => Answer::from(done(shared.commit(rt, pass, *r, *now))?),
             Call::Discard { r } => Answer::from(done(shared.discard(rt, pass, *r))?),
         })
+    }
+
+    fn insert(
+        &self,
+        pass: &mut Pass,
+        now: Micros,
+        info: &Info,
+        body: &Body,
+        body_room: &mut [u8],
+    ) -> Result<InsertReply, Unmade> {
+        let rt = self.rt;
+        let shared = self.shared;
+        let len = body_into(body, body_room);
+        done(shared.insert(rt, pass, now, info, &body_room[..len]))
     }
 }
 

@@ -1,11 +1,11 @@
 -- Fields that are read as what they were written for.
-use Rattle.std.proofs.Common.{◌≡◌, ℕ, zero, suc, ◌+◌, ◌-◌, ◌*◌, ◌/◌, ◌%◌, ◌^◌, ◌<◌, ◌≤◌, Bool, true, false, cond, List, [], ◌∷◌, ◌++◌, length, get_or, codes, decimal, Option, Some, None, Result, Ok, refl, sym, ap, subst, ◌∙◌, arith, inl, inr}
-use Rattle.std.proofs.lemmas.Bool.{false≢true, cases_Bool, cases_eq, eqb-true, le-leb, lt-leb, cond-true, cond-false}
+use Rattle.std.proofs.Common.{◌≡◌, ℕ, zero, suc, ◌+◌, ◌-◌, ◌*◌, ◌/◌, ◌%◌, ◌^◌, ◌<◌, ◌≤◌, Bool, true, false, cond, ◌||◌, List, [], ◌∷◌, ◌++◌, length, get_or, codes, decimal, Option, Some, None, Result, Ok, refl, sym, ap, subst, ◌∙◌, arith, inl, inr}
+use Rattle.std.proofs.lemmas.Bool.{false≢true, and_parts, cases_Bool, cases_eq, eqb-true, le-leb, lt-leb, cond-true, cond-false}
 use Rattle.std.proofs.lemmas.Fmt.{decimal_by_steps, decimal_digit, first_decimal, decimal_nonempty}
 use Rattle.std.proofs.lemmas.List.{append-nil}
 use Rattle.std.proofs.lemmas.Slice.Eq.{bytes_eq-Decides}
-use Rattle.std.specs.List.{flat_map, list_any}
-use Rattle.std.specs.Prelude.{◌==◌, ◌&&◌, nat_le, bytes_eq}
+use Rattle.std.specs.List.{flat_map, list_all, list_any}
+use Rattle.std.specs.Prelude.{◌==◌, ◌&&◌, not, nat_le, bytes_eq, is_some, unwrap_or}
 use Rattle.std.specs.Option.{option_map}
 use Rattle.std.specs.Result.{result_ok}
 use Rattle.hex.specs.Hex.{IsBytes, decode_sized, encode_lower, encode_upper, lower_digits, upper_digits}
@@ -168,6 +168,52 @@ text_up_to-spelled most (byte ∷ rest) short free bytes =
     cond-false (bytes_eq field (codes "-")) (Some []) (if_text most field (unspelled field)) unspelt.1
     ∙ ap (if_text most field) unspelt.0
     ∙ if_text-is most field text ((bytes_eq-Decides field field).1 refl) short free
+
+-- ---- texts that spell themselves
+
+plain-no_nul : (byte : ℕ) → is_plain byte ≡ true → (byte == 0) ≡ false
+plain-no_nul byte plain = grind arith
+
+spelled-plain : (text : List ℕ) → list_all is_plain text ≡ true → flat_map spelled_byte text ≡ text
+spelled-plain [] all = refl
+spelled-plain (byte ∷ rest) all =
+    let parts = and_parts (is_plain byte) (list_all is_plain rest) all in
+    ap (λ (bytes : List ℕ). bytes ++ flat_map spelled_byte rest) (cond-true (is_plain byte) (byte ∷ []) (37 ∷ encode_upper (byte ∷ [])) parts.0)
+    ∙ ap (λ (bytes : List ℕ). byte ∷ bytes) (spelled-plain rest parts.1)
+
+unspelled-all_plain : (text : List ℕ) → list_all is_plain text ≡ true → unspelled text ≡ Some text
+unspelled-all_plain [] all = refl
+unspelled-all_plain (byte ∷ rest) all =
+    let parts = and_parts (is_plain byte) (list_all is_plain rest) all in
+    unspelled-plain byte rest (plain-no_percent byte parts.0) ∙ ap (with_byte (Some (byte ∷ []))) (unspelled-all_plain rest parts.1)
+
+plain-free : (text : List ℕ) → list_all is_plain text ≡ true → list_any (λ byte. byte == 0) text ≡ false
+plain-free [] all = refl
+plain-free (byte ∷ rest) all =
+    let parts = and_parts (is_plain byte) (list_all is_plain rest) all in
+    ap (λ (b : Bool). b || list_any (λ byte. byte == 0) rest) (plain-no_nul byte parts.0) ∙ plain-free rest parts.1
+
+pub itself_free : (field : List ℕ) → (not (length field == 0) && list_all is_plain field) ≡ true → list_any (λ byte. byte == 0) field ≡ false
+itself_free field all = plain-free field (and_parts (not (length field == 0)) (list_all is_plain field) all).1
+
+pub text_up_to_itself : (most : ℕ) (field : List ℕ) → bytes_eq field (codes "-") ≡ false → (not (length field == 0) && list_all is_plain field) ≡ true → length field ≤ most
+    → text_up_to most field ≡ Some field
+text_up_to_itself most [] other all short = absurd (false≢true all)
+text_up_to_itself most (byte ∷ rest) other all short =
+    let text = byte ∷ rest in
+    let plain = (and_parts (not (length text == 0)) (list_all is_plain text) all).1 in
+    let same : spelled text ≡ text = cond-false (bytes_eq text (codes "-")) (codes "%2D") (flat_map spelled_byte text) other ∙ spelled-plain text plain in
+    cond-false (bytes_eq text (codes "-")) (Some []) (if_text most text (unspelled text)) other
+    ∙ ap (if_text most text) (unspelled-all_plain text plain)
+    ∙ if_text-is most text text ((bytes_eq-Decides (spelled text) text).1 same) short (plain-free text plain)
+
+pub some_text : (text : Option (List ℕ)) → is_some text ≡ true → Some (unwrap_or text []) ≡ text
+some_text None is = absurd (false≢true is)
+some_text (Some bytes) is = refl
+
+pub no_text : (text : Option (List ℕ)) → is_some text ≡ false → None ≡ text
+no_text None is = refl
+no_text (Some bytes) is = absurd (false≢true (sym is))
 
 -- ---- bodies
 

@@ -1,5 +1,7 @@
 -- Orders that were read, and the calls that they become, as contracts see them.
 use Rattle.std.specs.Prelude.{◌≡◌, ℕ, ◌≤◌, List, [], length, replicate, unwrap_or, IsSome}
+use Rattle.ldm_types.specs.Info.{Metadata}
+use Rattle.ldm_types.specs.declared.limits.TheConstants.{LONGEST_ORIGIN, LONGEST_IDENT}
 use Rattle.ldm_model.specs.declared.event.Event.TheVariants as event
 use Rattle.ldm_script.specs.declared.body.Body.{Body}
 use Rattle.ldm_script.specs.declared.body.Body.TheVariants.{Hex, Fill}
@@ -9,7 +11,13 @@ use Rattle.ldm_script.specs.declared.line.Details.{Details as ReadDetails}
 use Rattle.ldm_script.specs.declared.order.Act.{Act}
 use Rattle.ldm_script.specs.declared.order.Act.TheVariants as act
 use Rattle.ldm_script.specs.declared.order.Order.{Order as ReadOrder}
+use Rattle.ldm_script.specs.declared.order.LentAct.{LentAct}
+use Rattle.ldm_script.specs.declared.order.LentAct.TheVariants as lent
+use Rattle.ldm_script.specs.declared.order.LentOrder.{LentOrder}
+use Rattle.ldm_script.specs.declared.texts.Spelled.{Spelled}
+use Rattle.ldm_script.specs.declared.texts.Spelled.TheVariants.{Itself, Coded}
 use Rattle.ldm_script.specs.Bodies.{digits_of}
+use Rattle.ldm_script.specs.Texts.{text_up_to}
 use Rattle.ldm_script.specs.Grammar.{Details}
 use Rattle.ldm_script.specs.Order.{Order, Asked, Plain, OnCursor, OnReservation}
 use Rattle.ldm_model.specs.declared.event.Event.{Event}
@@ -26,9 +34,28 @@ abbrev pub IsBody : Body → Type 0
 IsBody (Hex digits) = IsSome (digits_of digits.now) × (length digits.now ≤ LONGEST_LINE)
 IsBody (Fill count byte) = count ≤ LONGEST_BODY
 
+-- the text, of at most so many bytes, that was found in a field
+abbrev pub text_of : ℕ → Spelled → List ℕ
+text_of most (Itself text) = text.now
+text_of most (Coded field) = unwrap_or (text_up_to most field.now) []
+
+-- A text that a line can spell, of at most so many bytes.
+abbrev pub IsText : ℕ → Spelled → Type 0
+IsText most (Itself text) = length text.now ≤ most
+IsText most (Coded field) = IsSome (text_up_to most field.now)
+
 -- what was read behind a signature
 abbrev pub details_of : ReadDetails → Details
-details_of details = record { feed = details.feed.0; seqno = details.seqno; origin = details.origin.items; ident = details.ident.items }
+details_of details = record {
+  feed = details.feed.0;
+  seqno = details.seqno;
+  origin = text_of LONGEST_ORIGIN details.origin;
+  ident = text_of LONGEST_IDENT details.ident;
+}
+
+-- both texts can be spelled
+abbrev pub AreTexts : ReadDetails → Type 0
+AreTexts details = IsText LONGEST_ORIGIN details.origin × IsText LONGEST_IDENT details.ident
 
 abbrev pub asked_of : Act → Asked
 asked_of (act.Insert now info body) = Plain (event.Insert now info (bytes_of body))
@@ -45,6 +72,26 @@ asked_of (act.Reserve info) = Plain (event.Reserve info)
 asked_of (act.Fill r body) = OnReservation r (λ place. event.Fill place (bytes_of body))
 asked_of (act.Commit r now) = OnReservation r (λ place. event.Commit place now)
 asked_of (act.Discard r) = OnReservation r (λ place. event.Discard place)
+
+-- an act whose metadata stood in a place that was lent
+abbrev pub act_with : Metadata → LentAct → Act
+act_with info (lent.Insert now body) = act.Insert now info body
+act_with info (lent.OpenCursor feed start) = act.OpenCursor feed start
+act_with info (lent.Step k) = act.Step k
+act_with info (lent.Read k offset len) = act.Read k offset len
+act_with info (lent.Release k) = act.Release k
+act_with info (lent.Close k) = act.Close k
+act_with info (lent.Look signature) = act.Look signature
+act_with info lent.Expire = act.Expire
+act_with info (lent.Tally k) = act.Tally k
+act_with info lent.Stat = act.Stat
+act_with info lent.Reserve = act.Reserve info
+act_with info (lent.Fill r body) = act.Fill r body
+act_with info (lent.Commit r now) = act.Commit r now
+act_with info (lent.Discard r) = act.Discard r
+
+abbrev pub order_with : Metadata → LentOrder → ReadOrder
+order_with info order = record { actor = order.actor; act = act_with info order.act }
 
 abbrev pub order_of : ReadOrder → Order
 order_of order = record { actor = order.actor; asked = asked_of order.act }

@@ -1,7 +1,7 @@
 //! Answers of the queue: what its calls answer, and how that is written as a line.
 ghost use Rattle.std.specs.Prelude.{◌≡◌, ◌+◌, ◌*◌, ◌<◌, ◌≤◌, ◌++◌, length, []};
 ghost use Rattle.arrayvec.specs.ArrayVec.{array_vec_len};
-ghost use Rattle.ldm_model.specs.Answers.{read_answer, bytes_read};
+ghost use Rattle.ldm_model.specs.Answers.{insert_answer, read_answer, bytes_read};
 ghost use Rattle.ldm_model.specs.declared.event.Reply.TheVariants as reply;
 ghost use Rattle.ldm_script.specs.Answer.{answer_line, blank_number, reply_text, reply_of, FitsAnswer};
 ghost use Rattle.ldm_script.specs.Texts.{spelled};
@@ -443,6 +443,25 @@ pub fn write_answer(answer: &Answer, out: &mut Text)
     ensures { out.new.items ≡ answer_line (reply_of answer.now) }
 {
     write_reply(answer, out);
+    out.push(b'\n');
+}
+
+/// Writes the answer line of an insertion, with its newline, over what the buffer had. Beside [`write_answer`] it does
+/// without an [`Answer`], which has room for metadata.
+#[tactic(auto, unfolding(crate::specs::Answer::answer_line, crate::specs::Answer::reply_text))]
+pub fn write_insert_reply(reply: InsertReply, out: &mut Text)
+    ensures { out.new.items ≡ answer_line (insert_answer reply) }
+{
+    out.clear();
+    match reply {
+        InsertReply::Admitted { n, time, evicted } => {
+            put_three(out, b"admitted", n, time.get(), evicted)
+        }
+        InsertReply::TooBig { need, arena } => put_two(out, b"toobig", need, arena),
+        InsertReply::Duplicate { n } => put_one(out, b"duplicate", n),
+        InsertReply::TimeEnd => put_word(out, b"timeend"),
+        InsertReply::Locked { held } => put_one(out, b"locked", held),
+    }
     out.push(b'\n');
 }
 

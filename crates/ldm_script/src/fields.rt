@@ -2,14 +2,13 @@
 ghost use Rattle.std.specs.Prelude.{◌≡◌, ◌≤◌, ◌<◌, ◌==◌, false, IfOk, MatchResult, length, None};
 ghost use Rattle.std.specs.List.{list_any};
 ghost use Rattle.std.specs.Option.{option_map};
-ghost use Rattle.arrayvec.specs.ArrayVec.{array_vec_len};
 ghost use Rattle.ldm_signature.specs.HexSignature.{hex_signature};
 ghost use Rattle.ldm_script.specs.Number.{number_up_to, number_below};
 ghost use Rattle.ldm_script.specs.Grammar.{word_of_text, start_word_of_text, four_bytes as four_bytes_of};
 ghost use Rattle.ldm_script.specs.Grammar.{instant_of, signature_of, feed_of, place_of, reserve_place_of};
 ghost use Rattle.ldm_script.specs.Texts.{text_up_to};
 ghost use Rattle.ldm_script.specs.Bodies.{body_of};
-ghost use Rattle.ldm_script.specs.OrderView.{bytes_of, IsBody};
+ghost use Rattle.ldm_script.specs.OrderView.{bytes_of, text_of, IsBody, IsText};
 ghost use Rattle.ldm_script.specs.Fields.{field, no_more};
 ghost use Rattle.ldm_script.specs.FieldReads.{TakesField, Gives};
 ghost use Rattle.ldm_script.specs.declared.line.TheConstants.{LONGEST_LINE};
@@ -18,9 +17,8 @@ use crate::body::{Body, read_body};
 use crate::number::{read_number, read_number_below};
 use crate::order::{Place, ReservePlace};
 use crate::split::split_first;
-use crate::texts::read_text;
+use crate::texts::{Spelled, read_text};
 use crate::word::{LineWord, StartWord};
-use arrayvec::ArrayVec;
 use ldm_feedtype::read_feed;
 use ldm_model::ReserveNo;
 use ldm_signature::read_hex;
@@ -84,8 +82,8 @@ impl<'a> Fields<'a> {
     }
 
     /// Nothing may be left.
-    pub fn end(self) -> Result<(), usize>
-        ensures { result ≡ no_more self.entry }
+    pub fn end(&self) -> Result<(), usize>
+        ensures { result ≡ no_more self.now }
     {
         match self.rest {
             None => Ok(()),
@@ -211,11 +209,12 @@ impl<'a> Fields<'a> {
     }
 
     /// A text of at most `most` bytes, none of which is zero.
-    pub fn text(&mut self, most: usize) -> Result<ArrayVec<u8, LONGEST_IDENT>, usize>
+    pub fn text(&mut self, most: usize) -> Result<Spelled<'a>, usize>
         requires { most ≤ LONGEST_IDENT }
-        ensures field { Gives (λ text. text.items) result (field (text_up_to most) self.old) self.new }
-        ensures short { IfOk result (λ text. array_vec_len text ≤ most) }
-        ensures no_nul { IfOk result (λ text. list_any (λ byte. byte == 0) text.items ≡ false) }
+        ensures field { Gives (text_of most) result (field (text_up_to most) self.old) self.new }
+        ensures text { IfOk result (IsText most) }
+        ensures short { IfOk result (λ text. length (text_of most text) ≤ most) }
+        ensures no_nul { IfOk result (λ text. list_any (λ byte. byte == 0) (text_of most text) ≡ false) }
     {
         let field = self.next()?;
         read_text(field.text, most).ok_or(field.left)

@@ -22,12 +22,14 @@ mod texts;
 mod word;
 mod write;
 
-pub use answer::{Answer, LONGEST_ANSWER, Text, text_into, write_answer, write_reply};
+pub use answer::{
+    Answer, LONGEST_ANSWER, Text, text_into, write_answer, write_insert_reply, write_reply,
+};
 pub use body::{Body, LONGEST_BODY, body_into};
 pub use examples::worked_examples;
 pub use laws::finds_the_first_fault;
-pub use line::{BadLine, LONGEST_LINE, LONGEST_READ, read_line};
+pub use line::{BadLine, LONGEST_LINE, LONGEST_READ, blank_info, read_line, read_line_into};
 pub use number::read_number;
-pub use order::{Act, Call, LastPlaces, Order, Place, ReservePlace};
+pub use order::{Act, Call, LastPlaces, LentAct, LentOrder, Order, Place, ReservePlace};
 pub use texts::{put, put_number};
 pub use write::write_line;

@@ -9,15 +9,16 @@ ghost use Rattle.ldm_script.specs.Grammar.{read_insert as insert_at, read_open a
 ghost use Rattle.ldm_script.specs.Grammar.{read_read as read_at, read_look as look_at, read_on_cursor as on_cursor_at};
 ghost use Rattle.ldm_script.specs.Grammar.{read_reserve as reserve_at, read_fill as fill_at, read_commit as commit_at};
 ghost use Rattle.ldm_script.specs.Grammar.{read_discard as discard_at, read_details as details_at, metadata};
-ghost use Rattle.ldm_types.specs.Info.{texts_fault};
-ghost use Rattle.ldm_script.specs.OrderView.{order_of, asked_of, bytes_of, details_of, IsBody, IsWhole, IsWritable};
+ghost use Rattle.ldm_types.specs.Info.{Metadata, texts_fault};
+ghost use Rattle.ldm_script.specs.OrderView.{order_of, order_with, asked_of, act_with, bytes_of, details_of};
+ghost use Rattle.ldm_script.specs.OrderView.{AreTexts, IsBody, IsWhole, IsWritable};
 ghost use Rattle.md5.specs.Md5.{md5};
 
 use crate::body::Body;
 use crate::fields::Fields;
-use crate::order::{Act, Order, Place};
+use crate::order::{LentAct, LentOrder, Order, Place};
+use crate::texts::Spelled;
 use crate::word::{LineWord, StartWord};
-use arrayvec::ArrayVec;
 use ldm_model::Start;
 use ldm_types::{Actor, Feed, Info, LONGEST_IDENT, LONGEST_ORIGIN, Micros, Signature};
 
@@ -38,13 +39,50 @@ pub struct BadLine {
 /// Reads a line, without its newline: `None` for an empty line and for one that begins with `#`.
 ///
 /// The first field is a number below `actors`. Fields stand one blank apart. It takes no memory.
-#[tactic(auto, unfolding(crate::specs::Grammar::read_line))]
+#[inline(never)]
 pub fn read_line(line: &[u8], actors: u32) -> Result<Option<Order<'_>>, BadLine>
     requires { actors ≤ 64 }
     ensures read { MatchResult result (λ order. reading actors line.now ≡ Ok (option_map order_of order))
         (λ bad. reading actors line.now ≡ Err bad.column) }
     ensures whole { IfOk result (λ found. IfSome found (λ order. IsWhole order.act)) }
     ensures writable { IfOk result (λ found. IfSome found (λ order. IsWritable order.act)) }
+    ensures actor { IfOk result (λ found. IfSome found (λ order. order.actor < actors)) }
+{
+    let mut info = blank_info();
+    match read_line_into(line, actors, &mut info) {
+        Ok(Some(LentOrder { actor, act })) => Ok(Some(Order {
+            actor,
+            act: act.with(info),
+        })),
+        Ok(None) => Ok(None),
+        Err(bad) => Err(bad),
+    }
+}
+
+/// Metadata of no product: a place for those that [`read_line_into`] reads.
+pub fn blank_info() -> Info {
+    let Some(arrival) = Micros::new(0) else {
+        unreachable!();
+    };
+    let Ok(info) = Info::new(arrival, Signature([0; 16]), b"", Feed(0), 0, b"", 0) else {
+        unreachable!();
+    };
+    info
+}
+
+/// Reads a line as [`read_line`] does, and puts the metadata of its product, if it has one, into the place that is
+/// lent. No other metadata are moved, so lines that are read one after another lend the same place.
+#[tactic(auto, unfolding(crate::specs::Grammar::read_line))]
+pub fn read_line_into<'a>(
+    line: &'a [u8],
+    actors: u32,
+    info: &mut Info,
+) -> Result<Option<LentOrder<'a>>, BadLine>
+    requires { actors ≤ 64 }
+    ensures read { MatchResult result
+        (λ order. reading actors line.now ≡ Ok (option_map (λ o. order_of (order_with info.new o)) order))
+        (λ bad. reading actors line.now ≡ Err bad.column) }
+    ensures whole { IfOk result (λ found. IfSome found (λ order. IsWhole (act_with info.new order.act))) }
     ensures actor { IfOk result (λ found. IfSome found (λ order. order.actor < actors)) }
 {
     if line.len() > LONGEST_LINE {
@@ -55,7 +93,8 @@ pub fn read_line(line: &[u8], actors: u32) -> Result<Option<Order<'_>>, BadLine>
     if line.is_empty() || line[0] == b'#' {
         return Ok(None);
     }
-    match read_order(Fields::of(line), actors) {
+    let mut fields = Fields::of(line);
+    match read_order(&mut fields, actors, info) {
         Ok(order) => Ok(Some(order)),
         Err(left) => Err(BadLine {
             column: (line.len() + 1).saturating_sub(left) as u32,
@@ -66,53 +105,64 @@ pub fn read_line(line: &[u8], actors: u32) -> Result<Option<Order<'_>>, BadLine>
 // Where one of these cannot read a field, the error is how many bytes there are from it to the end of the line.
 
 #[tactic(auto, unfolding(crate::specs::Grammar::read_order))]
-fn read_order(mut fields: Fields<'_>, actors: u32) -> Result<Order<'_>, usize>
+fn read_order<'a>(
+    fields: &mut Fields<'a>,
+    actors: u32,
+    info: &mut Info,
+) -> Result<LentOrder<'a>, usize>
     requires { actors ≤ 64 }
-    ensures read { MatchResult result (λ order. order_at actors fields.entry ≡ Ok (order_of order))
-        (λ bad. order_at actors fields.entry ≡ Err bad) }
-    ensures whole { IfOk result (λ order. IsWhole order.act) }
+    ensures read { MatchResult result
+        (λ order. order_at actors fields.old ≡ Ok (order_of (order_with info.new order)))
+        (λ bad. order_at actors fields.old ≡ Err bad) }
+    ensures whole { IfOk result (λ order. IsWhole (act_with info.new order.act)) }
     ensures actor { IfOk result (λ order. order.actor < actors) }
 {
     let Some(actor) = Actor::new(fields.number_below(actors)?) else {
         unreachable!();
     };
     let word = fields.word()?;
-    let act = read_act(word, fields)?;
-    Ok(Order { actor, act })
+    match read_act(word, fields, info) {
+        Ok(act) => Ok(LentOrder { actor, act }),
+        Err(left) => Err(left),
+    }
 }
 
 // What stands behind the word.
-fn read_act(word: LineWord, fields: Fields<'_>) -> Result<Act<'_>, usize>
-    ensures read { MatchResult result (λ act. act_at word fields.entry ≡ Ok (asked_of act))
-        (λ bad. act_at word fields.entry ≡ Err bad) }
-    ensures whole { IfOk result IsWhole }
+fn read_act<'a>(
+    word: LineWord,
+    fields: &mut Fields<'a>,
+    info: &mut Info,
+) -> Result<LentAct<'a>, usize>
+    ensures read { MatchResult result (λ act. act_at word fields.old ≡ Ok (asked_of (act_with info.new act)))
+        (λ bad. act_at word fields.old ≡ Err bad) }
+    ensures whole { IfOk result (λ act. IsWhole (act_with info.new act)) }
 {
     match word {
-        LineWord::Insert => read_insert(fields),
+        LineWord::Insert => read_insert(fields, info),
         LineWord::Open => read_open(fields),
-        LineWord::Step => Ok(Act::Step {
+        LineWord::Step => Ok(LentAct::Step {
             k: read_on_cursor(fields)?,
         }),
         LineWord::Read => read_read(fields),
-        LineWord::Release => Ok(Act::Release {
+        LineWord::Release => Ok(LentAct::Release {
             k: read_on_cursor(fields)?,
         }),
-        LineWord::Close => Ok(Act::Close {
+        LineWord::Close => Ok(LentAct::Close {
             k: read_on_cursor(fields)?,
         }),
         LineWord::Look => read_look(fields),
         LineWord::Expire => {
             fields.end()?;
-            Ok(Act::Expire)
+            Ok(LentAct::Expire)
         }
-        LineWord::Tally => Ok(Act::Tally {
+        LineWord::Tally => Ok(LentAct::Tally {
             k: read_on_cursor(fields)?,
         }),
         LineWord::Stat => {
             fields.end()?;
-            Ok(Act::Stat)
+            Ok(LentAct::Stat)
         }
-        LineWord::Reserve => read_reserve(fields),
+        LineWord::Reserve => read_reserve(fields, info),
         LineWord::Fill => read_fill(fields),
         LineWord::Commit => read_commit(fields),
         LineWord::Discard => read_discard(fields),
@@ -120,33 +170,35 @@ fn read_act(word: LineWord, fields: Fields<'_>) -> Result<Act<'_>, usize>
 }
 
 #[tactic(auto, unfolding(crate::specs::Grammar::read_insert))]
-fn read_insert(mut fields: Fields<'_>) -> Result<Act<'_>, usize>
-    ensures read { MatchResult result (λ act. insert_at fields.entry ≡ Ok (asked_of act))
-        (λ bad. insert_at fields.entry ≡ Err bad) }
-    ensures whole { IfOk result IsWhole }
+fn read_insert<'a>(fields: &mut Fields<'a>, info: &mut Info) -> Result<LentAct<'a>, usize>
+    ensures read { MatchResult result (λ act. insert_at fields.old ≡ Ok (asked_of (act_with info.new act)))
+        (λ bad. insert_at fields.old ≡ Err bad) }
+    ensures whole { IfOk result (λ act. IsWhole (act_with info.new act)) }
 {
     let now = fields.instant()?;
     let signature = fields.signature_or_md5()?;
-    let details = read_details(&mut fields)?;
+    let details = read_details(fields)?;
     let body = fields.body()?;
     fields.end()?;
-    let info = info_of(now, signature_of(signature, &body), &details, body.size());
-    Ok(Act::Insert { now, info, body })
+    let signature = signature_of(signature, &body);
+    put_info(now, signature, &details, body.size(), info);
+    Ok(LentAct::Insert { now, body })
 }
 
-// What stands in a line behind the signature of a product.
+// What stands in a line behind the signature of a product. The texts lie in the line.
 #[derive(Drop)]
-struct Details {
+struct Details<'a> {
     feed: Feed,
     seqno: u32,
-    origin: ArrayVec<u8, LONGEST_IDENT>,
-    ident: ArrayVec<u8, LONGEST_IDENT>,
+    origin: Spelled<'a>,
+    ident: Spelled<'a>,
 }
 
 #[tactic(auto, unfolding(crate::specs::Grammar::read_details))]
-fn read_details(fields: &mut Fields) -> Result<Details, usize>
+fn read_details<'a>(fields: &mut Fields<'a>) -> Result<Details<'a>, usize>
     ensures field { Gives details_of result (details_at fields.old) fields.new }
-    ensures texts { IfOk result (λ details. texts_fault details.origin.items details.ident.items ≡ None) }
+    ensures texts { IfOk result AreTexts }
+    ensures fit { IfOk result (λ details. texts_fault (details_of details).origin (details_of details).ident ≡ None) }
 {
     let feed = fields.feed()?;
     let seqno = fields.four_bytes()?;
@@ -160,22 +212,53 @@ fn read_details(fields: &mut Fields) -> Result<Details, usize>
     })
 }
 
-fn info_of(arrival: Micros, signature: Signature, details: &Details, size: u32) -> Info
-    requires { texts_fault details.now.origin.items details.now.ident.items ≡ None }
-    ensures { result ≡ metadata arrival signature.0 (details_of details.now) size }
+// Makes the metadata in the place that is lent.
+fn put_info(arrival: Micros, signature: Signature, details: &Details, size: u32, info: &mut Info)
+    requires texts { AreTexts details.now }
+    requires fit { texts_fault (details_of details.now).origin (details_of details.now).ident ≡ None }
+    ensures { info.new ≡ metadata arrival signature.0 (details_of details.now) size }
 {
-    let Ok(info) = Info::new(
+    match (details.origin, details.ident) {
+        (Spelled::Itself(origin), Spelled::Itself(ident)) => {
+            let Ok(made) = Info::new(
+                arrival,
+                signature,
+                origin,
+                details.feed,
+                details.seqno,
+                ident,
+                size,
+            ) else {
+                unreachable!();
+            };
+            *info = made;
+        }
+        _ => put_decoded(arrival, signature, details, size, info),
+    }
+}
+
+// The same, where a text is not spelled by itself.
+#[cold]
+#[inline(never)]
+fn put_decoded(arrival: Micros, signature: Signature, details: &Details, size: u32, info: &mut Info)
+    requires texts { AreTexts details.now }
+    requires fit { texts_fault (details_of details.now).origin (details_of details.now).ident ≡ None }
+    ensures { info.new ≡ metadata arrival signature.0 (details_of details.now) size }
+{
+    let origin = details.origin.decoded(LONGEST_ORIGIN);
+    let ident = details.ident.decoded(LONGEST_IDENT);
+    let Ok(made) = Info::new(
         arrival,
         signature,
-        details.origin.as_slice(),
+        origin.as_slice(),
         details.feed,
         details.seqno,
-        details.ident.as_slice(),
+        ident.as_slice(),
         size,
     ) else {
         unreachable!();
     };
-    info
+    *info = made;
 }
 
 // The signature that was read, or that of the body.
@@ -190,16 +273,17 @@ fn signature_of(read: Option<Signature>, body: &Body) -> Signature
 }
 
 #[tactic(auto, unfolding(crate::specs::Grammar::read_open))]
-fn read_open(mut fields: Fields<'_>) -> Result<Act<'_>, usize>
-    ensures read { MatchResult result (λ act. open_at fields.entry ≡ Ok (asked_of act))
-        (λ bad. open_at fields.entry ≡ Err bad) }
-    ensures whole { IfOk result IsWhole }
+fn read_open<'a>(fields: &mut Fields<'a>) -> Result<LentAct<'a>, usize>
+    ensures read { MatchResult result
+        (λ act. (info : Metadata) → open_at fields.old ≡ Ok (asked_of (act_with info act)))
+        (λ bad. open_at fields.old ≡ Err bad) }
+    ensures whole { IfOk result (λ act. (info : Metadata) → IsWhole (act_with info act)) }
 {
     let feed = fields.feed()?;
     let word = fields.start_word()?;
-    let start = read_start(word, &mut fields)?;
+    let start = read_start(word, fields)?;
     fields.end()?;
-    Ok(Act::OpenCursor { feed, start })
+    Ok(LentAct::OpenCursor { feed, start })
 }
 
 fn read_start(word: StartWord, fields: &mut Fields) -> Result<Start, usize>
@@ -214,10 +298,10 @@ fn read_start(word: StartWord, fields: &mut Fields) -> Result<Start, usize>
 }
 
 #[tactic(auto, unfolding(crate::specs::Grammar::read_on_cursor))]
-fn read_on_cursor(mut fields: Fields) -> Result<Place, usize>
+fn read_on_cursor(fields: &mut Fields) -> Result<Place, usize>
     ensures { MatchResult result
-        (λ k. (act : ℕ → Event) → on_cursor_at act fields.entry ≡ Ok (OnCursor k act))
-        (λ bad. (act : ℕ → Event) → on_cursor_at act fields.entry ≡ Err bad) }
+        (λ k. (act : ℕ → Event) → on_cursor_at act fields.old ≡ Ok (OnCursor k act))
+        (λ bad. (act : ℕ → Event) → on_cursor_at act fields.old ≡ Err bad) }
 {
     let k = fields.place()?;
     fields.end()?;
@@ -225,75 +309,80 @@ fn read_on_cursor(mut fields: Fields) -> Result<Place, usize>
 }
 
 #[tactic(auto, unfolding(crate::specs::Grammar::read_read))]
-fn read_read(mut fields: Fields<'_>) -> Result<Act<'_>, usize>
-    ensures read { MatchResult result (λ act. read_at fields.entry ≡ Ok (asked_of act))
-        (λ bad. read_at fields.entry ≡ Err bad) }
-    ensures whole { IfOk result IsWhole }
+fn read_read<'a>(fields: &mut Fields<'a>) -> Result<LentAct<'a>, usize>
+    ensures read { MatchResult result
+        (λ act. (info : Metadata) → read_at fields.old ≡ Ok (asked_of (act_with info act)))
+        (λ bad. read_at fields.old ≡ Err bad) }
+    ensures whole { IfOk result (λ act. (info : Metadata) → IsWhole (act_with info act)) }
 {
     let k = fields.place()?;
     let offset = fields.four_bytes()?;
     let len = fields.number(u64::from(LONGEST_READ))? as u32;
     fields.end()?;
-    Ok(Act::Read { k, offset, len })
+    Ok(LentAct::Read { k, offset, len })
 }
 
 #[tactic(auto, unfolding(crate::specs::Grammar::read_look))]
-fn read_look(mut fields: Fields<'_>) -> Result<Act<'_>, usize>
-    ensures read { MatchResult result (λ act. look_at fields.entry ≡ Ok (asked_of act))
-        (λ bad. look_at fields.entry ≡ Err bad) }
-    ensures whole { IfOk result IsWhole }
+fn read_look<'a>(fields: &mut Fields<'a>) -> Result<LentAct<'a>, usize>
+    ensures read { MatchResult result
+        (λ act. (info : Metadata) → look_at fields.old ≡ Ok (asked_of (act_with info act)))
+        (λ bad. look_at fields.old ≡ Err bad) }
+    ensures whole { IfOk result (λ act. (info : Metadata) → IsWhole (act_with info act)) }
 {
     let signature = fields.signature()?;
     fields.end()?;
-    Ok(Act::Look { signature })
+    Ok(LentAct::Look { signature })
 }
 
 #[tactic(auto, unfolding(crate::specs::Grammar::read_reserve))]
-fn read_reserve(mut fields: Fields<'_>) -> Result<Act<'_>, usize>
-    ensures read { MatchResult result (λ act. reserve_at fields.entry ≡ Ok (asked_of act))
-        (λ bad. reserve_at fields.entry ≡ Err bad) }
-    ensures whole { IfOk result IsWhole }
+fn read_reserve<'a>(fields: &mut Fields<'a>, info: &mut Info) -> Result<LentAct<'a>, usize>
+    ensures read { MatchResult result (λ act. reserve_at fields.old ≡ Ok (asked_of (act_with info.new act)))
+        (λ bad. reserve_at fields.old ≡ Err bad) }
+    ensures whole { IfOk result (λ act. IsWhole (act_with info.new act)) }
 {
     let arrival = fields.instant()?;
     let signature = fields.signature()?;
-    let details = read_details(&mut fields)?;
+    let details = read_details(fields)?;
     let size = fields.four_bytes()?;
     fields.end()?;
-    let info = info_of(arrival, signature, &details, size);
-    Ok(Act::Reserve { info })
+    put_info(arrival, signature, &details, size, info);
+    Ok(LentAct::Reserve)
 }
 
 #[tactic(auto, unfolding(crate::specs::Grammar::read_fill), using(crate::proofs::Bodies::body_small))]
-fn read_fill(mut fields: Fields<'_>) -> Result<Act<'_>, usize>
-    ensures read { MatchResult result (λ act. fill_at fields.entry ≡ Ok (asked_of act))
-        (λ bad. fill_at fields.entry ≡ Err bad) }
-    ensures whole { IfOk result IsWhole }
+fn read_fill<'a>(fields: &mut Fields<'a>) -> Result<LentAct<'a>, usize>
+    ensures read { MatchResult result
+        (λ act. (info : Metadata) → fill_at fields.old ≡ Ok (asked_of (act_with info act)))
+        (λ bad. fill_at fields.old ≡ Err bad) }
+    ensures whole { IfOk result (λ act. (info : Metadata) → IsWhole (act_with info act)) }
 {
     let r = fields.reserve_place()?;
     let body = fields.body()?;
     fields.end()?;
-    Ok(Act::Fill { r, body })
+    Ok(LentAct::Fill { r, body })
 }
 
 #[tactic(auto, unfolding(crate::specs::Grammar::read_commit))]
-fn read_commit(mut fields: Fields<'_>) -> Result<Act<'_>, usize>
-    ensures read { MatchResult result (λ act. commit_at fields.entry ≡ Ok (asked_of act))
-        (λ bad. commit_at fields.entry ≡ Err bad) }
-    ensures whole { IfOk result IsWhole }
+fn read_commit<'a>(fields: &mut Fields<'a>) -> Result<LentAct<'a>, usize>
+    ensures read { MatchResult result
+        (λ act. (info : Metadata) → commit_at fields.old ≡ Ok (asked_of (act_with info act)))
+        (λ bad. commit_at fields.old ≡ Err bad) }
+    ensures whole { IfOk result (λ act. (info : Metadata) → IsWhole (act_with info act)) }
 {
     let r = fields.reserve_place()?;
     let now = fields.instant()?;
     fields.end()?;
-    Ok(Act::Commit { r, now })
+    Ok(LentAct::Commit { r, now })
 }
 
 #[tactic(auto, unfolding(crate::specs::Grammar::read_discard))]
-fn read_discard(mut fields: Fields<'_>) -> Result<Act<'_>, usize>
-    ensures read { MatchResult result (λ act. discard_at fields.entry ≡ Ok (asked_of act))
-        (λ bad. discard_at fields.entry ≡ Err bad) }
-    ensures whole { IfOk result IsWhole }
+fn read_discard<'a>(fields: &mut Fields<'a>) -> Result<LentAct<'a>, usize>
+    ensures read { MatchResult result
+        (λ act. (info : Metadata) → discard_at fields.old ≡ Ok (asked_of (act_with info act)))
+        (λ bad. discard_at fields.old ≡ Err bad) }
+    ensures whole { IfOk result (λ act. (info : Metadata) → IsWhole (act_with info act)) }
 {
     let r = fields.reserve_place()?;
     fields.end()?;
-    Ok(Act::Discard { r })
+    Ok(LentAct::Discard { r })
 }

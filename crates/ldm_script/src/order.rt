@@ -1,9 +1,10 @@
 //! What script lines ask for, and the calls of a queue that they become.
 ghost use Rattle.std.specs.Prelude.{◌≡◌, ℕ, IfSome, Option};
 ghost use Rattle.std.specs.Option.{option_map};
+ghost use Rattle.ldm_types.specs.Info.{Metadata};
 ghost use Rattle.ldm_model.specs.declared.event.Event.{Event};
 ghost use Rattle.ldm_script.specs.Order.{OnCursor, OnReservation};
-ghost use Rattle.ldm_script.specs.OrderView.{asked_of, event_of, IsWhole, IsWholeCall};
+ghost use Rattle.ldm_script.specs.OrderView.{asked_of, event_of, act_with, IsWhole, IsWholeCall};
 ghost use Rattle.ldm_script.specs.Answer.{reply_of, FitsAnswer};
 ghost use Rattle.ldm_script.specs.Resolve.{resolved, unresolved};
 ghost use Rattle.ldm_script.specs.declared.order.LastPlaces.{LastPlaces};
@@ -146,6 +147,34 @@ pub enum Act<'a> {
     },
 }
 
+/// What a line asks the queue for, and who asks, with the metadata of a product in a place that the caller lent. It
+/// borrows the line.
+#[derive(Clone, Copy)]
+pub struct LentOrder<'a> {
+    pub actor: Actor,
+    pub act: LentAct<'a>,
+}
+
+/// What a line asks for, as [`Act`] has it, but for the metadata of a product: these stand in a place that the caller
+/// lent.
+#[derive(Clone, Copy)]
+pub enum LentAct<'a> {
+    Insert { now: Micros, body: Body<'a> },
+    OpenCursor { feed: Feed, start: Start },
+    Step { k: Place },
+    Read { k: Place, offset: u32, len: u32 },
+    Release { k: Place },
+    Close { k: Place },
+    Look { signature: Signature },
+    Expire,
+    Tally { k: Place },
+    Stat,
+    Reserve,
+    Fill { r: ReservePlace, body: Body<'a> },
+    Commit { r: ReservePlace, now: Micros },
+    Discard { r: ReservePlace },
+}
+
 /// What a line asks for, where the place that it names is known. It borrows the act.
 #[derive(Drop)]
 pub enum Call<'a> {
@@ -256,6 +285,94 @@ impl Act<'_> {
     {
         match self {
             Act::Fill { .. } | Act::Commit { .. } | Act::Discard { .. } => Answer::NoReservation,
+            _ => Answer::NoCursor,
+        }
+    }
+}
+
+impl<'a> LentAct<'a> {
+    /// The act, with these metadata if it has any.
+    pub fn with(&self, info: Info) -> Act<'a>
+        ensures { result ≡ act_with info self.now }
+    {
+        match *self {
+            LentAct::Insert { now, body } => Act::Insert { now, info, body },
+            LentAct::OpenCursor { feed, start } => Act::OpenCursor { feed, start },
+            LentAct::Step { k } => Act::Step { k },
+            LentAct::Read { k, offset, len } => Act::Read { k, offset, len },
+            LentAct::Release { k } => Act::Release { k },
+            LentAct::Close { k } => Act::Close { k },
+            LentAct::Look { signature } => Act::Look { signature },
+            LentAct::Expire => Act::Expire,
+            LentAct::Tally { k } => Act::Tally { k },
+            LentAct::Stat => Act::Stat,
+            LentAct::Reserve => Act::Reserve { info },
+            LentAct::Fill { r, body } => Act::Fill { r, body },
+            LentAct::Commit { r, now } => Act::Commit { r, now },
+            LentAct::Discard { r } => Act::Discard { r },
+        }
+    }
+
+    /// The call that is asked for, with these metadata if it has any, as [`Act::call`] makes it.
+    pub fn call<'b>(&'b self, last: LastPlaces, info: &'b Info) -> Option<Call<'b>>
+        requires { IsWhole (act_with info.now self.now) }
+        ensures event { option_map event_of result ≡ resolved last (asked_of (act_with info.now self.now)) }
+        ensures whole { IfSome result IsWholeCall }
+    {
+        Some(match self {
+            LentAct::Insert { now, body } => Call::Insert {
+                now: *now,
+                info,
+                body,
+            },
+            LentAct::OpenCursor { feed, start } => Call::OpenCursor {
+                feed: *feed,
+                start: *start,
+            },
+            LentAct::Step { k } => Call::Step {
+                k: k.cursor(last.opened)?,
+            },
+            LentAct::Read { k, offset, len } => Call::Read {
+                k: k.cursor(last.opened)?,
+                offset: *offset,
+                len: *len,
+            },
+            LentAct::Release { k } => Call::Release {
+                k: k.cursor(last.opened)?,
+            },
+            LentAct::Close { k } => Call::Close {
+                k: k.cursor(last.opened)?,
+            },
+            LentAct::Look { signature } => Call::Look { signature },
+            LentAct::Expire => Call::Expire,
+            LentAct::Tally { k } => Call::Tally {
+                k: k.cursor(last.opened)?,
+            },
+            LentAct::Stat => Call::Stat,
+            LentAct::Reserve => Call::Reserve { info },
+            LentAct::Fill { r, body } => Call::Fill {
+                r: r.reservation(last.reserved)?,
+                body,
+            },
+            LentAct::Commit { r, now } => Call::Commit {
+                r: r.reservation(last.reserved)?,
+                now: *now,
+            },
+            LentAct::Discard { r } => Call::Discard {
+                r: r.reservation(last.reserved)?,
+            },
+        })
+    }
+
+    /// What is answered without a call, as [`Act::unresolved`] tells it, whatever the metadata are.
+    pub fn unresolved(&self) -> Answer<'static>
+        ensures answer { (info : Metadata) → reply_of result ≡ unresolved (asked_of (act_with info self.now)) }
+        ensures fits { FitsAnswer result }
+    {
+        match self {
+            LentAct::Fill { .. } | LentAct::Commit { .. } | LentAct::Discard { .. } => {
+                Answer::NoReservation
+            }
             _ => Answer::NoCursor,
         }
     }

@@ -1,11 +1,13 @@
 //! Texts in lines: origins and idents.
-ghost use Rattle.std.specs.Prelude.{◌≡◌, ◌≤◌, ◌<◌, ◌+◌, ◌*◌, ◌++◌, ◌==◌, ◌∷◌, false, []};
-ghost use Rattle.std.specs.Prelude.{IfSome, length, bytes_eq, slice_index, decimal};
-ghost use Rattle.std.specs.List.{list_any, flat_map};
+ghost use Rattle.std.specs.Prelude.{◌≡◌, ◌≤◌, ◌<◌, ◌+◌, ◌*◌, ◌++◌, ◌==◌, ◌∷◌, ◌&&◌, not, false, []};
+ghost use Rattle.std.specs.Prelude.{IfSome, is_some, unwrap_or, length, bytes_eq, slice_index, decimal};
+ghost use Rattle.std.specs.List.{list_all, list_any, flat_map};
 ghost use Rattle.std.specs.Option.{option_map};
 ghost use Rattle.arrayvec.specs.ArrayVec.{array_vec_len};
 ghost use Rattle.hex.specs.Hex.{upper_digits};
-ghost use Rattle.ldm_script.specs.Texts.{is_plain as stands_for_itself, spelled_byte, spelled, unspelled, text_up_to};
+ghost use Rattle.ldm_script.specs.OrderView.{text_of, IsText};
+ghost use Rattle.ldm_script.specs.Texts.{is_plain as stands_for_itself, spelled_byte};
+ghost use Rattle.ldm_script.specs.Texts.{spelled, unspelled, text_up_to};
 ghost use Rattle.ldm_script.specs.TextReads.{IsUnspelled, GivesByte};
 
 use arrayvec::ArrayVec;
@@ -16,10 +18,88 @@ use ldm_types::LONGEST_IDENT;
 // Room for the spelling of the longest text.
 const LONGEST_SPELLING: usize = 766;
 
+/// A text that a field spells, where the field lies.
+#[derive(Clone, Copy)]
+pub(crate) enum Spelled<'a> {
+    /// These bytes, which stand for themselves.
+    Itself(&'a [u8]),
+    /// The text that this field spells.
+    Coded(&'a [u8]),
+}
+
+impl Spelled<'_> {
+    /// The text.
+    pub(crate) fn decoded(&self, most: usize) -> ArrayVec<u8, LONGEST_IDENT>
+        requires most { most ≤ LONGEST_IDENT }
+        requires text { IsText most self.now }
+        ensures { result.items ≡ text_of most self.now }
+    {
+        match *self {
+            Spelled::Itself(bytes) => {
+                let mut text = ArrayVec::new();
+                put(&mut text, bytes);
+                text
+            }
+            Spelled::Coded(field) => {
+                let Some(text) = decoded(field, most) else {
+                    unreachable!();
+                };
+                text
+            }
+        }
+    }
+}
+
 /// The text of at most `most` bytes, none of which is zero, that a field spells: bytes from 0x21 to 0x7E that stand
 /// for themselves, and `%` with two upper-case hexadecimal digits for each other one and for `%`. `-` is the empty
 /// text, and `%2D` the text `-`. `None` exactly where the field is no such spelling.
-pub(crate) fn read_text(field: &[u8], most: usize) -> Option<ArrayVec<u8, LONGEST_IDENT>>
+pub(crate) fn read_text(field: &[u8], most: usize) -> Option<Spelled<'_>>
+    requires { most ≤ LONGEST_IDENT }
+    ensures value { option_map (text_of most) result ≡ text_up_to most field.now }
+    ensures text { IfSome result (IsText most) }
+    ensures short { IfSome result (λ text. length (text_of most text) ≤ most) }
+    ensures no_nul { IfSome result (λ text. list_any (λ byte. byte == 0) (text_of most text) ≡ false) }
+{
+    if field == b"-".as_slice() {
+        return Some(Spelled::Itself(&field[1..]));
+    }
+    if field.len() <= most && spells_itself(field) {
+        return Some(Spelled::Itself(field));
+    }
+    if is_text(field, most) {
+        Some(Spelled::Coded(field))
+    } else {
+        None
+    }
+}
+
+// Whether there is something in a field, and each byte of it stands for itself.
+fn spells_itself(field: &[u8]) -> bool
+    ensures { result ≡ (not (length field.now == 0) && list_all stands_for_itself field.now) }
+{
+    !field.is_empty() && are_plain(field)
+}
+
+fn are_plain(text: &[u8]) -> bool
+    ensures { result ≡ list_all stands_for_itself text.now }
+{
+    text.iter().all(|byte| is_plain(*byte))
+}
+
+// Whether a field spells a text of at most `most` bytes, by the bytes that it stands for.
+#[cold]
+#[inline(never)]
+fn is_text(field: &[u8], most: usize) -> bool
+    requires { most ≤ LONGEST_IDENT }
+    ensures value { result ≡ is_some (text_up_to most field.now) }
+    ensures short { length (unwrap_or (text_up_to most field.now) []) ≤ most }
+    ensures no_nul { list_any (λ byte. byte == 0) (unwrap_or (text_up_to most field.now) []) ≡ false }
+{
+    decoded(field, most).is_some()
+}
+
+// The text that a field spells, by the bytes that it stands for.
+fn decoded(field: &[u8], most: usize) -> Option<ArrayVec<u8, LONGEST_IDENT>>
     requires { most ≤ LONGEST_IDENT }
     ensures value { option_map (λ text. text.items) result ≡ text_up_to most field.now }
     ensures short { IfSome result (λ text. array_vec_len text ≤ most) }

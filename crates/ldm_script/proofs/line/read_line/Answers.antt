@@ -1,10 +1,15 @@
-use Rattle.std.proofs.Common.{◌≡◌, Some, Ok, sym, ap, ◌∙◌, arith}
-use Rattle.ldm_script.specs.Grammar.{read_order}
-use Rattle.ldm_script.specs.OrderView.{order_of}
-use Rattle.ldm_script.proofs.Askable.{writable_found}
+use Rattle.std.proofs.Common.{◌≡◌, ◌∙◌, Option, Some, Ok, ap}
+use Rattle.std.specs.Option.{option_map}
+use Rattle.ldm_script.specs.declared.order.LentOrder.{LentOrder}
+use Rattle.ldm_script.specs.Grammar.{read_line}
+use Rattle.ldm_script.specs.OrderView.{order_of, order_with}
+use Rattle.ldm_script.proofs.Askable.{writable_order}
 use Rattle.ldm_script.proofs.line.read_line.Goals as goal
 
-pub returns-in-Ok-clause-writable : goal.returns-in-Ok-clause-writable
-returns-in-Ok-clause-writable c =
-    let is : read_order c.args.actors (Some c.args.line.now) ≡ Ok (order_of c.in-Ok.order) = ap (read_order c.args.actors) (sym c.of.ensures) ∙ c.in-Ok.ensures.read in
-    writable_found c.args.actors c.args.line.now c.in-Ok.order (omega arith) is
+pub returns-in-Ok-Some-clause-writable : goal.returns-in-Ok-Some-clause-writable
+returns-in-Ok-Some-clause-writable c =
+    let info = c.read_line_into.new.info in
+    let order = order_with info c.in-Ok-Some.field-0-0 in
+    let is : read_line c.args.actors c.args.line.now ≡ Ok (Some (order_of order)) =
+    c.in-Ok-Some.ensures.read ∙ ap (λ (o : Option LentOrder). Ok (option_map (λ found. order_of (order_with info found)) o)) c.in-Ok-Some.field-0-is in
+    rw c.with.ensures (writable_order c.args.actors c.args.line.now order is)

@@ -2,7 +2,7 @@ use Rattle.std.proofs.Common.{◌≡◌, ◌∙◌, ◌<◌, ℕ, length, ap, sy
 use Rattle.std.proofs.lemmas.List.{length-map}
 use Rattle.std.proofs.lemmas.Result.{err_from_is_err_and}
 use Rattle.ldm_outside.specs.Gate.{HasCalls}
-use Rattle.ldm_script.specs.OrderView.{asked_of}
+use Rattle.ldm_script.specs.OrderView.{asked_of, act_with}
 use Rattle.ldm_shared.specs.Passes.{PassView}
 use Rattle.ldm_crowd.specs.OrdersView.{asked_in, asked_lines}
 use Rattle.ldm_crowd.specs.Parts.{passings}
@@ -23,7 +23,7 @@ loop-i-preserved g c =
     let asked : HasCalls (passings new.actor c.loop-i.i) first mid = subst (λ (a : ℕ). HasCalls (passings a c.loop-i.i) first mid) actor_is inv.asked in
     record {
       same = c.play_line.ensures.same ∙ ap (λ (p : PassView). record p { seen = new.seen }) inv.same;
-      played = plays_on g.G.Gate.tells lines c.loop-i.i c.loop-i.i less (asked_of c.act-act.result) c.act-act.ensures.asked old c.loop-i.self new c.play_line.new.self inv.played c.play_line.ensures.same line;
+      played = plays_on g.G.Gate.tells lines c.loop-i.i c.loop-i.i less (asked_of (act_with c.act-act.new.info c.act-act.result)) c.act-act.ensures.asked old c.loop-i.self new c.play_line.new.self inv.played c.play_line.ensures.same line;
       asked = asked_on new.actor old.actor c.loop-i.i first mid (g.G.Gate.tells c.play_line.new.self.gate) actor_is asked line.passed;
       stops_kept = omega (arith, inv.stops_kept, c.play_line.ensures.stops_kept);
     }
