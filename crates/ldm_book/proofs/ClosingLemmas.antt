@@ -10,11 +10,10 @@ use Rattle.ldm_types.specs.Info.{Metadata}
 use Rattle.ldm_model.specs.declared.event.Event.{Event}
 use Rattle.ldm_model.specs.declared.event.Event.TheVariants as event
 use Rattle.ldm_model.specs.declared.event.Entry.{Entry}
-use Rattle.ldm_model.specs.declared.event.Reply.{Reply}
 use Rattle.ldm_model.specs.declared.event.Reply.TheVariants as reply
 use Rattle.ldm_model.specs.declared.event.Start.{Start}
 use Rattle.ldm_model.specs.Product.{Product, extent_of}
-use Rattle.ldm_model.specs.State.{State, Row, Cursor, Queued, Reservation, empty, queued, queued_with}
+use Rattle.ldm_model.specs.State.{State, Row, Cursor, Queued, Reservation, empty, queued}
 use Rattle.ldm_model.specs.Outcome.{Outcome, unchanged}
 use Rattle.ldm_model.specs.Evict.{evict, evict_all, evict_row, unheld, with_loss}
 use Rattle.ldm_model.specs.Insert.{after_evicting, insert}
@@ -31,7 +30,7 @@ use Rattle.ldm_model.specs.Expire.{expire}
 use Rattle.ldm_model.specs.Reserve.{reserve}
 use Rattle.ldm_model.specs.Fill.{discard, fill}
 use Rattle.ldm_model.specs.Commit.{commit}
-use Rattle.ldm_model.specs.Reservation.{if_reserved_by, new_reservation, on_reservation, reservation_of, with_bytes, with_reservation}
+use Rattle.ldm_model.specs.Reservation.{if_reserved_by, new_reservation, on_reservation, with_bytes, with_reservation}
 use Rattle.ldm_model.specs.Next.{next}
 use Rattle.ldm_model.specs.History.{after_entries, next_entry, IsAnswered, IsLegalFrom}
 use Rattle.ldm_model.proofs.Cases.{by_expire, by_insert}

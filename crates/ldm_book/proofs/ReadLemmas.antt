@@ -1,10 +1,10 @@
 -- What the queue answers where a held product is read, by what the book keeps.
-use Rattle.std.proofs.Common.{◌≡◌, ℕ, zero, suc, ◌+◌, ◌-◌, ◌<◌, ◌≤◌, Bool, true, cond, min, List, [], ◌∷◌, ◌++◌, length, take, drop, Option, Some, None, refl, sym, ap, subst, ◌∙◌, arith}
+use Rattle.std.proofs.Common.{◌≡◌, ℕ, zero, suc, ◌+◌, ◌-◌, ◌<◌, ◌≤◌, Bool, true, cond, min, List, [], ◌∷◌, take, drop, Option, Some, None, refl, sym, ap, subst, ◌∙◌, arith}
 use Rattle.std.specs.Prelude.{slice_get}
 use Rattle.std.specs.List.{between, find, list_any}
 use Rattle.std.specs.Option.{option_map}
 use Rattle.std.proofs.lemmas.Bool.{lt-ltb, le-ltb}
-use Rattle.std.proofs.lemmas.List.{drop-drop, length-drop, length-take-le, take-take, take_at}
+use Rattle.std.proofs.lemmas.List.{drop-drop, take-take}
 use Rattle.ldm_model.specs.declared.event.Reply.{Reply}
 use Rattle.ldm_model.specs.declared.event.Reply.TheVariants as reply
 use Rattle.ldm_model.specs.State.{State, Row, Cursor, Queued, queued}
@@ -92,17 +92,15 @@ part_part (suc offset) zero len zs h = absurd (omega arith)
 part_part (suc offset) (suc size) len [] h = refl
 part_part (suc offset) (suc size) len (z ∷ zs) h = part_part offset size len zs (omega arith)
 
--- what was copied to the front of the buffer is the part that was asked for
-pub copied : (bytes into new : List ℕ) (k : Kept) (front offset len asked : ℕ) → front ≡ k.place + k.head + offset → offset + len ≤ k.size → len ≡ min asked (k.size - offset)
-    → front + len ≤ length bytes → new ≡ between front (front + len) bytes → take len (new ++ drop len into) ≡ take (min asked (k.size - offset)) (drop offset (body_of bytes k))
-copied bytes into new k front offset len asked front-is fits len-is inside new-is =
+-- the bytes of the arena that are read are the part that was asked for
+pub part_read : (bytes : List ℕ) (k : Kept) (front offset len asked : ℕ) → front ≡ k.place + k.head + offset → offset + len ≤ k.size → len ≡ min asked (k.size - offset)
+    → between front (front + len) bytes ≡ take (min asked (k.size - offset)) (drop offset (body_of bytes k))
+part_read bytes k front offset len asked front-is fits len-is =
     let start = k.place + k.head in
     let count : front + len - front ≡ len = omega arith in
     let size : start + k.size - start ≡ k.size = omega arith in
     let at : start + offset ≡ front = omega arith in
-    let same : new ≡ take len (drop front bytes) = new-is ∙ ap (λ (n : ℕ). take n (drop front bytes)) count in
-    let long : length new ≡ len = ap (λ (xs : List ℕ). length xs) same ∙ length-take-le len (drop front bytes) (omega (arith, length-drop front bytes)) in
-    ap (λ (n : ℕ). take n (new ++ drop len into)) (sym long) ∙ take_at new (drop len into) (length new) refl ∙ same
+    ap (λ (n : ℕ). take n (drop front bytes)) count
     ∙ ap (λ (n : ℕ). take len (drop n bytes)) (sym at) ∙ ap (take len) (sym (drop-drop offset start bytes))
     ∙ sym (part_part offset k.size len (drop start bytes) fits)
     ∙ ap (λ (n : ℕ). take len (drop offset (take n (drop start bytes)))) (sym size)

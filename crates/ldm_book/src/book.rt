@@ -1,11 +1,14 @@
 //! The book: the queue of one thread.
-ghost use Rattle.std.specs.Prelude.{◌≡◌, ◌+◌, ◌<◌, ◌≤◌, ◌++◌, ◌∷◌, [], ℕ, None, Some, true, false, is_some, length};
-ghost use Rattle.std.specs.Prelude.{drop, filter, take, set, slice_index_or, IfOk, IfErr, IfSome, IsSome, MatchOption};
+ghost use Rattle.std.specs.Prelude.{◌≡◌, ◌+◌, ◌<◌, ◌≤◌, ◌++◌, ◌∷◌, [], ℕ, List, None, Some, true, false, is_some};
+ghost use Rattle.std.specs.Prelude.{length, drop, filter, take, set, slice_index_or};
+ghost use Rattle.std.specs.Prelude.{IfOk, IfErr, IfSome, IsSome, MatchOption};
+ghost use Rattle.std.specs.Vec.{vec_len, vec_capacity};
 ghost use Rattle.std.specs.List.{All, list_any};
 ghost use Rattle.std.specs.Option.{option_map};
 ghost use Rattle.ldm_cursor.specs.Places.{count_held, cursor_at, is_held};
 ghost use Rattle.ldm_model.specs.Product.{extent_of};
 ghost use Rattle.ldm_model.specs.State.{State, empty};
+ghost use Rattle.ldm_model.specs.declared.event.Reply.TheVariants as reply;
 ghost use Rattle.ldm_model.specs.Insert.{insert as insert_of, is_last, time_after as time_of};
 ghost use Rattle.ldm_model.specs.Look.{look as look_of};
 ghost use Rattle.ldm_model.specs.Expire.{expire as expire_of};
@@ -270,23 +273,47 @@ impl Book {
         ensures few { bytes_read result ≤ length into.old }
         ensures rest { drop (bytes_read result) into.new ≡ drop (bytes_read result) into.old }
     {
-        if !self.cursors.owned(actor, k) {
-            return ReadReply::NoCursor;
+        match self.part(actor, k, offset, into.len()) {
+            Ok(part) => {
+                into[..part.len()].copy_from_slice(part);
+                ReadReply::Bytes {
+                    len: part.len() as u32,
+                }
+            }
+            Err(reply) => reply,
         }
-        let Some(n) = self.cursors.held(k) else {
-            return ReadReply::NotHeld;
-        };
-        let Some(row) = self.products.first_row(n) else {
-            unreachable!()
-        };
-        let size = row.size;
-        if offset > size {
-            return ReadReply::BadOffset { size };
+    }
+
+    /// Reads as [`Book::read`] does, at most `len` bytes, and appends them to a buffer that has room for so many.
+    pub fn read_onto(
+        &mut self,
+        actor: Actor,
+        k: CursorNo,
+        offset: u32,
+        len: u32,
+        out: &mut Vec<u8>,
+    ) -> ReadReply
+        requires room { vec_len out.old + len ≤ vec_capacity out.old }
+        ensures answers { (s : State) → StandsFor self.old s
+            → Follows (read_answer result (drop (length out.old.items) out.new.items)) self.new
+            (read_of s actor k offset (asked_bytes len)) }
+        ensures unchanged { self.new ≡ self.old }
+        ensures front { out.new.items ≡ out.old.items ++ drop (length out.old.items) out.new.items }
+        ensures count { length out.new.items ≡ length out.old.items + bytes_read result }
+        ensures few { bytes_read result ≤ len }
+        ensures capacity { vec_capacity out.old ≤ vec_capacity out.new }
+    {
+        match self.part(actor, k, offset, len as usize) {
+            Ok(part) => {
+                let Ok(()) = out.extend_from_slice(part) else {
+                    unreachable!()
+                };
+                ReadReply::Bytes {
+                    len: part.len() as u32,
+                }
+            }
+            Err(reply) => reply,
         }
-        let len = into.len().min((size - offset) as usize);
-        let front = row.place as usize + row.head as usize + offset as usize;
-        into[..len].copy_from_slice(&self.arena[front..front + len]);
-        ReadReply::Bytes { len: len as u32 }
     }
 
     /// Ends the hold of a cursor.
@@ -471,6 +498,34 @@ impl Book {
                 LookReply::Absent => None,
             },
         }
+    }
+
+    // The bytes of the body of the product that a cursor holds, from that offset on: so many, or as many as are left,
+    // and no more than can be asked for. Else the reply that says why there are none.
+    fn part(&self, actor: Actor, k: CursorNo, offset: u32, len: usize) -> Result<&[u8], ReadReply>
+        ensures answers { IfOk result (λ part. (s : State) → StandsFor self.now s
+            → Follows (reply.Bytes part.now) self.now (read_of s actor k offset (asked_bytes len))) }
+        ensures few { IfOk result (λ part. length part.now ≤ asked_bytes len) }
+        ensures refused { IfErr result (λ answer. (into : List ℕ) (s : State) → StandsFor self.now s
+            → Follows (read_answer answer into) self.now (read_of s actor k offset (asked_bytes len))) }
+        ensures none { IfErr result (λ answer. bytes_read answer ≡ 0) }
+    {
+        if !self.cursors.owned(actor, k) {
+            return Err(ReadReply::NoCursor);
+        }
+        let Some(n) = self.cursors.held(k) else {
+            return Err(ReadReply::NotHeld);
+        };
+        let Some(row) = self.products.first_row(n) else {
+            unreachable!()
+        };
+        let size = row.size;
+        if offset > size {
+            return Err(ReadReply::BadOffset { size });
+        }
+        let len = len.min((size - offset) as usize);
+        let front = row.place as usize + row.head as usize + offset as usize;
+        Ok(&self.arena[front..front + len])
     }
 
     // The number of the oldest product that nobody holds, where those before `from` are all held.

@@ -1,5 +1,6 @@
 -- What each call of a reader comes to, by how its pass grew.
-use Rattle.std.proofs.Common.{◌≡◌, ◌∙◌, ℕ, zero, suc, ◌+◌, ◌-◌, ◌^◌, ◌<◌, ◌≤◌, ◌==◌, true, List, [], ◌∷◌, ◌++◌, length, take, drop, min, Option, Some, None, refl, sym, ap, subst, arith, length-take, length-drop}
+use Rattle.std.proofs.Common.{◌≡◌, ◌∙◌, ℕ, zero, suc, ◌+◌, ◌-◌, ◌^◌, ◌<◌, ◌≤◌, ◌==◌, true, List, [], ◌∷◌, ◌++◌, length, take, drop, min, Option, Some, None, refl, sym, ap, subst, arith, length-take, length-drop, length-append}
+use Rattle.std.proofs.lemmas.List.{take_all}
 use Rattle.std.proofs.lemmas.Bool.{eq-eqb}
 use Rattle.ldm_types.specs.Info.{Metadata}
 use Rattle.ldm_model.specs.declared.event.Start.{Start}
@@ -133,6 +134,33 @@ module _ (old new : PassView) (k n time : ℕ) (product : Product) (offset : ℕ
 
   pub held_still : HoldsProduct new k n time product
   held_still = holds_still old new k n time product offset (min (length before) (2 ^ 32 - 1)) (reply.Bytes (take len into)) g holds (omega arith)
+
+-- a call of `read_onto` of the shared queue, which leaves `more` behind what was there
+module _ (old new : PassView) (k n time : ℕ) (product : Product) (offset len : ℕ) (more : List ℕ) (count : ℕ)
+    (g : Grows old new (event.Read k offset (min len (2 ^ 32 - 1))) (reply.Bytes (take count more))) (holds : HoldsProduct old k n time product)
+    (within : offset + len ≤ product.info.size) (small : product.info.size < 2 ^ 32) where
+  abbrev asked : ℕ
+  asked = min len (2 ^ 32 - 1)
+
+  len_is : asked ≡ len
+  len_is = omega arith
+
+  taken_is : take count more ≡ take len (drop offset product.body)
+  taken_is =
+      let answer = reads old new k n time product offset asked (reply.Bytes (take count more)) g holds (omega arith) in
+      let bytes : take count more ≡ part_of product offset asked = cc answer in
+      bytes ∙ ap (part_of product offset) len_is ∙ part-whole product offset len within
+
+  pub onto_grown : Grows old new (event.Read k offset len) (reply.Bytes (take len (drop offset product.body)))
+  onto_grown = coe 0 1 (i. Grows old new (event.Read k offset (len_is i)) (reply.Bytes (taken_is i))) g
+
+  pub onto_bytes : (before : List ℕ) (after : List ℕ) → after ≡ before ++ more → length after ≡ length before + count → after ≡ before ++ take len (drop offset product.body)
+  onto_bytes before after after-is long =
+      let count-is : length more ≡ count = omega (arith, ap (λ (xs : List ℕ). length xs) after-is, length-append before more, long) in
+      after-is ∙ ap (λ (xs : List ℕ). before ++ xs) (sym (take_all count more (omega (arith, count-is))) ∙ taken_is)
+
+  pub onto_held : HoldsProduct new k n time product
+  onto_held = holds_still old new k n time product offset asked (reply.Bytes (take count more)) g holds (omega arith)
 
 -- what a call of the shared queue answered
 module _ (old new : PassView) where

@@ -12,7 +12,7 @@ use Rattle.ldm_model.specs.History.{after}
 use Rattle.ldm_model.specs.Law.{is_close}
 use Rattle.ldm_shared.specs.Own.{own}
 use Rattle.ldm_shared.specs.Passes.{PassView, HasSeen}
-use Rattle.ldm_shared.specs.OwnReaders.{OwnPoint, opening_by, is_about, number_held}
+use Rattle.ldm_shared.specs.OwnReaders.{opening_by, is_about, number_held}
 use Rattle.ldm_reader.specs.Staying.{HasRow}
 use Rattle.ldm_reader.specs.declared.reader.Held.{Held}
 use Rattle.ldm_reader.specs.declared.reader.Came.{Came}

@@ -1,5 +1,6 @@
 //! A cursor of a pass, whose calls are answered as the law of readers says.
-ghost use Rattle.std.specs.Prelude.{◌≡◌, ◌≤◌, ◌+◌, ℕ, List, length, take, drop, Option, Some, None};
+ghost use Rattle.std.specs.Prelude.{◌≡◌, ◌≤◌, ◌+◌, ◌++◌, ℕ, List, length, take, drop, Option, Some, None};
+ghost use Rattle.std.specs.Vec.{vec_len, vec_capacity};
 ghost use Rattle.ldm_model.specs.Answers.{open_answer, step_answer};
 ghost use Rattle.ldm_model.specs.declared.event.Event.TheVariants as event;
 ghost use Rattle.ldm_model.specs.declared.event.Reply.TheVariants as reply;
@@ -115,6 +116,45 @@ impl Reader {
         // The size is read since its bound is known then.
         let _size = held.info.size();
         match shared.read(rt, pass, self.k, offset, into) {
+            Turn::Done(ReadReply::Bytes { .. }) => Turn::Done(()),
+            Turn::Done(ReadReply::NoCursor) => unreachable!(),
+            Turn::Done(ReadReply::NotHeld) => unreachable!(),
+            Turn::Done(ReadReply::BadOffset { .. }) => unreachable!(),
+            Turn::Worn { turns } => Turn::Worn { turns },
+        }
+    }
+
+    /// Appends bytes of the body of the product that it holds, from that offset on, to a buffer that has room for so
+    /// many. The body has so many.
+    pub fn read_onto<H: Wait>(
+        &self,
+        shared: &Shared,
+        rt: &H,
+        pass: &mut Pass,
+        held: &Held,
+        offset: u32,
+        len: u32,
+        out: &mut Vec<u8>,
+    ) -> Turn<()>
+        requires of { IsPassOf shared.now pass.old }
+        requires holds { (body : List ℕ) × Holds pass.old self.now.k held.now body }
+        requires within { offset + len ≤ held.now.info.size }
+        requires room { vec_len out.old + len ≤ vec_capacity out.old }
+        ensures kept { IsSamePass pass.old pass.new }
+        ensures done { (body : List ℕ) → Holds pass.old self.now.k held.now body
+            → IfDone result (λ _. Grows pass.old pass.new (event.Read self.now.k offset len)
+            (reply.Bytes (take len (drop offset body)))) }
+        ensures bytes { (body : List ℕ) → Holds pass.old self.now.k held.now body
+            → IfDone result (λ _. out.new.items ≡ out.old.items ++ take len (drop offset body)) }
+        ensures holds { (body : List ℕ) → Holds pass.old self.now.k held.now body
+            → IfDone result (λ _. Holds pass.new self.now.k held.now body) }
+        ensures capacity { vec_capacity out.old ≤ vec_capacity out.new }
+        ensures worn { IfWorn result (FindsWorn pass.old pass.new) }
+        ensures unread { IfWorn result (λ _. out.new ≡ out.old) }
+    {
+        // The size is read since its bound is known then.
+        let _size = held.info.size();
+        match shared.read_onto(rt, pass, self.k, offset, len, out) {
             Turn::Done(ReadReply::Bytes { .. }) => Turn::Done(()),
             Turn::Done(ReadReply::NoCursor) => unreachable!(),
             Turn::Done(ReadReply::NotHeld) => unreachable!(),

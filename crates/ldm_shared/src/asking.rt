@@ -71,4 +71,37 @@ impl Shared {
             Turn::Worn { turns } => Turn::Worn { turns },
         }
     }
+
+    // The same, of a call that appends to a buffer, where each call of `ask` asks what holds of that buffer.
+    pub(crate) fn call_onto<
+        C: Asks<R>,
+        H: Wait,
+        E,
+        R,
+        F: FnOnce(&mut Book, Actor, &mut Vec<u8>) -> R,
+    >(&self, rt: &H, pass: &mut Pass, event: &E, out: &mut Vec<u8>, ask: F) -> Turn<R>
+        requires of { IsPassOf self.now pass.old }
+        requires possible { IsPossible C.event }
+        requires may { (b : _) (actor : _) (o : _) → o.now ≡ out.old → F.pre ask b actor o }
+        requires answers { (b : _) (actor : _) (o : _) (answer : _) (b' : _) (o' : _)
+            → F.post ask b actor o answer b' o' → o.now ≡ out.old
+            → (s : State) → StandsFor b.now s → Follows (C.reply answer o'.now.items) b'.now (next s actor C.event) }
+        ensures kept { IsSamePass pass.old pass.new }
+        ensures done { IfDone result (λ answer. Grows pass.old pass.new C.event (C.reply answer out.new.items)) }
+        ensures asked { IfDone result
+            (λ answer. (b : _) × (actor : _) × (o : _) × (b' : _) × (o' : _) × F.post ask b actor o answer b' o'
+            × (o.now ≡ out.old) × (o'.now ≡ out.new)) }
+        ensures worn { IfWorn result (FindsWorn pass.old pass.new) }
+        ensures unasked { IfWorn result (λ _. out.new ≡ out.old) }
+    {
+        let _ = event;
+        match self.take(rt, &mut pass.seat) {
+            Turn::Done(()) => {
+                let answer = self.ask_onto(&mut pass.seat, pass.actor, out, ask);
+                self.give::<Brand, _>(&mut pass.seat, pass.actor, &answer, out.as_slice());
+                Turn::Done(answer)
+            }
+            Turn::Worn { turns } => Turn::Worn { turns },
+        }
+    }
 }

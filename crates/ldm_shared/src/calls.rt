@@ -1,5 +1,6 @@
 //! The calls of the shared queue. Each asks the book something in a turn of its own.
-ghost use Rattle.std.specs.Prelude.{◌≡◌, ◌≤◌, ◌^◌, drop, length};
+ghost use Rattle.std.specs.Prelude.{◌≡◌, ◌≤◌, ◌+◌, ◌++◌, ◌^◌, drop, length};
+ghost use Rattle.std.specs.Vec.{vec_len, vec_capacity};
 ghost use Rattle.ldm_model.specs.declared.event.Event.TheVariants as event;
 ghost use Rattle.ldm_model.specs.Answers.{insert_answer, look_answer, expire_answer, stat_answer, open_answer};
 ghost use Rattle.ldm_model.specs.Answers.{step_answer, read_answer, release_answer, close_answer, tally_answer};
@@ -104,6 +105,35 @@ impl Shared {
         place_is_possible(k);
         self.call::<Brand, _, _, _, _>(rt, pass, &(k, offset), into, |book, actor, into| {
             book.read(actor, k, offset, into)
+        })
+    }
+
+    /// Reads as [`Shared::read`] does, at most `len` bytes, and appends them to a buffer that has room for so many.
+    pub fn read_onto<H: Wait>(
+        &self,
+        rt: &H,
+        pass: &mut Pass,
+        k: CursorNo,
+        offset: u32,
+        len: u32,
+        out: &mut Vec<u8>,
+    ) -> Turn<ReadReply>
+        requires of { IsPassOf self.now pass.old }
+        requires room { vec_len out.old + len ≤ vec_capacity out.old }
+        ensures kept { IsSamePass pass.old pass.new }
+        ensures done { IfDone result
+            (λ reply. Grows pass.old pass.new (event.Read k offset (asked_bytes len))
+            (read_answer reply (drop (length out.old.items) out.new.items))) }
+        ensures worn { IfWorn result (FindsWorn pass.old pass.new) }
+        ensures front { out.new.items ≡ out.old.items ++ drop (length out.old.items) out.new.items }
+        ensures count { IfDone result (λ reply. length out.new.items ≡ length out.old.items + bytes_read reply) }
+        ensures few { IfDone result (λ reply. bytes_read reply ≤ len) }
+        ensures capacity { vec_capacity out.old ≤ vec_capacity out.new }
+        ensures unread { IfWorn result (λ _. out.new ≡ out.old) }
+    {
+        place_is_possible(k);
+        self.call_onto::<Brand, _, _, _, _>(rt, pass, &(k, offset, len), out, |book, actor, out| {
+            book.read_onto(actor, k, offset, len, out)
         })
     }
 

@@ -33,8 +33,8 @@ const MAY_SLEEP: usize = 1;
 // The first word where it counts so many calls, with no turn taken.
 const WORN: u64 = 2 * MOST_TURNS;
 
-// How often a caller looks at a turn that is taken before it sleeps. It looks as often where others sleep: else one that
-// slept would have all that meet it sleep, and each be woken by a call of the system.
+// How often a caller looks at a turn that is taken before it sleeps. It looks as often where others sleep: else one
+// that slept would have all that meet it sleep, and each be woken by a call of the system.
 const LOOKS: u32 = 100;
 
 impl Shared {
@@ -186,6 +186,28 @@ impl Shared {
             unreachable!()
         };
         ask(book, actor, into)
+    }
+
+    // The same, with a buffer to append to.
+    pub(crate) fn ask_onto<R, F: FnOnce(&mut Book, Actor, &mut Vec<u8>) -> R>(
+        &self,
+        seat: &mut Seat<Option<Book>, View>,
+        actor: Actor,
+        out: &mut Vec<u8>,
+        ask: F,
+    ) -> R
+        requires turn { (book : BookView) × HasTheTurn self.now seat.old book }
+        requires may { (b : _) (actor : _) (o : _) → o.now ≡ out.old → F.pre ask b actor o }
+        ensures same { IsSame seat.old seat.new }
+        ensures view { seat.new.me.0 ≡ seat.old.me.0 }
+        ensures asked { (b : _) × (o : _) × (b' : _) × (o' : _) × F.post ask b actor o result b' o' × (o.now ≡ out.old)
+            × (o'.now ≡ out.new)
+            × HasTheTurn self.now seat.old b.now × HasTheTurn self.now seat.new b'.now }
+    {
+        let Some(book) = seat.slot_mut(&self.table.shared, 0) else {
+            unreachable!()
+        };
+        ask(book, actor, out)
     }
 
     // Ends a call: adds its entry, gives the turn back with the book as the call left it, and wakes one that waits for

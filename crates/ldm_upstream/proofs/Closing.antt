@@ -14,11 +14,9 @@ use Rattle.ldm_sender.specs.Opening.{Answered, Opened}
 use Rattle.ldm_sender.specs.Does.{moment_of}
 use Rattle.ldm_sender.specs.Acts.{Situation, situation_of, is_whole}
 use Rattle.ldm_sender.specs.Ending.{session_of, closing_of, IsLeft, IsEndOf}
-use Rattle.ldm_upstream.specs.Heard.{IsRefusal}
-use Rattle.ldm_sender.proofs.Fronts.{all_but_at_most}
 use Rattle.ldm_sender.proofs.Settling.{after, begins, cause_closed, settles, worn_act}
 use Rattle.ldm_sender.proofs.Steps.{RowsStay}
-use Rattle.ldm_upstream.specs.Feeding.{codes_of, given_of}
+use Rattle.ldm_upstream.specs.Feeding.{given_of}
 use Rattle.ldm_upstream.specs.Feeds.{feeding_act, HasFed, HearsNone, Feeds}
 use Rattle.ldm_upstream.proofs.Turning.{rows_stay}
 
@@ -61,8 +59,6 @@ feeds why asked ahead missed k first link clock log gate new final closed law fe
         exchanged = settled.exchanged;
         unheard = hears_none why missed k fed.came final (session_of old) (session_of new) cause;
         left = settled.left;
-        codes = fed.codes;
-        codes_part = fed.codes_part;
         says = fed.says;
         instants = settled.instants;
         instants_part = settled.instants_part;
@@ -90,8 +86,6 @@ worn_at_close why asked ahead answered old pass final link clock out log gate tu
       worn_act (is_whole why) why asked.host fed.came old pass final link clock out log gate (feeding_act old.moment.pass.actor asked fed.feeding) (calls_some pass final [] worn.makes) fed.ends;
   all_sent = tt;
   rows = rows_stay law pass final [] (given_of fed.feeding) (calls_some pass final [] worn.makes) fed.rows;
-  codes = fed.codes;
-  codes_part = all_but_at_most IsRefusal (is_whole why) fed.codes (codes_of fed.feeding) fed.codes_part;
   says = record { behind = fed.says.behind; said = fed.says.said; is_behind = tt };
   last = tt;
   cause = worn.long ∙ worn.turns_are;

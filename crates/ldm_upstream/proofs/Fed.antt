@@ -19,15 +19,15 @@ use Rattle.ldm_sender.specs.Opening.{Answered, Denied, Reclassed, Busy, Opened, 
 use Rattle.ldm_sender.specs.Answering.{answer_deed}
 use Rattle.ldm_sender.specs.Stopping.{StopsSending}
 use Rattle.ldm_sender.specs.Deeds.{records_of}
-use Rattle.ldm_sender.specs.Does.{moment_of, Does, Breaks, IsAllBut}
+use Rattle.ldm_sender.specs.Does.{moment_of, Does, Breaks}
 use Rattle.ldm_sender.specs.Acts.{situation_of, then_act, EndsAct, is_whole, IsAllSent}
 use Rattle.ldm_sender.specs.Acts.{Situation}
 use Rattle.ldm_sender.proofs.Acting.{deed_is, act_is, breaks_same, ends_same}
 use Rattle.ldm_sender.proofs.Opened.{IsCut, answer_broke, beginning, beginning_done, beginning_then, cut_is, end_of_turns}
 use Rattle.ldm_sender.proofs.Steps.{records-append}
 use Rattle.ldm_upstream.specs.Turns.{messages_of_turns, entries_of_turns}
-use Rattle.ldm_upstream.specs.Feeding.{Feeding, GoesOn, MayTurn, begun, stands, codes_of, last_entries, last_messages}
-use Rattle.ldm_upstream.specs.Heard.{IsRefusal, SaysLast}
+use Rattle.ldm_upstream.specs.Feeding.{Feeding, GoesOn, MayTurn, begun, stands, last_entries, last_messages}
+use Rattle.ldm_upstream.specs.Heard.{SaysLast}
 use Rattle.ldm_upstream.specs.Course.{EndsTurns, IsLastOf, turns_act, last_act}
 use Rattle.ldm_upstream.specs.Feeds.{feeding_act, HasFed}
 
@@ -75,8 +75,6 @@ turns_fed why asked missed k at first pass link mid_link clock mid_clock mid_out
           (beginning_then why asked answered at first turns.came old mid new course refl (ap (λ (p : PassView). p.actor) makes.same) begins turns.ends);
       all_sent = turns.all_sent;
       rows = turns.rows;
-      codes = turns.codes;
-      codes_part = turns.codes_part;
       says = turns.heard ahead [] heard;
       last = turns.last_of_end;
       cause = end_of_turns why answered old mid new begins.does.link refl refl turns.cause;
@@ -138,7 +136,6 @@ answer_broke_fed why asked ahead answered at first pass link link' clock clock' 
     let part = cut_is why broke.cut in
     let P : Bool → Type 0 = λ b. EndsAct b why asked.host [] old new act in
     let Q : Bool → Type 0 = λ b. IsAllSent b out' in
-    let R : Bool → Type 0 = λ b. IsAllBut b IsRefusal [] (codes_of feeding) in
     record {
       feeding = feeding;
       is_answered = refl;
@@ -149,8 +146,6 @@ answer_broke_fed why asked ahead answered at first pass link link' clock clock' 
           (breaks_same why asked.host [] old new (then_act (beginning first.actor asked answered at) behind) act (feeding_is first.actor (place_of answered) asked feeding refl) (broke.breaks behind tt tt));
       all_sent = subst Q (sym part) tt;
       rows = λ k d within. absurd (omega arith);
-      codes = [];
-      codes_part = subst R (sym part) ([], refl, tt);
       says = cut_says why (stands feeding).next (ahead ++ []) broke.cut;
       last = cut_last why broke.cut;
       cause = broke.cause;

@@ -1,5 +1,5 @@
 -- A product that is due goes whole, or is announced and goes in blocks, or not at all.
-use Rattle.std.proofs.Common.{◌≡◌, ◌∙◌, ℕ, ◌<◌, ◌≤◌, List, [], ◌∷◌, ◌++◌, length, false, Some, refl, sym, ap, subst, arith, append-nil}
+use Rattle.std.proofs.Common.{◌≡◌, ◌∙◌, ℕ, ◌<◌, ◌≤◌, List, [], ◌∷◌, ◌++◌, length, Bool, true, false, Some, inl, inr, refl, sym, ap, subst, arith, append-nil}
 use Rattle.std.specs.Prelude.{Result, Ok, Err}
 use Rattle.ldm_outside.specs.Clock.{ClockRecord}
 use Rattle.ldm_outside.specs.Link.{LinkRecord}
@@ -22,12 +22,12 @@ use Rattle.ldm_sender.specs.Calls.{later_call}
 use Rattle.ldm_upstream.specs.Turns.{IsDue, IsHandled, size_of}
 use Rattle.ldm_sender.specs.Deeds.{Deed, and_then, records_of}
 use Rattle.ldm_upstream.specs.ProductDeeds.{handling_deed, blocks_deed}
-use Rattle.ldm_sender.specs.Does.{Moment, moment_of, Does, Breaks, IsAllBut}
+use Rattle.ldm_sender.specs.Does.{Moment, moment_of, Does, Breaks}
 use Rattle.ldm_upstream.specs.Giving.{HoldsGiven, GivesWhole, GivesBlocks}
 use Rattle.ldm_sender.specs.Stopping.{KeepsCursor, StopsSending}
-use Rattle.ldm_sender.specs.Acts.{is_whole, IsAllSent}
-use Rattle.ldm_upstream.specs.Heard.{IsRefusal, HearsOn, HearsLast, IsBehind}
-use Rattle.ldm_upstream.specs.Offering.{EndsDeed, StopsOffer, Announced, EndsAnnouncing, Offered, IsUnanswered, BreaksOffer, EndsOfferBy, EndsOffer, Offers}
+use Rattle.ldm_sender.specs.Acts.{is_whole}
+use Rattle.ldm_upstream.specs.Heard.{HearsOn, HearsLast, IsBehind}
+use Rattle.ldm_upstream.specs.Offering.{Announced, EndsAnnouncing, Offered, IsUnanswered, BreaksOffer, EndsOfferBy, EndsOffer, Offers}
 use Rattle.ldm_sender.proofs.Acting.{deed_is}
 use Rattle.ldm_upstream.proofs.Blocks.{later_again}
 use Rattle.ldm_sender.proofs.Doing.{does_then, breaks_then, one_done}
@@ -43,55 +43,46 @@ heard_last why next came codes r r' free on = λ given earlier heard.
     let said = Heard-said (given ++ came) (earlier ++ codes) r' (on given earlier heard) in
     record { behind = said.0; said = said.1; is_behind = free (given ++ came) said.0 }
 
--- for an end at which no reply is owed, any number will do
-pub heard_any : (why : SendEnd) (next other : ℕ) (came : List ℕ) (codes : List Code) (r : Replies) → ((given : List ℕ) (behind : List Placed) → IsBehind why other given behind)
-    → HearsLast why next came codes r → HearsLast why other came codes r
-heard_any why next other came codes r free last = λ given earlier heard.
-    let says = last given earlier heard in
-    record { behind = says.behind; said = says.said; is_behind = free (given ++ came) says.behind }
-
 -- ---- it breaks off
 
-broke : (why : SendEnd) (asked : Asked) (k : ℕ) (given : Given) (s : Standing) (old new : Moment) (r r' : Replies) (handling : Handling) (came : List ℕ) (codes : List Code)
+broke : (why : SendEnd) (asked : Asked) (k : ℕ) (given : Given) (s : Standing) (old new : Moment) (r r' : Replies) (handling : Handling) (came : List ℕ)
     → ((x : List ℕ) (behind : List Placed) → IsBehind why (after_handling s given handling).next x behind)
-    → IsHandled asked given handling → IsAllBut false IsRefusal codes (handling_codes s.next handling) → HearsOn came codes r r'
+    → IsHandled asked given handling → HearsOn came (handling_codes s.next handling) r r'
     → Breaks came old new (handling_deed old.pass.actor k s.next given handling) → BreaksOffer why asked k given s old new r
-broke why asked k given s old new r r' handling came codes free is_handled part on breaks = record {
+broke why asked k given s old new r r' handling came free is_handled on breaks = record {
   handling = handling;
   is_handled = is_handled;
   came = came;
   breaks = breaks;
-  codes = codes;
-  codes_part = part;
-  heard = heard_last why (after_handling s given handling).next came codes r r' free on;
+  heard = heard_last why (after_handling s given handling).next came (handling_codes s.next handling) r r' free on;
 }
 
-pub offer_breaks : (why : SendEnd) (asked : Asked) (k : ℕ) (given : Given) (s : Standing) (first old new : Moment) (r r' : Replies) (handling : Handling) (came : List ℕ) (codes : List Code)
-    → IsHandled asked given handling → IsAllBut false IsRefusal codes (handling_codes s.next handling) → HearsOn came codes r r'
+pub offer_breaks : (why : SendEnd) (asked : Asked) (k : ℕ) (given : Given) (s : Standing) (first old new : Moment) (r r' : Replies) (handling : Handling) (came : List ℕ)
+    → IsHandled asked given handling → HearsOn came (handling_codes s.next handling) r r'
     → Breaks came first new (handling_deed first.pass.actor k s.next given handling) → first.link.faults ≤ old.link.faults → StopsSending why old new → KeepsCursor why new.pass k
     → EndsOffer why asked k given s first new r
-offer_breaks end.LinkFault asked k given s first old new r r' handling came codes is_handled part on breaks later cause cursor = record {
-  ends = broke end.LinkFault asked k given s first new r r' handling came codes (λ _ _. tt) is_handled part on breaks;
+offer_breaks end.LinkFault asked k given s first old new r r' handling came is_handled on breaks later cause cursor = record {
+  ends = inr (broke end.LinkFault asked k given s first new r r' handling came (λ _ _. tt) is_handled on breaks);
   cause = Rose-later first.link.faults old.link.faults new.link.faults later cause;
   cursor = cursor;
 }
-offer_breaks end.Worn asked k given s first old new r r' handling came codes is_handled part on breaks later cause cursor = record {
-  ends = broke end.Worn asked k given s first new r r' handling came codes (λ _ _. tt) is_handled part on breaks;
+offer_breaks end.Worn asked k given s first old new r r' handling came is_handled on breaks later cause cursor = record {
+  ends = inr (broke end.Worn asked k given s first new r r' handling came (λ _ _. tt) is_handled on breaks);
   cause = cause;
   cursor = cursor;
 }
-offer_breaks end.OutOfMemory asked k given s first old new r r' handling came codes is_handled part on breaks later cause cursor = record {
-  ends = broke end.OutOfMemory asked k given s first new r r' handling came codes (λ _ _. tt) is_handled part on breaks;
+offer_breaks end.OutOfMemory asked k given s first old new r r' handling came is_handled on breaks later cause cursor = record {
+  ends = inr (broke end.OutOfMemory asked k given s first new r r' handling came (λ _ _. tt) is_handled on breaks);
   cause = cause;
   cursor = cursor;
 }
-offer_breaks end.Stopped asked k given s first old new r r' handling came codes is_handled part on breaks later cause cursor = absurd cause
-offer_breaks end.Reclassed asked k given s first old new r r' handling came codes is_handled part on breaks later cause cursor = absurd cause
-offer_breaks (end.Denied rule) asked k given s first old new r r' handling came codes is_handled part on breaks later cause cursor = absurd cause
-offer_breaks (end.PeerEnd at) asked k given s first old new r r' handling came codes is_handled part on breaks later cause cursor = absurd cause
-offer_breaks end.LogFault asked k given s first old new r r' handling came codes is_handled part on breaks later cause cursor = absurd cause
-offer_breaks (end.BadReply at) asked k given s first old new r r' handling came codes is_handled part on breaks later cause cursor = absurd cause
-offer_breaks end.AllBusy asked k given s first old new r r' handling came codes is_handled part on breaks later cause cursor = absurd cause
+offer_breaks end.Stopped asked k given s first old new r r' handling came is_handled on breaks later cause cursor = absurd cause
+offer_breaks end.Reclassed asked k given s first old new r r' handling came is_handled on breaks later cause cursor = absurd cause
+offer_breaks (end.Denied rule) asked k given s first old new r r' handling came is_handled on breaks later cause cursor = absurd cause
+offer_breaks (end.PeerEnd at) asked k given s first old new r r' handling came is_handled on breaks later cause cursor = absurd cause
+offer_breaks end.LogFault asked k given s first old new r r' handling came is_handled on breaks later cause cursor = absurd cause
+offer_breaks (end.BadReply at) asked k given s first old new r r' handling came is_handled on breaks later cause cursor = absurd cause
+offer_breaks end.AllBusy asked k given s first old new r r' handling came is_handled on breaks later cause cursor = absurd cause
 
 -- ---- it is not due, or goes whole
 
@@ -119,7 +110,7 @@ offers_whole (Ok done) asked k given s s' old new r due small gives = record {
   holds = gives.0.holds;
 }
 offers_whole (Err why) asked k given s s' old new r due small gives =
-    offer_breaks why asked k given s old old new r r (Whole s'.sent_at) [] [] (due, small) ([], refl, tt) (hears_nothing r) gives.breaks (omega arith) gives.cause gives.cursor
+    offer_breaks why asked k given s old old new r r (Whole s'.sent_at) [] (due, small) (hears_nothing r) gives.breaks (omega arith) gives.cause gives.cursor
 
 -- ---- it is announced
 
@@ -127,41 +118,25 @@ offers_whole (Err why) asked k given s s' old new r due small gives =
 pub offer_unanswered : (why : SendEnd) (asked : Asked) (k n : ℕ) (given : Given) (s : Standing) (old new : Moment) (r : Replies) → IsDue asked given → asked.max_hereis < size_of given
     → HasCursor old.pass k (Some n) → EndsAnnouncing why k given s old new r → EndsOffer why asked k given s old new r
 offer_unanswered why asked k n given s old new r due large has ended = record {
-  ends = by_end why ended.cause ended.ends ended.heard ended.all_sent;
+  ends = by_end (is_whole why);
   cause = ended.cause;
   cursor = keeps_cursor why new.pass k (Some n) (subst (λ (p : PassView). HasCursor p k (Some n)) (sym ended.same) has);
 }
   where
-    broken : (why : SendEnd) → ((given : List ℕ) (behind : List Placed) → IsBehind why (later_call s.next 1) given behind)
-        → Breaks ended.came old new (handling_deed old.pass.actor k s.next given (Declined ended.at)) → HearsLast why s.next ended.came [] r
-        → BreaksOffer why asked k given s old new r
-    broken why free breaks heard = record {
-      handling = Declined ended.at;
-      is_handled = (due, large);
+    unanswered : IsUnanswered why asked k given s old new r
+    unanswered = record {
+      at = ended.at;
+      is_last = (due, large);
       came = ended.came;
-      breaks = breaks;
-      codes = [];
-      codes_part = (handling_codes s.next (Declined ended.at), refl, (refl, tt));
-      heard = heard_any why s.next (later_call s.next 1) ended.came [] r free heard;
+      ends = ended.ends;
+      heard = ended.heard;
+      all_sent = ended.all_sent;
+      same = ended.same;
     }
 
-    unanswered : (why : SendEnd) → Does ended.came old new (handling_deed old.pass.actor k s.next given (Declined ended.at)) → HearsLast why s.next ended.came [] r
-        → new.out ≡ [] → IsUnanswered why asked k given s old new r
-    unanswered why does heard empty = record { at = ended.at; is_last = (due, large); came = ended.came; does = does; heard = heard; all_sent = empty }
-
-    by_end : (why : SendEnd) → StopsOffer why old new
-        → EndsDeed (is_whole why) ended.came old new (handling_deed old.pass.actor k s.next given (Declined ended.at))
-        → HearsLast why s.next ended.came [] r → IsAllSent (is_whole why) new.out → EndsOfferBy (is_whole why) why asked k given s old new r
-    by_end (end.PeerEnd at) cause ends heard empty = unanswered (end.PeerEnd at) ends heard empty
-    by_end (end.BadReply at) cause ends heard empty = unanswered (end.BadReply at) ends heard empty
-    by_end end.LinkFault cause ends heard empty = broken end.LinkFault (λ _ _. tt) ends heard
-    by_end end.Worn cause ends heard empty = broken end.Worn (λ _ _. tt) ends heard
-    by_end end.OutOfMemory cause ends heard empty = broken end.OutOfMemory (λ _ _. tt) ends heard
-    by_end end.Stopped cause ends heard empty = absurd cause
-    by_end end.Reclassed cause ends heard empty = absurd cause
-    by_end (end.Denied rule) cause ends heard empty = absurd cause
-    by_end end.LogFault cause ends heard empty = absurd cause
-    by_end end.AllBusy cause ends heard empty = absurd cause
+    by_end : (whole : Bool) → EndsOfferBy whole why asked k given s old new r
+    by_end true = unanswered
+    by_end false = inl unanswered
 
 -- the peer did not want it
 pub offer_declined : (asked : Asked) (k : ℕ) (given : Given) (s s' : Standing) (old new : Moment) (r r' : Replies) → IsDue asked given → asked.max_hereis < size_of given
@@ -226,6 +201,6 @@ offer_in_blocks (Err why) asked k given s t u pass link link' clock clock' out o
     let both = breaks_then announced.came [] old mid new second (and_then first second) (one_done announced.came old mid first second announced.does) broken.breaks_off.breaks in
     let joined : Breaks (announced.came ++ []) old new all =
     subst (λ (d : Deed). Breaks (announced.came ++ []) old new d) (announced_blocks pass.actor k s.next t.next given t.sent_at broken.blocks_at next_is) both in
-    offer_breaks why asked k given s old mid new r r' (InBlocks t.sent_at broken.blocks_at) announced.came (record { xid = s.next; answer = soon.Ok } ∷ [])
-    (due, large, broken.each) ([], refl, tt) announced.heard (subst (λ (x : List ℕ). Breaks x old new all) (append-nil announced.came) joined) announced.does.link.faults
+    offer_breaks why asked k given s old mid new r r' (InBlocks t.sent_at broken.blocks_at) announced.came
+    (due, large, broken.each) announced.heard (subst (λ (x : List ℕ). Breaks x old new all) (append-nil announced.came) joined) announced.does.link.faults
     broken.breaks_off.cause broken.breaks_off.cursor

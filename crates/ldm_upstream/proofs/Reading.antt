@@ -1,6 +1,6 @@
 -- A body that is read from the queue part by part, and gathered.
-use Rattle.std.proofs.Common.{◌≡◌, ◌∙◌, ℕ, ◌+◌, ◌≤◌, List, [], ◌∷◌, ◌++◌, length, take, drop, Some, refl, sym, ap, subst, arith, append_assoc, length-append, length-drop, replicate, ◌-◌}
-use Rattle.std.proofs.lemmas.List.{take_at, take_all, length-take-le, length-replicate}
+use Rattle.std.proofs.Common.{◌≡◌, ◌∙◌, ℕ, ◌+◌, ◌≤◌, List, [], ◌∷◌, ◌++◌, length, drop, Some, refl, sym, ap, subst, append_assoc}
+use Rattle.ldm_model.specs.declared.event.Entry.{Entry}
 use Rattle.ldm_model.specs.declared.event.Event.TheVariants.{Read}
 use Rattle.ldm_model.specs.declared.event.Reply.TheVariants.{Bytes}
 use Rattle.ldm_outside.proofs.CallerLemmas.{Rose-later}
@@ -22,38 +22,14 @@ use Rattle.ldm_upstream.specs.Giving.{HoldsGiven, BreaksOff, GoesOn, AppendsPart
 use Rattle.ldm_upstream.proofs.Blocks.{IsBlockAt, reads_from, rest_of_body, nothing_left, no_blocks}
 use Rattle.ldm_sender.proofs.Doing.{Toward, toward_then, toward_same, all_done, breaks_then, nothing_done, some_sent, send_failed, keeps_link, exchanged_nothing}
 
--- ---- a part that is written behind what is gathered
-
-pub part_appended : (out zs piece part post behind : List ℕ) (at n : ℕ) → take at zs ≡ out → piece ≡ part → at ≡ length out → n ≡ at + length part
-    → take n ((take at zs ++ (piece ++ post)) ++ behind) ≡ out ++ part
-part_appended out zs piece part post behind at n front is here end =
-    ap (λ (x : List ℕ). take n ((x ++ (piece ++ post)) ++ behind)) front
-    ∙ ap (λ (x : List ℕ). take n ((out ++ (x ++ post)) ++ behind)) is
-    ∙ ap (λ (x : List ℕ). take n (x ++ behind)) (sym (append_assoc out part post))
-    ∙ ap (take n) (append_assoc (out ++ part) post behind)
-    ∙ take_at (out ++ part) (post ++ behind) n (omega (arith, length-append out part))
-
--- room was made behind what is gathered
-pub room_made : (out zs : List ℕ) (at len more : ℕ) → at ≡ length out → more ≡ at + len - length out → zs ≡ take (at + len) out ++ replicate more 0
-    → (take at zs ≡ out) × (length zs ≡ at + len)
-room_made out zs at len more here more_is is =
-    let all : zs ≡ out ++ replicate {A = ℕ} more 0 = is ∙ ap (λ (x : List ℕ). x ++ replicate {A = ℕ} more 0) (take_all (at + len) out (omega arith)) in (
-      ap (take at) all ∙ take_at out (replicate {A = ℕ} more 0) at (sym here),
-      ap (λ (x : List ℕ). length x) all ∙ omega (arith, length-append out (replicate {A = ℕ} more 0), length-replicate {A = ℕ} more 0),
-    )
-
--- so many bytes are asked for
-pub asks_for_part : (zs body : List ℕ) (at offset len : ℕ) → length zs ≡ at + len → take (length (take (length zs - at) (drop at zs))) (drop offset body) ≡ part_of offset len body
-asks_for_part zs body at offset len size =
-    let asked : length (take (length zs - at) (drop at zs)) ≡ len =
-    length-take-le (length zs - at) (drop at zs) (omega (arith, length-drop at zs)) ∙ omega arith in
-    ap (λ n. take n (drop offset body)) asked
+-- ---- a part that is read behind what is gathered
 
 -- the call that read it
-pub part_read : (old new : PassView) (k offset : ℕ) (piece part : List ℕ) → piece ≡ part → Grows old new (Read k offset (length piece)) (Bytes piece)
+pub part_read : (old new : PassView) (k offset len : ℕ) (part : List ℕ) → length part ≡ len → Grows old new (Read k offset len) (Bytes part)
     → Makes old new (read_entry old.actor k offset part ∷ [])
-part_read old new k offset piece part is grows =
-    subst (λ (x : List ℕ). Makes old new (read_entry old.actor k offset x ∷ [])) is grows.makes
+part_read old new k offset len part size grows =
+    let reads : ℕ → Entry = λ n. record { actor = old.actor; event = Read k offset n; reply = Bytes part } in
+    subst (λ (n : ℕ). Makes old new (reads n ∷ [])) (sym size) grows.makes
 
 -- ---- what is left of a body
 

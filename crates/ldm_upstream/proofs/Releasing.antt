@@ -1,5 +1,5 @@
 -- A product that was offered is let go.
-use Rattle.std.proofs.Common.{◌≡◌, ◌∙◌, ℕ, List, [], ◌∷◌, ◌++◌, Bool, true, false, None, refl, ap, subst, append-nil}
+use Rattle.std.proofs.Common.{◌≡◌, ◌∙◌, ℕ, List, [], ◌∷◌, ◌++◌, Bool, true, false, None, inl, inr, refl, ap, subst, append-nil}
 use Rattle.ldm_outside.specs.Clock.{ClockRecord}
 use Rattle.ldm_outside.specs.Link.{LinkRecord, IsNotClosed}
 use Rattle.ldm_shared.specs.Passes.{PassView, Makes, FindsWorn}
@@ -24,16 +24,16 @@ use Rattle.ldm_upstream.proofs.Offers.{heard_last}
 ended_by : (whole : Bool) (why : SendEnd) (asked : Asked) (k : ℕ) (given : Given) (s : Standing) (old new : Moment) (r : Replies) → EndsOfferBy whole why asked k given s old new r
     → EndsHandlingBy whole why asked k given s old new r
 ended_by true why asked k given s old new r ends = ends
-ended_by false why asked k given s old new r ends = record {
-  handling = ends.handling;
-  is_handled = ends.is_handled;
-  came = ends.came;
-  breaks =
-      breaks_before ends.came old new (handling_deed old.pass.actor k s.next given ends.handling) (calling (let_go old.pass.actor k given)) ends.breaks;
-  codes = ends.codes;
-  codes_part = ends.codes_part;
-  heard = ends.heard;
-}
+ended_by false why asked k given s old new r (inl unanswered) = inl unanswered
+ended_by false why asked k given s old new r (inr ends) =
+    inr (record {
+      handling = ends.handling;
+      is_handled = ends.is_handled;
+      came = ends.came;
+      breaks =
+          breaks_before ends.came old new (handling_deed old.pass.actor k s.next given ends.handling) (calling (let_go old.pass.actor k given)) ends.breaks;
+      heard = ends.heard;
+    })
 
 pub ended_before : (why : SendEnd) (asked : Asked) (k : ℕ) (given : Given) (s : Standing) (old new : Moment) (r : Replies) → EndsOffer why asked k given s old new r
     → EndsHandling why asked k given s old new r
@@ -75,15 +75,13 @@ worn_before asked k turns given s s' old mid new link clock out r r' unclosed of
     breaks_then offered.came [] old here there second (and_then first second) (one_done offered.came old here first second offered.does)
     (nothing_done here there second unclosed (calls_some mid new [] worn.makes) refl refl) in
     record {
-      ends = record {
+      ends = inr (record {
         handling = offered.handling;
         is_handled = offered.is_handled;
         came = offered.came;
         breaks = subst (λ (x : List ℕ). Breaks x old there (and_then first second)) (append-nil offered.came) both;
-        codes = handling_codes s.next offered.handling;
-        codes_part = ([], append-nil (handling_codes s.next offered.handling), tt);
         heard = heard_last end.Worn (after_handling s given offered.handling).next offered.came (handling_codes s.next offered.handling) r r' (λ _ _. tt) offered.heard;
-      };
+      });
       cause = worn.long ∙ worn.turns_are;
       cursor = tt;
     }

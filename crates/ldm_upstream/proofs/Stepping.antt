@@ -25,14 +25,14 @@ use Rattle.ldm_sender.specs.Asked.{Asked}
 use Rattle.ldm_upstream.specs.Blocks.{blocks, reads}
 use Rattle.ldm_upstream.specs.Turn.{Given, Handling, Passed, Whole, Declined, InBlocks, Lost, Gave, Quiet, Alive, let_go, given_reply, after_handling, handling_entries, handling_messages, handling_codes}
 use Rattle.ldm_sender.specs.Calls.{MayBeUnmade, stepped, later_call}
-use Rattle.ldm_upstream.specs.Feeding.{GoesOn, Stopped, Unanswered}
+use Rattle.ldm_upstream.specs.Feeding.{Last, GoesOn, Stopped, Unanswered}
 use Rattle.ldm_sender.specs.Deeds.{records_of}
 use Rattle.ldm_upstream.specs.ProductDeeds.{handling_deed}
-use Rattle.ldm_sender.specs.Does.{Moment, moment_of, Does, Breaks, Each, IsAllBut}
+use Rattle.ldm_sender.specs.Does.{Moment, moment_of, Does, Breaks, Each}
 use Rattle.ldm_sender.specs.Stopping.{KeepsCursor}
 use Rattle.ldm_sender.specs.Acts.{situation_of, then_act, ungated, BreaksAct, EndsAct, IsAllSent, is_whole}
-use Rattle.ldm_upstream.specs.Heard.{IsRefusal, HearsOn}
-use Rattle.ldm_upstream.specs.Offering.{StopsOffer, product_deed, Handled, IsUnanswered, BreaksHandling, EndsHandlingBy, Handles}
+use Rattle.ldm_upstream.specs.Heard.{HearsOn, HearsLast}
+use Rattle.ldm_upstream.specs.Offering.{EndsDeed, StopsOffer, product_deed, Handled, IsUnanswered, BreaksHandling, EndsHandlingBy, Handles}
 use Rattle.ldm_sender.specs.Idling.{quiet_act, alive_act, stop_act, EndsIdle, Idles}
 use Rattle.ldm_upstream.specs.Course.{turns_act, last_act, IsLastOf, AreRows, MakesTurns, EndsTurns, TurnsBy}
 use Rattle.ldm_sender.specs.Ending.{StopsTurns}
@@ -144,8 +144,6 @@ lost_unlogged asked host k count first last s old new link clock out log log' ga
         goes_part = ([], refl, tt);
         beside = record { log = faults; stops = omega arith };
       };
-      codes = [];
-      codes_part = ([], refl, tt);
       heard = heard_last end.LogFault s.next [] [] r r (λ _ _. tt) (hears_nothing r);
       cause = rose;
       cursor = (None, cursor);
@@ -185,8 +183,6 @@ unstepped asked k turns s old new link clock out log gate r unclosed worn = reco
     goes_part = ([], refl, tt);
     beside = record { log = omega arith; stops = omega arith };
   };
-  codes = [];
-  codes_part = ([], refl, tt);
   heard = heard_last end.Worn s.next [] [] r r (λ _ _. tt) (hears_nothing r);
   cause = worn.long ∙ worn.turns_are;
   cursor = tt;
@@ -249,23 +245,29 @@ offer_to_turns (end.Denied rule) old link clock out first new log gate cause = a
 offer_to_turns end.LogFault old link clock out first new log gate cause = absurd cause
 offer_to_turns end.AllBusy old link clock out first new log gate cause = absurd cause
 
--- no reply came
-pub gave_unanswered : (why : SendEnd) (asked : Asked) (k : ℕ) (given : Given) (s : Standing) (first old : PassView) (link : LinkRecord) (clock : ClockRecord) (out : List ℕ) (new : Moment)
-    (log : SinkRecord) (gate : GateRecord) (r : Replies) → RowsStay → IsRowOf old given → IsNotClosed link → Makes first old (stepped first.actor k (given_reply given) ∷ [])
-    → (ended : IsUnanswered why asked k given s (moment_of old link clock out) new r)
-    → IsLastOf why (Unanswered given ended.at) → StopsOffer why (moment_of old link clock out) new → KeepsCursor why new.pass k
-    → EndsAct true why asked.host ended.came (situation_of (moment_of first link clock out) log gate) (situation_of new log gate)
-    (then_act (turns_act first.actor k s []) (last_act first.actor k s.next (Unanswered given ended.at)))
-gave_unanswered why asked k given s first old link clock out new log gate r law row unclosed makes ended last cause cursor =
+-- it was announced, or that broke off
+unanswered_act : (whole : Bool) (why : SendEnd) (asked : Asked) (k at : ℕ) (given : Given) (s : Standing) (first old : PassView) (link : LinkRecord) (clock : ClockRecord) (out : List ℕ) (came : List ℕ)
+    (new : Moment) (log : SinkRecord) (gate : GateRecord) → IsNotClosed link → Makes first old (stepped first.actor k (given_reply given) ∷ [])
+    → EndsDeed whole came (moment_of old link clock out) new (handling_deed first.actor k s.next given (Declined at))
+    → EndsAct whole why asked.host came (situation_of (moment_of first link clock out) log gate) (situation_of new log gate)
+    (then_act (turns_act first.actor k s []) (last_act first.actor k s.next (Unanswered given at)))
+unanswered_act true why asked k at given s first old link clock out came new log gate unclosed makes does =
     let a = situation_of (moment_of first link clock out) log gate in
     let b = situation_of (moment_of old link clock out) log gate in
     let c = situation_of new log gate in
-    let same : old.actor ≡ first.actor = ap (λ (p : PassView). p.actor) makes.same in
-    let deed = λ (n : ℕ). handling_deed n k s.next given (Declined ended.at) in
+    let deed = handling_deed first.actor k s.next given (Declined at) in
     let step = stepped_acts asked.host first old k (given_reply given) link clock out log gate refl makes unclosed in
-    let does = subst (λ (n : ℕ). Does ended.came (moment_of old link clock out) new (deed n)) same ended.does in
-    let rest = acts_of asked.host ended.came (moment_of old link clock out) new log gate (deed first.actor) refl does in
-    acts_then asked.host [] ended.came a b c (step_act first.actor k (given_reply given)) (ungated (deed first.actor)) step rest
+    acts_then asked.host [] came a b c (step_act first.actor k (given_reply given)) (ungated deed) step
+    (acts_of asked.host came (moment_of old link clock out) new log gate deed refl does)
+unanswered_act false why asked k at given s first old link clock out came new log gate unclosed makes breaks =
+    let a = situation_of (moment_of first link clock out) log gate in
+    let b = situation_of (moment_of old link clock out) log gate in
+    let c = situation_of new log gate in
+    let deed = handling_deed first.actor k s.next given (Declined at) in
+    let step = stepped_acts asked.host first old k (given_reply given) link clock out log gate refl makes unclosed in
+    let quiet = silent_part asked.host breaks.called [] breaks.called_part refl in
+    acts_break why asked.host [] came a b c (step_act first.actor k (given_reply given)) (ungated deed) step
+    (breaks_act_of why asked.host came (moment_of old link clock out) new log gate deed breaks quiet tt)
 
 -- it broke off in what is done with it
 gave_broken : (why : SendEnd) (asked : Asked) (k : ℕ) (given : Given) (s : Standing) (first old : PassView) (link : LinkRecord) (clock : ClockRecord) (out : List ℕ) (new : Moment)
@@ -289,17 +291,16 @@ gave_broken why asked k given s first old link clock out new log gate r unclosed
     act_is _ _ _ _ (deed_is _ _ _ _ _ _ (sym (append-nil turns.deed.entries)) (sym (append-nil turns.deed.bytes)) (sym (append-nil turns.deed.instants))) (sym (append-nil turns.goes)) in
     breaks_same why asked.host ended.came a c _ _ (gave_act first.actor k s given ended.handling ∙ whole) both
 
-ends_whole : (why : SendEnd) (asked : Asked) (k : ℕ) (given : Given) (s : Standing) (first old : PassView) (link : LinkRecord) (clock : ClockRecord) (out : List ℕ) (new : Moment)
-    (log : SinkRecord) (gate : GateRecord) (r : Replies) → RowsStay → IsRowOf old given → IsNotClosed link → Makes first old (stepped first.actor k (given_reply given) ∷ [])
+-- no reply came
+gave_unanswered : (why : SendEnd) (asked : Asked) (k : ℕ) (given : Given) (s : Standing) (first old : PassView) (link : LinkRecord) (clock : ClockRecord) (out : List ℕ) (new : Moment)
+    (log : SinkRecord) (gate : GateRecord) (r : Replies) → IsRowOf old given → IsNotClosed link → Makes first old (stepped first.actor k (given_reply given) ∷ [])
     → (ended : IsUnanswered why asked k given s (moment_of old link clock out) new r)
-    → IsLastOf why (Unanswered given ended.at) → is_whole why ≡ true → StopsOffer why (moment_of old link clock out) new → KeepsCursor why new.pass k
+    → IsLastOf why (Unanswered given ended.at) → StopsOffer why (moment_of old link clock out) new → KeepsCursor why new.pass k
     → EndsTurns why asked k s (situation_of (moment_of first link clock out) log gate) (situation_of new log gate) r
-ends_whole why asked k given s first old link clock out new log gate r law row unclosed makes ended last whole cause cursor =
-    let a = situation_of (moment_of first link clock out) log gate in
-    let c = situation_of new log gate in
-    let act = then_act (turns_act first.actor k s []) (last_act first.actor k s.next (Unanswered given ended.at)) in
+gave_unanswered why asked k given s first old link clock out new log gate r row unclosed makes ended last cause cursor =
+    let same : old.actor ≡ first.actor = ap (λ (p : PassView). p.actor) makes.same in
     record {
-      all_sent = subst (λ (w : Bool). IsAllSent w new.out) (sym whole) ended.all_sent;
+      all_sent = ended.all_sent;
       turns = [];
       last = Unanswered given ended.at;
       are_turns = tt;
@@ -307,14 +308,12 @@ ends_whole why asked k given s first old link clock out new log gate r law row u
       last_of_end = last;
       came = ended.came;
       ends =
-          subst (λ (w : Bool). EndsAct w why asked.host ended.came a c act) (sym whole)
-          (gave_unanswered why asked k given s first old link clock out new log gate r law row unclosed makes ended last cause cursor);
-      codes = [];
-      codes_part = subst (λ (w : Bool). IsAllBut w IsRefusal [] []) (sym whole) refl;
+          unanswered_act (is_whole why) why asked k ended.at given s first old link clock out ended.came new log gate unclosed makes
+          (subst (λ (n : ℕ). EndsDeed (is_whole why) ended.came (moment_of old link clock out) new (handling_deed n k s.next given (Declined ended.at))) same ended.ends);
       heard = ended.heard;
       cause = offer_to_turns why old link clock out first new log gate cause;
       cursor = cursor;
-      rows = one_row new.pass given (row_stays law old new.pass _ given ended.does.calls row);
+      rows = one_row new.pass given (subst (λ (p : PassView). IsRowOf p given) (sym ended.same) row);
     }
 
 ends_broken : (why : SendEnd) (asked : Asked) (k : ℕ) (given : Given) (s : Standing) (first old : PassView) (link : LinkRecord) (clock : ClockRecord) (out : List ℕ) (new : Moment)
@@ -326,7 +325,6 @@ ends_broken why asked k given s first old link clock out new log gate r law row 
     let a = situation_of (moment_of first link clock out) log gate in
     let c = situation_of new log gate in
     let act = then_act (turns_act first.actor k s (Gave given ended.handling ∷ [])) (last_act first.actor k (after_handling s given ended.handling).next GoesOn) in
-    let all = handling_codes s.next ended.handling in
     record {
       all_sent = subst (λ (w : Bool). IsAllSent w new.out) (sym part) tt;
       turns = Gave given ended.handling ∷ [];
@@ -338,30 +336,39 @@ ends_broken why asked k given s first old link clock out new log gate r law row 
       ends =
           subst (λ (w : Bool). EndsAct w why asked.host ended.came a c act) (sym part)
           (gave_broken why asked k given s first old link clock out new log gate r unclosed makes ended);
-      codes = ended.codes;
-      codes_part =
-          subst (λ (w : Bool). IsAllBut w IsRefusal ended.codes (all ++ [])) (sym part)
-          (subst (λ (x : List Code). IsAllBut false IsRefusal ended.codes x) (sym (append-nil all)) ended.codes_part);
-      heard = ended.heard;
+      heard =
+          subst (λ (x : List Code). HearsLast why (after_handling s given ended.handling).next ended.came x r) (sym (append-nil (handling_codes s.next ended.handling)))
+          ended.heard;
       cause = offer_to_turns why old link clock out first new log gate cause;
       cursor = cursor;
       rows = one_row new.pass given (row_stays law old new.pass _ given ended.breaks.calls row);
     }
+
+-- it broke off, in its announcement or behind it
+gave_partly : (why : SendEnd) (asked : Asked) (k : ℕ) (given : Given) (s : Standing) (first old : PassView) (link : LinkRecord) (clock : ClockRecord) (out : List ℕ) (new : Moment)
+    (log : SinkRecord) (gate : GateRecord) (r : Replies) → RowsStay → IsRowOf old given → IsNotClosed link → Makes first old (stepped first.actor k (given_reply given) ∷ [])
+    → EndsHandlingBy false why asked k given s (moment_of old link clock out) new r → ((last : Last) → IsLastOf why last) → is_whole why ≡ false
+    → StopsOffer why (moment_of old link clock out) new → KeepsCursor why new.pass k
+    → EndsTurns why asked k s (situation_of (moment_of first link clock out) log gate) (situation_of new log gate) r
+gave_partly why asked k given s first old link clock out new log gate r law row unclosed makes (inl ended) any part cause cursor =
+    gave_unanswered why asked k given s first old link clock out new log gate r row unclosed makes ended (any (Unanswered given ended.at)) cause cursor
+gave_partly why asked k given s first old link clock out new log gate r law row unclosed makes (inr ended) any part cause cursor =
+    ends_broken why asked k given s first old link clock out new log gate r law row unclosed makes ended (any GoesOn) part cause cursor
 
 pub gave_ended : (why : SendEnd) (asked : Asked) (k : ℕ) (given : Given) (s : Standing) (first old : PassView) (link : LinkRecord) (clock : ClockRecord) (out : List ℕ) (new : Moment)
     (log : SinkRecord) (gate : GateRecord) (r : Replies) → RowsStay → IsRowOf old given → IsNotClosed link → Makes first old (stepped first.actor k (given_reply given) ∷ [])
     → EndsHandlingBy (is_whole why) why asked k given s (moment_of old link clock out) new r → StopsOffer why (moment_of old link clock out) new → KeepsCursor why new.pass k
     → EndsTurns why asked k s (situation_of (moment_of first link clock out) log gate) (situation_of new log gate) r
 gave_ended (end.PeerEnd place) asked k given s first old link clock out new log gate r law row unclosed makes ended cause cursor =
-    ends_whole (end.PeerEnd place) asked k given s first old link clock out new log gate r law row unclosed makes ended (given, ended.at, refl) refl cause cursor
+    gave_unanswered (end.PeerEnd place) asked k given s first old link clock out new log gate r row unclosed makes ended (given, ended.at, refl) cause cursor
 gave_ended (end.BadReply place) asked k given s first old link clock out new log gate r law row unclosed makes ended cause cursor =
-    ends_whole (end.BadReply place) asked k given s first old link clock out new log gate r law row unclosed makes ended (given, ended.at, refl) refl cause cursor
+    gave_unanswered (end.BadReply place) asked k given s first old link clock out new log gate r row unclosed makes ended (given, ended.at, refl) cause cursor
 gave_ended end.LinkFault asked k given s first old link clock out new log gate r law row unclosed makes ended cause cursor =
-    ends_broken end.LinkFault asked k given s first old link clock out new log gate r law row unclosed makes ended tt refl cause cursor
+    gave_partly end.LinkFault asked k given s first old link clock out new log gate r law row unclosed makes ended (λ _. tt) refl cause cursor
 gave_ended end.Worn asked k given s first old link clock out new log gate r law row unclosed makes ended cause cursor =
-    ends_broken end.Worn asked k given s first old link clock out new log gate r law row unclosed makes ended tt refl cause cursor
+    gave_partly end.Worn asked k given s first old link clock out new log gate r law row unclosed makes ended (λ _. tt) refl cause cursor
 gave_ended end.OutOfMemory asked k given s first old link clock out new log gate r law row unclosed makes ended cause cursor =
-    ends_broken end.OutOfMemory asked k given s first old link clock out new log gate r law row unclosed makes ended tt refl cause cursor
+    gave_partly end.OutOfMemory asked k given s first old link clock out new log gate r law row unclosed makes ended (λ _. tt) refl cause cursor
 gave_ended end.Stopped asked k given s first old link clock out new log gate r law row unclosed makes ended cause cursor = absurd cause
 gave_ended end.Reclassed asked k given s first old link clock out new log gate r law row unclosed makes ended cause cursor = absurd cause
 gave_ended (end.Denied rule) asked k given s first old link clock out new log gate r law row unclosed makes ended cause cursor = absurd cause
@@ -401,8 +408,6 @@ idle_ended end.Stopped asked k at s first old link link' clock clock' out out' l
       last_of_end = (at, refl);
       came = [];
       ends = acts_then asked.host [] [] a b c (step_act first.actor k (reply.End at)) stop_act step ends.0;
-      codes = [];
-      codes_part = refl;
       heard = heard_last end.Stopped s.next [] [] r r (λ _ _. tt) (hears_nothing r);
       cause = ends.1;
       cursor = (None, cursor);
@@ -422,8 +427,6 @@ idle_ended end.LinkFault asked k at s first old link link' clock clock' out out'
       last_of_end = tt;
       came = [];
       ends = acts_break end.LinkFault asked.host [] [] a b c (step_act first.actor k (reply.End at)) stop_act step ends.0;
-      codes = [];
-      codes_part = ([], refl, tt);
       heard = heard_last end.LinkFault s.next [] [] r r (λ _ _. tt) (hears_nothing r);
       cause = ends.1;
       cursor = (None, cursor);
@@ -447,8 +450,6 @@ idle_ended end.OutOfMemory asked k at s first old link link' clock clock' out ou
       last_of_end = tt;
       came = [];
       ends = breaks_same end.OutOfMemory asked.host [] a c _ _ whole both;
-      codes = [];
-      codes_part = ([], refl, tt);
       heard = heard_last end.OutOfMemory (later_call s.next 1) [] [] r r (λ _ _. tt) (hears_nothing r);
       cause = tt;
       cursor = (None, cursor);

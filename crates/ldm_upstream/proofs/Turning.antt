@@ -8,7 +8,6 @@ use Rattle.ldm_shared.specs.Passes.{PassView, Calls}
 use Rattle.ldm_session.specs.declared.replies.Replies.{Replies}
 use Rattle.ldm_session.specs.Hearing.{Heard}
 use Rattle.ldm_session.specs.Owed.{Code}
-use Rattle.ldm_sender.proofs.Fronts.{all_but_behind}
 use Rattle.ldm_sender.proofs.Steps.{records-append, then_act-assoc, RowsStay, HasRowIn, HasRowIn-stays, same_actor, calls_at_end, cause_later}
 use Rattle.ldm_sender.specs.declared.end.SendEnd.{SendEnd}
 use Rattle.ldm_sender.specs.declared.standing.Standing.{Standing}
@@ -17,9 +16,8 @@ use Rattle.ldm_upstream.specs.Turn.{Given, Turn, turn_entries, turn_instants, tu
 use Rattle.ldm_upstream.specs.Turns.{AreTurns, after_turns, messages_of_turns, codes_of_turns, given_in, given_in_turns}
 use Rattle.ldm_upstream.specs.Feeding.{last_given}
 use Rattle.ldm_sender.specs.Deeds.{records_of}
-use Rattle.ldm_sender.specs.Does.{IsAllBut}
 use Rattle.ldm_sender.specs.Acts.{Situation, Act, then_act, Acts, EndsAct, is_whole}
-use Rattle.ldm_upstream.specs.Heard.{IsRefusal, HearsOn, SaysLast, HearsLast}
+use Rattle.ldm_upstream.specs.Heard.{HearsOn, SaysLast, HearsLast}
 use Rattle.ldm_upstream.specs.Course.{turns_act, last_act, AreRows, MakesTurns, EndsTurns}
 use Rattle.ldm_sender.proofs.Acting.{deed_is, act_is, acts_same, ends_same, acts_then, acts_end}
 
@@ -136,10 +134,8 @@ turns_end law why asked k s t a b c p q one two =
     ∙ ap (λ (x : Act). then_act x (last_act actor k (after_turns here two.turns).next two.last)) (sym (turns_act-append actor k s one.turns two.turns))
     ∙ ap (λ (x : Standing). then_act (turns_act actor k s all) (last_act actor k x.next two.last)) at_last in
     let codes_all : codes_of_turns s one.turns ++ codes_of_turns here two.turns ≡ codes_of_turns s all = sym (codes-append s one.turns two.turns) in
-    let part : IsAllBut (is_whole why) IsRefusal two.codes (codes_of_turns here two.turns) =
-    subst (λ (x : Standing). IsAllBut (is_whole why) IsRefusal two.codes (codes_of_turns x two.turns)) stood two.codes_part in
-    let heard : HearsLast why (after_turns here two.turns).next two.came two.codes q =
-    subst (λ (x : Standing). HearsLast why (after_turns x two.turns).next two.came two.codes q) stood two.heard in
+    let heard : HearsLast why (after_turns here two.turns).next two.came (codes_of_turns here two.turns) q =
+    subst (λ (x : Standing). HearsLast why (after_turns x two.turns).next two.came (codes_of_turns x two.turns) q) stood two.heard in
     let later = calls_at_end (is_whole why) why asked.host two.came b c _ two.ends in
     record {
       turns = all;
@@ -153,13 +149,10 @@ turns_end law why asked k s t a b c p q one two =
           ends_same (is_whole why) why asked.host (one.came ++ two.came) a c _ _ act_is_all
           (acts_end (is_whole why) why asked.host one.came two.came a b c (turns_act actor k s one.turns) _ one.acts ended);
       all_sent = two.all_sent;
-      codes = codes_of_turns s one.turns ++ two.codes;
-      codes_part =
-          subst (λ (x : List Code). IsAllBut (is_whole why) IsRefusal (codes_of_turns s one.turns ++ two.codes) x) codes_all
-          (all_but_behind IsRefusal (is_whole why) (codes_of_turns s one.turns) two.codes (codes_of_turns here two.turns) part);
       heard =
-          subst (λ (x : Standing). HearsLast why x.next (one.came ++ two.came) (codes_of_turns s one.turns ++ two.codes) p) at_last
-          (hears_end why (after_turns here two.turns).next one.came two.came (codes_of_turns s one.turns) two.codes p q one.heard heard);
+          subst (λ (x : Standing). HearsLast why x.next (one.came ++ two.came) (codes_of_turns s all) p) at_last
+          (subst (λ (x : List Code). HearsLast why (after_turns here two.turns).next (one.came ++ two.came) x p) codes_all
+          (hears_end why (after_turns here two.turns).next one.came two.came (codes_of_turns s one.turns) (codes_of_turns here two.turns) p q one.heard heard));
       cause = cause_later why asked.host one.came a b c _ one.acts two.cause;
       cursor = two.cursor;
       rows =

@@ -7,15 +7,14 @@ use Rattle.ldm_sender.specs.declared.end.SendEnd.{SendEnd}
 use Rattle.ldm_sender.specs.declared.end.SendEnd.TheVariants as end
 use Rattle.ldm_sender.specs.Asked.{Asked}
 use Rattle.ldm_sender.specs.Opening.{Answered, place_of}
-use Rattle.ldm_sender.specs.Acts.{Act, is_whole}
+use Rattle.ldm_sender.specs.Acts.{Act}
 use Rattle.ldm_sender.specs.Ending.{closing_of}
 use Rattle.ldm_sender.proofs.Opened.{beginning}
-use Rattle.ldm_sender.proofs.Fronts.{all_there}
 use Rattle.ldm_sender.proofs.Settling.{Settles}
 use Rattle.ldm_sender.proofs.Steps.{then_act-none}
 use Rattle.ldm_sender.proofs.Unturned.{IsQuit, Unturned}
 use Rattle.ldm_upstream.specs.Feeding.{GoesOn}
-use Rattle.ldm_upstream.specs.Heard.{IsRefusal, SaysLast}
+use Rattle.ldm_upstream.specs.Heard.{SaysLast}
 use Rattle.ldm_upstream.specs.Course.{IsLastOf}
 use Rattle.ldm_upstream.specs.Feeds.{Feeds, HearsNone, feeding_act}
 use Rattle.ldm_upstream.proofs.Fed.{answer_only, feeding_is, may_turn, nothing_said}
@@ -80,8 +79,6 @@ unfed why asked ahead old new before after unturned =
         exchanged = settled.exchanged;
         unheard = quit_hears why unturned.quits;
         left = settled.left;
-        codes = [];
-        codes_part = all_there IsRefusal (is_whole why) [];
         says = quit_says why (ahead ++ []) unturned.quits;
         instants = settled.instants;
         instants_part = settled.instants_part;

@@ -5,7 +5,6 @@ use Rattle.ldm_shared.specs.Passes.{PassView}
 use Rattle.ldm_reader.specs.Staying.{HasRow}
 use Rattle.ldm_reader.specs.Reader.{HasCursor}
 use Rattle.ldm_session.specs.declared.replies.Replies.{Replies}
-use Rattle.ldm_session.specs.Owed.{Code}
 use Rattle.ldm_sender.specs.declared.end.SendEnd.{SendEnd}
 use Rattle.ldm_sender.specs.declared.end.SendEnd.TheVariants as end
 use Rattle.ldm_sender.specs.declared.standing.Standing.{Standing}
@@ -15,10 +14,9 @@ use Rattle.ldm_upstream.specs.Turn.{Given, Turn}
 use Rattle.ldm_upstream.specs.Turns.{AreTurns, after_turns, entries_of_turns, instants_of_turns, goes_of_turns, messages_of_turns, codes_of_turns, given_in_turns}
 use Rattle.ldm_upstream.specs.Feeding.{Last, Stopped, Unanswered, IsLast, last_entries, last_messages, last_instants, last_goes, last_given}
 use Rattle.ldm_sender.specs.Deeds.{records_of}
-use Rattle.ldm_sender.specs.Does.{IsAllBut}
 use Rattle.ldm_sender.specs.Stopping.{KeepsCursor}
 use Rattle.ldm_sender.specs.Acts.{Situation, Act, Acts, EndsAct, IsAllSent, then_act, is_whole}
-use Rattle.ldm_upstream.specs.Heard.{IsRefusal, HearsOn, HearsLast}
+use Rattle.ldm_upstream.specs.Heard.{HearsOn, HearsLast}
 
 -- turns, and how the last one ended
 pub record Course : Type 0 where
@@ -76,9 +74,7 @@ pub record EndsTurns (why : SendEnd) (asked : Asked) (k : ℕ) (standing : Stand
   pub ends : EndsAct (is_whole why) why asked.host came old new
       (then_act (turns_act old.moment.pass.actor k standing turns) (last_act old.moment.pass.actor k (after_turns standing turns).next last))
   pub all_sent : IsAllSent (is_whole why) new.moment.out
-  pub codes : List Code
-  pub codes_part : IsAllBut (is_whole why) IsRefusal codes (codes_of_turns standing turns)
-  pub heard : HearsLast why (after_turns standing turns).next came codes replies
+  pub heard : HearsLast why (after_turns standing turns).next came (codes_of_turns standing turns) replies
   pub cause : StopsTurns why old new
   pub cursor : KeepsCursor why new.moment.pass k
   pub rows : AreRows new.moment.pass (given_in_turns turns ++ last_given last)

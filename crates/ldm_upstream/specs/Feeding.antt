@@ -23,7 +23,8 @@ pub data Last : Type 0 where
   GoesOn : Last
   -- the cursor came to the end, and the gate said to stop
   Stopped : (end : ℕ) → Last
-  -- a product was announced, the clock answered that after it, and no reply came
+  -- A product was announced, the clock answered that after it, and no reply came. Where the feeding broke off there, it was announced in
+  -- part, or not at all.
   Unanswered : (given : Given) → (at : ℕ) → Last
 
 pub record Feeding : Type 0 where

@@ -7,7 +7,6 @@ use Rattle.ldm_outside.specs.Session.{SessionRecord}
 use Rattle.ldm_shared.specs.Passes.{PassView, Calls}
 use Rattle.ldm_session.specs.Exchange.{Exchanged, AnsweredAll, IdledAll}
 use Rattle.ldm_session.specs.Gaps.{gap_log}
-use Rattle.ldm_session.specs.Owed.{Code}
 use Rattle.ldm_sender.specs.declared.end.SendEnd.{SendEnd}
 use Rattle.ldm_sender.specs.declared.end.SendEnd.TheVariants as end
 use Rattle.ldm_sender.specs.Asked.{Asked}
@@ -17,7 +16,7 @@ use Rattle.ldm_sender.specs.Does.{IsPart, IsAllBut}
 use Rattle.ldm_sender.specs.Acts.{Situation, Act, IsStop, Logged, EndsAct, IsAllSent, is_whole}
 use Rattle.ldm_sender.specs.Ending.{IsEndOf, IsLeft, closing_of, session_of}
 use Rattle.ldm_upstream.specs.Feeding.{Feeding, IsFeeding, stands, entries_of, bytes_of, codes_of, instants_of, goes_of, given_of}
-use Rattle.ldm_upstream.specs.Heard.{IsRefusal, SaysLast}
+use Rattle.ldm_upstream.specs.Heard.{SaysLast}
 use Rattle.ldm_upstream.specs.Course.{IsLastOf, AreRows}
 
 -- at an end before the first turn nothing was heard of the peer
@@ -45,10 +44,9 @@ pub record Feeds (why : SendEnd) (asked : Asked) (ahead : List ℕ) (old new : P
   pub exchanged : Exchanged before.link sent given after.link
   pub unheard : HearsNone why given
   pub left : IsLeft why after.link
-  -- the replies, which are the first records in what came ahead and what the link gave
-  pub codes : List Code
-  pub codes_part : IsAllBut (is_whole why) IsRefusal codes (codes_of feeding)
-  pub says : SaysLast why (stands feeding).next (ahead ++ given) codes
+  -- The replies are the first records in what came ahead and what the link gave, and none is missing at any end: the one announcement
+  -- that may have none is the last message of the feeding.
+  pub says : SaysLast why (stands feeding).next (ahead ++ given) (codes_of feeding)
   -- the clock, the gate and the log
   pub instants : List ℕ
   pub instants_part : IsPart (is_whole why) instants (instants_of feeding)
@@ -79,8 +77,6 @@ pub record HasFed (why : SendEnd) (asked : Asked) (ahead : List ℕ) (answered :
   pub ends : EndsAct (is_whole why) why asked.host came old new (feeding_act old.moment.pass.actor asked feeding)
   pub all_sent : IsAllSent (is_whole why) new.moment.out
   pub rows : AreRows new.moment.pass (given_of feeding)
-  pub codes : List Code
-  pub codes_part : IsAllBut (is_whole why) IsRefusal codes (codes_of feeding)
-  pub says : SaysLast why (stands feeding).next (ahead ++ came) codes
+  pub says : SaysLast why (stands feeding).next (ahead ++ came) (codes_of feeding)
   pub last : IsLastOf why feeding.last
   pub cause : IsEndOf why feeding.answered new.moment.pass (session_of old) (session_of new)

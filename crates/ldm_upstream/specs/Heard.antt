@@ -1,16 +1,11 @@
 -- What was heard of the replies, between two moments, and at an end.
 use Rattle.std.specs.Prelude.{◌≡◌, ℕ, List, [], ◌++◌, length}
-use Rattle.ldm_relay.specs.declared.message.SoonAnswer.TheVariants as soon
 use Rattle.ldm_rpc.specs.Streams.{Placed}
 use Rattle.ldm_session.specs.declared.replies.Replies.{Replies}
 use Rattle.ldm_session.specs.Hearing.{Heard}
 use Rattle.ldm_session.specs.Owed.{Code, IsNoReply, Said, place_told}
 use Rattle.ldm_sender.specs.declared.end.SendEnd.{SendEnd}
 use Rattle.ldm_sender.specs.declared.end.SendEnd.TheVariants as end
-
--- the peer does not want the product
-abbrev pub IsRefusal : Code → Type 0
-IsRefusal code = code.answer ≡ soon.DontSend
 
 -- The reader went on by these bytes and these replies.
 abbrev pub HearsOn : (came : List ℕ) → (codes : List Code) → (old new : Replies) → Type 0

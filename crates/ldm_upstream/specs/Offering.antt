@@ -1,11 +1,10 @@
 -- What it comes to that a product that is due is offered: it goes whole, or is announced.
-use Rattle.std.specs.Prelude.{◌≡◌, ℕ, List, [], ◌∷◌, length, Bool, true, false, None, Result, Ok, Err}
+use Rattle.std.specs.Prelude.{◌≡◌, ◌⊎◌, ℕ, List, [], ◌∷◌, length, Bool, true, false, None, Result, Ok, Err}
 use Rattle.ldm_outside.specs.Count.{Rose}
 use Rattle.ldm_relay.specs.declared.message.SoonAnswer.{SoonAnswer}
 use Rattle.ldm_shared.specs.declared.steps.TheConstants.{MOST_TURNS}
 use Rattle.ldm_reader.specs.Reader.{HasCursor}
 use Rattle.ldm_session.specs.declared.replies.Replies.{Replies}
-use Rattle.ldm_session.specs.Owed.{Code}
 use Rattle.ldm_sender.specs.declared.end.SendEnd.{SendEnd}
 use Rattle.ldm_sender.specs.declared.end.SendEnd.TheVariants as end
 use Rattle.ldm_sender.specs.declared.standing.Standing.{Standing}
@@ -15,11 +14,11 @@ use Rattle.ldm_upstream.specs.Turns.{IsHandled}
 use Rattle.ldm_upstream.specs.Feeding.{Unanswered, IsLast}
 use Rattle.ldm_sender.specs.Deeds.{Deed, and_then, calling}
 use Rattle.ldm_upstream.specs.ProductDeeds.{handling_deed}
-use Rattle.ldm_sender.specs.Does.{Moment, Does, Breaks, IsAllBut}
+use Rattle.ldm_sender.specs.Does.{Moment, Does, Breaks}
 use Rattle.ldm_upstream.specs.Giving.{HoldsGiven}
 use Rattle.ldm_sender.specs.Stopping.{KeepsCursor}
 use Rattle.ldm_sender.specs.Acts.{is_whole, IsAllSent}
-use Rattle.ldm_upstream.specs.Heard.{IsRefusal, HearsOn, HearsLast}
+use Rattle.ldm_upstream.specs.Heard.{HearsOn, HearsLast}
 
 -- why the offer of a product ends
 abbrev pub StopsOffer : SendEnd → Moment → Moment → Type 0
@@ -71,28 +70,29 @@ pub record Offered (asked : Asked) (k : ℕ) (given : Given) (standing standing'
   pub heard : HearsOn came (handling_codes standing.next handling) replies replies'
   pub holds : HoldsGiven new.pass k given
 
--- It was announced, and no reply came.
+-- It was announced, or that broke off, and no reply came.
 pub record IsUnanswered (why : SendEnd) (asked : Asked) (k : ℕ) (given : Given) (standing : Standing) (old new : Moment) (replies : Replies) : Type 0 where
   pub at : ℕ
   pub is_last : IsLast asked (Unanswered given at)
   pub came : List ℕ
-  pub does : Does came old new (handling_deed old.pass.actor k standing.next given (Declined at))
+  pub ends : EndsDeed (is_whole why) came old new (handling_deed old.pass.actor k standing.next given (Declined at))
   pub heard : HearsLast why standing.next came [] replies
-  pub all_sent : new.out ≡ []
+  pub all_sent : IsAllSent (is_whole why) new.out
+  -- no call was made
+  pub same : new.pass ≡ old.pass
 
--- It broke off in a handling.
+-- It broke off in a handling: the reply to its announcement came, where it was announced.
 pub record BreaksOffer (why : SendEnd) (asked : Asked) (k : ℕ) (given : Given) (standing : Standing) (old new : Moment) (replies : Replies) : Type 0 where
   pub handling : Handling
   pub is_handled : IsHandled asked given handling
   pub came : List ℕ
   pub breaks : Breaks came old new (handling_deed old.pass.actor k standing.next given handling)
-  pub codes : List Code
-  pub codes_part : IsAllBut false IsRefusal codes (handling_codes standing.next handling)
-  pub heard : HearsLast why (after_handling standing given handling).next came codes replies
+  pub heard : HearsLast why (after_handling standing given handling).next came (handling_codes standing.next handling) replies
 
 abbrev pub EndsOfferBy : Bool → SendEnd → Asked → ℕ → Given → Standing → (old new : Moment) → Replies → Type 0
 EndsOfferBy true why asked k given standing old new replies = IsUnanswered why asked k given standing old new replies
-EndsOfferBy false why asked k given standing old new replies = BreaksOffer why asked k given standing old new replies
+EndsOfferBy false why asked k given standing old new replies =
+    IsUnanswered why asked k given standing old new replies ⊎ BreaksOffer why asked k given standing old new replies
 
 pub record EndsOffer (why : SendEnd) (asked : Asked) (k : ℕ) (given : Given) (standing : Standing) (old new : Moment) (replies : Replies) : Type 0 where
   pub ends : EndsOfferBy (is_whole why) why asked k given standing old new replies
@@ -119,19 +119,18 @@ pub record Handled (asked : Asked) (k : ℕ) (given : Given) (standing standing'
   pub heard : HearsOn came (handling_codes standing.next handling) replies replies'
   pub cursor : HasCursor new.pass k None
 
--- It broke off in a handling.
+-- It broke off in a handling, or in its release: the reply to its announcement came, where it was announced.
 pub record BreaksHandling (why : SendEnd) (asked : Asked) (k : ℕ) (given : Given) (standing : Standing) (old new : Moment) (replies : Replies) : Type 0 where
   pub handling : Handling
   pub is_handled : IsHandled asked given handling
   pub came : List ℕ
   pub breaks : Breaks came old new (product_deed old.pass.actor k standing.next given handling)
-  pub codes : List Code
-  pub codes_part : IsAllBut false IsRefusal codes (handling_codes standing.next handling)
-  pub heard : HearsLast why (after_handling standing given handling).next came codes replies
+  pub heard : HearsLast why (after_handling standing given handling).next came (handling_codes standing.next handling) replies
 
 abbrev pub EndsHandlingBy : Bool → SendEnd → Asked → ℕ → Given → Standing → (old new : Moment) → Replies → Type 0
 EndsHandlingBy true why asked k given standing old new replies = IsUnanswered why asked k given standing old new replies
-EndsHandlingBy false why asked k given standing old new replies = BreaksHandling why asked k given standing old new replies
+EndsHandlingBy false why asked k given standing old new replies =
+    IsUnanswered why asked k given standing old new replies ⊎ BreaksHandling why asked k given standing old new replies
 
 pub record EndsHandling (why : SendEnd) (asked : Asked) (k : ℕ) (given : Given) (standing : Standing) (old new : Moment) (replies : Replies) : Type 0 where
   pub ends : EndsHandlingBy (is_whole why) why asked k given standing old new replies

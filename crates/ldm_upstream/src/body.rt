@@ -36,16 +36,8 @@ pub(crate) fn append_part<H: Wait>(
         → ReadsPart result reader.now.k (given_of held.now body) offset
         (part_of offset len body) pass.old pass.new out.old.items out.new.items }
 {
-    let at = out.len();
-    out.resize(at + len as usize, 0)?;
-    match reader.read(
-        shared,
-        rt,
-        pass,
-        held,
-        offset,
-        &mut out.as_mut_slice()[at..],
-    ) {
+    out.reserve(len as usize)?;
+    match reader.read_onto(shared, rt, pass, held, offset, len, out) {
         Turn::Done(()) => Ok(()),
         Turn::Worn { .. } => Err(SendEnd::Worn),
     }

@@ -1,5 +1,4 @@
-use Rattle.std.proofs.Common.{◌≡◌, ◌∙◌, ℕ, ◌+◌, ◌≤◌, ◌++◌, List, None, length, replicate, refl, sym, ap, subst, append_assoc, arith}
-use Rattle.ldm_model.specs.declared.event.Entry.{Entry}
+use Rattle.std.proofs.Common.{◌≡◌, ◌∙◌, ℕ, ◌+◌, ◌++◌, None, length, replicate, refl, sym, ap, subst, append_assoc, arith}
 use Rattle.ldm_model.specs.State.{State}
 use Rattle.ldm_model.specs.History.{after, after_entries, IsLegal, IsLegalFrom}
 use Rattle.ldm_book.specs.Reopening.{closes, discards, reopened}
