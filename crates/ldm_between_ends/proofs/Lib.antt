@@ -51,3 +51,8 @@ pub mod Entries
 pub mod Slots
 pub mod Asking
 pub mod FedFew
+pub mod Sound
+pub mod CutPieces
+pub mod Took
+pub mod Meeting
+mod MeetingWitness

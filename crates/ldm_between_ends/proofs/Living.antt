@@ -1,5 +1,5 @@
 -- The calls of a feeding are those of a life of its cursor.
-use Rattle.std.proofs.Common.{◌≡◌, ◌∙◌, ℕ, ◌+◌, Bool, true, false, List, [], ◌∷◌, ◌++◌, length, All, Option, Some, None, refl, sym, ap, subst, inl, inr, append_assoc}
+use Rattle.std.proofs.Common.{◌≡◌, ◌∙◌, ℕ, ◌+◌, ◌<◌, Bool, true, false, List, [], ◌∷◌, ◌++◌, length, All, Option, Some, None, refl, sym, ap, subst, inl, inr, arith, append_assoc, length-append}
 use Rattle.std.specs.Prelude.{◌⊎◌, ◌&&◌}
 use Rattle.std.proofs.lemmas.Bool.{and_right}
 use Rattle.std.proofs.lemmas.List.Elements.{All-nil, All-cons, All-head, All-tail, All-append, All-weaker}
@@ -107,7 +107,7 @@ seen-then old new made has calls = by_case calls.has_seen
 abbrev pub SeenLaw : Type 0
 SeenLaw = AtEveryOwnPoint (λ (pass : PassView) (q : OwnPoint). (p : Point) × IsSeenAt pass q p)
 
-module _ (law : SeenLaw) (old new : PassView) (asked : Asked) (feeding : Feeding) (missed : Bool) (k : ℕ) (called unmade more : List Entry) (has : HasSeen old)
+module _ (law : SeenLaw) (old new : PassView) (asked : Asked) (feeding : Feeding) (missed : Bool) (k : ℕ) (called unmade more : List Entry) (has : HasSeen new)
     (calls : Calls old new (opening_entries old.actor asked feeding.answered ++ (called ++ more))) (answered : feeding.answered ≡ Opened missed k)
     (called_are : called ++ unmade ≡ calls_of old.actor k feeding) (none : All (λ (entry : Entry). gives entry.reply ≡ false) unmade) where
   same_actor : new.actor ≡ old.actor
@@ -166,7 +166,7 @@ module _ (law : SeenLaw) (old new : PassView) (asked : Asked) (feeding : Feeding
   pub has-life : (life : Point) × HasLife new asked feeding life
   has-life =
       let o = opens-last old.actor k asked (resumed asked.class.specs.items) missed in
-      let seen = law new (seen-then old new _ has calls) (own_point o.start o.refused) (is-own o) in
+      let seen = law new has (own_point o.start o.refused) (is-own o) in
       (seen.0, life-of o seen.0 seen.1)
 
 -- ---- of a call that feeds
@@ -190,28 +190,62 @@ behind-made (first ∷ front) (entry ∷ called) left rest call each not is = pu
         → (more : List Entry) × (entry ∷ called ≡ first ∷ (front ++ call ∷ more)) × (more ++ left ≡ rest)
     put later same = (later.0, (λ i. same i ∷ later.1 i), later.2)
 
-pub fed-life : SeenLaw → (why : SendEnd) (asked : Asked) (ahead : List ℕ) (old new : PassView) (before after : SessionRecord)
-    → (feeds : Feeds why asked ahead old new before after) → HasSeen old → (missed : Bool) (k : ℕ) → feeds.feeding.answered ≡ Opened missed k
-    → (life : Point) × HasLife new asked feeds.feeding life
-fed-life law why asked ahead old new before after feeds has missed k answered =
-    let feeding = feeds.feeding in
-    let calls = calls_of old.actor k feeding in
-    let opening_ones = opening_entries old.actor asked feeding.answered in
-    let closing = closing_of old.actor why feeding.answered in
-    let at : place_of feeding.answered ≡ k = ap place_of answered in
-    let part = all_but_at_most MayBeUnmade (is_whole why) feeds.called (entries_of old.actor asked feeding) feeds.called_part in
-    let o = opens-last old.actor k asked (resumed asked.class.specs.items) missed in
-    let opened = opens old.actor asked o.start (OpenedAt k) in
-    let opening_are : opening_ones ≡ o.refused ++ opened ∷ [] = ap (opening_entries old.actor asked) answered ∙ o.are in
-    let all : feeds.called ++ part.0 ≡ o.refused ++ opened ∷ calls =
-    part.1
-    ∙ append_assoc opening_ones (entries_of_turns old.actor (place_of feeding.answered) feeding.turns) (last_entries old.actor (place_of feeding.answered) feeding.last)
-    ∙ ap (λ (place : ℕ). opening_ones ++ calls_of old.actor place feeding) at
-    ∙ ap (λ (es : List Entry). es ++ calls) opening_are
-    ∙ append_assoc o.refused (opened ∷ []) calls in
-    let behind = behind-made o.refused feeds.called part.0 calls opened part.2 (λ left. left) all in
-    let called : feeds.called ≡ opening_ones ++ behind.0 =
-    behind.1 ∙ sym (append_assoc o.refused (opened ∷ []) behind.0) ∙ ap (λ (es : List Entry). es ++ behind.0) (sym opening_are) in
-    let made : feeds.called ++ closing ≡ opening_ones ++ (behind.0 ++ closing) = ap (λ (es : List Entry). es ++ closing) called ∙ append_assoc opening_ones behind.0 closing in
-    has-life law old new asked feeding missed k behind.0 part.0 closing has (subst (Calls old new) made feeds.made) answered behind.2
-    (left-none behind.0 part.0 (subst (All GivesIfStep) (sym behind.2) (calls-give old.actor k feeding)) part.2)
+-- what was made of a feeding whose cursor was opened
+record MadeOf (old : PassView) (k : ℕ) (asked : Asked) (feeding : Feeding) (made closing : List Entry) : Type 0 where
+  pub called : List Entry
+  pub unmade : List Entry
+  pub are : made ++ closing ≡ opening_entries old.actor asked feeding.answered ++ (called ++ closing)
+  pub all : called ++ unmade ≡ calls_of old.actor k feeding
+  pub none_given : All (λ (entry : Entry). gives entry.reply ≡ false) unmade
+  pub some : 0 < length made
+
+module _ (why : SendEnd) (asked : Asked) (ahead : List ℕ) (old new : PassView) (before after : SessionRecord) (feeds : Feeds why asked ahead old new before after)
+    (missed : Bool) (k : ℕ) (answered : feeds.feeding.answered ≡ Opened missed k) where
+  abbrev closing_calls : List Entry
+  closing_calls = closing_of old.actor why feeds.feeding.answered
+
+  made-of : MadeOf old k asked feeds.feeding feeds.called closing_calls
+  made-of =
+      let feeding = feeds.feeding in
+      let calls = calls_of old.actor k feeding in
+      let opening_ones = opening_entries old.actor asked feeding.answered in
+      let at : place_of feeding.answered ≡ k = ap place_of answered in
+      let part = all_but_at_most MayBeUnmade (is_whole why) feeds.called (entries_of old.actor asked feeding) feeds.called_part in
+      let o = opens-last old.actor k asked (resumed asked.class.specs.items) missed in
+      let opened = opens old.actor asked o.start (OpenedAt k) in
+      let opening_are : opening_ones ≡ o.refused ++ opened ∷ [] = ap (opening_entries old.actor asked) answered ∙ o.are in
+      let all : feeds.called ++ part.0 ≡ o.refused ++ opened ∷ calls =
+      part.1
+      ∙ append_assoc opening_ones (entries_of_turns old.actor (place_of feeding.answered) feeding.turns) (last_entries old.actor (place_of feeding.answered) feeding.last)
+      ∙ ap (λ (place : ℕ). opening_ones ++ calls_of old.actor place feeding) at
+      ∙ ap (λ (es : List Entry). es ++ calls) opening_are
+      ∙ append_assoc o.refused (opened ∷ []) calls in
+      let behind = behind-made o.refused feeds.called part.0 calls opened part.2 (λ left. left) all in
+      let called : feeds.called ≡ opening_ones ++ behind.0 =
+      behind.1 ∙ sym (append_assoc o.refused (opened ∷ []) behind.0) ∙ ap (λ (es : List Entry). es ++ behind.0) (sym opening_are) in
+      record {
+        called = behind.0;
+        unmade = part.0;
+        are = ap (λ (es : List Entry). es ++ closing_calls) called ∙ append_assoc opening_ones behind.0 closing_calls;
+        all = behind.2;
+        none_given = left-none behind.0 part.0 (subst (All GivesIfStep) (sym behind.2) (calls-give old.actor k feeding)) part.2;
+        some = omega (arith, ap (λ (es : List Entry). length es) behind.1, length-append o.refused (opened ∷ behind.0));
+      }
+
+  -- so the pass has seen a history
+  pub fed-seen : HasSeen new
+  fed-seen = by_case feeds.made.has_seen
+    where
+      by_case : (new ≡ old) ⊎ HasSeen new → HasSeen new
+      by_case (inr now) = now
+      by_case (inl same) =
+          let made = feeds.called ++ closing_calls in
+          let before_ = own old.actor old.seen in
+          let own_are : before_ ≡ before_ ++ made = ap (λ (pass : PassView). own old.actor pass.seen) (sym same) ∙ feeds.made.adds.own in
+          absurd (omega (arith, made-of.some, ap (λ (es : List Entry). length es) own_are, length-append before_ made, length-append feeds.called closing_calls))
+
+  pub fed-life : SeenLaw → (life : Point) × HasLife new asked feeds.feeding life
+  fed-life law =
+      let feeding = feeds.feeding in
+      has-life law old new asked feeding missed k made-of.called made-of.unmade closing_calls fed-seen
+      (subst (Calls old new) made-of.are feeds.made) answered made-of.all made-of.none_given

@@ -1,5 +1,4 @@
--- A feeding as far as its announcements were answered. At an end that no reply decided, a feeding is told with answers that
--- nobody heard.
+-- A feeding up to the first announcement that has no reply, where so many replies are taken.
 use Rattle.std.specs.Prelude.{ℕ, zero, suc, List, [], ◌∷◌}
 use Rattle.ldm_upstream.specs.Turn.{Given, Handling, Passed, Whole, Declined, InBlocks, Turn, Lost, Gave, Quiet, Alive}
 use Rattle.ldm_upstream.specs.Feeding.{Last, Unanswered, Feeding}

@@ -20,3 +20,4 @@ pub mod Following
 pub mod Blocks
 pub mod ResumingExamples
 pub mod Counts
+pub mod Meeting

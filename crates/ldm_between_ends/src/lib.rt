@@ -8,6 +8,8 @@
 mod alone;
 mod alone_examples;
 mod few_calls;
+mod meeting_examples;
+mod meeting_laws;
 mod one_pass;
 mod passing_examples;
 mod passing_laws;
@@ -18,6 +20,8 @@ mod resuming_laws;
 pub use alone::{a_sole_reader_is_given_all, due_products_are_offered};
 pub use alone_examples::worked_examples_of_a_sole_reader;
 pub use few_calls::few_calls_are_made;
+pub use meeting_examples::a_connection_can_be;
+pub use meeting_laws::two_ends_make_a_session;
 pub use one_pass::one_pass_is_fed_all;
 pub use passing_examples::worked_examples_of_passing;
 pub use passing_laws::{

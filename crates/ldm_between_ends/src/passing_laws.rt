@@ -112,9 +112,9 @@ pub fn announcements_are_answered()
     pushes_read_the_stream();
 }
 
-/// A feeding as far as its announcements were answered: at an end that no reply decided, a feeding is told with answers
-/// that nobody heard. Who knows how many were heard, and that no byte went behind the first announcement that was not
-/// answered, asks the other laws of this feeding.
+/// A feeding up to the first announcement that has no reply, where so many replies are taken. Who looks at a feeding
+/// before its end, knows how many replies were heard by then, and that no byte went behind the first announcement that
+/// was not answered, asks the other laws of this feeding.
 pub fn a_feeding_is_heard_so_far()
     // It is a feeding as it is to be, and is granted where the other one is.
     ensures feeding { (asked : Asked) (feeding : Feeding) (replies : ℕ) → IsFeeding asked feeding →

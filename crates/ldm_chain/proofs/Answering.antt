@@ -165,7 +165,7 @@ module _ (laws : Laws) (more : EndLaws) (why : SendEnd) (asked : Asked) (old new
       (reply-ends (Reclassed class) is tt fits)
 
   -- no byte of it ends its receiver, where its request was granted
-  module _ (missed : Bool) (k : ℕ) (opened : feeds.feeding.answered ≡ Opened missed k) (all_heard : feeds.codes ≡ codes_of feeds.feeding) where
+  module _ (missed : Bool) (k : ℕ) (opened : feeds.feeding.answered ≡ Opened missed k) where
     granted : IsGranted asked feeds.feeding
     granted =
         let small_too : new.arena ≤ LARGEST_ARENA = subst (λ (n : ℕ). n ≤ LARGEST_ARENA) (sym (ap (λ (p : PassView). p.arena) feeds.made.same)) small in
@@ -177,9 +177,6 @@ module _ (laws : Laws) (more : EndLaws) (why : SendEnd) (asked : Asked) (old new
           sound = rows-sound laws new makes.has_seen small_too (given_of feeds.feeding) feeds.rows;
         }
 
-    said : Said feeds.given (codes_of feeds.feeding) feeds.says.behind
-    said = subst (λ (codes : List Code). Said feeds.given codes feeds.says.behind) all_heard feeds.says.said
-
     is-passing : IsPassing passing
     is-passing =
         let carries : Carries passing = record { rest = []; is = append-nil (joined (pieces_at now all.parts)) ∙ carries-all; few = all.few } in
@@ -188,7 +185,7 @@ module _ (laws : Laws) (more : EndLaws) (why : SendEnd) (asked : Asked) (old new
           asker = all.asker;
           carries = carries;
           leads = all.leads;
-          heard = laws.read passing feeds.given all.waiting feeds.says.behind granted all.asker carries all.leads said all.heard;
+          heard = laws.read passing feeds.given all.waiting feeds.says.behind granted all.asker carries all.leads feeds.says.said all.heard;
         }
 
     pub granted-goes_on : end ≡ None
@@ -201,7 +198,7 @@ module _ (laws : Laws) (more : EndLaws) (asked : Asked) (old new : PassView) (be
   pub stopped-goes_on : (feeds : Feeds feed.Stopped asked [] old new before after') → TookAll asked feeds.sent feeds.given now actor made end → end ≡ None
   stopped-goes_on feeds all =
       let opened = fed-opened asked [] old new before after' feeds in
-      granted-goes_on laws more feed.Stopped asked old new before after' feeds only small now actor made end all feeds.sent_part opened.0 opened.1 opened.2 feeds.codes_part
+      granted-goes_on laws more feed.Stopped asked old new before after' feeds only small now actor made end all feeds.sent_part opened.0 opened.1 opened.2
 
   -- what a feeder hears of its receiver is no bad reply
   pub no-bad_reply : (place : ℕ) (feeds : Feeds (feed.BadReply place) asked [] old new before after') → TookAll asked feeds.sent feeds.given now actor made end → ⊥
@@ -209,12 +206,11 @@ module _ (laws : Laws) (more : EndLaws) (asked : Asked) (old new : PassView) (be
       let last = feeds.last in
       let opened = opened-by_last feeds.feeding.answered feeds.feeding.turns feeds.feeding.last last.0 last.1 feeds.is_feeding.opened last.2 in
       let why = feed.BadReply place in
-      let passing_is = is-passing laws more why asked old new before after' feeds only small now actor made end all feeds.sent_part opened.0 opened.1 opened.2 feeds.codes_part in
+      let passing_is = is-passing laws more why asked old new before after' feeds only small now actor made end all feeds.sent_part opened.0 opened.1 opened.2 in
       more.answered (passing laws more why asked old new before after' feeds only small now actor made end all feeds.sent_part)
       last.0 last.1 place feeds.given all.waiting feeds.says.behind passing_is
       (carries-all laws more why asked old new before after' feeds only small now actor made end all feeds.sent_part) last.2
-      (said laws more why asked old new before after' feeds only small now actor made end all feeds.sent_part opened.0 opened.1 opened.2 feeds.codes_part)
-      all.heard feeds.says.is_behind
+      feeds.says.said all.heard feeds.says.is_behind
 
 -- all cursors were taken, and no call changed that
 module _ (laws : Laws) (asked : Asked) (old new : PassView) (before after' : SessionRecord) (only : IsOnlyPass old) where

@@ -12,7 +12,6 @@ use Rattle.ldm_model.proofs.Appended.{after_entries-append, IsLegalFrom-append}
 use Rattle.ldm_class.specs.Classes.{resumed}
 use Rattle.ldm_outside.specs.Session.{SessionRecord}
 use Rattle.ldm_shared.specs.Passes.{PassView, Calls, Makes}
-use Rattle.ldm_session.specs.Owed.{Code, Said}
 use Rattle.ldm_intake.specs.declared.end.RecvEnd.{RecvEnd}
 use Rattle.ldm_intake.specs.Course.{Leads}
 use Rattle.ldm_intake.specs.Receiving.{Receiving}
@@ -92,14 +91,12 @@ module _ (laws : Laws) (asked : Asked) (old new : PassView) (before after' : Ses
 
   is-passing : IsPassing passing
   is-passing =
-      let said : Said feeds.given (feeding.codes_of feeds.feeding) feeds.says.behind =
-      subst (λ (codes : List Code). Said feeds.given codes feeds.says.behind) feeds.codes_part feeds.says.said in
       record {
         granted = granted;
         asker = all.asker;
         carries = carries;
         leads = all.leads;
-        heard = laws.read passing feeds.given all.waiting feeds.says.behind granted all.asker carries all.leads said all.heard;
+        heard = laws.read passing feeds.given all.waiting feeds.says.behind granted all.asker carries all.leads feeds.says.said all.heard;
       }
 
   -- the queue comes to what was due
