@@ -24,3 +24,4 @@ pub mod Store
 pub mod Launcher
 pub mod MemStore
 pub mod MemLauncher
+pub mod Reason

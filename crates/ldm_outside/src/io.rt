@@ -43,10 +43,14 @@ pub trait Source {
 /// A stream that bytes are written to.
 pub trait Sink {
     ghost use Rattle.ldm_outside.specs.Io.{WriteGives, FlushGives};
+    ghost use Rattle.std.specs.Prelude.{OnOk};
 
     /// What it tells: all bytes that it took, if it tells these, and how often it failed. The count stands still at
     /// the end of `u64`.
     ghost tells: { Self → SinkRecord };
+
+    /// That it keeps nothing back: all that it took is handed on.
+    ghost is_handed_on: { Self → Type 0 };
 
     /// Writes some bytes from the front of the piece: what is left of it is the caller's to write.
     ///
@@ -64,7 +68,8 @@ pub trait Sink {
     ///
     /// Where it fails, a front of that was handed on.
     fn flush(&mut self) -> Result<(), SinkFailed>
-        ensures { FlushGives result (tells self.old) (tells self.new) };
+        ensures flushed { FlushGives result (tells self.old) (tells self.new) }
+        ensures handed_on { OnOk result (is_handed_on self.new) };
 }
 
 /// A sink failed, and its count of faults rose.

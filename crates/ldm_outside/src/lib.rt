@@ -27,6 +27,7 @@ mod mem_store;
 mod memory;
 mod net;
 mod open_gate;
+mod reason;
 mod store;
 mod sure;
 
@@ -49,5 +50,6 @@ pub use mem_store::{MemFile, MemPath, MemStore};
 pub use memory::{MemSink, MemSource};
 pub use net::{Manned, Net, Station};
 pub use open_gate::OpenGate;
+pub use reason::{LONGEST_REASON, Reasons};
 pub use store::{FileNo, FileRead, Store};
 pub use sure::{SureSink, SureSource};

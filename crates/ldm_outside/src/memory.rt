@@ -171,6 +171,8 @@ impl Sink for MemSink {
 
     ghost tells = { told_by_sink };
 
+    ghost is_handed_on = { λ _. Unit {0} };
+
     fn write(&mut self, piece: &[u8]) -> Put
         ensures taken { WriteGives result piece.now (told_by_sink self.old) (told_by_sink self.new) }
         ensures faults_kept { self.old.faults ≤ self.new.faults }

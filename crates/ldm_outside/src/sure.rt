@@ -72,6 +72,8 @@ impl Sink for SureSink {
 
     ghost tells = { λ _. told_by_sure_sink };
 
+    ghost is_handed_on = { λ _. Unit {0} };
+
     fn write(&mut self, piece: &[u8]) -> Put
         ensures taken { WriteGives result piece.now told_by_sure_sink told_by_sure_sink }
         ensures whole { result ≡ Put.Took (length piece.now) }

@@ -13,7 +13,7 @@ use Rattle.ldm_play.specs.PlayerView.{PlayerView}
 use Rattle.ldm_play.specs.PendingView.{PendingView}
 use Rattle.ldm_play.specs.Ending.{StopsAt}
 use Rattle.ldm_play.specs.Legal.{StaysLegal}
-use Rattle.ldm_play.specs.Step.{GoesOn, AnswersScript, PieceGives, EndGives, IsFlushed}
+use Rattle.ldm_play.specs.Step.{PieceGives, EndGives, IsFlushed}
 use Rattle.ldm_play.proofs.GoesOnLemmas.{answers_known_lines}
 
 -- the sink failed, and took no more
@@ -51,6 +51,11 @@ stopped stop.SinkFault p lines before now after stops kept failed = (
         legal = first.legal;
       },
 )
+
+-- what was handed on was played before
+pub flushed_same : (done : Unit {0}) (played : Result (Unit {0}) LineFault) (now after : SinkRecord) → IsFlushed (Ok done) played now after → after ≡ now
+flushed_same done played now after (inl same) = same.1
+flushed_same done played now after (inr failed) = let e = failed.0 in absurd cc
 
 -- a piece of a script was played, and its answers were handed on
 pub piece_flushed : (result played : Result (Unit {0}) LineFault) (p : Playing) (script : List ℕ) (player : PlayerView) (pending : PendingView) (before now after : SinkRecord)

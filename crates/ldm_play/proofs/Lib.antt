@@ -5,3 +5,4 @@ pub mod FlushedLemmas
 pub mod PlaysScriptLemmas
 pub mod CompletesLemmas
 pub mod LawLemmas
+pub mod HandedOnLemmas

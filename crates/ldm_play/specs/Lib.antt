@@ -10,3 +10,4 @@ pub mod Step
 pub mod Statuses
 pub mod Run
 pub mod Complete
+pub mod HandedOn

@@ -7,6 +7,7 @@ ghost use Rattle.ldm_outside.specs.Io.{SinkRecord};
 ghost use Rattle.ldm_book.specs.Stands.{StandsFor};
 ghost use Rattle.ldm_play.specs.declared.play_command.ScriptEnd.TheVariants as script_end;
 ghost use Rattle.ldm_play.specs.Law.{WritesLawfulFrom};
+ghost use Rattle.ldm_play.specs.HandedOn.{ScriptHandsOn};
 ghost use Rattle.ldm_play.specs.OnBook.{RunsFreely, PlaysOn, play_from, beside};
 
 use crate::pending::Pending;
@@ -33,7 +34,8 @@ pub struct PlayedBook {
 ///
 /// All memory is taken before the first read. The clause `plays` says how it ends, whatever state the queue is in: see
 /// `PlaysOn`. The clause `law` says that the calls of the lines go on with any legal history that led to that state,
-/// and obey the law of the queue. The clause `completes` says when the script is played to its end.
+/// and obey the law of the queue. The clause `completes` says when the script is played to its end, and `handed_on`
+/// that the sink keeps nothing back where it did not fail.
 pub fn play_on<S: Source, K: Sink>(
     alloc: Global,
     book: Book,
@@ -56,6 +58,8 @@ pub fn play_on<S: Source, K: Sink>(
         IfOk result (λ played. played.end ≡ script_end.Done) }
     ensures nothing_read { OnErr result (S.tells source.new ≡ S.tells source.old) }
     ensures nothing_written { OnErr result (K.tells sink.new ≡ K.tells sink.old) }
+    ensures handed_on { IfOk result (λ played. ScriptHandsOn played.end (K.is_handed_on sink.new)) }
+    ensures untouched { OnErr result (sink.new ≡ sink.old) }
     ensures source_faults_kept { (S.tells source.old).faults ≤ (S.tells source.new).faults }
     ensures sink_faults_kept { (K.tells sink.old).faults ≤ (K.tells sink.new).faults }
 {

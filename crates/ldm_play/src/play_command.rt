@@ -12,6 +12,7 @@ ghost use Rattle.ldm_play.specs.Step.{GoesOn, LineGives, PieceGives, EndGives, I
 ghost use Rattle.ldm_play.specs.Law.{ObeysPlayLaw};
 ghost use Rattle.ldm_play.specs.Run.{Plays};
 ghost use Rattle.ldm_play.specs.Complete.{Completes};
+ghost use Rattle.ldm_play.specs.HandedOn.{LinesHandOn, ScriptHandsOn, EndingHandsOn, HandsOn};
 
 use crate::on_book::play_on;
 use crate::pending::Pending;
@@ -95,6 +96,7 @@ fn end_line<K: Sink>(
 // Hands on what the sink kept back of the answers, however the lines were played. That it failed comes first.
 fn flushed<K: Sink>(played: Result<(), LineFault>, sink: &mut K) -> Result<(), LineFault>
     ensures flushed { IsFlushed result played (K.tells sink.old) (K.tells sink.new) }
+    ensures handed_on { LinesHandOn result (K.is_handed_on sink.new) }
     ensures faults_kept { (K.tells sink.old).faults ≤ (K.tells sink.new).faults }
 {
     match sink.flush() {
@@ -115,6 +117,7 @@ fn play_piece<K: Sink>(
         → GoesOn p script player.old pending.old before (K.tells sink.old) →
         PieceGives result p (script ++ piece.now) player.new pending.new before (K.tells sink.new) }
     ensures number { OnOk result (pending.new.number ≤ pending.old.number + length piece.now) }
+    ensures handed_on { LinesHandOn result (K.is_handed_on sink.new) }
     ensures faults_kept { (K.tells sink.old).faults ≤ (K.tells sink.new).faults }
 {
     let played = play_lines(player, pending, piece, sink);
@@ -151,6 +154,7 @@ fn play_last<K: Sink>(player: &mut Player, pending: &Pending, sink: &mut K) -> R
     ensures played { (p : Playing) (script : List ℕ) (before : SinkRecord)
         → GoesOn p script player.old pending.now before (K.tells sink.old) →
         EndGives result p script player.new before (K.tells sink.new) }
+    ensures handed_on { LinesHandOn result (K.is_handed_on sink.new) }
     ensures faults_kept { (K.tells sink.old).faults ≤ (K.tells sink.new).faults }
 {
     let played = play_rest(player, pending, sink);
@@ -170,8 +174,8 @@ fn play_rest<K: Sink>(player: &mut Player, pending: &Pending, sink: &mut K) -> R
     player.play_line(pending.number(), pending.as_slice(), sink)
 }
 
-// Plays a script. The sink gathers its answers, which are handed on before more of the script is read: so that who writes a
-// line sees its answer, and many lines that come at once take few calls of the system.
+// Plays a script. The sink gathers its answers, which are handed on before more of the script is read: so that who
+// writes a line sees its answer, and many lines that come at once take few calls of the system.
 pub(crate) fn play_script<S: Source, K: Sink>(
     player: &mut Player,
     pending: &mut Pending,
@@ -184,10 +188,15 @@ pub(crate) fn play_script<S: Source, K: Sink>(
     ensures plays { (p : Playing) (log_before log_after : SinkRecord) → StandsForPlay player.old p →
         PlaysOn result p player.new.book (beside log_before (S.tells source.old) (K.tells sink.old))
         (beside log_after (S.tells source.new) (K.tells sink.new)) }
+    ensures handed_on { ScriptHandsOn result (K.is_handed_on sink.new) }
     ensures source_faults_kept { (S.tells source.old).faults ≤ (S.tells source.new).faults }
     ensures sink_faults_kept { (K.tells sink.old).faults ≤ (K.tells sink.new).faults }
 {
     sink.gather();
+    // what it keeps back from before
+    if let Err(stop) = flushed(Ok(()), sink) {
+        return ScriptEnd::Stopped(stop);
+    }
     play_pieces(player, pending, piece, source, sink)
 }
 
@@ -201,9 +210,11 @@ fn play_pieces<S: Source, K: Sink>(
 ) -> ScriptEnd
     requires room { 0 < length piece.old }
     requires fresh { pending.old ≡ fresh_line 1 }
+    requires handed_on { K.is_handed_on sink.old }
     ensures plays { (p : Playing) (log_before log_after : SinkRecord) → StandsForPlay player.old p →
         PlaysOn result p player.new.book (beside log_before (S.tells source.old) (K.tells sink.old))
         (beside log_after (S.tells source.new) (K.tells sink.new)) }
+    ensures handed_on { ScriptHandsOn result (K.is_handed_on sink.new) }
     ensures source_faults_kept { (S.tells source.old).faults ≤ (S.tells source.new).faults }
     ensures sink_faults_kept { (K.tells sink.old).faults ≤ (K.tells sink.new).faults }
 {
@@ -242,6 +253,7 @@ fn play_new<S: Source, K: Sink>(
         PlayEnds result (record { arena = arena; slots = slots })
         (beside log_before (S.tells source.old) (K.tells sink.old))
         (beside log_after (S.tells source.new) (K.tells sink.new)) }
+    ensures handed_on { EndingHandsOn result (K.is_handed_on sink.new) (sink.new ≡ sink.old) }
     ensures source_faults_kept { (S.tells source.old).faults ≤ (S.tells source.new).faults }
     ensures sink_faults_kept { (K.tells sink.old).faults ≤ (K.tells sink.new).faults }
 {
@@ -256,7 +268,8 @@ fn play_new<S: Source, K: Sink>(
 ///
 /// All memory is taken before the first read. The clause `ends` gives each status its cause, and what was read and
 /// written then: see `Plays`. The clause `law` says that the answers are those of a history that obeys the law of the
-/// queue: see `WritesLawful`. The clause `completes` says when a play comes to its end: see `Unhindered`.
+/// queue: see `WritesLawful`. The clause `completes` says when a play comes to its end: see `Unhindered`. The clause
+/// `handed_on` says that a play whose sink did not fail hands on what the sink kept back: see `HandsOn`.
 pub fn play<S: Source, K: Sink, E: Sink>(
     alloc: Global,
     arena: u64,
@@ -269,6 +282,9 @@ pub fn play<S: Source, K: Sink, E: Sink>(
         (streams_tells S.tells K.tells E.tells streams.old) (streams_tells S.tells K.tells E.tells streams.new) }
     ensures completes { Completes (record { arena = arena; slots = slots }) result
         (streams_tells S.tells K.tells E.tells streams.old) (streams_tells S.tells K.tells E.tells streams.new) }
+    ensures handed_on { HandsOn result
+        (streams_tells S.tells K.tells E.tells streams.old) (streams_tells S.tells K.tells E.tells streams.new)
+        (K.is_handed_on streams.new.sink) (streams.new.sink ≡ streams.old.sink) }
     ensures faults_kept { KeepsFaults (streams_tells S.tells K.tells E.tells streams.old)
         (streams_tells S.tells K.tells E.tells streams.new) }
 {

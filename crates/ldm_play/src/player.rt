@@ -1,6 +1,6 @@
 //! Lines of a script, played on a queue.
 ghost use Rattle.std.specs.Prelude.{◌≡◌, ◌≤◌, IfOk, replicate};
-ghost use Rattle.ldm_script.specs.OrderView.{order_of, IsWhole};
+ghost use Rattle.ldm_script.specs.OrderView.{order_of, order_with, act_with, IsWhole};
 ghost use Rattle.ldm_script.specs.Resolve.{Playing, answer_order, no_places};
 ghost use Rattle.ldm_play.specs.Play.{play_line};
 ghost use Rattle.ldm_play.specs.PlayerView.{AnswersOrder, StandsForPlay};
@@ -9,8 +9,8 @@ ghost use Rattle.ldm_play.specs.Step.{LineGives};
 use ldm_book::Book;
 use ldm_calls::Room;
 use ldm_outside::{Sink, SinkFailed, write_all};
-use ldm_script::{LastPlaces, Order, read_line};
-use ldm_types::{Actor, OutOfMemory};
+use ldm_script::{LastPlaces, LentOrder, blank_info, read_line_into};
+use ldm_types::{Actor, Info, OutOfMemory};
 use std::alloc::Global;
 use std::marker::Model;
 
@@ -30,6 +30,8 @@ pub struct Player {
     // For each actor, what `.` stands for.
     last: [LastPlaces; 64],
     room: Room,
+    // The metadata of the line that was read last, if it had any.
+    info: Info,
 }
 
 impl Model for Player {
@@ -49,6 +51,7 @@ impl Player {
             book,
             last: [LastPlaces::NONE; 64],
             room: Room::new(alloc)?,
+            info: blank_info(),
         })
     }
 
@@ -74,7 +77,7 @@ impl Player {
             → LineGives result p (play_line number p line.now) self.new (K.tells sink.old) (K.tells sink.new) }
         ensures faults_kept { (K.tells sink.old).faults ≤ (K.tells sink.new).faults }
     {
-        let order = match read_line(line, Actor::COUNT) {
+        let order = match read_line_into(line, Actor::COUNT, &mut self.info) {
             Ok(Some(order)) => order,
             Ok(None) => return Ok(()),
             Err(bad) => {
@@ -84,7 +87,13 @@ impl Player {
                 });
             }
         };
-        answer(&mut self.book, &mut self.last, &mut self.room, &order);
+        answer(
+            &mut self.book,
+            &mut self.last,
+            &mut self.room,
+            &order,
+            &self.info,
+        );
         match write_all(sink, self.room.text()) {
             Ok(()) => Ok(()),
             Err(SinkFailed) => Err(LineFault::SinkFault),
@@ -93,15 +102,22 @@ impl Player {
 }
 
 // Does what an order asks for, and leaves its answer line in the room.
-fn answer(book: &mut Book, last: &mut [LastPlaces; 64], room: &mut Room, order: &Order)
-    requires whole { IsWhole order.now.act }
+fn answer(
+    book: &mut Book,
+    last: &mut [LastPlaces; 64],
+    room: &mut Room,
+    order: &LentOrder,
+    info: &Info,
+)
+    requires whole { IsWhole (act_with info.now order.now.act) }
     ensures { (p : Playing) → StandsForPlay (record { book = book.old; last = last.old }) p
-        → AnswersOrder p (answer_order p (order_of order.now)) (record { book = book.new; last = last.new }) room.new }
+        → AnswersOrder p (answer_order p (order_of (order_with info.now order.now)))
+        (record { book = book.new; last = last.new }) room.new }
 {
     let at = order.actor.get() as usize;
     let mut places = last[at];
     // a book answers every call
-    let Ok(()) = room.answer(&order.actor, book, &mut places, &order.act) else {
+    let Ok(()) = room.answer_lent(&order.actor, book, &mut places, &order.act, info) else {
         unreachable!()
     };
     last[at] = places;

@@ -14,6 +14,7 @@ loop-taken-init g c = record {
   number = let first = ap (λ (v : PendingView). v.number) c.requires.fresh in omega arith;
   source_faults = omega arith;
   sink_faults = omega arith;
+  handed_on = c.requires.handed_on;
   ends = refl;
   script = ([], refl, Gives-nothing (g.S.Source.tells c.args.source.now) (g.S.Source.tells c.args.source.now) refl, λ p stands. GoesOn-nothing p c.args.player.now c.args.pending.now (g.K.Sink.tells c.args.sink.now) c.requires.fresh stands);
 }
@@ -44,6 +45,7 @@ loop-taken-preserved g c =
       number = omega (arith, c.loop-taken.invariant.number, c.in_default.ensures.number, length-take n c.read.new.into, given.1);
       source_faults = omega (arith, c.loop-taken.invariant.source_faults, c.in-Bytes.ensures.faults_kept);
       sink_faults = omega (arith, c.loop-taken.invariant.sink_faults, c.in_default.ensures.faults_kept);
+      handed_on = c.in_default.ensures.handed_on;
       ends = given.3 ∙ c.loop-taken.invariant.ends;
       script = (
         so_far.0 ++ piece,

@@ -12,6 +12,7 @@ invariant-loop-taken g l = record {
   number : l.pending.number ≤ 1 + l.taken;
   source_faults : (g.S.Source.tells l.initial.source).faults ≤ (g.S.Source.tells l.source).faults;
   sink_faults : (g.K.Sink.tells l.initial.sink).faults ≤ (g.K.Sink.tells l.sink).faults;
+  handed_on : g.K.Sink.is_handed_on l.sink;
   ends : (g.S.Source.tells l.source).ends ≡ (g.S.Source.tells l.initial.source).ends;
   script : (script : List ℕ) × (length script ≡ l.taken) × Gives (g.S.Source.tells l.initial.source) script (g.S.Source.tells l.source)
       × ((p : Playing) → StandsForPlay l.initial.player p → GoesOn p script l.player l.pending (g.K.Sink.tells l.initial.sink) (g.K.Sink.tells l.sink));

@@ -5,7 +5,7 @@ use Rattle.ldm_calls.specs.Lines.{AnswersLine}
 use Rattle.ldm_calls.specs.OnBook.{BookAnswers}
 use Rattle.ldm_script.specs.declared.order.LastPlaces.{LastPlaces}
 use Rattle.ldm_script.specs.Order.{Order}
-use Rattle.ldm_script.specs.OrderView.{order_of}
+use Rattle.ldm_script.specs.OrderView.{order_of, order_with}
 use Rattle.ldm_script.specs.Resolve.{Playing, no_places, answer_order}
 use Rattle.ldm_play.specs.PlayerView.{PlayerView, StandsForPlay, AnswersOrder}
 use Rattle.ldm_play.proofs.PlayLineLemmas.{answers_order}
@@ -27,12 +27,12 @@ answers_at p order old new last text at is line noted stands =
 
 pub returns : goal.returns
 returns c = λ p stands.
-    let order = order_of c.args.order.now in
+    let order = order_of (order_with c.args.info.now c.args.order.now) in
     let last = c.args.last.now in
     let at = c.get-at.result in
     let here : slice_index_or last at c.index-last-at.result ≡ slice_index_or last at no_places =
     get_or_default last at c.index-last-at.result no_places (omega (arith, c.get-at.ensures.bound, c.told-last)) in
-    let answered = came c.answer.result c.answer.ensures.answered c.answer.ensures.unmade in
+    let answered = came c.answer_lent.result c.answer_lent.ensures.answered c.answer_lent.ensures.unmade in
     answers_at p order (record { book = c.args.book.now; last = last })
-    (record { book = c.answer.new.queue; last = slice_set last at c.answer.new.last }) c.answer.new.last c.answer.new.self at c.get-at.ensures.value
-    (subst (λ (places : LastPlaces). AnswersLine (BookAnswers order.actor) order.asked c.args.book.now places c.answer.new.queue c.answer.new.last c.answer.new.self) here answered) refl stands
+    (record { book = c.answer_lent.new.queue; last = slice_set last at c.answer_lent.new.last }) c.answer_lent.new.last c.answer_lent.new.self at c.get-at.ensures.value
+    (subst (λ (places : LastPlaces). AnswersLine (BookAnswers order.actor) order.asked c.args.book.now places c.answer_lent.new.queue c.answer_lent.new.last c.answer_lent.new.self) here answered) refl stands
