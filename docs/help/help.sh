@@ -1,5 +1,4 @@
-# What ./ldm and the ldm of the package answer to arguments that ask for help or for the version. POSIX sh, read by `.`; the program
-# is not run, and has no help of its own.
+# What ./ldm and the ldm of the package have besides the program, which has no help of its own. POSIX sh, read by `.`.
 
 # Ends the script where the arguments ask for help or the version: with 0, and what was asked for on standard output; with 64 where
 # there is no such help, which standard error says. Else it returns.
@@ -17,10 +16,71 @@ answer_help() {
     elif [ $# = 2 ]; then
         if [ "$1" = help ]; then
             show_help "$2"
-        elif [ "$2" = --help ] && has_help "$1"; then
-            show_help "$1"
+        elif has_help "$1"; then
+            case $2 in
+            --help | -h) show_help "$1" ;;
+            --version) show_version ;;
+            esac
         fi
     fi
+}
+
+# Runs a program with these arguments in place of the script. Where it runs in front on a terminal, and ends with 64, a line behind its
+# own says which help there is.
+run_program() {
+    help_program=$1
+    shift
+    is_in_front || exec "$help_program" "$@"
+    "$help_program" "$@"
+    help_status=$?
+    [ "$help_status" != 64 ] || show_hint "$@"
+    exit "$help_status"
+}
+
+# Who stands behind gets a signal by its number: so the program has to be that process.
+is_in_front() {
+    [ -t 2 ] || return
+    case $(ps -o stat= -p $$ 2>/dev/null) in
+    *+*) return 0 ;;
+    esac
+    return 1
+}
+
+show_hint() {
+    if [ $# = 0 ]; then
+        help_name=
+    elif has_help "$1"; then
+        help_name=$1
+    else
+        help_name=$(find_nearest "$1")
+    fi
+    printf 'see ldm help%s\n' "${help_name:+ $help_name}" >&2
+}
+
+# The command whose name takes the fewest letters put in, left out or replaced, where that are at most two.
+find_nearest() {
+    for help_text in "$help_folder"/*.txt; do
+        basename "$help_text" .txt
+    done | HELP_WORD=$1 awk '
+        function least(a, b) { return a < b ? a : b }
+        function distance(from, to, i, j, row, left, corner, above) {
+            for (j = 0; j <= length(to); j++) row[j] = j
+            for (i = 1; i <= length(from); i++) {
+                corner = row[0]
+                row[0] = i
+                for (j = 1; j <= length(to); j++) {
+                    above = row[j]
+                    row[j] = least(least(above, row[j - 1]) + 1, corner + (substr(from, i, 1) != substr(to, j, 1)))
+                    corner = above
+                }
+            }
+            return row[length(to)]
+        }
+        length(ENVIRON["HELP_WORD"]) <= 40 {
+            found = distance(ENVIRON["HELP_WORD"], $0)
+            if (found <= 2 && (nearest == "" || found < best)) { nearest = $0; best = found }
+        }
+        END { print nearest }'
 }
 
 has_help() {

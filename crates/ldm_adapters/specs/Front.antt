@@ -16,10 +16,13 @@ abbrev pub TakesFront : Put → List ℕ → Type 0
 TakesFront (put.Took n) piece = (n ≤ length piece) × (0 < length piece → 0 < n)
 TakesFront put.Failed piece = Unit {0}
 
+-- such a number of bytes
+abbrev pub TakesSome : ℕ → List ℕ → Type 0
+TakesSome n piece = (n ≤ length piece) × (0 < length piece → 0 < n)
+
 -- the same, and only one that is piped takes any
-abbrev pub TakesPiped : Put → Bool → List ℕ → Type 0
-TakesPiped (put.Took n) piped piece = (piped ≡ true) × (n ≤ length piece) × (0 < length piece → 0 < n)
-TakesPiped put.Failed piped piece = Unit {0}
+abbrev pub TakesPiped : ℕ → Bool → List ℕ → Type 0
+TakesPiped n piped piece = (piped ≡ true) × (n ≤ length piece) × (0 < length piece → 0 < n)
 
 -- bytes that came of a place are not more than the buffer has room for, and at least one where it has any; there is an end
 -- only for a buffer that has

@@ -2,12 +2,14 @@
 ghost use Rattle.std.specs.Prelude.{◌≡◌, ◌≤◌, ◌<◌, ◌+◌, [], length, IfOk, OnOk, OnErr};
 ghost use Rattle.ldm_outside.specs.Count.{Rose};
 ghost use Rattle.ldm_outside.specs.Numbered.{at_number, with_number, without_number};
-ghost use Rattle.ldm_outside.specs.Launcher.{spelled, new_running, with_shut};
-ghost use Rattle.ldm_adapters.specs.Front.{TakesFront, TakesPiped};
+ghost use Rattle.ldm_outside.specs.Launcher.{spelled, is_piped, new_running, with_shut};
+ghost use Rattle.ldm_adapters.specs.Front.{TakesPiped};
 
 use crate::processes::Processes;
-use crate::streams::write_once;
-use ldm_outside::{ChildNo, Failed, Launcher, Put};
+use crate::streams::write_some;
+use crate::telling::tell;
+use ldm_outside::{ChildNo, Failed, Launcher, Put, Reasons};
+use ldm_reason::Reason;
 use std::alloc::{AllocError, Global};
 use std::collections::BTreeMap;
 use std::io::{self, ErrorKind};
@@ -47,15 +49,15 @@ impl RealChild {
         }
     }
 
-    fn write(&self, piece: &[u8]) -> Put
-        ensures { TakesPiped result self.now.piped piece.now }
+    fn write(&self, piece: &[u8]) -> io::Result<usize>
+        ensures { IfOk result (λ n. TakesPiped n self.now.piped piece.now) }
     {
         match &self.input {
             Some(input) if self.piped => {
                 let mut input = input;
-                write_once(&mut input, piece)
+                write_some(&mut input, piece)
             }
-            _ => Put::Failed,
+            _ => Err(io::Error::new(ErrorKind::BrokenPipe, "Has no input")),
         }
     }
 
@@ -151,6 +153,23 @@ impl Running {
         Ok(status)
     }
 
+    // The name of a program: none where it was waited for or detached.
+    fn program(&self, child: ChildNo) -> &[u8] {
+        match self.children.get(&child.0) {
+            Some(it) => program_of(it.words.as_slice()),
+            None => b"".as_slice(),
+        }
+    }
+
+    fn write(&self, child: ChildNo, piece: &[u8]) -> io::Result<usize>
+        ensures { IfOk result (λ n. TakesPiped n (is_piped (at_number child.0 self.now.children.entries)) piece.now) }
+    {
+        match self.children.get(&child.0) {
+            Some(it) => it.write(piece),
+            None => Err(io::Error::from(ErrorKind::NotFound)),
+        }
+    }
+
     // Forgets a program, which runs on.
     fn detach(&mut self, child: ChildNo)
         ensures next_kept { self.new.next ≡ self.old.next }
@@ -158,6 +177,14 @@ impl Running {
     {
         self.processes.detach(child.0);
         self.children.remove(&child.0);
+    }
+}
+
+// The name of the program of these words.
+fn program_of(words: &[String]) -> &[u8] {
+    match words {
+        [program, ..] => program.as_bytes(),
+        [] => b"".as_slice(),
     }
 }
 
@@ -191,6 +218,7 @@ pub struct RealLauncher {
     rt: HostRuntime,
     running: Running,
     faults: u64,
+    why: Reason,
 }
 
 impl RealLauncher {
@@ -207,15 +235,28 @@ impl RealLauncher {
                 next: 0,
             },
             faults: 0,
+            why: Reason::new(),
         }
     }
 
-    // Counts a fault.
-    fn fail(&mut self) -> Failed
-        ensures counted { self.new ≡ record self.old { faults = self.new.faults } }
+    // Counts a fault at the program of these words, and keeps what the system said.
+    fn fail(&mut self, words: &[String], error: &io::Error) -> Failed
+        ensures counted { self.new ≡ record self.old { faults = self.new.faults; why = self.new.why } }
         ensures rose { Rose self.old.faults self.new.faults }
         ensures kept { self.old.faults ≤ self.new.faults }
     {
+        tell(&mut self.why, program_of(words), error);
+        self.faults = self.faults.saturating_add(1);
+        Failed
+    }
+
+    // The same at a program that was started.
+    fn fail_at(&mut self, child: ChildNo, error: &io::Error) -> Failed
+        ensures counted { self.new ≡ record self.old { faults = self.new.faults; why = self.new.why } }
+        ensures rose { Rose self.old.faults self.new.faults }
+        ensures kept { self.old.faults ≤ self.new.faults }
+    {
+        tell(&mut self.why, self.running.program(child), error);
         self.faults = self.faults.saturating_add(1);
         Failed
     }
@@ -242,19 +283,18 @@ impl Launcher for RealLauncher {
         self.running.processes.collect();
         match self.running.start(self.rt, words, piped) {
             Ok(number) => Ok(number),
-            Err(_) => Err(self.fail()),
+            Err(error) => Err(self.fail(words, &error)),
         }
     }
 
     fn write(&mut self, child: ChildNo, piece: &[u8]) -> Put {
-        let put = match self.running.children.get(&child.0) {
-            Some(it) => it.write(piece),
-            None => Put::Failed,
-        };
-        if put == Put::Failed {
-            self.fail();
+        match self.running.write(child, piece) {
+            Ok(n) => Put::Took(n),
+            Err(error) => {
+                self.fail_at(child, &error);
+                Put::Failed
+            }
         }
-        put
     }
 
     fn shut(&mut self, child: ChildNo) -> Result<(), Failed> {
@@ -265,11 +305,17 @@ impl Launcher for RealLauncher {
     fn wait(&mut self, child: ChildNo) -> Result<u32, Failed> {
         match self.running.wait(child) {
             Ok(status) => Ok(status),
-            Err(_) => Err(self.fail()),
+            Err(error) => Err(self.fail_at(child, &error)),
         }
     }
 
     fn detach(&mut self, child: ChildNo) {
         self.running.detach(child);
+    }
+}
+
+impl Reasons for RealLauncher {
+    fn reason(&self) -> &[u8] {
+        self.why.as_slice()
     }
 }

@@ -1,5 +1,5 @@
 //! Dials over TCP.
-ghost use Rattle.std.specs.Prelude.{◌≡◌, IfSome};
+ghost use Rattle.std.specs.Prelude.{◌≡◌, IfOk};
 ghost use Rattle.ldm_outside.specs.Count.{Rose};
 ghost use Rattle.ldm_outside.specs.Dial.{IsNewDial};
 ghost use Rattle.ldm_outside.specs.Link.{IsFresh};
@@ -8,7 +8,10 @@ ghost use Rattle.ldm_adapters.specs.Told.{told_by_dial, told_by_link};
 use crate::beats::Beats;
 use crate::lending::RealLending;
 use crate::links::{RealLink, Timeouts};
-use ldm_outside::{Dial, Dialled};
+use crate::telling::{tell_peer, tell_port};
+use ldm_outside::{Dial, Dialled, Reasons};
+use ldm_reason::Reason;
+use std::io::{self, ErrorKind};
 use std::net::{TcpStream, ToSocketAddrs};
 use std::rt::HostRuntime;
 use std::str;
@@ -30,6 +33,7 @@ pub struct RealDial {
     links: RealLending,
     // When the last link was connected.
     connected: Option<Instant>,
+    why: Reason,
 }
 
 impl RealDial {
@@ -51,6 +55,7 @@ impl RealDial {
             faults: 0,
             links: RealLending::new(),
             connected: None,
+            why: Reason::new(),
         }
     }
 
@@ -73,31 +78,46 @@ impl RealDial {
         }
     }
 
-    pub(crate) fn fail(&mut self)
-        ensures counted { self.new ≡ record self.old { faults = self.new.faults } }
+    // Counts a fault at a peer, and keeps what the system said.
+    fn fail(&mut self, host: &[u8], port: u16, error: &io::Error)
+        ensures counted { self.new ≡ record self.old { faults = self.new.faults; why = self.new.why } }
         ensures rose { Rose self.old.faults self.new.faults }
     {
+        tell_peer(&mut self.why, host, port, error);
+        self.faults = self.faults.saturating_add(1);
+    }
+
+    /// Counts a fault at a port of this machine, and keeps what the system said.
+    pub(crate) fn fail_to_listen(&mut self, port: u16, error: &io::Error)
+        ensures counted { self.new ≡ record self.old { faults = self.new.faults; why = self.new.why } }
+        ensures rose { Rose self.old.faults self.new.faults }
+    {
+        tell_port(&mut self.why, port, error);
         self.faults = self.faults.saturating_add(1);
     }
 }
 
-// A link to the first address of the host that answers in time.
+// A link to the first address of the host that answers in time; or what the system said of the last one.
 fn connect(
     rt: HostRuntime,
     host: &[u8],
     port: u16,
     timeouts: Timeouts,
     beats: Option<Beats>,
-) -> Option<RealLink>
-    ensures { IfSome result (λ link. IsFresh (told_by_link link)) }
+) -> io::Result<RealLink>
+    ensures { IfOk result (λ link. IsFresh (told_by_link link)) }
 {
-    let host = str::from_utf8(host).ok()?;
-    for address in (host, port).to_socket_addrs(&rt).ok()? {
-        if let Ok(stream) = TcpStream::connect_timeout(&rt, &address, timeouts.connect) {
-            return RealLink::new(stream, timeouts, beats).ok();
+    let Ok(host) = str::from_utf8(host) else {
+        return Err(io::Error::new(ErrorKind::InvalidInput, "Is no host"));
+    };
+    let mut why = io::Error::new(ErrorKind::NotFound, "Has no address");
+    for address in (host, port).to_socket_addrs(&rt)? {
+        match TcpStream::connect_timeout(&rt, &address, timeouts.connect) {
+            Ok(stream) => return RealLink::new(stream, timeouts, beats),
+            Err(error) => why = error,
         }
     }
-    None
+    Err(why)
 }
 
 impl Dial for RealDial {
@@ -108,14 +128,14 @@ impl Dial for RealDial {
     fn connect(&mut self, host: &[u8], port: u16) -> Dialled<RealLink> {
         let beats = self.beats.as_ref().and_then(|beats| beats.share().ok());
         match connect(self.rt, host, port, self.timeouts, beats) {
-            Some(link) => {
+            Ok(link) => {
                 self.connected = Instant::now(&self.rt).ok();
                 self.links.hand_out();
                 Dialled::Linked(link)
             }
-            None => {
+            Err(error) => {
                 self.tell(false);
-                self.fail();
+                self.fail(host, port, &error);
                 Dialled::Failed
             }
         }
@@ -124,5 +144,11 @@ impl Dial for RealDial {
     fn give_back(&mut self, link: RealLink) {
         self.tell(self.is_hit());
         self.links.take_back(link);
+    }
+}
+
+impl Reasons for RealDial {
+    fn reason(&self) -> &[u8] {
+        self.why.as_slice()
     }
 }

@@ -2,10 +2,12 @@
 ghost use Rattle.std.specs.Prelude.{◌≡◌, ◌≤◌, ◌+◌, [], IfOk, OnOk, OnErr};
 ghost use Rattle.ldm_outside.specs.Count.{Rose};
 ghost use Rattle.ldm_outside.specs.Numbered.{with_number};
-ghost use Rattle.ldm_adapters.specs.Front.{TakesFront};
+ghost use Rattle.ldm_adapters.specs.Front.{TakesSome};
 
-use crate::streams::write_once;
-use ldm_outside::{Failed, FileNo, FileRead, Put, Store};
+use crate::streams::write_some;
+use crate::telling::tell;
+use ldm_outside::{Failed, FileNo, FileRead, Put, Reasons, Store};
+use ldm_reason::Reason;
 use std::alloc::{AllocError, Global};
 use std::collections::BTreeMap;
 use std::fs::{self, File, Metadata, OpenOptions};
@@ -41,11 +43,11 @@ impl RealFile {
         })
     }
 
-    fn write(&self, piece: &[u8]) -> Put
-        ensures { TakesFront result piece.now }
+    fn write(&self, piece: &[u8]) -> io::Result<usize>
+        ensures { IfOk result (λ n. TakesSome n piece.now) }
     {
         let mut file = &self.file;
-        write_once(&mut file, piece)
+        write_some(&mut file, piece)
     }
 
     fn empty(&self) -> io::Result<()> {
@@ -70,7 +72,7 @@ fn is_fifo(rt: HostRuntime, path: &str) -> bool {
 // reads would wait for ever.
 fn open(rt: HostRuntime, path: &str) -> io::Result<File> {
     if is_fifo(rt, path) {
-        return Err(io::Error::from(ErrorKind::Unsupported));
+        return Err(io::Error::new(ErrorKind::Unsupported, "Is a named pipe"));
     }
     let mut how = OpenOptions::new();
     how.append(true).create(true);
@@ -116,6 +118,42 @@ impl OpenFiles {
         self.next = next;
         Ok(FileNo(number))
     }
+
+    // The path of a file: none where it is not open.
+    fn path(&self, file: FileNo) -> &[u8] {
+        match self.files.get(&file.0) {
+            Some(it) => it.path.as_bytes(),
+            None => b"".as_slice(),
+        }
+    }
+
+    fn write(&self, file: FileNo, piece: &[u8]) -> io::Result<usize>
+        ensures { IfOk result (λ n. TakesSome n piece.now) }
+    {
+        match self.files.get(&file.0) {
+            Some(it) => it.write(piece),
+            None => Err(not_open()),
+        }
+    }
+
+    fn empty(&self, file: FileNo) -> io::Result<()> {
+        match self.files.get(&file.0) {
+            Some(it) => it.empty(),
+            None => Err(not_open()),
+        }
+    }
+
+    fn flush(&self, file: FileNo) -> io::Result<()> {
+        match self.files.get(&file.0) {
+            Some(it) => it.flush(),
+            None => Err(not_open()),
+        }
+    }
+}
+
+// The error of a call for a file that is not open.
+fn not_open() -> io::Error {
+    io::Error::from(ErrorKind::NotFound)
 }
 
 // Whether a path leads to what this program was started with: a pipe there is somebody's output.
@@ -131,8 +169,12 @@ fn is_read(path: &str, found: &Metadata) -> bool {
 // Opens the file under the path, to be read. A FIFO, a device and a folder are refused before they are opened: the
 // opening of a FIFO would wait for who writes it.
 fn open_to_read(rt: HostRuntime, path: &str) -> io::Result<File> {
-    if !is_read(path, &fs::metadata(&rt, path)?) {
-        return Err(io::Error::from(ErrorKind::Unsupported));
+    let found = fs::metadata(&rt, path)?;
+    if found.is_dir() {
+        return Err(io::Error::new(ErrorKind::IsADirectory, "Is a directory"));
+    }
+    if !is_read(path, &found) {
+        return Err(io::Error::new(ErrorKind::Unsupported, "Is no regular file"));
     }
     fs::open(&rt, path)
 }
@@ -155,6 +197,7 @@ pub struct RealStore {
     opened: OpenFiles,
     faults: u64,
     long: u64,
+    why: Reason,
 }
 
 impl RealStore {
@@ -172,6 +215,7 @@ impl RealStore {
             },
             faults: 0,
             long: 0,
+            why: Reason::new(),
         }
     }
 
@@ -182,12 +226,24 @@ impl RealStore {
         self.faults
     }
 
-    // Counts a fault.
-    fn fail(&mut self) -> Failed
-        ensures counted { self.new ≡ record self.old { faults = self.new.faults } }
+    // Counts a fault at the path, and keeps what the system said.
+    fn fail(&mut self, path: &str, error: &io::Error) -> Failed
+        ensures counted { self.new ≡ record self.old { faults = self.new.faults; why = self.new.why } }
         ensures rose { Rose self.old.faults self.new.faults }
         ensures kept { self.old.faults ≤ self.new.faults }
     {
+        tell(&mut self.why, path.as_bytes(), error);
+        self.faults = self.faults.saturating_add(1);
+        Failed
+    }
+
+    // The same at a file that was opened.
+    fn fail_at(&mut self, file: FileNo, error: &io::Error) -> Failed
+        ensures counted { self.new ≡ record self.old { faults = self.new.faults; why = self.new.why } }
+        ensures rose { Rose self.old.faults self.new.faults }
+        ensures kept { self.old.faults ≤ self.new.faults }
+    {
+        tell(&mut self.why, self.opened.path(file), error);
         self.faults = self.faults.saturating_add(1);
         Failed
     }
@@ -221,8 +277,8 @@ impl Store for RealStore {
                 FileRead::TooLong
             }
             Err(error) if error.kind() == ErrorKind::OutOfMemory => FileRead::OutOfMemory,
-            Err(_) => {
-                self.fail();
+            Err(error) => {
+                self.fail(path, &error);
                 FileRead::Failed
             }
         }
@@ -231,37 +287,42 @@ impl Store for RealStore {
     fn append_to(&mut self, path: &str) -> Result<FileNo, Failed> {
         match self.opened.open(self.rt, path) {
             Ok(number) => Ok(number),
-            Err(_) => Err(self.fail()),
+            Err(error) => Err(self.fail(path, &error)),
         }
     }
 
     fn empty(&mut self, file: FileNo) -> Result<(), Failed> {
-        match self.opened.files.get(&file.0).map(RealFile::empty) {
-            Some(Ok(())) => Ok(()),
-            _ => Err(self.fail()),
+        match self.opened.empty(file) {
+            Ok(()) => Ok(()),
+            Err(error) => Err(self.fail_at(file, &error)),
         }
     }
 
     fn write(&mut self, file: FileNo, piece: &[u8]) -> Put {
-        let put = match self.opened.files.get(&file.0) {
-            Some(it) => it.write(piece),
-            None => Put::Failed,
-        };
-        if put == Put::Failed {
-            self.fail();
+        match self.opened.write(file, piece) {
+            Ok(n) => Put::Took(n),
+            Err(error) => {
+                self.fail_at(file, &error);
+                Put::Failed
+            }
         }
-        put
     }
 
     fn flush(&mut self, file: FileNo) -> Result<(), Failed> {
-        match self.opened.files.get(&file.0).map(RealFile::flush) {
-            Some(Ok(())) => Ok(()),
-            _ => Err(self.fail()),
+        match self.opened.flush(file) {
+            Ok(()) => Ok(()),
+            Err(error) => Err(self.fail_at(file, &error)),
         }
     }
 
     fn shut(&mut self, file: FileNo) -> Result<(), Failed> {
         self.opened.files.remove(&file.0);
         Ok(())
+    }
+}
+
+impl Reasons for RealStore {
+    fn reason(&self) -> &[u8] {
+        self.why.as_slice()
     }
 }

@@ -27,6 +27,7 @@ mod resting;
 mod seats;
 mod standard;
 mod streams;
+mod telling;
 mod waiting;
 
 pub use children::RealLauncher;

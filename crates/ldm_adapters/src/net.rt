@@ -13,7 +13,7 @@ use crate::links::{RealLink, Timeouts};
 use crate::lobby::{Lobby, Way};
 use crate::resting::Resting;
 use crate::streams::RealSink;
-use ldm_outside::{Dial, Dialled, Manned, Net, Station};
+use ldm_outside::{Dial, Dialled, Manned, Net, Reasons, Station};
 use std::io::{self, ErrorKind};
 use std::net::{IpAddr, Ipv4Addr, Ipv6Addr, SocketAddr, TcpListener};
 use std::rt::{HostRuntime, Stderr};
@@ -153,8 +153,8 @@ impl Net for RealNet {
         match man(self.rt, port, count, self.timeouts, idles) {
             Ok(made) => Manned::Stations(made),
             Err(error) if error.kind() == ErrorKind::OutOfMemory => Manned::OutOfMemory,
-            Err(_) => {
-                self.dial.fail();
+            Err(error) => {
+                self.dial.fail_to_listen(port, &error);
                 Manned::Failed
             }
         }
@@ -166,5 +166,11 @@ impl Net for RealNet {
         ensures asked { self.new.port ≡ self.old.port }
     {
         self.kept = stations;
+    }
+}
+
+impl Reasons for RealNet {
+    fn reason(&self) -> &[u8] {
+        self.dial.reason()
     }
 }

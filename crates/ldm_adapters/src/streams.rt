@@ -6,7 +6,7 @@ ghost use Rattle.std.specs.Prelude.{MatchResult, IfOk, IfErr, OnErr, if◌then�
 ghost use Rattle.std.specs.IoError.{error_kind};
 ghost use Rattle.std.specs.Io.{ReadsAtMost, WritesAtMost};
 ghost use Rattle.std.specs.Io.KnownBytes.{append_known, Appends, Consumes, IsAtEnd, Keeps};
-ghost use Rattle.ldm_adapters.specs.Front.{GivesFront, TakesFront};
+ghost use Rattle.ldm_adapters.specs.Front.{GivesFront, TakesFront, TakesSome};
 
 use ldm_outside::{Got, Put, Sink, SinkFailed, Source};
 use std::alloc::Global;
@@ -164,6 +164,8 @@ impl<W: Write> Sink for RealSink<W> {
 
     ghost tells = { λ s. record { written = None; faults = s.faults } };
 
+    ghost is_handed_on = { λ s. s.held.items ≡ [] };
+
     fn write(&mut self, piece: &[u8]) -> Put
         ensures taken { WriteGives result piece.now (record { written = None; faults = self.old.faults })
             (record { written = None; faults = self.new.faults }) }
@@ -195,7 +197,7 @@ impl<W: Write> Sink for RealSink<W> {
     fn flush(&mut self) -> Result<(), SinkFailed>
         ensures flushed { FlushGives result (record { written = None; faults = self.old.faults })
             (record { written = None; faults = self.new.faults }) }
-        ensures done { OnOk result (self.new.held.items ≡ []) }
+        ensures handed_on { OnOk result (self.new.held.items ≡ []) }
         ensures faults_kept { self.old.faults ≤ self.new.faults }
         ensures all { Keeps (append_known (W.contents self.old.writer) self.old.held.items)
             (append_known (W.contents self.new.writer) self.new.held.items) }
@@ -245,6 +247,16 @@ pub(crate) fn write_once<W: Write>(writer: &mut W, piece: &[u8]) -> Put
     ensures { TakesFront result piece.now }
 {
     told_of_write(write_uninterrupted(writer, piece), piece.len())
+}
+
+// One write to a writer that tells nothing: how many bytes of the piece it took, or what the system said.
+pub(crate) fn write_some<W: Write>(writer: &mut W, piece: &[u8]) -> io::Result<usize>
+    ensures { IfOk result (λ n. TakesSome n piece.now) }
+{
+    match write_uninterrupted(writer, piece) {
+        Ok(0) if !piece.is_empty() => Err(io::Error::from(ErrorKind::WriteZero)),
+        answer => answer,
+    }
 }
 
 // One read, tried again each time a signal interrupts it.

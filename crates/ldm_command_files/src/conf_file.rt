@@ -4,8 +4,10 @@ ghost use Rattle.ldm_conf.specs.Causes.{first_too_long};
 ghost use Rattle.ldm_command_files.specs.ConfFiles.{CompletesConf, TakesConf, status_of_conf};
 ghost use Rattle.ldm_command_files.specs.Texts.{ReadsText, not_taken};
 
+use crate::telling::{tell_conf, tell_long};
 use ldm_conf::{Conf, ConfFault, ConfKind, read_conf};
 use ldm_outside::{FileRead, Store};
+use ldm_reason::Reason;
 use ldm_status::Status;
 use ldm_text::LONGEST_CONFIGURATION;
 use std::alloc::Global;
@@ -34,22 +36,52 @@ pub fn take_conf<F: Store>(alloc: Global, store: &mut F, path: &str) -> Result<C
     ensures long_kept { (F.tells store.old).long ≤ (F.tells store.new).long }
     ensures paths_kept { (F.tells store.new).paths ≡ (F.tells store.old).paths }
 {
+    let mut why = Reason::new();
+    take_conf_because(alloc, store, path, &mut why)
+}
+
+/// Takes the configuration as [`take_conf`] does. Where it answers `Bad`, the reason tells the file, the line and what
+/// is wrong with it, such as `etc/ldmd.conf:12: no such feedtype: ALLOW NEXRAD9 ^.*`.
+pub fn take_conf_because<F: Store>(
+    alloc: Global,
+    store: &mut F,
+    path: &str,
+    why: &mut Reason,
+) -> Result<Conf, ConfNotTaken>
+    ensures takes { TakesConf result path.now (F.tells store.old) (F.tells store.new) }
+    ensures completes { CompletesConf result path.now (F.tells store.old) (F.tells store.new) }
+    ensures faults_kept { (F.tells store.old).faults ≤ (F.tells store.new).faults }
+    ensures long_kept { (F.tells store.old).long ≤ (F.tells store.new).long }
+    ensures paths_kept { (F.tells store.new).paths ≡ (F.tells store.old).paths }
+{
     match store.read_file(alloc, path, LONGEST_CONFIGURATION as u64) {
-        FileRead::Bytes(bytes) => read_text(alloc, store, bytes.as_slice()),
-        FileRead::TooLong => Err(ConfNotTaken::Bad(first_too_long())),
+        FileRead::Bytes(bytes) => read_text(alloc, store, path, bytes.as_slice(), why),
+        FileRead::TooLong => {
+            tell_long(why, path);
+            Err(ConfNotTaken::Bad(first_too_long()))
+        }
         FileRead::Failed => Err(ConfNotTaken::Store),
         FileRead::OutOfMemory => Err(ConfNotTaken::OutOfMemory),
     }
 }
 
-// The configuration that the bytes of a file mean.
-fn read_text<F: Store>(alloc: Global, store: &mut F, bytes: &[u8]) -> Result<Conf, ConfNotTaken>
+// The configuration that the bytes of the file under the path mean.
+fn read_text<F: Store>(
+    alloc: Global,
+    store: &mut F,
+    path: &str,
+    bytes: &[u8],
+    why: &mut Reason,
+) -> Result<Conf, ConfNotTaken>
     requires { length bytes.now ≤ LONGEST_CONFIGURATION }
     ensures reads { ReadsText result bytes.now (F.tells store.old) (F.tells store.new) }
 {
     match read_conf(alloc, bytes, store) {
         Ok(conf) => Ok(conf),
-        Err(fault) => Err(not_taken(fault)),
+        Err(fault) => {
+            tell_conf(why, path, bytes, &fault);
+            Err(not_taken(fault))
+        }
     }
 }
 

@@ -3,6 +3,7 @@
 
 mod conf_file;
 mod pqact_file;
+mod telling;
 
-pub use conf_file::{ConfNotTaken, status_of_conf, take_conf};
+pub use conf_file::{ConfNotTaken, status_of_conf, take_conf, take_conf_because};
 pub use pqact_file::{EntriesNotTaken, status_of_entries, take_entries};

@@ -3,8 +3,10 @@ ghost use Rattle.std.specs.Prelude.{◌≡◌, ◌≤◌, length};
 ghost use Rattle.ldm_command_files.specs.PqactFiles.{CompletesEntries, TakesEntries, status_of_entries};
 ghost use Rattle.ldm_command_files.specs.Texts.{ReadsEntries};
 
+use crate::telling::{tell_long, tell_pqact};
 use ldm_outside::{FileRead, Store};
 use ldm_pqact_conf::{Entries, PqactFault, PqactKind, read_pqact};
+use ldm_reason::Reason;
 use ldm_status::Status;
 use ldm_text::LONGEST_CONFIGURATION;
 use std::alloc::Global;
@@ -27,11 +29,13 @@ pub enum EntriesNotTaken {
 ///
 /// The store is as before, but for the count of faults that rose with `Store`, or the count of long files that rose
 /// with `TooLong`. Where the store tells its files, each answer but want of memory is that of these files, unless the
-/// store failed: see `CompletesEntries`.
+/// store failed: see `CompletesEntries`. Where it answers `Bad` or `TooLong`, the reason tells the file, the line and
+/// what is wrong with it, such as `etc/pqact.conf:7: no such action: IDS ^S FILLE data`.
 pub fn take_entries<F: Store>(
     alloc: Global,
     store: &mut F,
     path: &str,
+    why: &mut Reason,
 ) -> Result<Entries, EntriesNotTaken>
     ensures takes { TakesEntries result path.now (F.tells store.old) (F.tells store.new) }
     ensures completes { CompletesEntries result path.now (F.tells store.old) (F.tells store.new) }
@@ -40,15 +44,23 @@ pub fn take_entries<F: Store>(
     ensures paths_kept { (F.tells store.new).paths ≡ (F.tells store.old).paths }
 {
     match store.read_file(alloc, path, LONGEST_CONFIGURATION as u64) {
-        FileRead::Bytes(bytes) => read_text(alloc, bytes.as_slice()),
-        FileRead::TooLong => Err(EntriesNotTaken::TooLong),
+        FileRead::Bytes(bytes) => read_text(alloc, path, bytes.as_slice(), why),
+        FileRead::TooLong => {
+            tell_long(why, path);
+            Err(EntriesNotTaken::TooLong)
+        }
         FileRead::Failed => Err(EntriesNotTaken::Store),
         FileRead::OutOfMemory => Err(EntriesNotTaken::OutOfMemory),
     }
 }
 
-// The entries that the bytes of a file mean.
-fn read_text(alloc: Global, bytes: &[u8]) -> Result<Entries, EntriesNotTaken>
+// The entries that the bytes of the file under the path mean.
+fn read_text(
+    alloc: Global,
+    path: &str,
+    bytes: &[u8],
+    why: &mut Reason,
+) -> Result<Entries, EntriesNotTaken>
     requires { length bytes.now ≤ LONGEST_CONFIGURATION }
     ensures { ReadsEntries result bytes.now }
 {
@@ -56,7 +68,10 @@ fn read_text(alloc: Global, bytes: &[u8]) -> Result<Entries, EntriesNotTaken>
         Ok(entries) => Ok(entries),
         Err(fault) => match fault.kind {
             PqactKind::OutOfMemory => Err(EntriesNotTaken::OutOfMemory),
-            _ => Err(EntriesNotTaken::Bad(fault)),
+            _ => {
+                tell_pqact(why, path, bytes, &fault);
+                Err(EntriesNotTaken::Bad(fault))
+            }
         },
     }
 }

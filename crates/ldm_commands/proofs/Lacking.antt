@@ -1,9 +1,9 @@
 -- A run that did nothing, since there was no memory to read the words.
-use Rattle.std.proofs.Common.{◌≡◌, inl, inr, ℕ, Bool, Option, Some, None}
+use Rattle.std.proofs.Common.{◌≡◌, inl, inr, ℕ, Bool, List, Option, Some, None}
 use Rattle.ldm_outside.specs.Count.{Rose}
 use Rattle.ldm_status.specs.declared.status.Status.TheVariants as status
 use Rattle.ldm_status.specs.Status.{Reports}
-use Rattle.ldm_commands.specs.Command.{Form}
+use Rattle.ldm_commands.specs.Command.{Form, take_memory}
 use Rattle.ldm_commands.specs.Command as form
 use Rattle.ldm_commands.specs.Complete.{RunCompletes}
 use Rattle.ldm_commands.specs.Law.{RunObeysLaw}
@@ -11,9 +11,9 @@ use Rattle.ldm_commands.specs.Run.{RunEnds, LacksMemory}
 use Rattle.ldm_commands.specs.World.{Tells, WorldView}
 
 module _ {K F L T : Type 0} (tells : Tells K F L T) (old new : WorldView K F L T) where
-  pub lacking_ends : (form : Option Form) (takes_memory : Bool) (code : ℕ) → LacksMemory tells takes_memory code old new → RunEnds tells form takes_memory code old new
-  lacking_ends None takes_memory code lacks = inr lacks
-  lacking_ends (Some form) takes_memory code lacks = inr lacks
+  pub lacking_ends : (form : Option Form) (words : List (List ℕ)) (code : ℕ) → LacksMemory tells (take_memory words) code old new → RunEnds tells form words code old new
+  lacking_ends None words code lacks = inr lacks
+  lacking_ends (Some form) words code lacks = inr lacks
 
   pub lacking_law : (form : Option Form) (takes_memory : Bool) (code : ℕ) → LacksMemory tells takes_memory code old new → RunObeysLaw tells form takes_memory code old new
   lacking_law None takes_memory code lacks = lacks.1.0.sink

@@ -1,8 +1,9 @@
 -- How the program ends, by what its words ask for.
-use Rattle.std.specs.Prelude.{◌≡◌, ◌⊎◌, ℕ, Bool, true, Option, Some, None}
+use Rattle.std.specs.Prelude.{◌≡◌, ◌⊎◌, ℕ, Bool, true, false, List, [], ◌∷◌, Option, Some, None}
+use Rattle.ldm_outside.specs.Io.{SinkRecord}
 use Rattle.ldm_status.specs.Streams.{IsUntouched}
 use Rattle.ldm_status.specs.declared.status.Status.TheVariants as status
-use Rattle.ldm_status.specs.Status.{Reports}
+use Rattle.ldm_status.specs.Status.{Reports, ReportsBecause}
 use Rattle.ldm_play.specs.Run.{Plays}
 use Rattle.ldm_chain_command.specs.Run.{RunsChain}
 use Rattle.ldm_crowd.specs.Run.{CrowdRuns}
@@ -18,11 +19,22 @@ use Rattle.ldm_pqstats.specs.declared.asked.StatsAsked.{StatsAsked}
 use Rattle.ldm_saving.specs.Runs.{CheckRuns, ResumeRuns, SaveRuns}
 use Rattle.ldm_tools.specs.Mon.{Mons}
 use Rattle.ldm_wmo_command.specs.Ingests.{Ingests}
-use Rattle.ldm_commands.specs.Command.{Form}
+use Rattle.ldm_commands.specs.Command.{Form, has_options, take_memory}
 use Rattle.ldm_commands.specs.Command as form
 use Rattle.ldm_commands.specs.Lent.{IsAskedFor, act_of, asked_of, cat_of, chain_of, check_of, ingest_of, ingesting_of, insert_of, inserting_of, mon_of, node_of}
 use Rattle.ldm_commands.specs.Lent.{order_by, saving_of, setup_of, size_of, stats_of, wanted_of, work_of}
 use Rattle.ldm_commands.specs.World.{OnlyStreams, Tells, WorldView, streams_of, with_act, with_cat, with_chain, with_check, with_ingest, with_net, with_node, with_put, with_saving}
+
+-- Words that are no form of a command were reported, with a reason or without one.
+abbrev pub ReportsUsageIf : Bool → ℕ → SinkRecord → SinkRecord → Type 0
+ReportsUsageIf true code old new = ReportsBecause status.Usage code old new
+ReportsUsageIf false code old new = Reports status.Usage code old new
+
+-- Words that are no form of a command were reported. Only where the first one is that of a command with options, or of one about the queue in
+-- a file, there is perhaps a reason.
+abbrev pub ReportsUsage : List (List ℕ) → ℕ → SinkRecord → SinkRecord → Type 0
+ReportsUsage [] code old new = Reports status.Usage code old new
+ReportsUsage (first ∷ others) code old new = ReportsUsageIf (has_options first) code old new
 
 module _ {K F L T : Type 0} (tells : Tells K F L T) where
   -- Nothing was done, but for what the log took.
@@ -58,8 +70,8 @@ module _ {K F L T : Type 0} (tells : Tells K F L T) where
   Does (form.Resume file) code old new = ResumeRuns code (saving_of tells old) (saving_of tells new) × (new ≡ with_saving new old)
   Does (form.Pqcheck file) code old new = CheckRuns code (check_of tells old) (check_of tells new) × (new ≡ with_check new old)
 
-  -- What was asked for, whether reading its words takes memory, the number that the program ends with, and what is changed until then.
-  abbrev pub RunEnds : Option Form → Bool → ℕ → WorldView K F L T → WorldView K F L T → Type 0
+  -- What was asked for, by which words, the number that the program ends with, and what is changed until then.
+  abbrev pub RunEnds : Option Form → List (List ℕ) → ℕ → WorldView K F L T → WorldView K F L T → Type 0
   -- the words are no form of a command
-  RunEnds None takes_memory code old new = (IsIdle old new × Reports status.Usage code old.log new.log) ⊎ LacksMemory takes_memory code old new
-  RunEnds (Some form) takes_memory code old new = Does form code old new ⊎ LacksMemory takes_memory code old new
+  RunEnds None words code old new = (IsIdle old new × ReportsUsage words code old.log new.log) ⊎ LacksMemory (take_memory words) code old new
+  RunEnds (Some form) words code old new = Does form code old new ⊎ LacksMemory (take_memory words) code old new

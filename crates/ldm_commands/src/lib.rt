@@ -10,6 +10,7 @@ mod node;
 mod run;
 mod saving;
 mod tools;
+mod usage;
 mod world;
 
 pub use run::run_ldm;

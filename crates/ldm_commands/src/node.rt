@@ -9,7 +9,7 @@ use crate::world::World;
 use ldm_disk::Disk;
 use ldm_node::NodeOptions;
 use ldm_node_command::{NodeSetup, run_node};
-use ldm_outside::{Clock, Dial, Door, Launcher, Net, Sink, Source, Store};
+use ldm_outside::{Clock, Dial, Door, Launcher, Net, Reasons, Sink, Source, Store};
 use ldm_words::NodeWords;
 use std::alloc::Global;
 use std::sync::Wait;
@@ -23,9 +23,9 @@ pub(crate) fn run_words<
     K: Sink,
     E: Sink,
     C: Clock,
-    F: Store,
-    L: Launcher,
-    N: Net,
+    F: Store + Reasons,
+    L: Launcher + Reasons,
+    N: Net + Reasons,
     D: Disk,
 >(rt: &H, alloc: Global, words: &NodeWords<'_>, world: &mut World<S, K, E, C, F, L, N, D>) -> u8
 where

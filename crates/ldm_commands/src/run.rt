@@ -17,11 +17,12 @@ use crate::tools::{
     act_on_products, count_products, put_bulletins, put_files, tell_figures, tell_products,
     write_bodies,
 };
+use crate::usage::report_usage;
 use crate::world::World;
 use ldm_crowd::crowd;
 use ldm_disk::Disk;
 use ldm_exercise::exercise;
-use ldm_outside::{Clock, Dial, Door, Launcher, Net, Sink, Source, Store};
+use ldm_outside::{Clock, Dial, Door, Launcher, Net, Reasons, Sink, Source, Store};
 use ldm_play::play;
 use ldm_status::Status;
 use ldm_words::WordsFault;
@@ -42,9 +43,9 @@ pub fn run_ldm<
     K: Sink,
     E: Sink,
     C: Clock,
-    F: Store,
-    L: Launcher,
-    N: Net,
+    F: Store + Reasons,
+    L: Launcher + Reasons,
+    N: Net + Reasons,
     D: Disk,
 >(rt: &H, alloc: Global, words: &[String], world: &mut World<S, K, E, C, F, L, N, D>) -> u8
 where
@@ -54,7 +55,7 @@ where
     ensures ends { let tells = tells_of K.tells F.tells L.tells
         (station_tells N.StationDoor.tells N.StationDial.tells N.StationLog.tells N.StationClock.tells
         N.StationGate.tells) in
-        RunEnds tells (command_of (map string_bytes words.now)) (take_memory (map string_bytes words.now)) result
+        RunEnds tells (command_of (map string_bytes words.now)) (map string_bytes words.now) result
         (world_view S.tells E.tells C.tells N.tells N.kept N.port_asked D.tells world.old)
         (world_view S.tells E.tells C.tells N.tells N.kept N.port_asked D.tells world.new) }
     ensures law { let tells = tells_of K.tells F.tells L.tells
@@ -77,7 +78,7 @@ where
 {
     match read_command(alloc, words) {
         Ok(command) => run(rt, alloc, command, world),
-        Err(WordsFault::Usage) => Status::Usage.report(&mut world.streams.log),
+        Err(WordsFault::Usage) => report_usage(alloc, words, &mut world.streams.log),
         Err(WordsFault::OutOfMemory) => Status::NoMemory.report(&mut world.streams.log),
     }
 }
@@ -90,9 +91,9 @@ fn run<
     K: Sink,
     E: Sink,
     C: Clock,
-    F: Store,
-    L: Launcher,
-    N: Net,
+    F: Store + Reasons,
+    L: Launcher + Reasons,
+    N: Net + Reasons,
     D: Disk,
 >(rt: &H, alloc: Global, command: Command<'_>, world: &mut World<S, K, E, C, F, L, N, D>) -> u8
 where

@@ -11,7 +11,7 @@ use crate::world::World;
 use ldm_conf::Address;
 use ldm_disk::Disk;
 use ldm_notifyme::notifyme;
-use ldm_outside::{Clock, Launcher, Net, Sink, Source, Store};
+use ldm_outside::{Clock, Launcher, Net, Reasons, Sink, Source, Store};
 use ldm_pqact_command::pqact;
 use ldm_pqcat::pqcat;
 use ldm_pqinsert::{Insertion, pqinsert};
@@ -31,7 +31,7 @@ pub(crate) fn tell_figures<
     C: Clock,
     F: Store,
     L: Launcher,
-    N: Net,
+    N: Net + Reasons,
     D: Disk,
 >(alloc: Global, peer: &Address, world: &mut World<S, K, E, C, F, L, N, D>) -> u8
     requires { (N.tells world.old.net).links.out ≡ false }
@@ -60,9 +60,9 @@ pub(crate) fn act_on_products<
     K: Sink,
     E: Sink,
     C: Clock,
-    F: Store,
-    L: Launcher,
-    N: Net,
+    F: Store + Reasons,
+    L: Launcher + Reasons,
+    N: Net + Reasons,
     D: Disk,
 >(rt: &H, alloc: Global, words: &ActWords<'_>, world: &mut World<S, K, E, C, F, L, N, D>) -> u8
     requires { (N.tells world.old.net).links.out ≡ false }
@@ -99,7 +99,7 @@ pub(crate) fn write_bodies<
     C: Clock,
     F: Store,
     L: Launcher,
-    N: Net,
+    N: Net + Reasons,
     D: Disk,
 >(rt: &H, alloc: Global, words: &ReceivingWords, world: &mut World<S, K, E, C, F, L, N, D>) -> u8
     requires { (N.tells world.old.net).links.out ≡ false }
@@ -133,7 +133,7 @@ pub(crate) fn tell_products<
     C: Clock,
     F: Store,
     L: Launcher,
-    N: Net,
+    N: Net + Reasons,
     D: Disk,
 >(alloc: Global, words: &ReceivingWords, world: &mut World<S, K, E, C, F, L, N, D>) -> u8
     requires { (N.tells world.old.net).links.out ≡ false }
@@ -163,9 +163,9 @@ pub(crate) fn put_files<
     K: Sink,
     E: Sink,
     C: Clock,
-    F: Store,
+    F: Store + Reasons,
     L: Launcher,
-    N: Net,
+    N: Net + Reasons,
     D: Disk,
 >(alloc: Global, words: &InsertWords<'_>, world: &mut World<S, K, E, C, F, L, N, D>) -> u8
     requires { (N.tells world.old.net).links.out ≡ false }
@@ -205,7 +205,7 @@ pub(crate) fn put_bulletins<
     C: Clock,
     F: Store,
     L: Launcher,
-    N: Net,
+    N: Net + Reasons,
     D: Disk,
 >(alloc: Global, words: &WmoWords<'_>, world: &mut World<S, K, E, C, F, L, N, D>) -> u8
     requires { (N.tells world.old.net).links.out ≡ false }
@@ -243,7 +243,7 @@ pub(crate) fn count_products<
     C: Clock,
     F: Store,
     L: Launcher,
-    N: Net,
+    N: Net + Reasons,
     D: Disk,
 >(rt: &H, alloc: Global, words: &StatsWords, world: &mut World<S, K, E, C, F, L, N, D>) -> u8
     requires { (N.tells world.old.net).links.out ≡ false }

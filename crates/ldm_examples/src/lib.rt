@@ -24,6 +24,7 @@ pub mod play;
 pub mod pqact_command;
 pub mod pqact_conf;
 pub mod pqact_match;
+pub mod reason;
 pub mod regions;
 pub mod relay;
 pub mod rpc;

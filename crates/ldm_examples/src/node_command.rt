@@ -2,13 +2,20 @@
 
 use ldm_node::NodeOptions;
 use ldm_node_command::{NodeSetup, run_node};
-use ldm_outside::{Dial, Door, Launcher, Net, Sink, Store};
+use ldm_outside::{Dial, Door, Launcher, Net, Reasons, Sink, Store};
 use std::alloc::Global;
 use std::sync::Wait;
 use std::thread::Threads;
 
 /// Runs a node with one worker that lets peers in, until its door is closed.
-pub fn small_node<H: Threads + Wait + Sync, K: Sink, E: Sink, F: Store, L: Launcher, N: Net>(
+pub fn small_node<
+    H: Threads + Wait + Sync,
+    K: Sink,
+    E: Sink,
+    F: Store + Reasons,
+    L: Launcher + Reasons,
+    N: Net + Reasons,
+>(
     rt: &H,
     alloc: Global,
     sink: &mut K,

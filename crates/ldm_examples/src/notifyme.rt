@@ -4,11 +4,11 @@ ghost use Rattle.std.specs.Prelude.{◌≡◌, false};
 
 use ldm_class::Class;
 use ldm_notifyme::notifyme;
-use ldm_outside::{Dial, Sink};
+use ldm_outside::{Dial, Reasons, Sink};
 use std::alloc::Global;
 
 /// Writes the notice of the next product of a class that comes into the queue of a node on this machine.
-pub fn next_notice<N: Dial, K: Sink, E: Sink>(
+pub fn next_notice<N: Dial + Reasons, K: Sink, E: Sink>(
     alloc: Global,
     net: &mut N,
     sink: &mut K,

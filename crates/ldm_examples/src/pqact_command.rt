@@ -3,13 +3,20 @@
 ghost use Rattle.std.specs.Prelude.{◌≡◌, false};
 
 use ldm_class::Class;
-use ldm_outside::{Clock, Dial, Launcher, Sink, Store};
+use ldm_outside::{Clock, Dial, Launcher, Reasons, Sink, Store};
 use ldm_pqact_command::pqact;
 use std::alloc::Global;
 use std::sync::Wait;
 
 /// Acts on the first product of a class that the node of this host has, by the entries of etc/pqact.conf.
-pub fn act_on_one<H: Wait, N: Dial, F: Store, L: Launcher, E: Sink, C: Clock>(
+pub fn act_on_one<
+    H: Wait,
+    N: Dial + Reasons,
+    F: Store + Reasons,
+    L: Launcher + Reasons,
+    E: Sink,
+    C: Clock,
+>(
     rt: &H,
     alloc: Global,
     net: &mut N,

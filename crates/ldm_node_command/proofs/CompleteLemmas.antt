@@ -14,7 +14,7 @@ use Rattle.ldm_shared.specs.Limits.{IsFaultOf, IsGoodPasses}
 use Rattle.ldm_command_files.specs.ConfFiles.{status_of_conf}
 use Rattle.ldm_status.specs.declared.status.Status.{Status}
 use Rattle.ldm_status.specs.declared.status.Status.TheVariants as status
-use Rattle.ldm_status.specs.Status.{code_of}
+use Rattle.ldm_status.specs.Status.{ReportsBecause, code_of}
 use Rattle.ldm_node.specs.declared.stop.NodeStop.{NodeStop}
 use Rattle.ldm_node.specs.declared.stop.NodeStop.TheVariants as stop
 use Rattle.ldm_node_command.specs.declared.commands.StartFault.TheVariants as start
@@ -36,10 +36,14 @@ use Rattle.ldm_node_command.proofs.ConfLemmas.{takes_none}
 abbrev EndsWell : Option Status → Type 0
 EndsWell ending = (ending ≡ Some status.Done) ⊎ ((ending ≡ Some status.NoMemory) ⊎ (ending ≡ Some status.Worn))
 
+-- a status that is reported has its number
+reported_code : (ending : Status) (code : ℕ) (old new : SinkRecord) → ¬ (Rose old.faults new.faults) → ReportsBecause ending code old new → code ≡ code_of ending
+reported_code ending code old new works (reason, is_reason, inl reported) = reported.0
+reported_code ending code old new works (reason, is_reason, inr failed) = absurd (works failed.1)
+
 -- a status that is told has its number
 told_code : (ending : Status) (code : ℕ) (old new : SinkRecord) → ¬ (Rose old.faults new.faults) → (told : Option Status) → told ≡ Some ending → Tells told code old new → code ≡ code_of ending
-told_code ending code old new works told is tells =
-    elim (subst (λ (o : Option Status). Tells o code old new) is tells) [ inl reported ↦ reported.0 | inr failed ↦ absurd (works failed.1) ]
+told_code ending code old new works told is tells = reported_code ending code old new works (subst (λ (o : Option Status). Tells o code old new) is tells)
 
 good_stop : (why : NodeStop) (behind : Status) → behind ≡ status.Done → (why ≡ stop.Done) ⊎ ((why ≡ stop.Worn) ⊎ (why ≡ stop.OutOfMemory)) → EndsWell (status_of_stop why behind)
 good_stop why behind is (inl done) = inl (ap (λ (w : NodeStop). status_of_stop w behind) done ∙ ap Some is)

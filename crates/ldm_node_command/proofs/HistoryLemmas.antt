@@ -55,7 +55,7 @@ log_failed code is = ap is_other is
 
 module _ {S : Type 0} (tells : S → StationRecord) (setup : Setup) (code : ℕ) (old new : Outside S) where
   none_run : HasLine code → NodeWritesNothing tells setup code old new → ⊥
-  none_run has nothing = elim nothing.told [
+  none_run has nothing = elim nothing.told.2 [
     | inl told ↦ (let no : false ≡ true = sym (not_other code has) ∙ ap is_other told.0 ∙ fault_other nothing.why in cc no)
     | inr failed ↦ (let no : false ≡ true = sym (not_other code has) ∙ log_failed code failed.0 in cc no)
   ]

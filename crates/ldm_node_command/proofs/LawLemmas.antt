@@ -11,7 +11,7 @@ use Rattle.ldm_conf.specs.Confs.{ConfView}
 use Rattle.ldm_node.specs.Causes.{NodeCause, SomeHas}
 use Rattle.ldm_status.specs.declared.status.Status.{Status}
 use Rattle.ldm_status.specs.declared.status.Status.TheVariants as status
-use Rattle.ldm_status.specs.Status.{Reports, code_of}
+use Rattle.ldm_status.specs.Status.{ReportsBecause, code_of}
 use Rattle.ldm_node.specs.declared.stop.NodeStop.{NodeStop}
 use Rattle.ldm_node.specs.declared.stop.NodeStop.TheVariants as stop
 use Rattle.ldm_node_command.specs.declared.ending.NodeFault.{NodeFault}
@@ -43,9 +43,9 @@ module _ {S : Type 0} (tells : S → StationRecord) (setup : Setup) (code : ℕ)
 
   -- a status is told by its number, unless the log failed
   numbered : (conf : ConfView) (last : PassView) (ending : Status) → (code ≡ code_of ending → NumberOfRun tells setup code conf last old new)
-      → Reports ending code old.log new.log → NumberOfRun tells setup code conf last old new
-  numbered conf last ending number (inl told) = number told.0
-  numbered conf last ending number (inr failed) = unlogged conf last failed.0 (inr failed.1)
+      → ReportsBecause ending code old.log new.log → NumberOfRun tells setup code conf last old new
+  numbered conf last ending number (reason, is_reason, inl told) = number told.0
+  numbered conf last ending number (reason, is_reason, inr failed) = unlogged conf last failed.0 (inr failed.1)
 
   launcher_rose : (conf : ConfView) → FailsToWait (numbers_from old.launcher.next conf.commands) (with_commands conf.commands old.launcher) new.launcher
       → Rose old.launcher.faults new.launcher.faults
@@ -56,7 +56,7 @@ module _ {S : Type 0} (tells : S → StationRecord) (setup : Setup) (code : ℕ)
   -- the number of a node whose workers were all done
   behind : (conf : ConfView) (last : PassView) (waited : Result (Unit {0}) Failed) (written : Result (Unit {0}) SinkFailed)
       → NodeCause stop.Done (plan_for setup conf) (map tells new.kept) last → Attends waited conf old.launcher new.launcher
-      → WritesAll written (stat_line setup last.seen) old.sink new.sink → Reports (status_behind waited written) code old.log new.log
+      → WritesAll written (stat_line setup last.seen) old.sink new.sink → ReportsBecause (status_behind waited written) code old.log new.log
       → NumberOfRun tells setup code conf last old new
   behind conf last (Err failed) written done fails writes told =
       numbered conf last status.ChildFault (λ is. inr (inr (inr (inl (is, launcher_rose conf fails))))) told

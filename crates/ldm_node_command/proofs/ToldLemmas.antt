@@ -12,7 +12,7 @@ use Rattle.ldm_shared.specs.declared.fault.CreateFault.TheVariants as queue
 use Rattle.ldm_command_files.specs.declared.conf_file.ConfNotTaken.TheVariants as untaken
 use Rattle.ldm_status.specs.declared.status.Status.{Status}
 use Rattle.ldm_status.specs.declared.status.Status.TheVariants as status
-use Rattle.ldm_status.specs.Status.{Reports, code_of}
+use Rattle.ldm_status.specs.Status.{ReportsBecause, code_of}
 use Rattle.ldm_node.specs.declared.stop.NodeStop.{NodeStop}
 use Rattle.ldm_node.specs.declared.stop.NodeStop.TheVariants as stop
 use Rattle.ldm_node_command.specs.declared.commands.StartFault.TheVariants as start
@@ -30,9 +30,9 @@ use Rattle.ldm_node_command.specs.Told.{AreCommands, AreNone, TellsCommands}
 use Rattle.ldm_node_command.proofs.ChildLemmas.{all_waited, children-fails, children-with_commands, children-with_waits, first_numbers, waited_of, words_of-child_of, words_of-some, words_of-waited_of}
 
 -- a status with another number than 0 is not told as 0
-not_zero : (ending : Status) (code : ℕ) (old new : SinkRecord) → ¬ (code_of ending ≡ 0) → Reports ending code old new → ¬ (code ≡ 0)
-not_zero ending code old new failed (inl told) is = failed (sym told.0 ∙ is)
-not_zero ending code old new failed (inr broken) is = omega (arith, broken.0, is)
+not_zero : (ending : Status) (code : ℕ) (old new : SinkRecord) → ¬ (code_of ending ≡ 0) → ReportsBecause ending code old new → ¬ (code ≡ 0)
+not_zero ending code old new failed (reason, is_reason, inl told) is = failed (sym told.0 ∙ is)
+not_zero ending code old new failed (reason, is_reason, inr broken) is = omega (arith, broken.0, is)
 
 -- no fault has the number 0
 fault_code : (why : NodeFault) → ¬ (code_of (status_of_fault why) ≡ 0)

@@ -8,7 +8,7 @@ use Rattle.ldm_shared.specs.Passes.{PassView}
 use Rattle.ldm_calls.specs.Lawful.{IsLawful}
 use Rattle.ldm_conf.specs.Confs.{ConfView}
 use Rattle.ldm_node.specs.Causes.{NodeCause, SomeHas}
-use Rattle.ldm_status.specs.Status.{Reports}
+use Rattle.ldm_status.specs.Status.{ReportsBecause}
 use Rattle.ldm_node.specs.declared.stop.NodeStop.{NodeStop}
 use Rattle.ldm_node.specs.declared.stop.NodeStop.TheVariants as stop
 use Rattle.ldm_node_command.specs.declared.ending.NodeFault.{NodeFault}
@@ -60,7 +60,7 @@ module _ {S : Type 0} (tells : S → StationRecord) (setup : Setup) where
     pub why : NodeFault
     pub cause : StaysIdle tells why setup old new
     pub nothing : new.sink ≡ old.sink
-    pub told : Reports (status_of_fault why) code old.log new.log
+    pub told : ReportsBecause (status_of_fault why) code old.log new.log
 
   -- What a node writes obeys the law, and where none was run there is a cause that is told.
   abbrev pub ObeysNodeLaw : ℕ → Outside S → Outside S → Type 0

@@ -9,7 +9,7 @@ use Rattle.ldm_command_files.specs.ConfFiles.{status_of_conf}
 use Rattle.ldm_status.specs.declared.status.TheConstants.{LOG_FAULT}
 use Rattle.ldm_status.specs.declared.status.Status.{Status}
 use Rattle.ldm_status.specs.declared.status.Status.TheVariants as status
-use Rattle.ldm_status.specs.Status.{Reports}
+use Rattle.ldm_status.specs.Status.{ReportsBecause}
 use Rattle.ldm_node.specs.declared.stop.NodeStop.{NodeStop}
 use Rattle.ldm_node.specs.declared.stop.NodeStop.TheVariants as stop
 use Rattle.ldm_node_command.specs.declared.commands.StartFault.{StartFault}
@@ -66,5 +66,5 @@ status_of_node (Err why) = Some (status_of_fault why)
 -- The number that ends the program, and what the log took: those of the status; without one 76, since the log of a worker failed, and no
 -- line.
 abbrev pub Tells : Option Status → ℕ → SinkRecord → SinkRecord → Type 0
-Tells (Some ending) code old new = Reports ending code old new
+Tells (Some ending) code old new = ReportsBecause ending code old new
 Tells None code old new = (code ≡ LOG_FAULT) × (new ≡ old)

@@ -1,7 +1,14 @@
 //! The steps of a node, and how far it has come.
-ghost use Rattle.std.specs.Prelude.{◌≡◌, Some, None};
+ghost use Rattle.std.specs.Prelude.{◌≡◌, ◌≤◌, Some, None};
+ghost use Rattle.ldm_outside.specs.Reason.{IsReason};
+ghost use Rattle.ldm_command_files.specs.ConfFiles.{CompletesConf, TakesConf};
 ghost use Rattle.ldm_node_command.specs.Steps.{before};
 
+use ldm_command_files::{ConfNotTaken, take_conf_because};
+use ldm_conf::Conf;
+use ldm_outside::Store;
+use ldm_reason::Reason;
+use std::alloc::Global;
 use std::marker::Model;
 
 /// A step of a node, in the order in which they are made.
@@ -25,11 +32,12 @@ pub enum Step {
     Line,
 }
 
-/// How far a node has come: contracts see the last step that it made. All before that were made, in their order, since
-/// a step is noted only behind the one before it.
+/// How far a node has come, and what was wrong with its configuration: contracts see the last step that it made. All
+/// before that were made, in their order, since a step is noted only behind the one before it.
 #[derive(Debug, Drop)]
 pub struct Steps {
     reached: Option<Step>,
+    why: Reason,
 }
 
 impl Model for Steps {
@@ -46,7 +54,33 @@ impl Steps {
     pub fn new() -> Steps
         ensures { result ≡ None }
     {
-        Steps { reached: None }
+        Steps {
+            reached: None,
+            why: Reason::new(),
+        }
+    }
+
+    /// What was wrong with the configuration, as far as it is known.
+    pub(crate) fn reason(&self) -> &[u8]
+        ensures { IsReason result.now }
+    {
+        self.why.as_slice()
+    }
+
+    /// Takes the configuration under the path, before the first step.
+    pub(crate) fn take_conf<F: Store>(
+        &mut self,
+        alloc: Global,
+        store: &mut F,
+        path: &str,
+    ) -> Result<Conf, ConfNotTaken>
+        ensures takes { TakesConf result path.now (F.tells store.old) (F.tells store.new) }
+        ensures completes { CompletesConf result path.now (F.tells store.old) (F.tells store.new) }
+        ensures faults_kept { (F.tells store.old).faults ≤ (F.tells store.new).faults }
+        ensures long_kept { (F.tells store.old).long ≤ (F.tells store.new).long }
+        ensures same { self.new ≡ self.old }
+    {
+        take_conf_because(alloc, store, path, &mut self.why)
     }
 
     /// Notes that a step is made, behind the one before it.

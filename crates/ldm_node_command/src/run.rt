@@ -27,10 +27,9 @@ use crate::progress::{Step, Steps};
 use crate::setup::NodeSetup;
 use crate::stat_line::write_stat;
 use crate::statuses::report;
-use ldm_command_files::take_conf;
 use ldm_conf::Conf;
 use ldm_node::{NodeEnd, node};
-use ldm_outside::{Clock, Dial, Door, Gate, Launcher, Net, Sink, Station, Store};
+use ldm_outside::{Clock, Dial, Door, Gate, Launcher, Net, Reasons, Sink, Station, Store};
 use ldm_shared::{CreateFault, Pass, Shared};
 use std::alloc::Global;
 use std::sync::Wait;
@@ -46,7 +45,14 @@ use std::thread::Threads;
 /// stations as it gave them. The clause `ends` gives each status its cause, and what was done then: see `NodeEnds`.
 /// Where the log of a worker failed the number is [`LOG_FAULT`](ldm_status::LOG_FAULT), and no line is written to the
 /// log. The clause `commands` says which children a launcher tells that tells any.
-pub fn run_node<H: Threads + Wait + Sync, K: Sink, E: Sink, F: Store, L: Launcher, N: Net>(
+pub fn run_node<
+    H: Threads + Wait + Sync,
+    K: Sink,
+    E: Sink,
+    F: Store + Reasons,
+    L: Launcher + Reasons,
+    N: Net + Reasons,
+>(
     rt: &H,
     alloc: Global,
     setup: &NodeSetup<'_>,
@@ -179,7 +185,14 @@ where
 {
     let mut steps = Steps::new();
     let ending = run_steps(rt, alloc, setup, sink, store, launcher, net, &mut steps);
-    report(ending, log)
+    report(
+        ending,
+        steps.reason(),
+        store.reason(),
+        net.reason(),
+        launcher.reason(),
+        log,
+    )
 }
 
 /// Makes the steps of a node, from its configuration to the line of its queue. A node that was run has made all of them,
@@ -227,7 +240,7 @@ where
     ensures launcher_kept { (L.tells launcher.old).faults ≤ (L.tells launcher.new).faults }
     ensures net_kept { (N.tells net.old).faults ≤ (N.tells net.new).faults }
 {
-    let conf = take_conf(alloc, store, setup.conf)?;
+    let conf = steps.take_conf(alloc, store, setup.conf)?;
     steps.make(Step::Configuration);
     let (shared, passes) = make_queue(alloc, setup, &conf)?;
     steps.make(Step::Queue);

@@ -1,5 +1,6 @@
 //! The statuses of the ends of a node.
 ghost use Rattle.std.specs.Prelude.{◌≡◌, ◌≤◌};
+ghost use Rattle.ldm_outside.specs.Reason.{IsReason};
 ghost use Rattle.ldm_node_command.specs.Statuses.{Tells, status_behind, status_of_fault};
 ghost use Rattle.ldm_node_command.specs.Statuses.{status_of_node, status_of_queue};
 
@@ -12,14 +13,29 @@ use ldm_outside::{Failed, Sink, SinkFailed};
 use ldm_shared::CreateFault;
 use ldm_status::{LOG_FAULT, Status};
 
-/// Writes the line of an ending to the log, and answers the number that the program ends with. Where the log of a
-/// worker failed there is no line, and the number is [`LOG_FAULT`].
-pub(crate) fn report<E: Sink>(ending: Result<Ran, NodeFault>, log: &mut E) -> u8
+/// Writes the line of an ending to the log, for the reason that the configuration, the store, the net or the launcher
+/// gives, and answers the number that the program ends with. Where the log of a worker failed there is no line, and the
+/// number is [`LOG_FAULT`].
+pub(crate) fn report<E: Sink>(
+    ending: Result<Ran, NodeFault>,
+    conf: &[u8],
+    store: &[u8],
+    net: &[u8],
+    launcher: &[u8],
+    log: &mut E,
+) -> u8
+    requires conf { IsReason conf.now }
+    requires store { IsReason store.now }
+    requires net { IsReason net.now }
+    requires launcher { IsReason launcher.now }
     ensures tells { Tells (status_of_node ending) result (E.tells log.old) (E.tells log.new) }
     ensures faults_kept { (E.tells log.old).faults ≤ (E.tells log.new).faults }
 {
     match status_of(ending) {
-        Some(status) => status.report(log),
+        Some(status) => {
+            let reason = status.reason_among(conf, store, net, launcher);
+            status.report_because(reason, log)
+        }
         None => LOG_FAULT,
     }
 }

@@ -7,7 +7,7 @@ use Rattle.ldm_outside.specs.Io.{SinkRecord}
 use Rattle.ldm_outside.specs.Link.{LinkRecord}
 use Rattle.ldm_status.specs.declared.status.Status.{Status}
 use Rattle.ldm_status.specs.declared.status.Status.TheVariants as status
-use Rattle.ldm_status.specs.Status.{Reports}
+use Rattle.ldm_status.specs.Status.{ReportsBecause}
 use Rattle.ldm_tools.specs.Asking.{IsLinked, IsUnreached}
 use Rattle.ldm_tools.specs.Mon.{MonRecord}
 use Rattle.ldm_watch.specs.declared.end.WatchEnd.{WatchEnd}
@@ -64,4 +64,4 @@ status_of_end (Watched end) = status_of_watch end
 pub record Notifies (code : ℕ) (wanted : Wanted) (old new : MonRecord) : Type 0 where
   pub end : NotifymeEnd
   pub ends : NotifymeEnds end wanted old.net new.net old.sink new.sink
-  pub reports : Reports (status_of_end end) code old.log new.log
+  pub reports : ReportsBecause (status_of_end end) code old.log new.log

@@ -7,7 +7,7 @@ ghost use Rattle.ldm_notifyme.specs.Held.{Holds};
 ghost use Rattle.ldm_notifyme.specs.Notifyme.{Notifies, NotifymeEnds, status_of_end, status_of_watch};
 
 use ldm_class::Class;
-use ldm_outside::{Dial, Dialled, Sink};
+use ldm_outside::{Dial, Dialled, Reasons, Sink};
 use ldm_status::Status;
 use ldm_watch::{WatchEnd, watch};
 use std::alloc::Global;
@@ -28,7 +28,7 @@ pub enum NotifymeEnd {
 ///
 /// It connects once, and gives the link back. The clause `ends` gives each status its cause, and what was sent, given
 /// and written then: see `Notifies`.
-pub fn notifyme<N: Dial, K: Sink, E: Sink>(
+pub fn notifyme<N: Dial + Reasons, K: Sink, E: Sink>(
     alloc: Global,
     net: &mut N,
     sink: &mut K,
@@ -49,7 +49,7 @@ pub fn notifyme<N: Dial, K: Sink, E: Sink>(
         (mon_tells N.tells K.tells E.tells net.new sink.new log.new) }
 {
     let end = reach(alloc, net, sink, host, port, class, count);
-    status_of_end(end).report(log)
+    status_of_end(end).report_because(net.reason(), log)
 }
 
 // Connects, watches, and gives the link back.

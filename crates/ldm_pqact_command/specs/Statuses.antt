@@ -11,7 +11,7 @@ use Rattle.ldm_command_files.specs.PqactFiles.{status_of_entries}
 use Rattle.ldm_status.specs.declared.status.Status.{Status}
 use Rattle.ldm_status.specs.declared.status.Status.TheVariants as status
 use Rattle.ldm_status.specs.declared.status.TheConstants.{LOG_FAULT}
-use Rattle.ldm_status.specs.Status.{Reports}
+use Rattle.ldm_status.specs.Status.{ReportsBecause}
 use Rattle.ldm_pqact_command.specs.declared.end.PqactEnd.{PqactEnd}
 use Rattle.ldm_pqact_command.specs.declared.end.PqactEnd.TheVariants.{NotTaken, NoMemory, Unreached, Received, Enough, Stopped}
 use Rattle.ldm_pqact_command.specs.declared.stop.ActStop.{ActStop}
@@ -71,4 +71,4 @@ status_of (Stopped why) = stop_status why
 -- The number that ends the program, and what the log took: the status and its line; or 76 and nothing, where the log failed before.
 abbrev pub ReportsIf : Option Status → ℕ → SinkRecord → SinkRecord → Type 0
 ReportsIf None code old new = (code ≡ LOG_FAULT) × (new ≡ old)
-ReportsIf (Some it) code old new = Reports it code old new
+ReportsIf (Some it) code old new = ReportsBecause it code old new

@@ -17,10 +17,11 @@ use ldm_class::Class;
 use ldm_command_files::take_entries;
 use ldm_gather::gather;
 use ldm_model::Start;
-use ldm_outside::{Clock, Dial, Dialled, Launcher, Sink, Store};
+use ldm_outside::{Clock, Dial, Dialled, Launcher, Reasons, Sink, Store};
 use ldm_pqact::{EVERY_FEEDTYPE, Pqact};
 use ldm_pqact_conf::Entries;
 use ldm_reader::{Opening, Reader, products_stay};
+use ldm_reason::Reason;
 use ldm_shared::{Pass, Shared, Turn, one_pass};
 use ldm_types::Feed;
 use std::alloc::Global;
@@ -34,7 +35,14 @@ use std::sync::Wait;
 /// count, more products than these may be acted on. A product that was evicted before that is told by the line `gap
 /// pqact COUNT FIRST LAST` of the log. It connects once. At the end it gives the link back, and then shuts all files,
 /// and shuts the input of each program and waits for it. The clause `ends` gives each status its cause: see `Pqacts`.
-pub fn pqact<H: Wait, N: Dial, F: Store, L: Launcher, E: Sink, C: Clock>(
+pub fn pqact<
+    H: Wait,
+    N: Dial + Reasons,
+    F: Store + Reasons,
+    L: Launcher + Reasons,
+    E: Sink,
+    C: Clock,
+>(
     rt: &H,
     alloc: Global,
     net: &mut N,
@@ -57,10 +65,18 @@ pub fn pqact<H: Wait, N: Dial, F: Store, L: Launcher, E: Sink, C: Clock>(
         (pqact_lent (N.tells net.old) store.old launcher.old (E.tells log.old) (C.tells clock.old))
         (pqact_lent (N.tells net.new) store.new launcher.new (E.tells log.new) (C.tells clock.new)) }
 {
+    let mut why = Reason::new();
     let end = pqact_by(
-        rt, alloc, net, store, launcher, log, clock, host, port, class, count, conf,
+        rt, alloc, net, store, launcher, log, clock, host, port, class, count, conf, &mut why,
     );
-    report(end, log)
+    report(
+        end,
+        why.as_slice(),
+        store.reason(),
+        net.reason(),
+        launcher.reason(),
+        log,
+    )
 }
 
 // Takes the entries.
@@ -77,6 +93,7 @@ fn pqact_by<H: Wait, N: Dial, F: Store, L: Launcher, E: Sink, C: Clock>(
     class: &Class,
     count: Option<u64>,
     conf: &str,
+    why: &mut Reason,
 ) -> PqactEnd
     requires none_out { (N.tells net.old).links.out ≡ false }
     ensures ends { PqactEnds F.tells L.tells result (order_of host.now port class.now count) conf.now
@@ -87,7 +104,7 @@ fn pqact_by<H: Wait, N: Dial, F: Store, L: Launcher, E: Sink, C: Clock>(
         (pqact_lent (N.tells net.old) store.old launcher.old (E.tells log.old) (C.tells clock.old))
         (pqact_lent (N.tells net.new) store.new launcher.new (E.tells log.new) (C.tells clock.new)) }
 {
-    match take_entries(alloc, store, conf) {
+    match take_entries(alloc, store, conf, why) {
         Ok(entries) => act(
             rt, alloc, net, store, launcher, log, clock, host, port, class, count, entries,
         ),

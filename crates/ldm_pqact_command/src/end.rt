@@ -1,5 +1,6 @@
 //! How `pqact` ends.
 ghost use Rattle.std.specs.Prelude.{◌≡◌, ◌≤◌, IsSome};
+ghost use Rattle.ldm_outside.specs.Reason.{IsReason};
 ghost use Rattle.ldm_pqact_command.specs.Statuses.{IfStopped, IsEndOf, ReportsIf, after_closing};
 ghost use Rattle.ldm_pqact_command.specs.Statuses.{receive_status, status_of, stop_status};
 
@@ -99,14 +100,28 @@ fn status_of(end: PqactEnd) -> Option<Status>
     }
 }
 
-/// Writes the log line of an end, and answers the number that the program ends with. Where the log failed there is no
-/// line.
-pub(crate) fn report<E: Sink>(end: PqactEnd, log: &mut E) -> u8
+/// Writes the log line of an end, for the reason that the pqact.conf, the store, the net or the launcher gives, and
+/// answers the number that the program ends with. Where the log failed there is no line.
+pub(crate) fn report<E: Sink>(
+    end: PqactEnd,
+    conf: &[u8],
+    store: &[u8],
+    net: &[u8],
+    launcher: &[u8],
+    log: &mut E,
+) -> u8
+    requires conf { IsReason conf.now }
+    requires store { IsReason store.now }
+    requires net { IsReason net.now }
+    requires launcher { IsReason launcher.now }
     ensures reports { ReportsIf (status_of end) result (E.tells log.old) (E.tells log.new) }
     ensures faults_kept { (E.tells log.old).faults ≤ (E.tells log.new).faults }
 {
     match status_of(end) {
-        Some(status) => status.report(log),
+        Some(status) => {
+            let reason = status.reason_among(conf, store, net, launcher);
+            status.report_because(reason, log)
+        }
         None => LOG_FAULT,
     }
 }

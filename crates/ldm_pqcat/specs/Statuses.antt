@@ -8,7 +8,7 @@ use Rattle.ldm_gather.specs.declared.end.GatherEnd.TheVariants as gather_end
 use Rattle.ldm_status.specs.declared.status.Status.{Status}
 use Rattle.ldm_status.specs.declared.status.Status.TheVariants as status
 use Rattle.ldm_status.specs.declared.status.TheConstants.{LOG_FAULT}
-use Rattle.ldm_status.specs.Status.{Reports}
+use Rattle.ldm_status.specs.Status.{ReportsBecause}
 use Rattle.ldm_pqcat.specs.declared.end.CatEnd.{CatEnd}
 use Rattle.ldm_pqcat.specs.declared.end.CatEnd.TheVariants.{NoMemory, Unreached, Received, Enough, Stopped}
 use Rattle.ldm_pqcat.specs.declared.shown.CatStop.{CatStop}
@@ -56,4 +56,4 @@ status_of (Stopped why) = stop_status why
 -- The number that ends the program, and what the log took: the status and its line; or 76 and nothing, where the log failed before.
 abbrev pub ReportsIf : Option Status → ℕ → SinkRecord → SinkRecord → Type 0
 ReportsIf None code old new = (code ≡ LOG_FAULT) × (new ≡ old)
-ReportsIf (Some it) code old new = Reports it code old new
+ReportsIf (Some it) code old new = ReportsBecause it code old new

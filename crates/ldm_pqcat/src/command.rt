@@ -15,7 +15,7 @@ use crate::limits::{ARENA, EVERY_FEEDTYPE, LARGEST_HEREIS, PASSES, SLOTS};
 use ldm_class::Class;
 use ldm_gather::gather;
 use ldm_model::Start;
-use ldm_outside::{Clock, Dial, Dialled, Sink};
+use ldm_outside::{Clock, Dial, Dialled, Reasons, Sink};
 use ldm_reader::{Opening, Reader, products_stay};
 use ldm_shared::{Pass, Shared, Turn, one_pass};
 use ldm_types::Feed;
@@ -28,7 +28,7 @@ use std::sync::Wait;
 /// It receives into a queue of its own, and writes what is queued after each piece that came. A product that was
 /// evicted before it was written is told by the line `gap pqcat COUNT FIRST LAST` of the log. It connects once, and
 /// gives the link back. The clause `ends` gives each status its cause: see `Cats`.
-pub fn pqcat<H: Wait, N: Dial, K: Sink, E: Sink, C: Clock>(
+pub fn pqcat<H: Wait, N: Dial + Reasons, K: Sink, E: Sink, C: Clock>(
     rt: &H,
     alloc: Global,
     net: &mut N,
@@ -52,7 +52,7 @@ pub fn pqcat<H: Wait, N: Dial, K: Sink, E: Sink, C: Clock>(
         (cat_lent (N.tells net.new) sink.new (E.tells log.new) (C.tells clock.new)) }
 {
     let end = cat(rt, alloc, net, sink, log, clock, host, port, class, count);
-    report(end, log)
+    report(end, net.reason(), log)
 }
 
 // Makes a queue.

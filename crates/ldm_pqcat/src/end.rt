@@ -1,5 +1,6 @@
 //! How `pqcat` ends.
 ghost use Rattle.std.specs.Prelude.{◌≡◌, ◌≤◌, IsSome};
+ghost use Rattle.ldm_outside.specs.Reason.{IsReason};
 ghost use Rattle.ldm_pqcat.specs.Statuses.{IfStopped, IsEndOf, ReportsIf, receive_status, status_of, stop_status};
 
 use crate::shown::CatStop;
@@ -77,14 +78,15 @@ fn status_of(end: CatEnd) -> Option<Status>
     }
 }
 
-/// Writes the log line of an end, and answers the number that the program ends with. Where the log failed there is no
-/// line.
-pub(crate) fn report<E: Sink>(end: CatEnd, log: &mut E) -> u8
+/// Writes the log line of an end, for the reason that the net gives, and answers the number that the program ends with.
+/// Where the log failed there is no line.
+pub(crate) fn report<E: Sink>(end: CatEnd, reason: &[u8], log: &mut E) -> u8
+    requires { IsReason reason.now }
     ensures reports { ReportsIf (status_of end) result (E.tells log.old) (E.tells log.new) }
     ensures faults_kept { (E.tells log.old).faults ≤ (E.tells log.new).faults }
 {
     match status_of(end) {
-        Some(status) => status.report(log),
+        Some(status) => status.report_because(reason, log),
         None => LOG_FAULT,
     }
 }

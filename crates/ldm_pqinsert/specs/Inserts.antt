@@ -5,7 +5,7 @@ use Rattle.ldm_outside.specs.Link.{LinkRecord}
 use Rattle.ldm_relay.specs.declared.message.PutAnswer.{PutAnswer}
 use Rattle.ldm_status.specs.declared.status.Status.{Status}
 use Rattle.ldm_status.specs.declared.status.Status.TheVariants as status
-use Rattle.ldm_status.specs.Status.{Reports}
+use Rattle.ldm_status.specs.Status.{ReportsBecause}
 use Rattle.ldm_tools.specs.Asking.{IsLinked, IsUnreached}
 use Rattle.ldm_tools.specs.Mon.{status_of_no_reply}
 use Rattle.ldm_pqinsert.specs.declared.fault.InsertFault.{InsertFault}
@@ -65,4 +65,4 @@ insert_tells outside log = record { outside = outside; log = log }
 pub record Inserts (code : ℕ) (all : Inserting) (old new : InsertRecord) : Type 0 where
   pub ending : Result Bool InsertFault
   pub ends : InsertEnds ending all old.outside new.outside
-  pub reports : Reports (status_of ending) code old.log new.log
+  pub reports : ReportsBecause (status_of ending) code old.log new.log

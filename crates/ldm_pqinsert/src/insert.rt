@@ -10,7 +10,7 @@ use crate::fault::InsertFault;
 use crate::insertion::Insertion;
 use crate::statuses::status_of;
 use crate::taking::take_files;
-use ldm_outside::{Clock, Dial, Dialled, Sink, Store};
+use ldm_outside::{Clock, Dial, Dialled, Reasons, Sink, Store};
 use std::alloc::Global;
 
 /// Puts files into the queue of a node, one after another, and writes what became of each as a line. Answers the number
@@ -22,7 +22,7 @@ use std::alloc::Global;
 /// that does not let the caller insert. The link is given back before the log is written.
 ///
 /// There are fewer than 2^32 files, and [`Info::new`](ldm_types::Info::new) accepts the origin with the ident of each.
-pub fn pqinsert<F: Store, N: Dial, K: Sink, E: Sink, C: Clock>(
+pub fn pqinsert<F: Store + Reasons, N: Dial + Reasons, K: Sink, E: Sink, C: Clock>(
     alloc: Global,
     store: &mut F,
     net: &mut N,
@@ -46,7 +46,9 @@ pub fn pqinsert<F: Store, N: Dial, K: Sink, E: Sink, C: Clock>(
     ensures log_kept { (E.tells log.old).faults ≤ (E.tells log.new).faults }
 {
     let ending = insert_files(alloc, store, net, sink, clock, insertion);
-    status_of(ending).report(log)
+    let status = status_of(ending);
+    let reason = status.reason_among(b"", store.reason(), net.reason(), b"");
+    status.report_because(reason, log)
 }
 
 // Connects, takes the files, and gives the link back. Answers whether some file was refused.

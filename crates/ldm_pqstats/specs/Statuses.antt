@@ -9,7 +9,7 @@ use Rattle.ldm_gather.specs.declared.taker.EachStop.TheVariants as each_stop
 use Rattle.ldm_status.specs.declared.status.Status.{Status}
 use Rattle.ldm_status.specs.declared.status.Status.TheVariants as status
 use Rattle.ldm_status.specs.declared.status.TheConstants.{LOG_FAULT}
-use Rattle.ldm_status.specs.Status.{Reports}
+use Rattle.ldm_status.specs.Status.{ReportsBecause}
 use Rattle.ldm_tools.specs.Telling.{status_of_put_fault}
 use Rattle.ldm_pqstats.specs.declared.counter.CountStop.{CountStop}
 use Rattle.ldm_pqstats.specs.declared.counter.CountStop.TheVariants as stop
@@ -69,4 +69,4 @@ status_of (NotSent why) = Some (send_status why)
 -- The number that ends the program, and what the log took: the status and its line; or 76 and nothing, where the log failed before.
 abbrev pub ReportsIf : Option Status → ℕ → SinkRecord → SinkRecord → Type 0
 ReportsIf None code old new = (code ≡ LOG_FAULT) × (new ≡ old)
-ReportsIf (Some it) code old new = Reports it code old new
+ReportsIf (Some it) code old new = ReportsBecause it code old new

@@ -14,7 +14,7 @@ use crate::report::write_report;
 use crate::sending::send_hours;
 use ldm_gather::{Asking, Collected, EachEnd, EachStop, gather_each};
 use ldm_intake::RecvEnd;
-use ldm_outside::{Clock, Dial, Sink};
+use ldm_outside::{Clock, Dial, Reasons, Sink};
 use ldm_stats::Stats;
 use std::alloc::Global;
 use std::sync::Wait;
@@ -30,7 +30,7 @@ use std::sync::Wait;
 /// Where the hours are to be sent, and the first link gave all, it then connects a second time, and sends the lines of
 /// each hour by a PUT of its own: feed EXP, origin `localhost`, ident `stats/YYYYMMDDHH`, numbered from 0. The answers
 /// are written as lines. The clause `ends` gives each status its cause: see `Pqstats`.
-pub fn pqstats<H: Wait, N: Dial, K: Sink, E: Sink, C: Clock>(
+pub fn pqstats<H: Wait, N: Dial + Reasons, K: Sink, E: Sink, C: Clock>(
     rt: &H,
     alloc: Global,
     net: &mut N,
@@ -64,7 +64,7 @@ pub fn pqstats<H: Wait, N: Dial, K: Sink, E: Sink, C: Clock>(
     let counter = Counter::create(stats);
     let collected = gather_each(rt, alloc, net, log, clock, asking, counter, &mut ());
     let end = tell(alloc, net, sink, clock, asked, collected);
-    report(end, log)
+    report(end, net.reason(), log)
 }
 
 // Writes the report, and sends the hours, as far as the gathering and the words say.

@@ -109,8 +109,8 @@ fn check_file<K: Sink, D: Disk>(
 /// were ever admitted, how many are queued, and how many bytes of the arena these take. Answers the number that the
 /// program ends with, and writes its line to the log.
 ///
-/// The file is read alone. The clause `ends` gives each status its cause, and what is written then: see `CheckRuns`. The
-/// clause `completes` says when the line is written.
+/// The file is read alone. The clause `ends` gives each status its cause, and what is written then: see `CheckRuns`.
+/// The clause `completes` says when the line is written.
 pub fn pqcheck<K: Sink, E: Sink, D: Disk>(
     alloc: Global,
     path: &str,

@@ -28,7 +28,8 @@ pub(crate) fn open_file<D: Disk>(
     path: &str,
     disk: &mut D,
 ) -> Result<Book, ImageFault>
-    ensures opened { IfOk result (λ book. FileChanges (IsOpenedAs book) (D.tells disk.old).file (D.tells disk.new).file) }
+    ensures opened { IfOk result
+        (λ book. FileChanges (IsOpenedAs book) (D.tells disk.old).file (D.tells disk.new).file) }
     ensures ready { OnOk result (IsReady (D.tells disk.new)) }
     ensures closed { IfErr result (λ why. LeavesClosed why (D.tells disk.old) (D.tells disk.new)) }
     ensures completes { OpensAs result (D.tells disk.old) (D.tells disk.new) }

@@ -57,8 +57,8 @@ fn resume_file<S: Source, K: Sink, D: Disk>(
 ///
 /// The file is opened, and all memory for the play taken, before the first read of the source. The clause `ends` gives
 /// each status its cause, and what was read, written and saved then, and what a crash at any moment leaves of the file:
-/// see `ResumeRuns`. The clause `law` says that the play goes on with any legal history that led to the queue, and obeys
-/// the law of the queue. The clause `completes` says when all is played and saved.
+/// see `ResumeRuns`. The clause `law` says that the play goes on with any legal history that led to the queue, and
+/// obeys the law of the queue. The clause `completes` says when all is played and saved.
 pub fn resume<S: Source, K: Sink, E: Sink, D: Disk>(
     alloc: Global,
     path: &str,

@@ -1,6 +1,7 @@
 //! The statuses of the ends of these commands.
 ghost use Rattle.std.specs.Prelude.{◌≡◌};
-ghost use Rattle.ldm_saving.specs.Statuses.{status_of_saving, status_of_closed, status_of_save, status_of_resume, status_of_check};
+ghost use Rattle.ldm_saving.specs.Statuses.{status_of_saving, status_of_closed, status_of_save, status_of_resume};
+ghost use Rattle.ldm_saving.specs.Statuses.{status_of_check};
 
 use crate::check_command::CheckFault;
 use crate::save_command::KeptPlay;

@@ -1,7 +1,8 @@
 -- The statuses, with their log lines.
-use Rattle.std.specs.Prelude.{◌≡◌, ◌⊎◌, ℕ, ◌++◌, List, [], ◌∷◌, codes, decimal}
+use Rattle.std.specs.Prelude.{◌≡◌, ◌⊎◌, ℕ, ◌++◌, List, [], ◌∷◌, Bool, true, false, cond, codes, decimal}
 use Rattle.ldm_outside.specs.Count.{Rose}
 use Rattle.ldm_outside.specs.Io.{SinkRecord, Takes, WritesFront}
+use Rattle.ldm_outside.specs.Reason.{IsReason}
 use Rattle.ldm_status.specs.declared.status.TheConstants.{LOG_FAULT}
 use Rattle.ldm_status.specs.declared.status.Status.{Status}
 use Rattle.ldm_status.specs.declared.status.Status.TheVariants as status
@@ -61,3 +62,56 @@ abbrev pub Reports : Status → ℕ → SinkRecord → SinkRecord → Type 0
 Reports ending code old new =
     ((code ≡ code_of ending) × Takes old (log_line ending) new)
     ⊎ ((code ≡ LOG_FAULT) × Rose old.faults new.faults × WritesFront old (log_line ending) new)
+
+-- whether a status is of the words, of a configuration or of the outside, so that a line before its own may say why
+abbrev pub says_why : Status → Bool
+says_why status.Done = false
+says_why status.Usage = true
+says_why (status.BadLine line column) = false
+says_why (status.BadFrame at) = false
+says_why (status.BadConf file line kind) = true
+says_why (status.BadPqact line kind) = true
+says_why (status.BadImage at) = false
+says_why status.StreamLimit = false
+says_why (status.RefusedArena arena) = false
+says_why (status.RefusedSlots slots) = false
+says_why (status.RefusedPasses passes) = false
+says_why status.NetFault = true
+says_why status.NoMemory = false
+says_why status.StoreFault = true
+says_why status.ChildFault = true
+says_why status.SourceFault = false
+says_why status.SinkFault = false
+says_why status.Worn = false
+says_why status.Denied = false
+says_why status.Refused = false
+says_why status.Unclean = false
+
+-- Of what is said of a configuration, a store, a net and a launcher, what is of a status: nothing of a status that is about none of them.
+abbrev pub reason_among : Status → (conf store net launcher : List ℕ) → List ℕ
+reason_among (status.BadConf file line kind) conf store net launcher = conf
+reason_among (status.BadPqact line kind) conf store net launcher = conf
+reason_among status.StoreFault conf store net launcher = store
+reason_among status.NetFault conf store net launcher = net
+reason_among status.ChildFault conf store net launcher = launcher
+reason_among _ conf store net launcher = []
+
+-- the line of a reason, with its newline: none where there is no reason
+abbrev pub reason_line : List ℕ → List ℕ
+reason_line [] = []
+reason_line (byte ∷ more) = codes "ldm: " ++ (byte ∷ more) ++ 10 ∷ []
+
+-- all that is logged of a status with its reason
+abbrev pub log_lines : List ℕ → Status → List ℕ
+log_lines reason ending = cond (says_why ending) (reason_line reason) [] ++ log_line ending
+
+-- The number that ends the program, and what the log took: the status, a line that says why, and the status's own line;
+-- or 76, where the log failed, and a front of these.
+abbrev pub ReportsFor : List ℕ → Status → ℕ → SinkRecord → SinkRecord → Type 0
+ReportsFor reason ending code old new =
+    ((code ≡ code_of ending) × Takes old (log_lines reason ending) new)
+    ⊎ ((code ≡ LOG_FAULT) × Rose old.faults new.faults × WritesFront old (log_lines reason ending) new)
+
+-- A status was reported, and before its line stands at most one more, of some reason.
+abbrev pub ReportsBecause : Status → ℕ → SinkRecord → SinkRecord → Type 0
+ReportsBecause ending code old new = (reason : List ℕ) × IsReason reason × ReportsFor reason ending code old new

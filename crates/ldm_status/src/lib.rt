@@ -4,10 +4,12 @@
 //! end of a command is named here. [`take_script`] takes a script whole, for a command that looks at no line before.
 #![tactic(auto)]
 
+mod laws;
 mod status;
 mod streams;
 mod whole_script;
 
+pub use laws::reasons_come_first;
 pub use status::{LOG_FAULT, Status};
 pub use streams::{PIECE, Streams};
 pub use whole_script::{LONGEST_SCRIPT, ScriptFault, take_script};

@@ -1,10 +1,12 @@
 //! How the program ends: statuses with their log lines.
-ghost use Rattle.std.specs.Prelude.{◌≡◌, ◌≤◌, []};
-ghost use Rattle.ldm_status.specs.Status.{log_line};
+ghost use Rattle.std.specs.Prelude.{◌≡◌, ◌≤◌, ◌+◌, []};
+ghost use Rattle.arrayvec.specs.ArrayVec.{array_vec_len};
+ghost use Rattle.ldm_outside.specs.Reason.{IsReason};
+ghost use Rattle.ldm_status.specs.Status.{log_line, reason_line};
 ghost use Rattle.ldm_status.specs.declared.status.Status.TheVariants as status;
 
 use arrayvec::ArrayVec;
-use ldm_outside::{Sink, SinkFailed, write_all};
+use ldm_outside::{LONGEST_REASON, Sink, SinkFailed, write_all};
 use ldm_script::{put, put_number};
 
 // Room for a log line with its newline, where each number may take 20 digits.
@@ -12,6 +14,11 @@ const LONGEST_LOG_LINE: usize = 96;
 
 // A log line, with room for the longest.
 type LogLine = ArrayVec<u8, LONGEST_LOG_LINE>;
+
+// Room for a log line behind that of a reason: `ldm: `, the reason and a newline.
+const LONGEST_LOG_LINES: usize = 302;
+
+const _: () = prove!(5 + LONGEST_REASON + 1 + LONGEST_LOG_LINE == LONGEST_LOG_LINES);
 
 /// How the program ends, its log apart.
 #[derive(Debug, Drop)]
@@ -67,7 +74,8 @@ pub enum Status {
 pub const LOG_FAULT: u8 = 76;
 
 impl Status {
-    ghost use Rattle.ldm_status.specs.Status.{code_of, log_line, Reports};
+    ghost use Rattle.ldm_status.specs.Status.{code_of, log_line, log_lines, reason_among, says_why};
+    ghost use Rattle.ldm_status.specs.Status.{Reports, ReportsBecause, ReportsFor};
 
     /// The number that the program ends with.
     pub fn code(&self) -> u8
@@ -93,6 +101,35 @@ impl Status {
             Status::Denied => 78,
             Status::Refused => 79,
             Status::Unclean => 80,
+        }
+    }
+
+    /// Whether [`Status::report_because`] says why: at faults of the words, of a configuration and of the outside.
+    pub fn says_why(&self) -> bool
+        ensures { result ≡ says_why self.now }
+    {
+        match self {
+            Status::Usage
+            | Status::BadConf { .. }
+            | Status::BadPqact { .. }
+            | Status::NetFault
+            | Status::StoreFault
+            | Status::ChildFault => true,
+            Status::Done
+            | Status::BadLine { .. }
+            | Status::BadFrame { .. }
+            | Status::BadImage { .. }
+            | Status::StreamLimit
+            | Status::RefusedArena(_)
+            | Status::RefusedSlots(_)
+            | Status::RefusedPasses(_)
+            | Status::NoMemory
+            | Status::SourceFault
+            | Status::SinkFault
+            | Status::Worn
+            | Status::Denied
+            | Status::Refused
+            | Status::Unclean => false,
         }
     }
 
@@ -164,6 +201,75 @@ impl Status {
             Ok(()) => self.code(),
             Err(SinkFailed) => LOG_FAULT,
         }
+    }
+
+    /// Of what is said of a configuration, a store, a net and a launcher, what is of this status.
+    pub fn reason_among<'a>(
+        &self,
+        conf: &'a [u8],
+        store: &'a [u8],
+        net: &'a [u8],
+        launcher: &'a [u8],
+    ) -> &'a [u8]
+        requires conf { IsReason conf.now }
+        requires store { IsReason store.now }
+        requires net { IsReason net.now }
+        requires launcher { IsReason launcher.now }
+        ensures among { result.now ≡ reason_among self.now conf.entry.now store.entry.now net.entry.now
+            launcher.entry.now }
+        ensures is_reason { IsReason result.now }
+    {
+        match self {
+            Status::BadConf { .. } | Status::BadPqact { .. } => conf,
+            Status::StoreFault => store,
+            Status::NetFault => net,
+            Status::ChildFault => launcher,
+            _ => b"".as_slice(),
+        }
+    }
+
+    /// Reports as [`Status::report`] does, and where the status [says why](Status::says_why), and the reason is not
+    /// empty, writes a line `ldm: REASON` before the log line. Both go to the log in one piece.
+    pub fn report_because<E: Sink>(&self, reason: &[u8], log: &mut E) -> u8
+        requires { IsReason reason.now }
+        ensures reports { ReportsFor reason.now self.now result (E.tells log.old) (E.tells log.new) }
+        ensures because { ReportsBecause self.now result (E.tells log.old) (E.tells log.new) }
+        ensures faults_kept { (E.tells log.old).faults ≤ (E.tells log.new).faults }
+    {
+        let mut lines = ArrayVec::new();
+        self.put_lines(reason, &mut lines);
+        match write_all(log, lines.as_slice()) {
+            Ok(()) => self.code(),
+            Err(SinkFailed) => LOG_FAULT,
+        }
+    }
+
+    // Puts the line of the reason, if the status says why, and the log line into the empty buffer.
+    fn put_lines(&self, reason: &[u8], out: &mut ArrayVec<u8, LONGEST_LOG_LINES>)
+        requires reason { IsReason reason.now }
+        requires empty { out.old.items ≡ [] }
+        ensures { out.new.items ≡ log_lines reason.now self.now }
+    {
+        let mut line = LogLine::new();
+        self.write_line(&mut line);
+        if self.says_why() {
+            put_reason(out, reason);
+        }
+        put(out, line.as_slice());
+    }
+}
+
+// Writes the line of a reason, if there is one.
+fn put_reason(out: &mut ArrayVec<u8, LONGEST_LOG_LINES>, reason: &[u8])
+    requires reason { IsReason reason.now }
+    requires empty { out.old.items ≡ [] }
+    ensures text { out.new.items ≡ reason_line reason.now }
+    ensures len { array_vec_len out.new ≤ LONGEST_REASON + 6 }
+{
+    if let [_, ..] = reason {
+        put(out, b"ldm: ");
+        put(out, reason);
+        put(out, b"\n");
     }
 }
 

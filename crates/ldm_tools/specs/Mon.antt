@@ -10,7 +10,7 @@ use Rattle.ldm_relay.specs.Spelling.{record_of, written}
 use Rattle.ldm_script.specs.Answer.{answer_line}
 use Rattle.ldm_status.specs.declared.status.Status.{Status}
 use Rattle.ldm_status.specs.declared.status.Status.TheVariants as status
-use Rattle.ldm_status.specs.Status.{Reports}
+use Rattle.ldm_status.specs.Status.{ReportsBecause}
 use Rattle.ldm_tools.specs.declared.mon.MonFault.{MonFault}
 use Rattle.ldm_tools.specs.declared.mon.MonFault.TheVariants.{Unreached, NoStat, Denied, SinkFault}
 use Rattle.ldm_tools.specs.declared.no_reply.NoReply.{NoReply}
@@ -96,4 +96,4 @@ status_of_mon (Err SinkFault) = status.SinkFault
 pub record Mons (code : ℕ) (peer : Asked) (old new : MonRecord) : Type 0 where
   pub ending : Result (Unit {0}) MonFault
   pub ends : MonEnds ending peer old.net new.net old.sink new.sink
-  pub reports : Reports (status_of_mon ending) code old.log new.log
+  pub reports : ReportsBecause (status_of_mon ending) code old.log new.log

@@ -11,7 +11,7 @@ use crate::no_reply::NoReply;
 use crate::reader::LinkReader;
 use crate::replies::hear_stat;
 use crate::statuses::status_of_mon;
-use ldm_outside::{Dial, Dialled, Link, Sink, SinkFailed, send_all, write_all};
+use ldm_outside::{Dial, Dialled, Link, Reasons, Sink, SinkFailed, send_all, write_all};
 use ldm_relay::{Message, Qstat, Stat, write_message};
 use ldm_script::{Answer, Text, write_answer};
 use ldm_types::OutOfMemory;
@@ -35,7 +35,7 @@ pub enum MonFault {
 ///
 /// It connects once, sends one QSTAT, and hears its reply. The link is given back before anything is written. The
 /// clause `ends` gives each status its cause, and what was sent, given and written then: see `Mons`.
-pub fn pqmon<N: Dial, K: Sink, E: Sink>(
+pub fn pqmon<N: Dial + Reasons, K: Sink, E: Sink>(
     alloc: Global,
     net: &mut N,
     sink: &mut K,
@@ -52,7 +52,7 @@ pub fn pqmon<N: Dial, K: Sink, E: Sink>(
         (mon_tells N.tells K.tells E.tells net.new sink.new log.new) }
 {
     let ending = monitor(alloc, net, sink, host, port);
-    status_of_mon(ending).report(log)
+    status_of_mon(ending).report_because(net.reason(), log)
 }
 
 // Connects, asks, gives the link back, and writes the figures.

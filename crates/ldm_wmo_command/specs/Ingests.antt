@@ -6,7 +6,7 @@ use Rattle.ldm_relay.specs.declared.message.PutAnswer.{PutAnswer}
 use Rattle.ldm_status.specs.declared.status.Status.{Status}
 use Rattle.ldm_status.specs.declared.status.Status.TheVariants as status
 use Rattle.ldm_status.specs.declared.status.TheConstants.{LOG_FAULT}
-use Rattle.ldm_status.specs.Status.{Reports}
+use Rattle.ldm_status.specs.Status.{ReportsBecause}
 use Rattle.ldm_tools.specs.Asking.{IsLinked, IsUnreached}
 use Rattle.ldm_tools.specs.Telling.{status_of_put_fault}
 use Rattle.ldm_wmo_command.specs.declared.fault.IngestFault.{IngestFault}
@@ -37,7 +37,7 @@ closing_of (Err fault.LogFault) = Silent LOG_FAULT
 
 -- the number that ends the program, and what the log took of it
 abbrev pub Closes : Closing → ℕ → SinkRecord → SinkRecord → Type 0
-Closes (Line ending) code old new = Reports ending code old new
+Closes (Line ending) code old new = ReportsBecause ending code old new
 Closes (Silent number) code old new = (code ≡ number) × (new ≡ old)
 
 -- The dial was asked once, and connected a link. The bulletins of the source were taken over it, and it was given back as it was left.

@@ -11,7 +11,7 @@ use crate::ingestion::Ingestion;
 use crate::outcome::Outcome;
 use crate::statuses::close;
 use crate::streaming::take_stream;
-use ldm_outside::{Clock, Dial, Dialled, Sink, Source};
+use ldm_outside::{Clock, Dial, Dialled, Reasons, Sink, Source};
 use std::alloc::Global;
 
 /// Puts the bulletins of a source into the queue of a node, one after another, and writes the answer to each as a line.
@@ -24,7 +24,7 @@ use std::alloc::Global;
 /// link is given back before the last line of the log is written.
 ///
 /// [`Info::new`](ldm_types::Info::new) accepts the origin.
-pub fn ingest<S: Source, N: Dial, K: Sink, E: Sink, C: Clock>(
+pub fn ingest<S: Source, N: Dial + Reasons, K: Sink, E: Sink, C: Clock>(
     alloc: Global,
     source: &mut S,
     net: &mut N,
@@ -48,7 +48,7 @@ pub fn ingest<S: Source, N: Dial, K: Sink, E: Sink, C: Clock>(
         (streams_tell S.tells K.tells E.tells source.new sink.new log.new) net.new clock.new) }
 {
     let ending = ingest_stream(alloc, source, net, sink, log, clock, ingestion);
-    close(ending, log)
+    close(ending, net.reason(), log)
 }
 
 // Connects, takes the bulletins, and gives the link back. Answers what was met first.

@@ -1,7 +1,7 @@
 //! The words of the commands that take options, most of them read by `clap`: each function reads the words behind the
 //! name of its command.
 //!
-//! Words that are no form of a command are [`WordsFault::Usage`].
+//! Words that are no form of a command are [`WordsFault::Usage`], and [`why_usage`] says what is wrong with them.
 #![tactic(auto)]
 
 mod act;
@@ -17,6 +17,7 @@ mod node;
 mod receiving;
 mod said;
 mod stats;
+mod usage;
 mod values;
 mod wmo;
 
@@ -38,4 +39,5 @@ pub use said::{
     ActWords, ChainWords, InsertWords, NodeWords, ReceivingWords, SaveWords, StatsWords, WmoWords,
 };
 pub use stats::read_pqstats;
+pub use usage::why_usage;
 pub use wmo::read_wmo;

@@ -147,7 +147,8 @@ pub(crate) fn peer(matches: &ArgMatches<'_>) -> Option<Address>
     read_peer(text.as_bytes())
 }
 
-fn read_peer(text: &[u8]) -> Option<Address>
+/// The node in a text.
+pub(crate) fn read_peer(text: &[u8]) -> Option<Address>
     ensures { option_map address_view result ≡ peer_of text.now }
 {
     if text.contains(&b':') {

@@ -9,13 +9,13 @@ pub returns-in-Err-OutOfMemory-clause-ends : goal.returns-in-Err-OutOfMemory-cla
 returns-in-Err-OutOfMemory-clause-ends g c =
     let words = map (string_bytes {Z = Global}) c.args.words.now in
     let lacks = subst (λ (why : WordsFault). IsUnread (command_of words) (take_memory words) why) c.in-Err-OutOfMemory.field-0-is c.in-Err-OutOfMemory.ensures in
-    lacking_ends _ _ _ _ _ _ (lacks, (search rules, search rules), c.report-in-Err-OutOfMemory.ensures.reports)
+    lacking_ends _ _ _ _ _ _ (lacks, (search rules, search rules), c.report.ensures.reports)
 
 pub returns-in-Err-OutOfMemory-clause-law : goal.returns-in-Err-OutOfMemory-clause-law
 returns-in-Err-OutOfMemory-clause-law g c =
     let words = map (string_bytes {Z = Global}) c.args.words.now in
     let lacks = subst (λ (why : WordsFault). IsUnread (command_of words) (take_memory words) why) c.in-Err-OutOfMemory.field-0-is c.in-Err-OutOfMemory.ensures in
-    lacking_law _ _ _ _ _ _ (lacks, (search rules, search rules), c.report-in-Err-OutOfMemory.ensures.reports)
+    lacking_law _ _ _ _ _ _ (lacks, (search rules, search rules), c.report.ensures.reports)
 
 pub returns-in-Err-OutOfMemory-clause-completes : goal.returns-in-Err-OutOfMemory-clause-completes
-returns-in-Err-OutOfMemory-clause-completes g c = lacking_completes _ _ _ _ _ c.report-in-Err-OutOfMemory.ensures.reports
+returns-in-Err-OutOfMemory-clause-completes g c = lacking_completes _ _ _ _ _ c.report.ensures.reports

@@ -1,0 +1,167 @@
+#!/usr/bin/env python3
+"""Makes mistakes that new users make, with real files, programs and ports, and compares what the program says of each: the line that
+names the word, the file or the host, and then the line of its status.
+
+Called as: tests/reasons.py [PROGRAM]. The program is crates/ldm/out/ldm, where none is named. The lines are those of docs/commands.md.
+"""
+
+import os
+import pathlib
+import socket
+import sys
+
+import nodes
+from nodes import HOST, OPEN, free_port, try_case
+from peers import expect, port_of
+
+CONF = {
+    "good": OPEN,
+    "keyword.conf": "# a comment\nALOW ANY .*\n",
+    "fields.conf": "ALLOW ANY\n",
+    "feed.conf": "\nALLOW NEXRAD9 ^.*\r\n",
+    "pattern.conf": "REQUEST ANY ( host:388\n",
+    "port.conf": "REQUEST ANY .* host:0\n",
+    "tab.conf": "ALLOW\tANY\n",
+    "wide.conf": "ALOW " + "x" * 300 + "\n",
+    "include.conf": "INCLUDE gone.conf\n",
+    "inner.conf": "ALLOW ANY .*\nINCLUDE keyword.conf\n",
+    "program.conf": "EXEC no-such-program\n",
+    "forbidden.conf": "EXEC ./no-right\n",
+    "action": "IDS\t^S\tFILLE\tdata\n",
+    "option": "\nIDS\t^S\tFILE\t-overwrit data\n",
+    "two fields": "IDS\t^S\n",
+    "class": "NEXRAD9\t^S\tFILE\tdata\n",
+    "long": "#" * 1_048_577,
+    "no-right": "x",
+}
+
+PATH_OF_100 = "p" * 100
+
+
+def usage(place):
+    """Words that are no form of a command."""
+    cases = [
+        (["node"], "node: no configuration is named"),
+        (["node", "-a", "1G", "good"], "node: -a: 1G is no number"),
+        (["node", "-p", 65_536, "good"], "node: -p: 65536 is no port"),
+        (["node", "-w", 2**32, "good"], "node: -w: 4294967296 is no number below 4294967296"),
+        (["node", "-z", "good"], "node: -z: no such option"),
+        (["node", "good", "more"], "node: more: one word too many"),
+        (["node", "-a"], "node: -a: has no value"),
+        (["node", "-a", 64, "-a", 64, "good"], "node: -a: given twice"),
+        (["pqinsert"], "pqinsert: no file is named"),
+        (["pqinsert", "-i"], "pqinsert: no file is named"),
+        (["pqinsert", "-o", "h" * 65, "good"], f"pqinsert: -o: {'h' * 65} is no origin"),
+        (["pqcat", "-f", "NEXRAD9"], "pqcat: -f: NEXRAD9 is no feedtype"),
+        (["pqcat", "-p", "("], "pqcat: -p: ( is no pattern"),
+        (["pqcat", "-c", 0], "pqcat: -c: 0 is no count of at least 1"),
+        (["pqcat", "x\ty"], "pqcat: x?y: one word too many"),
+        (["notifyme", "-q", HOST], f"notifyme: -q: {HOST} is no HOST:PORT"),
+        (["pqmon", f"{HOST}:388"], f"pqmon: {HOST}:388: one word too many"),
+        (["pqstats", "-w", 8_761], "pqstats: -w: 8761 is no number from 1 to 8760"),
+        (["wmo", "-p", "ident"], "wmo: -p: no such option"),
+        (["pqact"], "pqact: no pqact.conf is named"),
+        (["pqact", "action"], "pqact: no HOST:PORT is named"),
+        (["save", "queue", "1K", 10], "save: 1K is no number"),
+        (["resume"], "resume: no file is named"),
+        # these have no more than their status line
+        (["play", "1K", 10], None),
+        (["crowd", 168], None),
+        (["exercise"], None),
+        (["chain", 168, 10], None),
+        (["pqcta"], None),
+        ([], None),
+    ]
+    for words, why in cases:
+        ran = place.run(*words)
+        expect(ran, (64, b"", lines(why, "usage")), f"{words}")
+
+
+def configurations(place):
+    """Faults of an ldmd.conf and of a pqact.conf."""
+    fields = "too few words, too many, or one of a wrong form"
+    few = "too few fields, too many, or one of a wrong form"
+    at = ["node", "-p", free_port()]
+    cases = [
+        ([*at, "keyword.conf"], "keyword.conf:2: no such keyword: ALOW ANY .*", "conf file 0 line 2 kind 1"),
+        ([*at, "fields.conf"], f"fields.conf:1: {fields}: ALLOW ANY", "conf file 0 line 1 kind 2"),
+        ([*at, "tab.conf"], f"tab.conf:1: {fields}: ALLOW?ANY", "conf file 0 line 1 kind 2"),
+        ([*at, "port.conf"], f"port.conf:1: {fields}: REQUEST ANY .* host:0", "conf file 0 line 1 kind 2"),
+        ([*at, "feed.conf"], "feed.conf:2: no such feedtype: ALLOW NEXRAD9 ^.*", "conf file 0 line 2 kind 3"),
+        ([*at, "pattern.conf"], "pattern.conf:1: a pattern that does not read: REQUEST ANY ( host:388", "conf file 0 line 1 kind 4"),
+        ([*at, "wide.conf"], f"wide.conf:1: no such keyword: ALOW {'x' * 95}", "conf file 0 line 1 kind 1"),
+        ([*at, "inner.conf"], "inner.conf includes a faulty file: file 1, line 2: no such keyword", "conf file 1 line 2 kind 1"),
+        ([*at, "long"], "long: the file is too long", "conf file 0 line 0 kind 7"),
+        (["pqact", "action", f"{HOST}:1"], "action:1: no such action: IDS?^S?FILLE?data", "pqact line 1 kind 4"),
+        (["pqact", "option", f"{HOST}:1"], "option:2: no such option of the action: IDS?^S?FILE?-overwrit data", "pqact line 2 kind 5"),
+        (["pqact", "two fields", f"{HOST}:1"], f"two fields:1: {few}: IDS?^S", "pqact line 1 kind 1"),
+        (["pqact", "class", f"{HOST}:1"], "class:1: no such feedtype: NEXRAD9?^S?FILE?data", "pqact line 1 kind 2"),
+    ]
+    for words, why, kind in cases:
+        expect(place.run(*words), (65, b"", lines(why, f"bad {kind}")), f"{words}")
+
+
+def files_and_programs(place):
+    """Files that are not there, that may not be read or are none, and programs that do not start."""
+    node = place.node(OPEN)
+    missing = "No such file or directory"
+    (place.folder / "no-right").chmod(0)
+    at = ["node", "-p", free_port()]
+    cases = [
+        ([*at, "etc/ldmd.conf"], 72, f"etc/ldmd.conf: {missing}"),
+        ([*at, "include.conf"], 72, f"gone.conf: {missing}"),
+        ([*at, "folder"], 72, "folder: Is a directory"),
+        ([*at, "good/x"], 72, "good/x: Not a directory"),
+        ([*at, PATH_OF_100 * 2], 72, f"{PATH_OF_100}{'p' * 30}: {missing}"),
+        (["pqinsert", "-q", node.at, "gone"], 72, f"gone: {missing}"),
+        (["pqinsert", "-q", node.at, "/dev/null"], 72, "/dev/null: Is no regular file"),
+        (["pqact", "etc/pqact.conf", node.at], 72, f"etc/pqact.conf: {missing}"),
+        ([*at, "program.conf"], 73, f"no-such-program: {missing}"),
+        ([*at, "forbidden.conf"], 73, "./no-right: Permission denied"),
+    ]
+    if os.geteuid():
+        cases += [(["pqinsert", "-q", node.at, "no-right"], 72, "no-right: Permission denied")]
+    for words, status, why in cases:
+        expect(place.run(*words), (status, b"", lines(why, {72: "store fault", 73: "child fault"}[status])), f"{words}")
+
+
+def hosts_and_ports(place):
+    """Ports at which nobody listens, that are taken, and names that are none."""
+    nowhere = free_port()
+    for words in (["pqmon"], ["pqcat"], ["notifyme"], ["pqstats"], ["wmo"], ["pqinsert", "good"]):
+        ran = place.run(words[0], "-q", f"{HOST}:{nowhere}", *words[1:])
+        expect(ran, (69, b"", lines(f"{HOST}:{nowhere}: Connection refused", "net fault")), f"{words} where nobody listens")
+    with socket.create_server(("", 0)) as taken:
+        ran = place.run("node", "-p", port_of(taken), "good")
+        expect(ran, (69, b"", lines(f"port {port_of(taken)}: Address already in use", "net fault")), "a port that is taken")
+    ran = place.run("pqmon", "-q", "no-such-host.invalid:388")
+    said = ran.log.decode().splitlines()
+    if ran.status != 69 or len(said) != 2 or not said[0].startswith("ldm: no-such-host.invalid:388: ") or said[1] != "ldm: net fault":
+        expect(ran, (69, b"", "a line about no-such-host.invalid:388"), "a name that is none")
+
+
+def lines(why, status):
+    """The line that says why, if one does, and that of the status."""
+    return (f"ldm: {why}\n" if why else "").encode() + f"ldm: {status}\n".encode()
+
+
+def with_files(case):
+    def run(place):
+        for name, text in CONF.items():
+            place.file(name, text)
+        (place.folder / "folder").mkdir()
+        case(place)
+
+    run.__name__ = case.__name__
+    return run
+
+
+def main():
+    if sys.argv[1:]:
+        nodes.PROGRAM = pathlib.Path(sys.argv[1]).resolve()
+    cases = [usage, configurations, files_and_programs, hosts_and_ports]
+    sys.exit(not all([try_case(with_files(case)) for case in cases]))
+
+
+if __name__ == "__main__":
+    main()
