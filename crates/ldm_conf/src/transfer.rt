@@ -10,8 +10,8 @@ use crate::limits::{ALTERNATE_MAX_HEREIS, PRIMARY_MAX_HEREIS};
 pub enum Transfer {
     /// Large products come whole too. For the host that is to be the first with each product.
     Primary,
-    /// Large products are announced first, and come where they are not queued yet. For every other host, and what a line
-    /// without a word asks for.
+    /// Large products are announced first, and come where they are not queued yet. For every other host, and what a
+    /// line without a word asks for.
     Alternate,
 }
 

@@ -5,7 +5,8 @@
 ghost use Rattle.std.specs.Prelude.{◌≡◌, ◌≢◌, ◌+◌, ◌*◌, ◌<◌, ◌≤◌, ◌^◌, length};
 ghost use Rattle.ldm_freelist.specs.Nodes.{height_at, pair_at};
 ghost use Rattle.ldm_freelist.specs.Tree.{Tree, Fork, height, root_of, IsTree, IsLoose, Balances, IsAddable, Adds};
-ghost use Rattle.ldm_freelist.specs.Tree.{IsLow, HasPair, Takes, TakesTop, TakesFirst, Finds, FindsTo, IsLast, IsLeaningLeft};
+ghost use Rattle.ldm_freelist.specs.Tree.{IsLow, HasPair, Takes, TakesTop, TakesFirst, Finds, FindsTo, IsLast};
+ghost use Rattle.ldm_freelist.specs.Tree.{IsLeaningLeft};
 ghost use Rattle.ldm_freelist.specs.Tree.{IsLeaningRight, RaisesLeft, RaisesLeftInner, RaisesRight, RaisesRightInner};
 
 use crate::node_table::{NONE, NodeTable, Steps};

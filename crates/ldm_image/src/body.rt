@@ -1,11 +1,13 @@
 //! Writing all bytes of an image but its gate.
-ghost use Rattle.std.specs.Prelude.{◌≡◌, ◌+◌, ◌*◌, ◌<◌, ◌≤◌, ◌∷◌, ◌++◌, [], ℕ, List, IfOk, IfSome, OnErr, OnOk, ◌^◌, vec_len};
+ghost use Rattle.std.specs.Prelude.{◌≡◌, ◌+◌, ◌*◌, ◌<◌, ◌≤◌, ◌∷◌, ◌++◌, [], ℕ, List, IfOk, IfSome, OnErr, OnOk, ◌^◌};
+ghost use Rattle.std.specs.Prelude.{vec_len};
 ghost use Rattle.std.specs.Prelude.{length};
 ghost use Rattle.std.specs.Vec.{vec_capacity};
 ghost use Rattle.ldm_outside.specs.Count.{Rose};
 ghost use Rattle.ldm_disk.specs.Calls.{FileChanges, KeepsDisk, Rises};
 ghost use Rattle.ldm_image.specs.Image.{eight, last_field};
-ghost use Rattle.ldm_image.specs.Bodies.{Appends, Begins, Ends, Finishes, HasRoom, IsBeing, IsShut, WritesBody, WritesHead};
+ghost use Rattle.ldm_image.specs.Bodies.{Appends, Begins, Ends, Finishes, HasRoom, IsBeing, IsShut, WritesBody};
+ghost use Rattle.ldm_image.specs.Bodies.{WritesHead};
 ghost use Rattle.ldm_image.specs.Bodies.{WritesMore, between_rows, sizes_of};
 
 use byteorder::{BigEndian, ByteOrder};
@@ -127,7 +129,8 @@ fn add_rows(book: &Book, first: u32, count: u32, piece: &mut Vec<u8>) -> u32
 fn write_piece<D: Disk>(disk: &mut D, at: u64, piece: &mut Vec<u8>) -> Result<u64, Failed>
     requires being { IfSome (D.tells disk.old).file (IsBeing at) }
     requires fits { at + vec_len piece.old < 2 ^ 64 }
-    ensures written { FileChanges (WritesMore result at piece.old.items) (D.tells disk.old).file (D.tells disk.new).file }
+    ensures written { FileChanges (WritesMore result at piece.old.items) (D.tells disk.old).file
+        (D.tells disk.new).file }
     ensures at { IfOk result (λ behind. behind ≡ at + vec_len piece.old) }
     ensures empty { OnOk result (piece.new.items ≡ []) }
     ensures len { OnOk result (vec_len piece.new ≡ 0) }

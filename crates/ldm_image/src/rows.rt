@@ -49,8 +49,8 @@ pub(crate) fn judge_rows(alloc: Global, table: &[u8], sizes: &Sizes) -> Result<R
     Ok(Rows { notes, fault: None })
 }
 
-// A row, whose number and time are from these on. An error is where the first number begins that is not lawful, whatever
-// stands in the arena.
+// A row, whose number and time are from these on. An error is where the first number begins that is not lawful,
+// whatever stands in the arena.
 fn read_row(table: &[u8], row: u32, number: u64, time: u64, sizes: &Sizes) -> Result<RowNote, u64>
     requires { row < sizes.now.count }
     ensures judged { (file : List ℕ) → HoldsTable table.now sizes.now file → AreFrom number time row file →

@@ -30,8 +30,9 @@ pub enum SaveEnd {
 
 /// Saves the image of a queue over the file of a disk, which is attached and of which nothing is pending.
 ///
-/// Whenever it is broken off, the file then opens as it would have before, or as the queue, or it is unclean; over a file
-/// that was no image it may also be no image. It takes a buffer of a quarter of a mebibyte, whatever the queue has.
+/// Whenever it is broken off, the file then opens as it would have before, or as the queue, or it is unclean; over a
+/// file that was no image it may also be no image. It takes a buffer of a quarter of a mebibyte, whatever the queue
+/// has.
 ///
 /// The file is made unclean before any other byte of it is written, and is marked clean once all of them are synced.
 pub fn save_image<D: Disk>(alloc: Global, book: &Book, disk: &mut D) -> SaveEnd

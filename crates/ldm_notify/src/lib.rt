@@ -2,8 +2,8 @@
 //! product that is due.
 //!
 //! [`notify`] answers a request and tells of products; [`notify_asked`] does where the class is not built yet. What a
-//! session of notices is stands in `specs/`, as plain data: see `Notifying`; and what the call says at each of its ends:
-//! see `Notifies`.
+//! session of notices is stands in `specs/`, as plain data: see `Notifying`; and what the call says at each of its
+//! ends: see `Notifies`.
 #![tactic(auto)]
 
 mod course;

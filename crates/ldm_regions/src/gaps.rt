@@ -91,8 +91,8 @@ impl Gaps {
         })
     }
 
-    /// Of the gaps that begin at a position or in front of it, the last: where it begins, and the owner of the region in
-    /// front of it.
+    /// Of the gaps that begin at a position or in front of it, the last: where it begins, and the owner of the region
+    /// in front of it.
     pub fn begun(&self, at: u64) -> Option<(u64, u32)>
         requires { AreMatched self.now.extents.members self.now.fronts.members }
         ensures { IsLastTo at self.now.fronts.members result }

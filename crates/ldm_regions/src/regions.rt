@@ -101,8 +101,8 @@ impl Regions {
         Some(gap.start)
     }
 
-    /// Gives an owner the region of that length at that offset, where all of it is free and within the arena, and answers
-    /// whether it is; else nothing changes.
+    /// Gives an owner the region of that length at that offset, where all of it is free and within the arena, and
+    /// answers whether it is; else nothing changes.
     pub fn place(&mut self, offset: u64, need: u64, owner: u32) -> bool
         requires need { 0 < need }
         requires owner { owner < self.old.slots }

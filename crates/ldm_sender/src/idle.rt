@@ -13,8 +13,8 @@ use ldm_outside::{Clock, Gate, Go, Link};
 use ldm_relay::{Isalive, Message, write_message};
 use ldm_session::{is_silent_since, send_before_rest};
 
-/// Sends all that is gathered, looks whether the peer is still there, and asks the gate. Where that says to go on, an IS_ALIVE is gathered if nothing was sent
-/// for long.
+/// Sends all that is gathered, looks whether the peer is still there, and asks the gate. Where that says to go on, an
+/// IS_ALIVE is gathered if nothing was sent for long.
 pub fn wait_idle<K: Link, C: Clock, G: Gate>(
     standing: &mut Standing,
     out: &mut Vec<u8>,

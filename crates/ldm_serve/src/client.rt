@@ -67,8 +67,8 @@ impl<'a> Client<'a> {
         self.host
     }
 
-    /// What the rules leave of a class that the host wants to push, by the ACCEPT rules, or else to be fed, by the ALLOW
-    /// rules.
+    /// What the rules leave of a class that the host wants to push, by the ACCEPT rules, or else to be fed, by the
+    /// ALLOW rules.
     pub(crate) fn left_of(&self, class: &ClassSpec, push: bool) -> Result<Reduced, OutOfMemory>
         ensures { IfOk result (λ left. left ≡ reduce (rules_for push self.now.rules) self.now.host class.now) }
     {
@@ -92,7 +92,8 @@ impl<'a> Client<'a> {
     /// What the metadata of a PUT decide by themselves: that the rules do not let the host push the product, or that
     /// the arena is smaller than it. None where the product is to be offered to the queue.
     pub(crate) fn front_answer(&mut self, info: &Info) -> Result<Option<PutAnswer>, OutOfMemory>
-        ensures answer { IfOk result (λ answer. (actor : ℕ) → answer ≡ front_answer (client_by self.old actor) info.now) }
+        ensures answer { IfOk result
+            (λ answer. (actor : ℕ) → answer ≡ front_answer (client_by self.old actor) info.now) }
         ensures same { self.new ≡ self.old }
     {
         if !self.may_push(info)? {

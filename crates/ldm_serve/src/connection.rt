@@ -50,7 +50,8 @@ pub fn serve<H: Wait, K: Link, E: Sink, G: Gate, C: Clock>(
     ensures kept { IsSamePass pass.old pass.new }
     ensures counts { KeepsFaults (session_tells K.tells E.tells C.tells G.tells link.old log.old clock.old gate.old)
         (session_tells K.tells E.tells C.tells G.tells link.new log.new clock.new gate.new) }
-    ensures serves { ServesAll result (record { rules = conf.now.policy; host = host.now; actor = pass.old.actor; arena = shared.now.arena })
+    ensures serves { ServesAll result
+        (record { rules = conf.now.policy; host = host.now; actor = pass.old.actor; arena = shared.now.arena })
         (moment_of pass.old (session_tells K.tells E.tells C.tells G.tells link.old log.old clock.old gate.old))
         (moment_of pass.new (session_tells K.tells E.tells C.tells G.tells link.new log.new clock.new gate.new)) }
 {
@@ -106,8 +107,8 @@ impl<'a> Server<'a> {
         requires reads { ReadsCalls self.old.connection 0 }
         requires room { 0 < vec_len self.old.piece }
         ensures kept { IsSamePass pass.old pass.new }
-        ensures runs { Runs (Some result) (client_by self.old.connection.client pass.old.actor) self.old.connection.serving []
-            self.new.connection.serving
+        ensures runs { Runs (Some result) (client_by self.old.connection.client pass.old.actor)
+            self.old.connection.serving [] self.new.connection.serving
             (moment_of pass.old (session_tells K.tells E.tells C.tells G.tells link.old log.old clock.old gate.old))
             (moment_of pass.new (session_tells K.tells E.tells C.tells G.tells link.new log.new clock.new gate.new)) }
     {

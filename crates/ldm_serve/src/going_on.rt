@@ -127,8 +127,8 @@ pub(crate) struct Behind<'a> {
 
 impl Connection<'_> {
     /// Goes on behind such a record: feeds, tells of products, or receives, up to the end of that, which is written; or
-    /// is over. Where a part of the class is left to the host, there is no end: the peer was told that part, and the next
-    /// record is to be read.
+    /// is over. Where a part of the class is left to the host, there is no end: the peer was told that part, and the
+    /// next record is to be read.
     #[cold]
     #[inline(never)]
     pub(crate) fn go_on<H: Wait, K: Link, E: Sink, G: Gate, C: Clock>(

@@ -24,7 +24,8 @@ pub enum Asked<'a> {
 
 /// What the content of a record asks of a server.
 pub fn read_asked(content: &[u8]) -> Asked<'_>
-    ensures asked { (rules : Rules) (host : List ℕ) → to_reading rules host (call_of content.now) ≡ to_asked rules host result }
+    ensures asked { (rules : Rules) (host : List ℕ)
+        → to_reading rules host (call_of content.now) ≡ to_asked rules host result }
     ensures unread { IsUnread (call_of content.now) result }
     ensures sized { IsSizedAsked result }
 {

@@ -33,8 +33,8 @@ use std::alloc::Global;
 use std::sync::Wait;
 
 /// Responds to a record of a host, of which all is kept or a front: asks the queue what [the
-/// definition](../specs/Respond.antt) says, appends the records that the peer is owed, and tells how the connection goes
-/// on.
+/// definition](../specs/Respond.antt) says, appends the records that the peer is owed, and tells how the connection
+/// goes on.
 ///
 /// Memory is taken before the clock and the queue are asked, so what the queue answered is never lost. The body of a
 /// product goes from the record into the queue without a copy between. A record of which less is kept than its answer
@@ -267,7 +267,8 @@ fn refuse_long(
 #[cold]
 #[inline(never)]
 fn answer_cut(front: &[u8], out: &mut Vec<u8>, next: &mut Responded) -> Result<(), RespondFault>
-    ensures { (pass : PassView) (clock : ClockRecord) → Responds (with_next result next.new) (to_cut (call_of front.now))
+    ensures { (pass : PassView) (clock : ClockRecord)
+        → Responds (with_next result next.new) (to_cut (call_of front.now))
         (stands pass clock out.old.items) (stands pass clock out.new.items) }
 {
     write_next(respond_to_cut(front, out), next)

@@ -18,7 +18,8 @@ pub fn rules_are_kept()
     // No product is inserted for which the ACCEPT verdict of the host is No.
     ensures inserts { (client : Client) (content : List ℕ) (now actor : ℕ) (made : List Entry)
         (time : ℕ) (info : Metadata) (body : List ℕ) → Begins actor (answering (respond client content) now) made →
-        Contains (events_of made) (Insert time info body) → is_yes (verdict client.rules.accept client.host info) ≡ true }
+        Contains (events_of made) (Insert time info body)
+        → is_yes (verdict client.rules.accept client.host info) ≡ true }
     // The queue is asked for its figures only for a host that an ALLOW rule is about, and they go to no other.
     ensures asks_figures { (client : Client) (content : List ℕ) (now actor : ℕ) (made : List Entry) →
         Begins actor (answering (respond client content) now) made → Contains (events_of made) Stat →
@@ -26,5 +27,6 @@ pub fn rules_are_kept()
     ensures tells_figures { (client : Client) (content : List ℕ) (now actor : ℕ) (made : List Entry)
         (messages : List Sent) (xid : ℕ) (stat : figures.Stat)
         → Leads actor (answering (respond client content) now) made messages →
-        Contains messages (sent.QstatReply xid (Some stat)) → list_any (is_about client.host) client.rules.allow ≡ true }
+        Contains messages (sent.QstatReply xid (Some stat))
+        → list_any (is_about client.host) client.rules.allow ≡ true }
 {}

@@ -113,8 +113,9 @@ impl Serving {
         }
     }
 
-    /// Receives some bytes straight into the record in hand, where much of it is to come, and no more of them than there
-    /// is room for in the stream. `None` where little is to come, or there is no memory: then the link was not asked.
+    /// Receives some bytes straight into the record in hand, where much of it is to come, and no more of them than
+    /// there is room for in the stream. `None` where little is to come, or there is no memory: then the link was not
+    /// asked.
     pub(crate) fn fill<K: Link>(&mut self, link: &mut K, room: u64, awaited: Awaited) -> Option<Got>
         requires not_closed { IsNotClosed (K.tells link.old) }
         requires room { self.old.came + room < 2 ^ 64 }
@@ -261,8 +262,8 @@ fn answer_held<H: Wait, C: Clock>(
     requires going { next.old ≡ Responded.GoesOn }
     ensures kept { IsSamePass pass.old pass.new }
     ensures same { client.new ≡ client.old }
-    ensures finds { (at : ℕ) (content : Option (List ℕ)) → IsFrontIn held.entry content → Finds (stop_of result next.new at)
-        next.new (client_by client.old pass.old.actor) at content
+    ensures finds { (at : ℕ) (content : Option (List ℕ)) → IsFrontIn held.entry content
+        → Finds (stop_of result next.new at) next.new (client_by client.old pass.old.actor) at content
         (stands pass.old (C.tells clock.old) out.old.items) (stands pass.new (C.tells clock.new) out.new.items) }
 {
     match held {

@@ -26,8 +26,8 @@ pub(crate) struct Connection<'a> {
     pub(crate) client: Client<'a>,
     pub(crate) serving: Serving,
     pub(crate) out: Vec<u8>,
-    // How it goes on behind a record that its session does not outlive, and its end, once it came to one. Both have room
-    // for a class: they are written where they stand, by cold functions, and not moved for each record.
+    // How it goes on behind a record that its session does not outlive, and its end, once it came to one. Both have
+    // room for a class: they are written where they stand, by cold functions, and not moved for each record.
     pub(crate) next: Responded,
     pub(crate) end: Option<ServeEnd>,
 }
@@ -53,7 +53,8 @@ impl Connection<'_> {
         ensures same { self.new.client ≡ self.old.client }
         ensures still_open { IfNone self.new.end (IsNotClosed (K.tells link.new)) }
         ensures reads { IfNone self.new.end (ReadsCalls self.new 0) }
-        ensures runs { Runs self.new.end (client_by self.old.client pass.old.actor) self.old.serving piece.now self.new.serving
+        ensures runs { Runs self.new.end (client_by self.old.client pass.old.actor) self.old.serving piece.now
+            self.new.serving
             (moment_of pass.old (session_tells K.tells E.tells C.tells G.tells link.old log.old clock.old gate.old))
             (moment_of pass.new (session_tells K.tells E.tells C.tells G.tells link.new log.new clock.new gate.new)) }
     {
@@ -91,8 +92,8 @@ impl Connection<'_> {
         ensures empty { IfOk result (λ _. self.new.out.items ≡ []) }
         ensures going { IfOk result (λ _. self.new.next ≡ Responded.GoesOn) }
         ensures unended { IfOk result (λ _. self.new.end ≡ None) }
-        ensures takes { TakesTo result self.new.end (client_by self.old.client pass.old.actor) self.old.serving bytes.now
-            self.new.serving
+        ensures takes { TakesTo result self.new.end (client_by self.old.client pass.old.actor) self.old.serving
+            bytes.now self.new.serving
             (moment_of pass.old (session_tells K.tells E.tells C.tells G.tells link.old log.old clock.old gate.old))
             (moment_of pass.new (session_tells K.tells E.tells C.tells G.tells link.new log.new clock.new gate.new)) }
     {

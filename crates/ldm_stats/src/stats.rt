@@ -1,5 +1,6 @@
 //! A table of hourly totals.
-ghost use Rattle.std.specs.Prelude.{◌≡◌, ◌+◌, ◌^◌, ◌<◌, ◌≤◌, ◌++◌, List, [], ◌∷◌, ℕ, All, IfOk, IfSome, IsSome, OnOk, OnErr, ◌↔◌};
+ghost use Rattle.std.specs.Prelude.{◌≡◌, ◌+◌, ◌^◌, ◌<◌, ◌≤◌, ◌++◌, List, [], ◌∷◌, ℕ, All, IfOk, IfSome, IsSome, OnOk};
+ghost use Rattle.std.specs.Prelude.{OnErr, ◌↔◌};
 ghost use Rattle.ldm_stats.specs.Joining.{count_of};
 ghost use Rattle.ldm_stats.specs.Report.{first_from, hour_report, hours_of, in_hour, lines_of, report, AppendsFront};
 ghost use Rattle.ldm_stats.specs.Table.{IsAdvanced, StandsFor};
@@ -27,7 +28,8 @@ pub struct Stats {
 }
 
 impl Model for Stats {
-    ghost use Rattle.ldm_stats.specs.Report.{first_from, hour_report, hours_of, in_hour, lines_of, report, AppendsFront};
+    ghost use Rattle.ldm_stats.specs.Report.{first_from, hour_report, hours_of, in_hour, lines_of, report};
+    ghost use Rattle.ldm_stats.specs.Report.{AppendsFront};
     ghost use Rattle.ldm_stats.specs.Table.{Table};
 
     ghost Value = { Table };

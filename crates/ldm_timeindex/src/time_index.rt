@@ -137,8 +137,8 @@ fn index_of(ring: &Ring, bound: &Bound) -> usize
     low
 }
 
-/// Where the first entry of at least a number stands if no number is missing from there on: mostly none is, since the oldest
-/// products are evicted first. It is a guess.
+/// Where the first entry of at least a number stands if no number is missing from there on: mostly none is, since the
+/// oldest products are evicted first. It is a guess.
 fn expected_at(ring: &Ring, bound: &Bound) -> usize {
     let Bound::AtLeast(n) = bound else {
         return usize::MAX;
