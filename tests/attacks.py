@@ -488,8 +488,10 @@ def ports_that_are_taken(place):
     """A node whose port is taken ends with 69, starts no program, and writes no figures."""
     with socket.create_server(("", 0)) as taken:
         place.file("taken.conf", rules() + 'EXEC "touch started"\n')
-        ran = place.run("node", "-p", taken.getsockname()[1], "taken.conf")
-    expect(ran, (69, b"", b"ldm: net fault\n"), "a node whose port is taken")
+        port = taken.getsockname()[1]
+        ran = place.run("node", "-p", port, "taken.conf")
+    told = f"ldm: port {port}: Address already in use\nldm: net fault\n".encode()
+    expect(ran, (69, b"", told), "a node whose port is taken")
     expect((place.folder / "started").exists(), False, "whether a program was started")
     return "69"
 
@@ -572,7 +574,9 @@ def files_that_are_none(place):
             ran = subprocess.run(command, stdin=subprocess.DEVNULL, capture_output=True, timeout=20, cwd=place.folder)
         except subprocess.TimeoutExpired:
             raise Wrong(f"{words} waits") from None
-        expect((ran.returncode, ran.stdout, ran.stderr), (72, b"", b"ldm: store fault\n"), f"{words}")
+        name = {"includes": "fifo"}.get(words[-1], words[-1] if words[0] == "node" else "fifo")
+        told = f"ldm: {name}: Is no regular file\nldm: store fault\n".encode()
+        expect((ran.returncode, ran.stdout, ran.stderr), (72, b"", told), f"{words}")
     return f"72, within {time.monotonic() - begun:.1f} s"
 
 

@@ -551,7 +551,8 @@ def hears_the_second(place):
         first.say_no_more()
         ran = run.end()
     found = ran.status, ran.log, ran.output.count(b"\n")
-    expect(found, (69, b"ldm: net fault\n", 3), "-s where nobody listens any more")
+    told = f"ldm: {HOST}:{upstream.port}: Connection refused\nldm: net fault\n".encode()
+    expect(found, (69, told, 3), "-s where nobody listens any more")
 
 
 # The first connection
@@ -633,7 +634,8 @@ def follows_reclass(place):
 def breaks_off(place):
     """Nobody listens, a link that breaks, streams of the program that fail, and words that are none."""
     with hold_port() as held, Run(place, ["pqstats", "-s", "-q", f"{HOST}:{port_of(held)}"]) as run:
-        expect(tuple(run.end()), (69, b"", b"ldm: net fault\n"), "a node that is not there")
+        told = f"ldm: {HOST}:{port_of(held)}: Connection refused\nldm: net fault\n".encode()
+        expect(tuple(run.end()), (69, b"", told), "a node that is not there")
     products = some([MARCH, MARCH + HOUR])
     for sent in (0, 1):
         with Upstream() as upstream, start(place, upstream, ["-s"]) as run, fed(upstream) as peer:
@@ -657,7 +659,8 @@ def breaks_off(place):
     wrong = [["-w", 0], ["-w", 8_761], ["-w", "01"], ["-w"], ["-c", 0], ["-s", "x"], ["-s", "-s"], ["-w", 1, "-w", 1]]
     for words in [*wrong, ["-f", "FOO"], ["-p", "("], ["-o", "h"]]:
         with Run(place, ["pqstats", *words]) as run:
-            expect(tuple(run.end()), (64, b"", b"ldm: usage\n"), f"pqstats {words}")
+            status, output, log = run.end()
+            expect((status, output, log.splitlines()[-1]), (64, b"", b"ldm: usage"), f"pqstats {words}")
 
 
 CASES = [

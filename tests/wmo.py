@@ -378,7 +378,8 @@ def says_words(place):
     for words in wrong:
         with Run(place, ["wmo", *words]) as run:
             run.end_source()
-            expect_run(run.end(), (64, b"", b"ldm: usage\n"), f"wmo {words}")
+            ran = run.end()
+            expect((ran.status, ran.output, ran.log.splitlines()[-1]), (64, b"", b"ldm: usage"), f"wmo {words}")
 
 
 # Peers that do not do as they should
@@ -451,11 +452,16 @@ def hears_wrong_replies(place):
         expect_run(run.end(), (0, plain.output, b""), "bytes behind the last answer")
 
 
+def refused(held):
+    """The log where nobody listens at a port that is held."""
+    return f"ldm: {HOST}:{port_of(held)}: Connection refused\nldm: net fault\n".encode()
+
+
 def closes_early(place):
     """Nobody listens, and a link that breaks: before the first PUT, at its answer, and at that of the second."""
     with hold_port() as held, Run(place, ["wmo", "-q", f"{HOST}:{port_of(held)}"]) as run:
         run.write(GOOD)
-        expect_run(run.end(), (69, b"", b"ldm: net fault\n"), "a node that is not there")
+        expect_run(run.end(), (69, b"", refused(held)), "a node that is not there")
     stream = BAD + GOOD + BAD + GOOD
     plain = Plain(stream, admissions())
     for answered in (0, 1):
@@ -492,7 +498,7 @@ def connects_before_it_reads(place):
     os.write(source, GOOD)
     words = ["wmo", "-q"]
     with hold_port() as held, Run(place, [*words, f"{HOST}:{port_of(held)}"], source=f"/proc/self/fd/{given}") as run:
-        expect_run(run.end(), (69, b"", b"ldm: net fault\n"), "a node that is not there")
+        expect_run(run.end(), (69, b"", refused(held)), "a node that is not there")
     expect(os.read(given, 100), GOOD, "what is left of a stream where nobody listens")
     os.close(given)
     os.close(source)
