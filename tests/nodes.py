@@ -887,9 +887,13 @@ def refuses_long_records_of_a_feed(place):
         expect(peer.ask(HIYA, asks), number(BLOCK) + number(OK), "the answer to a HIYA")
         peer.send(call(2, HEREIS, Product(b"y", bytes(200_000), feed=DDS).whole()) + call(3, HEREIS, wanted.whole()))
         until(lambda: node.stat().admitted == 1, "a product")
-    # the sessions that ask for the figures have their lines among these
-    lines = [line for line in node.log()[before:] if not line.startswith("session ")]
-    expect(lines, ["unwanted y"], "the log")
+
+    def told():
+        # the sessions that ask for the figures have their lines among these
+        return [line for line in node.log()[before:] if not line.startswith("session ")]
+
+    until(told, "a line of what is not wanted")
+    expect(told(), ["unwanted y"], "the log")
 
 
 def is_asked_over_ipv6(place):
