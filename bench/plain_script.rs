@@ -1,8 +1,12 @@
 //! Lines of a script, answered by the plain queue as `ldm play` answers them. Every line is taken to be well formed, a
 //! signature to be digits, and feedtypes to be a number.
 
-use crate::queue::{Answer, Metadata, Queue, Start};
+use crate::queue::{Answer, Info, Metadata, Queue, Start};
 use std::collections::HashMap;
+use std::sync::Arc;
+
+// The most fields of a line.
+const MOST_FIELDS: usize = 10;
 
 /// A queue, and what a script on it needs besides.
 pub struct Script {
@@ -17,8 +21,24 @@ fn number<T: std::str::FromStr>(text: &str) -> T {
     text.parse().ok().expect("a number")
 }
 
+// What each byte is worth as a hexadecimal digit.
+const WORTH: [u8; 256] = {
+    let mut worth = [0; 256];
+    let mut i = 0;
+    while i < 16 {
+        worth[b"0123456789abcdef"[i] as usize] = i as u8;
+        worth[b"0123456789ABCDEF"[i] as usize] = i as u8;
+        i += 1;
+    }
+    worth
+};
+
 fn signature(text: &str) -> [u8; 16] {
-    u128::from_str_radix(text, 16).unwrap().to_be_bytes()
+    let mut bytes = [0; 16];
+    for (byte, digits) in bytes.iter_mut().zip(text.as_bytes().chunks_exact(2)) {
+        *byte = WORTH[usize::from(digits[0])] << 4 | WORTH[usize::from(digits[1])];
+    }
+    bytes
 }
 
 fn feed(text: &str) -> u32 {
@@ -43,13 +63,22 @@ fn text_len(text: &str) -> u64 {
     bytes.next_multiple_of(4) as u64
 }
 
+// Fields one blank apart.
+fn joined(fields: &[&str]) -> Box<[u8]> {
+    fields.join(" ").into_bytes().into()
+}
+
 // What the six fields from ARRIVAL to IDENT say of a product with a body of that size.
 fn metadata(fields: &[&str], size: usize) -> Metadata {
     let feed = feed(fields[2]);
     Metadata {
         signature: signature(fields[1]),
         feed,
-        info: format!("{} {} 0x{feed:08x} {} {} {} {size}", fields[0], fields[1], fields[3], fields[4], fields[5]),
+        info: Arc::new(Info {
+            front: joined(&fields[..2]),
+            feed,
+            rest: joined(&fields[3..6]),
+        }),
         texts: text_len(fields[4]) + text_len(fields[5]),
         size,
     }
@@ -114,7 +143,10 @@ impl Script {
 
     /// The answer to a line.
     pub fn answer(&mut self, line: &str) -> Answer {
-        let fields: Vec<&str> = line.split(' ').collect();
+        let mut fields = [""; MOST_FIELDS];
+        for (place, field) in fields.iter_mut().zip(line.split(' ')) {
+            *place = field;
+        }
         let actor = number(fields[0]);
         match fields[1] {
             "insert" => self.insert(&fields[2..]),

@@ -6,8 +6,8 @@
 #[allow(dead_code)]
 mod queue;
 
-use queue::{Answer, Metadata, Queue, Start};
-use std::sync::Mutex;
+use queue::{Answer, Info, Metadata, Queue, Start};
+use std::sync::{Arc, Mutex};
 use std::thread;
 use std::time::Instant;
 
@@ -41,7 +41,8 @@ impl Call for Queue {
 }
 
 fn insert(queue: &mut impl Call, signature: [u8; 16]) -> Answer {
-    let metadata = Metadata { signature, feed: FEED, info: String::from("host product"), texts: 12, size: 96 };
+    let info = Arc::new(Info { front: b"100".as_slice().into(), feed: FEED, rest: b"1 host product".as_slice().into() });
+    let metadata = Metadata { signature, feed: FEED, info, texts: 12, size: 96 };
     queue.call(|queue| queue.insert(100, metadata, &[65; 96]))
 }
 

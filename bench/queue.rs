@@ -1,7 +1,8 @@
-//! A plain Rust queue, for comparison: it stands on the maps and sets of the standard library, and proves nothing.
+//! A plain Rust queue, for comparison: it stands on the collections of the standard library, and proves nothing.
 
-use std::collections::{BTreeMap, BTreeSet, HashMap};
-use std::fmt;
+use std::collections::{BTreeMap, BTreeSet, HashMap, VecDeque};
+use std::hash::{BuildHasherDefault, Hasher};
+use std::sync::Arc;
 
 pub const GREATEST_INSTANT: u64 = 4_294_967_295_999_999;
 
@@ -21,7 +22,7 @@ pub enum Answer {
     Opened { k: usize },
     AllBusy,
     NotQueued,
-    Product { n: u64, time: u64, info: String },
+    Product { n: u64, time: u64, info: Arc<Info>, size: usize },
     Holding { n: u64 },
     Gap { count: u64, least: u64, greatest: u64 },
     End { at: u64 },
@@ -43,50 +44,122 @@ pub enum Answer {
     Discarded,
 }
 
-/// The answer as `ldm play` writes it.
-impl fmt::Display for Answer {
-    fn fmt(&self, f: &mut fmt::Formatter<'_>) -> fmt::Result {
-        match self {
-            Answer::Admitted { n, time, evicted } => write!(f, "admitted {n} {time} {evicted}"),
-            Answer::TooBig { need, arena } => write!(f, "toobig {need} {arena}"),
-            Answer::Duplicate { n } => write!(f, "duplicate {n}"),
-            Answer::TimeEnd => write!(f, "timeend"),
-            Answer::Locked { held } => write!(f, "locked {held}"),
-            Answer::Queued { n, time } => write!(f, "queued {n} {time}"),
-            Answer::Absent => write!(f, "absent"),
-            Answer::Expired { n } => write!(f, "expired {n}"),
-            Answer::Nothing => write!(f, "nothing"),
-            Answer::Opened { k } => write!(f, "opened {k}"),
-            Answer::AllBusy => write!(f, "allbusy"),
-            Answer::NotQueued => write!(f, "notqueued"),
-            Answer::Product { n, time, info } => write!(f, "product {n} {time} {info}"),
-            Answer::Holding { n } => write!(f, "holding {n}"),
-            Answer::Gap { count, least, greatest } => write!(f, "gap {count} {least} {greatest}"),
-            Answer::End { at } => write!(f, "end {at}"),
-            Answer::Bytes { bytes } if bytes.is_empty() => write!(f, "bytes -"),
-            Answer::Bytes { bytes } => {
-                write!(f, "bytes ")?;
-                bytes.iter().try_for_each(|byte| write!(f, "{byte:02x}"))
-            }
-            Answer::BadOffset { size } => write!(f, "badoffset {size}"),
-            Answer::Released { n } => write!(f, "released {n}"),
-            Answer::NotHeld => write!(f, "notheld"),
-            Answer::Closed => write!(f, "closed"),
-            Answer::NoCursor => write!(f, "nocursor"),
-            Answer::Tally { given, lost, left } => write!(f, "tally {given} {lost} {left}"),
-            Answer::Stat { admitted, queued, held, used, largest } => {
-                write!(f, "stat {admitted} {queued} {held} {used} {largest}")
-            }
-            Answer::Reserved { r, evicted } => write!(f, "reserved {r} {evicted}"),
-            Answer::AllReserved => write!(f, "allreserved"),
-            Answer::NoReservation => write!(f, "noreservation"),
-            Answer::Filled { left } => write!(f, "filled {left}"),
-            Answer::Overfill { left } => write!(f, "overfill {left}"),
-            Answer::Unfilled { left } => write!(f, "unfilled {left}"),
-            Answer::Committed { n, time } => write!(f, "committed {n} {time}"),
-            Answer::Discarded => write!(f, "discarded"),
+/// Digits are put together from the last to the first.
+fn put_number(out: &mut Vec<u8>, mut number: u64) {
+    let mut digits = [0; 20];
+    let mut at = digits.len();
+    loop {
+        at -= 1;
+        digits[at] = b'0' + (number % 10) as u8;
+        number /= 10;
+        if number == 0 {
+            break;
         }
     }
+    out.extend_from_slice(&digits[at..]);
+}
+
+fn put_numbers(out: &mut Vec<u8>, word: &[u8], numbers: &[u64]) {
+    out.extend_from_slice(word);
+    for number in numbers {
+        out.push(b' ');
+        put_number(out, *number);
+    }
+}
+
+impl Answer {
+    /// Writes the answer as `ldm play` does, without a newline.
+    pub fn write(&self, out: &mut Vec<u8>) {
+        match self {
+            Answer::Admitted { n, time, evicted } => put_numbers(out, b"admitted", &[*n, *time, *evicted as u64]),
+            Answer::TooBig { need, arena } => put_numbers(out, b"toobig", &[*need, *arena]),
+            Answer::Duplicate { n } => put_numbers(out, b"duplicate", &[*n]),
+            Answer::TimeEnd => out.extend_from_slice(b"timeend"),
+            Answer::Locked { held } => put_numbers(out, b"locked", &[*held as u64]),
+            Answer::Queued { n, time } => put_numbers(out, b"queued", &[*n, *time]),
+            Answer::Absent => out.extend_from_slice(b"absent"),
+            Answer::Expired { n } => put_numbers(out, b"expired", &[*n]),
+            Answer::Nothing => out.extend_from_slice(b"nothing"),
+            Answer::Opened { k } => put_numbers(out, b"opened", &[*k as u64]),
+            Answer::AllBusy => out.extend_from_slice(b"allbusy"),
+            Answer::NotQueued => out.extend_from_slice(b"notqueued"),
+            Answer::Product { n, time, info, size } => {
+                put_numbers(out, b"product", &[*n, *time]);
+                out.push(b' ');
+                info.write(out);
+                out.push(b' ');
+                put_number(out, *size as u64);
+            }
+            Answer::Holding { n } => put_numbers(out, b"holding", &[*n]),
+            Answer::Gap { count, least, greatest } => put_numbers(out, b"gap", &[*count, *least, *greatest]),
+            Answer::End { at } => put_numbers(out, b"end", &[*at]),
+            Answer::Bytes { bytes } if bytes.is_empty() => out.extend_from_slice(b"bytes -"),
+            Answer::Bytes { bytes } => {
+                out.extend_from_slice(b"bytes ");
+                for byte in bytes {
+                    out.extend_from_slice(&[DIGITS[usize::from(byte >> 4)], DIGITS[usize::from(byte & 15)]]);
+                }
+            }
+            Answer::BadOffset { size } => put_numbers(out, b"badoffset", &[*size as u64]),
+            Answer::Released { n } => put_numbers(out, b"released", &[*n]),
+            Answer::NotHeld => out.extend_from_slice(b"notheld"),
+            Answer::Closed => out.extend_from_slice(b"closed"),
+            Answer::NoCursor => out.extend_from_slice(b"nocursor"),
+            Answer::Tally { given, lost, left } => put_numbers(out, b"tally", &[*given, *lost, *left as u64]),
+            Answer::Stat { admitted, queued, held, used, largest } => {
+                put_numbers(out, b"stat", &[*admitted, *queued as u64, *held as u64, *used, *largest]);
+            }
+            Answer::Reserved { r, evicted } => put_numbers(out, b"reserved", &[*r as u64, *evicted as u64]),
+            Answer::AllReserved => out.extend_from_slice(b"allreserved"),
+            Answer::NoReservation => out.extend_from_slice(b"noreservation"),
+            Answer::Filled { left } => put_numbers(out, b"filled", &[*left as u64]),
+            Answer::Overfill { left } => put_numbers(out, b"overfill", &[*left as u64]),
+            Answer::Unfilled { left } => put_numbers(out, b"unfilled", &[*left as u64]),
+            Answer::Committed { n, time } => put_numbers(out, b"committed", &[*n, *time]),
+            Answer::Discarded => out.extend_from_slice(b"discarded"),
+        }
+    }
+}
+
+const DIGITS: &[u8; 16] = b"0123456789abcdef";
+
+/// What a line says of a product, as it stands there: arrival and signature; feedtypes; and sequence number, origin and ident.
+pub struct Info {
+    pub front: Box<[u8]>,
+    pub feed: u32,
+    pub rest: Box<[u8]>,
+}
+
+impl Info {
+    fn write(&self, out: &mut Vec<u8>) {
+        out.extend_from_slice(&self.front);
+        out.extend_from_slice(b" 0x");
+        for place in (0..8).rev() {
+            out.push(DIGITS[(self.feed >> (4 * place) & 15) as usize]);
+        }
+        out.push(b' ');
+        out.extend_from_slice(&self.rest);
+    }
+}
+
+// A hash of a signature, whose bytes are as good as drawn: both halves, mixed by one product.
+#[derive(Default)]
+struct Halves(u64);
+
+impl Hasher for Halves {
+    fn finish(&self) -> u64 {
+        self.0
+    }
+
+    fn write(&mut self, bytes: &[u8]) {
+        for half in bytes.chunks_exact(8) {
+            let half = u64::from_le_bytes(half.try_into().unwrap());
+            self.0 = (self.0.rotate_left(5) ^ half).wrapping_mul(0x9e37_79b9_7f4a_7c15);
+        }
+    }
+
+    // the length of the array
+    fn write_usize(&mut self, _len: usize) {}
 }
 
 /// Where a cursor begins: at the oldest product, behind the last one, behind those that were inserted up to a time, or behind
@@ -102,8 +175,7 @@ pub enum Start {
 pub struct Metadata {
     pub signature: [u8; 16],
     pub feed: u32,
-    /// The fields of an answer behind the insertion time.
-    pub info: String,
+    pub info: Arc<Info>,
     /// The bytes that the two texts take, and the body.
     pub texts: u64,
     pub size: usize,
@@ -129,8 +201,7 @@ struct Product {
     // Where its body begins in the arena, and its bytes.
     body: usize,
     size: usize,
-    // The fields of an answer behind the insertion time.
-    info: String,
+    info: Arc<Info>,
 }
 
 struct Cursor {
@@ -154,13 +225,14 @@ struct Reservation {
 pub struct Queue {
     arena: Vec<u8>,
     slots: usize,
-    by_number: BTreeMap<u64, Product>,
-    by_signature: HashMap<[u8; 16], u64>,
-    by_time: BTreeMap<u64, u64>,
+    // The products by number, from the oldest on, and the number of the first. Those that went before it left a hole.
+    products: VecDeque<Option<Product>>,
+    first: u64,
+    queued: usize,
+    by_signature: HashMap<[u8; 16], u64, BuildHasherDefault<Halves>>,
     // Gaps by their start, and by their length and start.
     gaps: BTreeMap<u64, u64>,
     by_length: BTreeSet<(u64, u64)>,
-    admitted: u64,
     last: Option<u64>,
     used: u64,
     // The places for cursors, up to the last that was ever taken.
@@ -187,12 +259,12 @@ impl Queue {
         let mut queue = Queue {
             arena: vec![0; arena as usize],
             slots,
-            by_number: BTreeMap::new(),
-            by_signature: HashMap::new(),
-            by_time: BTreeMap::new(),
+            products: VecDeque::new(),
+            first: 0,
+            queued: 0,
+            by_signature: HashMap::default(),
             gaps: BTreeMap::new(),
             by_length: BTreeSet::new(),
-            admitted: 0,
             last: None,
             used: 0,
             cursors: Vec::new(),
@@ -200,6 +272,22 @@ impl Queue {
         };
         queue.add_gap(0, arena);
         queue
+    }
+
+    // The number that the next product will have.
+    fn admitted(&self) -> u64 {
+        self.first + self.products.len() as u64
+    }
+
+    fn product(&self, n: u64) -> &Product {
+        self.products[(n - self.first) as usize].as_ref().unwrap()
+    }
+
+    // The products that are queued from a number on.
+    fn from(&self, n: u64) -> impl Iterator<Item = (u64, &Product)> {
+        let skipped = n.saturating_sub(self.first) as usize;
+        let numbered = (self.first..).zip(&self.products).skip(skipped);
+        numbered.filter_map(|(n, product)| Some((n, product.as_ref()?)))
     }
 
     fn add_gap(&mut self, start: u64, length: u64) {
@@ -232,7 +320,7 @@ impl Queue {
     // The regions that are held, as place and extent: those of the products that readers hold, and the reserved ones.
     fn held(&self) -> Vec<(u64, u64)> {
         let numbers: BTreeSet<u64> = self.cursors.iter().flatten().filter_map(|cursor| cursor.held).collect();
-        let products = numbers.iter().map(|n| (self.by_number[n].place, self.by_number[n].extent));
+        let products = numbers.iter().map(|n| (self.product(*n).place, self.product(*n).extent));
         products.chain(self.reservations.iter().flatten().map(|own| (own.place, own.metadata.extent()))).collect()
     }
 
@@ -241,8 +329,13 @@ impl Queue {
     }
 
     fn evict(&mut self) -> Option<u64> {
-        let n = self.by_number.keys().copied().find(|n| !self.holds(*n))?;
-        let product = self.by_number.remove(&n)?;
+        let n = self.from(self.first).map(|(n, _)| n).find(|n| !self.holds(*n))?;
+        let product = self.products[(n - self.first) as usize].take()?;
+        self.queued -= 1;
+        while let Some(None) = self.products.front() {
+            self.products.pop_front();
+            self.first += 1;
+        }
         for cursor in self.cursors.iter_mut().flatten() {
             if cursor.position <= n && cursor.feed & product.feed != 0 {
                 let (count, least, greatest) = cursor.untold.unwrap_or((0, n, n));
@@ -251,7 +344,6 @@ impl Queue {
             }
         }
         self.by_signature.remove(&product.signature);
-        self.by_time.remove(&product.time);
         self.give_back(product.place, product.extent);
         self.used -= product.extent;
         Some(n)
@@ -282,7 +374,7 @@ impl Queue {
         let reserved = self.reservations.iter().flatten().count();
         let mut evicted = 0;
         let place = loop {
-            if self.by_number.len() + reserved < self.slots {
+            if self.queued + reserved < self.slots {
                 if let Some(&(_, start)) = self.by_length.range((need, 0)..).next() {
                     break start;
                 }
@@ -316,24 +408,20 @@ impl Queue {
 
     // Queues a product whose bytes lie at a place. Its number.
     fn admit(&mut self, time: u64, metadata: Metadata, place: u64) -> u64 {
-        let n = self.admitted;
-        self.admitted += 1;
+        let n = self.admitted();
         self.last = Some(time);
         self.by_signature.insert(metadata.signature, n);
-        self.by_time.insert(time, n);
-        self.by_number.insert(
-            n,
-            Product {
-                signature: metadata.signature,
-                time,
-                place,
-                extent: metadata.extent(),
-                feed: metadata.feed,
-                body: (place + metadata.front()) as usize,
-                size: metadata.size,
-                info: metadata.info,
-            },
-        );
+        self.products.push_back(Some(Product {
+            signature: metadata.signature,
+            time,
+            place,
+            extent: metadata.extent(),
+            feed: metadata.feed,
+            body: (place + metadata.front()) as usize,
+            size: metadata.size,
+            info: metadata.info,
+        }));
+        self.queued += 1;
         n
     }
 
@@ -428,7 +516,7 @@ impl Queue {
         match self.by_signature.get(signature) {
             Some(&n) => Answer::Queued {
                 n,
-                time: self.by_number[&n].time,
+                time: self.product(n).time,
             },
             None => Answer::Absent,
         }
@@ -443,8 +531,8 @@ impl Queue {
 
     pub fn stat(&self) -> Answer {
         Answer::Stat {
-            admitted: self.admitted,
-            queued: self.by_number.len(),
+            admitted: self.admitted(),
+            queued: self.queued,
             held: self.held().len(),
             used: self.used,
             largest: self.by_length.last().map_or(0, |gap| gap.0),
@@ -454,9 +542,9 @@ impl Queue {
     // The number of the product at which a cursor begins.
     fn position(&self, start: Start) -> Option<u64> {
         match start {
-            Start::Oldest => Some(self.by_number.keys().next().copied().unwrap_or(self.admitted)),
-            Start::Next => Some(self.admitted),
-            Start::After(time) => Some(self.by_time.range(time + 1..).next().map_or(self.admitted, |entry| *entry.1)),
+            Start::Oldest => Some(self.from(self.first).next().map_or(self.admitted(), |(n, _)| n)),
+            Start::Next => Some(self.admitted()),
+            Start::After(time) => Some(self.from(self.first).find(|(_, product)| product.time > time).map_or(self.admitted(), |(n, _)| n)),
             Start::Signature(signature) => self.by_signature.get(&signature).map(|n| n + 1),
         }
     }
@@ -491,7 +579,7 @@ impl Queue {
     }
 
     pub fn step(&mut self, actor: u32, k: usize) -> Answer {
-        let Some(cursor) = self.cursors.get_mut(k).and_then(Option::as_mut).filter(|cursor| cursor.actor == actor) else {
+        let Some(cursor) = self.cursor_mut(actor, k) else {
             return Answer::NoCursor;
         };
         if let Some(n) = cursor.held {
@@ -500,21 +588,21 @@ impl Queue {
         if let Some((count, least, greatest)) = cursor.untold.take() {
             return Answer::Gap { count, least, greatest };
         }
-        let feed = cursor.feed;
-        match self.by_number.range(cursor.position..).find(|(_, product)| product.feed & feed != 0) {
-            Some((&n, product)) => {
+        let (feed, position) = (cursor.feed, cursor.position);
+        let found = self.from(position).find(|(_, product)| product.feed & feed != 0);
+        let given = found.map(|(n, product)| (n, product.time, product.info.clone(), product.size));
+        let at = self.admitted();
+        let cursor = self.cursors[k].as_mut().unwrap();
+        match given {
+            Some((n, time, info, size)) => {
                 cursor.held = Some(n);
                 cursor.given += 1;
                 cursor.position = n + 1;
-                Answer::Product {
-                    n,
-                    time: product.time,
-                    info: product.info.clone(),
-                }
+                Answer::Product { n, time, info, size }
             }
             None => {
-                cursor.position = self.admitted;
-                Answer::End { at: self.admitted }
+                cursor.position = at;
+                Answer::End { at }
             }
         }
     }
@@ -526,7 +614,7 @@ impl Queue {
         let Some(n) = cursor.held else {
             return Answer::NotHeld;
         };
-        let product = &self.by_number[&n];
+        let product = self.product(n);
         if offset > product.size {
             return Answer::BadOffset { size: product.size };
         }
@@ -558,7 +646,7 @@ impl Queue {
         let Some(cursor) = self.cursor(actor, k) else {
             return Answer::NoCursor;
         };
-        let behind = self.by_number.range(cursor.position..);
+        let behind = self.from(cursor.position);
         Answer::Tally {
             given: cursor.given,
             lost: cursor.lost,

@@ -262,7 +262,9 @@ fn main() {
         let (mut text, mut wanted) = (String::new(), String::new());
         for _ in 0..shape.lines {
             let line = shape.line();
-            let answer = plain.answer(&line).to_string();
+            let mut answer = Vec::new();
+            plain.answer(&line).write(&mut answer);
+            let answer = String::from_utf8(answer).unwrap();
             *told.entry(answer.split(' ').next().unwrap().to_string()).or_insert(0u64) += 1;
             writeln!(text, "{line}").unwrap();
             writeln!(wanted, "{answer}").unwrap();
