@@ -1,13 +1,12 @@
 -- A record that was found, by what taking it came to.
-use Rattle.std.proofs.Common.{◌≡◌, ℕ, ◌+◌, ◌<◌, ◌≤◌, length, Bool, true, false, List, [], ◌∷◌, ◌++◌, Option, Some, None, inl, inr, refl, ap, sym, subst, ◌∙◌, arith}
-use Rattle.std.proofs.lemmas.List.{append-nil, take_all}
+use Rattle.std.proofs.Common.{◌≡◌, ℕ, ◌+◌, ◌<◌, ◌≤◌, length, Bool, true, false, List, [], ◌∷◌, ◌++◌, Option, Some, None, inl, inr, refl, ap, sym, subst, ◌∙◌}
+use Rattle.std.proofs.lemmas.List.{append-nil}
 use Rattle.ldm_rpc.specs.declared.fault.RpcFault.{RpcFault}
 use Rattle.ldm_rpc.specs.declared.fault.RpcFault.TheVariants.{TooLong as too_long, OutOfMemory as out_of_memory}
 use Rattle.ldm_rpc.specs.declared.stage.Stage.TheVariants.{Faulty}
 use Rattle.ldm_rpc.specs.Reading.{Reading, after, begun, bytes_taken, is_faulty, is_faulty_at, is_whole, is_whole_at, next_of, whole_of}
 use Rattle.ldm_rpc.specs.Streams.{Position, given}
-use Rattle.ldm_rpc.specs.declared.front_records.Front.{Front}
-use Rattle.ldm_rpc.specs.Keeping.{IsFaultIn, IsFrontIn, IsFrontOf}
+use Rattle.ldm_rpc.specs.Keeping.{IsFaultIn, IsFrontIn}
 use Rattle.ldm_model.specs.declared.event.Entry.{Entry}
 use Rattle.ldm_relay.specs.declared.message.ClassAnswer.{ClassAnswer}
 use Rattle.ldm_shared.specs.Passes.{Calls}
@@ -111,27 +110,10 @@ found-answer now at content answer_end.Bad old new takes = found-bad now at cont
 found-answer now at content (answer_end.Declined answer) old new takes = found-declined now at content answer old new takes.0 takes.1
 found-answer now at content answer_end.OutOfMemory old new takes = found-memory now at content old new takes
 
--- where not less is kept of a content than it has, all of it is
-pub all_kept : (held : Front) (content : List ℕ) → IsFrontOf held content → (length held.bytes.now < held.len → ⊥) → held.bytes.now ≡ content
-all_kept held content of full =
-    let len = of.len in
-    of.front ∙ take_all (length held.bytes.now) content (omega (arith, len, full))
-
 -- a record that was found, by what is kept of it
 pub held-none : (now at : ℕ) (content : Option (List ℕ)) (end : Option RecvEnd) (old : Standing) → IsFrontIn None content → end ≡ None → Finds end now at content old old
 held-none now at None end old is none = rw none (takes-none old)
 held-none now at (Some content) end old is none = absurd is
-
-pub held-front : (now at : ℕ) (held : Front) (content : Option (List ℕ)) (end : Option RecvEnd) (old new : Standing) → IsFrontIn (Some held) content
-    → ((bytes : List ℕ) → IsFrontOf held bytes → Finds end now at (Some bytes) old new) → Finds end now at content old new
-held-front now at held None end old new is finds = absurd is
-held-front now at held (Some content) end old new is finds = finds content is
-
-pub held-all : (now at : ℕ) (held : Front) (content : Option (List ℕ)) (end : Option RecvEnd) (old new : Standing) → IsFrontIn (Some held) content
-    → (length held.bytes.now < held.len → ⊥) → Finds end now at (Some held.bytes.now) old new → Finds end now at content old new
-held-all now at held None end old new is full finds = absurd is
-held-all now at held (Some content) end old new is full finds =
-    subst (λ (bytes : List ℕ). Finds end now at (Some bytes) old new) (all_kept held content is full) finds
 
 -- ---- the first record in some bytes
 

@@ -12,3 +12,4 @@ pub mod SessionTurns
 pub mod AllReceived
 pub mod Complete
 pub mod Cut
+pub mod Filled

@@ -1,5 +1,5 @@
 -- A piece, by the bytes of it that are taken.
-use Rattle.std.proofs.Common.{◌≡◌, ℕ, ◌-◌, ◌≤◌, ◌<◌, Bool, true, false, List, [], ◌∷◌, length, take, min, leb, Option, Some, None, is_none, is_some, inl, inr, refl, ap, sym, subst, ◌∙◌, arith}
+use Rattle.std.proofs.Common.{◌≡◌, ℕ, ◌-◌, ◌≤◌, ◌<◌, Bool, true, false, List, [], ◌∷◌, length, take, min, leb, Option, Some, None, is_some, inl, inr, refl, ap, sym, subst, ◌∙◌, arith}
 use Rattle.std.proofs.lemmas.Bool.Decides.{nat_tests}
 use Rattle.std.proofs.lemmas.List.{take_all}
 use Rattle.ldm_rpc.specs.Reading.{is_faulty}
@@ -7,17 +7,15 @@ use Rattle.ldm_rpc.specs.Streams.{Position, records_in, in_hand}
 use Rattle.ldm_shared.specs.Passes.{PassView}
 use Rattle.ldm_intake.specs.declared.end.RecvEnd.{RecvEnd}
 use Rattle.ldm_intake.specs.declared.end.RecvEnd.TheVariants.{Ended, Truncated, BadFrame, Refused, LinkFault, LogFault, StreamLimit, Worn, OutOfMemory}
-use Rattle.ldm_intake.specs.Receiving.{Receiving}
 use Rattle.ldm_intake.specs.Taken.{taken, taken_none}
 use Rattle.ldm_intake.specs.TakesRecord.{Standing}
-use Rattle.ldm_intake.specs.Turning.{HasClosed, HasKept}
 use Rattle.ldm_session.specs.declared.limits.TheConstants.{LONGEST_STREAM}
 use Rattle.ldm_downstream.specs.Pieces.{Piece, within, arrived, arrivals, hand}
 use Rattle.ldm_downstream.specs.ReceiverView.{ReceiverView}
 use Rattle.ldm_downstream.specs.Received.{at_stream_end, end_by_bytes}
 use Rattle.ldm_downstream.specs.Taking.{Takes, BreaksOff}
 use Rattle.ldm_downstream.specs.Turns.{TakesAll, TakesBytes, TakesPiece, Runs, Passes, EndsIn, Stops, StopsBy, TooLong, Cuts}
-use Rattle.ldm_downstream.specs.Pushing.{Pushes, PushesAt, Finishes, EndsAt, ClosesIf}
+use Rattle.ldm_downstream.specs.Pushing.{Finishes, EndsAt, ClosesIf}
 use Rattle.ldm_downstream.proofs.Arrivals.{arrivals-one, hand-one}
 use Rattle.ldm_downstream.proofs.Followed.{takes-same, breaks-same}
 use Rattle.ldm_downstream.proofs.Ending.{end-worn}
@@ -115,16 +113,6 @@ sound-of q none = by (is_faulty q.reading) refl where
   by false is = is
   by true is = absurd (let same : Some (BadFrame q.begins) ≡ None = sym (rw is refl) ∙ none in cc same)
 
-pub pushes-live : (end : Option RecvEnd) (piece : Piece) (old new : ReceiverView) (before after : Standing) → is_none end ≡ true
-    → Pushes new.end piece old.hand new.hand before after → new.owes ≡ old.owes → PushesAt end piece old new before after
-pushes-live None piece old new before after live pushes owes = (pushes, owes)
-pushes-live (Some end) piece old new before after live pushes owes = absurd (cc live)
-
-pub pushes-over : (end : Option RecvEnd) (piece : Piece) (old new : ReceiverView) (before after : Standing) → is_none end ≡ false
-    → new ≡ old → after ≡ before → PushesAt end piece old new before after
-pushes-over None piece old new before after over same still = absurd (cc over)
-pushes-over (Some end) piece old new before after over same still = (same, still)
-
 pub ends-at : (end : Option RecvEnd) (result : RecvEnd) (receiver new : ReceiverView) (pass after : PassView) → end ≡ None
     → Finishes (at_stream_end receiver.hand receiver.receiving) result receiver new pass after → EndsAt end result receiver pass after
 ends-at None result receiver new pass after live finishes =
@@ -132,16 +120,7 @@ ends-at None result receiver new pass after live finishes =
     (new.receiving, subst (λ (w : Bool). ClosesIf w e result receiver.receiving new.receiving pass after) (end-worn receiver.hand receiver.receiving) finishes.closes)
 ends-at (Some end) result receiver new pass after live finishes = absurd (cc live)
 
--- ---- an end
-
-pub closes-worn : (worn : Bool) (end : RecvEnd) (s : Receiving) (pass : PassView) → worn ≡ true → ClosesIf worn end end s s pass pass
-closes-worn worn end s pass is = subst (λ (w : Bool). ClosesIf w end end s s pass pass) (sym is) (refl, refl, refl)
-
-pub closes-done : (worn : Bool) (end : RecvEnd) (s new : Receiving) (pass after : PassView) → worn ≡ false → HasClosed s new pass after → ClosesIf worn end end s new pass after
-closes-done worn end s new pass after is closed = subst (λ (w : Bool). ClosesIf w end end s new pass after) (sym is) (inl (refl, closed))
-
-pub closes-kept : (worn : Bool) (end : RecvEnd) (s new : Receiving) (pass after : PassView) → worn ≡ false → HasKept s new pass after → ClosesIf worn end Worn s new pass after
-closes-kept worn end s new pass after is kept = subst (λ (w : Bool). ClosesIf w end Worn s new pass after) (sym is) (inr (refl, kept))
+-- ---- the limit
 
 pub below-limit : (limit n : ℕ) → n ≤ limit → (n ≡ limit → ⊥) → leb limit n ≡ false
 below-limit limit n most other = let less : n < limit = omega arith in grind (arith, nat_tests)

@@ -4,6 +4,7 @@ pub mod Received
 pub mod ReceiverView
 pub mod Inside
 pub mod InsideStream
+pub mod Filling
 pub mod Pushing
 pub mod Turns
 pub mod Receives

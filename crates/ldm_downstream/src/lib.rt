@@ -2,6 +2,7 @@
 #![tactic(auto)]
 
 mod ends;
+mod filling;
 mod keeping;
 mod laws;
 mod limits;
@@ -10,7 +11,8 @@ mod session;
 mod stream;
 mod taker;
 
+pub use filling::Receiving;
 pub use laws::{accepted_streams_are_received, pieces_make_no_difference};
-pub use limits::LONGEST_PIECE;
+pub use limits::{LONGEST_PIECE, LONGEST_SHORT, SHORT_PIECE};
 pub use receiver::{Pushed, Receiver};
 pub use session::{Received, receive, receive_pushed};

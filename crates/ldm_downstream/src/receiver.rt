@@ -1,15 +1,18 @@
 //! A receiver that is given a stream in pieces.
-ghost use Rattle.std.specs.Prelude.{◌≡◌, ◌++◌, ◌∷◌, [], true, false, IfOk, OnOk, OnErr, None, Some, cond};
+ghost use Rattle.std.specs.Prelude.{◌≡◌, ◌<◌, ◌≤◌, ◌++◌, ◌∷◌, [], true, false, IfNone, IfOk, IfSome, OnOk};
+ghost use Rattle.std.specs.Prelude.{OnErr, None, Some, cond};
 ghost use Rattle.std.specs.Option.{option_map};
-ghost use Rattle.ldm_rpc.specs.Reading.{is_pending};
+ghost use Rattle.ldm_outside.specs.Link.{IsNotClosed};
 ghost use Rattle.ldm_shared.specs.Passes.{IsPassOf, IsSamePass};
 ghost use Rattle.ldm_intake.specs.Opening.{requesting, accepting, request_of};
 ghost use Rattle.ldm_intake.specs.Room.{records_of};
+ghost use Rattle.ldm_downstream.specs.Filling.{Fills};
 
 use crate::ends::{copied_end, is_worn};
 use crate::stream::Stream;
 use ldm_class::{Class, Policy};
 use ldm_intake::{Intake, RecvEnd};
+use ldm_outside::{Awaited, Got, Link};
 use ldm_shared::{Pass, Shared};
 use ldm_types::{Micros, OutOfMemory, Signature};
 use std::alloc::Global;
@@ -105,13 +108,6 @@ impl<'a> Receiver<'a> {
         Ok(())
     }
 
-    /// Whether a record of the stream was begun and is not complete.
-    pub fn is_pending(&self) -> bool
-        ensures { result ≡ is_pending self.now.hand.reading }
-    {
-        self.stream.is_pending()
-    }
-
     /// Whether a record of the stream, or a product in blocks, was begun and is not complete: the peer owes the rest.
     pub fn is_within(&self) -> bool
         ensures { result ≡ is_within self.now.hand self.now.receiving }
@@ -166,6 +162,29 @@ impl<'a> Receiver<'a> {
             Some(end) => copied_end(end),
             None => receiver.close(shared, rt, pass),
         }
+    }
+
+    /// How many bytes are received in a piece at most.
+    pub(crate) fn piece_room(&self) -> usize
+        ensures { 0 < result }
+    {
+        self.stream.piece_room()
+    }
+
+    /// Receives some bytes straight into the record in hand, where much of it is to come. `None` where little is to
+    /// come, or there is no memory: then the link was not asked.
+    pub(crate) fn fill<K: Link>(&mut self, link: &mut K, awaited: Awaited) -> Option<Got>
+        requires not_closed { IsNotClosed (K.tells link.old) }
+        requires live { self.old.end ≡ None }
+        ensures none { IfNone result ((self.new ≡ self.old) × (link.new ≡ link.old)) }
+        ensures fills { IfSome result
+            (λ got. Fills got self.old.hand self.new.hand (K.tells link.old) (K.tells link.new)) }
+        ensures same { self.new ≡ record self.old { hand = self.new.hand } }
+        ensures still_open { IsNotClosed (K.tells link.new) }
+        ensures faults_kept { (K.tells link.old).faults ≤ (K.tells link.new).faults }
+        ensures ends_kept { (K.tells link.old).ends ≤ (K.tells link.new).ends }
+    {
+        self.stream.fill(link, awaited)
     }
 
     /// How it ended, where it is over.

@@ -2,7 +2,7 @@
 ghost use Rattle.std.specs.Prelude.{◌≡◌, ◌<◌, ◌≤◌, [], ℕ, List, true, false, IfOk, IfNone, None, length};
 ghost use Rattle.std.specs.Option.{option_map};
 ghost use Rattle.std.specs.Vec.{vec_len};
-ghost use Rattle.ldm_outside.specs.Link.{IsNotClosed};
+ghost use Rattle.ldm_outside.specs.Link.{IsNotClosed, RecvGives};
 ghost use Rattle.ldm_outside.specs.Session.{SessionRecord, KeepsFaults, ungated_tells};
 ghost use Rattle.ldm_rpc.specs.Streams.{Position};
 ghost use Rattle.ldm_shared.specs.Passes.{IsPassOf, IsSamePass};
@@ -320,7 +320,8 @@ impl<'a> Session<'a> {
         unreachable!()
     }
 
-    // Receives a piece and takes it. Answers the end, where it came to one.
+    // Receives some bytes and takes them: straight into the record in hand where much of it is to come, and else a
+    // piece. Answers the end, where it came to one.
     fn turn<H: Wait, K: Link, E: Sink, C: Clock>(
         &mut self,
         rt: &H,
@@ -347,7 +348,53 @@ impl<'a> Session<'a> {
             (ungated_tells K.tells E.tells C.tells link.new log.new clock.new) }
     {
         let awaited = Awaited::Feed.or_rest(self.taker.receiver.is_within());
-        match link.recv(self.piece.as_mut_slice(), awaited) {
+        let Some(got) = self.taker.receiver.fill(link, awaited) else {
+            return self.take_piece(rt, shared, pass, link, log, clock, awaited);
+        };
+        match got {
+            Got::Bytes(_) => {
+                // They are a piece as any other, which has its moment.
+                let _moment = clock.now();
+                None
+            }
+            Got::End => Some(self.taker.receiver.close(shared, rt, pass)),
+            Got::Failed => Some(
+                self.taker
+                    .receiver
+                    .fail(shared, rt, pass, RecvEnd::LinkFault),
+            ),
+        }
+    }
+
+    // Receives a piece and takes it. Answers the end, where it came to one.
+    fn take_piece<H: Wait, K: Link, E: Sink, C: Clock>(
+        &mut self,
+        rt: &H,
+        shared: &Shared,
+        pass: &mut Pass,
+        link: &mut K,
+        log: &mut E,
+        clock: &mut C,
+        awaited: Awaited,
+    ) -> Option<RecvEnd>
+        requires of { IsPassOf shared.now pass.old }
+        requires not_closed { IsNotClosed (K.tells link.old) }
+        requires live { self.old.taker.receiver.end ≡ None }
+        requires ready { IsReady self.old.taker.out.items self.old.taker.notes.items }
+        requires room { 0 < vec_len self.old.piece }
+        ensures kept { IsSamePass pass.old pass.new }
+        ensures still_open { IsNotClosed (K.tells link.new) }
+        ensures counts { KeepsFaults (ungated_tells K.tells E.tells C.tells link.old log.old clock.old)
+            (ungated_tells K.tells E.tells C.tells link.new log.new clock.new) }
+        ensures ready { IfNone result (IsReady self.new.taker.out.items self.new.taker.notes.items) }
+        ensures room { 0 < vec_len self.new.piece }
+        ensures rounds { Rounds result [] self.new.taker.receiver pass.new self.old.taker.receiver.hand
+            (settled self.old.taker.receiver.receiving pass.old)
+            (ungated_tells K.tells E.tells C.tells link.old log.old clock.old)
+            (ungated_tells K.tells E.tells C.tells link.new log.new clock.new) }
+    {
+        let most = self.taker.receiver.piece_room();
+        match receive_piece(link, self.piece.as_mut_slice(), most, awaited) {
             Got::Bytes(count) => {
                 let now = clock.now();
                 let piece = &self.piece[..count];
@@ -361,4 +408,18 @@ impl<'a> Session<'a> {
             ),
         }
     }
+}
+
+// Receives a piece, of so many bytes at most.
+fn receive_piece<K: Link>(link: &mut K, piece: &mut [u8], most: usize, awaited: Awaited) -> Got
+    requires not_closed { IsNotClosed (K.tells link.old) }
+    requires some { 0 < length piece.old }
+    requires room { 0 < most }
+    ensures given { RecvGives result piece.new (K.tells link.old) (K.tells link.new) }
+    ensures faults_kept { (K.tells link.old).faults ≤ (K.tells link.new).faults }
+    ensures ends_kept { (K.tells link.old).ends ≤ (K.tells link.new).ends }
+    ensures still_open { IsNotClosed (K.tells link.new) }
+{
+    let most = most.min(piece.len());
+    link.recv(&mut piece[..most], awaited)
 }

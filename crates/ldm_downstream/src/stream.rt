@@ -2,6 +2,7 @@
 ghost use Rattle.std.specs.Prelude.{◌≡◌, ◌≤◌, ◌<◌, ◌+◌, ◌∷◌, [], ℕ, true, false, IfOk, IfNone};
 ghost use Rattle.std.specs.Prelude.{IfSome, MatchOption, OnOk, OnErr, None, Option, Some, List, length};
 ghost use Rattle.std.specs.Option.{option_map};
+ghost use Rattle.ldm_outside.specs.Link.{IsNotClosed};
 ghost use Rattle.ldm_rpc.specs.Keeping.{IsFrontIn, IsFrontOf};
 ghost use Rattle.ldm_rpc.specs.Reading.{is_faulty, is_pending};
 ghost use Rattle.ldm_rpc.specs.Streams.{Position};
@@ -9,6 +10,7 @@ ghost use Rattle.ldm_session.specs.declared.limits.TheConstants.{LONGEST_STREAM}
 ghost use Rattle.ldm_shared.specs.Passes.{IsPassOf, IsSamePass, PassView};
 ghost use Rattle.ldm_intake.specs.Settled.{is_feeding};
 ghost use Rattle.ldm_intake.specs.TakesRecord.{stands};
+ghost use Rattle.ldm_downstream.specs.Filling.{Fills};
 ghost use Rattle.ldm_downstream.specs.Pieces.{beginning};
 ghost use Rattle.ldm_downstream.specs.Received.{GoesOnAt, at_stream_end, is_within};
 ghost use Rattle.ldm_downstream.specs.Pushing.{ClosesIf, Pushes, is_worn};
@@ -17,8 +19,11 @@ ghost use Rattle.ldm_downstream.specs.Turns.{Finds, Turns, Runs, Passes, end_of_
 ghost use Rattle.ldm_downstream.specs.Turns.{end_of_message, turned};
 
 use crate::ends::is_worn;
+use crate::filling::Receiving;
 use crate::keeping::RecordKeeper;
+use crate::limits::{LONGEST_PIECE, LONGEST_SHORT, SHORT_PIECE};
 use ldm_intake::{AnswerEnd, Intake, MessageEnd, RecvEnd};
+use ldm_outside::{Awaited, Got, Link};
 use ldm_relay::LARGEST_RECORD;
 use ldm_rpc::{Front, KeptRecords, RpcFault};
 use ldm_session::LONGEST_STREAM;
@@ -35,6 +40,8 @@ pub(crate) struct Stream<'a> {
     records: KeptRecords,
     begins: u64,
     came: u64,
+    // Whether the last record that was complete was long.
+    was_long: bool,
 }
 
 impl<'a> Model for Stream<'a> {
@@ -59,6 +66,7 @@ impl<'a> Stream<'a> {
             records: KeptRecords::create(alloc, LARGEST_RECORD),
             begins: 0,
             came: 0,
+            was_long: false,
         }
     }
 
@@ -67,13 +75,6 @@ impl<'a> Stream<'a> {
         ensures { result.now ≡ self.now.receiving }
     {
         &self.intake
-    }
-
-    /// Whether a record was begun and is not complete.
-    pub(crate) fn is_pending(&self) -> bool
-        ensures { result ≡ is_pending self.now.hand.reading }
-    {
-        self.records.is_pending()
     }
 
     /// Whether a record, or a product in blocks, was begun and is not complete.
@@ -92,6 +93,40 @@ impl<'a> Stream<'a> {
         } else {
             RecvEnd::Truncated { at: self.came }
         }
+    }
+
+    /// How many bytes are received in a piece at most.
+    pub(crate) fn piece_room(&self) -> usize
+        ensures { 0 < result }
+    {
+        if self.was_long {
+            SHORT_PIECE
+        } else {
+            LONGEST_PIECE
+        }
+    }
+
+    /// Receives some bytes straight into the record in hand, where much of it is to come. `None` where little is to
+    /// come, or there is no memory: then the link was not asked.
+    ///
+    /// The last byte that is taken of a stream comes in a piece, so its limit is met there alone.
+    pub(crate) fn fill<K: Link>(&mut self, link: &mut K, awaited: Awaited) -> Option<Got>
+        requires not_closed { IsNotClosed (K.tells link.old) }
+        requires below { self.old.hand.came < LONGEST_STREAM }
+        ensures none { IfNone result ((self.new ≡ self.old) × (link.new ≡ link.old)) }
+        ensures fills { IfSome result
+            (λ got. Fills got self.old.hand self.new.hand (K.tells link.old) (K.tells link.new)) }
+        ensures same { self.new.receiving ≡ self.old.receiving }
+        ensures still_open { IsNotClosed (K.tells link.new) }
+        ensures faults_kept { (K.tells link.old).faults ≤ (K.tells link.new).faults }
+        ensures ends_kept { (K.tells link.old).ends ≤ (K.tells link.new).ends }
+    {
+        let room = LONGEST_STREAM - self.came - 1;
+        let most = room.min(u64::from(LARGEST_RECORD)) as usize;
+        let mut receiving = Receiving::of(awaited);
+        let count = self.records.fill(&mut receiving, link, most)?;
+        self.came += count as u64;
+        Some(receiving.got())
     }
 
     /// Takes a piece that came at the moment `now`, and gives up the reservation that is open where that ends the
@@ -243,6 +278,7 @@ impl<'a> Stream<'a> {
         let count = found.taken;
         self.came += count as u64;
         self.begins = self.came;
+        self.was_long = count > LONGEST_SHORT;
         count
     }
 
@@ -297,6 +333,7 @@ impl<'a> Stream<'a> {
             None => {}
         }
         if is_whole {
+            self.was_long = self.came.saturating_sub(self.begins) > LONGEST_SHORT as u64;
             self.begins = self.came;
         }
         count

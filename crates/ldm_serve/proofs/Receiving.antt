@@ -11,7 +11,7 @@ use Rattle.ldm_session.proofs.CallerLemmas.{Exchanged-nothing}
 use Rattle.ldm_serve.specs.declared.end.ServeEnd.TheVariants as end
 use Rattle.ldm_serve.specs.Client.{Client}
 use Rattle.ldm_serve.specs.Connection.{Moment}
-use Rattle.ldm_serve.specs.Filling.{Fills, Receives}
+use Rattle.ldm_serve.specs.Filling.{Fills}
 use Rattle.ldm_serve.specs.Responds.{Standing, stands}
 use Rattle.ldm_serve.specs.Rounds.{IsServed, ReadsOn, end_at}
 use Rattle.ldm_serve.specs.Served.{GoesOn}

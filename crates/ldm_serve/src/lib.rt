@@ -10,7 +10,6 @@ mod client;
 mod connection;
 mod end;
 mod examples;
-mod filling;
 mod front;
 mod going_on;
 mod hiya;

@@ -15,12 +15,12 @@ ghost use Rattle.ldm_serve.specs.Contents.{Finds, stop_of};
 ghost use Rattle.ldm_serve.specs.Filling.{Fills};
 
 use crate::client::Client;
-use crate::filling::Receiving;
 use crate::responded::{RespondFault, Responded};
 use crate::responding::answer;
+use ldm_downstream::{LONGEST_SHORT, Receiving, SHORT_PIECE};
 use ldm_outside::{Awaited, Clock, Got, Link};
 use ldm_relay::LARGEST_RECORD;
-use ldm_rpc::{Front, KeptRecords, LEAST_FRONT, RpcFault};
+use ldm_rpc::{Front, KeptRecords, RpcFault};
 use ldm_session::LONGEST_STREAM;
 use ldm_shared::{Pass, Shared};
 use std::alloc::Global;
@@ -42,13 +42,6 @@ pub(crate) enum Answered {
     /// There is no memory.
     OutOfMemory,
 }
-
-// A record of more bytes is long: the next one is as long, as a rule.
-const LONGEST_SHORT: usize = 32_768;
-
-// How many bytes are received in a piece where the next record is long, as a rule: what is left of the one in hand, the
-// header of that one, and the front by which it is known how much of it is kept. The rest need not be copied there.
-const SHORT_PIECE: u64 = LEAST_FRONT as u64 + 512;
 
 /// What reads the calls of a connection, from its first byte on. Contracts see what is in hand of the stream.
 #[derive(Drop)]
@@ -107,7 +100,7 @@ impl Serving {
     {
         let room = LONGEST_STREAM - self.came;
         if self.was_long {
-            min(room, SHORT_PIECE)
+            min(room, SHORT_PIECE as u64)
         } else {
             room
         }

@@ -1,5 +1,5 @@
 use Rattle.ldm_downstream.specs.ReceiverView.{moment}
-use Rattle.ldm_downstream.proofs.Found.{held-all, held-front, held-none}
+use Rattle.ldm_downstream.proofs.Found.{held-none}
 use Rattle.ldm_downstream.proofs.stream.take_held.Goals as goal
 
 pub returns-in_default-clause-finds : goal.returns-in_default-clause-finds

@@ -2,7 +2,7 @@ use Rattle.std.proofs.Common.{◌≡◌, ◌≤◌, ◌+◌, ℕ, refl, subst, s
 use Rattle.ldm_outside.specs.declared.io.Got.{Got}
 use Rattle.ldm_rpc.specs.Filling.{filled}
 use Rattle.ldm_rpc.specs.Streams.{Position}
-use Rattle.ldm_serve.specs.Filling.{Receives}
+use Rattle.ldm_downstream.specs.Filling.{Receives}
 use Rattle.ldm_serve.proofs.Receiving.{fills}
 use Rattle.ldm_serve.proofs.serving.Serving.fill.Goals as goal
 
