@@ -5,3 +5,4 @@ mod Coursing
 mod Noted
 mod Closing
 mod Unnoted
+mod Complete

@@ -5,3 +5,4 @@ pub mod Telling
 pub mod Course
 pub mod Notifies
 pub mod Examples
+pub mod Complete

@@ -10,10 +10,12 @@ mod course;
 mod end;
 mod examples;
 mod handle;
+mod laws;
 mod notice;
 mod notifying;
 mod one_turn;
 
 pub use end::NotifyEnd;
 pub use examples::worked_examples;
+pub use laws::notices_are_completed;
 pub use notifying::{notify, notify_asked};

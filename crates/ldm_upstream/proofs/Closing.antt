@@ -1,5 +1,6 @@
 -- What a call that feeds comes to, once its cursor is closed.
-use Rattle.std.proofs.Common.{◌∙◌, ℕ, List, [], Bool, refl, sym, subst}
+use Rattle.std.proofs.Common.{◌∙◌, ℕ, List, [], Bool, true, false, refl, sym, subst}
+use Rattle.ldm_model.specs.declared.event.Entry.{Entry}
 use Rattle.ldm_outside.specs.Io.{SinkRecord}
 use Rattle.ldm_outside.specs.Gate.{GateRecord}
 use Rattle.ldm_outside.specs.Clock.{ClockRecord}
@@ -12,7 +13,7 @@ use Rattle.ldm_sender.specs.declared.end.SendEnd.TheVariants as end
 use Rattle.ldm_sender.specs.Asked.{Asked}
 use Rattle.ldm_sender.specs.Opening.{Answered, Opened}
 use Rattle.ldm_sender.specs.Does.{moment_of}
-use Rattle.ldm_sender.specs.Acts.{Situation, situation_of, is_whole}
+use Rattle.ldm_sender.specs.Acts.{Act, EndsAct, Situation, situation_of, is_whole}
 use Rattle.ldm_sender.specs.Ending.{session_of, closing_of, IsLeft, IsEndOf}
 use Rattle.ldm_sender.proofs.Settling.{after, begins, cause_closed, settles, worn_act}
 use Rattle.ldm_sender.proofs.Steps.{RowsStay}
@@ -90,3 +91,9 @@ worn_at_close why asked ahead answered old pass final link clock out log gate tu
   last = tt;
   cause = worn.long ∙ worn.turns_are;
 }
+
+-- whatever was done, some calls were made of the queue
+pub ends-calls : (whole : Bool) (why : SendEnd) (host came : List ℕ) (old new : Situation) (act : Act) → EndsAct whole why host came old new act
+    → (made : List Entry) × Calls old.moment.pass new.moment.pass made
+ends-calls true why host came old new act ends = (act.deed.entries, ends.does.calls)
+ends-calls false why host came old new act ends = (ends.breaks.called, ends.breaks.calls)

@@ -10,3 +10,4 @@ mod Announced
 mod Fed
 mod Closing
 mod Unfed
+mod Complete

@@ -1,8 +1,9 @@
 -- What a call that feeds comes to, at each of its ends: the feeding that it made, or a front of it. `ahead` are the bytes that the link
 -- gave before the call and that nobody looked at; the replies stand in them and in what the link gives then.
-use Rattle.std.specs.Prelude.{◌≡◌, ℕ, List, [], ◌++◌}
+use Rattle.std.specs.Prelude.{◌≡◌, ◌⊎◌, ℕ, List, [], ◌++◌}
 use Rattle.ldm_model.specs.declared.event.Entry.{Entry}
 use Rattle.ldm_outside.specs.declared.gate.Go.{Go}
+use Rattle.ldm_outside.specs.Link.{LinkRecord}
 use Rattle.ldm_outside.specs.Session.{SessionRecord}
 use Rattle.ldm_shared.specs.Passes.{PassView, Calls}
 use Rattle.ldm_session.specs.Exchange.{Exchanged, AnsweredAll, IdledAll}
@@ -10,7 +11,7 @@ use Rattle.ldm_session.specs.Gaps.{gap_log}
 use Rattle.ldm_sender.specs.declared.end.SendEnd.{SendEnd}
 use Rattle.ldm_sender.specs.declared.end.SendEnd.TheVariants as end
 use Rattle.ldm_sender.specs.Asked.{Asked}
-use Rattle.ldm_sender.specs.Opening.{Answered}
+use Rattle.ldm_sender.specs.Opening.{Answered, IsAnswerTo, opening_entries}
 use Rattle.ldm_sender.specs.Calls.{MayBeUnmade}
 use Rattle.ldm_sender.specs.Does.{IsPart, IsAllBut}
 use Rattle.ldm_sender.specs.Acts.{Situation, Act, IsStop, Logged, EndsAct, IsAllSent, is_whole}
@@ -58,6 +59,20 @@ pub record Feeds (why : SendEnd) (asked : Asked) (ahead : List ℕ) (old new : P
   -- why it ended, and how its last turn did
   pub last : IsLastOf why feeding.last
   pub cause : IsEndOf why feeding.answered new before after
+
+-- ---- what comes first
+
+-- The request was decided as the rules say, and where all of the class is left, the calls were made that open the cursor, or that find all
+-- taken. Others stand behind them.
+pub record HasDecided (asked : Asked) (old new : PassView) : Type 0 where
+  pub answered : Answered
+  pub is : IsAnswerTo asked answered
+  pub behind : List Entry
+  pub made : Calls old new (opening_entries old.actor asked answered ++ behind)
+
+-- Nothing passes on the link before the request is decided.
+abbrev pub DecidesFirst : Asked → (old new : PassView) → (before after : LinkRecord) → Type 0
+DecidesFirst asked old new before after = (after ≡ before) ⊎ HasDecided asked old new
 
 -- ---- its parts
 

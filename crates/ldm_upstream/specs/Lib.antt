@@ -9,3 +9,4 @@ pub mod Offering
 pub mod Course
 pub mod Feeds
 pub mod Examples
+pub mod Complete

@@ -14,6 +14,7 @@ ghost use Rattle.ldm_upstream.specs.Turn.{Lost, Gave, Quiet, Alive, Whole, Decli
 ghost use Rattle.ldm_sender.specs.Calls.{later_call};
 ghost use Rattle.ldm_upstream.specs.Feeding.{GoesOn, Stopped, Unanswered, messages_of};
 ghost use Rattle.ldm_upstream.specs.Feeding.{entries_of, instants_of, goes_of, codes_of};
+ghost use Rattle.ldm_upstream.specs.Complete.{announcements_of};
 ghost use Rattle.ldm_upstream.specs.Examples.{sample_asked, asks_for, spec_for, sample, sample_info, feeding_of};
 ghost use Rattle.ldm_upstream.specs.Examples.{replies_of, events_of, opens_at, sample_signature};
 
@@ -39,6 +40,9 @@ pub fn worked_examples()
     ensures replies { codes_of
         (feeding_of (Gave sample (Declined 8) ∷ Gave sample (InBlocks 8 (9 ∷ [])) ∷ []) (Unanswered sample 9))
         ≡ record { xid = 1; answer = soon.DontSend } ∷ record { xid = 2; answer = soon.Ok } ∷ [] }
+    // Announcements alone are answered, each by its number.
+    ensures announced { announcements_of sample_asked
+        (feeding_of (Gave sample (Declined 8) ∷ Alive 1 10 11 ∷ []) (Unanswered sample 12)) ≡ 1 ∷ 3 ∷ [] }
     ensures numbers_wrap { later_call (2 ^ 32 - 1) 1 ≡ 0 }
     ensures no_block { count_blocks 0 ≡ 0 }
     ensures one_block { count_blocks 16384 ≡ 1 }

@@ -1,10 +1,11 @@
 //! The call that feeds.
 ghost use Rattle.std.specs.Prelude.{◌≡◌, ◌≢◌, ◌≤◌, length, Bool, false, None, [], List, ℕ};
+ghost use Rattle.ldm_model.specs.declared.event.Entry.{Entry};
 ghost use Rattle.ldm_outside.specs.Gate.{GateRecord};
 ghost use Rattle.ldm_outside.specs.Io.{SinkRecord};
 ghost use Rattle.ldm_outside.specs.Link.{IsNotClosed};
 ghost use Rattle.ldm_outside.specs.Session.{SessionRecord, session_tells, KeepsFaults};
-ghost use Rattle.ldm_shared.specs.Passes.{IsPassOf, IsSamePass, PassView, Makes};
+ghost use Rattle.ldm_shared.specs.Passes.{Calls, IsPassOf, IsSamePass, PassView, Makes};
 ghost use Rattle.ldm_reader.specs.Reader.{HasCursor};
 ghost use Rattle.ldm_session.specs.Hearing.{Heard};
 ghost use Rattle.ldm_session.specs.declared.gaps.TheConstants.{LONGEST_NAME};
@@ -17,7 +18,7 @@ ghost use Rattle.ldm_class.specs.Access.{reduce};
 ghost use Rattle.ldm_class.specs.Classes.{bad_place};
 ghost use Rattle.ldm_class.specs.Rules.{Rules, rules_for};
 ghost use Rattle.ldm_class.specs.declared.answers.Reduced.TheVariants as reduced;
-ghost use Rattle.ldm_upstream.specs.Feeds.{Feeds, HasFed};
+ghost use Rattle.ldm_upstream.specs.Feeds.{DecidesFirst, Feeds, HasDecided, HasFed};
 
 use crate::course::turns;
 use ldm_class::{Class, ClassFault, ClassMatcher, HostPolicy, Policy, Reduced};
@@ -64,6 +65,7 @@ fn feed_turns<H: Wait, K: Link, E: Sink, C: Clock, G: Gate>(
         (situation_of (moment_of pass.new (K.tells link.new) (C.tells clock.new) out.new.items) (E.tells log.new)
         (G.tells gate.new)) }
     ensures cursor { KeepsCursor result pass.new reader.now.k }
+    ensures called { (made : List Entry) × Calls pass.old pass.new made }
 {
     // The bound of the arena is known then.
     let _arena = shared.arena();
@@ -125,6 +127,7 @@ fn feed_cursor<H: Wait, K: Link, E: Sink, C: Clock, G: Gate>(
         (session_tells K.tells E.tells C.tells G.tells link.new log.new clock.new gate.new)
         × KeepsFaults (session_tells K.tells E.tells C.tells G.tells link.old log.old clock.old gate.old)
         (session_tells K.tells E.tells C.tells G.tells link.new log.new clock.new gate.new) }
+    ensures called { (made : List Entry) × Calls pass.old pass.new made }
 {
     products_stay();
     let end = feed_turns(
@@ -169,6 +172,8 @@ fn feed_class<H: Wait, K: Link, E: Sink, G: Gate, C: Clock>(
         (session_tells K.tells E.tells C.tells G.tells link.new log.new clock.new gate.new)
         × KeepsFaults (session_tells K.tells E.tells C.tells G.tells link.old log.old clock.old gate.old)
         (session_tells K.tells E.tells C.tells G.tells link.new log.new clock.new gate.new) }
+    ensures decided { DecidesFirst (asked_of host.now policy.now ask.now) pass.old pass.new (K.tells link.old)
+        (K.tells link.new) }
 {
     let Ok(mut out) = room_to_gather(alloc) else {
         return SendEnd::OutOfMemory;
@@ -216,13 +221,16 @@ fn decline_whole<K: Link, C: Clock>(
 ) -> SendEnd
     requires not_closed { IsNotClosed (K.tells link.old) }
     requires not_whole { left ≢ reduced.Same }
-    ensures { (host ahead : List ℕ) (rules : Rules) (pass : PassView) (log : SinkRecord) (gate : GateRecord)
+    ensures fed { (host ahead : List ℕ) (rules : Rules) (pass : PassView) (log : SinkRecord) (gate : GateRecord)
         → reduce (rules_for false rules) host ask.now.class ≡ left →
         let before : SessionRecord = record
         { link = K.tells link.old; log = log; clock = C.tells clock.old; gate = gate } in
         let after : SessionRecord = record
         { link = K.tells link.new; log = log; clock = C.tells clock.new; gate = gate } in
         Feeds result (asked_of host rules ask.now) ahead pass pass before after × KeepsFaults before after }
+    ensures decided { (host : List ℕ) (rules : Rules) (pass : PassView)
+        → reduce (rules_for false rules) host ask.now.class ≡ left →
+        HasDecided (asked_of host rules ask.now) pass pass }
 {
     match left {
         Reduced::Same => unreachable!(),
@@ -275,6 +283,8 @@ pub fn feed_behind<H: Wait, K: Link, E: Sink, G: Gate, C: Clock>(
     ensures fed { Feeds result (asked_of host.now policy.now ask.now) ahead.now pass.old pass.new
         (session_tells K.tells E.tells C.tells G.tells link.old log.old clock.old gate.old)
         (session_tells K.tells E.tells C.tells G.tells link.new log.new clock.new gate.new) }
+    ensures decided { DecidesFirst (asked_of host.now policy.now ask.now) pass.old pass.new (K.tells link.old)
+        (K.tells link.new) }
 {
     match policy.reduce(alloc, host, &ask.class, false) {
         Ok(Reduced::Same) => match Class::build(alloc, &ask.class) {
@@ -314,6 +324,8 @@ pub fn feed<H: Wait, K: Link, E: Sink, G: Gate, C: Clock>(
     ensures fed { Feeds result (asked_of host.now policy.now ask.now) [] pass.old pass.new
         (session_tells K.tells E.tells C.tells G.tells link.old log.old clock.old gate.old)
         (session_tells K.tells E.tells C.tells G.tells link.new log.new clock.new gate.new) }
+    ensures decided { DecidesFirst (asked_of host.now policy.now ask.now) pass.old pass.new (K.tells link.old)
+        (K.tells link.new) }
 {
     match policy.reduce(alloc, host, &ask.class, false) {
         Ok(Reduced::Same) => feed_class(

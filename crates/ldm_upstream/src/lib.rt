@@ -12,9 +12,11 @@ mod examples;
 mod feeding;
 mod give;
 mod handle;
+mod laws;
 mod offer;
 mod one_turn;
 
 pub use examples::worked_examples;
 pub use feeding::{feed, feed_behind};
+pub use laws::answered_feedings_are_completed;
 pub use ldm_sender::{SendEnd as FeedEnd, feeds_of, is_due, start_at};

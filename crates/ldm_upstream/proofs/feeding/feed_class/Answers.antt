@@ -1,9 +1,11 @@
-use Rattle.std.proofs.Common.{◌∙◌, sym, ap, refl}
+use Rattle.std.proofs.Common.{◌∙◌, List, [], append-nil, inl, inr, sym, subst, ap, refl}
 use Rattle.ldm_class.specs.HostRules.{HostRules}
 use Rattle.ldm_relay.specs.declared.message.ClassAnswer.TheVariants as class_answer
-use Rattle.ldm_shared.proofs.Made.{calls_some}
+use Rattle.ldm_model.specs.declared.event.Entry.{Entry}
+use Rattle.ldm_shared.specs.Passes.{Calls}
+use Rattle.ldm_shared.proofs.Made.{calls_some, calls_trans}
 use Rattle.ldm_sender.specs.Asked.{asked_of}
-use Rattle.ldm_sender.specs.Opening.{Busy}
+use Rattle.ldm_sender.specs.Opening.{Busy, Opened, opening_entries}
 use Rattle.ldm_sender.proofs.Unturned.{busy, answer_breaks, worn_first, short}
 use Rattle.ldm_upstream.proofs.Unfed.{unfed}
 use Rattle.ldm_sender.proofs.Emptied.{does_from_empty, breaks_from_empty}
@@ -64,3 +66,56 @@ pub returns-clause-fed : goal.returns-clause-fed
 returns-clause-fed g c =
     let asked = asked_of c.args.host.now c.args.policy.now c.args.ask.now in
     unfed _ asked _ _ _ _ _ (worn_first asked c.args.pass.now c.open_for.new.pass _ _ _ _ c.requires.not_closed c.requires.same (c.in-Worn.ensures.opens asked (sym c.requires.built)))
+
+pub returns-in_default-clause-decided : goal.returns-in_default-clause-decided
+returns-in_default-clause-decided g c = inl refl
+
+pub returns-in_default-matcher-clause-decided : goal.returns-in_default-matcher-clause-decided
+returns-in_default-matcher-clause-decided g c = inl refl
+
+pub returns-in_default-for_host-clause-decided : goal.returns-in_default-for_host-clause-decided
+returns-in_default-for_host-clause-decided g c = inl refl
+
+pub returns-in_default-create-clause-decided : goal.returns-in_default-create-clause-decided
+returns-in_default-create-clause-decided g c = inl refl
+
+pub returns-clause-decided : goal.returns-clause-decided
+returns-clause-decided g c = inl refl
+
+pub returns-in-Done-Some-clause-decided : goal.returns-in-Done-Some-clause-decided
+returns-in-Done-Some-clause-decided g c =
+    let asked = asked_of c.args.host.now c.args.policy.now c.args.ask.now in
+    let at = rw c.in-Done-Some.field-0-is at c.in-Done-Some.ensures in
+    let opened = at.opens asked (sym c.requires.built) in
+    inr (record {
+      answered = Opened opened.missed _;
+      is = (c.requires.same, opened.may_miss);
+      behind = c.feed_cursor.ensures.called.0;
+      made = calls_trans _ _ _ _ _ (calls_some _ _ _ opened.makes) c.feed_cursor.ensures.called.1;
+    })
+
+pub returns-in-Ok-answer_class-clause-decided : goal.returns-in-Ok-answer_class-clause-decided
+returns-in-Ok-answer_class-clause-decided g c =
+    let asked = asked_of c.args.host.now c.args.policy.now c.args.ask.now in
+    let at = rw c.in-Done-None.field-0-is at c.in-Done-None.ensures in
+    let found = at.opens asked (sym c.requires.built) in
+    let entries = opening_entries c.args.pass.now.actor asked (Busy found.missed) in
+    inr (record {
+      answered = Busy found.missed;
+      is = (c.requires.same, found.may_miss);
+      behind = [];
+      made = subst (λ (es : List Entry). Calls c.args.pass.now c.open_for.new.pass es) (sym (append-nil entries)) (calls_some _ _ _ found.makes);
+    })
+
+pub returns-in-Done-None-clause-decided : goal.returns-in-Done-None-clause-decided
+returns-in-Done-None-clause-decided g c =
+    let asked = asked_of c.args.host.now c.args.policy.now c.args.ask.now in
+    let at = rw c.in-Done-None.field-0-is at c.in-Done-None.ensures in
+    let found = at.opens asked (sym c.requires.built) in
+    let entries = opening_entries c.args.pass.now.actor asked (Busy found.missed) in
+    inr (record {
+      answered = Busy found.missed;
+      is = (c.requires.same, found.may_miss);
+      behind = [];
+      made = subst (λ (es : List Entry). Calls c.args.pass.now c.open_for.new.pass es) (sym (append-nil entries)) (calls_some _ _ _ found.makes);
+    })

@@ -2,7 +2,7 @@ use Rattle.std.proofs.Common.{◌∙◌, ap, sym, subst, true}
 use Rattle.ldm_outside.specs.Link.{LinkRecord}
 use Rattle.ldm_outside.specs.Session.{SessionRecord, KeepsFaults}
 use Rattle.ldm_shared.specs.Passes.{PassView}
-use Rattle.ldm_shared.proofs.Made.{calls_none}
+use Rattle.ldm_shared.proofs.Made.{calls_none, calls_some, calls_trans}
 use Rattle.ldm_sender.specs.declared.end.SendEnd.{SendEnd}
 use Rattle.ldm_sender.specs.declared.end.SendEnd.TheVariants as end
 use Rattle.ldm_sender.specs.Acts.{situation_of}
@@ -59,6 +59,7 @@ returns-in-Worn-close g c =
           (c.feed_turns-end.ensures.fed asked missed first ahead asked_is most xid answer makes empty heard) c.in-Worn-close.ensures.worn in
           feeds end.Worn asked ahead missed k first link0 clock0 log0 gate0 (situation_of (moment_of final link clock out) log gate) final link.closed law fed (calls_none final)
           c.feed_turns-end.ensures.still_open (c.in-Worn-close.ensures.worn.long ∙ c.in-Worn-close.ensures.worn.turns_are);
+      called = (_, calls_trans c.args.pass.now pass final _ _ c.feed_turns-end.ensures.called.1 (calls_some pass final _ c.in-Worn-close.ensures.worn.makes));
     }
 
 pub returns-in-Stopped : goal.returns-in-Stopped
@@ -90,6 +91,7 @@ returns-in-Stopped g c =
           (feeds why asked ahead missed k first link0 clock0 log0 gate0 new final true law fed
           (closing_calls why first pass final missed k c.in_default.not-Worn (ap (λ (p : PassView). p.actor) c.feed_turns-end.ensures.kept ∙ ap (λ (p : PassView). p.actor) makes.same) c.in_default-close.ensures.done) (left_closed why link c.in-Stopped.is)
           (subst (λ (a : Answered). IsEndOf why a final before (session_of new)) fed.is_answered (cause_moves why fed.feeding.answered pass final before (session_of new) c.in_default.not-Worn fed.cause)));
+      called = (_, calls_trans c.args.pass.now pass final _ _ c.feed_turns-end.ensures.called.1 (calls_some pass final _ c.in_default-close.ensures.done.makes));
     }
 
 pub returns-in_default-end : goal.returns-in_default-end
@@ -119,4 +121,8 @@ returns-in_default-end g c =
           (closing_calls why first pass final missed k c.in_default.not-Worn (ap (λ (p : PassView). p.actor) c.feed_turns-end.ensures.kept ∙ ap (λ (p : PassView). p.actor) makes.same) c.in_default-close.ensures.done)
           (left_open why link c.in_default-end.not-Stopped c.feed_turns-end.ensures.still_open)
           (subst (λ (a : Answered). IsEndOf why a final before (session_of new)) fed.is_answered (cause_moves why fed.feeding.answered pass final before (session_of new) c.in_default.not-Worn fed.cause));
+      called = (_, calls_trans c.args.pass.now pass final _ _ c.feed_turns-end.ensures.called.1 (calls_some pass final _ c.in_default-close.ensures.done.makes));
     }
+
+pub returns-in-Worn-clause-called : goal.returns-in-Worn-clause-called
+returns-in-Worn-clause-called g c = c.feed_turns-end.ensures.called

@@ -1,12 +1,13 @@
 use Rattle.std.proofs.Common.{[], sym, subst, refl, List, ℕ}
 use Rattle.ldm_relay.specs.declared.message.ClassAnswer.TheVariants as class_answer
-use Rattle.ldm_shared.proofs.Made.{calls_some}
+use Rattle.ldm_shared.proofs.Made.{calls_none, calls_some}
 use Rattle.ldm_sender.specs.Asked.{Asked}
-use Rattle.ldm_sender.specs.Acts.{situation_of}
+use Rattle.ldm_sender.specs.Acts.{is_whole, situation_of}
 use Rattle.ldm_sender.specs.Answering.{answer_deed}
 use Rattle.ldm_sender.specs.Does.{moment_of, Does, Breaks}
 use Rattle.ldm_sender.specs.Stopping.{StopsSending}
 use Rattle.ldm_sender.specs.Opening.{Opened}
+use Rattle.ldm_upstream.proofs.Closing.{ends-calls}
 use Rattle.ldm_upstream.proofs.Fed.{turns_fed, answer_broke_fed}
 use Rattle.ldm_upstream.proofs.feeding.feed_turns.Goals as goal
 
@@ -63,3 +64,18 @@ returns-in-Err-clause-fed g c = λ asked missed first ahead asked_is most xid an
     let stops = subst (λ (o : List ℕ). StopsSending c.in-Err.end (moment_of pass link clock o) new) empty answers.2 in
     answer_broke_fed c.in-Err.end asked ahead (Opened missed c.args.reader.now.k) answers.0 first pass link (tells c.answer_class.new.link) clock (clock_tells c.answer_class.new.clock)
     c.answer_class.new.out.items (g.E.Sink.tells c.args.log.now) (g.G.Gate.tells c.args.gate.now) c.requires.not_closed answer (calls_some first pass _ makes) breaks stops
+
+pub returns-clause-called : goal.returns-clause-called
+returns-clause-called g c =
+    let asked : Asked = record {
+      host = c.args.rules.now.host;
+      rules = c.args.rules.now.rules;
+      xid = c.args.ask.now.xid;
+      class = c.args.class.now;
+      max_hereis = c.args.ask.now.max_hereis;
+    } in
+    let turns = c.turns.ensures.turns asked (record { class_is = refl; rules_are = refl; host_is = refl }) refl in
+    ends-calls (is_whole c.turns.result) c.turns.result asked.host turns.came _ _ _ turns.ends
+
+pub returns-in-Err-clause-called : goal.returns-in-Err-clause-called
+returns-in-Err-clause-called g c = ([], calls_none c.args.pass.now)
