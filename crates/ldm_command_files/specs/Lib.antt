@@ -1,3 +1,4 @@
 pub mod ConfFiles
 pub mod PqactFiles
 pub mod Texts
+pub mod Words

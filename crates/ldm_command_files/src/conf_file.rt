@@ -1,9 +1,10 @@
 //! An ldmd.conf under its path.
 ghost use Rattle.std.specs.Prelude.{◌≡◌, ◌≤◌, length};
-ghost use Rattle.ldm_conf.specs.Causes.{first_too_long};
+ghost use Rattle.ldm_conf.specs.Causes.{ReadsConf, first_too_long};
 ghost use Rattle.ldm_command_files.specs.ConfFiles.{CompletesConf, TakesConf, status_of_conf};
 ghost use Rattle.ldm_command_files.specs.Texts.{ReadsText, not_taken};
 
+use crate::included::{IncludedFiles, Lender, Lent, Noting};
 use crate::telling::{tell_conf, tell_long};
 use ldm_conf::{Conf, ConfFault, ConfKind, read_conf};
 use ldm_outside::{FileRead, Store};
@@ -11,6 +12,7 @@ use ldm_reason::Reason;
 use ldm_status::Status;
 use ldm_text::LONGEST_CONFIGURATION;
 use std::alloc::Global;
+use std::marker::Brand;
 
 /// Why no configuration was taken.
 #[derive(Clone, Copy, Debug, PartialEq, Eq)]
@@ -76,12 +78,42 @@ fn read_text<F: Store>(
     requires { length bytes.now ≤ LONGEST_CONFIGURATION }
     ensures reads { ReadsText result bytes.now (F.tells store.old) (F.tells store.new) }
 {
-    match read_conf(alloc, bytes, store) {
+    let mut included = IncludedFiles::new(alloc);
+    let Noted { lent, conf } = read_noting::<F, Brand>(alloc, bytes, Lent { store }, &mut included);
+    let Lent { store: _store } = lent;
+    match conf {
         Ok(conf) => Ok(conf),
         Err(fault) => {
-            tell_conf(why, path, bytes, &fault);
+            tell_conf(why, path, bytes, &included, &fault);
             Err(not_taken(fault))
         }
+    }
+}
+
+// A configuration that was read, and the store that was lent for it.
+#[derive(Drop)]
+struct Noted<'a, F> {
+    lent: Lent<'a, F>,
+    conf: Result<Conf, ConfFault>,
+}
+
+// The configuration that the bytes of a first file mean. The files that it includes are noted.
+fn read_noting<'a, F: Store, B: Lender>(
+    alloc: Global,
+    bytes: &[u8],
+    lent: Lent<'a, F>,
+    included: &mut IncludedFiles,
+) -> Noted<'a, F>
+    requires length { length bytes.now ≤ LONGEST_CONFIGURATION }
+    requires lender { B.name ≡ lent.store.ghost_name }
+    ensures lender { result.lent.store.ghost_name ≡ lent.entry.store.ghost_name }
+    ensures reads { ReadsConf result.conf bytes.now (F.tells lent.entry.store.now) (F.tells result.lent.store.now) }
+{
+    let mut noting = Noting::<'_, '_, F, B>::over(lent, included);
+    let conf = read_conf(alloc, bytes, &mut noting);
+    Noted {
+        lent: noting.into_lent(),
+        conf,
     }
 }
 

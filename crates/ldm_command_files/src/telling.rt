@@ -1,5 +1,8 @@
 //! What is wrong with a line of a configuration file, in words.
+ghost use Rattle.std.specs.Prelude.{◌≡◌};
+ghost use Rattle.ldm_command_files.specs.Words.{conf_words, pqact_words};
 
+use crate::included::IncludedFiles;
 use ldm_conf::{ConfFault, ConfKind};
 use ldm_pqact_conf::{PqactFault, PqactKind};
 use ldm_reason::Reason;
@@ -11,11 +14,22 @@ const LONGEST_PATH: usize = 60;
 // The most bytes of a line in a reason.
 const LONGEST_SHOWN: usize = 100;
 
-/// Makes the reason `PATH:LINE: WORDS: TEXT` of a fault of an ldmd.conf that has these bytes. Of a fault in a file that
-/// it includes the number of the file is told, and no text.
-pub(crate) fn tell_conf(why: &mut Reason, path: &str, bytes: &[u8], fault: &ConfFault) {
+/// Makes the reason `PATH:LINE: WORDS: TEXT` of a fault of an ldmd.conf that has these bytes, or of a file that it
+/// includes. Where that is not among the files, its number is told, and no text.
+pub(crate) fn tell_conf(
+    why: &mut Reason,
+    path: &str,
+    bytes: &[u8],
+    included: &IncludedFiles,
+    fault: &ConfFault,
+) {
+    let words = words_of_conf(fault.kind);
     if fault.file == 0 {
-        tell_line(why, path, bytes, fault.line, words_of_conf(fault.kind));
+        tell_line(why, path, bytes, fault.line, words);
+        return;
+    }
+    if let Some(file) = included.find(fault.file) {
+        tell_line(why, file.path(), file.text(), fault.line, words);
         return;
     }
     why.clear();
@@ -25,7 +39,7 @@ pub(crate) fn tell_conf(why: &mut Reason, path: &str, bytes: &[u8], fault: &Conf
     why.put(b", line ");
     why.put_number(u64::from(fault.line));
     why.put(b": ");
-    why.put(words_of_conf(fault.kind));
+    why.put(words);
 }
 
 /// The same of a fault of a pqact.conf that has these bytes: the text is that of the entry's first line.
@@ -77,7 +91,10 @@ fn line_at(bytes: &[u8], number: u32) -> &[u8] {
     }
 }
 
-fn words_of_conf(kind: ConfKind) -> &'static [u8] {
+/// What is wrong with a line of an ldmd.conf, or with a file of it.
+pub fn words_of_conf(kind: ConfKind) -> &'static [u8]
+    ensures { result.now ≡ conf_words kind }
+{
     match kind {
         ConfKind::Keyword => b"no such keyword",
         ConfKind::Fields => b"too few words, too many, or one of a wrong form",
@@ -90,7 +107,10 @@ fn words_of_conf(kind: ConfKind) -> &'static [u8] {
     }
 }
 
-fn words_of_pqact(kind: PqactKind) -> &'static [u8] {
+/// What is wrong with an entry of a pqact.conf.
+pub fn words_of_pqact(kind: PqactKind) -> &'static [u8]
+    ensures { result.now ≡ pqact_words kind }
+{
     match kind {
         PqactKind::Fields => b"too few fields, too many, or one of a wrong form",
         PqactKind::Feed => b"no such feedtype",
