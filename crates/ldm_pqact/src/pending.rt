@@ -11,11 +11,13 @@ use ldm_actions::Outputs;
 use ldm_outside::{Launcher, Sink, Store};
 use ldm_pqact_conf::Entries;
 use ldm_reader::{Reader, products_stay};
+use ldm_reason::Reason;
 use ldm_shared::{Pass, Shared};
 use std::alloc::Global;
 use std::sync::Wait;
 
-// Turns, until one ends them.
+// Turns, until one ends them. A fault of the store or of the launcher leaves the front of the ident of the product in
+// hand, and the end of the queue leaves none.
 pub(crate) fn turns<H: Wait, F: Store, L: Launcher, E: Sink>(
     alloc: Global,
     shared: &Shared,
@@ -25,6 +27,7 @@ pub(crate) fn turns<H: Wait, F: Store, L: Launcher, E: Sink>(
     entries: &Entries,
     buffer: &mut [u8],
     outputs: &mut Outputs,
+    in_hand: &mut Reason,
     store: &mut F,
     launcher: &mut L,
     log: &mut E,
@@ -42,7 +45,8 @@ pub(crate) fn turns<H: Wait, F: Store, L: Launcher, E: Sink>(
     products_stay();
     for _ in rt.forever() {
         match turn(
-            alloc, shared, rt, pass, reader, entries, buffer, outputs, store, launcher, log,
+            alloc, shared, rt, pass, reader, entries, buffer, outputs, in_hand, store, launcher,
+            log,
         ) {
             Ok(()) => {}
             Err(end) => return end,

@@ -1,5 +1,6 @@
 //! Entries of a pqact.conf, and the outputs that they write to.
 ghost use Rattle.std.specs.Prelude.{◌≡◌, IfOk, None};
+ghost use Rattle.ldm_outside.specs.Reason.{IsReason};
 ghost use Rattle.ldm_shared.specs.Passes.{IsPassOf, IsSamePass};
 ghost use Rattle.ldm_reader.specs.Reader.{HasCursor};
 ghost use Rattle.ldm_actions.specs.Outputs.{Closes, KeepsOfAny, KeepsUnlessSpent, no_outputs, standing};
@@ -12,6 +13,7 @@ use ldm_actions::{Done, Outputs};
 use ldm_outside::{Launcher, Sink, Store};
 use ldm_pqact_conf::Entries;
 use ldm_reader::Reader;
+use ldm_reason::Reason;
 use ldm_shared::{Pass, Shared};
 use ldm_types::OutOfMemory;
 use std::alloc::Global;
@@ -30,6 +32,8 @@ pub struct Pqact {
     pub(crate) outputs: Outputs,
     // A piece of a body, as it is read.
     pub(crate) buffer: Vec<u8>,
+    // The front of the ident of the product in hand.
+    in_hand: Reason,
 }
 
 impl Model for Pqact {
@@ -56,6 +60,7 @@ impl Pqact {
             entries,
             outputs: Outputs::create(alloc)?,
             buffer,
+            in_hand: Reason::new(),
         })
     }
 
@@ -95,10 +100,19 @@ impl Pqact {
             &self.entries,
             self.buffer.as_mut_slice(),
             &mut self.outputs,
+            &mut self.in_hand,
             store,
             launcher,
             log,
         )
+    }
+
+    /// The product in hand where [`pending`](Pqact::pending) last ended by a fault of the store or of the launcher: the
+    /// first 60 bytes of its ident, as a log line can have them. None was in hand at the end of the queue.
+    pub fn in_hand(&self) -> &[u8]
+        ensures { IsReason result.now }
+    {
+        self.in_hand.as_slice()
     }
 
     /// Shuts all files, and then shuts the input of each program and waits for it: the longest unused first.

@@ -7,16 +7,19 @@ ghost use Rattle.ldm_pqact.specs.Acting.{TurnsBy, sight_of};
 
 use crate::end::ActEnd;
 use crate::handle::handle;
+use crate::limits::LONGEST_SHOWN;
 use ldm_actions::Outputs;
 use ldm_outside::{Launcher, Sink, Store};
 use ldm_pqact_conf::Entries;
 use ldm_reader::{Came, Reader, products_stay};
+use ldm_reason::Reason;
 use ldm_session::write_gap;
 use ldm_shared::{Pass, Shared, Turn};
 use std::alloc::Global;
 use std::sync::Wait;
 
-// One step of the cursor, and what follows it.
+// One step of the cursor, and what follows it. A fault of the store or of the launcher leaves the front of the ident of
+// the product in hand.
 pub(crate) fn turn<H: Wait, F: Store, L: Launcher, E: Sink>(
     alloc: Global,
     shared: &Shared,
@@ -26,6 +29,7 @@ pub(crate) fn turn<H: Wait, F: Store, L: Launcher, E: Sink>(
     entries: &Entries,
     buffer: &mut [u8],
     outputs: &mut Outputs,
+    in_hand: &mut Reason,
     store: &mut F,
     launcher: &mut L,
     log: &mut E,
@@ -46,10 +50,23 @@ pub(crate) fn turn<H: Wait, F: Store, L: Launcher, E: Sink>(
             write_gap(log, b"pqact", count, first, last)?;
             Ok(())
         }
-        Turn::Done(Came::Product(held)) => handle(
-            alloc, shared, rt, pass, reader, held, entries, buffer, outputs, store, launcher, log,
-        ),
-        Turn::Done(Came::End { .. }) => Err(ActEnd::Stopped),
+        Turn::Done(Came::Product(held)) => {
+            put_front(in_hand, held.info.ident());
+            handle(
+                alloc, shared, rt, pass, reader, held, entries, buffer, outputs, store, launcher,
+                log,
+            )
+        }
+        Turn::Done(Came::End { .. }) => {
+            in_hand.clear();
+            Err(ActEnd::Stopped)
+        }
         Turn::Worn { .. } => Err(ActEnd::Worn),
     }
+}
+
+// Notes the front of an ident, in place of what was noted before.
+fn put_front(in_hand: &mut Reason, ident: &[u8]) {
+    in_hand.clear();
+    in_hand.put(&ident[..ident.len().min(LONGEST_SHOWN)]);
 }

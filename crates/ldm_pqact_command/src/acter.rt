@@ -1,5 +1,6 @@
 //! The handler that acts on products.
 ghost use Rattle.std.specs.Prelude.{◌≡◌, None};
+ghost use Rattle.ldm_outside.specs.Reason.{IsReason};
 
 use crate::stop::{ActStop, stop_of};
 use crate::tallying::tally;
@@ -61,6 +62,14 @@ impl Acter {
         ensures { result ≡ self.now.why }
     {
         self.why
+    }
+
+    /// The product in hand where it stopped by a fault of the store or of the launcher: the first 60 bytes of its ident,
+    /// as a log line can have them. None was in hand where it did not stop.
+    pub fn in_hand(&self) -> &[u8]
+        ensures { IsReason result.now }
+    {
+        self.pqact.in_hand()
     }
 
     /// Shuts all files, and then shuts the input of each program and waits for it. Outputs that are spent touch nothing

@@ -35,6 +35,8 @@ use std::sync::Wait;
 /// count, more products than these may be acted on. A product that was evicted before that is told by the line `gap
 /// pqact COUNT FIRST LAST` of the log. It connects once. At the end it gives the link back, and then shuts all files,
 /// and shuts the input of each program and waits for it. The clause `ends` gives each status its cause: see `Pqacts`.
+///
+/// Where an action failed, the reason before the status tells the product that was in hand.
 pub fn pqact<
     H: Wait,
     N: Dial + Reasons,
@@ -79,7 +81,8 @@ pub fn pqact<
     )
 }
 
-// Takes the entries.
+// Takes the entries. What it knows of a fault itself is put into the reason, which is empty: what is wrong with the
+// entries, or which product was in hand.
 fn pqact_by<H: Wait, N: Dial, F: Store, L: Launcher, E: Sink, C: Clock>(
     rt: &H,
     alloc: Global,
@@ -106,9 +109,9 @@ fn pqact_by<H: Wait, N: Dial, F: Store, L: Launcher, E: Sink, C: Clock>(
 {
     match take_entries(alloc, store, conf, why) {
         Ok(entries) => act(
-            rt, alloc, net, store, launcher, log, clock, host, port, class, count, entries,
+            rt, alloc, net, store, launcher, log, clock, host, port, class, count, entries, why,
         ),
-        Err(why) => PqactEnd::NotTaken(why),
+        Err(fault) => PqactEnd::NotTaken(fault),
     }
 }
 
@@ -126,6 +129,7 @@ fn act<H: Wait, N: Dial, F: Store, L: Launcher, E: Sink, C: Clock>(
     class: &Class,
     count: Option<u64>,
     entries: Entries,
+    why: &mut Reason,
 ) -> PqactEnd
     requires none_out { (N.tells net.old).links.out ≡ false }
     ensures ends { ActEnds F.tells L.tells result (order_of host.now port class.now count) entries
@@ -145,7 +149,7 @@ fn act<H: Wait, N: Dial, F: Store, L: Launcher, E: Sink, C: Clock>(
     };
     act_from(
         rt, alloc, &shared, &mut pass, net, store, launcher, log, clock, host, port, class, count,
-        entries,
+        entries, why,
     )
 }
 
@@ -165,6 +169,7 @@ fn act_from<H: Wait, N: Dial, F: Store, L: Launcher, E: Sink, C: Clock>(
     class: &Class,
     count: Option<u64>,
     entries: Entries,
+    why: &mut Reason,
 ) -> PqactEnd
     requires sizes { (shared.now.arena ≡ ARENA) × (shared.now.slots ≡ SLOTS) × (shared.now.passes ≡ PASSES) }
     requires first { pass.old ≡ new_pass shared.now 0 }
@@ -193,6 +198,7 @@ fn act_from<H: Wait, N: Dial, F: Store, L: Launcher, E: Sink, C: Clock>(
             port,
             class,
             Acter::create(reader, count, pqact),
+            why,
         ),
         Err(_) => PqactEnd::NoMemory,
     }
@@ -231,6 +237,7 @@ fn dial<H: Wait, N: Dial, F: Store, L: Launcher, E: Sink, C: Clock>(
     port: u16,
     class: &Class,
     acter: Acter,
+    why: &mut Reason,
 ) -> PqactEnd
     requires of { IsPassOf shared.now pass.old }
     requires has_cursor { HasCursor pass.old acter.k None }
@@ -249,7 +256,7 @@ fn dial<H: Wait, N: Dial, F: Store, L: Launcher, E: Sink, C: Clock>(
 {
     match net.connect(host, port) {
         Dialled::Linked(link) => hold(
-            rt, alloc, shared, pass, net, link, store, launcher, log, clock, class, acter,
+            rt, alloc, shared, pass, net, link, store, launcher, log, clock, class, acter, why,
         ),
         Dialled::Failed => PqactEnd::Unreached,
     }
@@ -269,6 +276,7 @@ fn hold<H: Wait, N: Dial, F: Store, L: Launcher, E: Sink, C: Clock>(
     clock: &mut C,
     class: &Class,
     mut acter: Acter,
+    why: &mut Reason,
 ) -> PqactEnd
     requires of { IsPassOf shared.now pass.old }
     requires has_cursor { HasCursor pass.old acter.k None }
@@ -299,6 +307,7 @@ fn hold<H: Wait, N: Dial, F: Store, L: Launcher, E: Sink, C: Clock>(
         launcher,
     );
     net.give_back(link);
-    let why = acter.why();
-    ended(end, why, acter.close(store, launcher))
+    why.put(acter.in_hand());
+    let stop = acter.why();
+    ended(end, stop, acter.close(store, launcher))
 }

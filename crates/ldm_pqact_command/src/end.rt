@@ -10,6 +10,7 @@ use ldm_command_files::{EntriesNotTaken, status_of_entries};
 use ldm_gather::GatherEnd;
 use ldm_intake::RecvEnd;
 use ldm_outside::Sink;
+use ldm_reason::Reason;
 use ldm_status::{LOG_FAULT, Status};
 
 /// How `pqact` ends.
@@ -100,17 +101,29 @@ fn status_of(end: PqactEnd) -> Option<Status>
     }
 }
 
-/// Writes the log line of an end, for the reason that the pqact.conf, the store, the net or the launcher gives, and
-/// answers the number that the program ends with. Where the log failed there is no line.
+// Puts the ident of the product in hand before what was said of a fault of the store or of the launcher, if something
+// was.
+fn put_product(reason: &mut Reason, status: &Status, ident: &[u8], said: &[u8]) {
+    if let Status::StoreFault | Status::ChildFault = status {
+        if !ident.is_empty() && !said.is_empty() {
+            reason.put(ident);
+            reason.put(b": ");
+        }
+    }
+}
+
+/// Writes the log line of an end, for the reason that the store, the net or the launcher gives, and answers the number
+/// that the program ends with. What is known of the end is what is wrong with the pqact.conf; or, of a fault of the
+/// store or of the launcher, the ident of the product in hand, if one was. Where the log failed there is no line.
 pub(crate) fn report<E: Sink>(
     end: PqactEnd,
-    conf: &[u8],
+    known: &[u8],
     store: &[u8],
     net: &[u8],
     launcher: &[u8],
     log: &mut E,
 ) -> u8
-    requires conf { IsReason conf.now }
+    requires known { IsReason known.now }
     requires store { IsReason store.now }
     requires net { IsReason net.now }
     requires launcher { IsReason launcher.now }
@@ -119,8 +132,11 @@ pub(crate) fn report<E: Sink>(
 {
     match status_of(end) {
         Some(status) => {
-            let reason = status.reason_among(conf, store, net, launcher);
-            status.report_because(reason, log)
+            let said = status.reason_among(known, store, net, launcher);
+            let mut reason = Reason::new();
+            put_product(&mut reason, &status, known, said);
+            reason.put(said);
+            status.report_because(reason.as_slice(), log)
         }
         None => LOG_FAULT,
     }

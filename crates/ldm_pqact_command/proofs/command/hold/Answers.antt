@@ -35,7 +35,7 @@ returns-clause-holds g c = record {
   given_back = c.give_back.ensures.given_back;
   answer = c.close.result;
   closes = c.close.ensures.closed;
-  is_end = subst (λ (why : Option ActStop). IsEndOf c.ended.result c.gather-end.result why c.close.result) c.why-why.ensures c.ended.ensures;
+  is_end = subst (λ (why : Option ActStop). IsEndOf c.ended.result c.gather-end.result why c.close.result) c.why-stop.ensures c.ended.ensures;
 }
 
 pub returns-clause-counts_kept : goal.returns-clause-counts_kept
