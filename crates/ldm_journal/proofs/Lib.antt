@@ -18,3 +18,4 @@ pub mod OpenLemmas
 pub mod MakeLemmas
 pub mod NextLemmas
 pub mod OpenWhole
+pub mod EventLemmas

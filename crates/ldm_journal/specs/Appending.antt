@@ -32,3 +32,9 @@ EndsAppending Appended k marks old new =
 EndsAppending Full k marks old new = marks.ring < marks.used + marks.appended + record_len k
 EndsAppending DiskFault k marks old new =
     (marks.used + marks.appended + record_len k ≤ marks.ring) × Rose old.faults new.faults
+
+-- Which number the next product may have.
+abbrev pub NumbersAppending : AppendEnd → ℕ → Marks → Marks → Type 0
+NumbersAppending Appended number before after = after.next ≡ number + 1
+NumbersAppending Full number before after = after.next ≡ before.next
+NumbersAppending DiskFault number before after = Unit {0}

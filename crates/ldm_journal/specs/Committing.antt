@@ -45,6 +45,11 @@ abbrev pub EndsCommitting : CommitEnd → DiskRecord → DiskRecord → Type 0
 EndsCommitting DiskFault old new = Rose old.faults new.faults
 EndsCommitting other old new = old.faults ≤ new.faults
 
+-- Nothing is appended any more, and so many bytes of the ring are free.
+abbrev pub Frees : CommitEnd → ℕ → Marks → Type 0
+Frees Committed gap after = (after.appended ≡ 0) × (after.used + gap ≤ after.ring)
+Frees other gap after = Unit {0}
+
 -- how committing ends where the length of a record could not be read
 abbrev pub end_of : JournalFault → CommitEnd
 end_of fault.DiskFault = DiskFault

@@ -9,3 +9,4 @@ pub mod Committing
 pub mod Making
 pub mod Opening
 pub mod Runs
+pub mod Joining

@@ -89,3 +89,13 @@ abbrev pub Reads : Result (Option Entry) JournalFault → Reader → Reader → 
 Reads result before after buffer file =
     (marks : Marks) (kept appended : List Kept) (i : ℕ) → Stands marks kept appended file → IsBefore i kept marks before →
     ReadsNext result i kept marks after buffer
+
+-- the body of the product that was given lies within the buffer
+abbrev pub HasBody : Result (Option Entry) JournalFault → List ℕ → Type 0
+HasBody (Ok (Some entry)) buffer = entry.body_at + entry.info.size ≤ length buffer
+HasBody other buffer = Unit {0}
+
+-- less is left for a reader that gave a product
+abbrev pub IsShorter : Result (Option Entry) JournalFault → Reader → Reader → Type 0
+IsShorter (Ok (Some entry)) before after = after.left < before.left
+IsShorter other before after = Unit {0}

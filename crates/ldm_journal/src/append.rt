@@ -2,7 +2,7 @@
 ghost use Rattle.std.specs.Prelude.{◌≡◌, ◌+◌, ◌-◌, ◌<◌, ◌≤◌, ◌^◌, ◌++◌, length, OnOk};
 ghost use Rattle.ldm_disk.specs.Calls.{FileChanges, KeepsDisk, Rises};
 ghost use Rattle.md5.specs.Md5.{md5};
-ghost use Rattle.ldm_journal.specs.Appending.{Appends, EndsAppending, record_len};
+ghost use Rattle.ldm_journal.specs.Appending.{Appends, EndsAppending, NumbersAppending, record_len};
 ghost use Rattle.ldm_journal.specs.Sound.{IsSound};
 ghost use Rattle.ldm_journal.specs.Pushing.{Pushes, grown};
 
@@ -45,6 +45,7 @@ impl Journal {
         ensures ended { EndsAppending result (record { number = number; time = time; info = info.now; body = body.now })
             self.old.marks (D.tells disk.old) (D.tells disk.new) }
         ensures ring { self.new.marks.ring ≡ self.old.marks.ring }
+        ensures numbered { NumbersAppending result number self.old.marks self.new.marks }
         ensures kept { KeepsDisk (D.tells disk.old) (D.tells disk.new) }
     {
         let len = (FRAME + info_len(info) + body.len()) as u64;

@@ -1,7 +1,7 @@
 //! Committing what was appended to a journal.
-ghost use Rattle.std.specs.Prelude.{◌≡◌, ◌≢◌, ◌+◌, ◌-◌, ◌≤◌, length, IfErr, IfOk, IfSome, OnOk};
+ghost use Rattle.std.specs.Prelude.{◌≡◌, ◌≢◌, ◌+◌, ◌-◌, ◌≤◌, length, IfErr, IfOk, IfSome, OnErr, OnOk};
 ghost use Rattle.ldm_disk.specs.Calls.{FileChanges, KeepsDisk, KeepsFile, Rises};
-ghost use Rattle.ldm_journal.specs.Committing.{Commits, DropsFor, EndsCommitting, Selects, Turns, WritesHead};
+ghost use Rattle.ldm_journal.specs.Committing.{Commits, DropsFor, EndsCommitting, Frees, Selects, Turns, WritesHead};
 ghost use Rattle.ldm_journal.specs.Committing.{end_of, head_bytes_of, select_byte, turned};
 ghost use Rattle.ldm_journal.specs.Format.{place_of};
 ghost use Rattle.ldm_journal.specs.Sound.{IsSound};
@@ -34,6 +34,8 @@ impl Journal {
             (D.tells disk.new).file }
         ensures ended { EndsCommitting result (D.tells disk.old) (D.tells disk.new) }
         ensures ring { self.new.marks.ring ≡ self.old.marks.ring }
+        ensures next { self.new.marks.next ≡ self.old.marks.next }
+        ensures freed { Frees result gap self.new.marks }
         ensures kept { KeepsDisk (D.tells disk.old) (D.tells disk.new) }
     {
         let dropped = match dropped_for(&self.marks, disk, gap) {
@@ -62,6 +64,7 @@ fn dropped_for<D: Disk>(marks: &Marks, disk: &mut D, gap: u64) -> Result<u64, Jo
     requires sound { IsSound marks.now }
     requires gap { gap ≤ marks.now.ring }
     ensures within { IfOk result (λ dropped. dropped ≤ marks.now.used + marks.now.appended) }
+    ensures enough { IfOk result (λ dropped. marks.now.used + marks.now.appended + gap ≤ marks.now.ring + dropped) }
     ensures found { IfSome (D.tells disk.old).file (DropsFor result gap marks.now) }
     ensures file { FileChanges KeepsFile (D.tells disk.old).file (D.tells disk.new).file }
     ensures failed { IfErr result (λ fault. FaultRose fault (D.tells disk.old) (D.tells disk.new)) }
@@ -86,7 +89,8 @@ fn turn<D: Disk>(marks: &mut Marks, disk: &mut D, dropped: u64) -> Result<(), Fa
     ensures turned { FileChanges (Turns result dropped marks.old marks.new) (D.tells disk.old).file
         (D.tells disk.new).file }
     ensures sound { IsSound marks.new }
-    ensures ring { marks.new.ring ≡ marks.old.ring }
+    ensures marks { OnOk result (marks.new ≡ turned dropped marks.old) }
+    ensures same { OnErr result (marks.new ≡ marks.old) }
     ensures failed { Rises result (D.tells disk.old) (D.tells disk.new) }
     ensures kept { KeepsDisk (D.tells disk.old) (D.tells disk.new) }
 {

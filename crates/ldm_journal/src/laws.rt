@@ -1,9 +1,18 @@
 //! What the contracts amount to. These functions do nothing: their contracts are the laws.
-ghost use Rattle.std.specs.Prelude.{◌≡◌, ◌<◌, ◌≤◌, ◌++◌, ℕ, List, length, drop};
+ghost use Rattle.std.specs.Prelude.{◌≡◌, ◌<◌, ◌≤◌, ◌+◌, ◌-◌, ◌++◌, ◌∷◌, [], ℕ, List, length, drop};
+ghost use Rattle.ldm_disk.specs.Told.{FileRecord, IsConsistent};
 ghost use Rattle.ldm_journal.specs.declared.places.TheConstants.{LARGEST_RING};
 ghost use Rattle.ldm_journal.specs.Records.{Kept, fitting, size_of};
 ghost use Rattle.ldm_journal.specs.Format.{Holds};
-ghost use Rattle.ldm_journal.specs.Runs.{Event, IsPart, MayOpen, after_events, appended_in, committed_in, opened};
+ghost use Rattle.ldm_journal.specs.Runs.{Content, Event, Append, Commit, IsPart, MayOpen, after_events, appended_in};
+ghost use Rattle.ldm_journal.specs.Runs.{committed_in, opened};
+ghost use Rattle.ldm_journal.specs.Joining.{BreaksOffAmid, IsLeftAmid, IsPartAmid, MakesEvents, then_events};
+ghost use Rattle.ldm_journal.specs.Standing.{Stands};
+ghost use Rattle.ldm_journal.specs.Appending.{Appends};
+ghost use Rattle.ldm_journal.specs.Committing.{Commits};
+ghost use Rattle.ldm_journal.specs.declared.marks.Marks.{Marks};
+ghost use Rattle.ldm_journal.specs.declared.append.AppendEnd.TheVariants as append;
+ghost use Rattle.ldm_journal.specs.declared.commit.CommitEnd.TheVariants as commit;
 
 /// A file is a journal of at most one list of products.
 pub fn a_file_keeps_one_list()
@@ -26,4 +35,35 @@ pub fn a_crash_leaves_a_part()
     ensures { (first : List Kept) (events : List Event) (left : List Kept)
         → MayOpen (after_events (opened first) events) left
         → IsPart (committed_in (length first) (length first) events) (first ++ appended_in events) left }
+{}
+
+/// Calls on an open journal make events, and calls in a row make those of all: so what a crash leaves at any moment of a
+/// run of calls is what [`a_crash_leaves_a_part`] says of its events.
+pub fn calls_make_events()
+    ensures nothing { (marks : Marks) (file : FileRecord) → IsConsistent file
+        → MakesEvents (λ start. []) marks marks file file }
+    ensures appended { (k : Kept) (before after : Marks) (old new : FileRecord)
+        → Appends append.Appended k before after old new → MakesEvents (λ start. Append k ∷ []) before after old new }
+    ensures committed { (gap : ℕ) (before after : Marks) (old new : FileRecord)
+        → Commits commit.Committed gap before after old new
+        → MakesEvents (λ start. Commit (before.ring - gap) ∷ []) before after old new }
+    ensures not_appended { (events : Content → List Event) (k : Kept) (before after : Marks) (old new : FileRecord)
+        → Appends append.DiskFault k before after old new → BreaksOffAmid events before old new }
+    ensures not_committed { (events : Content → List Event) (gap : ℕ) (before after : Marks) (old new : FileRecord)
+        → Commits commit.DiskFault gap before after old new → BreaksOffAmid events before old new }
+    ensures in_a_row { (first more : Content → List Event) (a b : Marks) → b.ring ≡ a.ring → (old mid new : FileRecord)
+        → (c : Marks) → MakesEvents first a b old mid → MakesEvents more b c mid new
+        → MakesEvents (then_events first more) a c old new }
+    ensures broken_off { (first more : Content → List Event) (a b : Marks) → b.ring ≡ a.ring
+        → (old mid new : FileRecord) → MakesEvents first a b old mid → BreaksOffAmid more b mid new
+        → BreaksOffAmid (then_events first more) a old new }
+    ensures part { (ring : ℕ) (first : List Kept) (events : List Event) (file : List ℕ)
+        → IsLeftAmid ring (opened first) events file → IsPartAmid ring first events file }
+{}
+
+/// The marks of an open journal count the bytes of the records for which it stands.
+pub fn marks_count_records()
+    ensures { (marks : Marks) (kept appended : List Kept) (file : FileRecord) → IsConsistent file
+        → Stands marks kept appended file
+        → marks.used + marks.appended ≡ size_of (kept ++ appended) }
 {}

@@ -25,5 +25,9 @@ pub use commit::CommitEnd;
 pub use entry::Entry;
 pub use fault::JournalFault;
 pub use journal::Journal;
-pub use laws::{a_crash_leaves_a_part, a_file_keeps_one_list, the_fewest_are_dropped};
+pub use laws::{
+    a_crash_leaves_a_part, a_file_keeps_one_list, calls_make_events, marks_count_records,
+    the_fewest_are_dropped,
+};
 pub use reader::Reader;
+pub use record::record_bytes;

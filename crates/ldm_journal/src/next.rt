@@ -1,8 +1,11 @@
 //! Reading records one after another.
-ghost use Rattle.std.specs.Prelude.{◌≡◌, ◌+◌, ◌-◌, ◌*◌, ◌^◌, ◌<◌, ◌≤◌, IfErr, IfOk, IfSome, OnErr, vec_len};
+ghost use Rattle.std.specs.Prelude.{◌≡◌, ◌+◌, ◌-◌, ◌*◌, ◌^◌, ◌<◌, ◌≤◌, ℕ, List, length, IfErr, IfOk, IfSome, OnErr, vec_len};
 ghost use Rattle.ldm_disk.specs.Calls.{FileChanges, KeepsDisk, KeepsFile};
 ghost use Rattle.ldm_journal.specs.declared.places.TheConstants.{LARGEST_RING};
-ghost use Rattle.ldm_journal.specs.Reading.{CountsRecord, FaultRose, Reads, ReadsRecord};
+ghost use Rattle.ldm_disk.specs.Told.{FileRecord, IsConsistent};
+ghost use Rattle.ldm_journal.specs.Records.{Kept};
+ghost use Rattle.ldm_journal.specs.Reading.{CountsRecord, FaultRose, HasBody, IsBefore, IsShorter, Reads, ReadsRecord};
+ghost use Rattle.ldm_journal.specs.Standing.{Stands};
 
 use crate::entry::Entry;
 use crate::fault::JournalFault;
@@ -18,12 +21,22 @@ impl Journal {
         ensures ring { result.ring ≡ self.now.marks.ring }
         ensures at { result.at ≡ self.now.marks.front }
         ensures left { result.left ≡ self.now.marks.used }
+        ensures first { (kept appended : List Kept) (file : FileRecord) → IsConsistent file
+            → Stands self.now.marks kept appended file
+            → IsBefore 0 kept self.now.marks result }
     {
         Reader {
             ring: self.marks.ring,
             at: self.marks.front,
             left: self.marks.used,
         }
+    }
+
+    /// How many bytes the ring has.
+    pub fn ring(&self) -> u64
+        ensures { result ≡ self.now.marks.ring }
+    {
+        self.marks.ring
     }
 
     /// The least number that the next product may have.
@@ -42,6 +55,8 @@ impl Reader {
         buffer: &mut Vec<u8>,
     ) -> Result<Option<Entry>, JournalFault>
         ensures read { IfSome (D.tells disk.old).file (Reads result self.old self.new buffer.new.items) }
+        ensures body { HasBody result buffer.new.items }
+        ensures shorter { IsShorter result self.old self.new }
         ensures same { OnErr result (self.new ≡ self.old) }
         ensures file { FileChanges KeepsFile (D.tells disk.old).file (D.tells disk.new).file }
         ensures failed { IfErr result (λ fault. FaultRose fault (D.tells disk.old) (D.tells disk.new)) }
@@ -77,6 +92,7 @@ pub(crate) fn read_record<D: Disk>(
     ensures within { IfOk result (λ entry. vec_len buffer.new ≤ left) }
     ensures some { IfOk result (λ entry. 24 ≤ vec_len buffer.new) }
     ensures numbered { IfOk result (λ entry. entry.number < 2 ^ 64 - 1) }
+    ensures body { IfOk result (λ entry. entry.body_at + entry.info.size ≤ length buffer.new.items) }
     ensures file { FileChanges KeepsFile (D.tells disk.old).file (D.tells disk.new).file }
     ensures failed { IfErr result (λ fault. FaultRose fault (D.tells disk.old) (D.tells disk.new)) }
     ensures kept { KeepsDisk (D.tells disk.old) (D.tells disk.new) }

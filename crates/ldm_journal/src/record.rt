@@ -1,5 +1,5 @@
 //! The record of a product.
-ghost use Rattle.std.specs.Prelude.{◌≡◌, ◌↔◌, IsTrue, ◌+◌, ◌≤◌, ◌<◌, ◌++◌, ◌^◌, length, take};
+ghost use Rattle.std.specs.Prelude.{◌≡◌, ◌↔◌, IsTrue, ◌+◌, ◌≤◌, ◌<◌, ◌++◌, ◌^◌, length, take, IfSome};
 ghost use Rattle.arrayvec.specs.ArrayVec.{array_vec_len};
 ghost use Rattle.ldm_types.specs.Info.{metadata_len};
 ghost use Rattle.ldm_types.specs.declared.limits.TheConstants.{GREATEST_INSTANT};
@@ -29,6 +29,13 @@ const LONGEST_HEAD: usize = 24 + LONGEST_METADATA;
 
 /// What stands in front of a body.
 pub(crate) type Head = ArrayVec<u8, LONGEST_HEAD>;
+
+/// How many bytes the record has of a product with these metadata.
+pub fn record_bytes(info: &Info) -> u64
+    ensures { result ≡ 40 + metadata_len info.now + info.now.size }
+{
+    (FRAME + info_len(info)) as u64 + u64::from(info.size())
+}
 
 // Appends bytes, for which there is room.
 fn put(out: &mut Head, bytes: &[u8])
@@ -85,7 +92,8 @@ pub(crate) fn sum_of(head: &[u8], body: &[u8]) -> [u8; 16]
 /// The product whose record these bytes are. `None` where they are the record of none.
 pub(crate) fn judge(bytes: &[u8]) -> Option<Entry>
     requires { length bytes.now < 2 ^ 62 }
-    ensures { JudgesRecord result bytes.now }
+    ensures judged { JudgesRecord result bytes.now }
+    ensures body { IfSome result (λ entry. entry.body_at + entry.info.size ≤ length bytes.now) }
 {
     if bytes.len() < SUM {
         return None;

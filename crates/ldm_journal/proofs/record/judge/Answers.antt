@@ -6,26 +6,26 @@ use Rattle.ldm_journal.proofs.JudgeLemmas.{cut_sum, judged_whole}
 use Rattle.ldm_journal.proofs.Told.{not_both}
 use Rattle.ldm_journal.proofs.record.judge.Goals as goal
 
-pub returns-then-bytes-lt-SUM : goal.returns-then-bytes-lt-SUM
-returns-then-bytes-lt-SUM c = λ k lawful is. omega (arith, ap length is, length-record k lawful, c.if-bytes-lt-SUM.true)
+pub returns-then-bytes-lt-SUM-clause-judged : goal.returns-then-bytes-lt-SUM-clause-judged
+returns-then-bytes-lt-SUM-clause-judged c = λ k lawful is. omega (arith, ap length is, length-record k lawful, c.if-bytes-lt-SUM.true)
 
-pub returns-in_default : goal.returns-in_default
-returns-in_default c = λ k lawful is.
+pub returns-in_default-clause-judged : goal.returns-in_default-clause-judged
+returns-in_default-clause-judged c = λ k lawful is.
     let front = c.split_at.result.0.now in
     let sum = c.split_at.result.1.now in
     let long : length sum ≡ 16 = omega (arith, c.split_at.ensures.back_len, c.if-bytes-lt-SUM.false) in
     let cut = cut_sum k front sum long (sym c.split_at.ensures.by_index.0 ∙ is) in
     c.in_default.ensures k lawful cut.0
 
-pub returns-then-is_sum : goal.returns-then-is_sum
-returns-then-is_sum c =
+pub returns-then-is_sum-clause-judged : goal.returns-then-is_sum-clause-judged
+returns-then-is_sum-clause-judged c =
     let front = c.split_at.result.0.now in
     let sum = c.split_at.result.1.now in
     let yes : IsTrue c.is_sum.result = c.if-is_sum.true in
     judged_whole c.in-Some.entry front sum c.args.bytes.now c.in-Some.ensures c.split_at.ensures.by_index.0 (c.is_sum.ensures.0 yes)
 
-pub returns-else-is_sum : goal.returns-else-is_sum
-returns-else-is_sum c = λ k lawful is.
+pub returns-else-is_sum-clause-judged : goal.returns-else-is_sum-clause-judged
+returns-else-is_sum-clause-judged c = λ k lawful is.
     let front = c.split_at.result.0.now in
     let sum = c.split_at.result.1.now in
     let long : length sum ≡ 16 = omega (arith, c.split_at.ensures.back_len, c.if-bytes-lt-SUM.false) in
