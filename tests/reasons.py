@@ -5,14 +5,15 @@ names the word, the file or the host, and then the line of its status.
 Called as: tests/reasons.py [PROGRAM]. The program is crates/ldm/out/ldm, where none is named. The lines are those of docs/commands.md.
 """
 
+import fcntl
 import os
 import pathlib
 import socket
 import sys
 
 import nodes
-from nodes import HOST, OPEN, free_port, try_case
-from peers import expect, port_of
+from nodes import FULL, HOST, MANY, OPEN, free_port, try_case
+from peers import Product, expect, port_of
 
 CONF = {
     "good": OPEN,
@@ -25,14 +26,31 @@ CONF = {
     "wide.conf": "ALOW " + "x" * 300 + "\n",
     "include.conf": "INCLUDE gone.conf\n",
     "inner.conf": "ALLOW ANY .*\nINCLUDE keyword.conf\n",
+    "second.conf": "INCLUDE good\nINCLUDE etc/rules.conf\n",
+    "etc/rules.conf": "# the rules\n\nALLOW NEXRAD9 ^.*\n",
+    "behind.conf": "INCLUDE between.conf\n",
+    "between.conf": "INCLUDE good\nINCLUDE good\nALOW ANY\n",
+    "itself.conf": "INCLUDE itself.conf\n",
+    "too long.conf": "INCLUDE long\n",
+    "inner long.conf": 'INCLUDE "too long.conf"\n',
     "program.conf": "EXEC no-such-program\n",
     "forbidden.conf": "EXEC ./no-right\n",
     "action": "IDS\t^S\tFILLE\tdata\n",
     "option": "\nIDS\t^S\tFILE\t-overwrit data\n",
     "two fields": "IDS\t^S\n",
     "class": "NEXRAD9\t^S\tFILE\tdata\n",
+    "pattern": "IDS\t(\tNOOP\n",
     "long": "#" * 1_048_577,
     "no-right": "x",
+    "in a file": "IDS\t^SAUS\tFILE\tgood/x\n",
+    "in a folder": "IDS\t^SAUS\tFILE\tfolder\n",
+    "on a full disk": f"IDS\t^SAUS\tFILE\t{FULL}\n",
+    "of a long ident": "IDS\t^iii\tFILE\tfolder\n",
+    "of a tab": "IDS\t^tab\tFILE\tfolder\n",
+    "behind another": "IDS\t^SAUS\tFILE\tdata\nIDS\t^tab\tFILE\tdata/x\n",
+    "no pipe": "IDS\t^SAUS\tPIPE\tno-such-program\n",
+    "no program": "IDS\t^SAUS\tEXEC\t./no-right\n",
+    "no reader": "IDS\t^big\tPIPE\ttrue\n",
 }
 
 PATH_OF_100 = "p" * 100
@@ -54,16 +72,24 @@ def usage(place):
         (["pqinsert", "-o", "h" * 65, "good"], f"pqinsert: -o: {'h' * 65} is no origin"),
         (["pqcat", "-f", "NEXRAD9"], "pqcat: -f: NEXRAD9 is no feedtype"),
         (["pqcat", "-p", "("], "pqcat: -p: ( is no pattern"),
+        (["pqinsert", "-p", "i" * 256, "good"], f"pqinsert: -p: {'i' * 80} is no ident"),
         (["pqcat", "-c", 0], "pqcat: -c: 0 is no count of at least 1"),
         (["pqcat", "x\ty"], "pqcat: x?y: one word too many"),
         (["notifyme", "-q", HOST], f"notifyme: -q: {HOST} is no HOST:PORT"),
+        (["notifyme", "-c"], "notifyme: -c: has no value"),
         (["pqmon", f"{HOST}:388"], f"pqmon: {HOST}:388: one word too many"),
+        (["pqmon", "-q", f"{HOST}:0"], f"pqmon: -q: {HOST}:0 is no HOST:PORT"),
         (["pqstats", "-w", 8_761], "pqstats: -w: 8761 is no number from 1 to 8760"),
+        (["pqstats", "-ss"], "pqstats: -s: given twice"),
+        (["wmo", "-f", "FOO"], "wmo: -f: FOO is no feedtype"),
         (["wmo", "-p", "ident"], "wmo: -p: no such option"),
         (["pqact"], "pqact: no pqact.conf is named"),
         (["pqact", "action"], "pqact: no HOST:PORT is named"),
+        (["pqact", "-q", f"{HOST}:388", "action"], "pqact: -q: no such option"),
         (["save", "queue", "1K", 10], "save: 1K is no number"),
+        (["save", "queue", 168], "save: no number of slots is named"),
         (["resume"], "resume: no file is named"),
+        (["pqcheck", "queue", "more"], "pqcheck: more: one word too many"),
         # these have no more than their status line
         (["play", "1K", 10], None),
         (["crowd", 168], None),
@@ -90,12 +116,19 @@ def configurations(place):
         ([*at, "feed.conf"], "feed.conf:2: no such feedtype: ALLOW NEXRAD9 ^.*", "conf file 0 line 2 kind 3"),
         ([*at, "pattern.conf"], "pattern.conf:1: a pattern that does not read: REQUEST ANY ( host:388", "conf file 0 line 1 kind 4"),
         ([*at, "wide.conf"], f"wide.conf:1: no such keyword: ALOW {'x' * 95}", "conf file 0 line 1 kind 1"),
-        ([*at, "inner.conf"], "inner.conf includes a faulty file: file 1, line 2: no such keyword", "conf file 1 line 2 kind 1"),
+        ([*at, "inner.conf"], "keyword.conf:2: no such keyword: ALOW ANY .*", "conf file 1 line 2 kind 1"),
+        ([*at, "second.conf"], "etc/rules.conf:3: no such feedtype: ALLOW NEXRAD9 ^.*", "conf file 2 line 3 kind 3"),
+        ([*at, "behind.conf"], "between.conf:3: no such keyword: ALOW ANY", "conf file 1 line 3 kind 1"),
+        ([*at, "itself.conf"], "itself.conf:1: a file too deep, or one too many: INCLUDE itself.conf", "conf file 8 line 1 kind 5"),
+        ([*at, "too long.conf"], "too long.conf:1: the file is too long: INCLUDE long", "conf file 0 line 1 kind 7"),
+        ([*at, "inner long.conf"], "too long.conf:1: the file is too long: INCLUDE long", "conf file 1 line 1 kind 7"),
         ([*at, "long"], "long: the file is too long", "conf file 0 line 0 kind 7"),
         (["pqact", "action", f"{HOST}:1"], "action:1: no such action: IDS?^S?FILLE?data", "pqact line 1 kind 4"),
         (["pqact", "option", f"{HOST}:1"], "option:2: no such option of the action: IDS?^S?FILE?-overwrit data", "pqact line 2 kind 5"),
         (["pqact", "two fields", f"{HOST}:1"], f"two fields:1: {few}: IDS?^S", "pqact line 1 kind 1"),
         (["pqact", "class", f"{HOST}:1"], "class:1: no such feedtype: NEXRAD9?^S?FILE?data", "pqact line 1 kind 2"),
+        (["pqact", "pattern", f"{HOST}:1"], "pattern:1: a pattern that does not read: IDS?(?NOOP", "pqact line 1 kind 3"),
+        (["pqact", "long", f"{HOST}:1"], "long: the file is too long", "pqact line 0 kind 0"),
     ]
     for words, why, kind in cases:
         expect(place.run(*words), (65, b"", lines(why, f"bad {kind}")), f"{words}")
@@ -123,6 +156,52 @@ def files_and_programs(place):
         cases += [(["pqinsert", "-q", node.at, "no-right"], 72, "no-right: Permission denied")]
     for words, status, why in cases:
         expect(place.run(*words), (status, b"", lines(why, {72: "store fault", 73: "child fault"}[status])), f"{words}")
+
+
+def actions(place):
+    """Actions of `pqact` that fail: the line tells the product that was in hand."""
+    node = place.node(OPEN, *MANY)
+    (place.folder / "no-right").chmod(0)
+    idents = [b"SAUS44 KWBC 010000", b"i" * 70, b"tab\there"]
+    node.put_all([Product(ident, b"body of " + ident) for ident in idents] + [Product(b"big", b"b" * 1_000_000)])
+    first = "SAUS44 KWBC 010000"
+    cases = [
+        ("in a file", 72, f"{first}: good/x: Not a directory"),
+        ("in a folder", 72, f"{first}: folder: Is a directory"),
+        ("on a full disk", 72, f"{first}: {FULL}: No space left on device"),
+        ("of a long ident", 72, f"{'i' * 60}: folder: Is a directory"),
+        ("of a tab", 72, "tab?here: folder: Is a directory"),
+        ("behind another", 72, "tab?here: data/x: Not a directory"),
+        ("no pipe", 73, f"{first}: no-such-program: No such file or directory"),
+        ("no program", 73, f"{first}: ./no-right: Permission denied"),
+        ("no reader", 73, "big: true: Broken pipe"),
+    ]
+    for conf, status, why in cases:
+        expect(place.run("pqact", conf, node.at), (status, b"", lines(why, {72: "store fault", 73: "child fault"}[status])), f"pqact {conf}")
+    expect((place.folder / "data").read_bytes(), b"body of SAUS44 KWBC 010000", "what was written before")
+
+
+def images(place):
+    """Files that have no queue, that no queue can be kept in, and that another program has: the status alone says so."""
+    for name, text in {"script": "", "queue": "", "short": "xx"}.items():
+        place.file(name, text)
+    cases = [
+        (["pqcheck", "short"], 65, "bad image at 0"),
+        (["resume", "short"], 65, "bad image at 0"),
+        (["pqcheck", "good"], 80, "unclean image"),
+        (["resume", "good"], 80, "unclean image"),
+        (["pqcheck", "folder"], 72, "store fault"),
+        (["resume", "/dev/null"], 72, "store fault"),
+        (["save", FULL, 168, 10], 72, "store fault"),
+        (["save", "good/queue", 168, 10], 72, "store fault"),
+        (["save", "queue", 60, 10], 67, "refused arena 60"),
+    ]
+    for words, status, log in cases:
+        expect(place.run(*words, source="script"), (status, b"", lines(None, log)), f"{words}")
+    with open(place.folder / "queue") as held:
+        fcntl.flock(held, fcntl.LOCK_EX)
+        for words in (["save", "queue", 168, 10], ["resume", "queue"], ["pqcheck", "queue"]):
+            expect(place.run(*words, source="script"), (72, b"", lines(None, "store fault")), f"{words} of a file that is locked")
 
 
 def hosts_and_ports(place):
@@ -159,7 +238,7 @@ def with_files(case):
 def main():
     if sys.argv[1:]:
         nodes.PROGRAM = pathlib.Path(sys.argv[1]).resolve()
-    cases = [usage, configurations, files_and_programs, hosts_and_ports]
+    cases = [usage, configurations, files_and_programs, actions, images, hosts_and_ports]
     sys.exit(not all([try_case(with_files(case)) for case in cases]))
 
 
