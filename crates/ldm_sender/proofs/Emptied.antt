@@ -11,14 +11,18 @@ use Rattle.ldm_sender.specs.Deeds.{Deed}
 use Rattle.ldm_sender.specs.Does.{moment_of, Does, Breaks}
 use Rattle.ldm_sender.specs.Stopping.{StopsSending}
 
-pub does_from_empty : (pass : PassView) (link link' : LinkRecord) (clock clock' : ClockRecord) (out out' : List ℕ) (deed : Deed) → out ≡ [] → out' ≡ []
-    → Does [] (moment_of pass link clock out) (moment_of pass link' clock' out') deed → Does [] (moment_of pass link clock []) (moment_of pass link' clock' []) deed
+pub does_from_empty : (pass : PassView) (link link' : LinkRecord) (clock clock' : ClockRecord) (out out' : List ℕ)
+    (deed : Deed) → out ≡ [] → out' ≡ []
+    → Does [] (moment_of pass link clock out) (moment_of pass link' clock' out') deed
+    → Does [] (moment_of pass link clock []) (moment_of pass link' clock' []) deed
 does_from_empty pass link link' clock clock' out out' deed one two does =
     subst (λ (x : List ℕ). Does [] (moment_of pass link clock x) (moment_of pass link' clock' []) deed) one
     (subst (λ (x : List ℕ). Does [] (moment_of pass link clock out) (moment_of pass link' clock' x) deed) two does)
 
-pub breaks_from_empty : (why : SendEnd) (xid : ℕ) (answer : ClassAnswer) (pass : PassView) (link link' : LinkRecord) (clock clock' : ClockRecord) (out out' : List ℕ) → out ≡ []
-    → AnswersClass (Err why) xid answer (moment_of pass link clock out) (moment_of pass link' clock' out') → Declines (Err why) xid answer pass link clock link' clock'
+pub breaks_from_empty : (why : SendEnd) (xid : ℕ) (answer : ClassAnswer) (pass : PassView) (link link' : LinkRecord)
+    (clock clock' : ClockRecord) (out out' : List ℕ) → out ≡ []
+    → AnswersClass (Err why) xid answer (moment_of pass link clock out) (moment_of pass link' clock' out')
+    → Declines (Err why) xid answer pass link clock link' clock'
 breaks_from_empty why xid answer pass link link' clock clock' out out' one ended =
     let old = λ (x : List ℕ). moment_of pass link clock x in
     let new = moment_of pass link' clock' out' in (

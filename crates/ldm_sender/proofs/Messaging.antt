@@ -16,9 +16,11 @@ abbrev pub message_deed : Sent → List ℕ → Deed
 message_deed message instants = record { entries = []; bytes = records_of (message ∷ []); instants = instants }
 
 -- It is gathered, and the clock has answered.
-pub gathers : (pass : PassView) (link : LinkRecord) (clock clock' : ClockRecord) (out out' : List ℕ) (message : Sent) (at : ℕ) → IsNotClosed link
+pub gathers : (pass : PassView) (link : LinkRecord) (clock clock' : ClockRecord) (out out' : List ℕ) (message : Sent)
+    (at : ℕ) → IsNotClosed link
     → out' ≡ out ++ record_of (written message) → Answers at clock clock'
-    → Toward [] (moment_of pass link clock out) (moment_of pass link clock' out') no_deed (message_deed message (at ∷ []))
+    → Toward [] (moment_of pass link clock out)
+    (moment_of pass link clock' out') no_deed (message_deed message (at ∷ []))
 gathers pass link clock clock' out out' message at unclosed appended answered = record {
   made = [];
   calls = calls_none pass;
@@ -33,9 +35,12 @@ gathers pass link clock clock' out out' message at unclosed appended answered = 
 }
 
 -- All that is gathered is sent.
-pub then_sent : (pass : PassView) (clock : ClockRecord) (gathered left : List ℕ) (old : Moment) (link link' : LinkRecord) (all : Deed)
-    → Toward [] old (moment_of pass link clock gathered) no_deed all → IsNotClosed link → gathering.MovesOn gathered link left link'
+pub then_sent : (pass : PassView) (clock : ClockRecord) (gathered left : List ℕ) (old : Moment)
+    (link link' : LinkRecord) (all : Deed)
+    → Toward [] old (moment_of pass link clock gathered) no_deed all → IsNotClosed link
+    → gathering.MovesOn gathered link left link'
     → Toward [] old (moment_of pass link' clock left) no_deed all
 then_sent pass clock gathered left old link link' all toward unclosed moves =
-    toward_then [] [] old (moment_of pass link clock gathered) (moment_of pass link' clock left) no_deed no_deed all toward
+    toward_then [] [] old (moment_of pass link clock gathered)
+    (moment_of pass link' clock left) no_deed no_deed all toward
     (some_sent pass clock gathered left link link' no_deed unclosed moves)

@@ -1,5 +1,6 @@
 -- What a call that sends comes to at its end, whatever it sent: once its cursor is closed, and the link or not.
-use Rattle.std.proofs.Common.{◌≡◌, ◌∙◌, ℕ, List, [], ◌∷◌, ◌++◌, Bool, true, false, Option, refl, sym, ap, subst, append-nil}
+use Rattle.std.proofs.Common.{◌≡◌, ◌∙◌, ℕ, List, [], ◌∷◌, ◌++◌, Bool, true, false, Option, refl, sym, ap, subst}
+use Rattle.std.proofs.Common.{append-nil}
 use Rattle.ldm_model.specs.declared.event.Event.TheVariants.{Close}
 use Rattle.ldm_model.specs.declared.event.Reply.TheVariants as reply
 use Rattle.ldm_model.specs.declared.event.Entry.{Entry}
@@ -28,7 +29,14 @@ use Rattle.ldm_sender.proofs.Fronts.{all_there}
 
 -- what the outside tells once the link was closed, or not
 abbrev pub after : Situation → Bool → SessionRecord
-after new closed = record { link = record new.moment.link { closed = closed }; log = new.log; clock = new.moment.clock; gate = new.gate }
+after new closed =
+    record {
+      link = record new.moment.link { closed = closed };
+      log = new.log;
+      clock = new.moment.clock;
+      gate =
+          new.gate;
+    }
 
 -- the situation in which a session begins
 abbrev pub begins : PassView → LinkRecord → ClockRecord → SinkRecord → GateRecord → Situation
@@ -42,7 +50,8 @@ part_same false xs = ([], append-nil xs)
 
 -- ---- the cursor
 
-pub keeps_cursor : (why : SendEnd) (pass : PassView) (k : ℕ) (held : Option ℕ) → HasCursor pass k held → KeepsCursor why pass k
+pub keeps_cursor : (why : SendEnd) (pass : PassView) (k : ℕ) (held : Option ℕ) → HasCursor pass k held
+    → KeepsCursor why pass k
 keeps_cursor end.Worn pass k held has = tt
 keeps_cursor end.Stopped pass k held has = (held, has)
 keeps_cursor end.Reclassed pass k held has = (held, has)
@@ -54,7 +63,8 @@ keeps_cursor (end.BadReply at) pass k held has = (held, has)
 keeps_cursor end.AllBusy pass k held has = (held, has)
 keeps_cursor end.OutOfMemory pass k held has = (held, has)
 
-closing_is : (why : SendEnd) (actor : ℕ) (answered : Answered) → (why ≡ end.Worn → ⊥) → closing_of actor why answered ≡ closing_entries actor answered
+closing_is : (why : SendEnd) (actor : ℕ) (answered : Answered) → (why ≡ end.Worn → ⊥)
+    → closing_of actor why answered ≡ closing_entries actor answered
 closing_is end.Stopped actor answered not_worn = refl
 closing_is end.Reclassed actor answered not_worn = refl
 closing_is (end.Denied rule) actor answered not_worn = refl
@@ -67,11 +77,13 @@ closing_is end.Worn actor answered not_worn = absurd (not_worn refl)
 closing_is end.OutOfMemory actor answered not_worn = refl
 
 -- the call that closes the cursor
-pub closing_calls : (why : SendEnd) (first pass final : PassView) (missed : Bool) (k : ℕ) → (why ≡ end.Worn → ⊥) → pass.actor ≡ first.actor → Grows pass final (Close k) reply.Closed
+pub closing_calls : (why : SendEnd) (first pass final : PassView) (missed : Bool) (k : ℕ) → (why ≡ end.Worn → ⊥)
+    → pass.actor ≡ first.actor → Grows pass final (Close k) reply.Closed
     → Calls pass final (closing_of first.actor why (Opened missed k))
 closing_calls why first pass final missed k not_worn by grows =
     subst (λ (es : List Entry). Calls pass final es) (sym (closing_is why first.actor (Opened missed k) not_worn))
-    (subst (λ (a : ℕ). Calls pass final (record { actor = a; event = Close k; reply = reply.Closed } ∷ [])) by (calls_some pass final _ grows.makes))
+    (subst (λ (a : ℕ). Calls pass final (record { actor = a; event = Close k; reply = reply.Closed } ∷ [])) by
+    (calls_some pass final _ grows.makes))
 
 -- ---- the link
 
@@ -92,7 +104,8 @@ left_closed why link is = subst (λ (e : SendEnd). IsLeft e (record link { close
 
 -- ---- why it ended
 
-pub cause_closed : (why : SendEnd) (answered : Answered) (final : PassView) (before : SessionRecord) (new : Situation) (closed : Bool) → IsEndOf why answered final before (session_of new)
+pub cause_closed : (why : SendEnd) (answered : Answered) (final : PassView) (before : SessionRecord) (new : Situation)
+    (closed : Bool) → IsEndOf why answered final before (session_of new)
     → IsEndOf why answered final before (after new closed)
 cause_closed end.Stopped answered final before new closed cause = cause
 cause_closed end.Reclassed answered final before new closed cause = cause
@@ -105,7 +118,8 @@ cause_closed end.AllBusy answered final before new closed cause = cause
 cause_closed end.Worn answered final before new closed cause = cause
 cause_closed end.OutOfMemory answered final before new closed cause = cause
 
-pub cause_moves : (why : SendEnd) (answered : Answered) (pass final : PassView) (before now : SessionRecord) → (why ≡ end.Worn → ⊥) → IsEndOf why answered pass before now → IsEndOf why answered final before now
+pub cause_moves : (why : SendEnd) (answered : Answered) (pass final : PassView) (before now : SessionRecord)
+    → (why ≡ end.Worn → ⊥) → IsEndOf why answered pass before now → IsEndOf why answered final before now
 cause_moves end.Stopped answered pass final before now not_worn cause = cause
 cause_moves end.Reclassed answered pass final before now not_worn cause = cause
 cause_moves (end.Denied rule) answered pass final before now not_worn cause = cause
@@ -119,8 +133,10 @@ cause_moves end.OutOfMemory answered pass final before now not_worn cause = caus
 
 -- ---- all of it
 
--- An act was done up to an end, and these calls close the cursor: all of it where the end is a whole one, and else of each part a front.
-pub record Settles (why : SendEnd) (host : List ℕ) (act : Act) (closing : List Entry) (given : List ℕ) (old new : PassView) (before after : SessionRecord) : Type 0 where
+-- An act was done up to an end, and these calls close the cursor: all of it where the end is a whole one, and else of
+-- each part a front.
+pub record Settles (why : SendEnd) (host : List ℕ) (act : Act) (closing : List Entry) (given : List ℕ)
+    (old new : PassView) (before after : SessionRecord) : Type 0 where
   pub called : List Entry
   pub called_part : IsAllBut (is_whole why) MayBeUnmade called act.deed.entries
   pub made : Calls old new (called ++ closing)
@@ -137,15 +153,19 @@ pub record Settles (why : SendEnd) (host : List ℕ) (act : Act) (closing : List
   pub logged : Logged why before.log (gap_log host called) after.log
   pub counts : KeepsFaults before after
 
-settles_whole : (why : SendEnd) (host came : List ℕ) (act : Act) (closing : List Entry) (old new : Situation) (final : PassView) (closed : Bool) → old.moment.out ≡ [] → is_whole why ≡ true
-    → EndsAct (is_whole why) why host came old new act → IsAllSent (is_whole why) new.moment.out → Calls new.moment.pass final closing
-    → IsLeft why (record new.moment.link { closed = closed }) → Settles why host act closing came old.moment.pass final (session_of old) (after new closed)
+settles_whole : (why : SendEnd) (host came : List ℕ) (act : Act) (closing : List Entry) (old new : Situation)
+    (final : PassView) (closed : Bool) → old.moment.out ≡ [] → is_whole why ≡ true
+    → EndsAct (is_whole why) why host came old new act → IsAllSent (is_whole why) new.moment.out
+    → Calls new.moment.pass final closing
+    → IsLeft why (record new.moment.link { closed = closed })
+    → Settles why host act closing came old.moment.pass final (session_of old) (after new closed)
 settles_whole why host came act closing old new final closed none is ends all_sent calls left =
     let acts = subst (λ (b : Bool). EndsAct b why host came old new act) is ends in
     let empty = subst (λ (b : Bool). IsAllSent b new.moment.out) is all_sent in
     let link = record new.moment.link { closed = closed } in
     let sent : acts.does.sent ≡ act.deed.bytes =
-    sym (append-nil acts.does.sent) ∙ ap (λ (x : List ℕ). acts.does.sent ++ x) (sym empty) ∙ sym acts.does.gathered ∙ ap (λ (x : List ℕ). x ++ act.deed.bytes) none in
+    sym (append-nil acts.does.sent) ∙ ap (λ (x : List ℕ). acts.does.sent ++ x)
+    (sym empty) ∙ sym acts.does.gathered ∙ ap (λ (x : List ℕ). x ++ act.deed.bytes) none in
     let P : Bool → Type 0 = λ b. IsPart b acts.does.sent act.deed.bytes in
     record {
       called = act.deed.entries;
@@ -153,7 +173,8 @@ settles_whole why host came act closing old new final closed none is ends all_se
       made = calls_trans old.moment.pass new.moment.pass final act.deed.entries closing acts.does.calls calls;
       sent = acts.does.sent;
       sent_part = subst P (sym is) sent;
-      exchanged = Exchanged-still old.moment.link new.moment.link link acts.does.sent came acts.does.exchanged refl refl;
+      exchanged = Exchanged-still old.moment.link new.moment.link link acts.does.sent came acts.does.exchanged refl
+          refl;
       left = left;
       instants = act.deed.instants;
       instants_part = part_same (is_whole why) act.deed.instants;
@@ -162,12 +183,21 @@ settles_whole why host came act closing old new final closed none is ends all_se
       goes_part = all_there IsStop (is_whole why) act.goes;
       idled = acts.idled;
       logged = logged_takes why old.log new.log (gap_log host act.deed.entries) acts.logged;
-      counts = record { link = acts.does.link.faults; ends = acts.does.link.ends; log = acts.beside.log; stops = acts.beside.stops };
+      counts = record {
+        link = acts.does.link.faults;
+        ends = acts.does.link.ends;
+        log = acts.beside.log;
+        stops =
+            acts.beside.stops;
+      };
     }
 
-settles_broken : (why : SendEnd) (host came : List ℕ) (act : Act) (closing : List Entry) (old new : Situation) (final : PassView) (closed : Bool) → old.moment.out ≡ [] → is_whole why ≡ false
-    → EndsAct (is_whole why) why host came old new act → IsAllSent (is_whole why) new.moment.out → Calls new.moment.pass final closing
-    → IsLeft why (record new.moment.link { closed = closed }) → Settles why host act closing came old.moment.pass final (session_of old) (after new closed)
+settles_broken : (why : SendEnd) (host came : List ℕ) (act : Act) (closing : List Entry) (old new : Situation)
+    (final : PassView) (closed : Bool) → old.moment.out ≡ [] → is_whole why ≡ false
+    → EndsAct (is_whole why) why host came old new act → IsAllSent (is_whole why) new.moment.out
+    → Calls new.moment.pass final closing
+    → IsLeft why (record new.moment.link { closed = closed })
+    → Settles why host act closing came old.moment.pass final (session_of old) (after new closed)
 settles_broken why host came act closing old new final closed none is ends all_sent calls left =
     let broke = subst (λ (b : Bool). EndsAct b why host came old new act) is ends in
     let breaks = broke.breaks in
@@ -192,23 +222,37 @@ settles_broken why host came act closing old new final closed none is ends all_s
       goes_part = subst T (sym is) broke.goes_part;
       idled = broke.idled;
       logged = broke.logged;
-      counts = record { link = breaks.link.faults; ends = breaks.link.ends; log = broke.beside.log; stops = broke.beside.stops };
+      counts = record {
+        link = breaks.link.faults;
+        ends = breaks.link.ends;
+        log = broke.beside.log;
+        stops =
+            broke.beside.stops;
+      };
     }
 
-settles_by : (whole : Bool) (why : SendEnd) (host came : List ℕ) (act : Act) (closing : List Entry) (old new : Situation) (final : PassView) (closed : Bool) → old.moment.out ≡ [] → is_whole why ≡ whole
-    → EndsAct (is_whole why) why host came old new act → IsAllSent (is_whole why) new.moment.out → Calls new.moment.pass final closing
-    → IsLeft why (record new.moment.link { closed = closed }) → Settles why host act closing came old.moment.pass final (session_of old) (after new closed)
+settles_by : (whole : Bool) (why : SendEnd) (host came : List ℕ) (act : Act) (closing : List Entry)
+    (old new : Situation) (final : PassView) (closed : Bool) → old.moment.out ≡ [] → is_whole why ≡ whole
+    → EndsAct (is_whole why) why host came old new act → IsAllSent (is_whole why) new.moment.out
+    → Calls new.moment.pass final closing
+    → IsLeft why (record new.moment.link { closed = closed })
+    → Settles why host act closing came old.moment.pass final (session_of old) (after new closed)
 settles_by true = settles_whole
 settles_by false = settles_broken
 
-pub settles : (why : SendEnd) (host came : List ℕ) (act : Act) (closing : List Entry) (old new : Situation) (final : PassView) (closed : Bool) → old.moment.out ≡ []
-    → EndsAct (is_whole why) why host came old new act → IsAllSent (is_whole why) new.moment.out → Calls new.moment.pass final closing
-    → IsLeft why (record new.moment.link { closed = closed }) → Settles why host act closing came old.moment.pass final (session_of old) (after new closed)
-settles why host came act closing old new final closed none = settles_by (is_whole why) why host came act closing old new final closed none refl
+pub settles : (why : SendEnd) (host came : List ℕ) (act : Act) (closing : List Entry) (old new : Situation)
+    (final : PassView) (closed : Bool) → old.moment.out ≡ []
+    → EndsAct (is_whole why) why host came old new act → IsAllSent (is_whole why) new.moment.out
+    → Calls new.moment.pass final closing
+    → IsLeft why (record new.moment.link { closed = closed })
+    → Settles why host act closing came old.moment.pass final (session_of old) (after new closed)
+settles why host came act closing old new final closed none =
+    settles_by (is_whole why) why host came act closing old new final closed none refl
 
 -- ---- the queue was found to have had all its calls
 
-logged_worn : (why : SendEnd) (old new : SinkRecord) (lines : List ℕ) → Logged why old lines new → Logged end.Worn old lines new
+logged_worn : (why : SendEnd) (old new : SinkRecord) (lines : List ℕ) → Logged why old lines new
+    → Logged end.Worn old lines new
 logged_worn end.Stopped old new lines logged = (lines, [], append-nil lines, logged)
 logged_worn end.Reclassed old new lines logged = (lines, [], append-nil lines, logged)
 logged_worn (end.Denied rule) old new lines logged = (lines, [], append-nil lines, logged)
@@ -220,7 +264,8 @@ logged_worn end.AllBusy old new lines logged = (lines, [], append-nil lines, log
 logged_worn end.Worn old new lines logged = logged
 logged_worn end.OutOfMemory old new lines logged = (lines, [], append-nil lines, logged)
 
-pub worn_act : (whole : Bool) (why : SendEnd) (host came : List ℕ) (old : Situation) (pass final : PassView) (link : LinkRecord) (clock : ClockRecord) (out : List ℕ) (log : SinkRecord) (gate : GateRecord) (act : Act)
+pub worn_act : (whole : Bool) (why : SendEnd) (host came : List ℕ) (old : Situation) (pass final : PassView)
+    (link : LinkRecord) (clock : ClockRecord) (out : List ℕ) (log : SinkRecord) (gate : GateRecord) (act : Act)
     → Calls pass final [] → EndsAct whole why host came old (situation_of (moment_of pass link clock out) log gate) act
     → BreaksAct end.Worn host came old (situation_of (moment_of final link clock out) log gate) act
 worn_act true why host came old pass final link clock out log gate act none ends = record {
@@ -248,7 +293,8 @@ worn_act true why host came old pass final link clock out log gate act none ends
 worn_act false why host came old pass final link clock out log gate act none ends = record {
   breaks = record {
     called = ends.breaks.called;
-    calls = subst (λ (es : List Entry). Calls old.moment.pass final es) (append-nil ends.breaks.called) (calls_trans old.moment.pass pass final ends.breaks.called [] ends.breaks.calls none);
+    calls = subst (λ (es : List Entry). Calls old.moment.pass final es) (append-nil ends.breaks.called)
+        (calls_trans old.moment.pass pass final ends.breaks.called [] ends.breaks.calls none);
     called_part = ends.breaks.called_part;
     sent = ends.breaks.sent;
     exchanged = ends.breaks.exchanged;

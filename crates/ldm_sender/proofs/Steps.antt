@@ -1,5 +1,6 @@
 -- Steps of a cursor, one after another: what they come to, and what stays.
-use Rattle.std.proofs.Common.{◌≡◌, ◌∙◌, ℕ, List, [], ◌∷◌, ◌++◌, Bool, true, false, inl, inr, ◌⊎◌, refl, sym, ap, subst, append_assoc, append-nil}
+use Rattle.std.proofs.Common.{◌≡◌, ◌∙◌, ℕ, List, [], ◌∷◌, ◌++◌, Bool, true, false, inl, inr, ◌⊎◌, refl, sym, ap, subst}
+use Rattle.std.proofs.Common.{append_assoc, append-nil}
 use Rattle.std.proofs.lemmas.List.Concat.{flat_map-append}
 use Rattle.ldm_types.specs.declared.class.ClassSpec.{ClassSpec}
 use Rattle.ldm_class.specs.HostRules.{HostRules}
@@ -38,27 +39,31 @@ records-append first second = flat_map-append (λ (message : Sent). record_of (w
 pub then_act-assoc : (a b c : Act) → then_act (then_act a b) c ≡ then_act a (then_act b c)
 then_act-assoc a b c =
     act_is _ _ _ _
-    (deed_is _ _ _ _ _ _ (append_assoc a.deed.entries b.deed.entries c.deed.entries) (append_assoc a.deed.bytes b.deed.bytes c.deed.bytes)
+    (deed_is _ _ _ _ _ _ (append_assoc a.deed.entries b.deed.entries c.deed.entries)
+    (append_assoc a.deed.bytes b.deed.bytes c.deed.bytes)
     (append_assoc a.deed.instants b.deed.instants c.deed.instants))
     (append_assoc a.goes b.goes c.goes)
 
 -- an act, and then nothing
 pub then_act-none : (act : Act) → then_act act (ungated no_deed) ≡ act
 then_act-none act =
-    act_is _ _ _ _ (deed_is _ _ _ _ _ _ (append-nil act.deed.entries) (append-nil act.deed.bytes) (append-nil act.deed.instants)) (append-nil act.goes)
+    act_is _ _ _ _ (deed_is _ _ _ _ _ _ (append-nil act.deed.entries) (append-nil act.deed.bytes)
+    (append-nil act.deed.instants)) (append-nil act.goes)
 
 -- ---- rows stay
 
 -- a product keeps its number, metadata, body and insertion time
 abbrev pub RowsStay : Type 0
 RowsStay =
-    (arena slots : ℕ) (front behind : List Entry) → IsLegal arena slots (front ++ behind) → (n : ℕ) (product : Product) (time : ℕ)
+    (arena slots : ℕ) (front behind : List Entry) → IsLegal arena slots (front ++ behind)
+    → (n : ℕ) (product : Product) (time : ℕ)
     → HasRow n product time (after arena slots front) → HasRow n product time (after arena slots (front ++ behind))
 
 abbrev pub HasRowIn : PassView → ℕ → Product → ℕ → Type 0
 HasRowIn pass n product time = HasRow n product time (after pass.arena pass.slots pass.seen)
 
-pub HasRowIn-stays : (law : RowsStay) (old new : PassView) (made : List Entry) (n : ℕ) (product : Product) (time : ℕ) → Calls old new made → HasRowIn old n product time
+pub HasRowIn-stays : (law : RowsStay) (old new : PassView) (made : List Entry) (n : ℕ) (product : Product) (time : ℕ)
+    → Calls old new made → HasRowIn old n product time
     → HasRowIn new n product time
 HasRowIn-stays law old new made n product time calls row = by_seen calls.has_seen
   where
@@ -77,12 +82,14 @@ HasRowIn-stays law old new made n product time calls row = by_seen calls.has_see
         subst (λ (a : ℕ). HasRow n product time (after a new.slots old.seen)) (sym arena)
         (subst (λ (s : ℕ). HasRow n product time (after old.arena s old.seen)) (sym slots) row) in
         subst P begins.1
-        (law new.arena new.slots old.seen begins.0 (subst (IsLegal new.arena new.slots) (sym begins.1) has.legal) n product time here)
+        (law new.arena new.slots old.seen begins.0 (subst (IsLegal new.arena new.slots)
+        (sym begins.1) has.legal) n product time here)
 
 -- ---- the pass, and who asks
 
 -- a pass of a queue stays one
-pub of_same : (shared : SharedView) (old new : PassView) → IsPassOf shared old → IsSamePass old new → IsPassOf shared new
+pub of_same : (shared : SharedView) (old new : PassView) → IsPassOf shared old → IsSamePass old new
+    → IsPassOf shared new
 of_same shared old new of same = record {
   queue = ap (λ (p : PassView). p.queue) same ∙ of.queue;
   arena = ap (λ (p : PassView). p.arena) same ∙ of.arena;
@@ -93,7 +100,8 @@ of_same shared old new of same = record {
 pub same_then : (a b c : PassView) → IsSamePass a b → IsSamePass b c → IsSamePass a c
 same_then a b c one two = two ∙ ap (λ (p : PassView). record p { seen = c.seen }) one
 
-pub same_actor : (host came : List ℕ) (old new : Situation) (act : Act) → Acts host came old new act → new.moment.pass.actor ≡ old.moment.pass.actor
+pub same_actor : (host came : List ℕ) (old new : Situation) (act : Act) → Acts host came old new act
+    → new.moment.pass.actor ≡ old.moment.pass.actor
 same_actor host came old new act acts = ap (λ (p : PassView). p.actor) acts.does.calls.same
 
 -- who asks, put by the class and the rules alone
@@ -104,7 +112,8 @@ pub is_any_asked : (max : ℕ) (class : ClassSpec) (rules : HostRules) → IsAsk
 is_any_asked max class rules = record { class_is = refl; rules_are = refl; host_is = refl }
 
 -- class and rules are the same still
-pub asked_still : (asked : Asked) (class class' : ClassSpec) (rules rules' : HostRules) → class' ≡ class → rules' ≡ rules → IsAskedOf asked class rules → IsAskedOf asked class' rules'
+pub asked_still : (asked : Asked) (class class' : ClassSpec) (rules rules' : HostRules) → class' ≡ class
+    → rules' ≡ rules → IsAskedOf asked class rules → IsAskedOf asked class' rules'
 asked_still asked class class' rules rules' one two is = record {
   class_is = is.class_is ∙ sym one;
   rules_are = is.rules_are ∙ ap (λ (x : HostRules). x.rules) (sym two);
@@ -114,7 +123,8 @@ asked_still asked class class' rules rules' one two is = record {
 -- ---- a step
 
 -- a call was made, and nothing else happened
-pub one_call : (old new : PassView) (link : LinkRecord) (clock : ClockRecord) (out : List ℕ) (entry : Entry) → Makes old new (entry ∷ []) → IsNotClosed link
+pub one_call : (old new : PassView) (link : LinkRecord) (clock : ClockRecord) (out : List ℕ) (entry : Entry)
+    → Makes old new (entry ∷ []) → IsNotClosed link
     → Does [] (moment_of old link clock out) (moment_of new link clock out) (calling entry)
 one_call old new link clock out entry makes unclosed = record {
   calls = calls_some old new (entry ∷ []) makes;
@@ -139,41 +149,55 @@ does_nothing now unclosed = record {
 abbrev pub step_act : ℕ → ℕ → Reply → Act
 step_act actor k answer = ungated (calling (stepped actor k answer))
 
-pub stepped_acts : (host : List ℕ) (old new : PassView) (k : ℕ) (answer : Reply) (link : LinkRecord) (clock : ClockRecord) (out : List ℕ) (log : SinkRecord) (gate : GateRecord)
-    → gap_log host (stepped old.actor k answer ∷ []) ≡ [] → Makes old new (stepped old.actor k answer ∷ []) → IsNotClosed link
-    → Acts host [] (situation_of (moment_of old link clock out) log gate) (situation_of (moment_of new link clock out) log gate) (step_act old.actor k answer)
+pub stepped_acts : (host : List ℕ) (old new : PassView) (k : ℕ) (answer : Reply) (link : LinkRecord)
+    (clock : ClockRecord) (out : List ℕ) (log : SinkRecord) (gate : GateRecord)
+    → gap_log host (stepped old.actor k answer ∷ []) ≡ [] → Makes old new (stepped old.actor k answer ∷ [])
+    → IsNotClosed link
+    → Acts host [] (situation_of (moment_of old link clock out) log gate)
+    (situation_of (moment_of new link clock out) log gate) (step_act old.actor k answer)
 stepped_acts host old new k answer link clock out log gate silent makes unclosed =
-    acts_of host [] (moment_of old link clock out) (moment_of new link clock out) log gate (calling (stepped old.actor k answer)) silent
+    acts_of host [] (moment_of old link clock out)
+    (moment_of new link clock out) log gate (calling (stepped old.actor k answer)) silent
     (one_call old new link clock out (stepped old.actor k answer) makes unclosed)
 
 -- the line of one loss is the log of it
-pub one_line : (asked : Asked) (host : List ℕ) (count first last : ℕ) → asked.host ≡ host → gap_line host count first last ≡ gap_line asked.host count first last ++ []
-one_line asked host count first last is = ap (λ (h : List ℕ). gap_line h count first last) (sym is) ∙ sym (append-nil (gap_line asked.host count first last))
+pub one_line : (asked : Asked) (host : List ℕ) (count first last : ℕ) → asked.host ≡ host
+    → gap_line host count first last ≡ gap_line asked.host count first last ++ []
+one_line asked host count first last is = ap (λ (h : List ℕ). gap_line h count first last)
+    (sym is) ∙ sym (append-nil (gap_line asked.host count first last))
 
 pub none_in_front : {A : Type 0} → (front rest : List A) → front ++ rest ≡ [] → front ≡ []
 none_in_front [] rest none = refl
 none_in_front (x ∷ front) rest none = absurd cc
 
 -- of calls that tell no loss a front tells none
-pub silent_part : (host : List ℕ) (part all : List Entry) → IsPart false part all → gap_log host all ≡ [] → gap_log host part ≡ []
+pub silent_part : (host : List ℕ) (part all : List Entry) → IsPart false part all → gap_log host all ≡ []
+    → gap_log host part ≡ []
 silent_part host part all is none =
-    none_in_front (gap_log host part) (gap_log host is.0) (sym (gap_log-append host part is.0) ∙ ap (gap_log host) is.1 ∙ none)
+    none_in_front (gap_log host part) (gap_log host is.0)
+    (sym (gap_log-append host part is.0) ∙ ap (gap_log host) is.1 ∙ none)
 
 -- ---- the end
 
 -- what was called at an end
-pub calls_at_end : (whole : Bool) (why : SendEnd) (host came : List ℕ) (old new : Situation) (act : Act) → EndsAct whole why host came old new act
+pub calls_at_end : (whole : Bool) (why : SendEnd) (host came : List ℕ) (old new : Situation) (act : Act)
+    → EndsAct whole why host came old new act
     → (made : List Entry) × Calls old.moment.pass new.moment.pass made
 calls_at_end true why host came old new act ends = (act.deed.entries, ends.does.calls)
 calls_at_end false why host came old new act ends = (ends.breaks.called, ends.breaks.calls)
 
 -- a cause is one of what was done before, too
-pub cause_later : (why : SendEnd) (host came : List ℕ) (a b c : Situation) (act : Act) → Acts host came a b act → StopsTurns why b c → StopsTurns why a c
-cause_later end.Stopped host came a b c act acts cause = Rose-later a.gate.stops b.gate.stops c.gate.stops acts.beside.stops cause
-cause_later (end.PeerEnd at) host came a b c act acts cause = Rose-later a.moment.link.ends b.moment.link.ends c.moment.link.ends acts.does.link.ends cause
+pub cause_later : (why : SendEnd) (host came : List ℕ) (a b c : Situation) (act : Act) → Acts host came a b act
+    → StopsTurns why b c → StopsTurns why a c
+cause_later end.Stopped host came a b c act acts cause =
+    Rose-later a.gate.stops b.gate.stops c.gate.stops acts.beside.stops cause
+cause_later (end.PeerEnd at) host came a b c act acts cause =
+    Rose-later a.moment.link.ends b.moment.link.ends c.moment.link.ends acts.does.link.ends cause
 cause_later (end.BadReply at) host came a b c act acts cause = tt
-cause_later end.LinkFault host came a b c act acts cause = Rose-later a.moment.link.faults b.moment.link.faults c.moment.link.faults acts.does.link.faults cause
-cause_later end.LogFault host came a b c act acts cause = Rose-later a.log.faults b.log.faults c.log.faults acts.beside.log cause
+cause_later end.LinkFault host came a b c act acts cause =
+    Rose-later a.moment.link.faults b.moment.link.faults c.moment.link.faults acts.does.link.faults cause
+cause_later end.LogFault host came a b c act acts cause =
+    Rose-later a.log.faults b.log.faults c.log.faults acts.beside.log cause
 cause_later end.Worn host came a b c act acts cause = cause
 cause_later end.OutOfMemory host came a b c act acts cause = tt
 cause_later end.Reclassed host came a b c act acts cause = absurd cause

@@ -59,7 +59,8 @@ Logged _ old lines new = Takes old lines new
 abbrev pub IsStop : Go → Type 0
 IsStop answer = answer ≡ go.Stop
 
--- It broke off: of each part a front was done. Each step of the cursor was made, and the gate was asked wherever it says to go on.
+-- It broke off: of each part a front was done. Each step of the cursor was made, and the gate was asked wherever it
+-- says to go on.
 pub record BreaksAct (why : SendEnd) (host given : List ℕ) (old new : Situation) (act : Act) : Type 0 where
   pub breaks : Breaks given old.moment new.moment act.deed
   pub unmade : IsAllBut false MayBeUnmade breaks.called act.deed.entries

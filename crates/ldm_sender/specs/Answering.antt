@@ -20,12 +20,14 @@ use Rattle.ldm_sender.specs.Stopping.{StopsSending}
 
 -- the answer is owed, and the clock is asked
 abbrev pub answer_deed : ℕ → ClassAnswer → ℕ → Deed
-answer_deed xid answer at = record { entries = []; bytes = records_of (sent.FeedmeReply xid answer ∷ []); instants = at ∷ [] }
+answer_deed xid answer at =
+    record { entries = []; bytes = records_of (sent.FeedmeReply xid answer ∷ []); instants = at ∷ [] }
 
 -- It was sent, and the clock said this.
 abbrev pub AnswersClass : Result ℕ SendEnd → ℕ → ClassAnswer → (old new : Moment) → Type 0
 AnswersClass (Ok at) xid answer old new = Does [] old new (answer_deed xid answer at)
-AnswersClass (Err why) xid answer old new = (at : ℕ) × Breaks [] old new (answer_deed xid answer at) × StopsSending why old new
+AnswersClass (Err why) xid answer old new = (at : ℕ) × Breaks [] old new (answer_deed xid answer at)
+    × StopsSending why old new
 
 -- A cursor was opened.
 pub record OpensCursor (asked : Asked) (k : ℕ) (old new : PassView) : Type 0 where
@@ -55,9 +57,11 @@ OpensFor (Done None) asked old new = FindsBusy asked old new
 OpensFor (Worn turns) asked old new = FindsWornFirst asked old new
 
 -- a request was answered for which no cursor is opened
-abbrev pub Declines : Result (Unit {0}) SendEnd → ℕ → ClassAnswer → (pass : PassView) → (link : LinkRecord) → (clock : ClockRecord) → (link' : LinkRecord) → (clock' : ClockRecord) → Type 0
+abbrev pub Declines : Result (Unit {0}) SendEnd → ℕ → ClassAnswer → (pass : PassView) → (link : LinkRecord)
+    → (clock : ClockRecord) → (link' : LinkRecord) → (clock' : ClockRecord) → Type 0
 Declines (Ok done) xid answer pass link clock link' clock' =
     (at : ℕ) × Does [] (moment_of pass link clock []) (moment_of pass link' clock' []) (answer_deed xid answer at)
 Declines (Err why) xid answer pass link clock link' clock' =
-    (at : ℕ) × (out : List ℕ) × Breaks [] (moment_of pass link clock []) (moment_of pass link' clock' out) (answer_deed xid answer at)
+    (at : ℕ) × (out : List ℕ) × Breaks [] (moment_of pass link clock []) (moment_of pass link' clock' out)
+    (answer_deed xid answer at)
     × StopsSending why (moment_of pass link clock []) (moment_of pass link' clock' out)

@@ -17,7 +17,8 @@ pub record Asked : Type 0 where
   pub max_hereis : ℕ
 
 abbrev pub asked_of : List ℕ → Rules → Feedme → Asked
-asked_of host rules ask = record { host = host; rules = rules_for false rules; xid = ask.xid; class = ask.class; max_hereis = ask.max_hereis }
+asked_of host rules ask =
+    record { host = host; rules = rules_for false rules; xid = ask.xid; class = ask.class; max_hereis = ask.max_hereis }
 
 -- It is asked for this class, by this host and under these rules.
 pub record IsAskedOf (asked : Asked) (class : ClassSpec) (rules : HostRules) : Type 0 where

@@ -19,7 +19,8 @@ MayBeUnmadeBy (Step k) answer = ⊥
 MayBeUnmadeBy (OpenCursor feed from) (Opened k) = ⊥
 MayBeUnmadeBy _ answer = Unit {0}
 
--- A call that an end at which not all is done may leave out: none that opened a cursor, and no step of one. Steps alone give products,
+-- A call that an end at which not all is done may leave out: none that opened a cursor, and no step of one. Steps alone
+-- give products,
 -- and tell losses and the end of the queue.
 abbrev pub MayBeUnmade : Entry → Type 0
 MayBeUnmade entry = MayBeUnmadeBy entry.event entry.reply

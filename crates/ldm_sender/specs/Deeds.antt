@@ -1,4 +1,5 @@
--- What a part of a sending comes to, as plain data: the calls that were made on the queue, the bytes that the peer is owed, and what
+-- What a part of a sending comes to, as plain data: the calls that were made on the queue, the bytes that the peer is
+-- owed, and what
 -- the clock answered.
 use Rattle.std.specs.Prelude.{ℕ, List, [], ◌∷◌, ◌++◌}
 use Rattle.std.specs.List.{flat_map}

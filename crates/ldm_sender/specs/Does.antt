@@ -1,4 +1,5 @@
--- How a part of a sending leaves the pass, the link, the clock and what is gathered: it does a deed, or breaks off in it.
+-- How a part of a sending leaves the pass, the link, the clock and what is gathered: it does a deed, or breaks off in
+-- it.
 use Rattle.std.specs.Prelude.{◌≡◌, ℕ, ◌≤◌, List, [], ◌∷◌, ◌++◌, Bool, true, false}
 use Rattle.ldm_model.specs.declared.event.Entry.{Entry}
 use Rattle.ldm_outside.specs.Clock.{ClockRecord}
@@ -39,7 +40,8 @@ pub record KeepsLink (old new : LinkRecord) : Type 0 where
   pub ends : old.ends ≤ new.ends
   pub still_open : IsNotClosed new
 
--- Just this was done, and the link gave these bytes: what was owed was sent, or is gathered still, behind what was gathered before.
+-- Just this was done, and the link gave these bytes: what was owed was sent, or is gathered still, behind what was
+-- gathered before.
 pub record Does (given : List ℕ) (old new : Moment) (deed : Deed) : Type 0 where
   pub calls : Calls old.pass new.pass deed.entries
   pub sent : List ℕ

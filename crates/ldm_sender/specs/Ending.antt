@@ -37,7 +37,8 @@ IsEndOf end.OutOfMemory answered new before after = Unit {0}
 
 -- what the outside of the session tells in a situation
 abbrev pub session_of : Situation → SessionRecord
-session_of situation = record { link = situation.moment.link; log = situation.log; clock = situation.moment.clock; gate = situation.gate }
+session_of situation =
+    record { link = situation.moment.link; log = situation.log; clock = situation.moment.clock; gate = situation.gate }
 
 -- why turns end
 abbrev pub StopsTurns : SendEnd → Situation → Situation → Type 0

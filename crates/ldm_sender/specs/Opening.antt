@@ -1,5 +1,6 @@
 -- How a request is answered, and the cursor that is opened for it.
-use Rattle.std.specs.Prelude.{◌≡◌, ℕ, zero, suc, Bool, true, false, List, [], ◌∷◌, Option, Some, None, IsSome, fold, map, bit_or}
+use Rattle.std.specs.Prelude.{◌≡◌, ℕ, zero, suc, Bool, true, false, List, [], ◌∷◌, Option, Some, None, IsSome, fold}
+use Rattle.std.specs.Prelude.{map, bit_or}
 use Rattle.ldm_types.specs.declared.class.ClassSpec.{ClassSpec}
 use Rattle.ldm_types.specs.declared.class.Spec.{Spec}
 use Rattle.ldm_model.specs.declared.event.Start.{Start}
@@ -56,13 +57,16 @@ from_instant (suc n) = start.After n
 
 -- a call that opens a cursor for the class, and its answer
 abbrev pub opens : ℕ → Asked → Start → Reply → Entry
-opens actor asked from answer = record { actor = actor; event = OpenCursor (record { 0 = feeds_of asked.class }) from; reply = answer }
+opens actor asked from answer =
+    record { actor = actor; event = OpenCursor (record { 0 = feeds_of asked.class }) from; reply = answer }
 
--- The calls that open the cursor: behind the product that the class names, where it names one and that is queued; else from the
+-- The calls that open the cursor: behind the product that the class names, where it names one and that is queued; else
+-- from the
 -- instant that it asks for. The last one has that answer.
 abbrev pub opening_calls : ℕ → Asked → Option (List ℕ) → Bool → Reply → List Entry
 opening_calls actor asked None missed answer = opens actor asked (from_instant asked.class.from) answer ∷ []
-opening_calls actor asked (Some signature) false answer = opens actor asked (start.AfterSignature (record { 0 = signature })) answer ∷ []
+opening_calls actor asked (Some signature) false answer =
+    opens actor asked (start.AfterSignature (record { 0 = signature })) answer ∷ []
 opening_calls actor asked (Some signature) true answer =
     opens actor asked (start.AfterSignature (record { 0 = signature })) reply.NotQueued
     ∷ opens actor asked (from_instant asked.class.from) answer ∷ []
@@ -71,8 +75,10 @@ opening_calls actor asked (Some signature) true answer =
 abbrev pub opening_entries : ℕ → Asked → Answered → List Entry
 opening_entries actor asked (Denied rule) = []
 opening_entries actor asked (Reclassed class) = []
-opening_entries actor asked (Busy missed) = opening_calls actor asked (resumed asked.class.specs.items) missed reply.AllBusy
-opening_entries actor asked (Opened missed k) = opening_calls actor asked (resumed asked.class.specs.items) missed (reply.Opened k)
+opening_entries actor asked (Busy missed) =
+    opening_calls actor asked (resumed asked.class.specs.items) missed reply.AllBusy
+opening_entries actor asked (Opened missed k) =
+    opening_calls actor asked (resumed asked.class.specs.items) missed (reply.Opened k)
 
 -- the call that closes the cursor, where one was opened
 abbrev pub closing_entries : ℕ → Answered → List Entry

@@ -15,6 +15,18 @@ pub struct Standing {
     pub sent_at: Micros,
 }
 
+impl Standing {
+    /// Where a session stands before its first message, which is said to be sent at the first instant.
+    pub fn first() -> Standing
+        ensures { result ≡ record { next = 1; sent_at = 0 } }
+    {
+        match Micros::new(0) {
+            Some(sent_at) => Standing { next: 1, sent_at },
+            None => unreachable!(),
+        }
+    }
+}
+
 /// A call is gathered: the next one has the next number, and the clock is asked.
 pub fn count_call<C: Clock>(standing: &mut Standing, clock: &mut C)
     ensures next { standing.new.next ≡ later_call standing.old.next 1 }

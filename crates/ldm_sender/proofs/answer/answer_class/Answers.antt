@@ -14,8 +14,13 @@ returns-in_err-write_message-clause-answers g c = λ pass.
     let link = g.K.Link.tells c.args.link.now in
     let clock = g.C.Clock.tells c.args.clock.now in
     let why = err_from_is_err_and c.from_residual.result c.from_residual.ensures.1 in
-    rw (why.1, why.2)
-    (0, nothing_done (moment_of pass link clock c.args.out.now.items) (moment_of pass link clock c.write_message.new.out.items) (answer_deed c.args.xid c.args.answer 0) c.requires (calls_none pass) refl refl, tt)
+    rw (why.1, why.2) (
+      0,
+      nothing_done (moment_of pass link clock c.args.out.now.items)
+          (moment_of pass link clock c.write_message.new.out.items)
+          (answer_deed c.args.xid c.args.answer 0) c.requires (calls_none pass) refl refl,
+      tt,
+    )
 
 pub returns-in_err-send_gathered-clause-answers : goal.returns-in_err-send_gathered-clause-answers
 returns-in_err-send_gathered-clause-answers g c = λ pass.
@@ -27,13 +32,17 @@ returns-in_err-send_gathered-clause-answers g c = λ pass.
     let out' = c.write_message.new.out.items in
     let left = c.send_gathered.new.gathered.items in
     let at = c.now-at.result in
-    let toward = gathers pass link clock clock' out out' (sent.FeedmeReply c.args.xid c.args.answer) at c.requires c.in_ok-write_message.ensures.ok c.now-at.ensures in
+    let toward = gathers pass link clock clock' out out' (sent.FeedmeReply c.args.xid c.args.answer) at c.requires
+    c.in_ok-write_message.ensures.ok c.now-at.ensures in
     let failed = c.in_err-send_gathered.ensures.sent in
-    let why = err_from_is_err_and c.from_residual-in_err-send_gathered.result c.from_residual-in_err-send_gathered.ensures.1 in
+    let why =
+    err_from_is_err_and c.from_residual-in_err-send_gathered.result c.from_residual-in_err-send_gathered.ensures.1 in
     rw (why.1, why.2) (
       at,
-      breaks_then [] [] (moment_of pass link clock out) (moment_of pass link clock' out') (moment_of pass link' clock' left) no_deed (answer_deed c.args.xid c.args.answer at) toward
-          (send_failed pass clock' out' left link link' no_deed c.requires c.in_err-send_gathered.ensures.faults_kept failed),
+      breaks_then [] [] (moment_of pass link clock out) (moment_of pass link clock' out')
+          (moment_of pass link' clock' left) no_deed (answer_deed c.args.xid c.args.answer at) toward
+          (send_failed pass clock' out' left link link' no_deed c.requires c.in_err-send_gathered.ensures.faults_kept
+          failed),
       failed.failing.0,
     )
 
@@ -49,5 +58,7 @@ returns-clause-answers g c = λ pass.
     let at = c.now-at.result in
     let old = moment_of pass link clock out in
     let all = answer_deed c.args.xid c.args.answer at in
-    let toward = gathers pass link clock clock' out out' (sent.FeedmeReply c.args.xid c.args.answer) at c.requires c.in_ok-write_message.ensures.ok c.now-at.ensures in
-    all_done [] old (moment_of pass link' clock' left) all (then_sent pass clock' out' left old link link' all toward c.requires c.in_ok-send_gathered.ensures.sent)
+    let toward = gathers pass link clock clock' out out' (sent.FeedmeReply c.args.xid c.args.answer) at c.requires
+    c.in_ok-write_message.ensures.ok c.now-at.ensures in
+    all_done [] old (moment_of pass link' clock' left) all
+    (then_sent pass clock' out' left old link link' all toward c.requires c.in_ok-send_gathered.ensures.sent)

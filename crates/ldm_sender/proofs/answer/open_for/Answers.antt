@@ -17,8 +17,13 @@ returns-in-Worn-open-clause-opens g c = λ asked class_is.
     elim c.match-resume.branch [
       | in-Some+in-Done-NotQueued w ↦
           let named : resumed class.specs.items ≡ Some w.in-Some.signature.0 =
-          sym c.resume.ensures ∙ ap (λ (o : Option Signature). option_map (λ (signature : Signature). signature.0) o) w.in-Some.is in
-          let feeds : c.feeds_of-feeds.result.0 ≡ feeds_of class = c.feeds_of-feeds.ensures ∙ ap feeds_of c.spec.ensures in
-          worn_behind asked class w.in-Some.signature.0 c.feeds_of-feeds.result.0 old w.open.new.pass new c.in-Worn-open.turns class_is named feeds (rw w.in-Done-NotQueued.field-0-is at w.in-Done-NotQueued.ensures.done) (subst P w.pass-is c.in-Worn-open.ensures.worn)
+          sym c.resume.ensures
+          ∙ ap (λ (o : Option Signature). option_map (λ (signature : Signature). signature.0) o) w.in-Some.is in
+          let feeds : c.feeds_of-feeds.result.0 ≡ feeds_of class = c.feeds_of-feeds.ensures
+          ∙ ap feeds_of c.spec.ensures in
+          worn_behind asked class w.in-Some.signature.0 c.feeds_of-feeds.result.0 old w.open.new.pass new
+          c.in-Worn-open.turns class_is named feeds
+          (rw w.in-Done-NotQueued.field-0-is at w.in-Done-NotQueued.ensures.done)
+          (subst P w.pass-is c.in-Worn-open.ensures.worn)
       | in_default w ↦ worn_at_once asked old new c.in-Worn-open.turns (subst P w.pass-is c.in-Worn-open.ensures.worn)
     ]
