@@ -117,6 +117,7 @@ pub record Arrives (at : ℕ) (messages : List Sent) (pieces : List Piece) : Typ
   pub first : First (moments_of pieces) messages (arrivals (record_at at) pieces) behind
   pub on : end_by_bytes (hand (record_at at) pieces) ≡ None
   pub whole : joined pieces ≡ flat_map record_bytes messages → behind ≡ []
+  pub all : behind ≡ [] → joined pieces ≡ flat_map record_bytes messages
   pub edge : behind ≡ [] → hand (record_at at) pieces ≡ record_at (at + length (joined pieces))
 
 module _ (laws : StreamLaws) (at : ℕ) (messages : List Sent) (short : AllByRecursion IsShortMessage messages) (pieces : List Piece) (rest : List ℕ)
@@ -150,6 +151,10 @@ module _ (laws : StreamLaws) (at : ℕ) (messages : List Sent) (short : AllByRec
             (first-of (moments_of pieces) cut.front cut.behind at (arrivals p pieces) came moments);
         on = rw (sound, below) refl;
         whole = λ all. splits-all record_bytes messages got cut all;
+        all = λ none.
+            got_is ∙ ap (λ (x : List ℕ). flat_map spelling records ++ x) (no-part cut.behind cut.part none cut.part_is)
+            ∙ append-nil (flat_map spelling records) ∙ sym (records-bytes cut.front)
+            ∙ ap (flat_map record_bytes) (sym (append-nil cut.front) ∙ ap (λ (x : List Sent). cut.front ++ x) (sym none) ∙ cut.all);
         edge = λ none.
             let no_part = no-part cut.behind cut.part none cut.part_is in
             let all : got ≡ flat_map spelling records = got_is ∙ ap (λ (x : List ℕ). flat_map spelling records ++ x) no_part ∙ append-nil (flat_map spelling records) in

@@ -1,9 +1,9 @@
 -- A reply that does not grant what was asked for, and how it ends a receiving.
-use Rattle.std.proofs.Common.{◌≡◌, ℕ, ◌^◌, ◌<◌, Bool, true, List, [], ◌∷◌, ◌++◌, Some, None, Result, Ok, ap, sym, subst, ◌∙◌, arith}
-use Rattle.std.specs.Prelude.{◌==◌, if◌then◌else◌}
+use Rattle.std.proofs.Common.{◌≡◌, ◌⊎◌, ℕ, ◌^◌, ◌<◌, Bool, true, false, List, [], ◌∷◌, ◌++◌, Option, Some, None, Result, Ok, inl, inr, refl, ap, sym, subst, ◌∙◌, arith}
+use Rattle.std.specs.Prelude.{◌==◌, if◌then◌else◌, IsSome}
 use Rattle.std.specs.List.{AllByRecursion}
 use Rattle.std.proofs.lemmas.Bool.{eq-eqb}
-use Rattle.std.proofs.lemmas.List.{append-nil, length-append}
+use Rattle.std.proofs.lemmas.List.{length-append}
 use Rattle.ldm_types.specs.declared.class.ClassSpec.{ClassSpec}
 use Rattle.ldm_xdr.specs.Spelling.{unsigned}
 use Rattle.ldm_xdr.proofs.Lengths.{length_unsigned}
@@ -19,6 +19,7 @@ use Rattle.ldm_relay.specs.Reading.{reply_of}
 use Rattle.ldm_relay.specs.Sent.{Sent}
 use Rattle.ldm_relay.specs.Sent as sent
 use Rattle.ldm_relay.specs.Spelling.{reply_header, written}
+use Rattle.ldm_intake.specs.declared.end.RecvEnd.{RecvEnd}
 use Rattle.ldm_intake.specs.declared.end.RecvEnd.TheVariants.{BadFrame, Refused}
 use Rattle.ldm_intake.specs.declared.phase.Phase.{Phase}
 use Rattle.ldm_intake.specs.declared.phase.Phase.TheVariants.{Asked as AskedFor}
@@ -28,16 +29,16 @@ use Rattle.ldm_intake.specs.Receiving.{Receiving}
 use Rattle.ldm_intake.specs.Record.{course_in, reply_course}
 use Rattle.ldm_intake.specs.Step.{Step, Goes, Bad, Declined}
 use Rattle.ldm_intake.specs.Taken.{Arrival, Taken, after_step, taken, taken_none}
-use Rattle.ldm_intake.proofs.Courses.{leads-then_parts}
+use Rattle.ldm_intake.proofs.Courses.{Parts, leads-then_parts}
 use Rattle.ldm_sender.specs.Opening.{Answered, Busy, Denied, Opened, Reclassed, class_answer_of}
 use Rattle.ldm_upstream.specs.Turn.{Turn}
 use Rattle.ldm_upstream.specs.Turns.{after_turns, messages_of_turns}
 use Rattle.ldm_upstream.specs.Feeding.{GoesOn, Last, MayTurn, begun, last_messages, messages_of}
 use Rattle.ldm_downstream.specs.Pieces.{arrivals, hand, joined}
 use Rattle.ldm_downstream.specs.Received.{end_behind, end_by_bytes, with_hand}
-use Rattle.ldm_between_ends.specs.Passing.{Passing, moments_of, record_at}
+use Rattle.ldm_between_ends.specs.Passing.{CarriesAll, Passing, moments_of, record_at}
 use Rattle.ldm_between_ends.specs.Ungranted.{EndsBy, EndsByReply, IsUngranted, IsUnopened}
-use Rattle.ldm_between_ends.proofs.Arriving.{arrives}
+use Rattle.ldm_between_ends.proofs.Arriving.{Arrives, arrives}
 use Rattle.ldm_between_ends.proofs.Growing.{comes-made, none-taken}
 use Rattle.ldm_between_ends.proofs.Joining.{small-request}
 use Rattle.ldm_between_ends.proofs.Messages.{Again, onward}
@@ -91,32 +92,77 @@ alone (Reclassed class) turns last unopened may = may
 alone (Busy missed) turns last unopened may = may
 alone (Opened missed k) turns last unopened may = absurd unopened
 
-pub replies : (again : Again) (laws : StreamLaws) (p : Passing) (ungranted : IsUngranted p) → EndsByReply p ungranted
-replies again laws p ungranted =
-    let s = p.begins in
-    let feeding = p.feeding in
-    let t = p.came_to in
-    let answer = class_answer_of feeding.answered in
-    let m : Sent = sent.FeedmeReply p.asked.xid answer in
-    let at_first = begun feeding in
-    let quiet = alone feeding.answered feeding.turns feeding.last ungranted.unopened ungranted.is.opened in
-    let same : messages_of p.asked feeding ≡ m ∷ [] =
-    ap (λ (turns : List Turn). m ∷ (messages_of_turns at_first turns ++ last_messages (after_turns at_first turns).next feeding.last)) quiet.0
-    ∙ ap (λ (last : Last). m ∷ last_messages at_first.next last) quiet.1 in
-    let short : AllByRecursion IsShortMessage (messages_of p.asked feeding) =
-    subst (λ (x : List Sent). AllByRecursion IsShortMessage x) (sym same) (short-answer p.asked.xid answer ungranted.fits, tt) in
-    let came = arrives laws p.at (messages_of p.asked feeding) short p.pieces [] (append-nil (joined p.pieces) ∙ ungranted.carries) ungranted.few in
-    let none = came.whole ungranted.carries in
-    let came_to = arrivals (record_at p.at) p.pieces in
-    let one = one_came (moments_of p.pieces) m came_to came.behind none
-    (subst (λ (x : List Sent). First (moments_of p.pieces) x came_to came.behind) same came.first) in
-    let position = hand (record_at p.at) p.pieces in
-    let parts = leads-then_parts p.actor (taken (taken_none s) came_to) (λ (v : Taken). Comes (with_hand position v)) p.made t ungranted.leads in
-    let ends = comes-made p.actor (with_hand position parts.mid) parts.more t parts.second in
-    let asker = ungranted.asker in
-    let small : p.asked.xid < 2 ^ 32 = subst (λ (n : ℕ). n < 2 ^ 32) (sym asker.xid_is) (small-request asker.again) in
-    let comes = answer_comes again s p.asked.class asker.again one.a [] p.asked.xid answer (small, ungranted.fits) one.content asker.phase_is asker.xid_is in
-    let by = by_answer s p.asked.class asker.again answer in
-    let ended = step-ends p.actor s one.a.at position by parts.made parts.mid came.on
-    (leads-along p.actor _ _ parts.made parts.mid (ap (taken (taken_none s)) one.all ∙ comes) parts.first) in
-    subst (λ (v : Taken). EndsBy by v.end) ends.1 ended
+-- ---- the stream
+
+module _ (laws : StreamLaws) (p : Passing) (ungranted : IsUngranted p) where
+  abbrev answer : ClassAnswer
+  answer = class_answer_of p.feeding.answered
+
+  abbrev m : Sent
+  m = sent.FeedmeReply p.asked.xid answer
+
+  -- the reply is the only message
+  same : messages_of p.asked p.feeding ≡ m ∷ []
+  same =
+      let at_first = begun p.feeding in
+      let quiet = alone p.feeding.answered p.feeding.turns p.feeding.last ungranted.unopened ungranted.is.opened in
+      ap (λ (turns : List Turn). m ∷ (messages_of_turns at_first turns ++ last_messages (after_turns at_first turns).next p.feeding.last)) quiet.0
+      ∙ ap (λ (last : Last). m ∷ last_messages at_first.next last) quiet.1
+
+  short : AllByRecursion IsShortMessage (messages_of p.asked p.feeding)
+  short = subst (λ (x : List Sent). AllByRecursion IsShortMessage x) (sym same) (short-answer p.asked.xid answer ungranted.fits, tt)
+
+  abbrev came_to : List Arrival
+  came_to = arrivals (record_at p.at) p.pieces
+
+  came : Arrives p.at (messages_of p.asked p.feeding) p.pieces
+  came = arrives laws p.at (messages_of p.asked p.feeding) short p.pieces ungranted.carries.rest ungranted.carries.is ungranted.carries.few
+
+  first : First (moments_of p.pieces) (m ∷ []) came_to came.behind
+  first = subst (λ (x : List Sent). First (moments_of p.pieces) x came_to came.behind) same came.first
+
+  abbrev position : Position
+  position = hand (record_at p.at) p.pieces
+
+  -- what its records lead to, and then how the stream stands
+  parts : Parts p.actor (taken (taken_none p.begins) came_to) (λ (v : Taken). Comes (with_hand position v)) p.made p.came_to
+  parts = leads-then_parts p.actor (taken (taken_none p.begins) came_to) (λ (v : Taken). Comes (with_hand position v)) p.made p.came_to ungranted.leads
+
+  ends : (parts.more ≡ []) × (with_hand position parts.mid ≡ p.came_to)
+  ends = comes-made p.actor (with_hand position parts.mid) parts.more p.came_to parts.second
+
+  pub replies : (again : Again) → CarriesAll p → EndsByReply p ungranted
+  replies again carries =
+      let s = p.begins in
+      let one = one_came (moments_of p.pieces) m came_to came.behind (came.whole carries) first in
+      let asker = ungranted.asker in
+      let small : p.asked.xid < 2 ^ 32 = subst (λ (n : ℕ). n < 2 ^ 32) (sym asker.xid_is) (small-request asker.again) in
+      let comes = answer_comes again s p.asked.class asker.again one.a [] p.asked.xid answer (small, ungranted.fits) one.content asker.phase_is asker.xid_is in
+      let by = by_answer s p.asked.class asker.again answer in
+      let ended = step-ends p.actor s one.a.at position by parts.made parts.mid came.on
+      (leads-along p.actor _ _ parts.made parts.mid (ap (taken (taken_none s)) one.all ∙ comes) parts.first) in
+      subst (λ (v : Taken). EndsBy by v.end) ends.1 ended
+
+  -- where no record came, nothing ended it
+  none-ended : (arrivals : List Arrival) (made : List Entry) (mid : Taken) → arrivals ≡ [] → Leads p.actor (taken (taken_none p.begins) arrivals) made mid
+      → end_behind position mid.end ≡ None
+  none-ended arrivals made mid none leads =
+      let is = none-taken p.actor (taken_none p.begins) made mid (subst (λ (x : List Arrival). Leads p.actor (taken (taken_none p.begins) x) made mid) none leads) in
+      ap (λ (v : Taken). end_behind position v.end) (sym is.1) ∙ came.on
+
+  -- the reply came, or no record did
+  came-first : (arrivals : List Arrival) (behind : List Sent) → First (moments_of p.pieces) (m ∷ []) arrivals behind → (arrivals ≡ []) ⊎ (behind ≡ [])
+  came-first [] behind is = inl refl
+  came-first (a ∷ []) behind is = inr is.2
+  came-first (a ∷ b ∷ arrivals) behind is = absurd is.2
+
+  pub part-goes_on : IsSome p.came_to.end → CarriesAll p
+  part-goes_on over =
+      elim (came-first came_to came.behind first) [
+        | inl none ↦ (
+            let live : p.came_to.end ≡ None = ap (λ (v : Taken). v.end) (sym ends.1) ∙ none-ended came_to parts.made parts.mid none parts.first in
+            let no : false ≡ true = subst (λ (e : Option RecvEnd). IsSome e) live over in
+            absurd (cc no)
+            )
+        | inr none ↦ came.all none
+      ]

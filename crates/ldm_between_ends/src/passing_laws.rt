@@ -1,5 +1,5 @@
 //! What holds of all feedings that come to a receiver. These functions do nothing: their contracts are the laws.
-ghost use Rattle.std.specs.Prelude.{◌≡◌, ℕ, ◌+◌, ◌≤◌, ◌++◌, length, List, Option, None, All, take, false};
+ghost use Rattle.std.specs.Prelude.{◌≡◌, ℕ, ◌+◌, ◌≤◌, ◌++◌, length, List, Option, None, IsSome, All, take, false};
 ghost use Rattle.ldm_types.specs.declared.class.ClassSpec.{ClassSpec};
 ghost use Rattle.ldm_types.specs.declared.limits.TheConstants.{LARGEST_ARENA};
 ghost use Rattle.ldm_types.specs.Info.{IsMetadata};
@@ -89,7 +89,9 @@ pub fn a_narrower_class_is_asked_for()
 /// A feeder that does not grant what it was asked for replies so, and nothing else comes: a receiver that had asked
 /// ends by that reply, or asks for the narrower class that it offers.
 pub fn a_reply_is_taken()
-    ensures { (p : Passing) (ungranted : IsUngranted p) → EndsByReply p ungranted }
+    ensures whole { (p : Passing) (ungranted : IsUngranted p) → CarriesAll p → EndsByReply p ungranted }
+    // No part of the reply ends it.
+    ensures part { (p : Passing) → IsUngranted p → IsSome p.came_to.end → CarriesAll p }
 {
     what_is_written_is_read();
     records_are_read();

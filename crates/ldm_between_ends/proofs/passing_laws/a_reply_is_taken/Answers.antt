@@ -1,5 +1,5 @@
 use Rattle.ldm_between_ends.proofs.Pieces.{StreamLaws}
-use Rattle.ldm_between_ends.proofs.Replying.{replies}
+use Rattle.ldm_between_ends.proofs.Replying.{part-goes_on, replies}
 use Rattle.ldm_between_ends.proofs.passing_laws.a_reply_is_taken.Goals as goal
 
 -- what the laws say that are called
@@ -13,5 +13,8 @@ stream_laws c = record {
   pushed_hand = c.pushes_read_the_stream.ensures.in_hand;
 }
 
-pub returns : goal.returns
-returns c = replies c.what_is_written_is_read.ensures (stream_laws c)
+pub returns-clause-whole : goal.returns-clause-whole
+returns-clause-whole c = λ p ungranted. replies (stream_laws c) p ungranted c.what_is_written_is_read.ensures
+
+pub returns-clause-part : goal.returns-clause-part
+returns-clause-part c = λ p ungranted. part-goes_on (stream_laws c) p ungranted
