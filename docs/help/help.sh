@@ -25,14 +25,16 @@ answer_help() {
     fi
 }
 
-# Runs a program with these arguments in place of the script. Where it runs in front on a terminal, and ends with 64, a line behind its
-# own says which help there is.
+# Runs a program with these arguments in place of the script. Where it runs in front on a terminal, a line there says how far a long one is,
+# and where it ends with 64, a line behind its own says which help there is.
 run_program() {
     help_program=$1
     shift
     is_in_front || exec "$help_program" "$@"
+    begin_progress "$@"
     "$help_program" "$@"
     help_status=$?
+    end_progress
     [ "$help_status" != 64 ] || show_hint "$@"
     exit "$help_status"
 }
@@ -44,6 +46,72 @@ is_in_front() {
     *+*) return 0 ;;
     esac
     return 1
+}
+
+# Has one line of the terminal say each second how far a run of pqinsert is whose files have more than 64 MB in all; or one of pqcat with
+# a count, once it takes more than 5 seconds, if it does not write to a terminal. The program itself writes no such line.
+begin_progress() {
+    help_watcher=
+    help_all=0
+    case ${1-} in
+    pqinsert)
+        shift
+        count_files "$@"
+        [ "$help_all" -gt 67108864 ] || return 0
+        set -- pqinsert
+        ;;
+    pqcat)
+        case " $* " in
+        *' -c'*) [ ! -t 1 ] || return 0 ;;
+        *) return 0 ;;
+        esac
+        ;;
+    *) return 0 ;;
+    esac
+    watch_program "$1" "$help_all" >&2 &
+    help_watcher=$!
+}
+
+end_progress() {
+    [ -n "$help_watcher" ] || return 0
+    kill "$help_watcher" 2>/dev/null
+    wait "$help_watcher" 2>/dev/null
+    printf '\r\033[K' >&2
+}
+
+# The bytes of the files that arguments of pqinsert name, in help_all.
+count_files() {
+    while [ $# != 0 ]; do
+        case $1 in
+        -f | -p | -o | -q) shift ;;
+        -*) ;;
+        *) [ ! -f "$1" ] || help_all=$((help_all + $(wc -c <"$1"))) ;;
+        esac
+        [ $# = 0 ] || shift
+    done
+}
+
+# Tells how much the program has read of so many bytes, or has written, by what the system counts, until the script is gone. What is told
+# ends with a return to the beginning of its line, so that the next line of the program stands in its place.
+watch_program() {
+    help_seconds=0
+    while sleep 1 && kill -0 $$ 2>/dev/null; do
+        help_seconds=$((help_seconds + 1))
+        for help_child in $(ps -o pid= --ppid $$ 2>/dev/null); do
+            [ "$(readlink "/proc/$help_child/exe" 2>/dev/null)" = "$(readlink -f "$help_program")" ] || continue
+            while read -r help_count help_bytes; do
+                case $1$help_count in
+                pqinsertrchar:)
+                    [ "$help_bytes" -le "$2" ] || help_bytes=$2
+                    printf '%d/%d MB\033[K\r' $((help_bytes / 1000000)) $(($2 / 1000000))
+                    ;;
+                pqcatwchar:)
+                    [ "$help_seconds" -le 5 ] || printf '%d MB, %d s\033[K\r' $((help_bytes / 1000000)) "$help_seconds"
+                    ;;
+                esac
+            done 2>/dev/null <"/proc/$help_child/io"
+        done
+    done
 }
 
 show_hint() {
