@@ -78,7 +78,7 @@ written-of : (old new : Moment) → new ≡ old → new.outside.log.written ≡ 
 written-of old new same = ap (λ (m : Moment). m.outside.log.written) same
 
 -- the lines that a session wrote itself
-pub serves-own : (end : ServeEnd) (client : Client) (old new : Moment) → ServesAll end client old new → Wrote (AreOwn end client.host) old.outside.log new.outside.log
+pub serves-own : (end : ServeEnd) (client : Client) (old new : Moment) → ServesAll end client old new → Wrote (AreOwn client.rules end client.host) old.outside.log new.outside.log
 serves-own (serving.Feed why) client old new serves =
     let fed = was-fed why (goes_on (response_of client serves.ends.last)) client serves.ahead serves.between new serves.ends.becomes in
     written-then (AreLosses why client.host) old.outside.log serves.between.outside.log new.outside.log serves.reaches.log
@@ -92,7 +92,7 @@ serves-own (serving.Receive why) client old new serves =
     let from = ap (λ (log : SinkRecord). log.written) received.log_before in
     let to = ap (λ (log : SinkRecord). log.written) received.log_after in
     let more = λ (before : List ℕ). before ++ received.lines in
-    record { lines = received.lines; are = tt; taken = sym to ∙ received.logged ∙ ap (option_map more) (from ∙ serves.reaches.log) }
+    record { lines = received.lines; are = received.pushed; taken = sym to ∙ received.logged ∙ ap (option_map more) (from ∙ serves.reaches.log) }
 serves-own (serving.BadFrame at) client old new serves =
     wrote-nothing old.outside.log new.outside.log (written-of serves.between new same ∙ serves.reaches.log)
   where

@@ -33,6 +33,7 @@ use Rattle.ldm_serve.specs.Steps.{response_of}
 use Rattle.ldm_node.specs.declared.stop.NodeStop.TheVariants.{Done, LogFault, Worn}
 use Rattle.ldm_node.specs.ServingEnds.{stop_by, stop_of_sending}
 use Rattle.ldm_node.specs.SessionEnds.{stop_of_receiving}
+use Rattle.ldm_node.specs.VisitsTold.{ArePushed}
 
 -- ---- what a connection became
 
@@ -68,17 +69,18 @@ was-notified why responded.Refused client old new is = absurd is
 was-notified why (responded.Denied rule) client old new is = absurd is
 
 -- What a receiving that was pushed leaves: its log lines, and why it ended.
-pub record WasReceived (why : RecvEnd) (old new : Moment) : Type 0 where
+pub record WasReceived (why : RecvEnd) (client : Client) (old new : Moment) : Type 0 where
   pub before : SessionRecord
   pub after : SessionRecord
   pub log_before : before.log ≡ old.outside.log
   pub log_after : after.log ≡ new.outside.log
   pub lines : List ℕ
   pub logged : after.log.written ≡ option_map (λ taken. taken ++ lines) before.log.written
+  pub pushed : ArePushed why client.rules client.host lines
   pub cause : Cause why new.pass before after
 
 pub was-received : (why : RecvEnd) (next : Responded) (client : Client) (ahead : List ℕ) (old new : Moment) → IsReceived why next client ahead old new
-    → WasReceived why old new
+    → WasReceived why client old new
 was-received why responded.GoesOn client ahead old new is = absurd is
 was-received why (responded.Feeds ask) client ahead old new is = absurd is
 was-received why (responded.Receives class) client ahead old new is =
@@ -91,6 +93,18 @@ was-received why (responded.Receives class) client ahead old new is =
       log_after = refl;
       lines = receives.receives.lines;
       logged = receives.receives.passed.logged;
+      pushed = record {
+        class = class;
+        behind = is.0.0;
+        noted = record {
+          pass = old.pass;
+          pieces = receives.receives.pieces;
+          at_end = receives.at_end;
+          comes = receives.receives.comes;
+          last_is = receives.last_is;
+          lines_are = receives.receives.lines_are;
+        };
+      };
       cause = subst P receives.pass_is receives.receives.cause;
     }
 was-received why (responded.Notifies ask) client ahead old new is = absurd is

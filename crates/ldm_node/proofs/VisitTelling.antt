@@ -120,29 +120,30 @@ works-hosts stop rules sessions old new works =
 -- ---- what the log took
 
 -- The lines of visits, each behind those of its own.
-record LogsAll (visits : List Visit) (old new : SinkRecord) : Type 0 where
+record LogsAll (rules : Rules) (visits : List Visit) (old new : SinkRecord) : Type 0 where
   pub own : List (List ℕ)
-  pub are : AreAllOwn visits own
+  pub are : AreAllOwn rules visits own
   pub taken : Takes old (log_of visits own) new
 
-logs-none : (old new : SinkRecord) → new.written ≡ old.written → LogsAll [] old new
-logs-none old new same = record { own = []; are = tt; taken = Takes-nothing old new same }
+logs-none : (rules : Rules) (old new : SinkRecord) → new.written ≡ old.written → LogsAll rules [] old new
+logs-none rules old new same = record { own = []; are = tt; taken = Takes-nothing old new same }
 
-logs-more : (visit : Visit) (visits : List Visit) (lines : List ℕ) (old mid new : SinkRecord) → AreOwn visit.end visit.host lines
-    → Takes old (lines ++ line_of visit) mid → LogsAll visits mid new → LogsAll (visit ∷ visits) old new
-logs-more visit visits lines old mid new are taken rest = record {
+logs-more : (rules : Rules) (visit : Visit) (visits : List Visit) (lines : List ℕ) (old mid new : SinkRecord)
+    → AreOwn rules visit.end visit.host lines → Takes old (lines ++ line_of visit) mid → LogsAll rules visits mid new
+    → LogsAll rules (visit ∷ visits) old new
+logs-more rules visit visits lines old mid new are taken rest = record {
   own = lines ∷ rest.own;
   are = (are, rest.are);
   taken = Takes-then old mid new (lines ++ line_of visit) (log_of visits rest.own) taken rest.taken;
 }
 
 -- one visit: the lines of its own, and its line
-record LogsOne (visit : Visit) (old new : SinkRecord) : Type 0 where
+record LogsOne (rules : Rules) (visit : Visit) (old new : SinkRecord) : Type 0 where
   pub lines : List ℕ
-  pub are : AreOwn visit.end visit.host lines
+  pub are : AreOwn rules visit.end visit.host lines
   pub taken : Takes old (lines ++ line_of visit) new
 
-admits-log : (rules : Rules) (visit : Visit) (old new : Moment) → Admits true rules visit old new → LogsOne visit old.station.log new.station.log
+admits-log : (rules : Rules) (visit : Visit) (old new : Moment) → Admits true rules visit old new → LogsOne rules visit old.station.log new.station.log
 admits-log rules visit old new admits =
     let holds = admits.holds in
     let own = serves-own visit.end (client_of rules visit.host old.pass) (moment_of old.pass (outside admits.came old.station.log old.station))
@@ -153,29 +154,30 @@ admits-log rules visit old new admits =
       taken = Takes-then old.station.log holds.log new.station.log own.lines (line_of visit) own.taken holds.logged;
     }
 
-logs-all : (rules : Rules) (visits others : List Visit) (old mid : Moment) (new : SinkRecord) → AreVisits rules visits old mid → LogsAll others mid.station.log new
-    → LogsAll (visits ++ others) old.station.log new
+logs-all : (rules : Rules) (visits others : List Visit) (old mid : Moment) (new : SinkRecord) → AreVisits rules visits old mid → LogsAll rules others mid.station.log new
+    → LogsAll rules (visits ++ others) old.station.log new
 logs-all rules [] others old mid new each rest =
-    let P : Moment → Type 0 = λ m. LogsAll others m.station.log new in
+    let P : Moment → Type 0 = λ m. LogsAll rules others m.station.log new in
     subst P each rest
 logs-all rules (visit ∷ visits) others old mid new each rest =
     let one = admits-log rules visit old each.0 each.1 in
-    logs-more visit (visits ++ others) one.lines old.station.log each.0.station.log new one.are one.taken (logs-all rules visits others each.0 mid new each.3 rest)
+    logs-more rules visit (visits ++ others) one.lines old.station.log each.0.station.log new one.are one.taken (logs-all rules visits others each.0 mid new each.3 rest)
 
 log-of : (old new : Moment) → new ≡ old → new.station.log.written ≡ old.station.log.written
 log-of old new same = ap (λ (m : Moment). m.station.log.written) same
 
-done-log : (rules : Rules) (ending : Option Ending) (old new : Moment) → EndsBy Done rules ending old new → LogsAll (last_visit ending) old.station.log new.station.log
-done-log rules None old new ends = logs-none old.station.log new.station.log (log-of old new ends)
+done-log : (rules : Rules) (ending : Option Ending) (old new : Moment) → EndsBy Done rules ending old new → LogsAll rules (last_visit ending) old.station.log new.station.log
+done-log rules None old new ends = logs-none rules old.station.log new.station.log (log-of old new ends)
 done-log rules (Some ClosedDoor) old new ends =
-    logs-none old.station.log new.station.log (ap (λ (m : Moment). m.station.log.written) ends.same)
+    logs-none rules old.station.log new.station.log (ap (λ (m : Moment). m.station.log.written) ends.same)
 done-log rules (Some FailedDoor) old new ends = absurd ends
 done-log rules (Some (LastVisit visit)) old new ends =
     let one = admits-log rules visit old new ends.0 in
-    logs-more visit [] one.lines old.station.log new.station.log new.station.log one.are one.taken (logs-none new.station.log new.station.log refl)
+    logs-more rules visit [] one.lines old.station.log new.station.log new.station.log one.are one.taken
+    (logs-none rules new.station.log new.station.log refl)
 
 pub works-log : (rules : Rules) (sessions : ℕ) (old new : Moment) (works : Works Done rules sessions old new)
-    → (own : List (List ℕ)) × AreAllOwn (all_visits works) own × Takes old.station.log (log_of (all_visits works) own) new.station.log
+    → (own : List (List ℕ)) × AreAllOwn rules (all_visits works) own × Takes old.station.log (log_of (all_visits works) own) new.station.log
 works-log rules sessions old new works =
     let logs = logs-all rules works.visits (last_visit works.ending) old works.at_end new.station.log works.each (done-log rules works.ending works.at_end new works.ends) in
     (logs.own, logs.are, logs.taken)
@@ -213,7 +215,7 @@ works-stopped rules sessions old new visit works is =
     let P : Option Ending → Type 0 = λ ending. EndsBy Done rules ending works.at_end new in
     let ends : EndsBy Done rules (Some (LastVisit visit)) works.at_end new = subst P is works.ends in
     let one = admits-log rules visit works.at_end new ends.0 in
-    let front = logs-all rules works.visits [] old works.at_end works.at_end.station.log works.each (logs-none works.at_end.station.log works.at_end.station.log refl) in
+    let front = logs-all rules works.visits [] old works.at_end works.at_end.station.log works.each (logs-none rules works.at_end.station.log works.at_end.station.log refl) in
     let before = log_of (works.visits ++ []) front.own in
     let Q : SessionEnd → Type 0 = λ end. Takes works.at_end.station.log (one.lines ++ session_line visit.host end) new.station.log in
     let last : Takes works.at_end.station.log (one.lines ++ session_line visit.host Stopped) new.station.log = subst Q (serving-stopped visit.end ends.1) one.taken in

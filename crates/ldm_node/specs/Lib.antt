@@ -1,5 +1,6 @@
 pub mod SessionEnds
 pub mod Lines
+pub mod Noted
 pub mod ServingEnds
 pub mod DoorMoments
 pub mod Visits

@@ -6,7 +6,8 @@ use Rattle.ldm_node.specs.declared.stop.NodeStop.{NodeStop}
 use Rattle.ldm_node.specs.SessionEnds.{end_of_receiving}
 use Rattle.ldm_node.specs.Lines.{session_line, unreached_line}
 use Rattle.ldm_node.specs.RequestMoments.{Moment}
-use Rattle.ldm_node.specs.Tries.{Try, Unreached, Session, peer_of}
+use Rattle.ldm_node.specs.Noted.{IsNoted}
+use Rattle.ldm_node.specs.Tries.{Try, Unreached, Session, asking, peer_of}
 use Rattle.ldm_node.specs.RequestWorks.{Works}
 
 -- all tries of a worker, in order
@@ -21,11 +22,21 @@ abbrev pub line_of : RequestView → Try → List ℕ
 line_of request Unreached = unreached_line request.host
 line_of request (Session end before behind) = session_line request.host (end_of_receiving end)
 
+-- The lines that a try writes itself: those of the receiving that its session is, and none where the host was not reached.
+abbrev pub AreOwn : RequestView → Try → List ℕ → Type 0
+AreOwn request Unreached lines = lines ≡ []
+AreOwn request (Session end before behind) lines = IsNoted end (asking request before) behind lines
+
+-- the same for each try, in order
+abbrev pub AreAllOwn : RequestView → List Try → List (List ℕ) → Type 0
+AreAllOwn request [] [] = Unit {0}
+AreAllOwn request (try ∷ tries) (lines ∷ own) = AreOwn request try lines × AreAllOwn request tries own
+AreAllOwn request _ _ = ⊥
+
 -- one line of each try, behind the lines of its own that it wrote
 abbrev pub log_of : RequestView → List Try → (own : List (List ℕ)) → List ℕ
-log_of request [] own = []
-log_of request (try ∷ tries) [] = line_of request try ++ log_of request tries []
 log_of request (try ∷ tries) (lines ∷ own) = lines ++ line_of request try ++ log_of request tries own
+log_of request _ _ = []
 
 -- Each session begins with the last product of the one before, the first one with that which is given.
 abbrev pub Follow : Option (List ℕ) → List Try → Type 0

@@ -6,7 +6,7 @@ ghost use Rattle.ldm_conf.specs.Confs.{RequestView};
 ghost use Rattle.ldm_node.specs.declared.stop.NodeStop.{NodeStop};
 ghost use Rattle.ldm_node.specs.declared.stop.NodeStop.TheVariants.{Done};
 ghost use Rattle.ldm_node.specs.RequestMoments.{Moment};
-ghost use Rattle.ldm_node.specs.TriesTold.{Follow, all_tries, asked_by, log_of};
+ghost use Rattle.ldm_node.specs.TriesTold.{AreAllOwn, Follow, all_tries, asked_by, log_of};
 ghost use Rattle.ldm_node.specs.RequestWorks.{Works};
 
 /// What is told of all tries of a worker, of which there is one at least.
@@ -15,9 +15,10 @@ pub fn what_is_told_of_tries()
     ensures asked { (stop : NodeStop) (request : RequestView) (old new : Moment) (works : Works stop request old new) →
         TellsMore (λ before. before ++ asked_by request (all_tries works)) old.station.dial.asked
         new.station.dial.asked }
-    // Where the gate stopped the worker, its log took one line of each, in order.
+    // Where the gate stopped the worker, its log took one line of each, in order, each behind what its session noted.
     ensures logged { (request : RequestView) (old new : Moment) (works : Works Done request old new) →
-        (own : List (List ℕ)) × Takes old.station.log (log_of request (all_tries works) own) new.station.log }
+        (own : List (List ℕ)) × AreAllOwn request (all_tries works) own
+        × Takes old.station.log (log_of request (all_tries works) own) new.station.log }
     // Each session begins behind the last product of the one before.
     ensures resumed { (stop : NodeStop) (request : RequestView) (old new : Moment)
         (works : Works stop request old new) →

@@ -20,9 +20,9 @@ pub fn what_is_told_of_visits()
     ensures came { (stop : NodeStop) (rules : Rules) (sessions : ℕ) (old new : Moment)
         (works : Works stop rules sessions old new) →
         new.station.door.hosts ≡ option_map (λ before. before ++ hosts_of (all_visits works)) old.station.door.hosts }
-    // Where the worker is done, its log took one line of each, in order.
+    // Where the worker is done, its log took one line of each, in order, each behind what its session wrote itself.
     ensures logged { (rules : Rules) (sessions : ℕ) (old new : Moment) (works : Works Done rules sessions old new) →
-        (own : List (List ℕ)) × AreAllOwn (all_visits works) own
+        (own : List (List ℕ)) × AreAllOwn rules (all_visits works) own
         × Takes old.station.log (log_of (all_visits works) own) new.station.log }
     // Where the gate stopped the last one, the last line says so.
     ensures stopped { (rules : Rules) (sessions : ℕ) (old new : Moment) (visit : Visit)
