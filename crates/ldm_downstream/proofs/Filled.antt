@@ -12,11 +12,12 @@ use Rattle.ldm_rpc.specs.Reading.{Reading, after, bytes_taken, is_faulty, is_who
 use Rattle.ldm_rpc.specs.Streams.{Placed, Position, forgets, given, in_hand, records_in}
 use Rattle.ldm_rpc.proofs.CallerLemmas.{reads_all, reads_more, reads_none}
 use Rattle.ldm_rpc.proofs.Joined.{forgets_none, given_none}
-use Rattle.ldm_session.proofs.CallerLemmas.{Exchanged-gave, Exchanged-nothing}
+use Rattle.ldm_session.proofs.CallerLemmas.{Exchanged-gave}
 use Rattle.ldm_session.specs.declared.limits.TheConstants.{LONGEST_STREAM}
 use Rattle.ldm_shared.specs.Passes.{PassView}
 use Rattle.ldm_intake.specs.declared.end.RecvEnd.{RecvEnd}
 use Rattle.ldm_intake.specs.declared.end.RecvEnd.TheVariants.{LinkFault, StreamLimit}
+use Rattle.ldm_downstream.specs.declared.limits.TheConstants.{LONGEST_PIECE}
 use Rattle.ldm_downstream.specs.Filling.{Came, Fills}
 use Rattle.ldm_downstream.specs.Pieces.{Piece, arrived}
 use Rattle.ldm_downstream.specs.Pushing.{FailsAt, Finishes}
@@ -26,10 +27,10 @@ use Rattle.ldm_downstream.specs.Sessions.{HasCome, RunsOn, RunsOut, settled}
 use Rattle.ldm_downstream.specs.Turns.{TakesAll}
 use Rattle.ldm_downstream.proofs.Cut.{all-within, came-behind}
 use Rattle.ldm_downstream.proofs.Followed.{takes-none}
-use Rattle.ldm_downstream.proofs.Linked.{Passed-piece, TakesBytes-nothing}
+use Rattle.ldm_downstream.proofs.Rounds.{round-written}
 use Rattle.ldm_downstream.proofs.Passing.{below-limit, piece-none, sound-of}
 use Rattle.ldm_downstream.proofs.PieceEnds.{takes-continues}
-use Rattle.ldm_downstream.proofs.SessionTurns.{turn-ended, turn-failed}
+use Rattle.ldm_downstream.proofs.SessionTurns.{nothing-written, turn-ended, turn-failed}
 
 -- where a reader stands behind bytes that complete no record
 abbrev pub stands-behind : Position → List ℕ → Position
@@ -49,20 +50,22 @@ completes-none p bytes ready all not =
 
 -- a filler put bytes that a link gave, or none
 pub fills : (got : Got) (p : Position) (r : Reading) (most n : ℕ) (old new : LinkRecord) → is_whole p.reading ≡ false → IsFilled p.reading r most n
-    → p.came + most < LONGEST_STREAM → Came got (filled p.reading r) old new → Fills got p (record { reading = r; begins = p.begins; came = p.came + n }) old new
-fills got p r most n old new ready is few came =
+    → p.came + most < LONGEST_STREAM → most ≤ LONGEST_PIECE → Came got (filled p.reading r) old new → Fills got p (record { reading = r; begins = p.begins; came = p.came + n }) old new
+fills got p r most n old new ready is room few came =
     let bytes = filled p.reading r in
     let taken : n ≡ bytes_taken p.reading bytes = is.taken in
     let within : n ≤ most = is.within in
     let none = completes-none p bytes ready (sym is.count ∙ is.taken) (sym (ap is_whole is.after) ∙ is.unended) in
+    let count : n ≡ length bytes = is.count in
     record {
       bytes = bytes;
       came = came;
+      few = omega (arith, within, few, count);
       no_record = none.0;
       hand_is = ap (λ (s : Reading). record { reading = s; begins = p.begins; came = p.came + n }) is.after
           ∙ ap (λ (k : ℕ). record { reading = after p.reading bytes; begins = p.begins; came = p.came + k }) taken ∙ none.1;
       sound = is.sound;
-      below = omega (arith, within, few);
+      below = omega (arith, within, room);
     }
 
 -- ---- a receiver
@@ -131,19 +134,14 @@ turn-filled n now receiver is_now pass old new came same live log moment =
     let come : HasCome [] piece old new = record {
       given = bytes;
       all = refl;
+      few = came.few;
       exchanged = Exchanged-gave old.link new.link bytes came.came.2;
+      gave = ap (λ (l : LinkRecord). l.passed) came.came.2.1;
       faults = ap (λ (l : LinkRecord). l.faults) came.came.2.1;
       log = log;
       moment = moment;
     } in
-    record {
-      at = a;
-      advances = record {
-        pieces = piece ∷ [];
-        continues = takes-continues p q (piece ∷ []) a a taken.takes (sym (ap end_by_bytes taken.hand_is) ∙ taken.goes_on) taken.hand_is;
-        passed = Passed-piece [] piece [] [] old new new come refl (record { exchanged = Exchanged-nothing new.link new.link refl refl; logged = TakesBytes-nothing new.log new.log refl });
-      };
-      receiving = ap (λ (r : ReceiverView). r.receiving) (sym same);
-      pass_is = refl;
-      live = ap (λ (r : ReceiverView). r.end) same ∙ live;
-    }
+    let continues = takes-continues p q (piece ∷ []) a a taken.takes (sym (ap end_by_bytes taken.hand_is) ∙ taken.goes_on) taken.hand_is in
+    let receiving : receiver.receiving ≡ is_now.receiving = ap (λ (r : ReceiverView). r.receiving) (sym same) in
+    round-written None [] piece p is_now pass receiver.receiving pass a old new new (ap (λ (r : ReceiverView). r.end) same ∙ live) receiving refl continues come refl
+    (nothing-written new)

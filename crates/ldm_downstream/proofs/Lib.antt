@@ -5,6 +5,7 @@ pub mod Found
 pub mod Running
 pub mod Ending
 pub mod Passing
+pub mod InTurn
 pub mod Linked
 pub mod Rounds
 pub mod Written

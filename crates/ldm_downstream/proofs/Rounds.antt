@@ -1,5 +1,5 @@
 -- How a turn of a receiving over a link leaves it.
-use Rattle.std.proofs.Common.{◌≡◌, ℕ, Bool, true, false, List, [], ◌∷◌, Option, Some, None, inl, inr, refl, ap, sym, subst, ◌∙◌}
+use Rattle.std.proofs.Common.{◌≡◌, ℕ, Bool, true, false, List, [], ◌∷◌, ◌++◌, Option, Some, None, inl, inr, refl, ap, sym, subst, ◌∙◌}
 use Rattle.std.specs.Prelude.{if◌then◌else◌}
 use Rattle.std.proofs.lemmas.List.{append-nil}
 use Rattle.ldm_rpc.specs.Streams.{Position}
@@ -12,12 +12,15 @@ use Rattle.ldm_intake.specs.TakesRecord.{Standing}
 use Rattle.ldm_downstream.specs.Pieces.{Piece}
 use Rattle.ldm_downstream.specs.ReceiverView.{ReceiverView}
 use Rattle.ldm_downstream.specs.Received.{at_stream_end, is_edge}
-use Rattle.ldm_downstream.specs.Pushing.{Continues, EndsEarly, Ends, Pushes, ClosesIf, FailsAt, is_worn}
-use Rattle.ldm_downstream.specs.Receives.{Comes, Passed, IsPart, Cause, HasEnded, Receives, is_whole_end}
-use Rattle.ldm_downstream.specs.Sessions.{Advances, IsFront, Rounds, RunsOn, RunsOut, settled}
+use Rattle.ldm_downstream.specs.Pushing.{Continues, EndsEarly, EndsWhole, Ends, Pushes, ClosesIf, FailsAt, is_worn}
+use Rattle.ldm_downstream.specs.Answering.{TimedRound, piece_of, place_of, rounds_of}
+use Rattle.ldm_downstream.specs.InTurn.{sent_in}
+use Rattle.ldm_downstream.specs.Receives.{AnswersInTurn, Comes, Passed, IsPart, Cause, HasEnded, Receives, is_first_sent, is_whole_end}
+use Rattle.ldm_downstream.specs.Sessions.{Advances, HasCome, IsFront, Rounds, RunsOn, RunsOut, Writes, settled}
 use Rattle.ldm_downstream.proofs.PieceEnds.{closed_at}
 use Rattle.ldm_downstream.proofs.Ending.{in_front_of, anew, comes-stream, comes-fault, comes-ends, early-whole, end-worn}
-use Rattle.ldm_downstream.proofs.Linked.{Advances-then, Receives-then}
+use Rattle.ldm_downstream.proofs.InTurn.{rounds-none}
+use Rattle.ldm_downstream.proofs.Linked.{Advances-then, IsPart-equal, Passed-piece, Receives-then, round-of}
 
 cause-ends : (end : RecvEnd) (pieces : List Piece) (p : Position) (a b : Standing) (old new : SessionRecord) → Ends end pieces p a b → Cause end b.pass old new
 cause-ends (BadFrame at) pieces p a b old new ends = tt
@@ -30,40 +33,123 @@ cause-ends (Truncated at) pieces p a b old new ends = absurd ends
 cause-ends LinkFault pieces p a b old new ends = absurd ends
 cause-ends LogFault pieces p a b old new ends = absurd ends
 
-IsPart-all : (whole : Bool) (xs : List ℕ) → IsPart whole xs xs
-IsPart-all true xs = refl
-IsPart-all false xs = ([], append-nil xs)
-
 pub front-all : (xs : List ℕ) → IsFront xs xs
 front-all xs = record { rest = []; is = append-nil xs }
 
 pub front-none : (xs : List ℕ) → IsFront [] xs
 front-none xs = record { rest = xs; is = refl }
 
+-- a front is what is asked for at an end that is not whole
+part-front : (end : RecvEnd) (part all : List ℕ) → is_whole_end end ≡ false → IsFront part all → IsPart (is_whole_end end) part all
+part-front end part all is front = subst (λ (w : Bool). IsPart w part all) (sym is) (front.rest, front.is)
+
+-- ---- one piece came
+
+as-round : (ahead given sent : List ℕ) (piece : Piece) → piece.bytes ≡ ahead ++ given → piece ≡ piece_of ahead (round-of piece given sent)
+as-round ahead given sent piece all = ap (λ (bytes : List ℕ). record { now = piece.now; bytes = bytes }) all
+
+-- the receiving goes on behind it
+pub advances-piece : (ahead : List ℕ) (piece : Piece) (p q : Position) (s : Receiving) (v : PassView) (b : Standing) (begins before after : SessionRecord)
+    → HasCome ahead piece begins before → after.clock ≡ before.clock → Writes b.out b.notes before.link after.link before.log after.log
+    → Continues (piece ∷ []) p q (settled s v) b → Advances ahead p q (settled s v) b begins after
+unfolding Passed-piece
+advances-piece ahead piece p q s v b begins before after come clock writes continues =
+    let P : Piece → Type 0 = λ x. Continues (x ∷ []) p q (settled s v) b in
+    record {
+      pieces = piece ∷ [];
+      continues = continues;
+      passed = Passed-piece ahead piece b.out b.notes begins before after come clock writes;
+      first_is = refl;
+      in_turn = (
+        place_of q b,
+        record { short = come.few; notes = b.notes; continues = subst P (as-round ahead come.given b.out piece come.all) continues },
+        refl,
+      );
+    }
+
+-- it came to an end with that piece
+pub receives-piece : (ahead : List ℕ) (piece : Piece) (p : Position) (s : Receiving) (v : PassView) (sent lines : List ℕ) (begins before after : SessionRecord)
+    → HasCome ahead piece begins before → after.clock ≡ before.clock → Writes sent lines before.link after.link before.log after.log
+    → (end : RecvEnd) (c : Standing) → Comes end (piece ∷ []) p (settled s v) c → IsPart (is_whole_end end) sent c.out → IsPart (is_whole_end end) lines c.notes
+    → Cause end c.pass begins after → Receives end ahead p (settled s v) c begins after
+unfolding Passed-piece
+receives-piece ahead piece p s v sent lines begins before after come clock writes end c comes sent_is lines_are cause =
+    let P : Piece → Type 0 = λ x. Comes end (x ∷ []) p (settled s v) c in
+    record {
+      pieces = piece ∷ [];
+      comes = comes;
+      sent = sent;
+      lines = lines;
+      passed = Passed-piece ahead piece sent lines begins before after come clock writes;
+      sent_is = sent_is;
+      lines_are = lines_are;
+      cause = cause;
+      first_is = refl;
+      in_turn = record {
+        front = [];
+        last = round-of piece come.given sent ∷ [];
+        all = refl;
+        between = place_of p (settled s v);
+        takes = refl;
+        at_end = c;
+        ends = record { short = come.few; comes = subst P (as-round ahead come.given sent piece come.all) comes; sent_is = sent_is };
+        receiving = refl;
+        pass = refl;
+      };
+    }
+
+-- ---- no piece came
+
+-- It came to an end with none. What it came to, where all that was owed was sent before, is the same.
+pub receives-none : (p : Position) (a c d : Standing) (sent lines : List ℕ) (old new : SessionRecord) → Passed [] [] sent lines old new → (end : RecvEnd)
+    → Comes end [] p a c → Comes end [] p (anew a) d → d.receiving ≡ c.receiving → d.pass ≡ c.pass → c.out ≡ a.out
+    → IsPart (is_whole_end end) sent a.out → IsPart (is_whole_end end) lines c.notes → Cause end c.pass old new → Receives end [] p a c old new
+receives-none p a c d sent lines old new passed end comes anew_comes receiving pass same sent_is lines_are cause =
+    let none = rounds-none passed.rounds passed.pieces_are in
+    let P : List TimedRound → Type 0 = λ rounds. AnswersInTurn end [] rounds (place_of p a) c in
+    let Q : List TimedRound → Type 0 = λ rounds. IsPart (is_first_sent end rounds) passed.first a.out in
+    let first : sent ≡ passed.first = passed.sent_is ∙ ap (λ (rounds : List TimedRound). sent_in (rounds_of passed.first rounds)) none ∙ append-nil passed.first in
+    record {
+      pieces = [];
+      comes = comes;
+      sent = sent;
+      lines = lines;
+      passed = passed;
+      sent_is = subst (λ (o : List ℕ). IsPart (is_whole_end end) sent o) (sym same) sent_is;
+      lines_are = lines_are;
+      cause = cause;
+      first_is = subst Q (sym none) (subst (λ (o : List ℕ). IsPart (is_whole_end end) o a.out) first sent_is);
+      in_turn = subst P (sym none) (record {
+        front = [];
+        last = [];
+        all = refl;
+        between = place_of p a;
+        takes = refl;
+        at_end = d;
+        ends = anew_comes;
+        receiving = receiving;
+        pass = pass;
+      });
+    }
+
 -- ---- all was written
 
-pub round-written : (end : Option RecvEnd) (ahead : List ℕ) (piece : Piece) (p : Position) (receiver : ReceiverView) (pass : PassView) (a b : Standing) (old new : SessionRecord)
-    → receiver.end ≡ end → b.receiving ≡ receiver.receiving → b.pass ≡ pass → Pushes end piece p receiver.hand a b → Passed ahead (piece ∷ []) b.out b.notes old new
-    → Rounds end ahead receiver pass p a old new
-round-written None ahead piece p receiver pass a b old new live receiving pass_is pushes passed = record {
+pub round-written : (end : Option RecvEnd) (ahead : List ℕ) (piece : Piece) (p : Position) (receiver : ReceiverView) (pass : PassView) (s : Receiving) (v : PassView) (b : Standing)
+    (begins before after : SessionRecord) → receiver.end ≡ end → b.receiving ≡ receiver.receiving → b.pass ≡ pass → Pushes end piece p receiver.hand (settled s v) b
+    → HasCome ahead piece begins before → after.clock ≡ before.clock → Writes b.out b.notes before.link after.link before.log after.log
+    → Rounds end ahead receiver pass p (settled s v) begins after
+round-written None ahead piece p receiver pass s v b begins before after live receiving pass_is pushes come clock writes = record {
   at = b;
-  advances = record { pieces = piece ∷ []; continues = pushes; passed = passed };
+  advances = advances-piece ahead piece p receiver.hand s v b begins before after come clock writes pushes;
   receiving = receiving;
   pass_is = pass_is;
   live = live;
 }
-round-written (Some end) ahead piece p receiver pass a b old new live receiving pass_is pushes passed = record {
+round-written (Some end) ahead piece p receiver pass s v b begins before after live receiving pass_is pushes come clock writes = record {
   at_end = b;
-  receives = record {
-    pieces = piece ∷ [];
-    comes = comes-ends end (piece ∷ []) p a b pushes;
-    sent = b.out;
-    lines = b.notes;
-    passed = passed;
-    sent_is = IsPart-all (is_whole_end end) b.out;
-    lines_are = IsPart-all (is_whole_end end) b.notes;
-    cause = cause-ends end (piece ∷ []) p a b old new pushes;
-  };
+  receives = receives-piece ahead piece p s v b.out b.notes begins before after come clock writes end b (comes-ends end (piece ∷ []) p (settled s v) b pushes)
+      (IsPart-equal (is_whole_end end) b.out b.out refl) (IsPart-equal (is_whole_end end) b.notes b.notes refl)
+      (cause-ends end (piece ∷ []) p (settled s v) b begins after pushes);
   receiving = receiving;
   pass_is = pass_is;
 }
@@ -82,71 +168,88 @@ link_fault = record { early = λ pieces p a b early. early; part = refl; not_wor
 pub log_fault : IsFault LogFault
 log_fault = record { early = λ pieces p a b early. early; part = refl; not_worn = refl }
 
-module _ (ahead : List ℕ) (pieces : List Piece) (p : Position) (a : Standing) (sent lines : List ℕ) (old new : SessionRecord) (passed : Passed ahead pieces sent lines old new) where
-  receives-front : (end : RecvEnd) (c : Standing) → is_whole_end end ≡ false → Comes end pieces p a c → IsFront sent c.out → IsFront lines c.notes → Cause end c.pass old new
-      → Receives end ahead p a c old new
-  receives-front end c part comes front_out front_lines cause = record {
-    pieces = pieces;
-    comes = comes;
-    sent = sent;
-    lines = lines;
-    passed = passed;
-    sent_is = subst (λ (w : Bool). IsPart w sent c.out) (sym part) (front_out.rest, front_out.is);
-    lines_are = subst (λ (w : Bool). IsPart w lines c.notes) (sym part) (front_lines.rest, front_lines.is);
-    cause = cause;
-  }
+-- the end that a fault makes of a receiving that went on: neither is whole
+record FaultEnds (fault result : RecvEnd) (pieces : List Piece) (p : Position) (a b : Standing) (s : Receiving) (pass : PassView) (old new : SessionRecord) : Type 0 where
+  comes : Comes result pieces p a (closed_at b s pass)
+  part : is_whole_end result ≡ false
+  cause : Cause result pass old new
 
-  module _ (b : Standing) (front_out : IsFront sent b.out) (front_lines : IsFront lines b.notes) (fault : RecvEnd) (is : IsFault fault) where
-    -- where the receiving went on
-    pub failed-live : (q : Position) (result : RecvEnd) (s : Receiving) (pass : PassView) → Continues pieces p q a b
-        → ClosesIf (is_worn fault) fault result b.receiving s b.pass pass → Cause fault pass old new → Receives result ahead p a (closed_at b s pass) old new
-    failed-live q result s pass continues closes cause =
-        let c = closed_at b s pass in
-        let not : ClosesIf false fault result b.receiving s b.pass pass = subst (λ (w : Bool). ClosesIf w fault result b.receiving s b.pass pass) is.not_worn closes in
-        let comes = comes-fault pieces p q a b s pass continues fault result (is.early pieces p a c) not in
-        elim not [
-          | inl closed ↦ receives-front result c (ap is_whole_end closed.0 ∙ is.part) comes front_out front_lines
-              (subst (λ (e : RecvEnd). Cause e pass old new) (sym closed.0) cause)
-          | inr kept ↦ receives-front result c (ap is_whole_end kept.0) comes front_out front_lines
-              (subst (λ (e : RecvEnd). Cause e pass old new) (sym kept.0) kept.1.worn)
-        ]
+fault-ends : (fault result : RecvEnd) (pieces : List Piece) (p q : Position) (a b : Standing) (s : Receiving) (pass : PassView) (old new : SessionRecord) → IsFault fault
+    → Continues pieces p q a b → ClosesIf (is_worn fault) fault result b.receiving s b.pass pass → Cause fault pass old new → FaultEnds fault result pieces p a b s pass old new
+fault-ends fault result pieces p q a b s pass old new is continues closes cause =
+    let c = closed_at b s pass in
+    let not : ClosesIf false fault result b.receiving s b.pass pass = subst (λ (w : Bool). ClosesIf w fault result b.receiving s b.pass pass) is.not_worn closes in
+    let comes = comes-fault pieces p q a b s pass continues fault result (is.early pieces p a c) not in
+    elim not [
+      | inl closed ↦ record {
+        comes = comes;
+        part = ap is_whole_end closed.0 ∙ is.part;
+        cause = subst (λ (e : RecvEnd). Cause e pass old new) (sym closed.0) cause;
+      }
+      | inr kept ↦ record {
+        comes = comes;
+        part = ap is_whole_end kept.0;
+        cause = subst (λ (e : RecvEnd). Cause e pass old new) (sym kept.0) kept.1.worn;
+      }
+    ]
 
-    -- where the bytes ended it before
-    pub failed-over : (end : RecvEnd) → Ends end pieces p a b → Cause fault b.pass old new → Receives (if is_worn end then Worn else fault) ahead p a b old new
-    failed-over (BadFrame at) ends cause = receives-front fault b is.part (is.early pieces p a b (early-whole (BadFrame at) pieces p a b ends)) front_out front_lines cause
-    failed-over (Refused answer) ends cause = receives-front fault b is.part (is.early pieces p a b (early-whole (Refused answer) pieces p a b ends)) front_out front_lines cause
-    failed-over StreamLimit ends cause = receives-front fault b is.part (is.early pieces p a b (early-whole StreamLimit pieces p a b ends)) front_out front_lines cause
-    failed-over OutOfMemory ends cause = receives-front fault b is.part (is.early pieces p a b ends) front_out front_lines cause
-    failed-over Worn ends cause = receives-front Worn b refl ends front_out front_lines ends.worn
-    failed-over Ended ends cause = absurd ends
-    failed-over (Truncated at) ends cause = absurd ends
-    failed-over LinkFault ends cause = absurd ends
-    failed-over LogFault ends cause = absurd ends
+module _ (ahead : List ℕ) (piece : Piece) (p : Position) (s : Receiving) (v : PassView) (sent lines : List ℕ) (begins before after : SessionRecord)
+    (come : HasCome ahead piece begins before) (clock : after.clock ≡ before.clock) (writes : Writes sent lines before.link after.link before.log after.log)
+    (b : Standing) (front_out : IsFront sent b.out) (front_lines : IsFront lines b.notes) (fault : RecvEnd) (is : IsFault fault) where
+  receives-front : (end : RecvEnd) (c : Standing) → is_whole_end end ≡ false → Comes end (piece ∷ []) p (settled s v) c → c.out ≡ b.out → c.notes ≡ b.notes
+      → Cause end c.pass begins after → Receives end ahead p (settled s v) c begins after
+  receives-front end c part comes out_is notes_are cause =
+      receives-piece ahead piece p s v sent lines begins before after come clock writes end c comes
+      (part-front end sent c.out part (subst (λ (o : List ℕ). IsFront sent o) (sym out_is) front_out))
+      (part-front end lines c.notes part (subst (λ (o : List ℕ). IsFront lines o) (sym notes_are) front_lines)) cause
 
--- a fault behind a piece
-pub round-failed : (end : Option RecvEnd) (fault result : RecvEnd) (ahead : List ℕ) (piece : Piece) (p : Position) (a b : Standing) (was is_now : ReceiverView) (pass : PassView)
-    (sent lines : List ℕ) (old new : SessionRecord) → IsFault fault → Passed ahead (piece ∷ []) sent lines old new → IsFront sent b.out → IsFront lines b.notes
-    → b.receiving ≡ was.receiving → Pushes end piece p was.hand a b → FailsAt end fault result was is_now b.pass pass → Cause fault pass old new
-    → RunsOut result ahead is_now pass p a old new
-round-failed None fault result ahead piece p a b was is_now pass sent lines old new is passed front_out front_lines receiving pushes fails cause =
-    let closes = subst (λ (r : Receiving). ClosesIf (is_worn fault) fault result r is_now.receiving b.pass pass) (sym receiving) fails.closes in
-    record {
-      at_end = closed_at b is_now.receiving pass;
-      receives = failed-live ahead (piece ∷ []) p a sent lines old new passed b front_out front_lines fault is was.hand result is_now.receiving pass pushes closes cause;
-      receiving = refl;
-      pass_is = refl;
-    }
-round-failed (Some end) fault result ahead piece p a b was is_now pass sent lines old new is passed front_out front_lines receiving pushes fails cause =
-    let same : b.pass ≡ pass = sym fails.2 in
-    record {
-      at_end = b;
-      receives = subst (λ (e : RecvEnd). Receives e ahead p a b old new) (sym fails.0)
-          (failed-over ahead (piece ∷ []) p a sent lines old new passed b front_out front_lines fault is end pushes (subst (λ (v : PassView). Cause fault v old new) (sym same) cause));
-      receiving = receiving ∙ sym (ap (λ (v : ReceiverView). v.receiving) fails.1);
-      pass_is = same;
-    }
+  -- where the receiving went on
+  failed-live : (q : Position) (result : RecvEnd) (t : Receiving) (pass : PassView) → Continues (piece ∷ []) p q (settled s v) b
+      → ClosesIf (is_worn fault) fault result b.receiving t b.pass pass → Cause fault pass begins after
+      → Receives result ahead p (settled s v) (closed_at b t pass) begins after
+  failed-live q result t pass continues closes cause =
+      let ends = fault-ends fault result (piece ∷ []) p q (settled s v) b t pass begins after is continues closes cause in
+      receives-front result (closed_at b t pass) ends.part ends.comes refl refl ends.cause
 
--- ---- no piece came
+  early-front : (end : RecvEnd) → EndsWhole end (piece ∷ []) p (settled s v) b → Cause fault b.pass begins after → Receives fault ahead p (settled s v) b begins after
+  early-front end whole cause =
+      receives-front fault b is.part (is.early (piece ∷ []) p (settled s v) b (early-whole end (piece ∷ []) p (settled s v) b whole)) refl refl cause
+
+  -- where the bytes ended it before
+  failed-over : (end : RecvEnd) → Ends end (piece ∷ []) p (settled s v) b → Cause fault b.pass begins after
+      → Receives (if is_worn end then Worn else fault) ahead p (settled s v) b begins after
+  failed-over (BadFrame at) ends cause = early-front (BadFrame at) ends cause
+  failed-over (Refused answer) ends cause = early-front (Refused answer) ends cause
+  failed-over StreamLimit ends cause = early-front StreamLimit ends cause
+  failed-over OutOfMemory ends cause = receives-front fault b is.part (is.early (piece ∷ []) p (settled s v) b ends) refl refl cause
+  failed-over Worn ends cause = receives-front Worn b refl ends refl refl ends.worn
+  failed-over Ended ends cause = absurd ends
+  failed-over (Truncated at) ends cause = absurd ends
+  failed-over LinkFault ends cause = absurd ends
+  failed-over LogFault ends cause = absurd ends
+
+  -- a fault behind a piece
+  pub round-failed : (end : Option RecvEnd) (result : RecvEnd) (was is_now : ReceiverView) (pass : PassView) → b.receiving ≡ was.receiving → Pushes end piece p was.hand (settled s v) b
+      → FailsAt end fault result was is_now b.pass pass → Cause fault pass begins after → RunsOut result ahead is_now pass p (settled s v) begins after
+  round-failed None result was is_now pass receiving pushes fails cause =
+      let closes = subst (λ (r : Receiving). ClosesIf (is_worn fault) fault result r is_now.receiving b.pass pass) (sym receiving) fails.closes in
+      record {
+        at_end = closed_at b is_now.receiving pass;
+        receives = failed-live was.hand result is_now.receiving pass pushes closes cause;
+        receiving = refl;
+        pass_is = refl;
+      }
+  round-failed (Some end) result was is_now pass receiving pushes fails cause =
+      let same : b.pass ≡ pass = sym fails.2 in
+      record {
+        at_end = b;
+        receives = subst (λ (e : RecvEnd). Receives e ahead p (settled s v) b begins after) (sym fails.0)
+            (failed-over end pushes (subst (λ (u : PassView). Cause fault u begins after) (sym same) cause));
+        receiving = receiving ∙ sym (ap (λ (r : ReceiverView). r.receiving) fails.1);
+        pass_is = same;
+      }
+
+-- ---- the stream ended, or the link failed
 
 cause-edge : (p : Position) (s : Receiving) (pass : PassView) (old new : SessionRecord) (edge : Bool) → is_edge p s ≡ edge → HasEnded old new
     → Cause (at_stream_end p s) pass old new
@@ -154,44 +257,40 @@ cause-edge p s pass old new true edge ended = rw edge ended
 cause-edge p s pass old new false edge ended = rw edge ended
 
 -- the stream ended
-pub round-ended : (p : Position) (a : Standing) (result : RecvEnd) (is_now : ReceiverView) (pass : PassView) (old new : SessionRecord) → Continues [] p p a a
-    → a.out ≡ [] → a.notes ≡ []
-    → ClosesIf (is_worn (at_stream_end p a.receiving)) (at_stream_end p a.receiving) result a.receiving is_now.receiving a.pass pass
-    → Passed [] [] [] [] old new → HasEnded old new → RunsOut result [] is_now pass p a old new
-round-ended p a result is_now pass old new continues no_out no_notes closes passed ended =
-    let end = at_stream_end p a.receiving in
-    let not : ClosesIf false end result a.receiving is_now.receiving a.pass pass =
-    subst (λ (w : Bool). ClosesIf w end result a.receiving is_now.receiving a.pass pass) (end-worn p a.receiving) closes in
+pub round-ended : (p : Position) (s : Receiving) (v : PassView) (result : RecvEnd) (is_now : ReceiverView) (pass : PassView) (old new : SessionRecord)
+    → Continues [] p p (settled s v) (settled s v) → ClosesIf (is_worn (at_stream_end p s)) (at_stream_end p s) result s is_now.receiving v pass
+    → Passed [] [] [] [] old new → HasEnded old new → RunsOut result [] is_now pass p (settled s v) old new
+round-ended p s v result is_now pass old new continues closes passed ended =
+    let a = settled s v in
+    let end = at_stream_end p s in
+    let c = closed_at a is_now.receiving pass in
+    let not : ClosesIf false end result s is_now.receiving v pass = subst (λ (w : Bool). ClosesIf w end result s is_now.receiving v pass) (end-worn p s) closes in
     let cause : Cause result pass old new = elim not [
-      | inl closed ↦ subst (λ (e : RecvEnd). Cause e pass old new) (sym closed.0) (cause-edge p a.receiving pass old new (is_edge p a.receiving) refl ended)
+      | inl closed ↦ subst (λ (e : RecvEnd). Cause e pass old new) (sym closed.0) (cause-edge p s pass old new (is_edge p s) refl ended)
       | inr kept ↦ subst (λ (e : RecvEnd). Cause e pass old new) (sym kept.0) kept.1.worn
     ] in
+    let comes = comes-stream [] p p a a is_now.receiving pass continues result closes in
     record {
-      at_end = closed_at a is_now.receiving pass;
-      receives = record {
-        pieces = [];
-        comes = comes-stream [] p p a a is_now.receiving pass continues result closes;
-        sent = [];
-        lines = [];
-        passed = passed;
-        sent_is = subst (λ (o : List ℕ). IsPart (is_whole_end result) [] o) (sym no_out) (IsPart-all (is_whole_end result) []);
-        lines_are = subst (λ (o : List ℕ). IsPart (is_whole_end result) [] o) (sym no_notes) (IsPart-all (is_whole_end result) []);
-        cause = cause;
-      };
+      at_end = c;
+      receives = receives-none p a c c [] [] old new passed result comes comes refl refl refl
+          (IsPart-equal (is_whole_end result) [] [] refl) (IsPart-equal (is_whole_end result) [] [] refl) cause;
       receiving = refl;
       pass_is = refl;
     }
 
 -- the link failed before a piece came, or what was to be sent before the first one was not sent
 pub round-unfed : (p : Position) (a : Standing) (fault result : RecvEnd) (was is_now : ReceiverView) (pass : PassView) (sent lines : List ℕ) (old new : SessionRecord)
-    → IsFault fault → Continues [] p was.hand a a → was.end ≡ None → a.receiving ≡ was.receiving → Passed [] [] sent lines old new → IsFront sent a.out → IsFront lines a.notes
-    → FailsAt was.end fault result was is_now a.pass pass → Cause fault pass old new → RunsOut result [] is_now pass p a old new
+    → IsFault fault → ((x : Standing) → Continues [] p was.hand x x) → was.end ≡ None → a.receiving ≡ was.receiving → Passed [] [] sent lines old new
+    → IsFront sent a.out → IsFront lines a.notes → FailsAt was.end fault result was is_now a.pass pass → Cause fault pass old new → RunsOut result [] is_now pass p a old new
 round-unfed p a fault result was is_now pass sent lines old new is continues live receiving passed front_out front_lines fails cause =
     let finishes = subst (λ (e : Option RecvEnd). FailsAt e fault result was is_now a.pass pass) live fails in
     let closes = subst (λ (r : Receiving). ClosesIf (is_worn fault) fault result r is_now.receiving a.pass pass) (sym receiving) finishes.closes in
+    let ends = fault-ends fault result [] p was.hand a a is_now.receiving pass old new is (continues a) closes cause in
+    let anew_ends = fault-ends fault result [] p was.hand (anew a) (anew a) is_now.receiving pass old new is (continues (anew a)) closes cause in
     record {
       at_end = closed_at a is_now.receiving pass;
-      receives = failed-live [] [] p a sent lines old new passed a front_out front_lines fault is was.hand result is_now.receiving pass continues closes cause;
+      receives = receives-none p a (closed_at a is_now.receiving pass) (closed_at (anew a) is_now.receiving pass) sent lines old new passed result ends.comes anew_ends.comes
+          refl refl refl (part-front result sent a.out ends.part front_out) (part-front result lines a.notes ends.part front_lines) ends.cause;
       receiving = refl;
       pass_is = refl;
     }

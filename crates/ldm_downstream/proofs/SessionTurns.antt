@@ -1,9 +1,10 @@
 -- The turns of receiving over a link, by what their calls ensure.
 use Rattle.std.proofs.Common.{◌≡◌, ℕ, ◌≤◌, List, [], ◌++◌, length, take, Option, Some, None, refl, ap, sym, subst, ◌∙◌, arith}
 use Rattle.std.specs.Prelude.{IfSome}
-use Rattle.std.proofs.lemmas.List.{append-nil, take-take, take-append-le}
+use Rattle.std.proofs.lemmas.List.{append-nil, length-take, take-take, take-append-le}
 use Rattle.ldm_rpc.specs.Streams.{Position}
 use Rattle.ldm_outside.specs.declared.io.Got.TheVariants.{Bytes, End, Failed}
+use Rattle.ldm_outside.specs.declared.link.Way.TheVariants as way
 use Rattle.ldm_outside.specs.Clock.{ClockRecord, Answers}
 use Rattle.ldm_outside.specs.Gate.{GateRecord}
 use Rattle.ldm_outside.specs.Io.{SinkRecord}
@@ -18,6 +19,7 @@ use Rattle.ldm_intake.specs.Opening.{request_of}
 use Rattle.ldm_intake.specs.Receiving.{Receiving}
 use Rattle.ldm_intake.specs.Room.{records_of}
 use Rattle.ldm_intake.specs.TakesRecord.{Standing, stands}
+use Rattle.ldm_downstream.specs.declared.limits.TheConstants.{LONGEST_PIECE}
 use Rattle.ldm_downstream.specs.Pieces.{Piece, beginning}
 use Rattle.ldm_downstream.specs.ReceiverView.{ReceiverView}
 use Rattle.ldm_downstream.specs.Received.{GoesOnAt, at_stream_end, end_by_bytes}
@@ -25,7 +27,8 @@ use Rattle.ldm_downstream.specs.Pushing.{Continues, Pushes, PushesAt, FailsAt, F
 use Rattle.ldm_downstream.specs.Receives.{Passed, at_first}
 use Rattle.ldm_downstream.specs.Sessions.{HasCome, Writes, WritesAt, Rounds, RunsOn, RunsOut, settled}
 use Rattle.ldm_downstream.proofs.Ending.{continues-none}
-use Rattle.ldm_downstream.proofs.Linked.{Passed-piece, Passed-nothing}
+use Rattle.ldm_downstream.proofs.InTurn.{passes-none, passes-sent}
+use Rattle.ldm_downstream.proofs.Linked.{Passed-nothing, TakesBytes-nothing}
 use Rattle.ldm_downstream.proofs.Rounds.{front-all, front-none, link_fault, log_fault, round-written, round-ended, round-unfed}
 use Rattle.ldm_downstream.proofs.Written.{failed-round}
 
@@ -56,24 +59,26 @@ module _ (now : ℕ) (bytes : List ℕ) (old mid was : ReceiverView) (pass betwe
       → FailsAt was.end fault result was is_now between after → RunsOut result ahead is_now after old.hand (settled old.receiving pass) begins later
   unfolding piece-of
   take-failed fault result is_now after writes fails =
-      failed-round fault was.end result ahead piece-of old.hand (settled old.receiving pass) (stands was.receiving between out2 notes2) was is_now after begins before later
+      failed-round fault was.end result ahead piece-of old.hand old.receiving pass (stands was.receiving between out2 notes2) was is_now after begins before later
       come clock writes refl here fails
 
   pub take-written : (result : Option RecvEnd) → result ≡ was.end → Writes out2 notes2 before.link later.link before.log later.log
       → Rounds result ahead was between old.hand (settled old.receiving pass) begins later
   unfolding piece-of
   take-written result is writes =
-      round-written result ahead piece-of old.hand was between (settled old.receiving pass) (stands was.receiving between out2 notes2) begins later (sym is) refl refl
+      round-written result ahead piece-of old.hand was between old.receiving pass (stands was.receiving between out2 notes2) begins before later (sym is) refl refl
       (subst (λ (e : Option RecvEnd). Pushes e piece-of old.hand was.hand (settled old.receiving pass) (stands was.receiving between out2 notes2)) (sym is) here)
-      (Passed-piece ahead piece-of out2 notes2 begins before later come clock writes)
+      come clock writes
 
 -- ---- what the link gave
 
-pub piece-came : (n : ℕ) (into : List ℕ) (now : ℕ) (old new : SessionRecord) → RecvGives (Bytes n) into old.link new.link → new.log ≡ old.log → Answers now old.clock new.clock
-    → HasCome [] (record { now = now; bytes = take n into }) old new
-piece-came n into now old new gives log answered = record {
+pub piece-came : (n : ℕ) (into : List ℕ) (now : ℕ) (old new : SessionRecord) → n ≤ LONGEST_PIECE → RecvGives (Bytes n) into old.link new.link → new.log ≡ old.log
+    → Answers now old.clock new.clock → HasCome [] (record { now = now; bytes = take n into }) old new
+piece-came n into now old new few gives log answered = record {
   given = take n into;
   all = refl;
+  few = omega (arith, length-take n into);
+  gave = ap (λ (l : LinkRecord). l.passed) gives.2.1;
   exchanged = Exchanged-gave old.link new.link (take n into) gives.2;
   faults = ap (λ (l : LinkRecord). l.faults) gives.2.1;
   log = log;
@@ -86,10 +91,20 @@ pub all-ahead : (bytes : List ℕ) (now : ℕ) (old new : SessionRecord) → new
 all-ahead bytes now old new link log answered = record {
   given = [];
   all = sym (append-nil bytes);
+  few = omega arith;
+  gave = ap (λ (l : LinkRecord). l.passed) link ∙ passes-none way.Given old.link;
   exchanged = Exchanged-nothing old.link new.link (ap (λ (l : LinkRecord). l.passed) link) (ap (λ (l : LinkRecord). l.left) link);
   faults = ap (λ (l : LinkRecord). l.faults) link;
   log = log;
   moment = answered;
+}
+
+-- nothing was sent and written
+pub nothing-written : (now : SessionRecord) → Writes [] [] now.link now.link now.log now.log
+nothing-written now = record {
+  exchanged = Exchanged-nothing now.link now.link refl refl;
+  sends = passes-none way.Sent now.link;
+  logged = TakesBytes-nothing now.log now.log refl;
 }
 
 -- what came stands at the front of the buffer
@@ -107,7 +122,7 @@ pub turn-ended : (into : List ℕ) (result : RecvEnd) (receiver is_now : Receive
 turn-ended into result receiver is_now pass after old new gives log clock live goes finishes =
     let left : new.link.left ≡ old.link.left = ap (λ (l : LinkRecord). l.left) gives.2 in
     let a = settled receiver.receiving pass in
-    round-ended receiver.hand a result is_now after old new (live-at receiver.hand receiver.end a live goes) refl refl finishes.closes
+    round-ended receiver.hand receiver.receiving pass result is_now after old new (live-at receiver.hand receiver.end a live goes) finishes.closes
     (Passed-nothing old new (ap (λ (l : LinkRecord). l.passed) gives.2) left clock (ap (λ (s : SinkRecord). s.written) log))
     (gives.0, subst (λ (o : Option (List ℕ)). IfSome o (λ rest. rest ≡ [])) (sym left) gives.1)
 
@@ -118,27 +133,38 @@ pub turn-failed : (into : List ℕ) (result : RecvEnd) (receiver is_now : Receiv
     → RunsOut result [] is_now after receiver.hand (settled receiver.receiving pass) old new
 turn-failed into result receiver is_now pass after old new gives log clock live goes fails =
     let a = settled receiver.receiving pass in
-    round-unfed receiver.hand a LinkFault result receiver is_now after [] [] old new link_fault (live-at receiver.hand receiver.end a live goes) live refl
+    round-unfed receiver.hand a LinkFault result receiver is_now after [] [] old new link_fault (λ x. live-at receiver.hand receiver.end x live goes) live refl
     (Passed-nothing old new (ap (λ (l : LinkRecord). l.passed) gives.1) (ap (λ (l : LinkRecord). l.left) gives.1) clock (ap (λ (s : SinkRecord). s.written) log))
     (front-none []) (front-none []) fails gives.0
 
 -- ---- the request
 
-Passed-written : (sent lines : List ℕ) (old new : SessionRecord) → Writes sent lines old.link new.link old.log new.log → new.clock ≡ old.clock → Passed [] [] sent lines old new
+unfoldable Passed-written : (sent lines : List ℕ) (old new : SessionRecord) → Writes sent lines old.link new.link old.log new.log → new.clock ≡ old.clock → Passed [] [] sent lines old new
 Passed-written sent lines old new writes clock =
     let P : ClockRecord → Type 0 = λ c. AnsweredAll [] old.clock c in
-    record { given = []; all = refl; exchanged = writes.exchanged; moments = subst P (sym clock) (AnsweredAll-nothing old.clock); logged = writes.logged }
+    record {
+      given = [];
+      all = refl;
+      exchanged = writes.exchanged;
+      moments = subst P (sym clock) (AnsweredAll-nothing old.clock);
+      logged = writes.logged;
+      first = sent;
+      rounds = [];
+      pieces_are = refl;
+      sent_is = sym (append-nil sent);
+      in_rounds = passes-sent sent old.link new.link writes.sends;
+    }
 
 -- it was not sent
 pub request-failed : (fault result : RecvEnd) (a : Standing) (was is_now : ReceiverView) (pass after : PassView) (old new : SessionRecord)
     → WritesAt (Some fault) a.out a.notes old.link new.link old.log new.log → new.clock ≡ old.clock → was.end ≡ None → GoesOnAt was.end was.hand → a.receiving ≡ was.receiving → a.pass ≡ pass
     → FailsAt was.end fault result was is_now pass after → RunsOut result [] is_now after was.hand a old new
 request-failed LinkFault result a was is_now pass after old new writes clock live goes receiving pass_is fails =
-    round-unfed was.hand a LinkFault result was is_now after writes.sent [] old new link_fault (live-at was.hand was.end a live goes) live receiving
+    round-unfed was.hand a LinkFault result was is_now after writes.sent [] old new link_fault (λ x. live-at was.hand was.end x live goes) live receiving
     (Passed-written writes.sent [] old new writes.writes clock) writes.front (front-none a.notes)
     (subst (λ (v : PassView). FailsAt was.end LinkFault result was is_now v after) (sym pass_is) fails) writes.rose
 request-failed LogFault result a was is_now pass after old new writes clock live goes receiving pass_is fails =
-    round-unfed was.hand a LogFault result was is_now after a.out writes.lines old new log_fault (live-at was.hand was.end a live goes) live receiving
+    round-unfed was.hand a LogFault result was is_now after a.out writes.lines old new log_fault (λ x. live-at was.hand was.end x live goes) live receiving
     (Passed-written a.out writes.lines old new writes.writes clock) (front-all a.out) writes.front
     (subst (λ (v : PassView). FailsAt was.end LogFault result was is_now v after) (sym pass_is) fails) writes.rose
 request-failed Ended result a was is_now pass after old new writes clock live goes receiving pass_is fails = absurd writes
@@ -152,9 +178,16 @@ request-failed OutOfMemory result a was is_now pass after old new writes clock l
 -- it was sent
 pub request-sent : (a : Standing) (receiver : ReceiverView) (pass : PassView) (old new : SessionRecord) → Writes a.out a.notes old.link new.link old.log new.log → new.clock ≡ old.clock
     → receiver.end ≡ None → end_by_bytes receiver.hand ≡ None → a.receiving ≡ receiver.receiving → a.pass ≡ pass → RunsOn [] receiver pass receiver.hand a old new
+unfolding Passed-written
 request-sent a receiver pass old new writes clock live goes receiving pass_is = record {
   at = a;
-  advances = record { pieces = []; continues = continues-none receiver.hand a goes; passed = Passed-written a.out a.notes old new writes clock };
+  advances = record {
+    pieces = [];
+    continues = continues-none receiver.hand a goes;
+    passed = Passed-written a.out a.notes old new writes clock;
+    first_is = refl;
+    in_turn = refl;
+  };
   receiving = receiving;
   pass_is = pass_is;
   live = live;

@@ -1,5 +1,5 @@
 -- What sending and writing came to, and the turn that it ends.
-use Rattle.std.proofs.Common.{◌≡◌, ℕ, true, false, List, [], Option, Some, refl, subst, ◌∙◌}
+use Rattle.std.proofs.Common.{◌≡◌, ℕ, true, false, List, [], Option, Some, refl, ap, subst, ◌∙◌}
 use Rattle.std.specs.Prelude.{Result, Ok, Err, is_err}
 use Rattle.ldm_rpc.specs.Streams.{Position}
 use Rattle.ldm_outside.specs.declared.io.SinkFailed.{SinkFailed}
@@ -12,12 +12,13 @@ use Rattle.ldm_shared.specs.Passes.{PassView}
 use Rattle.ldm_session.proofs.CallerLemmas.{Exchanged-front, Exchanged-sent}
 use Rattle.ldm_intake.specs.declared.end.RecvEnd.{RecvEnd}
 use Rattle.ldm_intake.specs.declared.end.RecvEnd.TheVariants.{Ended, Truncated, BadFrame, Refused, LinkFault, LogFault, StreamLimit, Worn, OutOfMemory}
+use Rattle.ldm_intake.specs.Receiving.{Receiving}
 use Rattle.ldm_intake.specs.TakesRecord.{Standing}
 use Rattle.ldm_downstream.specs.Pieces.{Piece}
 use Rattle.ldm_downstream.specs.ReceiverView.{ReceiverView}
 use Rattle.ldm_downstream.specs.Pushing.{Pushes, FailsAt}
-use Rattle.ldm_downstream.specs.Sessions.{HasCome, Writes, WritesAt, FailsToSend, FailsToLog, RunsOut}
-use Rattle.ldm_downstream.proofs.Linked.{Passed-piece, TakesBytes-nothing}
+use Rattle.ldm_downstream.specs.Sessions.{HasCome, Writes, WritesAt, FailsToSend, FailsToLog, RunsOut, settled}
+use Rattle.ldm_downstream.proofs.Linked.{TakesBytes-nothing}
 use Rattle.ldm_downstream.proofs.Rounds.{front-all, front-none, link_fault, log_fault, round-failed}
 
 pub sends-failed : (result : Result (Unit {0}) LinkFailed) (piece out : List ℕ) (old new : LinkRecord) (log : SinkRecord) → is_err result ≡ true → piece ≡ out
@@ -28,7 +29,7 @@ sends-failed (Err why) piece out old new log failed same sends =
     record {
       sent = sends.0;
       front = record { rest = sends.1; is = sends.2 ∙ same };
-      writes = record { exchanged = there.0; logged = TakesBytes-nothing log log refl };
+      writes = record { exchanged = there.0; sends = ap (λ (link : LinkRecord). link.passed) sends.3.1; logged = TakesBytes-nothing log log refl };
       rose = there.1;
     }
 
@@ -42,34 +43,33 @@ writes-failed (Ok done) piece notes out old new log after failed same sent write
 writes-failed (Err why) piece notes out old new log after failed same sent writes = record {
   lines = writes.1.0;
   front = record { rest = writes.1.1; is = writes.1.2 ∙ same };
-  writes = record { exchanged = Exchanged-sent old new out sent; logged = writes.1.3 };
+  writes = record { exchanged = Exchanged-sent old new out sent; sends = ap (λ (link : LinkRecord). link.passed) sent; logged = writes.1.3 };
   rose = writes.0;
 }
 
 pub writes-all : (result : Result (Unit {0}) SinkFailed) (notes out : List ℕ) (old new : LinkRecord) (log after : SinkRecord) → is_err result ≡ false
     → Sent old out new → WritesAll result notes log after → Writes out notes old new log after
-writes-all (Ok done) notes out old new log after went sent writes = record { exchanged = Exchanged-sent old new out sent; logged = writes }
+writes-all (Ok done) notes out old new log after went sent writes =
+    record { exchanged = Exchanged-sent old new out sent; sends = ap (λ (link : LinkRecord). link.passed) sent; logged = writes }
 writes-all (Err why) notes out old new log after went sent writes = absurd (cc went)
 
 -- ---- a fault
 
 -- behind a piece
-pub failed-round : (fault : RecvEnd) (end : Option RecvEnd) (result : RecvEnd) (ahead : List ℕ) (piece : Piece) (p : Position) (a b : Standing) (was is_now : ReceiverView) (pass : PassView)
-    (begins before after : SessionRecord) → HasCome ahead piece begins before → after.clock ≡ before.clock
+pub failed-round : (fault : RecvEnd) (end : Option RecvEnd) (result : RecvEnd) (ahead : List ℕ) (piece : Piece) (p : Position) (s : Receiving) (v : PassView) (b : Standing)
+    (was is_now : ReceiverView) (pass : PassView) (begins before after : SessionRecord) → HasCome ahead piece begins before → after.clock ≡ before.clock
     → WritesAt (Some fault) b.out b.notes before.link after.link before.log after.log → b.receiving ≡ was.receiving
-    → Pushes end piece p was.hand a b → FailsAt end fault result was is_now b.pass pass → RunsOut result ahead is_now pass p a begins after
-failed-round LinkFault end result ahead piece p a b was is_now pass begins before after come clock writes receiving pushes fails =
-    round-failed end LinkFault result ahead piece p a b was is_now pass writes.sent [] begins after link_fault
-    (Passed-piece ahead piece writes.sent [] begins before after come clock writes.writes) writes.front (front-none b.notes) receiving pushes fails
-    (subst (λ (n : ℕ). Rose n after.link.faults) come.faults writes.rose)
-failed-round LogFault end result ahead piece p a b was is_now pass begins before after come clock writes receiving pushes fails =
-    round-failed end LogFault result ahead piece p a b was is_now pass b.out writes.lines begins after log_fault
-    (Passed-piece ahead piece b.out writes.lines begins before after come clock writes.writes) (front-all b.out) writes.front receiving pushes fails
-    (subst (λ (s : SinkRecord). Rose s.faults after.log.faults) come.log writes.rose)
-failed-round Ended end result ahead piece p a b was is_now pass begins before after come clock writes receiving pushes fails = absurd writes
-failed-round (Truncated at) end result ahead piece p a b was is_now pass begins before after come clock writes receiving pushes fails = absurd writes
-failed-round (BadFrame at) end result ahead piece p a b was is_now pass begins before after come clock writes receiving pushes fails = absurd writes
-failed-round (Refused answer) end result ahead piece p a b was is_now pass begins before after come clock writes receiving pushes fails = absurd writes
-failed-round StreamLimit end result ahead piece p a b was is_now pass begins before after come clock writes receiving pushes fails = absurd writes
-failed-round Worn end result ahead piece p a b was is_now pass begins before after come clock writes receiving pushes fails = absurd writes
-failed-round OutOfMemory end result ahead piece p a b was is_now pass begins before after come clock writes receiving pushes fails = absurd writes
+    → Pushes end piece p was.hand (settled s v) b → FailsAt end fault result was is_now b.pass pass → RunsOut result ahead is_now pass p (settled s v) begins after
+failed-round LinkFault end result ahead piece p s v b was is_now pass begins before after come clock writes receiving pushes fails =
+    round-failed ahead piece p s v writes.sent [] begins before after come clock writes.writes b writes.front (front-none b.notes) LinkFault link_fault
+    end result was is_now pass receiving pushes fails (subst (λ (n : ℕ). Rose n after.link.faults) come.faults writes.rose)
+failed-round LogFault end result ahead piece p s v b was is_now pass begins before after come clock writes receiving pushes fails =
+    round-failed ahead piece p s v b.out writes.lines begins before after come clock writes.writes b (front-all b.out) writes.front LogFault log_fault
+    end result was is_now pass receiving pushes fails (subst (λ (s : SinkRecord). Rose s.faults after.log.faults) come.log writes.rose)
+failed-round Ended end result ahead piece p s v b was is_now pass begins before after come clock writes receiving pushes fails = absurd writes
+failed-round (Truncated at) end result ahead piece p s v b was is_now pass begins before after come clock writes receiving pushes fails = absurd writes
+failed-round (BadFrame at) end result ahead piece p s v b was is_now pass begins before after come clock writes receiving pushes fails = absurd writes
+failed-round (Refused answer) end result ahead piece p s v b was is_now pass begins before after come clock writes receiving pushes fails = absurd writes
+failed-round StreamLimit end result ahead piece p s v b was is_now pass begins before after come clock writes receiving pushes fails = absurd writes
+failed-round Worn end result ahead piece p s v b was is_now pass begins before after come clock writes receiving pushes fails = absurd writes
+failed-round OutOfMemory end result ahead piece p s v b was is_now pass begins before after come clock writes receiving pushes fails = absurd writes

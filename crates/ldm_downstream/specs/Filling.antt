@@ -6,6 +6,7 @@ use Rattle.ldm_outside.specs.Link.{Gave, IsNotClosed, LinkRecord, RecvGives}
 use Rattle.ldm_rpc.specs.Reading.{is_faulty}
 use Rattle.ldm_rpc.specs.Streams.{Position, in_hand, records_in}
 use Rattle.ldm_session.specs.declared.limits.TheConstants.{LONGEST_STREAM}
+use Rattle.ldm_downstream.specs.declared.limits.TheConstants.{LONGEST_PIECE}
 
 -- these bytes came, or none
 abbrev pub Came : Got → List ℕ → LinkRecord → LinkRecord → Type 0
@@ -20,10 +21,11 @@ pub record Receives (got : Got) (bytes : List ℕ) (old new : LinkRecord) : Type
   pub ends : old.ends ≤ new.ends
   pub unclosed : IsNotClosed new
 
--- A reader goes on by the bytes that a link gave, or none. They complete no record, and more can be taken of the stream.
+-- A reader goes on by the bytes that a link gave at once, or none. They complete no record, and more can be taken of the stream.
 pub record Fills (got : Got) (p q : Position) (old new : LinkRecord) : Type 0 where
   pub bytes : List ℕ
   pub came : Came got bytes old new
+  pub few : length bytes ≤ LONGEST_PIECE
   pub no_record : records_in p bytes ≡ []
   pub hand_is : q ≡ in_hand p bytes
   pub sound : is_faulty q.reading ≡ false

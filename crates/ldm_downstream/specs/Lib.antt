@@ -7,6 +7,8 @@ pub mod InsideStream
 pub mod Filling
 pub mod Pushing
 pub mod Turns
+pub mod InTurn
+pub mod Answering
 pub mod Receives
 pub mod Sessions
 pub mod Complete

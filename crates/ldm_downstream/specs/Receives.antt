@@ -1,5 +1,5 @@
 -- What receiving over a link does, from its beginning to its end.
-use Rattle.std.specs.Prelude.{◌≡◌, ℕ, Bool, true, false, List, [], ◌++◌, length, map, Option, None, IfSome}
+use Rattle.std.specs.Prelude.{◌≡◌, ℕ, Bool, true, false, List, [], ◌∷◌, ◌++◌, length, map, Option, None, IfSome}
 use Rattle.ldm_rpc.specs.Streams.{Position}
 use Rattle.ldm_outside.specs.Count.{Rose}
 use Rattle.ldm_outside.specs.Io.{Takes as TakesBytes}
@@ -13,6 +13,8 @@ use Rattle.ldm_intake.specs.Opening.{request_of}
 use Rattle.ldm_intake.specs.Receiving.{Receiving}
 use Rattle.ldm_intake.specs.Room.{records_of}
 use Rattle.ldm_intake.specs.TakesRecord.{Standing}
+use Rattle.ldm_downstream.specs.Answering.{IsShort, Place, TakesRounds, TimedRound, left_ahead, piece_of, pieces_in, place_of, rounds_of, settled_at}
+use Rattle.ldm_downstream.specs.InTurn.{PassesRounds, sent_in}
 use Rattle.ldm_downstream.specs.Pieces.{Piece, beginning, hand, joined}
 use Rattle.ldm_downstream.specs.Taking.{Takes, GivesUp}
 use Rattle.ldm_downstream.specs.Received.{at_stream_end, received}
@@ -54,6 +56,36 @@ abbrev pub IsPart : Bool → List ℕ → List ℕ → Type 0
 IsPart true part all = part ≡ all
 IsPart false part all = (rest : List ℕ) × (part ++ rest ≡ all)
 
+-- A receiving ended with the piece of a round, or once it came: all that this piece made owed was sent, or a front of it.
+pub record EndsRound (end : RecvEnd) (ahead : List ℕ) (timed : TimedRound) (at : Place) (new : Standing) : Type 0 where
+  pub short : IsShort timed
+  pub comes : Comes end (piece_of ahead timed ∷ []) at.hand (settled_at at) new
+  pub sent_is : IsPart (is_whole_end end) timed.round.sent new.out
+
+-- it ended with a last round, or no piece came any more
+abbrev pub EndsRounds : RecvEnd → List ℕ → List TimedRound → Place → Standing → Type 0
+EndsRounds end ahead [] at new = Comes end [] at.hand (settled_at at) new
+EndsRounds end ahead (timed ∷ []) at new = EndsRound end ahead timed at new
+EndsRounds end ahead (timed ∷ next ∷ rounds) at new = ⊥
+
+-- A receiving came to its end in turn: it went on over these rounds, but the last one, if it ended with one.
+pub record AnswersInTurn (end : RecvEnd) (ahead : List ℕ) (rounds : List TimedRound) (at : Place) (new : Standing) : Type 0 where
+  pub front : List TimedRound
+  pub last : List TimedRound
+  pub all : rounds ≡ front ++ last
+  pub between : Place
+  pub takes : TakesRounds ahead front at between
+  -- how it stood at its end, but for what was owed and logged before the last round
+  pub at_end : Standing
+  pub ends : EndsRounds end (left_ahead ahead front) last between at_end
+  pub receiving : at_end.receiving ≡ new.receiving
+  pub pass : at_end.pass ≡ new.pass
+
+-- whether all that was owed at first was sent
+abbrev pub is_first_sent : RecvEnd → List TimedRound → Bool
+is_first_sent end [] = is_whole_end end
+is_first_sent end (timed ∷ rounds) = true
+
 -- the stream ended: the link said so, and has nothing left
 abbrev pub HasEnded : SessionRecord → SessionRecord → Type 0
 HasEnded old new = Rose old.link.ends new.link.ends × IfSome new.link.left (λ rest. rest ≡ [])
@@ -78,6 +110,12 @@ pub record Passed (ahead : List ℕ) (pieces : List Piece) (sent lines : List �
   pub exchanged : Exchanged old.link sent given new.link
   pub moments : AnsweredAll (map (λ (piece : Piece). piece.now) pieces) old.clock new.clock
   pub logged : TakesBytes old.log lines new.log
+  -- In turn: what was sent before a piece came, and then each piece with what was sent behind it.
+  pub first : List ℕ
+  pub rounds : List TimedRound
+  pub pieces_are : pieces ≡ pieces_in ahead rounds
+  pub sent_is : sent ≡ sent_in (rounds_of first rounds)
+  pub in_rounds : PassesRounds (rounds_of first rounds) old.link new.link
 
 -- A receiving goes on from a place in the stream to its end. Where it then stands are all bytes that the peer was owed since then, and all
 -- log lines: these were sent and written, or a front of them.
@@ -90,6 +128,9 @@ pub record Receives (end : RecvEnd) (ahead : List ℕ) (p : Position) (old new :
   pub sent_is : IsPart (is_whole_end end) sent new.out
   pub lines_are : IsPart (is_whole_end end) lines new.notes
   pub cause : Cause end new.pass before after
+  -- What was owed at first was sent before a piece came, and what each piece made owed before a byte of the next one.
+  pub first_is : IsPart (is_first_sent end passed.rounds) passed.first old.out
+  pub in_turn : AnswersInTurn end ahead passed.rounds (place_of p old) new
 
 -- before the first piece: the request is owed to the peer, where there is one
 abbrev pub at_first : Receiving → PassView → Standing

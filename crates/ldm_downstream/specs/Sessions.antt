@@ -1,10 +1,15 @@
 -- What receiving over a link keeps between two pieces.
-use Rattle.std.specs.Prelude.{◌≡◌, ℕ, List, [], ◌++◌, Option, Some, None}
+use Rattle.std.specs.Prelude.{◌≡◌, ◌≤◌, ℕ, List, [], ◌++◌, length, Option, Some, None}
+use Rattle.std.specs.Option.{option_map}
 use Rattle.ldm_rpc.specs.Streams.{Position}
 use Rattle.ldm_outside.specs.Clock.{Answers, ClockRecord}
 use Rattle.ldm_outside.specs.Count.{Rose}
 use Rattle.ldm_outside.specs.Io.{SinkRecord, Takes as TakesBytes}
-use Rattle.ldm_outside.specs.Link.{LinkRecord}
+use Rattle.ldm_outside.specs.declared.io.Got.{Got}
+use Rattle.ldm_outside.specs.declared.io.Got.TheVariants as got
+use Rattle.ldm_outside.specs.declared.link.Way.{Way}
+use Rattle.ldm_outside.specs.declared.link.Way.TheVariants as way
+use Rattle.ldm_outside.specs.Link.{LinkRecord, then_all}
 use Rattle.ldm_outside.specs.Session.{SessionRecord, no_gate}
 use Rattle.ldm_shared.specs.Passes.{PassView}
 use Rattle.ldm_session.specs.Exchange.{Exchanged}
@@ -12,6 +17,8 @@ use Rattle.ldm_intake.specs.declared.end.RecvEnd.{RecvEnd}
 use Rattle.ldm_intake.specs.declared.end.RecvEnd.TheVariants.{LinkFault, LogFault}
 use Rattle.ldm_intake.specs.Receiving.{Receiving}
 use Rattle.ldm_intake.specs.TakesRecord.{Standing, stands}
+use Rattle.ldm_downstream.specs.declared.limits.TheConstants.{LONGEST_PIECE}
+use Rattle.ldm_downstream.specs.Answering.{TakesRounds, place_of}
 use Rattle.ldm_downstream.specs.Pieces.{Piece}
 use Rattle.ldm_downstream.specs.Pushing.{Continues}
 use Rattle.ldm_downstream.specs.ReceiverView.{ReceiverView}
@@ -21,9 +28,20 @@ use Rattle.ldm_downstream.specs.Receives.{Passed, Receives}
 abbrev pub outside_of : LinkRecord → SinkRecord → ClockRecord → SessionRecord
 outside_of link log clock = record { link = link; log = log; clock = clock; gate = no_gate }
 
+-- no more bytes came than so many
+abbrev pub IsFew : Got → ℕ → Type 0
+IsFew (got.Bytes n) most = n ≤ most
+IsFew got.End most = Unit {0}
+IsFew got.Failed most = Unit {0}
+
+-- just these bytes passed, all one way, where the link tells what passed
+abbrev pub PassesAll : Way → List ℕ → LinkRecord → LinkRecord → Type 0
+PassesAll way bytes old new = new.passed ≡ option_map (then_all way bytes) old.passed
+
 -- Bytes that the peer is owed were sent, and log lines were written.
 pub record Writes (sent lines : List ℕ) (link new_link : LinkRecord) (log new_log : SinkRecord) : Type 0 where
   pub exchanged : Exchanged link sent [] new_link
+  pub sends : PassesAll way.Sent sent link new_link
   pub logged : TakesBytes log lines new_log
 
 -- a front of some bytes
@@ -51,18 +69,22 @@ WritesAt (Some LinkFault) out notes link new_link log new_log = FailsToSend out 
 WritesAt (Some LogFault) out notes link new_link log new_log = FailsToLog out notes link new_link log new_log
 WritesAt (Some _) out notes link new_link log new_log = ⊥
 
--- A receiving went on over some pieces: all that the peer was owed was sent, and all lines were written.
+-- A receiving went on over some pieces: all that the peer was owed was sent, in turn, and all lines were written.
 pub record Advances (ahead : List ℕ) (p q : Position) (old new : Standing) (before after : SessionRecord) : Type 0 where
   pub pieces : List Piece
   pub continues : Continues pieces p q old new
   pub passed : Passed ahead pieces new.out new.notes before after
+  pub first_is : passed.first ≡ old.out
+  pub in_turn : TakesRounds ahead passed.rounds (place_of p old) (place_of q new)
 
 -- Since then a piece came, and nothing else happened: it has the bytes that came ahead, and behind them those that the link gave, and the
 -- clock answered its moment.
 pub record HasCome (ahead : List ℕ) (piece : Piece) (begins now : SessionRecord) : Type 0 where
   pub given : List ℕ
   pub all : piece.bytes ≡ ahead ++ given
+  pub few : length given ≤ LONGEST_PIECE
   pub exchanged : Exchanged begins.link [] given now.link
+  pub gave : PassesAll way.Given given begins.link now.link
   pub faults : now.link.faults ≡ begins.link.faults
   pub log : now.log ≡ begins.log
   pub moment : Answers piece.now begins.clock now.clock

@@ -6,6 +6,7 @@ ghost use Rattle.ldm_outside.specs.Link.{IsNotClosed};
 ghost use Rattle.ldm_shared.specs.Passes.{IsPassOf, IsSamePass};
 ghost use Rattle.ldm_intake.specs.Opening.{requesting, accepting, request_of};
 ghost use Rattle.ldm_intake.specs.Room.{records_of};
+ghost use Rattle.ldm_downstream.specs.declared.limits.TheConstants.{LONGEST_PIECE};
 ghost use Rattle.ldm_downstream.specs.Filling.{Fills};
 
 use crate::ends::{copied_end, is_worn};
@@ -166,7 +167,8 @@ impl<'a> Receiver<'a> {
 
     /// How many bytes are received in a piece at most.
     pub(crate) fn piece_room(&self) -> usize
-        ensures { 0 < result }
+        ensures some { 0 < result }
+        ensures short { result ≤ LONGEST_PIECE }
     {
         self.stream.piece_room()
     }

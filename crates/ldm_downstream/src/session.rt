@@ -13,7 +13,7 @@ ghost use Rattle.ldm_downstream.specs.Complete.{Completes};
 ghost use Rattle.ldm_downstream.specs.Pieces.{beginning};
 ghost use Rattle.ldm_downstream.specs.Receives.{ReceivesAll, at_first};
 ghost use Rattle.ldm_downstream.specs.ReceiverView.{before_stream};
-ghost use Rattle.ldm_downstream.specs.Sessions.{HasCome, IsReady, Rounds, RunsOn, RunsOut, settled};
+ghost use Rattle.ldm_downstream.specs.Sessions.{HasCome, IsFew, IsReady, Rounds, RunsOn, RunsOut, settled};
 
 use crate::limits::LONGEST_PIECE;
 use crate::taker::Taker;
@@ -416,6 +416,7 @@ fn receive_piece<K: Link>(link: &mut K, piece: &mut [u8], most: usize, awaited: 
     requires some { 0 < length piece.old }
     requires room { 0 < most }
     ensures given { RecvGives result piece.new (K.tells link.old) (K.tells link.new) }
+    ensures few { IsFew result most }
     ensures faults_kept { (K.tells link.old).faults ≤ (K.tells link.new).faults }
     ensures ends_kept { (K.tells link.old).ends ≤ (K.tells link.new).ends }
     ensures still_open { IsNotClosed (K.tells link.new) }

@@ -10,6 +10,7 @@ ghost use Rattle.ldm_session.specs.declared.limits.TheConstants.{LONGEST_STREAM}
 ghost use Rattle.ldm_shared.specs.Passes.{IsPassOf, IsSamePass, PassView};
 ghost use Rattle.ldm_intake.specs.Settled.{is_feeding};
 ghost use Rattle.ldm_intake.specs.TakesRecord.{stands};
+ghost use Rattle.ldm_downstream.specs.declared.limits.TheConstants.{LONGEST_PIECE};
 ghost use Rattle.ldm_downstream.specs.Filling.{Fills};
 ghost use Rattle.ldm_downstream.specs.Pieces.{beginning};
 ghost use Rattle.ldm_downstream.specs.Received.{GoesOnAt, at_stream_end, is_within};
@@ -97,7 +98,8 @@ impl<'a> Stream<'a> {
 
     /// How many bytes are received in a piece at most.
     pub(crate) fn piece_room(&self) -> usize
-        ensures { 0 < result }
+        ensures some { 0 < result }
+        ensures short { result ≤ LONGEST_PIECE }
     {
         if self.was_long {
             SHORT_PIECE
@@ -122,7 +124,7 @@ impl<'a> Stream<'a> {
         ensures ends_kept { (K.tells link.old).ends ≤ (K.tells link.new).ends }
     {
         let room = LONGEST_STREAM - self.came - 1;
-        let most = room.min(u64::from(LARGEST_RECORD)) as usize;
+        let most = room.min(LONGEST_PIECE as u64) as usize;
         let mut receiving = Receiving::of(awaited);
         let count = self.records.fill(&mut receiving, link, most)?;
         self.came += count as u64;

@@ -1,6 +1,5 @@
 use Rattle.std.proofs.Common.{refl}
 use Rattle.ldm_outside.specs.Session.{ungated_tells}
-use Rattle.ldm_intake.specs.Opening.{accepting}
 use Rattle.ldm_downstream.proofs.AllReceived.{none-behind, pushed-received}
 use Rattle.ldm_downstream.proofs.SessionTurns.{all-ahead, kept-none}
 use Rattle.ldm_downstream.proofs.session.receive_behind.Goals as goal
@@ -19,5 +18,5 @@ returns-in-Err-clause-receives g c =
     let old = ungated_tells g.K.Link.tells g.E.Sink.tells g.C.Clock.tells c.args.link.now c.args.log.now c.args.clock.now in
     let mid = ungated_tells g.K.Link.tells g.E.Sink.tells g.C.Clock.tells c.args.link.now c.args.log.now c.now-now.new.self in
     let ahead = c.args.ahead.now in
-    none-behind (accepting c.args.class.now c.args.policy.now c.args.host.now) ahead (record { now = c.now-now.result; bytes = ahead }) c.args.pass.now old mid refl
+    none-behind c.args.class.now c.args.policy.now c.args.host.now ahead (record { now = c.now-now.result; bytes = ahead }) c.args.pass.now old mid
     (all-ahead ahead c.now-now.result old mid refl refl c.now-now.ensures)

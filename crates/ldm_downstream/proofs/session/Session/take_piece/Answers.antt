@@ -1,5 +1,6 @@
 use Rattle.std.proofs.Common.{◌≡◌, ◌≤◌, ℕ, List, [], length, take, drop, refl, sym, subst, ap, ◌∙◌, arith, rules}
 use Rattle.ldm_outside.specs.Session.{ungated_tells}
+use Rattle.ldm_downstream.specs.declared.limits.TheConstants.{LONGEST_PIECE}
 use Rattle.ldm_downstream.specs.Sessions.{HasCome, outside_of}
 use Rattle.ldm_downstream.proofs.SessionTurns.{take-into, piece-came, turn-ended, turn-failed}
 use Rattle.ldm_downstream.proofs.session.Session.take_piece.Goals as goal
@@ -13,11 +14,12 @@ returns-in-Bytes-clause-rounds g c =
     let into = c.receive_piece.new.piece in
     let items = c.args.self.now.piece.items in
     let came : n ≤ length into = c.in-Bytes.ensures.given.1 in
+    let few : n ≤ LONGEST_PIECE = omega (arith, c.in-Bytes.ensures.few, c.piece_room-most.ensures.short) in
     let within : n ≤ c.args.self.now.piece.len = first_of (omega arith, search rules, grind arith) in
     let same : take n c.deref.result.now ≡ take n into =
     ap (take n) c.deref.ensures.value ∙ take-into n c.args.self.now.piece.len into (drop (length into) items) within came in
     let P : List ℕ → Type 0 = λ bytes. HasCome [] (record { now = c.now-now.result; bytes = bytes }) begins before in
-    c.take.ensures.takes [] begins clock (subst P (sym same) (piece-came n into c.now-now.result begins before c.in-Bytes.ensures.given refl c.now-now.ensures))
+    c.take.ensures.takes [] begins clock (subst P (sym same) (piece-came n into c.now-now.result begins before few c.in-Bytes.ensures.given refl c.now-now.ensures))
 
 pub returns-in-End-clause-rounds : goal.returns-in-End-clause-rounds
 returns-in-End-clause-rounds g c =
