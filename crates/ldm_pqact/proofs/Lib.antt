@@ -9,3 +9,4 @@ pub mod Coursing
 pub mod NoteLines
 pub mod Stretches
 pub mod Closing
+pub mod Completing

@@ -22,7 +22,7 @@ use Rattle.ldm_pqact.specs.Work.{Work, with_answers, work_of, work_then}
 use Rattle.ldm_pqact.proofs.Acts.{does_none, does_then}
 use Rattle.ldm_pqact.proofs.Coursing.{called_at, ends_then, rows_then, work_same}
 
-flat_map-one_more : {A B : Type 0} (f : A → List B) (xs : List A) (x : A) → flat_map f (xs ++ x ∷ []) ≡ flat_map f xs ++ f x
+pub flat_map-one_more : {A B : Type 0} (f : A → List B) (xs : List A) (x : A) → flat_map f (xs ++ x ∷ []) ≡ flat_map f xs ++ f x
 flat_map-one_more {B = B} f xs x = flat_map-append f xs (x ∷ []) ∙ ap (λ (ys : List B). flat_map f xs ++ ys) (append-nil (f x))
 
 -- the stretches so far: behind each the gate said to go on
@@ -48,7 +48,7 @@ stretches_begin entries k now gate cursor keeps = record {
 }
 
 -- at the end of the queue all turns are whole
-stopped_rows : (pass : PassView) (run : Run) → run.in_hand ≡ [] → AreRows pass (flat_map products_in (run.turns ++ run.in_hand)) → AreRows pass (flat_map products_in run.turns)
+pub stopped_rows : (pass : PassView) (run : Run) → run.in_hand ≡ [] → AreRows pass (flat_map products_in (run.turns ++ run.in_hand)) → AreRows pass (flat_map products_in run.turns)
 stopped_rows pass run none rows =
     subst (λ (ts : List Turn). AreRows pass (flat_map products_in ts)) (ap (λ (ts : List Turn). run.turns ++ ts) none ∙ append-nil run.turns) rows
 

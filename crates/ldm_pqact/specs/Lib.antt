@@ -9,3 +9,5 @@ pub mod Handling
 pub mod Parts
 pub mod Course
 pub mod Acted
+pub mod Complete
+pub mod Premises

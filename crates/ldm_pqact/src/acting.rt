@@ -6,6 +6,7 @@ ghost use Rattle.ldm_reader.specs.Reader.{HasCursor};
 ghost use Rattle.ldm_actions.specs.Outputs.{KeepsUnlessSpent, no_outputs, standing};
 ghost use Rattle.ldm_pqact.specs.Acted.{Acts, ActsOpened, KeepsCounts, end_after, opening, situation_of};
 ghost use Rattle.ldm_pqact.specs.Acting.{sight_of};
+ghost use Rattle.ldm_pqact.specs.Complete.{ActCompletes};
 ghost use Rattle.ldm_pqact.specs.Course.{Follows, gated_of};
 
 use crate::end::ActEnd;
@@ -128,6 +129,11 @@ pub fn act<H: Wait, F: Store, L: Launcher, E: Sink, G: Gate>(
         (situation_of pass.old (F.tells store.old) (L.tells launcher.old) (E.tells log.old) (G.tells gate.old))
         (situation_of pass.new (F.tells store.new) (L.tells launcher.new) (E.tells log.new) (G.tells gate.new)) }
     ensures acts { Acts result entries
+        (situation_of pass.old (F.tells store.old) (L.tells launcher.old) (E.tells log.old) (G.tells gate.old))
+        (situation_of pass.new (F.tells store.new) (L.tells launcher.new) (E.tells log.new) (G.tells gate.new)) }
+    // Where nothing hinders, all is done up to the end at which the gate said to stop; or all cursors are taken. But
+    // memory may be wanting.
+    ensures completes { ActCompletes result entries
         (situation_of pass.old (F.tells store.old) (L.tells launcher.old) (E.tells log.old) (G.tells gate.old))
         (situation_of pass.new (F.tells store.new) (L.tells launcher.new) (E.tells log.new) (G.tells gate.new)) }
 {

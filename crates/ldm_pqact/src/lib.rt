@@ -14,6 +14,7 @@ mod limits;
 mod notes;
 mod pending;
 mod pqact;
+mod premises;
 mod turn;
 
 pub use acting::act;
@@ -21,3 +22,4 @@ pub use effect::output_of;
 pub use end::ActEnd;
 pub use limits::{EVERY_FEEDTYPE, LARGEST_PIECE};
 pub use pqact::Pqact;
+pub use premises::premises_are_met;

@@ -5,6 +5,7 @@ ghost use Rattle.ldm_shared.specs.Passes.{IsPassOf, IsSamePass};
 ghost use Rattle.ldm_reader.specs.Reader.{HasCursor};
 ghost use Rattle.ldm_actions.specs.Outputs.{Closes, KeepsOfAny, KeepsUnlessSpent, no_outputs, standing};
 ghost use Rattle.ldm_pqact.specs.Acting.{ActsOn, sight_of};
+ghost use Rattle.ldm_pqact.specs.Complete.{Completes};
 
 use crate::end::ActEnd;
 use crate::limits::LARGEST_PIECE;
@@ -87,6 +88,11 @@ impl Pqact {
         ensures entries { self.new.entries ≡ self.old.entries }
         ensures keeps { KeepsUnlessSpent (standing self.new.outputs (F.tells store.new) (L.tells launcher.new)) }
         ensures acts { ActsOn result self.old.entries reader.now.k
+            (sight_of pass.old (standing self.old.outputs (F.tells store.old) (L.tells launcher.old)) (E.tells log.old))
+            (sight_of pass.new (standing self.new.outputs (F.tells store.new) (L.tells launcher.new))
+            (E.tells log.new)) }
+        // Where nothing hinders, it comes to the end of the queue and all is done; but memory may be wanting.
+        ensures completes { Completes result self.old.entries reader.now.k
             (sight_of pass.old (standing self.old.outputs (F.tells store.old) (L.tells launcher.old)) (E.tells log.old))
             (sight_of pass.new (standing self.new.outputs (F.tells store.new) (L.tells launcher.new))
             (E.tells log.new)) }
