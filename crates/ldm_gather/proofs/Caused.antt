@@ -102,7 +102,6 @@ module _ {W A B : Type 0} where
 
     begins-cause : (e : GatherEnd) (old new : Moment W A B) → BeginsNot handles e old new → Stands e old new
     unfolding Stands
-    begins-cause (end.Received OutOfMemory) old new begins = tt
     begins-cause (end.Received LinkFault) old new begins = begins.failing.0
     begins-cause _ old new begins = absurd begins
 

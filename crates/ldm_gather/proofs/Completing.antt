@@ -27,6 +27,7 @@ use Rattle.ldm_gather.specs.declared.end.Handled.TheVariants as handled
 use Rattle.ldm_gather.specs.Causes.{HasCause}
 use Rattle.ldm_gather.specs.Complete.{Completes, IsWhole}
 use Rattle.ldm_gather.specs.Gathering.{Asks, BeginsNot, EndsBy, EndsStream, Gathers, GathersAll, GoesOn, TakesPiece}
+use Rattle.ldm_gather.specs.Runs.{Gathered}
 use Rattle.ldm_gather.specs.Scene.{Lent, Moment, Scene, moment_of}
 use Rattle.ldm_gather.proofs.Caused.{caused}
 use Rattle.ldm_gather.proofs.Lasting.{by, by-records, ended-more, leads-by, received-leads}
@@ -254,7 +255,6 @@ module _ {W A B : Type 0} (handles : Handled → Scene W A B → Scene W A B →
   whole-by (end.Received LogFault) pieces old new far ends link log = log refl
 
   begins-whole : (e : GatherEnd) (old new : Moment W A B) → BeginsNot handles e old new → (e ≡ end.Received LinkFault → ⊥) → IsWhole e
-  begins-whole (end.Received OutOfMemory) old new begins link = tt
   begins-whole (end.Received LinkFault) old new begins link = link refl
   begins-whole _ old new begins link = absurd begins
 
@@ -285,3 +285,8 @@ completes {W} {A} {B} handles e s old new all stream had accepts link log =
     let no_link : e ≡ end.Received LinkFault → ⊥ = λ same. link (subst (λ (x : GatherEnd). HasCause x old new) same cause) in
     let no_log : e ≡ end.Received LogFault → ⊥ = λ same. log (subst (λ (x : GatherEnd). HasCause x old new) same cause) in
     all-whole handles s stream accepts e old new all had no_link no_log
+
+-- all that is said of a gathering
+pub gathered : {W A B : Type 0} (handles : Handled → Scene W A B → Scene W A B → Type 0) (e : GatherEnd) (s : Receiving) (old new : Lent W A B) → GathersAll handles e s old new
+    → Gathered handles e s old new
+gathered handles e s old new all = record { gathers = all; cause = caused handles e s old new all; completes = completes handles e s old new all }

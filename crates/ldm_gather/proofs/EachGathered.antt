@@ -380,11 +380,10 @@ module _ {T A : Type 0} (takes : Taken → Given → Hands T A → Hands T A →
       (ap (λ (s : Scene (Each T) A (Unit {0})). hands_of s.handler.taker s.first) same) (ap (λ (s : Scene (Each T) A (Unit {0})). s.handler.left) same)
 
   begins-not : (law : RowsStay) (e : GatherEnd) (old new : At) → ForSome old.scene.handler.left (λ n. 0 < n) → BeginsNot (EachHandles takes) e old new → All e old new
-  begins-not law (end.Received OutOfMemory) old new some begins = same-end law OutOfMemory old new some (ap (λ (m : At). m.scene) begins)
   begins-not law (end.Received LinkFault) old new some begins = same-end law LinkFault old new some (ap (λ (m : At). m.scene) begins.others)
   begins-not law _ old new some begins = absurd begins
 
-  abbrev stage_lent : Lent (Each T) A (Unit {0}) → Stage T A
+  abbrev pub stage_lent : Lent (Each T) A (Unit {0}) → Stage T A
   stage_lent lent = stage_of lent.scene.handler.left (hands_of lent.scene.handler.taker lent.scene.first) lent.scene.handler.why lent.scene.pass
 
   -- what was taken over a whole gathering

@@ -71,9 +71,6 @@ module _ {W A B : Type 0} (handles : Handled → Scene W A B → Scene W A B →
         (record { at_end = at_end; is_at_end = runs.is_at_end; ends = ends; others = refl });
   }
 
-  pub no-memory : (s : Receiving) (lent : Lent W A B) → GathersAll handles (end.Received OutOfMemory) s lent lent
-  no-memory s lent = record { receiver = before_stream s false; gathers = inr refl }
-
   pub unsent : (s : Receiving) (result : Result (Unit {0}) LinkFailed) (piece out : List ℕ) (old : Lent W A B) (link : LinkRecord) → is_err result ≡ true → piece ≡ out
       → out ≡ records_of (request_of s) → SendsAll result piece old.link link → GathersAll handles (end.Received LinkFault) s old (record old { link = link })
   unsent s (Ok done) piece out old link failed same owed sends = absurd (cc failed)

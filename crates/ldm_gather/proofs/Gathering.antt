@@ -3,11 +3,17 @@ use Rattle.std.proofs.Common.{◌∙◌, List, [], ◌∷◌, ◌++◌, refl, ap
 use Rattle.ldm_shared.specs.Passes.{PassView, IsSamePass}
 use Rattle.ldm_downstream.specs.Pieces.{Piece}
 use Rattle.ldm_gather.specs.declared.end.Handled.{Handled}
+use Rattle.ldm_gather.specs.declared.gatherer.Gatherer.{Gatherer}
 use Rattle.ldm_gather.specs.Gathering.{GoesOn, Steps}
 use Rattle.ldm_gather.specs.Scene.{KeepsCounts, Lent, Moment, Scene}
+use Rattle.ldm_gather.specs.Turning.{SameButCourse}
 
 pub same-then : (old mid new : PassView) → IsSamePass old mid → IsSamePass mid new → IsSamePass old new
 same-then old mid new first second = second ∙ ap (λ (pass : PassView). record pass { seen = new.seen }) first
+
+pub same-course : (old mid new : Gatherer) → SameButCourse old mid → SameButCourse mid new → SameButCourse old new
+same-course old mid new first second =
+    second ∙ ap (λ (it : Gatherer). record it { pass = new.pass; receiver = new.receiver; buffers = new.buffers }) first
 
 -- no count fell, twice
 pub counts-then : {W A B : Type 0} (a b c : Lent W A B) → KeepsCounts a b → KeepsCounts b c → KeepsCounts a c

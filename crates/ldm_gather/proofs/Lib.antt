@@ -8,4 +8,5 @@ mod Completing
 pub mod Using
 mod StepTurns
 mod EachGathered
+mod Connected
 mod Opened

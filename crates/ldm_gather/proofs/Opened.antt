@@ -7,7 +7,7 @@ use Rattle.ldm_model.specs.History.{IsLegal}
 use Rattle.ldm_model.specs.Open.{open_cursor}
 use Rattle.ldm_model.specs.State.{empty}
 use Rattle.ldm_shared.specs.Passes.{SharedView, PassView, Grows, Makes, entry_of, new_pass}
-use Rattle.ldm_gather.specs.EachRuns.{opening}
+use Rattle.ldm_gather.specs.Queue.{opening}
 
 not-busy : (arena slots actor feed : ℕ) → reply.AllBusy ≡ (open_cursor (empty arena slots) actor feed start.Oldest).reply → ⊥
 unfolding open_cursor

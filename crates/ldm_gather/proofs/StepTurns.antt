@@ -1,5 +1,5 @@
 -- Turns, one after another, and where they end.
-use Rattle.std.proofs.Common.{◌≡◌, ◌∙◌, ℕ, ◌+◌, ◌<◌, ◌≤◌, List, [], ◌∷◌, ◌++◌, length, map, Option, Some, None, refl, sym, ap, subst, append_assoc, arith, length-append}
+use Rattle.std.proofs.Common.{◌≡◌, ◌∙◌, ℕ, ◌+◌, ◌<◌, ◌≤◌, List, [], ◌∷◌, ◌++◌, length, map, Option, Some, None, inl, inr, refl, sym, ap, subst, append_assoc, arith, length-append}
 use Rattle.std.specs.Option.{ForSome}
 use Rattle.std.proofs.lemmas.List.{append-nil, map-append}
 use Rattle.std.proofs.lemmas.List.Concat.{flat_map-append}
@@ -10,6 +10,7 @@ use Rattle.ldm_outside.specs.Count.{Rose}
 use Rattle.ldm_outside.specs.Io.{SinkRecord, Takes, WritesFront}
 use Rattle.ldm_outside.proofs.CallerLemmas.{Rose-later, Takes-nothing, Takes-then}
 use Rattle.ldm_session.specs.declared.gaps.TheConstants.{LONGEST_NAME}
+use Rattle.ldm_shared.specs.declared.steps.TheConstants.{MOST_TURNS}
 use Rattle.ldm_shared.specs.Passes.{PassView, FindsWorn, Grows, IsSamePass}
 use Rattle.ldm_reader.specs.Reader.{HasCursor}
 use Rattle.ldm_gather.specs.declared.taker.Taken.{Taken}
@@ -291,7 +292,7 @@ module _ {T A : Type 0} (takes : Taken → Given → Hands T A → Hands T A →
         are_front = record { rest = []; is = refl };
         does = gave_does law tap given left left hands hands' old mid took new log grows row uses (uses_worn tap.k turns took new worn);
         taken = refl;
-        last = takes_it;
+        last = inl takes_it;
         cause = worn.long ∙ worn.turns_are;
       },
       counts-none left some,
@@ -314,6 +315,27 @@ module _ {T A : Type 0} (takes : Taken → Given → Hands T A → Hands T A →
         taken = refl;
         last = takes_it;
         cause = tt;
+      },
+      counts-none left some,
+    );
+  }
+
+  -- the taker was stopped at the product, since the queue has had all its calls
+  pub gave_worn : (law : RowsStay) (tap : Tap) (given : Given) (left : Option ℕ) (hands hands' : Hands T A) (old mid new : PassView) (log : SinkRecord)
+      → Grows old mid (event.Step tap.k) (turn_reply (Gave given)) → HasRowIn mid given.n given.product given.time → Uses tap.k mid new [] → takes taken.Worn given hands hands'
+      → length new.seen ≡ MOST_TURNS → ForSome left (λ n. 0 < n) → Steps takes tap (Stopped Worn) (sight_of left hands old log) (sight_of left hands' new log)
+  gave_worn law tap given left hands hands' old mid new log grows row uses takes_it long some = record {
+    turns = [];
+    steps = (
+      record {
+        in_hand = Gave given ∷ [];
+        mid = hands;
+        lines = [];
+        are_front = record { rest = []; is = refl };
+        does = gave_does law tap given left left hands hands' old mid new new log grows row uses (uses_none tap.k new);
+        taken = refl;
+        last = inr takes_it;
+        cause = long;
       },
       counts-none left some,
     );

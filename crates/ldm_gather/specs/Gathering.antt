@@ -159,9 +159,8 @@ module _ {W A B : Type 0} (handles : Handled → Scene W A B → Scene W A B →
     pub others : asked ≡ record old { link = asked.link }
     pub gathers : Gathers end asked new
 
-  -- It did not come to that: there was no memory to begin, and nothing was touched; or the link failed, after a front of the request.
+  -- It did not come to that: the link failed, after a front of the request.
   abbrev pub BeginsNot : GatherEnd → Moment W A B → Moment W A B → Type 0
-  BeginsNot (Received OutOfMemory) old new = new ≡ old
   BeginsNot (Received LinkFault) old new = SendsFront (records_of (request_of old.receiver.receiving)) old new
   BeginsNot _ old new = ⊥
 

@@ -2,6 +2,9 @@ pub mod Scene
 pub mod Gathering
 pub mod Causes
 pub mod Complete
+pub mod Orders
+pub mod Queue
+pub mod Runs
 pub mod Turning
 pub mod Quiet
 pub mod Givens
@@ -11,5 +14,5 @@ pub mod Stepping
 pub mod EachHandling
 pub mod EachCourse
 pub mod EachEnds
-pub mod Queue
 pub mod EachRuns
+pub mod Statuses

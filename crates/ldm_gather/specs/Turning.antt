@@ -10,10 +10,15 @@ use Rattle.ldm_gather.specs.declared.end.GatherEnd.{GatherEnd}
 use Rattle.ldm_gather.specs.declared.end.GatherEnd.TheVariants as end
 use Rattle.ldm_gather.specs.declared.end.Handled.{Handled}
 use Rattle.ldm_gather.specs.declared.end.Handled.TheVariants as handled
+use Rattle.ldm_gather.specs.declared.gatherer.Gatherer.{Gatherer}
 use Rattle.ldm_gather.specs.declared.turn.Turned.{Turned}
 use Rattle.ldm_gather.specs.declared.turn.Turned.TheVariants.{On, AtEnd, Over}
 use Rattle.ldm_gather.specs.Gathering.{EndsBy, Gathers, GoesOn, IsAtEnd, Steps}
 use Rattle.ldm_gather.specs.Scene.{Scene, Moment}
+
+-- all but the pass, the receiver and the buffers is as it was
+abbrev pub SameButCourse : Gatherer → Gatherer → Type 0
+SameButCourse old new = new ≡ record old { pass = new.pass; receiver = new.receiver; buffers = new.buffers }
 
 -- nothing is owed and nothing is to be logged
 pub record IsReady (out notes : List ℕ) : Type 0 where

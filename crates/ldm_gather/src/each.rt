@@ -7,9 +7,9 @@ ghost use Rattle.ldm_gather.specs.EachHandling.{IsGoing, IsSameEach, tap_in};
 ghost use Rattle.ldm_gather.specs.Stepping.{CountsOne, IfStepsOn, IsEnd, Steps, sight_of};
 ghost use Rattle.ldm_gather.specs.Taking.{hands_of};
 
-use crate::asking::Asking;
 use crate::end::Handled;
 use crate::handler::Handler;
+use crate::order::Asking;
 use crate::taker::{EachStop, Taken, Taker};
 use ldm_outside::Sink;
 use ldm_reader::{Came, Reader, products_stay};
@@ -96,6 +96,7 @@ fn step<H: Wait, E: Sink, A, T: Taker<A>>(
                     Turn::Worn { .. } => Stepped::Stopped(EachStop::Worn),
                 },
                 Taken::Stopped => Stepped::Stopped(EachStop::ByTaker),
+                Taken::Worn => Stepped::Stopped(EachStop::Worn),
             }
         }
         Turn::Done(Came::End { .. }) => Stepped::AtEnd,

@@ -14,6 +14,8 @@ pub enum Taken {
     On,
     /// Something stopped it, and it knows what.
     Stopped,
+    /// It was stopped, since the queue has had all the calls that it can have.
+    Worn,
 }
 
 /// Why handing products to a taker stopped.
@@ -31,7 +33,7 @@ pub enum EachStop {
 /// writes to. One who needs nothing takes `()`.
 pub trait Taker<A> {
     ghost use Rattle.ldm_gather.specs.Givens.{Given};
-    ghost use Rattle.ldm_gather.specs.Taking.{Hands, IfTaken, given_of, hands_of};
+    ghost use Rattle.ldm_gather.specs.Taking.{Hands, IfTaken, IsTakenWorn, given_of, hands_of};
     ghost use Rattle.ldm_gather.specs.Uses.{Uses};
     ghost use Rattle.ldm_gather.specs.declared.taker.Taken.{Taken};
 
@@ -60,6 +62,7 @@ pub trait Taker<A> {
         ensures uses { Uses reader.now.k pass.old pass.new [] }
         ensures still_holds { (body : List ℕ) → Holds pass.old reader.now.k held.now body
             → IfTaken result (Holds pass.new reader.now.k held.now body) }
+        ensures worn { IsTakenWorn result pass.new }
         ensures may_again { IfTaken result (begins self.new lent.new) }
         ensures taken { (body : List ℕ) → Holds pass.old reader.now.k held.now body
             → takes result (given_of held.now body) (hands_of self.old lent.old) (hands_of self.new lent.new) };

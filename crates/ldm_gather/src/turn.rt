@@ -7,14 +7,14 @@ ghost use Rattle.ldm_shared.specs.Passes.{IsPassOf, IsSamePass};
 ghost use Rattle.ldm_downstream.specs.Pushing.{answer_of};
 ghost use Rattle.ldm_reader.specs.Reader.{HasCursor};
 ghost use Rattle.ldm_gather.specs.Scene.{KeepsCounts, lent_of, moment_of, scene_of};
-ghost use Rattle.ldm_gather.specs.Turning.{IfGoesOn, IsReady, TellsBy, Turns, turned};
+ghost use Rattle.ldm_gather.specs.Turning.{IfGoesOn, IsReady, SameButCourse, TellsBy, Turns, turned};
 
 use crate::end::{GatherEnd, Handled};
+use crate::gatherer::Gatherer;
 use crate::handler::Handler;
-use ldm_downstream::{Pushed, Receiver};
+use ldm_downstream::Pushed;
 use ldm_intake::RecvEnd;
 use ldm_outside::{Awaited, Clock, Got, Link, Sink, send_all, write_all};
-use ldm_shared::{Pass, Shared};
 use std::sync::Wait;
 
 // What one turn came to.
@@ -28,75 +28,67 @@ pub(crate) enum Turned {
     Over(GatherEnd),
 }
 
-// Memory for a piece, for what the peer is owed and for log lines.
-#[derive(Drop)]
-pub(crate) struct Buffers {
-    pub(crate) piece: Vec<u8>,
-    pub(crate) out: Vec<u8>,
-    pub(crate) notes: Vec<u8>,
-}
-
-// Receives a piece, pushes it, sends and writes what it made, and has the handler handle what is queued then.
-pub(crate) fn turn<H: Wait, K: Link, E: Sink, C: Clock, A, B, W: Handler<A, B>>(
-    rt: &H,
-    shared: &Shared,
-    pass: &mut Pass,
-    link: &mut K,
-    log: &mut E,
-    clock: &mut C,
-    receiver: &mut Receiver<'_>,
-    buffers: &mut Buffers,
-    handler: &mut W,
-    first: &mut A,
-    second: &mut B,
-) -> Turned
-    requires of { IsPassOf shared.now pass.old }
-    requires not_closed { IsNotClosed (K.tells link.old) }
-    requires live { receiver.old.end ≡ None }
-    requires ready { IsReady buffers.old.out.items buffers.old.notes.items }
-    requires room { 0 < vec_len buffers.old.piece }
-    requires has_cursor { HasCursor pass.old (W.cursor handler.old) None }
-    requires may { W.begins handler.old first.old second.old }
-    ensures kept { IsSamePass pass.old pass.new }
-    ensures still_open { IsNotClosed (K.tells link.new) }
-    ensures counts { KeepsCounts
-        (lent_of (scene_of handler.old first.old second.old pass.old (E.tells log.old)) (K.tells link.old)
-        (C.tells clock.old))
-        (lent_of (scene_of handler.new first.new second.new pass.new (E.tells log.new)) (K.tells link.new)
-        (C.tells clock.new)) }
-    ensures ready { IfGoesOn result (IsReady buffers.new.out.items buffers.new.notes.items) }
-    ensures room { 0 < vec_len buffers.new.piece }
-    ensures still_has_cursor { IfGoesOn result (HasCursor pass.new (W.cursor handler.new) None) }
-    ensures may_again { IfGoesOn result (W.begins handler.new first.new second.new) }
-    ensures turns { Turns W.handles result
-        (moment_of receiver.old
-        (lent_of (scene_of handler.old first.old second.old pass.old (E.tells log.old)) (K.tells link.old)
-        (C.tells clock.old)))
-        (moment_of receiver.new
-        (lent_of (scene_of handler.new first.new second.new pass.new (E.tells log.new)) (K.tells link.new)
-        (C.tells clock.new))) }
-{
-    let awaited = Awaited::Feed.or_rest(receiver.is_within());
-    let count = match link.recv(buffers.piece.as_mut_slice(), awaited) {
-        Got::Bytes(count) => count,
-        Got::End => return Turned::AtEnd,
-        Got::Failed => return Turned::Over(GatherEnd::Received(RecvEnd::LinkFault)),
-    };
-    let now = clock.now();
-    let pushed = receiver.push(
-        shared,
-        rt,
-        pass,
-        &buffers.piece[..count],
-        now,
-        &mut buffers.out,
-        &mut buffers.notes,
-    );
-    if let Some(fault) = tell(link, log, &mut buffers.out, &mut buffers.notes) {
-        return Turned::Over(GatherEnd::Received(fault));
+impl Gatherer<'_> {
+    // Receives a piece, pushes it, sends and writes what it made, and has the handler handle what is queued then.
+    pub(crate) fn turn<H: Wait, K: Link, E: Sink, C: Clock, A, B, W: Handler<A, B>>(
+        &mut self,
+        rt: &H,
+        link: &mut K,
+        log: &mut E,
+        clock: &mut C,
+        handler: &mut W,
+        first: &mut A,
+        second: &mut B,
+    ) -> Turned
+        requires of { IsPassOf self.old.shared self.old.pass }
+        requires not_closed { IsNotClosed (K.tells link.old) }
+        requires live { self.old.receiver.end ≡ None }
+        requires ready { IsReady self.old.buffers.out.items self.old.buffers.notes.items }
+        requires room { 0 < vec_len self.old.buffers.piece }
+        requires has_cursor { HasCursor self.old.pass (W.cursor handler.old) None }
+        requires may { W.begins handler.old first.old second.old }
+        ensures others { SameButCourse self.old self.new }
+        ensures kept { IsSamePass self.old.pass self.new.pass }
+        ensures still_open { IsNotClosed (K.tells link.new) }
+        ensures counts { KeepsCounts
+            (lent_of (scene_of handler.old first.old second.old self.old.pass (E.tells log.old)) (K.tells link.old)
+            (C.tells clock.old))
+            (lent_of (scene_of handler.new first.new second.new self.new.pass (E.tells log.new)) (K.tells link.new)
+            (C.tells clock.new)) }
+        ensures ready { IfGoesOn result (IsReady self.new.buffers.out.items self.new.buffers.notes.items) }
+        ensures room { 0 < vec_len self.new.buffers.piece }
+        ensures still_has_cursor { IfGoesOn result (HasCursor self.new.pass (W.cursor handler.new) None) }
+        ensures may_again { IfGoesOn result (W.begins handler.new first.new second.new) }
+        ensures turns { Turns W.handles result
+            (moment_of self.old.receiver
+            (lent_of (scene_of handler.old first.old second.old self.old.pass (E.tells log.old)) (K.tells link.old)
+            (C.tells clock.old)))
+            (moment_of self.new.receiver
+            (lent_of (scene_of handler.new first.new second.new self.new.pass (E.tells log.new)) (K.tells link.new)
+            (C.tells clock.new))) }
+    {
+        let awaited = Awaited::Feed.or_rest(self.receiver.is_within());
+        let count = match link.recv(self.buffers.piece.as_mut_slice(), awaited) {
+            Got::Bytes(count) => count,
+            Got::End => return Turned::AtEnd,
+            Got::Failed => return Turned::Over(GatherEnd::Received(RecvEnd::LinkFault)),
+        };
+        let now = clock.now();
+        let pushed = self.receiver.push(
+            &self.shared,
+            rt,
+            &mut self.pass,
+            &self.buffers.piece[..count],
+            now,
+            &mut self.buffers.out,
+            &mut self.buffers.notes,
+        );
+        if let Some(fault) = tell(link, log, &mut self.buffers.out, &mut self.buffers.notes) {
+            return Turned::Over(GatherEnd::Received(fault));
+        }
+        let handled = handler.handle(rt, &self.shared, &mut self.pass, first, second, log);
+        behind_piece(handled, over(pushed))
     }
-    let handled = handler.handle(rt, shared, pass, first, second, log);
-    behind_piece(handled, over(pushed))
 }
 
 // Sends what the peer is owed, and writes the log lines.

@@ -1,6 +1,6 @@
 use Rattle.ldm_gather.specs.EachHandling.{tap_in}
 use Rattle.ldm_gather.specs.Taking.{given_of, hands_of}
-use Rattle.ldm_gather.proofs.StepTurns.{at_end, gave, gave_part, kept_worn, lost, unlogged, unstepped}
+use Rattle.ldm_gather.proofs.StepTurns.{at_end, gave, gave_part, gave_worn, kept_worn, lost, unlogged, unstepped}
 use Rattle.ldm_gather.proofs.each.step.Goals as goal
 
 pub returns-in-Ok-clause-steps : goal.returns-in-Ok-clause-steps
@@ -47,6 +47,16 @@ returns-in-Stopped-clause-steps g c =
     gave_part g.T.Taker.takes c.products_stay.ensures.stays (tap_in each) (given_of c.in-Done-Product.held body) each.left
     (hands_of each.taker c.args.lent.now) (hands_of c.take.new.self c.take.new.lent) c.args.pass.now c.step.new.pass c.take.new.pass (g.E.Sink.tells c.args.log.now)
     at.done holds.row c.in-Stopped.ensures.uses (c.in-Stopped.ensures.taken body holds) c.requires.going.some
+
+pub returns-in-Worn-take-clause-steps : goal.returns-in-Worn-take-clause-steps
+returns-in-Worn-take-clause-steps g c =
+    let at = rw c.in-Done-Product.field-0-is at c.in-Done-Product.ensures in
+    let each = c.args.each.now in
+    let body = at.cursor.0 in
+    let holds = at.cursor.1 in
+    gave_worn g.T.Taker.takes c.products_stay.ensures.stays (tap_in each) (given_of c.in-Done-Product.held body) each.left
+    (hands_of each.taker c.args.lent.now) (hands_of c.take.new.self c.take.new.lent) c.args.pass.now c.step.new.pass c.take.new.pass (g.E.Sink.tells c.args.log.now)
+    at.done holds.row c.in-Worn-take.ensures.uses (c.in-Worn-take.ensures.taken body holds) c.in-Worn-take.ensures.worn c.requires.going.some
 
 pub returns-in-Done-End-clause-steps : goal.returns-in-Done-End-clause-steps
 returns-in-Done-End-clause-steps g c =

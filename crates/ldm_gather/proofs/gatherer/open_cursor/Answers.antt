@@ -1,5 +1,5 @@
 use Rattle.ldm_gather.proofs.Opened.{no-busy}
-use Rattle.ldm_gather.proofs.collect.open.Goals as goal
+use Rattle.ldm_gather.proofs.gatherer.open_cursor.Goals as goal
 
 pub unreachable-requires : goal.unreachable-requires
 unreachable-requires g c =
