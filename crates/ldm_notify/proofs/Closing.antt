@@ -21,17 +21,22 @@ use Rattle.ldm_notify.specs.Notifies.{notifying_act, HasNotified, NotifiesTo}
 use Rattle.ldm_notify.proofs.Turning.{rows_stay}
 
 -- The cursor is closed, where one was opened, and the link or not.
-pub notifies : (why : SendEnd) (asked : Asked) (answered : Answered) (first : PassView) (link : LinkRecord) (clock : ClockRecord) (log : SinkRecord) (gate : GateRecord) (new : Situation) (final : PassView)
-    (closed : Bool) (law : RowsStay) → (had : HasNotified why asked answered (begins first link clock log gate) new) → Calls new.moment.pass final (closing_of first.actor why answered)
-    → IsLeft why (record new.moment.link { closed = closed }) → IsEndOf why answered final (session_of (begins first link clock log gate)) (session_of new)
-    → NotifiesTo why asked first final (session_of (begins first link clock log gate)) (after new closed) × KeepsFaults (session_of (begins first link clock log gate)) (after new closed)
+pub notifies : (why : SendEnd) (asked : Asked) (answered : Answered) (first : PassView) (link : LinkRecord)
+    (clock : ClockRecord) (log : SinkRecord) (gate : GateRecord) (new : Situation) (final : PassView)
+    (closed : Bool) (law : RowsStay) → (had : HasNotified why asked answered (begins first link clock log gate) new)
+    → Calls new.moment.pass final (closing_of first.actor why answered)
+    → IsLeft why (record new.moment.link { closed = closed })
+    → IsEndOf why answered final (session_of (begins first link clock log gate)) (session_of new)
+    → NotifiesTo why asked first final (session_of (begins first link clock log gate))
+    (after new closed) × KeepsFaults (session_of (begins first link clock log gate)) (after new closed)
 notifies why asked answered first link clock log gate new final closed law had closing left cause =
     let old = begins first link clock log gate in
     let act = notifying_act first.actor asked had.notifying in
     let P : Answered → Type 0 = λ a. Calls new.moment.pass final (closing_of first.actor why a) in
     let Q : Answered → Type 0 = λ a. IsEndOf why a final (session_of old) (session_of new) in
     let closes = subst P (sym had.is_answered) closing in
-    let settled = settles why asked.host [] act (closing_of first.actor why had.notifying.answered) old new final closed refl had.ends had.all_sent closes left in (
+    let settled = settles why asked.host [] act (closing_of first.actor why had.notifying.answered) old new final closed
+    refl had.ends had.all_sent closes left in (
       record {
         notifying = had.notifying;
         is_notifying = had.is_notifying;
@@ -51,21 +56,26 @@ notifies why asked answered first link clock log gate new final closed law had c
         idled = settled.idled;
         logged = settled.logged;
         last = had.last;
-        cause = cause_closed why had.notifying.answered final (session_of old) new closed (subst Q (sym had.is_answered) cause);
+        cause = cause_closed why had.notifying.answered final (session_of old) new closed
+            (subst Q (sym had.is_answered) cause);
       },
       settled.counts,
     )
 
 -- the queue was found to have had all its calls
-pub worn_at_close : (why : SendEnd) (asked : Asked) (answered : Answered) (old : Situation) (pass final : PassView) (link : LinkRecord) (clock : ClockRecord) (out : List ℕ) (log : SinkRecord)
-    (gate : GateRecord) (turns : ℕ) (law : RowsStay) → HasNotified why asked answered old (situation_of (moment_of pass link clock out) log gate) → FindsWorn pass final turns
+pub worn_at_close : (why : SendEnd) (asked : Asked) (answered : Answered) (old : Situation) (pass final : PassView)
+    (link : LinkRecord) (clock : ClockRecord) (out : List ℕ) (log : SinkRecord)
+    (gate : GateRecord) (turns : ℕ) (law : RowsStay)
+    → HasNotified why asked answered old (situation_of (moment_of pass link clock out) log gate)
+    → FindsWorn pass final turns
     → HasNotified end.Worn asked answered old (situation_of (moment_of final link clock out) log gate)
 worn_at_close why asked answered old pass final link clock out log gate turns law had worn = record {
   notifying = had.notifying;
   is_answered = had.is_answered;
   is_notifying = had.is_notifying;
   ends =
-      worn_act (is_whole why) why asked.host [] old pass final link clock out log gate (notifying_act old.moment.pass.actor asked had.notifying) (calls_some pass final [] worn.makes) had.ends;
+      worn_act (is_whole why) why asked.host [] old pass final link clock out log gate
+      (notifying_act old.moment.pass.actor asked had.notifying) (calls_some pass final [] worn.makes) had.ends;
   all_sent = tt;
   rows = rows_stay law pass final [] (rows_of had.notifying) (calls_some pass final [] worn.makes) had.rows;
   last = tt;

@@ -11,7 +11,8 @@ use Rattle.ldm_notify.specs.Notifying.{Last, GoesOn, Stopped, MayTurn}
 use Rattle.ldm_notify.specs.Notifies.{Notifies}
 use Rattle.ldm_notify.specs.Complete.{HasCallsLeft, IsEndFor, NoneFailed}
 
-stopped-end : (answered : Answered) (turns : List Turn) (last : Last) (at : ℕ) → MayTurn answered turns last → last ≡ Stopped at → IsEndFor answered note.Stopped
+stopped-end : (answered : Answered) (turns : List Turn) (last : Last) (at : ℕ) → MayTurn answered turns last
+    → last ≡ Stopped at → IsEndFor answered note.Stopped
 stopped-end (Opened missed k) turns last at may is = inl refl
 stopped-end (Denied rule) turns last at may is = let no : GoesOn ≡ Stopped at = sym may.1 ∙ is in absurd (cc no)
 stopped-end (Reclassed class) turns last at may is = let no : GoesOn ≡ Stopped at = sym may.1 ∙ is in absurd (cc no)
@@ -24,10 +25,12 @@ memory-end (Reclassed class) = inr refl
 memory-end (Busy missed) = inr refl
 
 pub completes : (why : NotifyEnd) (asked : Asked) (old new : PassView) (before after : SessionRecord)
-    → (notified : Notifies why asked old new before after) → NoneFailed before after → HasCallsLeft new → IsEndFor notified.notifying.answered why
+    → (notified : Notifies why asked old new before after) → NoneFailed before after → HasCallsLeft new
+    → IsEndFor notified.notifying.answered why
 completes note.Stopped asked old new before after notified none few =
     let notifying = notified.notifying in
-    stopped-end notifying.answered notifying.turns notifying.last notified.last.0 notified.is_notifying.opened notified.last.1
+    stopped-end notifying.answered notifying.turns notifying.last notified.last.0 notified.is_notifying.opened
+    notified.last.1
 completes note.Reclassed asked old new before after notified none few =
     subst (λ (a : Answered). IsEndFor a note.Reclassed) (sym notified.cause.1) (inl refl)
 completes (note.Denied rule) asked old new before after notified none few =

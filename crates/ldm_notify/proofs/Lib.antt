@@ -6,3 +6,4 @@ mod Noted
 mod Closing
 mod Unnoted
 mod Complete
+mod Asked

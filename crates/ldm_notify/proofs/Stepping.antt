@@ -1,5 +1,6 @@
 -- One turn: a step of the cursor, and what follows it.
-use Rattle.std.proofs.Common.{◌≡◌, ◌∙◌, ℕ, zero, suc, ◌<◌, ◌≤◌, List, [], ◌∷◌, ◌++◌, length, Bool, None, inl, inr, refl, sym, ap, subst, arith, append-nil}
+use Rattle.std.proofs.Common.{◌≡◌, ◌∙◌, ℕ, zero, suc, ◌<◌, ◌≤◌, List, [], ◌∷◌, ◌++◌, length, Bool, None, inl, inr, refl}
+use Rattle.std.proofs.Common.{sym, ap, subst, arith, append-nil}
 use Rattle.std.specs.Prelude.{Result, Ok, Err, slice_index_or}
 use Rattle.ldm_model.specs.declared.event.Reply.TheVariants as reply
 use Rattle.ldm_outside.specs.Clock.{ClockRecord}
@@ -23,11 +24,13 @@ use Rattle.ldm_sender.specs.Acts.{situation_of, then_act, ungated, BreaksAct, En
 use Rattle.ldm_sender.specs.Idling.{quiet_act, alive_act, stop_act, EndsIdle, Idles}
 use Rattle.ldm_sender.specs.Stopping.{StopsSending}
 use Rattle.ldm_sender.specs.Ending.{StopsTurns}
-use Rattle.ldm_sender.proofs.Acting.{deed_is, act_is, acts_same, breaks_same, acts_of, breaks_act_of, acts_then, acts_break}
+use Rattle.ldm_sender.proofs.Acting.{deed_is, act_is, acts_same, breaks_same, acts_of, breaks_act_of, acts_then}
+use Rattle.ldm_sender.proofs.Acting.{acts_break}
 use Rattle.ldm_sender.proofs.Doing.{exchanged_nothing, keeps_link}
 use Rattle.ldm_sender.proofs.Opened.{IsCut, cut_is, stops_cut}
 use Rattle.ldm_sender.proofs.Steps.{RowsStay, one_call, one_line, silent_part, step_act, stepped_acts, then_act-none}
-use Rattle.ldm_notify.specs.Turn.{Row, Handling, Passed, Told, Lost, Gave, Quiet, Alive, given_reply, let_go, handling_messages}
+use Rattle.ldm_notify.specs.Turn.{Row, Handling, Passed, Told, Lost, Gave, Quiet, Alive, given_reply, let_go}
+use Rattle.ldm_notify.specs.Turn.{handling_messages}
 use Rattle.ldm_notify.specs.Notifying.{GoesOn, Stopped}
 use Rattle.ldm_notify.specs.Telling.{product_deed, Handled, EndsHandling, Handles}
 use Rattle.ldm_notify.specs.Course.{turns_act, last_act, IsLastOf, IsRowIn, AreRows, MakesTurns, EndsTurns, TurnsBy}
@@ -46,29 +49,38 @@ one_row pass row is = λ k d within. by_place k d within
 
 -- ---- a loss
 
-pub lost : (asked : Asked) (host : List ℕ) (k count first last : ℕ) (s : Standing) (old new : PassView) (link : LinkRecord) (clock : ClockRecord) (out : List ℕ) (log log' : SinkRecord)
-    (gate : GateRecord) → asked.host ≡ host → Makes old new (stepped old.actor k (reply.Gap count first last) ∷ []) → IsNotClosed link → HasCursor new k None
+pub lost : (asked : Asked) (host : List ℕ) (k count first last : ℕ) (s : Standing) (old new : PassView)
+    (link : LinkRecord) (clock : ClockRecord) (out : List ℕ) (log log' : SinkRecord)
+    (gate : GateRecord) → asked.host ≡ host → Makes old new (stepped old.actor k (reply.Gap count first last) ∷ [])
+    → IsNotClosed link → HasCursor new k None
     → log.faults ≤ log'.faults → Takes log (gap_line host count first last) log'
-    → MakesTurns asked k s s (situation_of (moment_of old link clock out) log gate) (situation_of (moment_of new link clock out) log' gate)
-lost asked host k count first last s old new link clock out log log' gate is makes unclosed cursor faults takes = record {
-  turns = Lost count first last ∷ [];
-  are_turns = (tt, tt);
-  acts = record {
-    does = one_call old new link clock out (stepped old.actor k (reply.Gap count first last)) makes unclosed;
-    logged = subst (λ (x : List ℕ). Takes log x log') (one_line asked host count first last is) takes;
-    idled = refl;
-    beside = record { log = faults; stops = omega arith };
-  };
-  stands = refl;
-  cursor = cursor;
-  rows = no_rows new;
-}
+    → MakesTurns asked k s s (situation_of (moment_of old link clock out) log gate)
+    (situation_of (moment_of new link clock out) log' gate)
+lost asked host k count first last s old new link clock out log log' gate is makes unclosed cursor faults takes =
+    record {
+      turns = Lost count first last ∷ [];
+      are_turns = (tt, tt);
+      acts = record {
+        does = one_call old new link clock out (stepped old.actor k (reply.Gap count first last)) makes unclosed;
+        logged = subst (λ (x : List ℕ). Takes log x log') (one_line asked host count first last is) takes;
+        idled = refl;
+        beside = record { log = faults; stops = omega arith };
+      };
+      stands = refl;
+      cursor = cursor;
+      rows = no_rows new;
+    }
 
-pub lost_unlogged : (asked : Asked) (host : List ℕ) (k count first last : ℕ) (s : Standing) (old new : PassView) (link : LinkRecord) (clock : ClockRecord) (out : List ℕ)
-    (log log' : SinkRecord) (gate : GateRecord) → asked.host ≡ host → Makes old new (stepped old.actor k (reply.Gap count first last) ∷ []) → IsNotClosed link
-    → HasCursor new k None → log.faults ≤ log'.faults → Rose log.faults log'.faults → WritesFront log (gap_line host count first last) log'
-    → EndsTurns end.LogFault asked k s (situation_of (moment_of old link clock out) log gate) (situation_of (moment_of new link clock out) log' gate)
-lost_unlogged asked host k count first last s old new link clock out log log' gate is makes unclosed cursor faults rose front =
+pub lost_unlogged : (asked : Asked) (host : List ℕ) (k count first last : ℕ) (s : Standing) (old new : PassView)
+    (link : LinkRecord) (clock : ClockRecord) (out : List ℕ)
+    (log log' : SinkRecord) (gate : GateRecord) → asked.host ≡ host
+    → Makes old new (stepped old.actor k (reply.Gap count first last) ∷ []) → IsNotClosed link
+    → HasCursor new k None → log.faults ≤ log'.faults → Rose log.faults log'.faults
+    → WritesFront log (gap_line host count first last) log'
+    → EndsTurns end.LogFault asked k s (situation_of (moment_of old link clock out) log gate)
+    (situation_of (moment_of new link clock out) log' gate)
+lost_unlogged asked host k count first last s old new link clock out log log' gate is makes unclosed cursor faults rose
+    front =
     let entry = stepped old.actor k (reply.Gap count first last) in
     record {
       all_sent = tt;
@@ -103,9 +115,11 @@ lost_unlogged asked host k count first last s old new link clock out log log' ga
 
 -- ---- no step could be made
 
-pub unstepped : (asked : Asked) (k turns : ℕ) (s : Standing) (old new : PassView) (link : LinkRecord) (clock : ClockRecord) (out : List ℕ) (log : SinkRecord) (gate : GateRecord)
+pub unstepped : (asked : Asked) (k turns : ℕ) (s : Standing) (old new : PassView) (link : LinkRecord)
+    (clock : ClockRecord) (out : List ℕ) (log : SinkRecord) (gate : GateRecord)
     → IsNotClosed link → FindsWorn old new turns
-    → EndsTurns end.Worn asked k s (situation_of (moment_of old link clock out) log gate) (situation_of (moment_of new link clock out) log gate)
+    → EndsTurns end.Worn asked k s (situation_of (moment_of old link clock out) log gate)
+    (situation_of (moment_of new link clock out) log gate)
 unstepped asked k turns s old new link clock out log gate unclosed worn = record {
   all_sent = tt;
   turns = [];
@@ -144,24 +158,32 @@ unstepped asked k turns s old new link clock out log gate unclosed worn = record
 
 -- the step, and what is done with the product
 gave_act : (actor k : ℕ) (s : Standing) (row : Row) (handling : Handling)
-    → then_act (step_act actor k (given_reply row)) (ungated (product_deed actor k s.next row handling)) ≡ turns_act actor k s (Gave row handling ∷ [])
+    → then_act (step_act actor k (given_reply row))
+    (ungated (product_deed actor k s.next row handling)) ≡ turns_act actor k s (Gave row handling ∷ [])
 gave_act actor k s row Passed = refl
 gave_act actor k s row (Told at) =
-    act_is _ _ _ _ (deed_is _ _ _ _ _ _ refl (append-nil (records_of (handling_messages s.next row (Told at)))) refl) refl
+    act_is _ _ _ _ (deed_is _ _ _ _ _ _ refl (append-nil (records_of (handling_messages s.next row (Told at)))) refl)
+    refl
 
-pub gave : (asked : Asked) (k : ℕ) (row : Row) (s s' : Standing) (first old : PassView) (link link' : LinkRecord) (clock clock' : ClockRecord) (out : List ℕ) (new : PassView) (out' : List ℕ)
-    (log : SinkRecord) (gate : GateRecord) → RowsStay → IsRowIn old row → IsNotClosed link → Makes first old (stepped first.actor k (given_reply row) ∷ [])
+pub gave : (asked : Asked) (k : ℕ) (row : Row) (s s' : Standing) (first old : PassView) (link link' : LinkRecord)
+    (clock clock' : ClockRecord) (out : List ℕ) (new : PassView) (out' : List ℕ)
+    (log : SinkRecord) (gate : GateRecord) → RowsStay → IsRowIn old row → IsNotClosed link
+    → Makes first old (stepped first.actor k (given_reply row) ∷ [])
     → Handled asked k row s s' (moment_of old link clock out) (moment_of new link' clock' out')
-    → MakesTurns asked k s s' (situation_of (moment_of first link clock out) log gate) (situation_of (moment_of new link' clock' out') log gate)
+    → MakesTurns asked k s s' (situation_of (moment_of first link clock out) log gate)
+    (situation_of (moment_of new link' clock' out') log gate)
 gave asked k row s s' first old link link' clock clock' out new out' log gate law is unclosed makes handled =
     let a = situation_of (moment_of first link clock out) log gate in
     let b = situation_of (moment_of old link clock out) log gate in
     let c = situation_of (moment_of new link' clock' out') log gate in
     let same : old.actor ≡ first.actor = ap (λ (p : PassView). p.actor) makes.same in
     let step = stepped_acts asked.host first old k (given_reply row) link clock out log gate refl makes unclosed in
-    let does : Does [] (moment_of old link clock out) (moment_of new link' clock' out') (product_deed first.actor k s.next row handled.handling) =
-    subst (λ (n : ℕ). Does [] (moment_of old link clock out) (moment_of new link' clock' out') (product_deed n k s.next row handled.handling)) same handled.does in
-    let rest = acts_of asked.host [] (moment_of old link clock out) (moment_of new link' clock' out') log gate (product_deed first.actor k s.next row handled.handling) refl does in
+    let does : Does [] (moment_of old link clock out) (moment_of new link' clock' out')
+    (product_deed first.actor k s.next row handled.handling) =
+    subst (λ (n : ℕ). Does [] (moment_of old link clock out) (moment_of new link' clock' out')
+    (product_deed n k s.next row handled.handling)) same handled.does in
+    let rest = acts_of asked.host [] (moment_of old link clock out)
+    (moment_of new link' clock' out') log gate (product_deed first.actor k s.next row handled.handling) refl does in
     let both = acts_then asked.host [] [] a b c _ _ step rest in
     record {
       turns = Gave row handled.handling ∷ [];
@@ -173,8 +195,10 @@ gave asked k row s s' first old link link' clock clock' out new out' log gate la
     }
 
 -- it broke off in what is done with it
-gave_broken : (why : SendEnd) (asked : Asked) (k : ℕ) (row : Row) (s : Standing) (first old : PassView) (link : LinkRecord) (clock : ClockRecord) (out : List ℕ) (new : Moment)
-    (log : SinkRecord) (gate : GateRecord) → IsNotClosed link → Makes first old (stepped first.actor k (given_reply row) ∷ [])
+gave_broken : (why : SendEnd) (asked : Asked) (k : ℕ) (row : Row) (s : Standing) (first old : PassView)
+    (link : LinkRecord) (clock : ClockRecord) (out : List ℕ) (new : Moment)
+    (log : SinkRecord) (gate : GateRecord) → IsNotClosed link
+    → Makes first old (stepped first.actor k (given_reply row) ∷ [])
     → (ended : EndsHandling why asked k row s (moment_of old link clock out) new)
     → BreaksAct why asked.host [] (situation_of (moment_of first link clock out) log gate) (situation_of new log gate)
     (then_act (turns_act first.actor k s (Gave row ended.handling ∷ [])) (last_act first.actor k GoesOn))
@@ -187,13 +211,17 @@ gave_broken why asked k row s first old link clock out new log gate unclosed mak
     let step = stepped_acts asked.host first old k (given_reply row) link clock out log gate refl makes unclosed in
     let breaks = subst (λ (n : ℕ). Breaks [] (moment_of old link clock out) new (deed n)) same ended.breaks in
     let quiet = silent_part asked.host breaks.called (let_go first.actor k row ∷ []) breaks.called_part refl in
-    let rest = breaks_act_of why asked.host [] (moment_of old link clock out) new log gate (deed first.actor) breaks quiet (tt, tt) in
-    let both = acts_break why asked.host [] [] a b c (step_act first.actor k (given_reply row)) (ungated (deed first.actor)) step rest in
+    let rest = breaks_act_of why asked.host [] (moment_of old link clock out) new log gate (deed first.actor) breaks
+    quiet (tt, tt) in
+    let both = acts_break why asked.host [] [] a b c (step_act first.actor k (given_reply row))
+    (ungated (deed first.actor)) step rest in
     let turns = turns_act first.actor k s (Gave row ended.handling ∷ []) in
     breaks_same why asked.host [] a c _ _ (gave_act first.actor k s row ended.handling ∙ sym (then_act-none turns)) both
 
-stops_turns : (why : SendEnd) (old : PassView) (link : LinkRecord) (clock : ClockRecord) (out : List ℕ) (first : PassView) (new : Moment) (log : SinkRecord) (gate : GateRecord)
-    → StopsSending why (moment_of old link clock out) new → StopsTurns why (situation_of (moment_of first link clock out) log gate) (situation_of new log gate)
+stops_turns : (why : SendEnd) (old : PassView) (link : LinkRecord) (clock : ClockRecord) (out : List ℕ)
+    (first : PassView) (new : Moment) (log : SinkRecord) (gate : GateRecord)
+    → StopsSending why (moment_of old link clock out) new
+    → StopsTurns why (situation_of (moment_of first link clock out) log gate) (situation_of new log gate)
 stops_turns end.LinkFault old link clock out first new log gate cause = cause
 stops_turns end.Worn old link clock out first new log gate cause = cause
 stops_turns end.OutOfMemory old link clock out first new log gate cause = tt
@@ -217,8 +245,10 @@ cut_last end.AllBusy cut = absurd cut
 cut_last end.Worn cut = tt
 cut_last end.OutOfMemory cut = tt
 
-gave_ended : (why : SendEnd) (asked : Asked) (k : ℕ) (row : Row) (s : Standing) (first old : PassView) (link : LinkRecord) (clock : ClockRecord) (out : List ℕ) (new : Moment)
-    (log : SinkRecord) (gate : GateRecord) → RowsStay → IsRowIn old row → IsNotClosed link → Makes first old (stepped first.actor k (given_reply row) ∷ [])
+gave_ended : (why : SendEnd) (asked : Asked) (k : ℕ) (row : Row) (s : Standing) (first old : PassView)
+    (link : LinkRecord) (clock : ClockRecord) (out : List ℕ) (new : Moment)
+    (log : SinkRecord) (gate : GateRecord) → RowsStay → IsRowIn old row → IsNotClosed link
+    → Makes first old (stepped first.actor k (given_reply row) ∷ [])
     → EndsHandling why asked k row s (moment_of old link clock out) new
     → EndsTurns why asked k s (situation_of (moment_of first link clock out) log gate) (situation_of new log gate)
 gave_ended why asked k row s first old link clock out new log gate law is unclosed makes ended =
@@ -233,28 +263,40 @@ gave_ended why asked k row s first old link clock out new log gate law is unclos
       last = GoesOn;
       are_turns = (ended.is_handled, tt);
       last_of_end = cut_last why cut;
-      ends = subst (λ (w : Bool). EndsAct w why asked.host [] a c act) (sym part) (gave_broken why asked k row s first old link clock out new log gate unclosed makes ended);
+      ends = subst (λ (w : Bool). EndsAct w why asked.host [] a c act) (sym part)
+          (gave_broken why asked k row s first old link clock out new log gate unclosed makes ended);
       cause = stops_turns why old link clock out first new log gate ended.cause;
       cursor = ended.cursor;
       rows = one_row new.pass row (row_stays law old new.pass _ row ended.breaks.calls is);
     }
 
-pub gave_by : (result : Result (Unit {0}) SendEnd) (asked : Asked) (k : ℕ) (row : Row) (s s' : Standing) (first old : PassView) (link link' : LinkRecord) (clock clock' : ClockRecord)
-    (out : List ℕ) (new : PassView) (out' : List ℕ) (log : SinkRecord) (gate : GateRecord) → RowsStay → IsRowIn old row → IsNotClosed link
-    → Makes first old (stepped first.actor k (given_reply row) ∷ []) → Handles result asked k row s s' (moment_of old link clock out) (moment_of new link' clock' out')
-    → TurnsBy result asked k s s' (situation_of (moment_of first link clock out) log gate) (situation_of (moment_of new link' clock' out') log gate)
-gave_by (Ok done) asked k row s s' first old link link' clock clock' out new out' log gate law is unclosed makes handled =
+pub gave_by : (result : Result (Unit {0}) SendEnd) (asked : Asked) (k : ℕ) (row : Row) (s s' : Standing)
+    (first old : PassView) (link link' : LinkRecord) (clock clock' : ClockRecord)
+    (out : List ℕ) (new : PassView) (out' : List ℕ) (log : SinkRecord) (gate : GateRecord) → RowsStay → IsRowIn old row
+    → IsNotClosed link
+    → Makes first old (stepped first.actor k (given_reply row) ∷ [])
+    → Handles result asked k row s s' (moment_of old link clock out) (moment_of new link' clock' out')
+    → TurnsBy result asked k s s' (situation_of (moment_of first link clock out) log gate)
+    (situation_of (moment_of new link' clock' out') log gate)
+gave_by (Ok done) asked k row s s' first old link link' clock clock' out new out' log gate law is unclosed makes
+    handled =
     gave asked k row s s' first old link link' clock clock' out new out' log gate law is unclosed makes handled
 gave_by (Err why) asked k row s s' first old link link' clock clock' out new out' log gate law is unclosed makes ended =
-    gave_ended why asked k row s first old link clock out (moment_of new link' clock' out') log gate law is unclosed makes ended
+    gave_ended why asked k row s first old link clock out (moment_of new link' clock' out') log gate law is unclosed
+    makes ended
 
 -- ---- the end of the queue
 
-idle_ended : (why : SendEnd) (asked : Asked) (k at : ℕ) (s : Standing) (first old : PassView) (link link' : LinkRecord) (clock clock' : ClockRecord) (out out' : List ℕ)
-    (log : SinkRecord) (gate gate' : GateRecord) → IsNotClosed link → HasCursor old k None → Makes first old (stepped first.actor k (reply.End at) ∷ [])
-    → EndsIdle why asked.host s (situation_of (moment_of old link clock out) log gate) (situation_of (moment_of old link' clock' out') log gate')
-    → EndsTurns why asked k s (situation_of (moment_of first link clock out) log gate) (situation_of (moment_of old link' clock' out') log gate')
-idle_ended end.Stopped asked k at s first old link link' clock clock' out out' log gate gate' unclosed cursor makes ends =
+idle_ended : (why : SendEnd) (asked : Asked) (k at : ℕ) (s : Standing) (first old : PassView) (link link' : LinkRecord)
+    (clock clock' : ClockRecord) (out out' : List ℕ)
+    (log : SinkRecord) (gate gate' : GateRecord) → IsNotClosed link → HasCursor old k None
+    → Makes first old (stepped first.actor k (reply.End at) ∷ [])
+    → EndsIdle why asked.host s (situation_of (moment_of old link clock out) log gate)
+    (situation_of (moment_of old link' clock' out') log gate')
+    → EndsTurns why asked k s (situation_of (moment_of first link clock out) log gate)
+    (situation_of (moment_of old link' clock' out') log gate')
+idle_ended end.Stopped asked k at s first old link link' clock clock' out out' log gate gate' unclosed cursor makes
+    ends =
     let a = situation_of (moment_of first link clock out) log gate in
     let b = situation_of (moment_of old link clock out) log gate in
     let c = situation_of (moment_of old link' clock' out') log gate' in
@@ -270,7 +312,8 @@ idle_ended end.Stopped asked k at s first old link link' clock clock' out out' l
       cursor = (None, cursor);
       rows = no_rows old;
     }
-idle_ended end.LinkFault asked k at s first old link link' clock clock' out out' log gate gate' unclosed cursor makes ends =
+idle_ended end.LinkFault asked k at s first old link link' clock clock' out out' log gate gate' unclosed cursor makes
+    ends =
     let a = situation_of (moment_of first link clock out) log gate in
     let b = situation_of (moment_of old link clock out) log gate in
     let c = situation_of (moment_of old link' clock' out') log gate' in
@@ -281,17 +324,20 @@ idle_ended end.LinkFault asked k at s first old link link' clock clock' out out'
       last = Stopped at;
       are_turns = tt;
       last_of_end = tt;
-      ends = acts_break end.LinkFault asked.host [] [] a b c (step_act first.actor k (reply.End at)) stop_act step ends.0;
+      ends = acts_break end.LinkFault asked.host [] [] a b c (step_act first.actor k (reply.End at)) stop_act step
+          ends.0;
       cause = ends.1;
       cursor = (None, cursor);
       rows = no_rows old;
     }
-idle_ended end.OutOfMemory asked k at s first old link link' clock clock' out out' log gate gate' unclosed cursor makes ends =
+idle_ended end.OutOfMemory asked k at s first old link link' clock clock' out out' log gate gate' unclosed cursor makes
+    ends =
     let a = situation_of (moment_of first link clock out) log gate in
     let b = situation_of (moment_of old link clock out) log gate in
     let c = situation_of (moment_of old link' clock' out') log gate' in
     let step = stepped_acts asked.host first old k (reply.End at) link clock out log gate refl makes unclosed in
-    let both = acts_break end.OutOfMemory asked.host [] [] a b c (step_act first.actor k (reply.End at)) (alive_act s.next ends.now 0) step ends.breaks in
+    let both = acts_break end.OutOfMemory asked.host [] [] a b c (step_act first.actor k (reply.End at))
+    (alive_act s.next ends.now 0) step ends.breaks in
     let turns = turns_act first.actor k s (Alive at ends.now 0 ∷ []) in
     record {
       all_sent = tt;
@@ -304,20 +350,31 @@ idle_ended end.OutOfMemory asked k at s first old link link' clock clock' out ou
       cursor = (None, cursor);
       rows = no_rows old;
     }
-idle_ended end.Reclassed asked k at s first old link link' clock clock' out out' log gate gate' unclosed cursor makes ends = absurd ends
-idle_ended (end.Denied rule) asked k at s first old link link' clock clock' out out' log gate gate' unclosed cursor makes ends = absurd ends
-idle_ended (end.PeerEnd place) asked k at s first old link link' clock clock' out out' log gate gate' unclosed cursor makes ends = absurd ends
-idle_ended end.LogFault asked k at s first old link link' clock clock' out out' log gate gate' unclosed cursor makes ends = absurd ends
-idle_ended (end.BadReply place) asked k at s first old link link' clock clock' out out' log gate gate' unclosed cursor makes ends = absurd ends
-idle_ended end.AllBusy asked k at s first old link link' clock clock' out out' log gate gate' unclosed cursor makes ends = absurd ends
-idle_ended end.Worn asked k at s first old link link' clock clock' out out' log gate gate' unclosed cursor makes ends = absurd ends
+idle_ended end.Reclassed asked k at s first old link link' clock clock' out out' log gate gate' unclosed cursor makes
+    ends = absurd ends
+idle_ended (end.Denied rule) asked k at s first old link link' clock clock' out out' log gate gate' unclosed cursor
+    makes ends = absurd ends
+idle_ended (end.PeerEnd place) asked k at s first old link link' clock clock' out out' log gate gate' unclosed cursor
+    makes ends = absurd ends
+idle_ended end.LogFault asked k at s first old link link' clock clock' out out' log gate gate' unclosed cursor makes
+    ends = absurd ends
+idle_ended (end.BadReply place) asked k at s first old link link' clock clock' out out' log gate gate' unclosed cursor
+    makes ends = absurd ends
+idle_ended end.AllBusy asked k at s first old link link' clock clock' out out' log gate gate' unclosed cursor makes
+    ends = absurd ends
+idle_ended end.Worn asked k at s first old link link' clock clock' out out' log gate gate' unclosed cursor makes ends =
+    absurd ends
 
-pub idle_by : (result : Result (Unit {0}) SendEnd) (asked : Asked) (k at : ℕ) (s s' : Standing) (first old : PassView) (link link' : LinkRecord) (clock clock' : ClockRecord)
+pub idle_by : (result : Result (Unit {0}) SendEnd) (asked : Asked) (k at : ℕ) (s s' : Standing) (first old : PassView)
+    (link link' : LinkRecord) (clock clock' : ClockRecord)
     (out out' : List ℕ) (log : SinkRecord) (gate gate' : GateRecord) → IsNotClosed link → HasCursor old k None
     → Makes first old (stepped first.actor k (reply.End at) ∷ [])
-    → Idles result asked.host s s' (situation_of (moment_of old link clock out) log gate) (situation_of (moment_of old link' clock' out') log gate')
-    → TurnsBy result asked k s s' (situation_of (moment_of first link clock out) log gate) (situation_of (moment_of old link' clock' out') log gate')
-idle_by (Ok done) asked k at s s' first old link link' clock clock' out out' log gate gate' unclosed cursor makes (inl quiet) =
+    → Idles result asked.host s s' (situation_of (moment_of old link clock out) log gate)
+    (situation_of (moment_of old link' clock' out') log gate')
+    → TurnsBy result asked k s s' (situation_of (moment_of first link clock out) log gate)
+    (situation_of (moment_of old link' clock' out') log gate')
+idle_by (Ok done) asked k at s s' first old link link' clock clock' out out' log gate gate' unclosed cursor makes
+    (inl quiet) =
     let a = situation_of (moment_of first link clock out) log gate in
     let b = situation_of (moment_of old link clock out) log gate in
     let c = situation_of (moment_of old link' clock' out') log gate' in
@@ -325,12 +382,14 @@ idle_by (Ok done) asked k at s s' first old link link' clock clock' out out' log
     record {
       turns = Quiet at quiet.now ∷ [];
       are_turns = (quiet.not_silent, tt);
-      acts = acts_then asked.host [] [] a b c (step_act first.actor k (reply.End at)) (quiet_act quiet.now) step quiet.acts;
+      acts = acts_then asked.host [] [] a b c (step_act first.actor k (reply.End at))
+          (quiet_act quiet.now) step quiet.acts;
       stands = quiet.stands;
       cursor = cursor;
       rows = no_rows old;
     }
-idle_by (Ok done) asked k at s s' first old link link' clock clock' out out' log gate gate' unclosed cursor makes (inr alive) =
+idle_by (Ok done) asked k at s s' first old link link' clock clock' out out' log gate gate' unclosed cursor makes
+    (inr alive) =
     let a = situation_of (moment_of first link clock out) log gate in
     let b = situation_of (moment_of old link clock out) log gate in
     let c = situation_of (moment_of old link' clock' out') log gate' in
@@ -338,7 +397,8 @@ idle_by (Ok done) asked k at s s' first old link link' clock clock' out out' log
     record {
       turns = Alive at alive.now s'.sent_at ∷ [];
       are_turns = (alive.silent, tt);
-      acts = acts_then asked.host [] [] a b c (step_act first.actor k (reply.End at)) (alive_act s.next alive.now s'.sent_at) step alive.acts;
+      acts = acts_then asked.host [] [] a b c (step_act first.actor k (reply.End at))
+          (alive_act s.next alive.now s'.sent_at) step alive.acts;
       stands = ap (λ (n : ℕ). record s' { next = n }) alive.next;
       cursor = cursor;
       rows = no_rows old;

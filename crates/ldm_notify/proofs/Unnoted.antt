@@ -17,9 +17,11 @@ use Rattle.ldm_notify.specs.Course.{IsLastOf}
 use Rattle.ldm_notify.specs.Notifies.{AwaitsNone, NotifiesTo, notifying_act}
 use Rattle.ldm_notify.proofs.Noted.{answer_only, may_turn, notifying_is}
 
-unturned_is : (actor : ℕ) (asked : Asked) (answered : Answered) (at : ℕ) → beginning actor asked answered at ≡ notifying_act actor asked (answer_only answered at)
+unturned_is : (actor : ℕ) (asked : Asked) (answered : Answered) (at : ℕ)
+    → beginning actor asked answered at ≡ notifying_act actor asked (answer_only answered at)
 unturned_is actor asked answered at =
-    sym (then_act-none (beginning actor asked answered at)) ∙ notifying_is actor (place_of answered) asked (answer_only answered at) refl
+    sym (then_act-none (beginning actor asked answered at))
+    ∙ notifying_is actor (place_of answered) asked (answer_only answered at) refl
 
 quit_last : (why : SendEnd) → IsQuit why → IsLastOf why GoesOn
 quit_last (end.Denied rule) quits = tt
@@ -33,12 +35,15 @@ quit_last (end.PeerEnd place) quits = absurd quits
 quit_last end.LogFault quits = absurd quits
 quit_last (end.BadReply place) quits = absurd quits
 
-pub unnoted : (why : SendEnd) (asked : Asked) (old new : PassView) (before after : SessionRecord) → Unturned why asked old new before after
+pub unnoted : (why : SendEnd) (asked : Asked) (old new : PassView) (before after : SessionRecord)
+    → Unturned why asked old new before after
     → NotifiesTo why asked old new before after × KeepsFaults before after
 unnoted why asked old new before after unturned =
     let notifying = answer_only unturned.answered unturned.at in
-    let P : Act → Type 0 = λ act. Settles why asked.host act (closing_of old.actor why unturned.answered) [] old new before after in
-    let settled : Settles why asked.host (notifying_act old.actor asked notifying) (closing_of old.actor why unturned.answered) [] old new before after =
+    let P : Act
+    → Type 0 = λ act. Settles why asked.host act (closing_of old.actor why unturned.answered) [] old new before after in
+    let settled : Settles why asked.host (notifying_act old.actor asked notifying)
+    (closing_of old.actor why unturned.answered) [] old new before after =
     subst P (unturned_is old.actor asked unturned.answered unturned.at) unturned.settles in (
       record {
         notifying = notifying;
@@ -65,7 +70,8 @@ unnoted why asked old new before after unturned =
     )
 
 -- an end that a session of notices came to awaits no reply
-pub awaits_none : (why : SendEnd) (asked : Asked) (old new : PassView) (before after : SessionRecord) → NotifiesTo why asked old new before after → AwaitsNone why
+pub awaits_none : (why : SendEnd) (asked : Asked) (old new : PassView) (before after : SessionRecord)
+    → NotifiesTo why asked old new before after → AwaitsNone why
 awaits_none (end.PeerEnd place) asked old new before after notifies = absurd notifies.last
 awaits_none (end.BadReply place) asked old new before after notifies = absurd notifies.last
 awaits_none end.Stopped asked old new before after notifies = tt

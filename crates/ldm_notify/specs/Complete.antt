@@ -17,7 +17,8 @@ pub record NoneFailed (before after : SessionRecord) : Type 0 where
 abbrev pub HasCallsLeft : PassView → Type 0
 HasCallsLeft pass = length pass.seen < MOST_TURNS
 
--- The answer to the request decides the end: a cursor that was opened is stepped until the gate says to stop. Or there is
+-- The answer to the request decides the end: a cursor that was opened is stepped until the gate says to stop. Or there
+-- is
 -- no memory.
 abbrev pub IsEndFor : Answered → NotifyEnd → Type 0
 IsEndFor (Denied rule) why = (why ≡ note.Denied rule) ⊎ (why ≡ note.OutOfMemory)

@@ -13,7 +13,8 @@ use Rattle.ldm_sender.specs.Stopping.{KeepsCursor}
 use Rattle.ldm_sender.specs.Acts.{Situation, Act, Acts, EndsAct, IsAllSent, then_act, is_whole}
 use Rattle.ldm_sender.specs.Ending.{StopsTurns}
 use Rattle.ldm_notify.specs.Turn.{Row, Turn}
-use Rattle.ldm_notify.specs.Turns.{AreTurns, after_turns, entries_of_turns, instants_of_turns, goes_of_turns, messages_of_turns, rows_in_turns}
+use Rattle.ldm_notify.specs.Turns.{AreTurns, after_turns, entries_of_turns, instants_of_turns, goes_of_turns}
+use Rattle.ldm_notify.specs.Turns.{messages_of_turns, rows_in_turns}
 use Rattle.ldm_notify.specs.Notifying.{Last, Stopped, last_entries, last_goes}
 
 -- what turns come to
@@ -29,11 +30,13 @@ turns_act actor k standing turns = record {
 
 -- what the last turn comes to
 abbrev pub last_act : ℕ → ℕ → Last → Act
-last_act actor k last = record { deed = record { entries = last_entries actor k last; bytes = []; instants = [] }; goes = last_goes last }
+last_act actor k last =
+    record { deed = record { entries = last_entries actor k last; bytes = []; instants = [] }; goes = last_goes last }
 
 -- the row is the one of its number in what was seen: its product has that metadata, and was inserted then
 abbrev pub IsRowIn : PassView → Row → Type 0
-IsRowIn pass row = (body : List ℕ) × HasRow row.n (record { info = row.info; body = body }) row.time (after pass.arena pass.slots pass.seen)
+IsRowIn pass row = (body : List ℕ)
+    × HasRow row.n (record { info = row.info; body = body }) row.time (after pass.arena pass.slots pass.seen)
 
 abbrev pub AreRows : PassView → List Row → Type 0
 AreRows pass rows = All (λ (row : Row). IsRowIn pass row) rows
@@ -60,12 +63,14 @@ pub record EndsTurns (why : SendEnd) (asked : Asked) (k : ℕ) (standing : Stand
   pub last : Last
   pub are_turns : AreTurns asked standing turns
   pub last_of_end : IsLastOf why last
-  pub ends : EndsAct (is_whole why) why asked.host [] old new (then_act (turns_act old.moment.pass.actor k standing turns) (last_act old.moment.pass.actor k last))
+  pub ends : EndsAct (is_whole why) why asked.host [] old new
+      (then_act (turns_act old.moment.pass.actor k standing turns) (last_act old.moment.pass.actor k last))
   pub all_sent : IsAllSent (is_whole why) new.moment.out
   pub cause : StopsTurns why old new
   pub cursor : KeepsCursor why new.moment.pass k
   pub rows : AreRows new.moment.pass (rows_in_turns turns)
 
-abbrev pub TurnsBy : Result (Unit {0}) SendEnd → Asked → ℕ → (standing standing' : Standing) → (old new : Situation) → Type 0
+abbrev pub TurnsBy : Result (Unit {0}) SendEnd → Asked → ℕ → (standing standing' : Standing) → (old new : Situation)
+    → Type 0
 TurnsBy (Ok done) asked k standing standing' old new = MakesTurns asked k standing standing' old new
 TurnsBy (Err why) asked k standing standing' old new = EndsTurns why asked k standing old new

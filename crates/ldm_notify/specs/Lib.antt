@@ -1,3 +1,5 @@
+pub mod Asking
+pub mod Notifier
 pub mod Turn
 pub mod Turns
 pub mod Notifying

@@ -1,4 +1,5 @@
--- What a call that tells of products comes to, at each of its ends: the session of notices that it made, or a front of it.
+-- What a call that tells of products comes to, at each of its ends: the session of notices that it made, or a front of
+-- it.
 use Rattle.std.specs.Prelude.{◌≡◌, ℕ, List, [], ◌++◌}
 use Rattle.ldm_model.specs.declared.event.Entry.{Entry}
 use Rattle.ldm_outside.specs.declared.gate.Go.{Go}
@@ -36,7 +37,8 @@ AwaitsNone (end.PeerEnd at) = ⊥
 AwaitsNone (end.BadReply at) = ⊥
 AwaitsNone _ = Unit {0}
 
--- A session of notices was made up to an end: all of it where the end is a whole one, and else of each part a front. No product is of it
+-- A session of notices was made up to an end: all of it where the end is a whole one, and else of each part a front. No
+-- product is of it
 -- that no step of the cursor gave.
 pub record NotifiesTo (why : SendEnd) (asked : Asked) (old new : PassView) (before after : SessionRecord) : Type 0 where
   pub notifying : Notifying
@@ -72,7 +74,12 @@ Notifies why asked old new before after = NotifiesTo (send_end why) asked old ne
 -- what a session of notices comes to
 abbrev pub notifying_act : ℕ → Asked → Notifying → Act
 notifying_act actor asked notifying = record {
-  deed = record { entries = entries_of actor asked notifying; bytes = bytes_of asked notifying; instants = instants_of notifying };
+  deed = record {
+    entries = entries_of actor asked notifying;
+    bytes = bytes_of asked notifying;
+    instants =
+        instants_of notifying;
+  };
   goes = goes_of notifying;
 }
 

@@ -1,4 +1,5 @@
--- A whole session of notices: how the request was answered, the turns, and how it ended. It is plain data. What was called, sent and
+-- A whole session of notices: how the request was answered, the turns, and how it ended. It is plain data. What was
+-- called, sent and
 -- asked are functions of it.
 use Rattle.std.specs.Prelude.{◌≡◌, ℕ, false, List, [], ◌∷◌, ◌++◌}
 use Rattle.std.specs.List.{flat_map}
@@ -16,11 +17,13 @@ use Rattle.ldm_sender.specs.Asked.{Asked}
 use Rattle.ldm_sender.specs.Opening.{Answered, Opened, IsAnswerTo, class_answer_of, opening_entries, place_of}
 use Rattle.ldm_sender.specs.Calls.{stepped}
 use Rattle.ldm_notify.specs.Turn.{Row, Turn}
-use Rattle.ldm_notify.specs.Turns.{AreTurns, entries_of_turns, instants_of_turns, goes_of_turns, messages_of_turns, rows_in_turns}
+use Rattle.ldm_notify.specs.Turns.{AreTurns, entries_of_turns, instants_of_turns, goes_of_turns, messages_of_turns}
+use Rattle.ldm_notify.specs.Turns.{rows_in_turns}
 
 -- who asks for notices, and by whose rules; no product is to come
 abbrev pub asked_of : List ℕ → Rules → Notifyme → Asked
-asked_of host rules ask = record { host = host; rules = rules_for false rules; xid = ask.xid; class = ask.class; max_hereis = 0 }
+asked_of host rules ask =
+    record { host = host; rules = rules_for false rules; xid = ask.xid; class = ask.class; max_hereis = 0 }
 
 -- How the last turn ended, behind those that went on.
 pub data Last : Type 0 where
@@ -73,7 +76,8 @@ entries_of actor asked notifying =
 -- the messages that the peer is owed
 abbrev pub messages_of : Asked → Notifying → List Sent
 messages_of asked notifying =
-    sent.NotifymeReply asked.xid (class_answer_of notifying.answered) ∷ messages_of_turns (begun notifying) notifying.turns
+    sent.NotifymeReply asked.xid (class_answer_of notifying.answered) ∷ messages_of_turns (begun notifying)
+    notifying.turns
 
 -- their records, one behind the other
 abbrev pub bytes_of : Asked → Notifying → List ℕ

@@ -19,7 +19,13 @@ row_of held = record { n = held.n; time = held.time; info = held.info }
 
 -- a notice, or none
 abbrev pub notice_deed : ℕ → Row → Handling → Deed
-notice_deed next row handling = record { entries = []; bytes = records_of (handling_messages next row handling); instants = handling_instants handling }
+notice_deed next row handling =
+    record {
+      entries = [];
+      bytes = records_of (handling_messages next row handling);
+      instants =
+          handling_instants handling;
+    }
 
 -- A notice was gathered where it is due.
 pub record HasTold (asked : Asked) (row : Row) (standing standing' : Standing) (old new : Moment) : Type 0 where
@@ -33,7 +39,8 @@ pub record LacksRoom (asked : Asked) (row : Row) (standing : Standing) (old new 
   pub due : is_due asked row.time row.info ≡ true
   pub breaks : Breaks [] old new (notice_deed standing.next row (Told 0))
 
-abbrev pub Tells : Result (Unit {0}) OutOfMemory → Asked → Row → (standing standing' : Standing) → (old new : Moment) → Type 0
+abbrev pub Tells : Result (Unit {0}) OutOfMemory → Asked → Row → (standing standing' : Standing) → (old new : Moment)
+    → Type 0
 Tells (Ok done) asked row standing standing' old new = HasTold asked row standing standing' old new
 Tells (Err short) asked row standing standing' old new = LacksRoom asked row standing old new
 
@@ -51,13 +58,15 @@ pub record Handled (asked : Asked) (k : ℕ) (row : Row) (standing standing' : S
   pub cursor : HasCursor new.pass k None
 
 -- It broke off in that.
-pub record EndsHandling (why : SendEnd) (asked : Asked) (k : ℕ) (row : Row) (standing : Standing) (old new : Moment) : Type 0 where
+pub record EndsHandling (why : SendEnd) (asked : Asked) (k : ℕ) (row : Row) (standing : Standing)
+    (old new : Moment) : Type 0 where
   pub handling : Handling
   pub is_handled : IsHandled asked row handling
   pub breaks : Breaks [] old new (product_deed old.pass.actor k standing.next row handling)
   pub cause : StopsSending why old new
   pub cursor : KeepsCursor why new.pass k
 
-abbrev pub Handles : Result (Unit {0}) SendEnd → Asked → ℕ → Row → (standing standing' : Standing) → (old new : Moment) → Type 0
+abbrev pub Handles : Result (Unit {0}) SendEnd → Asked → ℕ → Row → (standing standing' : Standing) → (old new : Moment)
+    → Type 0
 Handles (Ok done) asked k row standing standing' old new = Handled asked k row standing standing' old new
 Handles (Err why) asked k row standing standing' old new = EndsHandling why asked k row standing old new

@@ -8,7 +8,8 @@ use Rattle.ldm_session.specs.Idle.{is_silent_since}
 use Rattle.ldm_sender.specs.declared.standing.Standing.{Standing}
 use Rattle.ldm_sender.specs.Asked.{Asked}
 use Rattle.ldm_sender.specs.Due.{is_due}
-use Rattle.ldm_notify.specs.Turn.{Row, Handling, Passed, Told, Turn, Lost, Gave, Quiet, Alive, turn_entries, turn_messages, turn_instants, turn_goes, after_turn}
+use Rattle.ldm_notify.specs.Turn.{Row, Handling, Passed, Told, Turn, Lost, Gave, Quiet, Alive, turn_entries}
+use Rattle.ldm_notify.specs.Turn.{turn_messages, turn_instants, turn_goes, after_turn}
 
 -- The peer is told exactly of the products that are due.
 abbrev pub IsHandled : Asked → Row → Handling → Type 0
@@ -44,7 +45,8 @@ goes_of_turns turns = flat_map turn_goes turns
 
 abbrev pub messages_of_turns : Standing → List Turn → List Sent
 messages_of_turns standing [] = []
-messages_of_turns standing (turn ∷ turns) = turn_messages standing.next turn ++ messages_of_turns (after_turn standing turn) turns
+messages_of_turns standing (turn ∷ turns) =
+    turn_messages standing.next turn ++ messages_of_turns (after_turn standing turn) turns
 
 -- the products that the cursor was given
 abbrev pub rows_in : Turn → List Row

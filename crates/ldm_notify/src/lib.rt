@@ -6,14 +6,17 @@
 //! ends: see `Notifies`.
 #![tactic(auto)]
 
+mod asking;
 mod course;
 mod end;
 mod examples;
 mod handle;
 mod laws;
 mod notice;
+mod notifier;
 mod notifying;
 mod one_turn;
+mod telling;
 
 pub use end::NotifyEnd;
 pub use examples::worked_examples;

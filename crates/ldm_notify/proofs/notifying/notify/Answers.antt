@@ -1,20 +1,37 @@
-use Rattle.std.proofs.Common.{sym, subst}
-use Rattle.ldm_outside.specs.Session.{session_tells}
-use Rattle.ldm_sender.specs.declared.end.SendEnd.{SendEnd}
+use Rattle.std.proofs.Common.{refl, sym}
+use Rattle.ldm_sender.proofs.Unturned.{short}
 use Rattle.ldm_notify.specs.Notifying.{asked_of}
-use Rattle.ldm_notify.specs.Notifies.{NotifiesTo}
-use Rattle.ldm_notify.proofs.Unnoted.{awaits_none}
+use Rattle.ldm_notify.proofs.Asked.{told_of}
+use Rattle.ldm_notify.proofs.Unnoted.{awaits_none, unnoted}
 use Rattle.ldm_notify.proofs.notifying.notify.Goals as goal
 
-pub notify_end-requires : goal.notify_end-requires
-notify_end-requires g c = awaits_none c.notify_built.result _ _ _ _ _ c.notify_built.ensures.notified.0
+pub returns-in-Err-create-clause-notified : goal.returns-in-Err-create-clause-notified
+returns-in-Err-create-clause-notified g c =
+    (unnoted _ _ _ _ _ _
+    (short (asked_of c.args.host.now c.args.policy.now c.args.ask.now) c.args.pass.now _ _ _ _ c.requires.not_closed)).0
 
-pub returns-clause-counts : goal.returns-clause-counts
-returns-clause-counts g c = c.notify_built.ensures.notified.1
+pub notify_end-requires-in-Ok : goal.notify_end-requires-in-Ok
+notify_end-requires-in-Ok g c =
+    let log = g.E.Sink.tells c.args.log.now in
+    let gate = g.G.Gate.tells c.args.gate.now in
+    let declined = c.decline_whole.ensures c.args.host.now c.args.policy.now c.args.pass.now log gate
+    (sym c.in-Ok.ensures) in
+    awaits_none c.decline_whole.result _ _ _ _ _ declined.0
 
-pub returns-clause-notified : goal.returns-clause-notified
-returns-clause-notified g c =
-    let asked = asked_of c.args.host.now c.args.policy.now c.args.ask.now in
-    let before = session_tells g.K.Link.tells g.E.Sink.tells g.C.Clock.tells g.G.Gate.tells c.args.link.now c.args.log.now c.args.clock.now c.args.gate.now in
-    let after = session_tells g.K.Link.tells g.E.Sink.tells g.C.Clock.tells g.G.Gate.tells c.notify_built.new.link c.notify_built.new.log c.notify_built.new.clock c.notify_built.new.gate in
-    subst (λ (why : SendEnd). NotifiesTo why asked c.args.pass.now c.notify_built.new.pass before after) (sym c.notify_end.ensures) c.notify_built.ensures.notified.0
+pub returns-in-Ok : goal.returns-in-Ok
+returns-in-Ok g c =
+    let log = g.E.Sink.tells c.args.log.now in
+    let gate = g.G.Gate.tells c.args.gate.now in
+    let declined = c.decline_whole.ensures c.args.host.now c.args.policy.now c.args.pass.now log gate
+    (sym c.in-Ok.ensures) in
+    record {
+      kept = refl;
+      counts = declined.1;
+      notified =
+          told_of _ _ _ _ _ _ _ _ c.notify_end-in-Ok.ensures refl declined.0;
+    }
+
+pub returns-in-Err-clause-notified : goal.returns-in-Err-clause-notified
+returns-in-Err-clause-notified g c =
+    (unnoted _ _ _ _ _ _
+    (short (asked_of c.args.host.now c.args.policy.now c.args.ask.now) c.args.pass.now _ _ _ _ c.requires.not_closed)).0

@@ -1,0 +1,30 @@
+-- A request for notices of a class of which all is left to the host, before its cursor is opened.
+use Rattle.std.specs.Prelude.{◌≡◌, ◌≤◌, [], length}
+use Rattle.ldm_class.specs.Access.{reduce}
+use Rattle.ldm_class.specs.declared.answers.Reduced.TheVariants as reduced
+use Rattle.ldm_session.specs.declared.gaps.TheConstants.{LONGEST_NAME}
+use Rattle.ldm_sender.specs.Asked.{Asked}
+use Rattle.ldm_notify.specs.declared.asking.Asking.{Asking}
+
+-- who asks, and by whose rules
+abbrev pub asked_as : Asking → Asked
+asked_as asking = record {
+  host = asking.rules.host;
+  rules = asking.rules.rules;
+  xid = asking.xid;
+  class = asking.wanted;
+  max_hereis = 0;
+}
+
+-- it is of that request, and nothing is gathered yet
+pub record IsAskingOf (asked : Asked) (asking : Asking) : Type 0 where
+  pub is : asked_as asking ≡ asked
+  pub class : asking.class.now ≡ asking.wanted
+  pub none : asking.out.items ≡ []
+
+-- All of the class is left to the host, so that a cursor may be opened for it.
+pub record CanOpen (asking : Asking) : Type 0 where
+  pub class : asking.class.now ≡ asking.wanted
+  pub none : asking.out.items ≡ []
+  pub name : length asking.rules.host ≤ LONGEST_NAME
+  pub same : reduce asking.rules.rules asking.rules.host asking.wanted ≡ reduced.Same
