@@ -1,6 +1,6 @@
 -- What a connection comes to where a piece comes, or none; and where it begins.
 use Rattle.std.proofs.Common.{◌≡◌, ℕ, ◌≤◌, Bool, true, false, List, [], ◌++◌, length, take, Option, Some, None, refl, ap, sym, subst, ◌∙◌, arith, append-nil}
-use Rattle.std.specs.Prelude.{IfSome, if◌then◌else◌}
+use Rattle.std.specs.Prelude.{IfSome, if◌then◌else◌, map}
 use Rattle.std.proofs.lemmas.List.{take-append-le, take-take}
 use Rattle.ldm_outside.specs.declared.io.Got.TheVariants.{Bytes, End, Failed}
 use Rattle.ldm_outside.specs.Count.{Rose}
@@ -15,10 +15,16 @@ use Rattle.ldm_session.specs.Exchange.{Exchanged}
 use Rattle.ldm_session.proofs.CallerLemmas.{AnsweredAll-nothing, Exchanged-failing, Exchanged-gave, Exchanged-nothing, Exchanged-then_given}
 use Rattle.ldm_serve.specs.declared.end.ServeEnd.{ServeEnd}
 use Rattle.ldm_serve.specs.declared.end.ServeEnd.TheVariants as end
+use Rattle.ldm_intake.specs.Room.{records_of}
+use Rattle.ldm_downstream.specs.declared.limits.TheConstants.{LONGEST_PIECE}
 use Rattle.ldm_serve.specs.Client.{Client}
+use Rattle.ldm_serve.specs.InTurn.{InTurn, Round}
+use Rattle.ldm_serve.specs.Outlived.{Outlived, messages_for_all, step_of}
+use Rattle.ldm_serve.specs.Steps.{placed_of}
 use Rattle.ldm_serve.specs.Connection.{Answers, Moment, Reaches, moment_of}
 use Rattle.ldm_serve.specs.Rounds.{IsServed, ReadsOn, Runs, end_at, outliving}
 use Rattle.ldm_serve.specs.ServingView.{beginning}
+use Rattle.ldm_serve.proofs.InTurn.{turn-given, turn-none, turn-sent}
 use Rattle.ldm_serve.proofs.Reaching.{came-behind, counts-link, counts-then}
 use Rattle.ldm_serve.proofs.Turning.{fault-served}
 
@@ -28,10 +34,17 @@ linked now link = moment_of now.pass (record now.outside { link = link })
 
 -- ---- what the link gave
 
-module _ (client : Client) (begins : Moment) (answers : Answers) (taken : List ℕ) (now : Moment) (reaches : Reaches true true client answers taken [] begins now) where
+module _ (client : Client) (begins : Moment) (outlived : List Outlived) (taken : List ℕ) (now : Moment)
+    (reaches : Reaches true true client (outliving outlived) taken [] begins now) where
+  -- what passed in all up to now
+  abbrev total : Round
+  total = record { given = taken ++ []; sent = reaches.sent }
+
   -- with more bytes ahead
-  reaches-link : (ahead : List ℕ) (link : LinkRecord) → Exchanged begins.outside.link reaches.sent (taken ++ ahead) link → Reaches true true client answers taken ahead begins (linked now link)
-  reaches-link ahead link exchanged = record {
+  reaches-link : (ahead : List ℕ) (link : LinkRecord) → Exchanged begins.outside.link reaches.sent (taken ++ ahead) link
+      → InTurn client outlived (record { given = taken ++ ahead; sent = reaches.sent }) begins.outside.link link
+      → Reaches true true client (outliving outlived) taken ahead begins (linked now link)
+  reaches-link ahead link exchanged in_turn = record {
     by = reaches.by;
     outlived = reaches.outlived;
     last = reaches.last;
@@ -43,17 +56,34 @@ module _ (client : Client) (begins : Moment) (answers : Answers) (taken : List �
     clock = reaches.clock;
     log = reaches.log;
     gate = reaches.gate;
+    in_turn = in_turn;
   }
 
-  reaches-gave : (bytes : List ℕ) (link : LinkRecord) → Exchanged now.outside.link [] bytes link → Reaches true true client answers taken bytes begins (linked now link)
-  reaches-gave bytes link gave =
+  exchanged-more : (bytes : List ℕ) (link : LinkRecord) → Exchanged now.outside.link [] bytes link → Exchanged begins.outside.link reaches.sent (taken ++ bytes) link
+  exchanged-more bytes link gave =
       let given : (taken ++ []) ++ bytes ≡ taken ++ bytes = ap (λ (xs : List ℕ). xs ++ bytes) (append-nil taken) in
-      reaches-link bytes link
-      (subst (λ (all : List ℕ). Exchanged begins.outside.link reaches.sent all link) given
-      (Exchanged-then_given begins.outside.link now.outside.link link reaches.sent (taken ++ []) bytes reaches.exchanged gave))
+      subst (λ (all : List ℕ). Exchanged begins.outside.link reaches.sent all link) given
+      (Exchanged-then_given begins.outside.link now.outside.link link reaches.sent (taken ++ []) bytes reaches.exchanged gave)
 
-  reaches-still : (link : LinkRecord) → Exchanged now.outside.link [] [] link → Reaches true true client answers taken [] begins (linked now link)
-  reaches-still link still = reaches-gave [] link still
+  -- all was sent that is owed for what came
+  reaches-gave : (bytes : List ℕ) (link : LinkRecord) → Exchanged now.outside.link [] bytes link → length bytes ≤ LONGEST_PIECE
+      → Reaches true true client (outliving outlived) taken bytes begins (linked now link)
+  reaches-gave bytes link gave few =
+      let given : (taken ++ []) ++ bytes ≡ taken ++ bytes = ap (λ (xs : List ℕ). xs ++ bytes) (append-nil taken) in
+      let records : placed_of (map step_of outlived) ≡ records_in beginning (taken ++ []) =
+      ap placed_of (sym (append-nil (map step_of outlived))) ∙ reaches.records ∙ ap (records_in beginning) (sym (append-nil taken)) in
+      let sent : reaches.sent ≡ records_of (messages_for_all client outlived) =
+      reaches.sent_part ∙ ap records_of (append-nil (messages_for_all client outlived)) in
+      reaches-link bytes link (exchanged-more bytes link gave)
+      (subst (λ (all : List ℕ). InTurn client outlived (record { given = all; sent = reaches.sent }) begins.outside.link link) given
+      (turn-given client outlived total begins.outside.link now.outside.link link reaches.in_turn records sent bytes gave.passed few))
+
+  reaches-still : (link : LinkRecord) → Exchanged now.outside.link [] [] link → Reaches true true client (outliving outlived) taken [] begins (linked now link)
+  reaches-still link still =
+      reaches-link [] link (exchanged-more [] link still)
+      (subst (λ (sent : List ℕ). InTurn client outlived (record { given = taken ++ []; sent = sent }) begins.outside.link link) (append-nil reaches.sent)
+      (subst (λ (answered : List Outlived). InTurn client answered (record { given = taken ++ []; sent = reaches.sent ++ [] }) begins.outside.link link) (append-nil outlived)
+      (turn-sent client outlived total begins.outside.link now.outside.link link reaches.in_turn [] [] still.passed)))
 
 -- a front of what is owed, and of the records
 reaches-part : (all : Bool) (client : Client) (begins : Moment) (answers : Answers) (taken ahead : List ℕ) (now : Moment) → Reaches all true client answers taken ahead begins now
@@ -70,6 +100,7 @@ reaches-part all client begins answers taken ahead now reaches = record {
   clock = reaches.clock;
   log = reaches.log;
   gate = reaches.gate;
+  in_turn = reaches.in_turn;
 }
 
 reaches-few : (whole : Bool) (client : Client) (begins : Moment) (answers : Answers) (taken ahead : List ℕ) (now : Moment) → Reaches true whole client answers taken ahead begins now
@@ -86,6 +117,7 @@ reaches-few whole client begins answers taken ahead now reaches = record {
   clock = reaches.clock;
   log = reaches.log;
   gate = reaches.gate;
+  in_turn = reaches.in_turn;
 }
 
 module _ (client : Client) (begins : Moment) (p : Position) (now : Moment) (here : ReadsOn client begins p [] now) where
@@ -117,11 +149,12 @@ module _ (client : Client) (begins : Moment) (p : Position) (now : Moment) (here
     counts-here = counts-then begins.outside now.outside (linked now link).outside here.counts (counts-link now.outside (linked now link).outside faults ends refl refl)
 
     -- some bytes came
-    pub came-reads : (n : ℕ) → RecvGives (Bytes n) into now.outside.link link → ReadsOn client begins p (take n into) (linked now link)
-    came-reads n gives = record {
+    pub came-reads : (n : ℕ) → RecvGives (Bytes n) into now.outside.link link → length (take n into) ≤ LONGEST_PIECE
+        → ReadsOn client begins p (take n into) (linked now link)
+    came-reads n gives few = record {
       outlived = here.outlived;
       taken = here.taken;
-      reaches = reaches-gave client begins (outliving here.outlived) here.taken now here.reaches (take n into) link (Exchanged-gave now.outside.link link (take n into) gives.2);
+      reaches = reaches-gave client begins here.outlived here.taken now here.reaches (take n into) link (Exchanged-gave now.outside.link link (take n into) gives.2) few;
       hand_is = here.hand_is;
       counts = counts-here;
     }
@@ -131,7 +164,7 @@ module _ (client : Client) (begins : Moment) (p : Position) (now : Moment) (here
     failed-served failing unclosed =
         fault-served client begins (linked now link) (outliving here.outlived) here.taken []
         (reaches-part true client begins (outliving here.outlived) here.taken [] (linked now link)
-        (reaches-still client begins (outliving here.outlived) here.taken now here.reaches link (Exchanged-failing now.outside.link link failing)))
+        (reaches-still client begins here.outlived here.taken now here.reaches link (Exchanged-failing now.outside.link link failing)))
         (omega arith) (Rose-later begins.outside.link.faults now.outside.link.faults link.faults here.counts.link failing.0) unclosed counts-here
 
     -- the stream ended
@@ -141,7 +174,7 @@ module _ (client : Client) (begins : Moment) (p : Position) (now : Moment) (here
 
       reaches-end : Reaches true true client (outliving here.outlived) here.taken [] begins (linked now link)
       reaches-end =
-          reaches-still client begins (outliving here.outlived) here.taken now here.reaches link
+          reaches-still client begins here.outlived here.taken now here.reaches link
           (Exchanged-nothing now.outside.link link (ap (λ (l : LinkRecord). l.passed) gives.2) left-is)
 
       has-ended : Rose begins.outside.link.ends link.ends × IfSome link.left (λ rest. rest ≡ [])
@@ -213,6 +246,7 @@ begins-reads client now by = record {
     clock = AnsweredAll-nothing now.outside.clock;
     log = refl;
     gate = refl;
+    in_turn = turn-none client [] now.outside.link;
   };
   hand_is = refl;
   counts = record { link = omega arith; ends = omega arith; log = omega arith; stops = omega arith };

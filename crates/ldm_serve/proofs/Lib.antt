@@ -10,6 +10,7 @@ pub mod Contents
 pub mod First
 pub mod Running
 pub mod Outliving
+pub mod InTurn
 pub mod Reaching
 pub mod Turning
 pub mod Coming
@@ -21,3 +22,5 @@ pub mod Pushed
 pub mod Calling
 pub mod Telling
 pub mod Keeps
+pub mod Complete
+pub mod Lawful

@@ -68,6 +68,8 @@ module _ (client : Client) where
     pub steps_are : steps_in b ≡ steps_in a ++ steps
     pub messages_are : messages_in client b ≡ messages_in client a ++ messages
     pub instants_are : instants_in client b ≡ instants_in client a ++ instants
+    pub more : List Outlived
+    pub grows : b.outlived ≡ a.outlived ++ more
 
   module _ (before : List Outlived) (outlived : AreOutlived client before) where
     steps-behind : (steps : List Step) → map step_of (before ++ answered steps) ≡ map step_of before ++ steps
@@ -94,6 +96,8 @@ module _ (client : Client) where
           (messages-behind steps) (sym (append-nil (messages_of steps)));
       instants_are = behind-nil (instants_for_all client (before ++ answered steps)) (instants_for_all client before) (instants_of client steps) [] (instants_of client steps)
           (instants-behind steps) (sym (append-nil (instants_of client steps)));
+      more = answered steps;
+      grows = refl;
     }
 
     -- the same, and one that it does not outlive
@@ -109,6 +113,8 @@ module _ (client : Client) where
       instants_are = behind-nil (instants_for_all client (before ++ answered steps)) (instants_for_all client before) (instants_of client steps) (instants_of client (last ∷ []))
           (instants_of client (steps ++ last ∷ [])) (instants-behind steps)
           (flat_map-append (λ (step : Step). asked_for (response_of client step) step.now) steps (last ∷ []));
+      more = answered steps;
+      grows = refl;
     }
 
     -- the last one is a request for a class of which a part is left to the host
@@ -125,4 +131,6 @@ module _ (client : Client) where
               ∙ within-nil (messages_for_all client before) last.messages (narrower (response_of client last) fewer);
           instants_are = ap (λ (xs : List ℕ). xs ++ []) (flat_map-append (instants_for client) before (now ∷ []))
               ∙ within-nil (instants_for_all client before) (asked_for (response_of client last) last.now) (at ∷ []);
+          more = now ∷ [];
+          grows = refl;
         }

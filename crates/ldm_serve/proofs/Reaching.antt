@@ -24,8 +24,11 @@ use Rattle.ldm_serve.specs.Responds.{stands}
 use Rattle.ldm_serve.specs.Client.{Client}
 use Rattle.ldm_serve.specs.Steps.{Does, Step, entries_of, instants_of, messages_of, placed_of}
 use Rattle.ldm_serve.specs.Connection.{Answers, Moment, Reaches, entries_in, messages_in, placed_in, steps_in}
+use Rattle.ldm_serve.specs.InTurn.{InTurn}
+use Rattle.ldm_serve.specs.Outlived.{Outlived}
 use Rattle.ldm_serve.specs.Rounds.{ReadsOn, outliving}
 use Rattle.ldm_serve.specs.ServingView.{beginning}
+use Rattle.ldm_serve.proofs.InTurn.{turn-sent}
 use Rattle.ldm_serve.proofs.Outliving.{Extends}
 
 -- ---- parts of lists
@@ -128,6 +131,10 @@ module _ (client : Client) (begins : Moment) (a b : Answers) (steps : List Step)
         let S : List ℕ → Type 0 = λ all_sent. IsPart whole (reaches.sent ++ puts.sent) all_sent in
         let T : List ℕ → Type 0 = λ given. Exchanged begins.outside.link (reaches.sent ++ puts.sent) given new.outside.link in
         let U : List ℕ → Type 0 = λ asked. AnsweredAll asked begins.outside.clock new.outside.clock in
+        let V : List Outlived → Type 0 = λ outlived.
+        InTurn client outlived (record { given = taken ++ ahead; sent = reaches.sent ++ puts.sent }) begins.outside.link new.outside.link in
+        let W : List ℕ → Type 0 = λ given.
+        InTurn client b.outlived (record { given = given; sent = reaches.sent ++ puts.sent }) begins.outside.link new.outside.link in
         record {
           by = reaches.by;
           outlived = extends.outlived;
@@ -142,6 +149,9 @@ module _ (client : Client) (begins : Moment) (a b : Answers) (steps : List Step)
               (AnsweredAll-then _ instants begins.outside.clock now.outside.clock new.outside.clock reaches.clock clock);
           log = log ∙ reaches.log;
           gate = gate ∙ reaches.gate;
+          in_turn = subst W bytes (subst V (sym extends.grows)
+              (turn-sent client a.outlived (record { given = taken ++ ahead; sent = reaches.sent }) begins.outside.link now.outside.link new.outside.link reaches.in_turn
+              extends.more puts.sent puts.exchanged.passed));
         }
 
 -- ---- the place in the stream

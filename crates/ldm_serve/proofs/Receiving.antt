@@ -8,6 +8,7 @@ use Rattle.ldm_rpc.specs.Reading.{Reading, after, bytes_taken, is_faulty, is_who
 use Rattle.ldm_rpc.specs.Streams.{Placed, Position, forgets}
 use Rattle.ldm_rpc.proofs.Joined.{given_none}
 use Rattle.ldm_session.proofs.CallerLemmas.{Exchanged-nothing}
+use Rattle.ldm_downstream.specs.declared.limits.TheConstants.{LONGEST_PIECE}
 use Rattle.ldm_serve.specs.declared.end.ServeEnd.TheVariants as end
 use Rattle.ldm_serve.specs.Client.{Client}
 use Rattle.ldm_serve.specs.Connection.{Moment}
@@ -88,9 +89,10 @@ module _ (client : Client) (room : ℕ) (p q : Position) (now : Moment) (link : 
         let whole : take n bytes ≡ bytes = take_all n bytes (omega (arith, given.0)) in
         let gives : RecvGives (Bytes n) bytes now.outside.link link =
         (given.1, omega (arith, given.0), subst (λ (xs : List ℕ). Gave now.outside.link xs link) (sym whole) given.2) in
+        let small : length (take n bytes) ≤ LONGEST_PIECE = subst (λ (xs : List ℕ). length xs ≤ LONGEST_PIECE) (sym whole) came.small in
         let ahead : ReadsOn client begins p bytes (linked now link) =
         subst (λ (xs : List ℕ). ReadsOn client begins p xs (linked now link)) whole
-        (came-reads client begins p now here bytes link came.receives.faults came.receives.ends n gives) in
+        (came-reads client begins p now here bytes link came.receives.faults came.receives.ends n gives small) in
         let none : PutsOut true [] link link =
         record { sent = []; part = refl; exchanged = Exchanged-nothing link link refl refl; faults = omega arith; ends = omega arith } in
         subst (λ (rest : List ℕ). ReadsOn client begins q rest (linked now link)) (drop_all (length bytes) bytes (omega arith))

@@ -9,6 +9,7 @@ use Rattle.ldm_session.specs.Exchange.{Exchanged, AnsweredAll}
 use Rattle.ldm_sender.specs.Does.{IsPart}
 use Rattle.ldm_intake.specs.Room.{records_of}
 use Rattle.ldm_serve.specs.Client.{Client}
+use Rattle.ldm_serve.specs.InTurn.{InTurn}
 use Rattle.ldm_serve.specs.Steps.{Step, AreSteps, entries_of, instants_of, messages_of}
 use Rattle.ldm_serve.specs.Outlived.{Outlived, AreOutlived, instants_for_all, messages_for_all, step_of}
 use Rattle.ldm_serve.specs.ServingView.{beginning}
@@ -49,7 +50,8 @@ instants_in client answers = instants_for_all client answers.outlived ++ instant
 
 -- A connection came to here. The link gave these bytes, and `ahead` behind them, which nobody looked at. The answers are those to the records
 -- that the bytes complete: to all of them, or, where something broke off, to the first ones. Just their calls were made, the clock was asked
--- just for them, and what the peer is owed for them was sent: all of it, or a front. Nothing was logged, and the gate was not asked.
+-- just for them, and what the peer is owed for them was sent: all of it, or a front; in turn, so that no more came before what was owed by then
+-- was sent. Nothing was logged, and the gate was not asked.
 pub record Reaches (all whole : Bool) (client : Client) (answers : Answers) (taken ahead : List ℕ) (old now : Moment) : Type 0 where
   pub by : old.pass.actor ≡ client.actor
   pub outlived : AreOutlived client answers.outlived
@@ -62,3 +64,4 @@ pub record Reaches (all whole : Bool) (client : Client) (answers : Answers) (tak
   pub clock : AnsweredAll (instants_in client answers) old.outside.clock now.outside.clock
   pub log : now.outside.log.written ≡ old.outside.log.written
   pub gate : now.outside.gate ≡ old.outside.gate
+  pub in_turn : InTurn client answers.outlived (record { given = taken ++ ahead; sent = sent }) old.outside.link now.outside.link

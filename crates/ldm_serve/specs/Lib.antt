@@ -14,6 +14,7 @@ pub mod Turns
 pub mod Contents
 pub mod Served
 pub mod Outlived
+pub mod InTurn
 pub mod Connection
 pub mod Becoming
 pub mod Serve
@@ -21,3 +22,4 @@ pub mod Rounds
 pub mod Reading
 pub mod Filling
 pub mod Kept
+pub mod Complete

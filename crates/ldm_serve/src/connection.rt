@@ -4,6 +4,7 @@ ghost use Rattle.std.specs.Vec.{vec_len};
 ghost use Rattle.ldm_outside.specs.Link.{IsNotClosed};
 ghost use Rattle.ldm_outside.specs.Session.{KeepsFaults, session_tells};
 ghost use Rattle.ldm_shared.specs.Passes.{IsPassOf, IsSamePass};
+ghost use Rattle.ldm_downstream.specs.declared.limits.TheConstants.{LONGEST_PIECE};
 ghost use Rattle.ldm_session.specs.declared.gaps.TheConstants.{LONGEST_NAME};
 ghost use Rattle.ldm_session.specs.declared.limits.TheConstants.{LONGEST_STREAM};
 ghost use Rattle.ldm_serve.specs.Connection.{moment_of};
@@ -75,7 +76,7 @@ impl<'a> Server<'a> {
         ensures client { IfOk result (λ server. server.connection.client ≡ client.entry) }
         ensures begins { IfOk result (λ server. server.connection.serving ≡ beginning) }
         ensures reads { IfOk result (λ server. ReadsCalls server.connection 0) }
-        ensures room { IfOk result (λ server. 0 < vec_len server.piece) }
+        ensures room { IfOk result (λ server. vec_len server.piece ≡ LONGEST_PIECE) }
     {
         let connection = Connection {
             client,
@@ -105,7 +106,7 @@ impl<'a> Server<'a> {
         requires name { length self.old.connection.client.host ≤ LONGEST_NAME }
         requires not_closed { IsNotClosed (K.tells link.old) }
         requires reads { ReadsCalls self.old.connection 0 }
-        requires room { 0 < vec_len self.old.piece }
+        requires room { vec_len self.old.piece ≡ LONGEST_PIECE }
         ensures kept { IsSamePass pass.old pass.new }
         ensures runs { Runs (Some result) (client_by self.old.connection.client pass.old.actor)
             self.old.connection.serving [] self.new.connection.serving
@@ -137,12 +138,12 @@ impl<'a> Server<'a> {
         requires name { length self.old.connection.client.host ≤ LONGEST_NAME }
         requires not_closed { IsNotClosed (K.tells link.old) }
         requires reads { ReadsCalls self.old.connection 0 }
-        requires room { 0 < vec_len self.old.piece }
+        requires room { vec_len self.old.piece ≡ LONGEST_PIECE }
         ensures kept { IsSamePass pass.old pass.new }
         ensures same { self.new.connection.client ≡ self.old.connection.client }
         ensures still_open { IfNone self.new.connection.end (IsNotClosed (K.tells link.new)) }
         ensures reads { IfNone self.new.connection.end (ReadsCalls self.new.connection 0) }
-        ensures room { 0 < vec_len self.new.piece }
+        ensures room { vec_len self.new.piece ≡ LONGEST_PIECE }
         ensures runs { Runs self.new.connection.end (client_by self.old.connection.client pass.old.actor)
             self.old.connection.serving [] self.new.connection.serving
             (moment_of pass.old (session_tells K.tells E.tells C.tells G.tells link.old log.old clock.old gate.old))
@@ -179,12 +180,12 @@ impl<'a> Server<'a> {
         requires not_closed { IsNotClosed (K.tells link.old) }
         requires reads { ReadsCalls self.old.connection 0 }
         requires more { self.old.connection.serving.came < LONGEST_STREAM }
-        requires room { 0 < vec_len self.old.piece }
+        requires room { vec_len self.old.piece ≡ LONGEST_PIECE }
         ensures kept { IsSamePass pass.old pass.new }
         ensures same { self.new.connection.client ≡ self.old.connection.client }
         ensures still_open { IfNone self.new.connection.end (IsNotClosed (K.tells link.new)) }
         ensures reads { IfNone self.new.connection.end (ReadsCalls self.new.connection 0) }
-        ensures room { 0 < vec_len self.new.piece }
+        ensures room { vec_len self.new.piece ≡ LONGEST_PIECE }
         ensures runs { Runs self.new.connection.end (client_by self.old.connection.client pass.old.actor)
             self.old.connection.serving [] self.new.connection.serving
             (moment_of pass.old (session_tells K.tells E.tells C.tells G.tells link.old log.old clock.old gate.old))

@@ -30,7 +30,7 @@ pub use connection::serve;
 pub use end::ServeEnd;
 pub use examples::worked_examples;
 pub use hiya::MAX_HEREIS;
-pub use laws::serving_keeps_the_rules;
+pub use laws::{lawful_connections_are_served, serving_keeps_the_rules};
 pub use responded::{RespondFault, Responded};
 pub use responding::respond;
 pub use response_laws::rules_are_kept;

@@ -17,7 +17,7 @@ ghost use Rattle.ldm_serve.specs.Filling.{Fills};
 use crate::client::Client;
 use crate::responded::{RespondFault, Responded};
 use crate::responding::answer;
-use ldm_downstream::{LONGEST_SHORT, Receiving, SHORT_PIECE};
+use ldm_downstream::{LONGEST_PIECE, LONGEST_SHORT, Receiving, SHORT_PIECE};
 use ldm_outside::{Awaited, Clock, Got, Link};
 use ldm_relay::LARGEST_RECORD;
 use ldm_rpc::{Front, KeptRecords, RpcFault};
@@ -106,9 +106,9 @@ impl Serving {
         }
     }
 
-    /// Receives some bytes straight into the record in hand, where much of it is to come, and no more of them than
-    /// there is room for in the stream. `None` where little is to come, or there is no memory: then the link was not
-    /// asked.
+    /// Receives some bytes straight into the record in hand, where much of it is to come: no more of them than there is
+    /// room for in the stream, nor than come in a piece. `None` where little is to come, or there is no memory: then the
+    /// link was not asked.
     pub(crate) fn fill<K: Link>(&mut self, link: &mut K, room: u64, awaited: Awaited) -> Option<Got>
         requires not_closed { IsNotClosed (K.tells link.old) }
         requires room { self.old.came + room < 2 ^ 64 }
@@ -116,7 +116,7 @@ impl Serving {
         ensures fills { IfSome result
             (λ got. Fills got room self.old self.new (K.tells link.old) (K.tells link.new)) }
     {
-        let most = room.min(u64::from(LARGEST_RECORD)) as usize;
+        let most = room.min(LONGEST_PIECE as u64) as usize;
         let mut receiving = Receiving::of(awaited);
         let count = self.records.fill(&mut receiving, link, most)?;
         self.came += count as u64;

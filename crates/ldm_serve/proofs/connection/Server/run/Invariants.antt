@@ -1,7 +1,8 @@
-use Rattle.std.proofs.Common.{◌≡◌, ◌<◌, []}
+use Rattle.std.proofs.Common.{◌≡◌, []}
 use Rattle.std.specs.Vec.{vec_len}
 use Rattle.ldm_outside.specs.Link.{IsNotClosed}
 use Rattle.ldm_outside.specs.Session.{session_tells}
+use Rattle.ldm_downstream.specs.declared.limits.TheConstants.{LONGEST_PIECE}
 use Rattle.ldm_shared.specs.Passes.{IsSamePass}
 use Rattle.ldm_serve.specs.ClientView.{client_by}
 use Rattle.ldm_serve.specs.Connection.{Moment, moment_of}
@@ -18,7 +19,7 @@ invariant-loop g l = record {
       (moment_of l.pass (session_tells g.K.Link.tells g.E.Sink.tells g.C.Clock.tells g.G.Gate.tells l.link l.log l.clock l.gate));
   between : ReadsCalls l.self.connection 0;
   client : l.self.connection.client ≡ l.fn.self.connection.client;
-  room : 0 < vec_len l.self.piece;
+  room : vec_len l.self.piece ≡ LONGEST_PIECE;
   not_closed : IsNotClosed (g.K.Link.tells l.link);
   same : IsSamePass l.fn.pass l.pass;
 }

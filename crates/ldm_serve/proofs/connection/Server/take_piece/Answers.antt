@@ -1,5 +1,7 @@
 use Rattle.std.proofs.Common.{◌≡◌, ◌≤◌, ℕ, List, [], length, Option, take, drop, ap, sym, subst, ◌∙◌, arith, rules}
+use Rattle.std.proofs.lemmas.List.{length-take-le}
 use Rattle.ldm_outside.specs.Session.{session_tells}
+use Rattle.ldm_downstream.specs.declared.limits.TheConstants.{LONGEST_PIECE}
 use Rattle.ldm_serve.specs.declared.end.ServeEnd.{ServeEnd}
 use Rattle.ldm_serve.specs.Connection.{moment_of}
 use Rattle.ldm_serve.specs.Rounds.{ReadsOn, Runs}
@@ -21,12 +23,13 @@ returns-in-Bytes-clause-runs g c =
     let items = c.args.self.now.piece.items in
     let came : n ≤ length into = c.in-Bytes.ensures.given.1 in
     let within : n ≤ c.args.self.now.piece.len = first_of (omega arith, search rules, grind arith) in
+    let few : length (take n into) ≤ LONGEST_PIECE = omega (arith, length-take-le n into came, within, c.requires.room) in
     let same : take n c.deref.result.now ≡ take n into =
     ap (take n) c.deref.ensures.value ∙ take-into n c.args.self.now.piece.len into (drop (length into) items) within came in
     runs-behind c.take.new.self.end client p (take n c.deref.result.now) c.take.new.self.serving now mid new
     (λ begins here.
     subst (λ (bytes : List ℕ). ReadsOn client begins p bytes mid) (sym same)
-    (came-reads client begins p now here into (g.K.Link.tells c.receive.new.link) c.in-Bytes.ensures.faults_kept c.in-Bytes.ensures.ends_kept n c.in-Bytes.ensures.given))
+    (came-reads client begins p now here into (g.K.Link.tells c.receive.new.link) c.in-Bytes.ensures.faults_kept c.in-Bytes.ensures.ends_kept n c.in-Bytes.ensures.given few))
     c.take.ensures.runs
 
 pub returns-in-End-clause-runs : goal.returns-in-End-clause-runs
