@@ -1,7 +1,8 @@
 -- What the sending ends of a connection ask of the queue: nothing is put in.
 use Rattle.std.proofs.Common.{ℕ, ◌+◌, Bool, true, false, List, [], ◌∷◌, ◌++◌, length, Option, Some, None, sym, subst}
 use Rattle.ldm_model.specs.declared.event.Event.{Event}
-use Rattle.ldm_model.specs.declared.event.Event.TheVariants.{Insert, Reserve, Commit}
+use Rattle.ldm_model.specs.declared.event.Event.TheVariants.{OpenCursor, Step, Read, Release, Close, Insert, Look, Expire, Tally, Stat}
+use Rattle.ldm_model.specs.declared.event.Event.TheVariants.{Reserve, Fill, Commit, Discard}
 use Rattle.ldm_model.specs.declared.event.Reply.{Reply}
 use Rattle.ldm_model.specs.declared.event.Reply.TheVariants as reply
 use Rattle.ldm_model.specs.declared.event.Entry.{Entry}
@@ -26,7 +27,17 @@ abbrev PutsNone : Event → Type 0
 PutsNone (Insert now info body) = ⊥
 PutsNone (Reserve info) = ⊥
 PutsNone (Commit r now) = ⊥
-PutsNone _ = Unit {0}
+PutsNone (OpenCursor feed from) = Unit {0}
+PutsNone (Step k) = Unit {0}
+PutsNone (Read k offset count) = Unit {0}
+PutsNone (Release k) = Unit {0}
+PutsNone (Close k) = Unit {0}
+PutsNone Stat = Unit {0}
+PutsNone (Fill r bytes) = Unit {0}
+PutsNone (Discard r) = Unit {0}
+PutsNone (Look signature) = ⊥
+PutsNone Expire = ⊥
+PutsNone (Tally k) = ⊥
 
 abbrev pub AllPutNone : List Entry → Type 0
 AllPutNone [] = Unit {0}
@@ -36,7 +47,17 @@ none-puts : (client : Client) (before : List Entry) (event : Event) → PutsNone
 none-puts client before (Insert now info body) none = absurd none
 none-puts client before (Reserve info) none = absurd none
 none-puts client before (Commit r now) none = absurd none
-none-puts client before _ none = tt
+none-puts client before (OpenCursor feed from) none = tt
+none-puts client before (Step k) none = tt
+none-puts client before (Read k offset count) none = tt
+none-puts client before (Release k) none = tt
+none-puts client before (Close k) none = tt
+none-puts client before Stat none = tt
+none-puts client before (Fill r bytes) none = tt
+none-puts client before (Discard r) none = tt
+none-puts client before (Look signature) none = absurd none
+none-puts client before Expire none = absurd none
+none-puts client before (Tally k) none = absurd none
 
 pub none-put_in : (client : Client) (before calls : List Entry) → AllPutNone calls → AllPutIn client before calls
 none-put_in client before [] none = tt

@@ -159,7 +159,19 @@ module _ (client : Client) where
   none-tells before (sent.Comingsoon xid info block_size) none = absurd none
   none-tells before (sent.Notification xid info) none = absurd none
   none-tells before (sent.Blkdata xid signature number block) none = absurd none
-  none-tells before _ none = tt
+  none-tells before (sent.FeedmeReply xid answer) none = tt
+  none-tells before (sent.HiyaReply xid max_hereis answer) none = tt
+  none-tells before (sent.ComingsoonReply xid answer) none = tt
+  none-tells before (sent.Isalive xid) none = tt
+  none-tells before (sent.QstatReply xid stat) none = tt
+  none-tells before (sent.PutReply xid answer) none = tt
+  none-tells before (sent.NotifymeReply xid answer) none = tt
+  none-tells before (sent.Refused xid why) none = tt
+  none-tells before (sent.Feedme xid class max_hereis) none = absurd none
+  none-tells before (sent.Hiya xid class) none = absurd none
+  none-tells before (sent.Qstat xid) none = absurd none
+  none-tells before (sent.Put xid info body) none = absurd none
+  none-tells before (sent.Notifyme xid class) none = absurd none
 
   pub none-tell : (before messages : List Sent) → AllTellNone messages → AllTell client before messages
   none-tell before [] none = tt

@@ -4,7 +4,8 @@ use Rattle.std.specs.List.{Contains}
 use Rattle.ldm_types.specs.Info.{Metadata}
 use Rattle.ldm_class.specs.Access.{is_yes, verdict}
 use Rattle.ldm_model.specs.declared.event.Event.{Event}
-use Rattle.ldm_model.specs.declared.event.Event.TheVariants.{Insert, Reserve, Commit}
+use Rattle.ldm_model.specs.declared.event.Event.TheVariants.{OpenCursor, Step, Read, Release, Close, Insert, Look, Expire, Tally, Stat}
+use Rattle.ldm_model.specs.declared.event.Event.TheVariants.{Reserve, Fill, Commit, Discard}
 use Rattle.ldm_model.specs.declared.event.Reply.TheVariants.{Reserved}
 use Rattle.ldm_model.specs.declared.event.Entry.{Entry}
 use Rattle.ldm_outside.specs.Link.{LinkRecord}
@@ -34,7 +35,18 @@ abbrev pub PutsIn : Client → (before : List Entry) → Event → Type 0
 PutsIn client before (Insert now info body) = MayHandIn client info
 PutsIn client before (Reserve info) = MayHandIn client info
 PutsIn client before (Commit r now) = WasReserved client before r
-PutsIn client before _ = Unit {0}
+-- nothing is put in by these; others are not made
+PutsIn client before (OpenCursor feed from) = Unit {0}
+PutsIn client before (Step k) = Unit {0}
+PutsIn client before (Read k offset count) = Unit {0}
+PutsIn client before (Release k) = Unit {0}
+PutsIn client before (Close k) = Unit {0}
+PutsIn client before Stat = Unit {0}
+PutsIn client before (Fill r bytes) = Unit {0}
+PutsIn client before (Discard r) = Unit {0}
+PutsIn client before (Look signature) = ⊥
+PutsIn client before Expire = ⊥
+PutsIn client before (Tally k) = ⊥
 
 -- each of these calls, one behind the other
 abbrev pub AllPutIn : Client → (before calls : List Entry) → Type 0
@@ -57,13 +69,27 @@ pub record WasAnnounced (client : Client) (messages : List Sent) (signature : Li
   pub may : MayHave client info
 
 -- A message that goes out behind these has nothing of a product but of one that the host may have: it is whole, it is announced, it is
--- told of, or it is a block of one that was announced.
+-- told of, or it is a block of one that was announced. Each message that may go is named.
 abbrev pub Tells : Client → (before : List Sent) → Sent → Type 0
 Tells client before (sent.Hereis xid info body) = MayHave client info
 Tells client before (sent.Comingsoon xid info block_size) = MayHave client info
 Tells client before (sent.Notification xid info) = MayHave client info
 Tells client before (sent.Blkdata xid signature number block) = WasAnnounced client before signature
-Tells client before _ = Unit {0}
+-- a reply, a refusal, and that the peer is alive: nothing of a product
+Tells client before (sent.FeedmeReply xid answer) = Unit {0}
+Tells client before (sent.HiyaReply xid max_hereis answer) = Unit {0}
+Tells client before (sent.ComingsoonReply xid answer) = Unit {0}
+Tells client before (sent.Isalive xid) = Unit {0}
+Tells client before (sent.QstatReply xid stat) = Unit {0}
+Tells client before (sent.PutReply xid answer) = Unit {0}
+Tells client before (sent.NotifymeReply xid answer) = Unit {0}
+Tells client before (sent.Refused xid why) = Unit {0}
+-- no call that asks the peer for something, and none that hands it a product, goes out
+Tells client before (sent.Feedme xid class max_hereis) = ⊥
+Tells client before (sent.Hiya xid class) = ⊥
+Tells client before (sent.Qstat xid) = ⊥
+Tells client before (sent.Put xid info body) = ⊥
+Tells client before (sent.Notifyme xid class) = ⊥
 
 -- each of these messages, one behind the other
 abbrev pub AllTell : Client → (before messages : List Sent) → Type 0
@@ -80,13 +106,25 @@ pub record SendsOnly (client : Client) (old new : LinkRecord) : Type 0 where
   pub given : List ℕ
   pub exchanged : Exchanged old sent given new
 
--- a message that has nothing of any product
+-- a message that may go, and has nothing of any product
 abbrev pub TellsNone : Sent → Type 0
 TellsNone (sent.Hereis xid info body) = ⊥
 TellsNone (sent.Comingsoon xid info block_size) = ⊥
 TellsNone (sent.Notification xid info) = ⊥
 TellsNone (sent.Blkdata xid signature number block) = ⊥
-TellsNone _ = Unit {0}
+TellsNone (sent.FeedmeReply xid answer) = Unit {0}
+TellsNone (sent.HiyaReply xid max_hereis answer) = Unit {0}
+TellsNone (sent.ComingsoonReply xid answer) = Unit {0}
+TellsNone (sent.Isalive xid) = Unit {0}
+TellsNone (sent.QstatReply xid stat) = Unit {0}
+TellsNone (sent.PutReply xid answer) = Unit {0}
+TellsNone (sent.NotifymeReply xid answer) = Unit {0}
+TellsNone (sent.Refused xid why) = Unit {0}
+TellsNone (sent.Feedme xid class max_hereis) = ⊥
+TellsNone (sent.Hiya xid class) = ⊥
+TellsNone (sent.Qstat xid) = ⊥
+TellsNone (sent.Put xid info body) = ⊥
+TellsNone (sent.Notifyme xid class) = ⊥
 
 abbrev pub AllTellNone : List Sent → Type 0
 AllTellNone [] = Unit {0}
