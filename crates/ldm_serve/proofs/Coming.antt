@@ -18,7 +18,8 @@ use Rattle.ldm_serve.specs.declared.end.ServeEnd.TheVariants as end
 use Rattle.ldm_intake.specs.Room.{records_of}
 use Rattle.ldm_downstream.specs.declared.limits.TheConstants.{LONGEST_PIECE}
 use Rattle.ldm_serve.specs.Client.{Client}
-use Rattle.ldm_serve.specs.InTurn.{InTurn, Round}
+use Rattle.ldm_downstream.specs.InTurn.{Round}
+use Rattle.ldm_serve.specs.InTurn.{InTurn}
 use Rattle.ldm_serve.specs.Outlived.{Outlived, messages_for_all, step_of}
 use Rattle.ldm_serve.specs.Steps.{placed_of}
 use Rattle.ldm_serve.specs.Connection.{Answers, Moment, Reaches, moment_of}

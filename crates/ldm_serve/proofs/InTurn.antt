@@ -15,7 +15,8 @@ use Rattle.ldm_session.specs.Exchange.{TellsPassed}
 use Rattle.ldm_intake.specs.Room.{records_of}
 use Rattle.ldm_downstream.specs.declared.limits.TheConstants.{LONGEST_PIECE}
 use Rattle.ldm_serve.specs.Client.{Client}
-use Rattle.ldm_serve.specs.InTurn.{AreAnswered, InTurn, IsSmall, PassesRounds, Round, given_in, passed_in, sent_in}
+use Rattle.ldm_downstream.specs.InTurn.{PassesRounds, Round, given_in, passed_in, sent_in}
+use Rattle.ldm_serve.specs.InTurn.{AreAnswered, InTurn, IsSmall}
 use Rattle.ldm_serve.specs.Outlived.{Outlived, messages_for_all, step_of}
 use Rattle.ldm_serve.specs.ServingView.{beginning}
 use Rattle.ldm_serve.specs.Steps.{placed_of}

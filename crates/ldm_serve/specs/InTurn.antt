@@ -1,40 +1,14 @@
--- What passed on a link in turn: bytes came, and then bytes were sent. What is owed for the records that came is sent before more comes.
+-- A connection that is served in turn: what is owed for the records that came is sent before more comes.
 use Rattle.std.specs.Prelude.{◌≡◌, ℕ, ◌≤◌, List, [], ◌∷◌, ◌++◌, length, map, All}
-use Rattle.std.specs.List.{flat_map}
-use Rattle.std.specs.Option.{option_map}
-use Rattle.ldm_outside.specs.declared.link.Passed.{Passed}
-use Rattle.ldm_outside.specs.declared.link.Way.TheVariants as way
-use Rattle.ldm_outside.specs.Link.{LinkRecord, passed_all}
+use Rattle.ldm_outside.specs.Link.{LinkRecord}
 use Rattle.ldm_rpc.specs.Streams.{records_in}
 use Rattle.ldm_intake.specs.Room.{records_of}
 use Rattle.ldm_downstream.specs.declared.limits.TheConstants.{LONGEST_PIECE}
+use Rattle.ldm_downstream.specs.InTurn.{PassesRounds, Round, given_in, sent_in}
 use Rattle.ldm_serve.specs.Client.{Client}
 use Rattle.ldm_serve.specs.Outlived.{Outlived, messages_for_all, step_of}
 use Rattle.ldm_serve.specs.ServingView.{beginning}
 use Rattle.ldm_serve.specs.Steps.{placed_of}
-
--- A round: bytes that came, and then bytes that were sent.
-pub record Round : Type 0 where
-  pub given : List ℕ
-  pub sent : List ℕ
-
--- what passed in rounds, one after another
-abbrev pub passed_in : List Round → List Passed
-passed_in rounds = flat_map (λ (round : Round). passed_all way.Given round.given ++ passed_all way.Sent round.sent) rounds
-
--- all that came, in order
-abbrev pub given_in : List Round → List ℕ
-given_in rounds = flat_map (λ (round : Round). round.given) rounds
-
--- all that was sent, in order
-abbrev pub sent_in : List Round → List ℕ
-sent_in rounds = flat_map (λ (round : Round). round.sent) rounds
-
--- Just these rounds passed, where the link tells what passed; one that does not goes on not to tell.
-abbrev pub PassesRounds : List Round → LinkRecord → LinkRecord → Type 0
-PassesRounds rounds old new = new.passed ≡ option_map (λ before. before ++ passed_in rounds) old.passed
-
--- ---- of a connection
 
 -- no more came in it than is received at once
 abbrev pub IsSmall : Round → Type 0
