@@ -22,7 +22,8 @@ use Rattle.ldm_upstream.specs.Feeds.{feeding_act, HasFed, HearsNone, Feeds}
 use Rattle.ldm_upstream.proofs.Turning.{rows_stay}
 
 -- an end behind a cursor that was opened is none before the first turn
-hears_none : (why : SendEnd) (missed : Bool) (k : ℕ) (came : List ℕ) (final : PassView) (before after : SessionRecord) → IsEndOf why (Opened missed k) final before after
+hears_none : (why : SendEnd) (missed : Bool) (k : ℕ) (came : List ℕ) (final : PassView) (before after : SessionRecord)
+    → IsEndOf why (Opened missed k) final before after
     → HearsNone why came
 hears_none end.Reclassed missed k came final before after cause = absurd (cc cause.1)
 hears_none (end.Denied rule) missed k came final before after cause = absurd (cc cause)
@@ -36,17 +37,24 @@ hears_none end.Worn missed k came final before after cause = tt
 hears_none end.OutOfMemory missed k came final before after cause = tt
 
 -- The cursor is closed, where one was opened, and the link or not.
-pub feeds : (why : SendEnd) (asked : Asked) (ahead : List ℕ) (missed : Bool) (k : ℕ) (first : PassView) (link : LinkRecord) (clock : ClockRecord) (log : SinkRecord) (gate : GateRecord) (new : Situation) (final : PassView)
-    (closed : Bool) (law : RowsStay) → (fed : HasFed why asked ahead (Opened missed k) (begins first link clock log gate) new) → Calls new.moment.pass final (closing_of first.actor why (Opened missed k))
-    → IsLeft why (record new.moment.link { closed = closed }) → IsEndOf why (Opened missed k) final (session_of (begins first link clock log gate)) (session_of new)
-    → Feeds why asked ahead first final (session_of (begins first link clock log gate)) (after new closed) × KeepsFaults (session_of (begins first link clock log gate)) (after new closed)
+pub feeds : (why : SendEnd) (asked : Asked) (ahead : List ℕ) (missed : Bool) (k : ℕ) (first : PassView)
+    (link : LinkRecord) (clock : ClockRecord) (log : SinkRecord) (gate : GateRecord) (new : Situation)
+    (final : PassView)
+    (closed : Bool) (law : RowsStay)
+    → (fed : HasFed why asked ahead (Opened missed k) (begins first link clock log gate) new)
+    → Calls new.moment.pass final (closing_of first.actor why (Opened missed k))
+    → IsLeft why (record new.moment.link { closed = closed })
+    → IsEndOf why (Opened missed k) final (session_of (begins first link clock log gate)) (session_of new)
+    → Feeds why asked ahead first final (session_of (begins first link clock log gate))
+    (after new closed) × KeepsFaults (session_of (begins first link clock log gate)) (after new closed)
 feeds why asked ahead missed k first link clock log gate new final closed law fed closing left cause =
     let old = begins first link clock log gate in
     let act = feeding_act first.actor asked fed.feeding in
     let P : Answered → Type 0 = λ a. Calls new.moment.pass final (closing_of first.actor why a) in
     let Q : Answered → Type 0 = λ a. IsEndOf why a final (session_of old) (session_of new) in
     let closes = subst P (sym fed.is_answered) closing in
-    let settled = settles why asked.host fed.came act (closing_of first.actor why fed.feeding.answered) old new final closed refl fed.ends fed.all_sent closes left in (
+    let settled = settles why asked.host fed.came act (closing_of first.actor why fed.feeding.answered) old new final
+    closed refl fed.ends fed.all_sent closes left in (
       record {
         feeding = fed.feeding;
         is_feeding = fed.is_feeding;
@@ -69,14 +77,18 @@ feeds why asked ahead missed k first link clock log gate new final closed law fe
         idled = settled.idled;
         logged = settled.logged;
         last = fed.last;
-        cause = cause_closed why fed.feeding.answered final (session_of old) new closed (subst Q (sym fed.is_answered) cause);
+        cause = cause_closed why fed.feeding.answered final (session_of old) new closed
+            (subst Q (sym fed.is_answered) cause);
       },
       settled.counts,
     )
 
 -- the queue was found to have had all its calls
-pub worn_at_close : (why : SendEnd) (asked : Asked) (ahead : List ℕ) (answered : Answered) (old : Situation) (pass final : PassView) (link : LinkRecord) (clock : ClockRecord) (out : List ℕ) (log : SinkRecord)
-    (gate : GateRecord) (turns : ℕ) (law : RowsStay) → HasFed why asked ahead answered old (situation_of (moment_of pass link clock out) log gate) → FindsWorn pass final turns
+pub worn_at_close : (why : SendEnd) (asked : Asked) (ahead : List ℕ) (answered : Answered) (old : Situation)
+    (pass final : PassView) (link : LinkRecord) (clock : ClockRecord) (out : List ℕ) (log : SinkRecord)
+    (gate : GateRecord) (turns : ℕ) (law : RowsStay)
+    → HasFed why asked ahead answered old (situation_of (moment_of pass link clock out) log gate)
+    → FindsWorn pass final turns
     → HasFed end.Worn asked ahead answered old (situation_of (moment_of final link clock out) log gate)
 worn_at_close why asked ahead answered old pass final link clock out log gate turns law fed worn = record {
   feeding = fed.feeding;
@@ -84,7 +96,8 @@ worn_at_close why asked ahead answered old pass final link clock out log gate tu
   is_feeding = fed.is_feeding;
   came = fed.came;
   ends =
-      worn_act (is_whole why) why asked.host fed.came old pass final link clock out log gate (feeding_act old.moment.pass.actor asked fed.feeding) (calls_some pass final [] worn.makes) fed.ends;
+      worn_act (is_whole why) why asked.host fed.came old pass final link clock out log gate
+      (feeding_act old.moment.pass.actor asked fed.feeding) (calls_some pass final [] worn.makes) fed.ends;
   all_sent = tt;
   rows = rows_stay law pass final [] (given_of fed.feeding) (calls_some pass final [] worn.makes) fed.rows;
   says = record { behind = fed.says.behind; said = fed.says.said; is_behind = tt };
@@ -93,7 +106,8 @@ worn_at_close why asked ahead answered old pass final link clock out log gate tu
 }
 
 -- whatever was done, some calls were made of the queue
-pub ends-calls : (whole : Bool) (why : SendEnd) (host came : List ℕ) (old new : Situation) (act : Act) → EndsAct whole why host came old new act
+pub ends-calls : (whole : Bool) (why : SendEnd) (host came : List ℕ) (old new : Situation) (act : Act)
+    → EndsAct whole why host came old new act
     → (made : List Entry) × Calls old.moment.pass new.moment.pass made
 ends-calls true why host came old new act ends = (act.deed.entries, ends.does.calls)
 ends-calls false why host came old new act ends = (ends.breaks.called, ends.breaks.calls)

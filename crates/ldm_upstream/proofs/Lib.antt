@@ -11,3 +11,4 @@ mod Fed
 mod Closing
 mod Unfed
 mod Complete
+mod Asked

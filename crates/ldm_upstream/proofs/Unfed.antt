@@ -19,17 +19,21 @@ use Rattle.ldm_upstream.specs.Course.{IsLastOf}
 use Rattle.ldm_upstream.specs.Feeds.{Feeds, HearsNone, feeding_act}
 use Rattle.ldm_upstream.proofs.Fed.{answer_only, feeding_is, may_turn, nothing_said}
 
-unturned_is : (actor : ℕ) (asked : Asked) (answered : Answered) (at : ℕ) → beginning actor asked answered at ≡ feeding_act actor asked (answer_only answered at)
+unturned_is : (actor : ℕ) (asked : Asked) (answered : Answered) (at : ℕ)
+    → beginning actor asked answered at ≡ feeding_act actor asked (answer_only answered at)
 unturned_is actor asked answered at =
-    sym (then_act-none (beginning actor asked answered at)) ∙ feeding_is actor (place_of answered) asked (answer_only answered at) refl
+    sym (then_act-none (beginning actor asked answered at))
+    ∙ feeding_is actor (place_of answered) asked (answer_only answered at) refl
 
 quit_says : (why : SendEnd) (given : List ℕ) → IsQuit why → SaysLast why 1 given []
-quit_says (end.Denied rule) given quits = record { behind = records_given given; said = nothing_said given; is_behind = tt }
+quit_says (end.Denied rule) given quits =
+    record { behind = records_given given; said = nothing_said given; is_behind = tt }
 quit_says end.Reclassed given quits = record { behind = records_given given; said = nothing_said given; is_behind = tt }
 quit_says end.AllBusy given quits = record { behind = records_given given; said = nothing_said given; is_behind = tt }
 quit_says end.LinkFault given quits = record { behind = records_given given; said = nothing_said given; is_behind = tt }
 quit_says end.Worn given quits = record { behind = records_given given; said = nothing_said given; is_behind = tt }
-quit_says end.OutOfMemory given quits = record { behind = records_given given; said = nothing_said given; is_behind = tt }
+quit_says end.OutOfMemory given quits =
+    record { behind = records_given given; said = nothing_said given; is_behind = tt }
 quit_says end.Stopped given quits = absurd quits
 quit_says (end.PeerEnd place) given quits = absurd quits
 quit_says end.LogFault given quits = absurd quits
@@ -59,12 +63,15 @@ quit_last (end.PeerEnd place) quits = absurd quits
 quit_last end.LogFault quits = absurd quits
 quit_last (end.BadReply place) quits = absurd quits
 
-pub unfed : (why : SendEnd) (asked : Asked) (ahead : List ℕ) (old new : PassView) (before after : SessionRecord) → Unturned why asked old new before after
+pub unfed : (why : SendEnd) (asked : Asked) (ahead : List ℕ) (old new : PassView) (before after : SessionRecord)
+    → Unturned why asked old new before after
     → Feeds why asked ahead old new before after × KeepsFaults before after
 unfed why asked ahead old new before after unturned =
     let feeding = answer_only unturned.answered unturned.at in
-    let P : Act → Type 0 = λ act. Settles why asked.host act (closing_of old.actor why unturned.answered) [] old new before after in
-    let settled : Settles why asked.host (feeding_act old.actor asked feeding) (closing_of old.actor why unturned.answered) [] old new before after =
+    let P : Act
+    → Type 0 = λ act. Settles why asked.host act (closing_of old.actor why unturned.answered) [] old new before after in
+    let settled : Settles why asked.host (feeding_act old.actor asked feeding)
+    (closing_of old.actor why unturned.answered) [] old new before after =
     subst P (unturned_is old.actor asked unturned.answered unturned.at) unturned.settles in (
       record {
         feeding = feeding;

@@ -22,4 +22,5 @@ blocks body = cut (count_blocks (length body)) body
 abbrev pub reads : ℕ → ℕ → ℕ → List (List ℕ) → List Entry
 reads actor k offset [] = []
 reads actor k offset (block ∷ behind) =
-    record { actor = actor; event = Read k offset (length block); reply = Bytes block } ∷ reads actor k (offset + length block) behind
+    record { actor = actor; event = Read k offset (length block); reply = Bytes block } ∷ reads actor k
+    (offset + length block) behind

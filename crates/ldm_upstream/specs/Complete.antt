@@ -28,7 +28,8 @@ announcements_of asked feeding = flat_map announced (messages_of asked feeding)
 abbrev pub numbers_of : List Code → List ℕ
 numbers_of codes = map (λ (code : Code). code.xid) codes
 
--- What a peer sends that keeps to the protocol: its first records are replies to the announcements of these numbers, one to each, in
+-- What a peer sends that keeps to the protocol: its first records are replies to the announcements of these numbers,
+-- one to each, in
 -- order. What they say, and what stands behind them, is any.
 pub record RepliesTo (numbers stream : List ℕ) : Type 0 where
   pub codes : List Code
@@ -50,7 +51,8 @@ pub record NoneRose (before after : SessionRecord) : Type 0 where
 abbrev pub HasCallsLeft : PassView → Type 0
 HasCallsLeft pass = length pass.seen < MOST_TURNS
 
--- The answer to the request decides the end: a cursor that was opened is stepped until the gate says to stop. Or there is no
+-- The answer to the request decides the end: a cursor that was opened is stepped until the gate says to stop. Or there
+-- is no
 -- memory.
 abbrev pub IsEndFor : Answered → SendEnd → Type 0
 IsEndFor (Denied rule) why = (why ≡ end.Denied rule) ⊎ (why ≡ end.OutOfMemory)

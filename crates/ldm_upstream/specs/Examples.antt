@@ -32,7 +32,16 @@ sample_asked = asks_for 0 (spec_for 2 (codes ".*") ∷ [])
 
 -- origin h, ident p, feed 2, sequence number 1
 abbrev pub sample_info : Metadata
-sample_info = record { arrival = 100; signature = replicate 16 1; origin = 104 ∷ []; feed = 2; seqno = 1; ident = 112 ∷ []; size = 4 }
+sample_info = record {
+  arrival = 100;
+  signature = replicate 16 1;
+  origin = 104 ∷ [];
+  feed = 2;
+  seqno = 1;
+  ident =
+      112 ∷ [];
+  size = 4;
+}
 
 -- product 0, inserted at 100 microseconds, with the body `ABCD`
 abbrev pub sample : Given

@@ -1,4 +1,5 @@
--- A whole feeding: how the request was answered, the turns, and how it ended. It is plain data. What was called, sent, read and asked
+-- A whole feeding: how the request was answered, the turns, and how it ended. It is plain data. What was called, sent,
+-- read and asked
 -- are functions of it.
 use Rattle.std.specs.Prelude.{◌≡◌, ℕ, ◌<◌, List, [], ◌∷◌, ◌++◌}
 use Rattle.std.specs.List.{flat_map}
@@ -15,7 +16,8 @@ use Rattle.ldm_sender.specs.Asked.{Asked}
 use Rattle.ldm_sender.specs.Opening.{Answered, Opened, IsAnswerTo, class_answer_of, opening_entries, place_of}
 use Rattle.ldm_upstream.specs.Turn.{Given, Turn, given_reply, announcement}
 use Rattle.ldm_sender.specs.Calls.{stepped}
-use Rattle.ldm_upstream.specs.Turns.{IsDue, size_of, AreTurns, after_turns, entries_of_turns, instants_of_turns, goes_of_turns, messages_of_turns, codes_of_turns, given_in_turns}
+use Rattle.ldm_upstream.specs.Turns.{IsDue, size_of, AreTurns, after_turns, entries_of_turns, instants_of_turns}
+use Rattle.ldm_upstream.specs.Turns.{goes_of_turns, messages_of_turns, codes_of_turns, given_in_turns}
 
 -- How the last turn ended, behind those that went on.
 pub data Last : Type 0 where
@@ -23,7 +25,8 @@ pub data Last : Type 0 where
   GoesOn : Last
   -- the cursor came to the end, and the gate said to stop
   Stopped : (end : ℕ) → Last
-  -- A product was announced, the clock answered that after it, and no reply came. Where the feeding broke off there, it was announced in
+  -- A product was announced, the clock answered that after it, and no reply came. Where the feeding broke off there, it
+  -- was announced in
   -- part, or not at all.
   Unanswered : (given : Given) → (at : ℕ) → Last
 

@@ -1,4 +1,5 @@
--- What a call that feeds comes to, at each of its ends: the feeding that it made, or a front of it. `ahead` are the bytes that the link
+-- What a call that feeds comes to, at each of its ends: the feeding that it made, or a front of it. `ahead` are the
+-- bytes that the link
 -- gave before the call and that nobody looked at; the replies stand in them and in what the link gives then.
 use Rattle.std.specs.Prelude.{◌≡◌, ◌⊎◌, ℕ, List, [], ◌++◌}
 use Rattle.ldm_model.specs.declared.event.Entry.{Entry}
@@ -16,7 +17,8 @@ use Rattle.ldm_sender.specs.Calls.{MayBeUnmade}
 use Rattle.ldm_sender.specs.Does.{IsPart, IsAllBut}
 use Rattle.ldm_sender.specs.Acts.{Situation, Act, IsStop, Logged, EndsAct, IsAllSent, is_whole}
 use Rattle.ldm_sender.specs.Ending.{IsEndOf, IsLeft, closing_of, session_of}
-use Rattle.ldm_upstream.specs.Feeding.{Feeding, IsFeeding, stands, entries_of, bytes_of, codes_of, instants_of, goes_of, given_of}
+use Rattle.ldm_upstream.specs.Feeding.{Feeding, IsFeeding, stands, entries_of, bytes_of, codes_of, instants_of, goes_of}
+use Rattle.ldm_upstream.specs.Feeding.{given_of}
 use Rattle.ldm_upstream.specs.Heard.{SaysLast}
 use Rattle.ldm_upstream.specs.Course.{IsLastOf, AreRows}
 
@@ -27,9 +29,11 @@ HearsNone (end.Denied rule) given = given ≡ []
 HearsNone end.AllBusy given = given ≡ []
 HearsNone _ given = Unit {0}
 
--- A feeding was made up to an end: all of it where the end is a whole one, and else of each part a front. No product is of it that no
+-- A feeding was made up to an end: all of it where the end is a whole one, and else of each part a front. No product is
+-- of it that no
 -- step of the cursor gave, and of none are blocks that the peer did not want.
-pub record Feeds (why : SendEnd) (asked : Asked) (ahead : List ℕ) (old new : PassView) (before after : SessionRecord) : Type 0 where
+pub record Feeds (why : SendEnd) (asked : Asked) (ahead : List ℕ) (old new : PassView)
+    (before after : SessionRecord) : Type 0 where
   pub feeding : Feeding
   pub is_feeding : IsFeeding asked feeding
   -- the calls on the queue, and the one that closes the cursor; each step of it was made
@@ -45,7 +49,8 @@ pub record Feeds (why : SendEnd) (asked : Asked) (ahead : List ℕ) (old new : P
   pub exchanged : Exchanged before.link sent given after.link
   pub unheard : HearsNone why given
   pub left : IsLeft why after.link
-  -- The replies are the first records in what came ahead and what the link gave, and none is missing at any end: the one announcement
+  -- The replies are the first records in what came ahead and what the link gave, and none is missing at any end: the
+  -- one announcement
   -- that may have none is the last message of the feeding.
   pub says : SaysLast why (stands feeding).next (ahead ++ given) (codes_of feeding)
   -- the clock, the gate and the log
@@ -62,7 +67,8 @@ pub record Feeds (why : SendEnd) (asked : Asked) (ahead : List ℕ) (old new : P
 
 -- ---- what comes first
 
--- The request was decided as the rules say, and where all of the class is left, the calls were made that open the cursor, or that find all
+-- The request was decided as the rules say, and where all of the class is left, the calls were made that open the
+-- cursor, or that find all
 -- taken. Others stand behind them.
 pub record HasDecided (asked : Asked) (old new : PassView) : Type 0 where
   pub answered : Answered
@@ -79,12 +85,18 @@ DecidesFirst asked old new before after = (after ≡ before) ⊎ HasDecided aske
 -- what a feeding comes to
 abbrev pub feeding_act : ℕ → Asked → Feeding → Act
 feeding_act actor asked feeding = record {
-  deed = record { entries = entries_of actor asked feeding; bytes = bytes_of asked feeding; instants = instants_of feeding };
+  deed = record {
+    entries = entries_of actor asked feeding;
+    bytes = bytes_of asked feeding;
+    instants =
+        instants_of feeding;
+  };
   goes = goes_of feeding;
 }
 
 -- A feeding was made up to an end, and its cursor is not closed yet.
-pub record HasFed (why : SendEnd) (asked : Asked) (ahead : List ℕ) (answered : Answered) (old new : Situation) : Type 0 where
+pub record HasFed (why : SendEnd) (asked : Asked) (ahead : List ℕ) (answered : Answered)
+    (old new : Situation) : Type 0 where
   pub feeding : Feeding
   pub is_answered : feeding.answered ≡ answered
   pub is_feeding : IsFeeding asked feeding

@@ -8,11 +8,12 @@ use Rattle.ldm_sender.specs.declared.end.SendEnd.{SendEnd}
 use Rattle.ldm_sender.specs.declared.end.SendEnd.TheVariants as end
 use Rattle.ldm_sender.specs.declared.standing.Standing.{Standing}
 use Rattle.ldm_sender.specs.Stopping.{KeepsCursor, StopsSending}
+use Rattle.ldm_upstream.specs.declared.lent.Part.{Part}
 use Rattle.ldm_upstream.specs.Blocks.{blocks}
 use Rattle.ldm_upstream.specs.Turn.{Given, Whole, last_of, after_handling}
 use Rattle.ldm_sender.specs.Calls.{later_call}
 use Rattle.ldm_sender.specs.Deeds.{Deed}
-use Rattle.ldm_upstream.specs.ProductDeeds.{read_entry, reading_all, handling_deed, block_deed, blocks_deed}
+use Rattle.ldm_upstream.specs.ProductDeeds.{part_of, read_entry, reading_all, handling_deed, block_deed, blocks_deed}
 use Rattle.ldm_sender.specs.Does.{Moment, Does, Breaks}
 
 -- a product that is held, with its body
@@ -37,7 +38,8 @@ pub record GoesOn (k : ℕ) (given : Given) (old new : Moment) (deed : Deed) : T
 -- ---- a part of a body, and a whole one
 
 -- a part of the body was read and appended
-pub record AppendsPart (k : ℕ) (given : Given) (offset : ℕ) (part : List ℕ) (old new : PassView) (out out' : List ℕ) : Type 0 where
+pub record AppendsPart (k : ℕ) (given : Given) (offset : ℕ) (part : List ℕ) (old new : PassView)
+    (out out' : List ℕ) : Type 0 where
   pub makes : Makes old new (read_entry old.actor k offset part ∷ [])
   pub appended : out' ≡ out ++ part
   pub holds : HoldsGiven new k given
@@ -48,7 +50,8 @@ FailsToRead end.Worn old new = Makes old new [] × (length new.seen ≡ MOST_TUR
 FailsToRead end.OutOfMemory old new = new ≡ old
 FailsToRead _ old new = ⊥
 
-abbrev pub ReadsPart : Result (Unit {0}) SendEnd → ℕ → Given → ℕ → List ℕ → PassView → PassView → List ℕ → List ℕ → Type 0
+abbrev pub ReadsPart : Result (Unit {0}) SendEnd → ℕ → Given → ℕ → List ℕ → PassView → PassView → List ℕ → List ℕ
+    → Type 0
 ReadsPart (Ok done) k given offset part old new out out' = AppendsPart k given offset part old new out out'
 ReadsPart (Err why) k given offset part old new out out' = FailsToRead why old new
 
@@ -73,8 +76,12 @@ pub record Block : Type 0 where
   pub number : ℕ
   pub bytes : List ℕ
 
+abbrev pub block_of : Part → List ℕ → Block
+block_of part body = record { offset = part.offset; number = part.number; bytes = part_of part.offset part.len body }
+
 abbrev pub one_block_deed : ℕ → ℕ → ℕ → Given → Block → ℕ → Deed
-one_block_deed actor k next given block at = block_deed actor k next given.product.info.signature block.offset block.number block.bytes at
+one_block_deed actor k next given block at =
+    block_deed actor k next given.product.info.signature block.offset block.number block.bytes at
 
 abbrev pub GivesBlock : Result (Unit {0}) SendEnd → ℕ → Given → Block → Standing → Standing → Moment → Moment → Type 0
 GivesBlock (Ok done) k given block standing standing' old new =
@@ -92,7 +99,8 @@ pub record GaveBlocks (k : ℕ) (given : Given) (standing standing' : Standing) 
   pub sent_at : standing'.sent_at ≡ last_of standing.sent_at blocks_at
 
 -- It broke off: the answers that did not come are any.
-pub record BreaksInBlocks (why : SendEnd) (k : ℕ) (given : Given) (standing : Standing) (old new : Moment) : Type 0 where
+pub record BreaksInBlocks (why : SendEnd) (k : ℕ) (given : Given) (standing : Standing)
+    (old new : Moment) : Type 0 where
   pub blocks_at : List ℕ
   pub each : length blocks_at ≡ length (blocks given.product.body)
   pub breaks_off : BreaksOff why k old new (blocks_deed old.pass.actor k standing.next given blocks_at)

@@ -12,7 +12,8 @@ abbrev pub HearsOn : (came : List ℕ) → (codes : List Code) → (old new : Re
 HearsOn came codes old new =
     (given : List ℕ) (earlier : List Code) → Heard given earlier old → Heard (given ++ came) (earlier ++ codes) new
 
--- what stands behind the replies at an end, of all that the link gave; `next` is the number of the announcement that was not answered
+-- what stands behind the replies at an end, of all that the link gave; `next` is the number of the announcement that
+-- was not answered
 abbrev pub IsBehind : SendEnd → ℕ → List ℕ → List Placed → Type 0
 IsBehind (end.PeerEnd at) next given behind = (at ≡ place_told (length given)) × (behind ≡ [])
 IsBehind (end.BadReply at) next given behind = IsNoReply next at given behind
@@ -26,4 +27,5 @@ pub record SaysLast (why : SendEnd) (next : ℕ) (given : List ℕ) (codes : Lis
 
 -- The last replies that were heard, and these bytes behind what was given before.
 abbrev pub HearsLast : SendEnd → ℕ → (came : List ℕ) → (codes : List Code) → Replies → Type 0
-HearsLast why next came codes old = (given : List ℕ) (earlier : List Code) → Heard given earlier old → SaysLast why next (given ++ came) (earlier ++ codes)
+HearsLast why next came codes old = (given : List ℕ) (earlier : List Code) → Heard given earlier old
+    → SaysLast why next (given ++ came) (earlier ++ codes)

@@ -1,3 +1,5 @@
+pub mod Asking
+pub mod Feeder
 pub mod Blocks
 pub mod Turn
 pub mod ProductDeeds

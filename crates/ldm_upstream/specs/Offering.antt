@@ -37,14 +37,16 @@ EndsDeed false came old new deed = Breaks came old new deed
 -- ---- an announcement and its reply
 
 -- It was announced, and this was replied. Nothing is gathered then.
-pub record Announced (k : ℕ) (given : Given) (answer : SoonAnswer) (standing standing' : Standing) (old new : Moment) (replies replies' : Replies) : Type 0 where
+pub record Announced (k : ℕ) (given : Given) (answer : SoonAnswer) (standing standing' : Standing) (old new : Moment)
+    (replies replies' : Replies) : Type 0 where
   pub came : List ℕ
   pub does : Does came old new (handling_deed old.pass.actor k standing.next given (Declined standing'.sent_at))
   pub stands : standing' ≡ after_handling standing given (Declined standing'.sent_at)
   pub heard : HearsOn came (record { xid = standing.next; answer = answer } ∷ []) replies replies'
 
 -- It was announced or not, and no reply came.
-pub record EndsAnnouncing (why : SendEnd) (k : ℕ) (given : Given) (standing : Standing) (old new : Moment) (replies : Replies) : Type 0 where
+pub record EndsAnnouncing (why : SendEnd) (k : ℕ) (given : Given) (standing : Standing) (old new : Moment)
+    (replies : Replies) : Type 0 where
   pub at : ℕ
   pub came : List ℕ
   pub ends : EndsDeed (is_whole why) came old new (handling_deed old.pass.actor k standing.next given (Declined at))
@@ -54,14 +56,18 @@ pub record EndsAnnouncing (why : SendEnd) (k : ℕ) (given : Given) (standing : 
   -- no call was made
   pub same : new.pass ≡ old.pass
 
-abbrev pub Announces : Result SoonAnswer SendEnd → ℕ → Given → (standing standing' : Standing) → (old new : Moment) → (replies replies' : Replies) → Type 0
-Announces (Ok answer) k given standing standing' old new replies replies' = Announced k given answer standing standing' old new replies replies'
-Announces (Err why) k given standing standing' old new replies replies' = EndsAnnouncing why k given standing old new replies
+abbrev pub Announces : Result SoonAnswer SendEnd → ℕ → Given → (standing standing' : Standing) → (old new : Moment)
+    → (replies replies' : Replies) → Type 0
+Announces (Ok answer) k given standing standing' old new replies replies' =
+    Announced k given answer standing standing' old new replies replies'
+Announces (Err why) k given standing standing' old new replies replies' =
+    EndsAnnouncing why k given standing old new replies
 
 -- ---- the whole
 
 -- It was handled, and is held still.
-pub record Offered (asked : Asked) (k : ℕ) (given : Given) (standing standing' : Standing) (old new : Moment) (replies replies' : Replies) : Type 0 where
+pub record Offered (asked : Asked) (k : ℕ) (given : Given) (standing standing' : Standing) (old new : Moment)
+    (replies replies' : Replies) : Type 0 where
   pub handling : Handling
   pub is_handled : IsHandled asked given handling
   pub came : List ℕ
@@ -71,7 +77,8 @@ pub record Offered (asked : Asked) (k : ℕ) (given : Given) (standing standing'
   pub holds : HoldsGiven new.pass k given
 
 -- It was announced, or that broke off, and no reply came.
-pub record IsUnanswered (why : SendEnd) (asked : Asked) (k : ℕ) (given : Given) (standing : Standing) (old new : Moment) (replies : Replies) : Type 0 where
+pub record IsUnanswered (why : SendEnd) (asked : Asked) (k : ℕ) (given : Given) (standing : Standing) (old new : Moment)
+    (replies : Replies) : Type 0 where
   pub at : ℕ
   pub is_last : IsLast asked (Unanswered given at)
   pub came : List ℕ
@@ -82,35 +89,43 @@ pub record IsUnanswered (why : SendEnd) (asked : Asked) (k : ℕ) (given : Given
   pub same : new.pass ≡ old.pass
 
 -- It broke off in a handling: the reply to its announcement came, where it was announced.
-pub record BreaksOffer (why : SendEnd) (asked : Asked) (k : ℕ) (given : Given) (standing : Standing) (old new : Moment) (replies : Replies) : Type 0 where
+pub record BreaksOffer (why : SendEnd) (asked : Asked) (k : ℕ) (given : Given) (standing : Standing) (old new : Moment)
+    (replies : Replies) : Type 0 where
   pub handling : Handling
   pub is_handled : IsHandled asked given handling
   pub came : List ℕ
   pub breaks : Breaks came old new (handling_deed old.pass.actor k standing.next given handling)
-  pub heard : HearsLast why (after_handling standing given handling).next came (handling_codes standing.next handling) replies
+  pub heard : HearsLast why (after_handling standing given handling).next came (handling_codes standing.next handling)
+      replies
 
 abbrev pub EndsOfferBy : Bool → SendEnd → Asked → ℕ → Given → Standing → (old new : Moment) → Replies → Type 0
 EndsOfferBy true why asked k given standing old new replies = IsUnanswered why asked k given standing old new replies
 EndsOfferBy false why asked k given standing old new replies =
     IsUnanswered why asked k given standing old new replies ⊎ BreaksOffer why asked k given standing old new replies
 
-pub record EndsOffer (why : SendEnd) (asked : Asked) (k : ℕ) (given : Given) (standing : Standing) (old new : Moment) (replies : Replies) : Type 0 where
+pub record EndsOffer (why : SendEnd) (asked : Asked) (k : ℕ) (given : Given) (standing : Standing) (old new : Moment)
+    (replies : Replies) : Type 0 where
   pub ends : EndsOfferBy (is_whole why) why asked k given standing old new replies
   pub cause : StopsOffer why old new
   pub cursor : KeepsCursor why new.pass k
 
-abbrev pub Offers : Result (Unit {0}) SendEnd → Asked → ℕ → Given → (standing standing' : Standing) → (old new : Moment) → (replies replies' : Replies) → Type 0
-Offers (Ok done) asked k given standing standing' old new replies replies' = Offered asked k given standing standing' old new replies replies'
-Offers (Err why) asked k given standing standing' old new replies replies' = EndsOffer why asked k given standing old new replies
+abbrev pub Offers : Result (Unit {0}) SendEnd → Asked → ℕ → Given → (standing standing' : Standing) → (old new : Moment)
+    → (replies replies' : Replies) → Type 0
+Offers (Ok done) asked k given standing standing' old new replies replies' =
+    Offered asked k given standing standing' old new replies replies'
+Offers (Err why) asked k given standing standing' old new replies replies' =
+    EndsOffer why asked k given standing old new replies
 
 -- ---- a product that the cursor gave
 
 -- what is done with it, and its release
 abbrev pub product_deed : ℕ → ℕ → ℕ → Given → Handling → Deed
-product_deed actor k next given handling = and_then (handling_deed actor k next given handling) (calling (let_go actor k given))
+product_deed actor k next given handling = and_then (handling_deed actor k next given handling)
+    (calling (let_go actor k given))
 
 -- It was handled, and let go.
-pub record Handled (asked : Asked) (k : ℕ) (given : Given) (standing standing' : Standing) (old new : Moment) (replies replies' : Replies) : Type 0 where
+pub record Handled (asked : Asked) (k : ℕ) (given : Given) (standing standing' : Standing) (old new : Moment)
+    (replies replies' : Replies) : Type 0 where
   pub handling : Handling
   pub is_handled : IsHandled asked given handling
   pub came : List ℕ
@@ -120,23 +135,29 @@ pub record Handled (asked : Asked) (k : ℕ) (given : Given) (standing standing'
   pub cursor : HasCursor new.pass k None
 
 -- It broke off in a handling, or in its release: the reply to its announcement came, where it was announced.
-pub record BreaksHandling (why : SendEnd) (asked : Asked) (k : ℕ) (given : Given) (standing : Standing) (old new : Moment) (replies : Replies) : Type 0 where
+pub record BreaksHandling (why : SendEnd) (asked : Asked) (k : ℕ) (given : Given) (standing : Standing)
+    (old new : Moment) (replies : Replies) : Type 0 where
   pub handling : Handling
   pub is_handled : IsHandled asked given handling
   pub came : List ℕ
   pub breaks : Breaks came old new (product_deed old.pass.actor k standing.next given handling)
-  pub heard : HearsLast why (after_handling standing given handling).next came (handling_codes standing.next handling) replies
+  pub heard : HearsLast why (after_handling standing given handling).next came (handling_codes standing.next handling)
+      replies
 
 abbrev pub EndsHandlingBy : Bool → SendEnd → Asked → ℕ → Given → Standing → (old new : Moment) → Replies → Type 0
 EndsHandlingBy true why asked k given standing old new replies = IsUnanswered why asked k given standing old new replies
 EndsHandlingBy false why asked k given standing old new replies =
     IsUnanswered why asked k given standing old new replies ⊎ BreaksHandling why asked k given standing old new replies
 
-pub record EndsHandling (why : SendEnd) (asked : Asked) (k : ℕ) (given : Given) (standing : Standing) (old new : Moment) (replies : Replies) : Type 0 where
+pub record EndsHandling (why : SendEnd) (asked : Asked) (k : ℕ) (given : Given) (standing : Standing) (old new : Moment)
+    (replies : Replies) : Type 0 where
   pub ends : EndsHandlingBy (is_whole why) why asked k given standing old new replies
   pub cause : StopsOffer why old new
   pub cursor : KeepsCursor why new.pass k
 
-abbrev pub Handles : Result (Unit {0}) SendEnd → Asked → ℕ → Given → (standing standing' : Standing) → (old new : Moment) → (replies replies' : Replies) → Type 0
-Handles (Ok done) asked k given standing standing' old new replies replies' = Handled asked k given standing standing' old new replies replies'
-Handles (Err why) asked k given standing standing' old new replies replies' = EndsHandling why asked k given standing old new replies
+abbrev pub Handles : Result (Unit {0}) SendEnd → Asked → ℕ → Given → (standing standing' : Standing)
+    → (old new : Moment) → (replies replies' : Replies) → Type 0
+Handles (Ok done) asked k given standing standing' old new replies replies' =
+    Handled asked k given standing standing' old new replies replies'
+Handles (Err why) asked k given standing standing' old new replies replies' =
+    EndsHandling why asked k given standing old new replies

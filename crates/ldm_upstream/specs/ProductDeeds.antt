@@ -7,7 +7,8 @@ use Rattle.ldm_relay.specs.Sent as sent
 use Rattle.ldm_relay.specs.Spelling.{written, record_of}
 use Rattle.ldm_sender.specs.Deeds.{Deed, records_of}
 use Rattle.ldm_upstream.specs.Blocks.{blocks, reads}
-use Rattle.ldm_upstream.specs.Turn.{Given, Handling, handling_entries, handling_messages, handling_instants, block_messages}
+use Rattle.ldm_upstream.specs.Turn.{Given, Handling, handling_entries, handling_messages, handling_instants}
+use Rattle.ldm_upstream.specs.Turn.{block_messages}
 
 -- a part of a body
 abbrev pub part_of : ℕ → ℕ → List ℕ → List ℕ

@@ -79,7 +79,8 @@ handling_messages next given Passed = []
 handling_messages next given (Whole at) = sent.Hereis next given.product.info given.product.body ∷ []
 handling_messages next given (Declined at) = announcement next given ∷ []
 handling_messages next given (InBlocks at blocks_at) =
-    announcement next given ∷ block_messages (later_call next 1) given.product.info.signature 0 (blocks given.product.body)
+    announcement next given ∷ block_messages (later_call next 1) given.product.info.signature 0
+    (blocks given.product.body)
 
 abbrev pub turn_messages : ℕ → Turn → List Sent
 turn_messages next (Lost count first last) = []

@@ -10,7 +10,8 @@ use Rattle.ldm_sender.specs.declared.standing.Standing.{Standing}
 use Rattle.ldm_sender.specs.Asked.{Asked}
 use Rattle.ldm_sender.specs.Due.{is_due}
 use Rattle.ldm_upstream.specs.Blocks.{blocks}
-use Rattle.ldm_upstream.specs.Turn.{Given, Handling, Passed, Whole, Declined, InBlocks, Turn, Lost, Gave, Quiet, Alive, turn_entries, turn_messages, turn_instants, turn_goes, turn_codes, after_turn}
+use Rattle.ldm_upstream.specs.Turn.{Given, Handling, Passed, Whole, Declined, InBlocks, Turn, Lost, Gave, Quiet, Alive}
+use Rattle.ldm_upstream.specs.Turn.{turn_entries, turn_messages, turn_instants, turn_goes, turn_codes, after_turn}
 
 abbrev pub size_of : Given → ℕ
 size_of given = given.product.info.size
@@ -18,7 +19,8 @@ size_of given = given.product.info.size
 abbrev pub IsDue : Asked → Given → Type 0
 IsDue asked given = is_due asked given.time given.product.info ≡ true
 
--- What is done with a product: nothing where it is not due. It goes whole where it is no larger than the peer asked for, and
+-- What is done with a product: nothing where it is not due. It goes whole where it is no larger than the peer asked
+-- for, and
 -- else it is announced.
 abbrev pub IsHandled : Asked → Given → Handling → Type 0
 IsHandled asked given Passed = is_due asked given.time given.product.info ≡ false
@@ -56,11 +58,13 @@ goes_of_turns turns = flat_map turn_goes turns
 
 abbrev pub messages_of_turns : Standing → List Turn → List Sent
 messages_of_turns standing [] = []
-messages_of_turns standing (turn ∷ turns) = turn_messages standing.next turn ++ messages_of_turns (after_turn standing turn) turns
+messages_of_turns standing (turn ∷ turns) =
+    turn_messages standing.next turn ++ messages_of_turns (after_turn standing turn) turns
 
 abbrev pub codes_of_turns : Standing → List Turn → List Code
 codes_of_turns standing [] = []
-codes_of_turns standing (turn ∷ turns) = turn_codes standing.next turn ++ codes_of_turns (after_turn standing turn) turns
+codes_of_turns standing (turn ∷ turns) =
+    turn_codes standing.next turn ++ codes_of_turns (after_turn standing turn) turns
 
 -- the products that the cursor was given
 abbrev pub given_in : Turn → List Given

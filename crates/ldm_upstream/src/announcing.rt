@@ -16,11 +16,11 @@ use std::sync::Wait;
 // Announces a product, sends all that is gathered, and hears the reply.
 pub(crate) fn announce<H: Wait, K: Link, C: Clock>(
     rt: &H,
+    link: &mut K,
+    clock: &mut C,
     held: &Held,
     standing: &mut Standing,
     out: &mut Vec<u8>,
-    link: &mut K,
-    clock: &mut C,
     replies: &mut Replies,
 ) -> Result<SoonAnswer, SendEnd>
     requires { IsNotClosed (K.tells link.old) }

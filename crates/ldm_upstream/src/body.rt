@@ -8,8 +8,8 @@ ghost use Rattle.ldm_upstream.specs.ProductDeeds.{part_of};
 ghost use Rattle.ldm_sender.specs.Does.{moment_of};
 ghost use Rattle.ldm_upstream.specs.Giving.{given_of, ReadsPart, ReadsAll};
 
+use crate::lent::Lent;
 use ldm_outside::Link;
-use ldm_reader::{Held, Reader};
 use ldm_relay::LARGEST_BLOCK;
 use ldm_sender::SendEnd;
 use ldm_session::send_where_full;
@@ -21,23 +21,25 @@ use std::sync::Wait;
 pub(crate) fn append_part<H: Wait>(
     rt: &H,
     shared: &Shared,
-    reader: &Reader,
     pass: &mut Pass,
-    held: &Held,
+    lent: &Lent<'_>,
     offset: u32,
     len: u32,
     out: &mut Vec<u8>,
 ) -> Result<(), SendEnd>
     requires of { IsPassOf shared.now pass.old }
-    requires holds { (body : List ℕ) × Holds pass.old reader.now.k held.now body }
-    requires within { offset + len ≤ held.now.info.size }
+    requires holds { (body : List ℕ) × Holds pass.old lent.now.reader.k lent.now.held.now body }
+    requires within { offset + len ≤ lent.now.held.now.info.size }
     ensures kept { IsSamePass pass.old pass.new }
-    ensures read { (body : List ℕ) → Holds pass.old reader.now.k held.now body
-        → ReadsPart result reader.now.k (given_of held.now body) offset
+    ensures read { (body : List ℕ) → Holds pass.old lent.now.reader.k lent.now.held.now body
+        → ReadsPart result lent.now.reader.k (given_of lent.now.held.now body) offset
         (part_of offset len body) pass.old pass.new out.old.items out.new.items }
 {
     out.reserve(len as usize)?;
-    match reader.read_onto(shared, rt, pass, held, offset, len, out) {
+    match lent
+        .reader
+        .read_onto(shared, rt, pass, lent.held, offset, len, out)
+    {
         Turn::Done(()) => Ok(()),
         Turn::Worn { .. } => Err(SendEnd::Worn),
     }
@@ -56,27 +58,26 @@ pub(crate) fn append_zeros(count: usize, out: &mut Vec<u8>) -> Result<(), OutOfM
 pub(crate) fn append_body<H: Wait, K: Link>(
     rt: &H,
     shared: &Shared,
-    reader: &Reader,
     pass: &mut Pass,
-    held: &Held,
-    out: &mut Vec<u8>,
     link: &mut K,
+    lent: &Lent<'_>,
+    out: &mut Vec<u8>,
 ) -> Result<(), SendEnd>
     requires of { IsPassOf shared.now pass.old }
-    requires holds { (body : List ℕ) × Holds pass.old reader.now.k held.now body }
+    requires holds { (body : List ℕ) × Holds pass.old lent.now.reader.k lent.now.held.now body }
     requires not_closed { IsNotClosed (K.tells link.old) }
     ensures kept { IsSamePass pass.old pass.new }
     ensures still_open { IsNotClosed (K.tells link.new) }
-    ensures read { (body : List ℕ) (clock : ClockRecord) → Holds pass.old reader.now.k held.now body
-        → ReadsAll result reader.now.k (given_of held.now body)
+    ensures read { (body : List ℕ) (clock : ClockRecord) → Holds pass.old lent.now.reader.k lent.now.held.now body
+        → ReadsAll result lent.now.reader.k (given_of lent.now.held.now body)
         (moment_of pass.old (K.tells link.old) clock out.old.items)
         (moment_of pass.new (K.tells link.new) clock out.new.items) }
 {
-    let size = held.info.size();
+    let size = lent.held.info.size();
     let mut at = 0;
     while at < size {
         let len = (size - at).min(LARGEST_BLOCK as u32);
-        append_part(rt, shared, reader, pass, held, at, len, out)?;
+        append_part(rt, shared, pass, lent, at, len, out)?;
         send_where_full(out, link)?;
         at += len;
     }

@@ -6,15 +6,19 @@
 #![tactic(auto)]
 
 mod announcing;
+mod asking;
 mod body;
 mod course;
 mod examples;
+mod feeder;
 mod feeding;
 mod give;
 mod handle;
 mod laws;
+mod lent;
 mod offer;
 mod one_turn;
+mod session;
 
 pub use examples::worked_examples;
 pub use feeding::{feed, feed_behind};

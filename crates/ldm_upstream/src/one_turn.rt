@@ -1,70 +1,57 @@
 //! One turn of a feeding.
-ghost use Rattle.std.specs.Prelude.{◌≡◌, ◌≤◌, length, None};
 ghost use Rattle.ldm_outside.specs.Link.{IsNotClosed};
 ghost use Rattle.ldm_book.specs.Limits.{IsGoodArena};
 ghost use Rattle.ldm_shared.specs.Passes.{IsPassOf, IsSamePass};
-ghost use Rattle.ldm_reader.specs.Reader.{HasCursor};
-ghost use Rattle.ldm_session.specs.declared.gaps.TheConstants.{LONGEST_NAME};
-ghost use Rattle.ldm_sender.specs.Asked.{Asked, IsAskedOf};
 ghost use Rattle.ldm_sender.specs.Acts.{situation_of};
 ghost use Rattle.ldm_sender.specs.Does.{moment_of};
 ghost use Rattle.ldm_upstream.specs.Course.{TurnsBy};
+ghost use Rattle.ldm_upstream.specs.Feeder.{CanTurn, IsSameFeeder, asked_by};
 
-use crate::handle::handle;
-use ldm_class::{ClassMatcher, HostPolicy};
+use crate::feeder::Feeder;
 use ldm_outside::{Clock, Gate, Link, Sink};
-use ldm_reader::{Came, Reader, products_stay};
-use ldm_relay::Feedme;
-use ldm_sender::{SendEnd, Standing, wait_idle};
-use ldm_session::{Replies, write_gap};
+use ldm_reader::{Came, products_stay};
+use ldm_sender::{SendEnd, wait_idle};
+use ldm_session::write_gap;
 use ldm_shared::{Pass, Shared, Turn};
 use std::sync::Wait;
 
-// One step of the cursor, and what follows it.
-pub(crate) fn turn<H: Wait, K: Link, E: Sink, C: Clock, G: Gate>(
-    rt: &H,
-    shared: &Shared,
-    reader: &Reader,
-    pass: &mut Pass,
-    ask: &Feedme,
-    class: &mut ClassMatcher<'_>,
-    rules: &mut HostPolicy<'_>,
-    standing: &mut Standing,
-    out: &mut Vec<u8>,
-    link: &mut K,
-    log: &mut E,
-    clock: &mut C,
-    gate: &mut G,
-    replies: &mut Replies,
-) -> Result<(), SendEnd>
-    requires of { IsPassOf shared.now pass.old }
-    requires cursor { HasCursor pass.old reader.now.k None }
-    requires arena { IsGoodArena shared.now.arena }
-    requires class_is { class.old ≡ ask.now.class }
-    requires name { length rules.old.host ≤ LONGEST_NAME }
-    requires not_closed { IsNotClosed (K.tells link.old) }
-    ensures kept { IsSamePass pass.old pass.new }
-    ensures still_open { IsNotClosed (K.tells link.new) }
-    ensures same_class { class.new ≡ class.old }
-    ensures same_rules { rules.new ≡ rules.old }
-    ensures turns { (asked : Asked) → IsAskedOf asked class.old rules.old → asked.max_hereis ≡ ask.now.max_hereis
-        → TurnsBy result asked reader.now.k standing.old standing.new
-        (situation_of (moment_of pass.old (K.tells link.old) (C.tells clock.old) out.old.items) (E.tells log.old)
-        (G.tells gate.old))
-        (situation_of (moment_of pass.new (K.tells link.new) (C.tells clock.new) out.new.items) (E.tells log.new)
-        (G.tells gate.new))
-        replies.old replies.new }
-{
-    products_stay();
-    match reader.step(shared, rt, pass) {
-        Turn::Done(Came::Gap { count, first, last }) => {
-            write_gap(log, rules.host(), count, first, last)?;
-            Ok(())
+impl Feeder<'_> {
+    // One step of the cursor, and what follows it.
+    pub(crate) fn turn<H: Wait, K: Link, E: Sink, G: Gate, C: Clock>(
+        &mut self,
+        rt: &H,
+        shared: &Shared,
+        pass: &mut Pass,
+        link: &mut K,
+        log: &mut E,
+        gate: &mut G,
+        clock: &mut C,
+    ) -> Result<(), SendEnd>
+        requires of { IsPassOf shared.now pass.old }
+        requires arena { IsGoodArena shared.now.arena }
+        requires ready { CanTurn self.old pass.old }
+        requires not_closed { IsNotClosed (K.tells link.old) }
+        ensures kept { IsSamePass pass.old pass.new }
+        ensures still_open { IsNotClosed (K.tells link.new) }
+        ensures same { IsSameFeeder self.old self.new }
+        ensures turns { TurnsBy result (asked_by self.old) self.old.reader.k self.old.standing self.new.standing
+            (situation_of (moment_of pass.old (K.tells link.old) (C.tells clock.old) self.old.out.items)
+            (E.tells log.old) (G.tells gate.old))
+            (situation_of (moment_of pass.new (K.tells link.new) (C.tells clock.new) self.new.out.items)
+            (E.tells log.new) (G.tells gate.new))
+            self.old.replies self.new.replies }
+    {
+        products_stay();
+        match self.reader.step(shared, rt, pass) {
+            Turn::Done(Came::Gap { count, first, last }) => {
+                write_gap(log, self.rules.host(), count, first, last)?;
+                Ok(())
+            }
+            Turn::Done(Came::Product(held)) => self.handle(rt, shared, pass, link, clock, held),
+            Turn::Done(Came::End { .. }) => {
+                wait_idle(&mut self.standing, &mut self.out, link, clock, gate)
+            }
+            Turn::Worn { .. } => Err(SendEnd::Worn),
         }
-        Turn::Done(Came::Product(held)) => handle(
-            rt, shared, reader, pass, held, ask, class, rules, standing, out, link, clock, replies,
-        ),
-        Turn::Done(Came::End { .. }) => wait_idle(standing, out, link, clock, gate),
-        Turn::Worn { .. } => Err(SendEnd::Worn),
     }
 }

@@ -25,7 +25,9 @@ returns-in_err-write_message-clause-announces g c = λ pass k body.
     rw (why.1, why.2) (record {
       at = 0;
       came = [];
-      ends = nothing_done (moment_of pass link clock c.args.out.now.items) (moment_of pass link clock c.write_message.new.out.items) (handling_deed pass.actor k standing.next given (Declined 0))
+      ends = nothing_done (moment_of pass link clock c.args.out.now.items)
+          (moment_of pass link clock c.write_message.new.out.items)
+          (handling_deed pass.actor k standing.next given (Declined 0))
           c.requires (calls_none pass) refl refl;
       heard = unheard end.OutOfMemory standing.next c.args.replies.now (λ given behind. tt);
       cause = tt;
@@ -47,15 +49,20 @@ returns-in_err-send_gathered-clause-announces g c = λ pass k body.
     let left = c.send_gathered.new.gathered.items in
     let all = handling_deed pass.actor k standing.next given (Declined at) in
     let appended : out' ≡ out ++ record_of (written (announcement standing.next given)) =
-    c.in_ok-write_message.ensures.ok ∙ ap (λ (info : Metadata). out ++ record_of (written (sent.Comingsoon standing.next info 16384))) c.copy.ensures in
-    let toward = gathers pass link clock clock' out out' (announcement standing.next given) at c.requires appended c.count_call.ensures.answered in
+    c.in_ok-write_message.ensures.ok
+    ∙ ap (λ (info : Metadata). out ++ record_of (written (sent.Comingsoon standing.next info 16384))) c.copy.ensures in
+    let toward = gathers pass link clock clock' out out' (announcement standing.next given) at c.requires appended
+    c.count_call.ensures.answered in
     let failed = c.in_err-send_gathered.ensures.sent in
-    let why = err_from_is_err_and c.from_residual-in_err-send_gathered.result c.from_residual-in_err-send_gathered.ensures.1 in
+    let why =
+    err_from_is_err_and c.from_residual-in_err-send_gathered.result c.from_residual-in_err-send_gathered.ensures.1 in
     rw (why.1, why.2) (record {
       at = at;
       came = [];
-      ends = breaks_then [] [] (moment_of pass link clock out) (moment_of pass link clock' out') (moment_of pass link' clock' left) no_deed all toward
-          (send_failed pass clock' out' left link link' no_deed c.requires c.in_err-send_gathered.ensures.faults_kept failed);
+      ends = breaks_then [] [] (moment_of pass link clock out) (moment_of pass link clock' out')
+          (moment_of pass link' clock' left) no_deed all toward
+          (send_failed pass clock' out' left link link' no_deed c.requires c.in_err-send_gathered.ensures.faults_kept
+          failed);
       heard = unheard end.LinkFault standing.next c.args.replies.now (λ given behind. tt);
       cause = failed.failing.0;
       all_sent = tt;
@@ -78,13 +85,19 @@ returns-in_err-hear-clause-announces g c = λ pass k body.
     let old = moment_of pass link clock out in
     let all = handling_deed pass.actor k standing.next given (Declined at) in
     let appended : out' ≡ out ++ record_of (written (announcement standing.next given)) =
-    c.in_ok-write_message.ensures.ok ∙ ap (λ (info : Metadata). out ++ record_of (written (sent.Comingsoon standing.next info 16384))) c.copy.ensures in
-    let toward = gathers pass link clock clock' out out' (announcement standing.next given) at c.requires appended c.count_call.ensures.answered in
-    let sent_all = then_sent pass clock' out' left old link link' all toward c.requires c.in_ok-send_gathered.ensures.sent in
+    c.in_ok-write_message.ensures.ok
+    ∙ ap (λ (info : Metadata). out ++ record_of (written (sent.Comingsoon standing.next info 16384))) c.copy.ensures in
+    let toward = gathers pass link clock clock' out out' (announcement standing.next given) at c.requires appended
+    c.count_call.ensures.answered in
+    let sent_all =
+    then_sent pass clock' out' left old link link' all toward c.requires c.in_ok-send_gathered.ensures.sent in
     let is = c.in_err-hear.ensures in
     let why = err_from_is_err_and c.from_residual-in_err-hear.result c.from_residual-in_err-hear.ensures.1 in
-    rw (why.1, why.2) (unanswered c.in_err-hear.field-0.0 k given standing at pass clock' left old link' link'' c.args.replies.now c.hear.new.self sent_all is.heard
-    (record { faults = is.faults_kept; ends = is.ends_kept; still_open = is.still_open }) refl c.in_ok-send_gathered.ensures.empty)
+    rw (why.1, why.2)
+    (unanswered c.in_err-hear.field-0.0 k given standing at pass clock' left old link' link'' c.args.replies.now
+    c.hear.new.self sent_all is.heard
+    (record { faults = is.faults_kept; ends = is.ends_kept; still_open = is.still_open }) refl
+    c.in_ok-send_gathered.ensures.empty)
 
 pub returns-clause-announces : goal.returns-clause-announces
 returns-clause-announces g c = λ pass k body.
@@ -102,9 +115,13 @@ returns-clause-announces g c = λ pass k body.
     let old = moment_of pass link clock out in
     let all = handling_deed pass.actor k standing.next given (Declined standing'.sent_at) in
     let appended : out' ≡ out ++ record_of (written (announcement standing.next given)) =
-    c.in_ok-write_message.ensures.ok ∙ ap (λ (info : Metadata). out ++ record_of (written (sent.Comingsoon standing.next info 16384))) c.copy.ensures in
-    let toward = gathers pass link clock clock' out out' (announcement standing.next given) standing'.sent_at c.requires appended c.count_call.ensures.answered in
-    let sent_all = then_sent pass clock' out' left old link link' all toward c.requires c.in_ok-send_gathered.ensures.sent in
+    c.in_ok-write_message.ensures.ok
+    ∙ ap (λ (info : Metadata). out ++ record_of (written (sent.Comingsoon standing.next info 16384))) c.copy.ensures in
+    let toward = gathers pass link clock clock' out out' (announcement standing.next given) standing'.sent_at c.requires
+    appended c.count_call.ensures.answered in
+    let sent_all =
+    then_sent pass clock' out' left old link link' all toward c.requires c.in_ok-send_gathered.ensures.sent in
     let is = c.in_ok-hear.ensures in
-    announced k given c.in_ok-hear.field-0 standing standing' pass clock' left old link' link'' c.args.replies.now c.hear.new.self sent_all c.count_call.ensures.next is.heard
+    announced k given c.in_ok-hear.field-0 standing standing' pass clock' left old link' link'' c.args.replies.now
+    c.hear.new.self sent_all c.count_call.ensures.next is.heard
     (record { faults = is.faults_kept; ends = is.ends_kept; still_open = is.still_open })

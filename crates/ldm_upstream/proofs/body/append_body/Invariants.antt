@@ -11,14 +11,17 @@ use Rattle.ldm_upstream.proofs.body.append_body.Given as goal
 
 abbrev pub invariant-loop-at : goal.invariant-loop-at
 invariant-loop-at g l = record {
-  size_is : l.size ≡ l.held.info.size;
+  size_is : l.size ≡ l.lent.held.now.info.size;
   within : l.at ≤ l.size;
   kept : IsSamePass l.initial.pass l.pass;
   not_closed : IsNotClosed (g.K.Link.tells l.link);
-  holds : (body : List ℕ) → Holds l.initial.pass l.reader.k l.held body → Holds l.pass l.reader.k l.held body;
-  read : (body : List ℕ) (clock : ClockRecord) → Holds l.initial.pass l.reader.k l.held body →
-      Toward [] (moment_of l.initial.pass (g.K.Link.tells l.initial.link) clock l.initial.out.items) (moment_of l.pass (g.K.Link.tells l.link) clock l.out.items)
-      (reading_from l.initial.pass.actor l.reader.k body l.at) (reading_all l.initial.pass.actor l.reader.k body);
+  holds : (body : List ℕ) → Holds l.initial.pass l.lent.reader.k l.lent.held.now body
+      → Holds l.pass l.lent.reader.k l.lent.held.now body;
+  read : (body : List ℕ) (clock : ClockRecord) → Holds l.initial.pass l.lent.reader.k l.lent.held.now body →
+      Toward [] (moment_of l.initial.pass (g.K.Link.tells l.initial.link) clock l.initial.out.items)
+      (moment_of l.pass (g.K.Link.tells l.link) clock l.out.items)
+      (reading_from l.initial.pass.actor l.lent.reader.k body l.at)
+      (reading_all l.initial.pass.actor l.lent.reader.k body);
 }
 
 abbrev pub decreases-loop-at : goal.decreases-loop-at

@@ -11,7 +11,8 @@ returns-in-Done-clause-read g c = λ body h.
     let part = part_of offset len body in
     let size : length part ≡ len = length_part body offset len (omega (arith, h.whole, c.requires.within)) in
     record {
-      makes = part_read c.args.pass.now c.read_onto.new.pass c.args.reader.now.k offset len part size (c.in-Done.ensures.done body h);
+      makes = part_read c.args.pass.now c.read_onto.new.pass c.args.lent.now.reader.k offset len part size
+          (c.in-Done.ensures.done body h);
       appended = c.in-Done.ensures.bytes body h ∙ ap (λ (x : List ℕ). x ++ part) c.reserve.ensures.items;
       holds = c.in-Done.ensures.holds body h;
     }
