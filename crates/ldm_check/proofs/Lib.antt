@@ -1,0 +1,7 @@
+mod Agreeing
+mod Alone
+mod EachAlone
+mod Going
+mod Splits
+mod Telling
+mod Words

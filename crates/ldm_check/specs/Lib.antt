@@ -1,0 +1,10 @@
+pub mod Lines
+pub mod Says
+pub mod ConfFaults
+pub mod PqactFaults
+pub mod Files
+pub mod Programs
+pub mod Sources
+pub mod Walks
+pub mod Law
+pub mod Runs

@@ -1,0 +1,13 @@
+//! What the faults of an ldmd.conf have to do with what it means.
+ghost use Rattle.ldm_check.specs.Law.{EachAlone, FirstWhereFaulty, FirstWhereUnread, NoneWhereRead};
+
+/// What the definition of faults says by the one of reading: a text that is read has none; where reading stops at a
+/// faulty line, or at an INCLUDE line whose file does not come, the first is of that line and kind; and where a line
+/// that means nothing is emptied, its fault is gone, and all others stay. So the faults are those that reading the text
+/// stops at, each found with the lines of the earlier ones emptied.
+pub fn faults_are_those_of_reading()
+    ensures none { NoneWhereRead }
+    ensures first { FirstWhereFaulty }
+    ensures unread { FirstWhereUnread }
+    ensures alone { EachAlone }
+{}

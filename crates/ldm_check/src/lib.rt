@@ -1,0 +1,16 @@
+//! `ldm check`: every fault of configuration files, not the first alone, and warnings.
+#![tactic(auto)]
+
+mod command;
+mod conf_file;
+mod laws;
+mod lines;
+mod patterns;
+mod pqact_file;
+mod programs;
+mod said;
+mod source;
+mod warnings;
+
+pub use command::{CheckAsked, FAULTY, check};
+pub use laws::faults_are_those_of_reading;

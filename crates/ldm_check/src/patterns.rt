@@ -1,0 +1,93 @@
+//! What is seen of a pattern without reading it.
+
+// Where a byte of a pattern stands.
+#[derive(Clone, Copy, Debug, PartialEq, Eq)]
+enum Place {
+    Plain,
+    // behind a backslash
+    Escaped,
+    // in brackets
+    Class,
+    // behind a backslash in brackets
+    EscapedInClass,
+    // behind an opening parenthesis
+    Opened,
+    // behind a question mark there: flags, or the name of a group
+    Flags,
+}
+
+impl Place {
+    // The place of the byte behind this one.
+    fn behind(self, byte: u8) -> Place {
+        match self {
+            Place::Escaped => Place::Plain,
+            Place::EscapedInClass => Place::Class,
+            Place::Class => match byte {
+                b'\\' => Place::EscapedInClass,
+                b']' => Place::Plain,
+                _ => Place::Class,
+            },
+            Place::Flags => match byte {
+                b':' | b')' | b'>' => Place::Plain,
+                _ => Place::Flags,
+            },
+            Place::Opened if byte == b'?' => Place::Flags,
+            Place::Plain | Place::Opened => match byte {
+                b'\\' => Place::Escaped,
+                b'[' => Place::Class,
+                b'(' => Place::Opened,
+                _ => Place::Plain,
+            },
+        }
+    }
+
+    // Whether the byte that stands here is found as it is.
+    fn is_literal(self) -> bool {
+        match self {
+            Place::Plain | Place::Opened => true,
+            _ => false,
+        }
+    }
+}
+
+/// Whether a pattern has a letter from g to z, of either case, that stands for itself: no address has one.
+pub(crate) fn has_name(pattern: &[u8]) -> bool {
+    let mut place = Place::Plain;
+    for byte in pattern {
+        if place.is_literal() && is_letter(*byte) {
+            return true;
+        }
+        place = place.behind(*byte);
+    }
+    false
+}
+
+fn is_letter(byte: u8) -> bool {
+    matches!(byte, b'g'..=b'z' | b'G'..=b'Z')
+}
+
+/// Whether a group of a pattern may hold a slash or a dot: a dot, a slash, a negated class or an escape of upper case
+/// stands behind the first parenthesis.
+pub(crate) fn may_hold_slash(pattern: &[u8]) -> bool {
+    let mut place = Place::Plain;
+    let mut in_group = false;
+    for byte in pattern {
+        if in_group && may_be_slash(place, *byte) {
+            return true;
+        }
+        if place.is_literal() && *byte == b'(' {
+            in_group = true;
+        }
+        place = place.behind(*byte);
+    }
+    false
+}
+
+fn may_be_slash(place: Place, byte: u8) -> bool {
+    match place {
+        Place::Plain | Place::Opened => matches!(byte, b'.' | b'/'),
+        Place::Class => matches!(byte, b'^' | b'/'),
+        Place::Escaped => byte.is_ascii_uppercase(),
+        Place::EscapedInClass | Place::Flags => false,
+    }
+}

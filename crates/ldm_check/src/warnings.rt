@@ -1,0 +1,339 @@
+//! Warnings: of what is no fault, and yet may not do what was meant.
+
+ghost use Rattle.std.specs.Prelude.{◌≤◌, length, OnOk};
+ghost use Rattle.ldm_text.specs.declared.limits.TheConstants.{LONGEST_CONFIGURATION};
+ghost use Rattle.ldm_check.specs.Programs.{LooksFor};
+
+use crate::lines::{put_file, put_warning};
+use crate::patterns::{has_name, may_hold_slash};
+use crate::programs::Programs;
+use crate::said::take_word;
+use crate::source::{Line, without_return};
+use arrayvec::ArrayVec;
+use ldm_class::Reduced;
+use ldm_conf::Conf;
+use ldm_feedtype::read_feed;
+use ldm_outside::{Reasons, Store};
+use ldm_pqact_conf::{ActionKind, Entries, Entry, PqactKind, read_pqact};
+use ldm_text::{count_blanks, first_line, place_of};
+use ldm_types::{ClassSpec, Feed, Micros, OutOfMemory, Spec};
+use std::alloc::{AllocError, Global};
+
+// How many REQUEST lines a node can have, its workers that serve peers apart.
+const MOST_REQUESTS: u32 = 63;
+
+// How many REQUEST lines leave room for the four workers that a node has where no `-w` says another number.
+const USUAL_REQUESTS: u32 = 59;
+
+// Where tools of this machine come from.
+const THIS_MACHINE: &[u8] = b"127.0.0.1";
+
+/// The warnings of files, and what is seen so far of an ldmd.conf.
+#[derive(Drop)]
+pub(crate) struct Warnings {
+    pub text: Vec<u8>,
+    pub programs: Programs,
+    // How many REQUEST lines it has.
+    requests: u32,
+    // Whether some ALLOW line lets a tool of this machine in.
+    lets_in: bool,
+}
+
+impl Warnings {
+    /// No warnings.
+    pub(crate) fn new(alloc: Global) -> Warnings {
+        Warnings {
+            text: Vec::new(alloc),
+            programs: Programs::new(alloc),
+            requests: 0,
+            lets_in: false,
+        }
+    }
+
+    /// Begins with the next ldmd.conf.
+    pub(crate) fn begin(&mut self) {
+        self.requests = 0;
+        self.lets_in = false;
+    }
+
+    /// Ends with an ldmd.conf.
+    pub(crate) fn end(&mut self, path: &str) -> Result<(), AllocError> {
+        if self.lets_in {
+            return Ok(());
+        }
+        put_file(
+            &mut self.text,
+            path.as_bytes(),
+            b"warning: no ALLOW line lets a tool of this machine (127.0.0.1) in",
+        )
+    }
+
+    /// Looks at a line of the file under the path, and at what it alone means.
+    pub(crate) fn look_at(
+        &mut self,
+        alloc: Global,
+        path: &str,
+        line: &Line<'_>,
+        conf: &Conf,
+    ) -> Result<(), OutOfMemory> {
+        self.look_at_rule(path, line)?;
+        self.look_at_requests(path, line, conf)?;
+        self.note_commands(alloc, path, line, conf)?;
+        if !self.lets_in {
+            self.lets_in = lets_in(alloc, conf)?;
+        }
+        Ok(())
+    }
+
+    // Warns of an ALLOW or an ACCEPT line that meets nobody.
+    fn look_at_rule(&mut self, path: &str, line: &Line<'_>) -> Result<(), AllocError> {
+        let Some(rule) = rule_of(without_return(line.text)) else {
+            return Ok(());
+        };
+        let number = u64::from(line.number);
+        if is_none(rule.feedtype) {
+            self.warn(
+                path,
+                number,
+                b"the feedtype has no member, so the line lets nobody in",
+            )?;
+        }
+        if has_name(rule.host) {
+            self.warn(
+                path,
+                number,
+                b"the host pattern has letters of a name, and hosts are known by their addresses",
+            )?;
+        }
+        Ok(())
+    }
+
+    // Warns of the first REQUEST line that leaves too few workers, and of the first that is one too many.
+    fn look_at_requests(
+        &mut self,
+        path: &str,
+        line: &Line<'_>,
+        conf: &Conf,
+    ) -> Result<(), AllocError> {
+        if conf.requests.is_empty() {
+            return Ok(());
+        }
+        let before = self.requests;
+        self.requests = before.saturating_add(1);
+        let number = u64::from(line.number);
+        if before == USUAL_REQUESTS {
+            return self.warn(
+                path,
+                number,
+                b"more than 59 REQUEST lines: with the 4 workers of a node without -w they are more than 63",
+            );
+        }
+        if before == MOST_REQUESTS {
+            return self.warn(
+                path,
+                number,
+                b"more than 63 REQUEST lines, and a node has no worker for this one",
+            );
+        }
+        Ok(())
+    }
+
+    // Notes the program of an EXEC line.
+    fn note_commands(
+        &mut self,
+        alloc: Global,
+        path: &str,
+        line: &Line<'_>,
+        conf: &Conf,
+    ) -> Result<(), AllocError> {
+        for command in &conf.commands {
+            if let [program, ..] = command.words.as_slice() {
+                self.programs
+                    .note(alloc, path, u64::from(line.number), program.as_bytes())?;
+            }
+        }
+        Ok(())
+    }
+
+    /// Looks at entries of the file under the path, which this text means, behind so many lines of the file.
+    pub(crate) fn look_at_entries(
+        &mut self,
+        alloc: Global,
+        path: &str,
+        before: u64,
+        text: &[u8],
+        entries: &Entries,
+    ) -> Result<(), AllocError> {
+        let mut left = Left {
+            line: b"".as_slice(),
+            number: 0,
+            rest: Some(text),
+        };
+        for entry in entries.as_slice() {
+            left.go_to(entry.line());
+            self.look_at_entry(
+                alloc,
+                path,
+                before.saturating_add(u64::from(entry.line())),
+                left.line,
+                entry,
+            )?;
+        }
+        Ok(())
+    }
+
+    // Looks at an entry that begins in a line of that number.
+    fn look_at_entry(
+        &mut self,
+        alloc: Global,
+        path: &str,
+        number: u64,
+        line: &[u8],
+        entry: &Entry,
+    ) -> Result<(), AllocError> {
+        let [first, ..] = entry.words() else {
+            return Ok(());
+        };
+        let word = first.bytes();
+        if names_group(word) && may_hold_slash(second_field(line)) {
+            self.warn(
+                path,
+                number,
+                b"a group of the pattern stands in the path, and may hold a slash or two dots",
+            )?;
+        }
+        match entry.action() {
+            ActionKind::Pipe | ActionKind::Exec => self.programs.note(alloc, path, number, word),
+            ActionKind::File | ActionKind::StdioFile | ActionKind::Noop => Ok(()),
+        }
+    }
+
+    /// The same of a text whose entries stand before a faulty one.
+    pub(crate) fn look_at_front(
+        &mut self,
+        alloc: Global,
+        path: &str,
+        before: u64,
+        text: &[u8],
+    ) -> Result<(), OutOfMemory>
+        requires { length text.now ≤ LONGEST_CONFIGURATION }
+    {
+        match read_pqact(alloc, text) {
+            Ok(entries) => {
+                self.look_at_entries(alloc, path, before, text, &entries)?;
+                Ok(())
+            }
+            Err(fault) if fault.kind == PqactKind::OutOfMemory => Err(OutOfMemory),
+            Err(_) => Ok(()),
+        }
+    }
+
+    /// Warns of each program that is not there.
+    pub(crate) fn look_for_programs<F: Store + Reasons>(
+        &mut self,
+        alloc: Global,
+        store: &mut F,
+    ) -> Result<(), OutOfMemory>
+        ensures asked { OnOk result (LooksFor (F.tells store.old) (F.tells store.new)) }
+        ensures faults_kept { (F.tells store.old).faults ≤ (F.tells store.new).faults }
+    {
+        self.programs.look_for(alloc, store, &mut self.text)
+    }
+
+    // Appends `FILE:LINE: warning: ..`.
+    fn warn(&mut self, path: &str, number: u64, words: &[u8]) -> Result<(), AllocError> {
+        put_warning(&mut self.text, path.as_bytes(), number, words)
+    }
+}
+
+// A line of a text, and the lines behind it.
+#[derive(Drop)]
+struct Left<'a> {
+    line: &'a [u8],
+    number: u32,
+    rest: Option<&'a [u8]>,
+}
+
+impl Left<'_> {
+    // Goes on to the line of that number.
+    fn go_to(&mut self, number: u32) {
+        for _ in self.number..number {
+            let Some(rest) = self.rest else {
+                return;
+            };
+            let (line, behind) = first_line(rest);
+            self.line = line;
+            self.rest = behind;
+        }
+        self.number = number;
+    }
+}
+
+// The words of an ALLOW or an ACCEPT line that say whom it meets.
+#[derive(Drop)]
+struct RuleWords<'a> {
+    feedtype: &'a [u8],
+    host: &'a [u8],
+}
+
+// The words of a line, if it is an ALLOW or an ACCEPT line.
+fn rule_of(line: &[u8]) -> Option<RuleWords<'_>> {
+    let (keyword, rest) = take_word(line)?;
+    let (feedtype, rest) = take_word(rest)?;
+    let (word, rest) = take_word(rest)?;
+    if keyword.eq_ignore_ascii_case(b"ALLOW") {
+        return Some(RuleWords {
+            feedtype,
+            host: word,
+        });
+    }
+    if keyword.eq_ignore_ascii_case(b"ACCEPT") {
+        let (host, _) = take_word(rest)?;
+        return Some(RuleWords { feedtype, host });
+    }
+    None
+}
+
+// Whether a feedtype has no member, as NONE.
+fn is_none(feedtype: &[u8]) -> bool {
+    match read_feed(feedtype) {
+        Ok(feed) => feed.0 == 0,
+        Err(_) => false,
+    }
+}
+
+// Whether a path or the name of a program has a form `\1` to `\9`.
+fn names_group(word: &[u8]) -> bool {
+    let mut escaped = false;
+    for byte in word {
+        if escaped && matches!(*byte, b'1'..=b'9') {
+            return true;
+        }
+        escaped = *byte == b'\\';
+    }
+    false
+}
+
+// The second field of a line, between its first tabs and the next one: the pattern of an entry.
+fn second_field(line: &[u8]) -> &[u8] {
+    let behind = &line[place_of(b'\t', line)..];
+    let field = &behind[count_blanks(behind)..];
+    &field[..place_of(b'\t', field)]
+}
+
+// Whether an ALLOW line lets a tool of this machine in.
+fn lets_in(alloc: Global, conf: &Conf) -> Result<bool, OutOfMemory> {
+    let (Some(from), Some(to)) = (Micros::new(0), Micros::new(Micros::MAX)) else {
+        return Ok(false);
+    };
+    let mut specs = ArrayVec::new();
+    specs.push(Spec {
+        feed: Feed(u32::MAX),
+        pattern: ArrayVec::new(),
+    });
+    let all = ClassSpec { from, to, specs };
+    match conf.policy.reduce(alloc, THIS_MACHINE, &all, false)? {
+        Reduced::Nothing { .. } => Ok(false),
+        Reduced::Same | Reduced::Fewer(_) => Ok(true),
+    }
+}
