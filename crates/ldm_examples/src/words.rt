@@ -5,6 +5,6 @@ use std::alloc::Global;
 
 /// The port of the node that words ask.
 pub fn port_asked(alloc: Global, words: &[String]) -> Result<u16, WordsFault> {
-    let peer = read_pqmon(alloc, words)?;
-    Ok(peer.port)
+    let asked = read_pqmon(alloc, words)?;
+    Ok(asked.peer.port)
 }

@@ -8,8 +8,8 @@ use Rattle.clap.specs.declared.error.Error.{Error}
 use Rattle.clap.specs.declared.error.kind.ErrorKind.TheVariants as kind
 use Rattle.clap.specs.declared.parser.matches.ArgMatches.{ArgMatches}
 use Rattle.clap.proofs.WalkLemmas.{both}
-use Rattle.ldm_words.specs.Commands.{IsPlain, file_command, matched, node_command, pqact_command, pqinsert_command, pqmon_command}
-use Rattle.ldm_words.specs.Commands.{pqstats_command, receiving_command, save_command, wmo_command}
+use Rattle.ldm_words.specs.Commands.{IsPlain, file_command, matched, node_command, notifyme_command, pqact_command, pqcat_command, pqinsert_command}
+use Rattle.ldm_words.specs.Commands.{pqmon_command, pqstats_command, save_command, wmo_command}
 use Rattle.ldm_words.specs.Faults.{IsFaultOf, fault_of_kind}
 use Rattle.ldm_words.specs.Views.{HasRule, rows_in}
 use Rattle.ldm_words.specs.declared.fault.WordsFault.{WordsFault}
@@ -54,9 +54,13 @@ pub pqinsert_plain : IsPlain pqinsert_command
 unfolding pqinsert_command
 pqinsert_plain = record { simple = refl; alone = refl; defaults = refl }
 
-pub receiving_plain : IsPlain receiving_command
-unfolding receiving_command
-receiving_plain = record { simple = refl; alone = refl; defaults = refl }
+pub pqcat_plain : IsPlain pqcat_command
+unfolding pqcat_command
+pqcat_plain = record { simple = refl; alone = refl; defaults = refl }
+
+pub notifyme_plain : IsPlain notifyme_command
+unfolding notifyme_command
+notifyme_plain = record { simple = refl; alone = refl; defaults = refl }
 
 pub pqstats_plain : IsPlain pqstats_command
 unfolding pqstats_command

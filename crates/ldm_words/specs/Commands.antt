@@ -45,6 +45,13 @@ feed_rule default = option_or_rule (codes "feed") (codes "f") default
 abbrev pub count_rule : Rule
 count_rule = option_rule (codes "count") (codes "c")
 
+-- the sizes of a queue
+abbrev pub arena_rule : Rule
+arena_rule = option_or_rule (codes "arena") (codes "a") (codes "67108864")
+
+abbrev pub slots_rule : Rule
+slots_rule = option_or_rule (codes "slots") (codes "S") (codes "16384")
+
 abbrev pub conf_rule : Rule
 conf_rule = word_rule (codes "conf")
 
@@ -57,18 +64,18 @@ origin_rule = option_or_rule (codes "origin") (codes "o") (codes "localhost")
 -- `node [-a ARENA] [-S SLOTS] [-p PORT] [-w WORKERS] [-n SESSIONS] [-x IDLES] CONF`
 unfoldable pub node_command : App
 node_command = command_of (codes "node")
-    (option_or_rule (codes "arena") (codes "a") (codes "67108864")
-    ∷ option_or_rule (codes "slots") (codes "S") (codes "16384")
+    (arena_rule
+    ∷ slots_rule
     ∷ option_or_rule (codes "port") (codes "p") (codes "388")
     ∷ option_or_rule (codes "workers") (codes "w") (codes "4")
     ∷ option_or_rule (codes "sessions") (codes "n") (codes "4294967295")
     ∷ option_rule (codes "idles") (codes "x")
     ∷ conf_rule ∷ [])
 
--- `pqact [-f FEED] [-p PATTERN] [-c COUNT] CONF HOST:PORT`
+-- `pqact [-f FEED] [-p PATTERN] [-c COUNT] [-a ARENA] [-S SLOTS] CONF HOST:PORT`
 unfoldable pub pqact_command : App
 pqact_command = command_of (codes "pqact")
-    (feed_rule (codes "ANY") ∷ pattern_rule ∷ count_rule ∷ conf_rule ∷ word_rule (codes "peer") ∷ [])
+    (feed_rule (codes "ANY") ∷ pattern_rule ∷ count_rule ∷ arena_rule ∷ slots_rule ∷ conf_rule ∷ word_rule (codes "peer") ∷ [])
 
 -- `pqinsert [-f FEED] [-p IDENT] [-o ORIGIN] [-i] [-q HOST:PORT] FILE..`
 unfoldable pub pqinsert_command : App
@@ -79,13 +86,19 @@ pqinsert_command = command_of (codes "pqinsert")
     ∷ flag_rule (codes "sign") (codes "i")
     ∷ peer_rule ∷ words_rule (codes "files") ∷ [])
 
--- `[-f FEED] [-p PATTERN] [-c COUNT] [-q HOST:PORT]`
-unfoldable pub receiving_command : App
-receiving_command = command_of (codes "receive") (feed_rule (codes "ANY") ∷ pattern_rule ∷ count_rule ∷ peer_rule ∷ [])
+-- `pqcat [-f FEED] [-p PATTERN] [-c COUNT] [-a ARENA] [-S SLOTS] [-q HOST:PORT]`
+unfoldable pub pqcat_command : App
+pqcat_command = command_of (codes "pqcat")
+    (feed_rule (codes "ANY") ∷ pattern_rule ∷ count_rule ∷ arena_rule ∷ slots_rule ∷ peer_rule ∷ [])
 
--- `pqmon [-q HOST:PORT]`
+-- `notifyme [-f FEED] [-p PATTERN] [-c COUNT] [-t] [-q HOST:PORT]`
+unfoldable pub notifyme_command : App
+notifyme_command = command_of (codes "notifyme")
+    (feed_rule (codes "ANY") ∷ pattern_rule ∷ count_rule ∷ flag_rule (codes "text") (codes "t") ∷ peer_rule ∷ [])
+
+-- `pqmon [-i SECONDS] [-q HOST:PORT]`
 unfoldable pub pqmon_command : App
-pqmon_command = command_of (codes "pqmon") (peer_rule ∷ [])
+pqmon_command = command_of (codes "pqmon") (option_rule (codes "every") (codes "i") ∷ peer_rule ∷ [])
 
 -- `save FILE ARENA SLOTS`
 unfoldable pub save_command : App

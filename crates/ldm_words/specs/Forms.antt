@@ -5,20 +5,28 @@ use Rattle.clap.specs.Words.{Row, Text, first_of}
 use Rattle.ldm_types.specs.declared.class.ClassSpec.{ClassSpec}
 use Rattle.ldm_conf.specs.Addresses.{Address, port_of}
 use Rattle.ldm_feedtype.specs.Reading.{feed_number}
-use Rattle.ldm_words.specs.Commands.{file_command, matched, node_command, pqact_command, pqinsert_command, pqmon_command, pqstats_command}
-use Rattle.ldm_words.specs.Commands.{receiving_command, save_command, wmo_command}
-use Rattle.ldm_words.specs.Values.{◌>>=◌, are_names, class_of, classes_of, count_of, few_classes, files_of, hours_of, is_used, long_number, optional, origin_of, peer_of, said, short_number}
+use Rattle.ldm_words.specs.Commands.{file_command, matched, node_command, notifyme_command, pqact_command, pqcat_command, pqinsert_command, pqmon_command}
+use Rattle.ldm_words.specs.Commands.{pqstats_command, save_command, wmo_command}
+use Rattle.ldm_words.specs.Values.{◌>>=◌, are_names, class_of, classes_of, count_of, few_classes, files_of, hours_of, is_used, long_number, optional}
+use Rattle.ldm_words.specs.Values.{origin_of, peer_of, said, seconds_of, short_number}
 
 -- ---- pqmon
 
-abbrev pub pqmon_of : List Row → Option Address
-pqmon_of rows = said peer_of (codes "peer") rows
+pub record MonForm : Type 0 where
+  -- how many seconds pass before it asks again, at least 1, or none where it asks once
+  pub every : Option ℕ
+  pub peer : Address
 
--- the node that words ask
-abbrev pub pqmon_form : List Text → Option Address
-pqmon_form words = matched pqmon_command words >>= pqmon_of
+abbrev pub mon_of : List Row → Option MonForm
+mon_of rows =
+    optional seconds_of (first_of (codes "every") rows) >>= λ every.
+    said peer_of (codes "peer") rows >>= λ peer.
+    Some (record { every = every; peer = peer })
 
--- ---- pqcat and notifyme
+abbrev pub mon_form : List Text → Option MonForm
+mon_form words = matched pqmon_command words >>= mon_of
+
+-- ---- what the tools receive
 
 pub record ReceivingForm : Type 0 where
   pub class : ClassSpec
@@ -33,8 +41,49 @@ receiving_of rows =
     said peer_of (codes "peer") rows >>= λ peer.
     Some (record { class = class; count = count; peer = peer })
 
-abbrev pub receiving_form : List Text → Option ReceivingForm
-receiving_form words = matched receiving_command words >>= receiving_of
+-- ---- pqcat
+
+pub record CatForm : Type 0 where
+  pub class : ClassSpec
+  -- of products, at least 1
+  pub count : Option ℕ
+  -- bytes of the arena of the tool's own queue
+  pub arena : ℕ
+  pub slots : ℕ
+  pub peer : Address
+
+abbrev pub cat_of : List Row → Option CatForm
+cat_of rows =
+    receiving_of rows >>= λ receiving.
+    said long_number (codes "arena") rows >>= λ arena.
+    said short_number (codes "slots") rows >>= λ slots.
+    Some (record { class = receiving.class; count = receiving.count; arena = arena; slots = slots; peer = receiving.peer })
+
+abbrev pub cat_form : List Text → Option CatForm
+cat_form words = matched pqcat_command words >>= cat_of
+
+-- ---- notifyme
+
+pub record NoticesForm : Type 0 where
+  pub class : ClassSpec
+  -- of products, at least 1
+  pub count : Option ℕ
+  -- whether the lines are for people
+  pub text : Bool
+  pub peer : Address
+
+abbrev pub notices_of : List Row → Option NoticesForm
+notices_of rows =
+    receiving_of rows >>= λ receiving.
+    Some (record {
+      class = receiving.class;
+      count = receiving.count;
+      text = is_used (first_of (codes "text") rows);
+      peer = receiving.peer;
+    })
+
+abbrev pub notices_form : List Text → Option NoticesForm
+notices_form words = matched notifyme_command words >>= notices_of
 
 -- ---- pqact
 
@@ -42,6 +91,9 @@ pub record ActForm : Type 0 where
   pub class : ClassSpec
   -- of products, at least 1
   pub count : Option ℕ
+  -- bytes of the arena of the tool's own queue
+  pub arena : ℕ
+  pub slots : ℕ
   -- the path of the file with the entries
   pub conf : Text
   pub peer : Address
@@ -49,8 +101,17 @@ pub record ActForm : Type 0 where
 abbrev pub act_of : List Row → Option ActForm
 act_of rows =
     receiving_of rows >>= λ receiving.
+    said long_number (codes "arena") rows >>= λ arena.
+    said short_number (codes "slots") rows >>= λ slots.
     first_of (codes "conf") rows >>= λ conf.
-    Some (record { class = receiving.class; count = receiving.count; conf = conf; peer = receiving.peer })
+    Some (record {
+      class = receiving.class;
+      count = receiving.count;
+      arena = arena;
+      slots = slots;
+      conf = conf;
+      peer = receiving.peer;
+    })
 
 abbrev pub act_form : List Text → Option ActForm
 act_form words = matched pqact_command words >>= act_of

@@ -44,6 +44,10 @@ positive n = if n == 0 then None else Some n
 abbrev pub count_of : Text → Option ℕ
 count_of text = long_number text >>= positive
 
+-- seconds between two askings: at least 1
+abbrev pub seconds_of : Text → Option ℕ
+seconds_of text = short_number text >>= positive
+
 -- hours of statistics: 1 to 8,760
 abbrev pub hours_of : Text → Option ℕ
 hours_of text = number_up_to MOST_HOURS text >>= positive

@@ -7,14 +7,17 @@ use Rattle.clap.specs.declared.parser.matches.ArgMatches.{ArgMatches}
 use Rattle.ldm_conf.specs.AddressViews.{address_view}
 use Rattle.ldm_words.specs.declared.said.NodeWords.{NodeWords}
 use Rattle.ldm_words.specs.declared.said.ActWords.{ActWords}
+use Rattle.ldm_words.specs.declared.said.CatWords.{CatWords}
 use Rattle.ldm_words.specs.declared.said.ChainWords.{ChainWords}
 use Rattle.ldm_words.specs.declared.said.InsertWords.{InsertWords}
-use Rattle.ldm_words.specs.declared.said.ReceivingWords.{ReceivingWords}
+use Rattle.ldm_words.specs.declared.said.MonWords.{MonWords}
+use Rattle.ldm_words.specs.declared.said.NoticesWords.{NoticesWords}
+use Rattle.ldm_words.specs.declared.said.Receiving.{Receiving}
 use Rattle.ldm_words.specs.declared.said.SaveWords.{SaveWords}
 use Rattle.ldm_words.specs.declared.said.StatsWords.{StatsWords}
 use Rattle.ldm_words.specs.declared.said.WmoWords.{WmoWords}
 use Rattle.ldm_words.specs.Values.{texts_of}
-use Rattle.ldm_words.specs.Forms.{ActForm, ChainForm, InsertForm, NodeForm, ReceivingForm, SaveForm, StatsForm, WmoForm}
+use Rattle.ldm_words.specs.Forms.{ActForm, CatForm, ChainForm, InsertForm, MonForm, NodeForm, NoticesForm, ReceivingForm, SaveForm, StatsForm, WmoForm}
 
 -- an argument of a command has this rule
 abbrev pub HasRule : Rule → Arg → Type 0
@@ -24,11 +27,33 @@ HasRule rule arg = (rule_of arg ≡ rule) × (arg.global ≡ false)
 abbrev pub rows_in : ArgMatches → List Row
 rows_in matches = rows_of (found_of matches)
 
-abbrev pub receiving_view : ReceivingWords → ReceivingForm
+abbrev pub mon_view : MonWords → MonForm
+mon_view words = record { every = words.every; peer = address_view words.peer }
+
+abbrev pub receiving_view : Receiving → ReceivingForm
 receiving_view words = record { class = words.class; count = words.count; peer = address_view words.peer }
 
+abbrev pub cat_view : CatWords → CatForm
+cat_view words = record {
+  class = words.class;
+  count = words.count;
+  arena = words.arena;
+  slots = words.slots;
+  peer = address_view words.peer;
+}
+
+abbrev pub notices_view : NoticesWords → NoticesForm
+notices_view words = record { class = words.class; count = words.count; text = words.text; peer = address_view words.peer }
+
 abbrev pub act_view : ActWords → ActForm
-act_view words = record { class = words.class; count = words.count; conf = words.conf.now; peer = address_view words.peer }
+act_view words = record {
+  class = words.class;
+  count = words.count;
+  arena = words.arena;
+  slots = words.slots;
+  conf = words.conf.now;
+  peer = address_view words.peer;
+}
 
 abbrev pub insert_view : InsertWords → InsertForm
 insert_view words = record {

@@ -10,12 +10,13 @@ use crate::command::{bare, option, option_or, parse, word};
 use crate::fault::WordsFault;
 use crate::receiving::receiving_of;
 use crate::said::ActWords;
-use crate::values::value;
+use crate::values::{long_number, short_number, value};
 use clap::{ArgMatches, Command};
 use std::alloc::{AllocError, Global};
 
-/// What words ask `pqact` to do: `[-f FEED] [-p PATTERN] [-c COUNT] CONF HOST:PORT`, by default `ANY`, `.*` and all
-/// products. PATTERN has at most 255 bytes, COUNT is at least 1 and HOST has 1 to 255 bytes.
+/// What words ask `pqact` to do: `[-f FEED] [-p PATTERN] [-c COUNT] [-a ARENA] [-S SLOTS] CONF HOST:PORT`, by default
+/// `ANY`, `.*`, all products, 67108864 and 16384. PATTERN has at most 255 bytes, COUNT is at least 1 and HOST has 1 to
+/// 255 bytes.
 ///
 /// `Usage` comes exactly where the words are no form.
 pub fn read_pqact<'a>(alloc: Global, words: &'a [String]) -> Result<ActWords<'a>, WordsFault>
@@ -33,6 +34,8 @@ fn pqact_command<'a>(alloc: Global) -> Result<Command<'a>, AllocError>
         .arg(option_or(alloc, "feed", 'f', "ANY"))?
         .arg(option_or(alloc, "pattern", 'p', ".*"))?
         .arg(option(alloc, "count", 'c'))?
+        .arg(option_or(alloc, "arena", 'a', "67108864"))?
+        .arg(option_or(alloc, "slots", 'S', "16384"))?
         .arg(word(alloc, "conf"))?
         .arg(word(alloc, "peer"))
 }
@@ -42,12 +45,20 @@ fn act_of<'a>(alloc: Global, matches: &ArgMatches<'a>) -> Result<ActWords<'a>, W
         MatchResult result (λ said. meaning ≡ Some (act_view said)) (IsFaultOf meaning) }
 {
     let receiving = receiving_of(alloc, matches)?;
+    let Some(arena) = long_number(matches, "arena") else {
+        return Err(WordsFault::Usage);
+    };
+    let Some(slots) = short_number(matches, "slots") else {
+        return Err(WordsFault::Usage);
+    };
     let Some(conf) = value(matches, "conf") else {
         return Err(WordsFault::Usage);
     };
     Ok(ActWords {
         class: receiving.class,
         count: receiving.count,
+        arena,
+        slots,
         conf,
         peer: receiving.peer,
     })

@@ -1,19 +1,23 @@
 //! Worked examples.
 ghost use Rattle.std.specs.Prelude.{◌≡◌, true, false, [], ◌∷◌, Some, None, codes};
 ghost use Rattle.ldm_conf.specs.Confs.{all_times};
-ghost use Rattle.ldm_words.specs.Forms.{act_form, chain_form, file_form, insert_form, node_form, pqmon_form};
-ghost use Rattle.ldm_words.specs.Forms.{receiving_form, save_form, stats_form, wmo_form};
+ghost use Rattle.ldm_words.specs.Forms.{act_form, cat_form, chain_form, file_form, insert_form, mon_form, node_form};
+ghost use Rattle.ldm_words.specs.Forms.{notices_form, save_form, stats_form, wmo_form};
 
 /// Worked examples of the words of `pqmon`. It does nothing.
 pub fn worked_examples_of_pqmon()
-    ensures by_default { pqmon_form [] ≡ Some (record { host = codes "127.0.0.1"; port = 388 }) }
-    ensures given { pqmon_form (codes "-q" ∷ codes "a:1" ∷ []) ≡ Some (record { host = codes "a"; port = 1 }) }
-    ensures last_colon { pqmon_form (codes "-q=::1:65535" ∷ []) ≡ Some (record { host = codes "::1"; port = 65535 }) }
-    ensures no_colon { pqmon_form (codes "-qa" ∷ []) ≡ None }
-    ensures no_port { pqmon_form (codes "-qa:65536" ∷ []) ≡ None }
-    ensures twice { pqmon_form (codes "-qa:1" ∷ codes "-qa:1" ∷ []) ≡ None }
-    ensures no_word { pqmon_form (codes "a:1" ∷ []) ≡ None }
-    ensures no_help { pqmon_form (codes "--help" ∷ []) ≡ None }
+    ensures by_default { mon_form []
+        ≡ Some (record { every = None; peer = record { host = codes "127.0.0.1"; port = 388 } }) }
+    ensures given { mon_form (codes "-q" ∷ codes "a:1" ∷ codes "-i5" ∷ [])
+        ≡ Some (record { every = Some 5; peer = record { host = codes "a"; port = 1 } }) }
+    ensures last_colon { mon_form (codes "-q=::1:65535" ∷ [])
+        ≡ Some (record { every = None; peer = record { host = codes "::1"; port = 65535 } }) }
+    ensures no_colon { mon_form (codes "-qa" ∷ []) ≡ None }
+    ensures no_port { mon_form (codes "-qa:65536" ∷ []) ≡ None }
+    ensures twice { mon_form (codes "-qa:1" ∷ codes "-qa:1" ∷ []) ≡ None }
+    ensures no_second { mon_form (codes "-i0" ∷ []) ≡ None }
+    ensures no_word { mon_form (codes "a:1" ∷ []) ≡ None }
+    ensures no_help { mon_form (codes "--help" ∷ []) ≡ None }
 {}
 
 /// Worked examples of the words of `node`. It does nothing.
@@ -74,11 +78,13 @@ pub fn worked_examples_of_pqinsert()
 
 /// Worked examples of the words of `pqcat` and `pqact`. It does nothing.
 pub fn worked_examples_of_classes()
-    ensures by_default { receiving_form []
+    ensures by_default { cat_form []
         ≡ Some (record {
           class = all_times 0xffff_ffff
               (codes ".*");
           count = None;
+          arena = 67108864;
+          slots = 16384;
           peer = record { host = codes "127.0.0.1"; port = 388 };
         }) }
     ensures given { act_form (codes "-fIDS" ∷ codes "-p^S" ∷ codes "c" ∷ codes "-c2" ∷ codes "a:1" ∷ [])
@@ -86,12 +92,46 @@ pub fn worked_examples_of_classes()
           class = all_times 8
               (codes "^S");
           count = Some 2;
+          arena = 67108864;
+          slots = 16384;
           conf = codes "c";
           peer = record { host = codes "a"; port = 1 };
         }) }
-    ensures no_count { receiving_form (codes "-c0" ∷ []) ≡ None }
-    ensures no_pattern { receiving_form (codes "-p(" ∷ []) ≡ None }
+    ensures sizes { cat_form (codes "-a4096" ∷ codes "-fIDS" ∷ codes "-p^S" ∷ codes "-S8" ∷ codes "-qa:1" ∷ [])
+        ≡ Some (record {
+          class = all_times 8
+              (codes "^S");
+          count = None;
+          arena = 4096;
+          slots = 8;
+          peer = record { host = codes "a"; port = 1 };
+        }) }
+    ensures too_many_slots { act_form (codes "-S4294967296" ∷ codes "c" ∷ codes "a:1" ∷ []) ≡ None }
+    ensures no_count { cat_form (codes "-c0" ∷ []) ≡ None }
+    ensures no_pattern { cat_form (codes "-p(" ∷ []) ≡ None }
     ensures no_peer { act_form (codes "c" ∷ []) ≡ None }
+{}
+
+/// Worked examples of the words of `notifyme`. It does nothing.
+pub fn worked_examples_of_notifyme()
+    ensures by_default { notices_form []
+        ≡ Some (record {
+          class = all_times 0xffff_ffff
+              (codes ".*");
+          count = None;
+          text = false;
+          peer = record { host = codes "127.0.0.1"; port = 388 };
+        }) }
+    ensures given { notices_form (codes "-tfIDS" ∷ codes "-c2" ∷ codes "-qa:1" ∷ [])
+        ≡ Some (record {
+          class = all_times 8
+              (codes ".*");
+          count = Some 2;
+          text = true;
+          peer = record { host = codes "a"; port = 1 };
+        }) }
+    ensures twice { notices_form (codes "-t" ∷ codes "-t" ∷ []) ≡ None }
+    ensures with_value { notices_form (codes "-t" ∷ codes "1" ∷ []) ≡ None }
 {}
 
 /// Worked examples of the words of `chain`. It does nothing.

@@ -5,6 +5,7 @@
 #![tactic(auto)]
 
 mod act;
+mod cat;
 mod chain;
 mod command;
 mod examples;
@@ -14,6 +15,7 @@ mod insert;
 mod limits;
 mod mon;
 mod node;
+mod notices;
 mod receiving;
 mod said;
 mod stats;
@@ -22,11 +24,12 @@ mod values;
 mod wmo;
 
 pub use act::read_pqact;
+pub use cat::read_pqcat;
 pub use chain::read_chain;
 pub use examples::{
     worked_examples_of_chain, worked_examples_of_classes, worked_examples_of_files,
-    worked_examples_of_node, worked_examples_of_pqinsert, worked_examples_of_pqmon,
-    worked_examples_of_pqstats, worked_examples_of_wmo,
+    worked_examples_of_node, worked_examples_of_notifyme, worked_examples_of_pqinsert,
+    worked_examples_of_pqmon, worked_examples_of_pqstats, worked_examples_of_wmo,
 };
 pub use fault::WordsFault;
 pub use file::{read_file, read_save};
@@ -34,9 +37,10 @@ pub use insert::read_pqinsert;
 pub use limits::{MOST_CLASSES, MOST_HOURS};
 pub use mon::read_pqmon;
 pub use node::read_node;
-pub use receiving::read_receiving;
+pub use notices::read_notifyme;
 pub use said::{
-    ActWords, ChainWords, InsertWords, NodeWords, ReceivingWords, SaveWords, StatsWords, WmoWords,
+    ActWords, CatWords, ChainWords, InsertWords, MonWords, NodeWords, NoticesWords, SaveWords,
+    StatsWords, WmoWords,
 };
 pub use stats::read_pqstats;
 pub use usage::why_usage;

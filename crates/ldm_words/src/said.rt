@@ -30,13 +30,17 @@ pub struct NodeWords<'a> {
     pub ghost port_some: { 0 < port },
 }
 
-/// What `pqact` acts on, by which entries, and from where it receives.
+/// What `pqact` acts on, by which entries, and from where it receives into what queue.
 #[derive(Drop)]
 pub struct ActWords<'a> {
     /// One specification, of all times.
     pub class: Class,
     /// How many products, at least 1; all where there is none.
     pub count: Option<u64>,
+    /// Bytes of the arena of its own queue.
+    pub arena: u64,
+    /// Slots of its own queue.
+    pub slots: u32,
     /// The path of the file with the entries.
     pub conf: &'a str,
     /// The node to ask.
@@ -63,13 +67,53 @@ pub struct InsertWords<'a> {
     pub ghost named: { All (λ file. IsName origin.now (ident_or (option_copied ident) file)) (texts_of files.items) },
 }
 
-/// What `pqcat` and `notifyme` receive, and from where.
+/// What `pqcat`, `pqact`, `notifyme` and `pqstats` receive, and from where.
 #[derive(Drop)]
-pub struct ReceivingWords {
+pub(crate) struct Receiving {
+    /// One specification, of all times.
+    pub(crate) class: Class,
+    /// How many products, at least 1; all where there is none.
+    pub(crate) count: Option<u64>,
+    /// The node to ask.
+    pub(crate) peer: Address,
+    pub(crate) ghost counted: { ForSome count (λ n. 0 < n) },
+}
+
+/// What `pqcat` receives, and from where into what queue.
+#[derive(Drop)]
+pub struct CatWords {
     /// One specification, of all times.
     pub class: Class,
     /// How many products, at least 1; all where there is none.
     pub count: Option<u64>,
+    /// Bytes of the arena of its own queue.
+    pub arena: u64,
+    /// Slots of its own queue.
+    pub slots: u32,
+    /// The node to ask.
+    pub peer: Address,
+    pub ghost counted: { ForSome count (λ n. 0 < n) },
+}
+
+/// Whom `pqmon` asks, and how often.
+#[derive(Drop)]
+pub struct MonWords {
+    /// How many seconds pass before it asks again, at least 1; it asks once where there is none.
+    pub every: Option<u32>,
+    /// The node to ask.
+    pub peer: Address,
+    pub ghost some: { ForSome every (λ n. 0 < n) },
+}
+
+/// What `notifyme` is told of, and from where.
+#[derive(Drop)]
+pub struct NoticesWords {
+    /// One specification, of all times.
+    pub class: Class,
+    /// How many products, at least 1; all where there is none.
+    pub count: Option<u64>,
+    /// Whether the lines are for people, with dates and names.
+    pub text: bool,
     /// The node to ask.
     pub peer: Address,
     pub ghost counted: { ForSome count (λ n. 0 < n) },

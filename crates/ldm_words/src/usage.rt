@@ -28,6 +28,8 @@ enum Kind {
     Port,
     // a count of products
     Count,
+    // how long it is to the next asking
+    Seconds,
     Hours,
     Feed,
     Pattern,
@@ -233,12 +235,16 @@ fn kind_of(command: &[u8], letter: u8) -> Option<Kind> {
         b"node" => kind_of_node(letter),
         b"pqact" => match letter {
             b'q' => None,
-            _ => kind_of_receiving(letter),
+            _ => kind_of_queueing(letter),
         },
         b"pqinsert" => kind_of_pqinsert(letter),
-        b"pqcat" => kind_of_receiving(letter),
-        b"notifyme" => kind_of_receiving(letter),
+        b"pqcat" => kind_of_queueing(letter),
+        b"notifyme" => match letter {
+            b't' => Some(Kind::Flag),
+            _ => kind_of_receiving(letter),
+        },
         b"pqmon" => match letter {
+            b'i' => Some(Kind::Seconds),
             b'q' => Some(Kind::Peer),
             _ => None,
         },
@@ -266,6 +272,15 @@ fn kind_of_node(letter: u8) -> Option<Kind> {
         b'n' => Some(Kind::Short),
         b'x' => Some(Kind::Short),
         _ => None,
+    }
+}
+
+// Of a command that receives into a queue whose sizes are given.
+fn kind_of_queueing(letter: u8) -> Option<Kind> {
+    match letter {
+        b'a' => Some(Kind::Long),
+        b'S' => Some(Kind::Short),
+        _ => kind_of_receiving(letter),
     }
 }
 
@@ -350,6 +365,7 @@ fn is_of_kind(alloc: Global, kind: Kind, value: &[u8]) -> bool {
         Kind::Short => read_number(value, u64::from(u32::MAX)).is_some(),
         Kind::Port => read_port(value).is_some(),
         Kind::Count => is_positive(value, u64::MAX),
+        Kind::Seconds => is_positive(value, u64::from(u32::MAX)),
         Kind::Hours => is_positive(value, u64::from(MOST_HOURS)),
         Kind::Feed => read_feed(value).is_ok(),
         Kind::Pattern => is_pattern(alloc, value),
@@ -383,6 +399,7 @@ fn words_of(kind: Kind) -> &'static [u8] {
         Kind::Short => b" is no number below 4294967296",
         Kind::Port => b" is no port",
         Kind::Count => b" is no count of at least 1",
+        Kind::Seconds => b" is no number from 1 to 4294967295",
         Kind::Hours => b" is no number from 1 to 8760",
         Kind::Feed => b" is no feedtype",
         Kind::Pattern => b" is no pattern",

@@ -11,7 +11,8 @@ ghost use Rattle.ldm_types.specs.Info.{texts_fault};
 ghost use Rattle.ldm_words.specs.declared.limits.TheConstants.{MOST_HOURS};
 ghost use Rattle.ldm_words.specs.Faults.{IsFaultOf};
 ghost use Rattle.ldm_words.specs.Values.{IsName, class_in, class_of, count_of, files_of, hours_of, is_used, long_number};
-ghost use Rattle.ldm_words.specs.Values.{optional, origin_of, pattern_of, peer_of, said, short_number, texts_of};
+ghost use Rattle.ldm_words.specs.Values.{optional, origin_of, pattern_of, peer_of, said, seconds_of, short_number};
+ghost use Rattle.ldm_words.specs.Values.{texts_of};
 ghost use Rattle.ldm_words.specs.Views.{rows_in};
 
 use crate::fault::WordsFault;
@@ -90,6 +91,25 @@ fn read_count(text: &str) -> Option<u64>
 {
     let count = read_number(text.as_bytes(), u64::MAX)?;
     if count == 0 { None } else { Some(count) }
+}
+
+/// Seconds between two askings, which may be left out.
+pub(crate) fn optional_seconds(matches: &ArgMatches<'_>) -> Option<Option<u32>>
+    ensures value { result ≡ optional seconds_of (first_of (codes "every") (rows_in matches.now)) }
+    ensures some { IfSome result (λ every. ForSome every (λ n. 0 < n)) }
+{
+    match value(matches, "every") {
+        Some(text) => Some(Some(read_seconds(text)?)),
+        None => Some(None),
+    }
+}
+
+fn read_seconds(text: &str) -> Option<u32>
+    ensures value { result ≡ seconds_of text.now }
+    ensures some { IfSome result (λ n. 0 < n) }
+{
+    let seconds = read_short(text)?;
+    if seconds == 0 { None } else { Some(seconds) }
 }
 
 /// Hours of statistics.

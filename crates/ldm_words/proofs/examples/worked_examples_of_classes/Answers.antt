@@ -12,6 +12,14 @@ pub returns-clause-given : goal.returns-clause-given
 unfolding on_literals regex_on_literals pattern_meaning
 returns-clause-given c = refl
 
+pub returns-clause-sizes : goal.returns-clause-sizes
+unfolding on_literals regex_on_literals pattern_meaning
+returns-clause-sizes c = refl
+
+pub returns-clause-too_many_slots : goal.returns-clause-too_many_slots
+unfolding on_literals regex_on_literals pattern_meaning
+returns-clause-too_many_slots c = refl
+
 pub returns-clause-no_count : goal.returns-clause-no_count
 unfolding on_literals regex_on_literals pattern_meaning
 returns-clause-no_count c = refl

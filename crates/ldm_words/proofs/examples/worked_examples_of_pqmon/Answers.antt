@@ -26,6 +26,10 @@ pub returns-clause-twice : goal.returns-clause-twice
 unfolding on_literals
 returns-clause-twice c = refl
 
+pub returns-clause-no_second : goal.returns-clause-no_second
+unfolding on_literals
+returns-clause-no_second c = refl
+
 pub returns-clause-no_word : goal.returns-clause-no_word
 unfolding on_literals
 returns-clause-no_word c = refl

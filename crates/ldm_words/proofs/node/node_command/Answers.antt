@@ -1,15 +1,15 @@
 use Rattle.std.proofs.Common.{codes, rules}
 use Rattle.std.proofs.lemmas.Result.{IfOk-weaker}
 use Rattle.ldm_words.proofs.Parsing.{adds}
-use Rattle.ldm_words.specs.Commands.{conf_rule, node_command, option_or_rule, option_rule}
+use Rattle.ldm_words.specs.Commands.{arena_rule, conf_rule, node_command, option_or_rule, option_rule, slots_rule}
 use Rattle.ldm_words.specs.Views.{HasRule}
 use Rattle.ldm_words.proofs.node.node_command.Goals as goal
 
 pub returns : goal.returns
 unfolding node_command
 returns c =
-    let arena : HasRule (option_or_rule (codes "arena") (codes "a") (codes "67108864")) c.option_or.result = search rules in
-    let slots : HasRule (option_or_rule (codes "slots") (codes "S") (codes "16384")) c.option_or-2.result = search rules in
+    let arena : HasRule arena_rule c.option_or.result = search rules in
+    let slots : HasRule slots_rule c.option_or-2.result = search rules in
     let port : HasRule (option_or_rule (codes "port") (codes "p") (codes "388")) c.option_or-3.result = search rules in
     let workers : HasRule (option_or_rule (codes "workers") (codes "w") (codes "4")) c.option_or-4.result = search rules in
     let sessions : HasRule (option_or_rule (codes "sessions") (codes "n") (codes "4294967295")) c.option_or-5.result = search rules in
