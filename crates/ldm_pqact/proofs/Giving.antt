@@ -166,15 +166,23 @@ part_before hand first second world outside part = record {
 goes_on : (hand hand' : Option InHand) (old new : Standing) → HasInHand hand old → HasInHand hand' new → IsAsBefore old.outputs.spent old new
 goes_on hand hand' old new one two = subst (λ (o : Option Fault). IsAsBefore o old new) (sym one.unspent) two.unspent
 
-pub gives_part_then : (why : ActEnd) (hand : InHand) (first second third : List ℕ) (a b c : Standing) → HasInHand (Some hand) a → GivesAll hand first a b
-    → GivesPart why hand second b c → GivesPart why hand (first ++ (second ++ third)) a c
-gives_part_then why hand first second third a b c has one two =
+-- more was to come
+pub gives_part_before : (why : ActEnd) (hand : InHand) (first second : List ℕ) (old new : Standing) → GivesPart why hand first old new
+    → GivesPart why hand (first ++ second) old new
+gives_part_before why hand first second old new part = record {
+  part = part_before hand first second (world_in old) (world_in new).outside part.part;
+  store_count = part.store_count;
+  launcher_count = part.launcher_count;
+}
+
+pub gives_part_then : (why : ActEnd) (hand : InHand) (first second : List ℕ) (a b c : Standing) → HasInHand (Some hand) a → GivesAll hand first a b
+    → GivesPart why hand second b c → GivesPart why hand (first ++ second) a c
+gives_part_then why hand first second a b c has one two =
     let before = goes_on (Some hand) (Some hand) a b has one.in_hand in
     let there = (world_in c).outside in
     record {
       part =
-          part_then hand first (second ++ third) (world_in a) there
-          (subst (λ (w : World). IsGivenPart hand (second ++ third) w there) one.world (part_before hand second third (world_in b) there two.part));
+          part_then hand first second (world_in a) there (subst (λ (w : World). IsGivenPart hand second w there) one.world two.part);
       store_count = store_count_then why a b c one.store_faults before two.store_count;
       launcher_count = launcher_count_then why a b c one.launcher_faults before two.launcher_count;
     }

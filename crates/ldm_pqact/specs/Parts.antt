@@ -1,5 +1,6 @@
 -- What contracts see of a `Pqact`.
-use Rattle.std.specs.Prelude.{◌≡◌, List, length}
+use Rattle.std.specs.Prelude.{◌≤◌, List}
+use Rattle.std.specs.Vec.{vec_capacity}
 use Rattle.ldm_pqact_conf.specs.Entries.{EntryView}
 use Rattle.ldm_actions.specs.Outputs.{OutputsView}
 use Rattle.ldm_pqact.specs.declared.pqact.Pqact.TheInside.{Inside}
@@ -10,8 +11,8 @@ pub record PqactView : Type 0 where
   pub outputs : OutputsView
 
 abbrev pub pqact_view : Inside → PqactView
-pqact_view it = record { entries = it.entries; outputs = it.outputs }
+pqact_view it = record { entries = it.carrier.entries; outputs = it.carrier.writer.outputs }
 
 -- a piece of a body finds room
 abbrev pub HasRoom : Inside → Type 0
-HasRoom it = length it.buffer.items ≡ LARGEST_PIECE
+HasRoom it = LARGEST_PIECE ≤ vec_capacity it.carrier.writer.buffer

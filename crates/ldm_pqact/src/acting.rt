@@ -22,40 +22,88 @@ use ldm_types::Feed;
 use std::alloc::Global;
 use std::sync::Wait;
 
-// Acts on every product up to the end of the queue, and again, until the gate says to stop there.
-fn follow<H: Wait, F: Store, L: Launcher, E: Sink, G: Gate>(
-    rt: &H,
-    shared: &Shared,
-    pass: &mut Pass,
-    reader: &Reader,
-    pqact: &mut Pqact,
-    store: &mut F,
-    launcher: &mut L,
-    log: &mut E,
-    gate: &mut G,
-) -> ActEnd
-    requires of { IsPassOf shared.now pass.old }
-    requires cursor { HasCursor pass.old reader.now.k None }
-    requires keeps { KeepsUnlessSpent (standing pqact.old.outputs (F.tells store.old) (L.tells launcher.old)) }
-    ensures kept { IsSamePass pass.old pass.new }
-    ensures keeps { KeepsUnlessSpent (standing pqact.new.outputs (F.tells store.new) (L.tells launcher.new)) }
-    ensures follows { Follows result pqact.old.entries reader.now.k
-        (gated_of (sight_of pass.old
-        (standing pqact.old.outputs (F.tells store.old) (L.tells launcher.old)) (E.tells log.old)) (G.tells gate.old))
-        (gated_of (sight_of pass.new
-        (standing pqact.new.outputs (F.tells store.new) (L.tells launcher.new)) (E.tells log.new)) (G.tells gate.new)) }
-{
-    products_stay();
-    for _ in rt.forever() {
-        match pqact.pending(shared, rt, pass, reader, store, launcher, log) {
-            ActEnd::Stopped => match gate.idle() {
-                Go::On => {}
-                Go::Stop => return ActEnd::Stopped,
-            },
-            end => return end,
+// A cursor, and what acts on its products.
+#[derive(Drop)]
+struct Follower {
+    reader: Reader,
+    pqact: Pqact,
+}
+
+impl Follower {
+    // Acts on every product up to the end of the queue, and again, until the gate says to stop there.
+    fn follow<H: Wait, F: Store, L: Launcher, E: Sink, G: Gate>(
+        &mut self,
+        rt: &H,
+        shared: &Shared,
+        pass: &mut Pass,
+        log: &mut E,
+        gate: &mut G,
+        store: &mut F,
+        launcher: &mut L,
+    ) -> ActEnd
+        requires of { IsPassOf shared.now pass.old }
+        requires cursor { HasCursor pass.old self.old.reader.k None }
+        requires keeps { KeepsUnlessSpent (standing self.old.pqact.outputs (F.tells store.old) (L.tells launcher.old)) }
+        ensures kept { IsSamePass pass.old pass.new }
+        ensures reader { self.new.reader ≡ self.old.reader }
+        ensures keeps { KeepsUnlessSpent (standing self.new.pqact.outputs (F.tells store.new) (L.tells launcher.new)) }
+        ensures follows { Follows result self.old.pqact.entries self.old.reader.k
+            (gated_of (sight_of pass.old
+            (standing self.old.pqact.outputs (F.tells store.old) (L.tells launcher.old)) (E.tells log.old))
+            (G.tells gate.old))
+            (gated_of (sight_of pass.new
+            (standing self.new.pqact.outputs (F.tells store.new) (L.tells launcher.new)) (E.tells log.new))
+            (G.tells gate.new)) }
+    {
+        products_stay();
+        let reader = self.reader;
+        for _ in rt.forever() {
+            match self
+                .pqact
+                .pending(shared, rt, pass, &reader, store, launcher, log)
+            {
+                ActEnd::Stopped => match gate.idle() {
+                    Go::On => {}
+                    Go::Stop => return ActEnd::Stopped,
+                },
+                end => return end,
+            }
+        }
+        unreachable!()
+    }
+
+    // Acts on the products of a cursor that was opened, and closes outputs and cursor.
+    fn run<H: Wait, F: Store, L: Launcher, E: Sink, G: Gate>(
+        &mut self,
+        rt: &H,
+        shared: &Shared,
+        pass: &mut Pass,
+        log: &mut E,
+        gate: &mut G,
+        store: &mut F,
+        launcher: &mut L,
+    ) -> ActEnd
+        requires of { IsPassOf shared.now pass.old }
+        requires cursor { HasCursor pass.old self.old.reader.k None }
+        requires outputs { self.old.pqact.outputs ≡ no_outputs }
+        requires keeps { KeepsUnlessSpent (standing self.old.pqact.outputs (F.tells store.old) (L.tells launcher.old)) }
+        ensures acts { (first : PassView) → Grows first pass.old opening (reply.Opened self.old.reader.k)
+            → ActsOpened result self.old.pqact.entries
+            (situation_of first (F.tells store.old) (L.tells launcher.old) (E.tells log.old) (G.tells gate.old))
+            (situation_of pass.new (F.tells store.new) (L.tells launcher.new) (E.tells log.new) (G.tells gate.new)) }
+    {
+        products_stay();
+        let reader = self.reader;
+        let ended = self.follow(rt, shared, pass, log, gate, store, launcher);
+        let answer = self.pqact.close(store, launcher);
+        if let ActEnd::Worn = ended {
+            return ActEnd::Worn;
+        }
+        match reader.close(shared, rt, pass) {
+            Turn::Done(()) => end_after(ended, answer),
+            Turn::Worn { .. } => ActEnd::Worn,
         }
     }
-    unreachable!()
 }
 
 // How it ends, by how acting on products ended and what the closing of the outputs answered.
@@ -69,39 +117,6 @@ fn end_after(ended: ActEnd, answer: Done) -> ActEnd
             Done::LaunchFault => ActEnd::LaunchFault,
         },
         ended => ended,
-    }
-}
-
-// Acts on the products of a cursor that was opened, and closes outputs and cursor.
-fn act_by<H: Wait, F: Store, L: Launcher, E: Sink, G: Gate>(
-    rt: &H,
-    shared: &Shared,
-    pass: &mut Pass,
-    reader: Reader,
-    pqact: &mut Pqact,
-    store: &mut F,
-    launcher: &mut L,
-    log: &mut E,
-    gate: &mut G,
-) -> ActEnd
-    requires of { IsPassOf shared.now pass.old }
-    requires cursor { HasCursor pass.old reader.k None }
-    requires outputs { pqact.old.outputs ≡ no_outputs }
-    requires keeps { KeepsUnlessSpent (standing pqact.old.outputs (F.tells store.old) (L.tells launcher.old)) }
-    ensures acts { (first : PassView) → Grows first pass.old opening (reply.Opened reader.k)
-        → ActsOpened result pqact.old.entries
-        (situation_of first (F.tells store.old) (L.tells launcher.old) (E.tells log.old) (G.tells gate.old))
-        (situation_of pass.new (F.tells store.new) (L.tells launcher.new) (E.tells log.new) (G.tells gate.new)) }
-{
-    products_stay();
-    let ended = follow(rt, shared, pass, &reader, pqact, store, launcher, log, gate);
-    let answer = pqact.close(store, launcher);
-    if let ActEnd::Worn = ended {
-        return ActEnd::Worn;
-    }
-    match reader.close(shared, rt, pass) {
-        Turn::Done(()) => end_after(ended, answer),
-        Turn::Worn { .. } => ActEnd::Worn,
     }
 }
 
@@ -137,13 +152,14 @@ pub fn act<H: Wait, F: Store, L: Launcher, E: Sink, G: Gate>(
         (situation_of pass.old (F.tells store.old) (L.tells launcher.old) (E.tells log.old) (G.tells gate.old))
         (situation_of pass.new (F.tells store.new) (L.tells launcher.new) (E.tells log.new) (G.tells gate.new)) }
 {
-    let Ok(mut pqact) = Pqact::create(alloc, entries) else {
+    let Ok(pqact) = Pqact::create(alloc, entries) else {
         return ActEnd::OutOfMemory;
     };
     match Reader::open(shared, rt, pass, Feed(EVERY_FEEDTYPE), Start::Oldest) {
-        Turn::Done(Opening::Opened(reader)) => act_by(
-            rt, shared, pass, reader, &mut pqact, store, launcher, log, gate,
-        ),
+        Turn::Done(Opening::Opened(reader)) => {
+            let mut follower = Follower { reader, pqact };
+            follower.run(rt, shared, pass, log, gate, store, launcher)
+        }
         Turn::Done(Opening::AllBusy) => ActEnd::AllBusy,
         Turn::Done(Opening::NotQueued) => unreachable!(),
         Turn::Worn { .. } => ActEnd::Worn,

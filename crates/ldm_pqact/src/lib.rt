@@ -6,16 +6,19 @@
 
 mod acting;
 mod body;
+mod carrier;
 mod carry;
 mod effect;
 mod end;
 mod handle;
+mod holding;
 mod limits;
 mod notes;
 mod pending;
 mod pqact;
 mod premises;
 mod turn;
+mod writer;
 
 pub use acting::act;
 pub use effect::output_of;

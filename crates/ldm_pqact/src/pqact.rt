@@ -7,9 +7,10 @@ ghost use Rattle.ldm_actions.specs.Outputs.{Closes, KeepsOfAny, KeepsUnlessSpent
 ghost use Rattle.ldm_pqact.specs.Acting.{ActsOn, sight_of};
 ghost use Rattle.ldm_pqact.specs.Complete.{Completes};
 
+use crate::carrier::Carrier;
 use crate::end::ActEnd;
 use crate::limits::LARGEST_PIECE;
-use crate::pending::turns;
+use crate::writer::Writer;
 use ldm_actions::{Done, Outputs};
 use ldm_outside::{Launcher, Sink, Store};
 use ldm_pqact_conf::Entries;
@@ -28,13 +29,7 @@ use std::sync::Wait;
 /// first action that comes to them answers that fault again.
 #[derive(Drop)]
 pub struct Pqact {
-    alloc: Global,
-    pub(crate) entries: Entries,
-    pub(crate) outputs: Outputs,
-    // A piece of a body, as it is read.
-    pub(crate) buffer: Vec<u8>,
-    // The front of the ident of the product in hand.
-    in_hand: Reason,
+    carrier: Carrier,
 }
 
 impl Model for Pqact {
@@ -54,15 +49,18 @@ impl Pqact {
         ensures outputs { IfOk result (λ made. made.outputs ≡ no_outputs) }
         ensures keeps { IfOk result (λ made. KeepsOfAny made.outputs) }
     {
-        let mut buffer = Vec::new(alloc);
-        buffer.resize(LARGEST_PIECE, 0)?;
-        Ok(Pqact {
-            alloc,
-            entries,
+        let buffer = Vec::with_capacity(alloc, LARGEST_PIECE)?;
+        let writer = Writer {
             outputs: Outputs::create(alloc)?,
             buffer,
+        };
+        let carrier = Carrier {
+            alloc,
+            entries,
+            writer,
             in_hand: Reason::new(),
-        })
+        };
+        Ok(Pqact { carrier })
     }
 
     /// Acts on every product of the cursor up to the end of the queue, and then answers [`ActEnd::Stopped`]. The cursor
@@ -97,20 +95,8 @@ impl Pqact {
             (sight_of pass.new (standing self.new.outputs (F.tells store.new) (L.tells launcher.new))
             (E.tells log.new)) }
     {
-        turns(
-            self.alloc,
-            shared,
-            rt,
-            pass,
-            reader,
-            &self.entries,
-            self.buffer.as_mut_slice(),
-            &mut self.outputs,
-            &mut self.in_hand,
-            store,
-            launcher,
-            log,
-        )
+        self.carrier
+            .turns(rt, shared, pass, log, reader, store, launcher)
     }
 
     /// The product in hand where [`pending`](Pqact::pending) last ended by a fault of the store or of the launcher: the
@@ -118,7 +104,7 @@ impl Pqact {
     pub fn in_hand(&self) -> &[u8]
         ensures { IsReason result.now }
     {
-        self.in_hand.as_slice()
+        self.carrier.in_hand.as_slice()
     }
 
     /// Shuts all files, and then shuts the input of each program and waits for it: the longest unused first.
@@ -130,6 +116,6 @@ impl Pqact {
             (standing self.new.outputs (F.tells store.new) (L.tells launcher.new)) }
         ensures keeps { KeepsUnlessSpent (standing self.new.outputs (F.tells store.new) (L.tells launcher.new)) }
     {
-        self.outputs.close_all(store, launcher)
+        self.carrier.writer.outputs.close_all(store, launcher)
     }
 }

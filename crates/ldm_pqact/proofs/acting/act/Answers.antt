@@ -5,9 +5,9 @@ use Rattle.ldm_pqact.proofs.acting.act.Goals as goal
 
 pub returns-in-Done-Opened-clause-counts : goal.returns-in-Done-Opened-clause-counts
 returns-in-Done-Opened-clause-counts g c =
-    let at = rw c.in-Done-Opened.field-0-is at c.in-Done-Opened.ensures in counts_opened _ _ _ _ (c.act_by.ensures.acts c.args.pass.now at.done)
+    let at = rw c.in-Done-Opened.field-0-is at c.in-Done-Opened.ensures in counts_opened _ _ _ _ (c.run.ensures.acts c.args.pass.now at.done)
 
 pub returns-in-Done-Opened-clause-completes : goal.returns-in-Done-Opened-clause-completes
 returns-in-Done-Opened-clause-completes g c =
     let at = rw c.in-Done-Opened.field-0-is at c.in-Done-Opened.ensures in
-    act_completes c.act_by.result c.args.entries _ _ (inl (rw c.in-Ok.ensures.entries at (c.act_by.ensures.acts c.args.pass.now at.done)))
+    act_completes c.run.result c.args.entries _ _ (inl (rw c.in-Ok.ensures.entries at (c.run.ensures.acts c.args.pass.now at.done)))

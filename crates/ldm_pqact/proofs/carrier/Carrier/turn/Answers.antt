@@ -1,19 +1,19 @@
 use Rattle.std.proofs.lemmas.Result.{err_from_is_err_and}
 use Rattle.ldm_pqact.specs.Handling.{given_of}
 use Rattle.ldm_pqact.proofs.Coursing.{ended, gave, lost, unlogged, unstepped}
-use Rattle.ldm_pqact.proofs.turn.turn.Goals as goal
+use Rattle.ldm_pqact.proofs.carrier.Carrier.turn.Goals as goal
 
 pub returns-in_err-write_gap-in-Done-Gap-clause-turns : goal.returns-in_err-write_gap-in-Done-Gap-clause-turns
 returns-in_err-write_gap-in-Done-Gap-clause-turns g c =
     let why = err_from_is_err_and c.from_residual.result c.from_residual.ensures.1 in
     let at = rw c.in-Done-Gap.field-0-is at c.in-Done-Gap.ensures in
     let failed = c.in_err-write_gap-in-Done-Gap.ensures.written in
-    rw (why.1, why.2) (unlogged c.args.entries.now c.args.reader.now.k _ _ _ c.args.pass.now c.step.new.pass _ _ _ at.done failed.0 failed.1 at.cursor)
+    rw (why.1, why.2) (unlogged c.args.self.now.entries c.args.reader.now.k _ _ _ c.args.pass.now c.step.new.pass _ _ _ at.done failed.0 failed.1 at.cursor)
 
 pub returns-in_ok-write_gap-in-Done-Gap-clause-turns : goal.returns-in_ok-write_gap-in-Done-Gap-clause-turns
 returns-in_ok-write_gap-in-Done-Gap-clause-turns g c =
     let at = rw c.in-Done-Gap.field-0-is at c.in-Done-Gap.ensures in
-    lost c.args.entries.now c.args.reader.now.k _ _ _ c.args.pass.now c.step.new.pass _ _ _ at.done c.in_ok-write_gap-in-Done-Gap.ensures.written
+    lost c.args.self.now.entries c.args.reader.now.k _ _ _ c.args.pass.now c.step.new.pass _ _ _ at.done c.in_ok-write_gap-in-Done-Gap.ensures.written
     c.in_ok-write_gap-in-Done-Gap.ensures.faults_kept at.cursor
 
 pub handle-requires-clause-holds : goal.handle-requires-clause-holds
@@ -25,13 +25,13 @@ returns-in-Done-Product-clause-turns g c =
     let at = rw c.in-Done-Product.field-0-is at c.in-Done-Product.ensures in
     let body = at.cursor.0 in
     let held = at.cursor.1 in
-    gave c.products_stay.ensures.stays c.handle.result c.args.entries.now c.args.reader.now.k (given_of c.in-Done-Product.held body) c.args.pass.now c.step.new.pass
+    gave c.products_stay.ensures.stays c.handle.result c.args.self.now.entries c.args.reader.now.k (given_of c.in-Done-Product.held body) c.args.pass.now c.step.new.pass
     c.handle.new.pass _ _ _ _ at.done held.row (c.handle.ensures.handles body held)
 
 pub returns-in-Done-End-clause-turns : goal.returns-in-Done-End-clause-turns
 returns-in-Done-End-clause-turns g c =
     let at = rw c.in-Done-End.field-0-is at c.in-Done-End.ensures in
-    ended c.args.entries.now c.args.reader.now.k _ c.args.pass.now c.step.new.pass _ _ at.done at.cursor
+    ended c.args.self.now.entries c.args.reader.now.k _ c.args.pass.now c.step.new.pass _ _ at.done at.cursor
 
 pub returns-in-Worn-clause-turns : goal.returns-in-Worn-clause-turns
-returns-in-Worn-clause-turns g c = unstepped c.args.entries.now c.args.reader.now.k _ c.args.pass.now c.step.new.pass _ _ c.in-Worn.ensures.worn
+returns-in-Worn-clause-turns g c = unstepped c.args.self.now.entries c.args.reader.now.k _ c.args.pass.now c.step.new.pass _ _ c.in-Worn.ensures.worn

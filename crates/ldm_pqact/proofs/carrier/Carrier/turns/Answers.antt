@@ -1,0 +1,31 @@
+use Rattle.std.proofs.Common.{◌∙◌, refl}
+use Rattle.ldm_sender.proofs.Steps.{of_same, same_then}
+use Rattle.ldm_pqact.proofs.Coursing.{course_begins, course_ends, course_goes_on}
+use Rattle.ldm_pqact.proofs.carrier.Carrier.turns.Goals as goal
+
+pub loop-init : goal.loop-init
+loop-init g c = (course_begins _ _ _ c.requires.cursor c.requires.keeps, refl, c.requires.room)
+
+pub turn-requires-clause-of : goal.turn-requires-clause-of
+turn-requires-clause-of g c = of_same _ _ _ c.requires.of c.loop.invariant.0.same
+
+pub turn-requires-clause-cursor : goal.turn-requires-clause-cursor
+turn-requires-clause-cursor g c = c.loop.invariant.0.some.cursor
+
+pub turn-requires-clause-keeps : goal.turn-requires-clause-keeps
+turn-requires-clause-keeps g c = c.loop.invariant.0.keeps
+
+pub loop-preserved : goal.loop-preserved
+loop-preserved g c = (
+  course_goes_on c.products_stay.ensures.stays _ _ _ _ _ c.loop.invariant.0 c.in-Ok.ensures.kept c.in-Ok.ensures.keeps
+      (rw c.loop.invariant.1 at c.in-Ok.ensures.turns),
+  c.in-Ok.ensures.entries ∙ c.loop.invariant.1,
+  c.in-Ok.ensures.room,
+)
+
+pub returns-in-Err-clause-kept : goal.returns-in-Err-clause-kept
+returns-in-Err-clause-kept g c = same_then c.args.pass.now c.loop.pass c.turn.new.pass c.loop.invariant.0.same c.in-Err.ensures.kept
+
+pub returns-in-Err-clause-acts : goal.returns-in-Err-clause-acts
+returns-in-Err-clause-acts g c =
+    course_ends c.products_stay.ensures.stays _ _ _ _ _ _ c.loop.invariant.0 (rw c.loop.invariant.1 at c.in-Err.ensures.turns)

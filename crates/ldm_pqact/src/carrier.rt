@@ -1,0 +1,16 @@
+//! What carries out what the entries of a pqact.conf choose.
+
+use crate::writer::Writer;
+use ldm_pqact_conf::Entries;
+use ldm_reason::Reason;
+use std::alloc::Global;
+
+// The entries of a pqact.conf, and all that their actions are carried out with.
+#[derive(Drop)]
+pub(crate) struct Carrier {
+    pub(crate) alloc: Global,
+    pub(crate) entries: Entries,
+    pub(crate) writer: Writer,
+    // The front of the ident of the product in hand.
+    pub(crate) in_hand: Reason,
+}
