@@ -69,6 +69,7 @@ def usage(place):
         (["node", "-a", 64, "-a", 64, "good"], "node: -a: given twice"),
         (["pqinsert"], "pqinsert: no file is named"),
         (["pqinsert", "-i"], "pqinsert: no file is named"),
+        (["pqinsert", "-i", "good", "i" * 256], f"pqinsert: {'i' * 80} is no ident: name one by -p"),
         (["pqinsert", "-o", "h" * 65, "good"], f"pqinsert: -o: {'h' * 65} is no origin"),
         (["pqcat", "-f", "NEXRAD9"], "pqcat: -f: NEXRAD9 is no feedtype"),
         (["pqcat", "-p", "("], "pqcat: -p: ( is no pattern"),

@@ -76,6 +76,7 @@ impl Telling<'_> {
         let mut places = 0;
         let mut no_options = false;
         let mut skip = false;
+        let mut odd = None;
         for at in 0..words.len() {
             let word = words[at].as_bytes();
             if skip {
@@ -92,12 +93,29 @@ impl Telling<'_> {
                 if !self.look_at_place(alloc, places, word) {
                     return;
                 }
+                if odd.is_none() && !is_name(b"", word) {
+                    odd = Some(at);
+                }
                 places = places.saturating_add(1);
             }
         }
         if let Some(missing) = missing_at(self.command, places) {
             self.name();
             self.why.put(missing);
+        } else if self.command == b"pqinsert".as_slice() && !seen.contains(&b'p') {
+            self.refuse_path(words, odd);
+        }
+    }
+
+    // A path is the ident of its product where no ident is named: this one cannot be.
+    fn refuse_path(&mut self, words: &[String], at: Option<usize>) {
+        let Some(at) = at else {
+            return;
+        };
+        if let Some(path) = word_at(words, at) {
+            self.name();
+            self.show(path);
+            self.why.put(b" is no ident: name one by -p");
         }
     }
 
