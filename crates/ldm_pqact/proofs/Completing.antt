@@ -1,16 +1,14 @@
 -- Where nothing hindered, all was done.
-use Rattle.std.proofs.Common.{◌≡◌, ◌∙◌, ℕ, ◌<◌, List, [], ◌∷◌, ◌++◌, inl, inr, map, None, Option, refl, sym, ap, subst, append_assoc, append-nil, arith}
+use Rattle.std.proofs.Common.{◌≡◌, ◌∙◌, ℕ, List, [], ◌∷◌, ◌++◌, inl, inr, map, None, Option, refl, sym, ap, subst, append_assoc, append-nil, arith}
 use Rattle.std.specs.List.{flat_map}
 use Rattle.std.proofs.lemmas.List.Concat.{flat_map-append}
 use Rattle.ldm_model.specs.declared.event.Reply.{Reply}
 use Rattle.ldm_model.specs.declared.event.Reply.TheVariants as reply
 use Rattle.ldm_outside.specs.Count.{Rose}
 use Rattle.ldm_outside.specs.Io.{Takes}
-use Rattle.ldm_outside.specs.declared.gate.Go.{Go}
 use Rattle.ldm_session.specs.Exchange.{IdledAll}
 use Rattle.ldm_pqact_conf.specs.Entries.{EntryView}
 use Rattle.ldm_actions.specs.declared.answers.Done.{Done}
-use Rattle.ldm_actions.specs.declared.answers.Done.TheVariants as done
 use Rattle.ldm_actions.specs.declared.answers.Fault.{Fault}
 use Rattle.ldm_actions.specs.declared.answers.Fault.TheVariants as fault
 use Rattle.ldm_actions.specs.Effects.{closed, effects}
@@ -21,7 +19,7 @@ use Rattle.ldm_pqact.specs.Acted.{Acts, ActsOpened, LogsBy, Situation, UsesOpene
 use Rattle.ldm_pqact.specs.Acting.{ActsOn, Does, IsInHand, Sight}
 use Rattle.ldm_pqact.specs.Carried.{Faulted}
 use Rattle.ldm_pqact.specs.Complete.{ActCompletes, ActsOnAll, ActsToTheEnd, Completes}
-use Rattle.ldm_pqact.specs.Course.{Stretch, course_work, goes_of, stretch_replies, turns_in, turns_of, work_in}
+use Rattle.ldm_pqact.specs.Course.{Stretch, course_work, goes_of, stretch_replies, turns_in}
 use Rattle.ldm_pqact.specs.Turns.{Turn, deeds_of, lines_of, products_in, turn_deeds, turn_lines, turn_reply}
 use Rattle.ldm_pqact.specs.Uses.{AreRows}
 use Rattle.ldm_pqact.specs.Work.{replies_of, with_answers, work_of}

@@ -20,7 +20,8 @@ use Rattle.ldm_pqact.specs.Turns.{Turn, products_in}
 use Rattle.ldm_pqact.specs.Uses.{AreRows}
 use Rattle.ldm_pqact.specs.Work.{with_answers, work_of}
 
--- Nothing hindered: outputs were not spent before, neither store nor launcher nor log failed, and the queue can have a call more.
+-- Nothing hindered: outputs were not spent before, neither store nor launcher nor log failed, and the queue can have a
+-- call more.
 pub record Unhindered (old new : Sight) : Type 0 where
   pub unspent : old.standing.outputs.spent ≡ None
   pub store : ¬ Rose old.standing.store.faults new.standing.store.faults
@@ -30,8 +31,8 @@ pub record Unhindered (old new : Sight) : Type 0 where
 
 -- ---- the products of a cursor
 
--- The cursor came to the end of the queue, and holds nothing. Of each product that it was given until then all actions stand whole and all
--- lines are in the log, and of each loss its line.
+-- The cursor came to the end of the queue, and holds nothing. Of each product that it was given until then all actions
+-- stand whole and all lines are in the log, and of each loss its line.
 pub record ActsOnAll (entries : List EntryView) (k : ℕ) (old new : Sight) : Type 0 where
   pub turns : List Turn
   -- so many products the queue had had there
@@ -60,9 +61,9 @@ Completes why entries k old new = Unhindered old new → IsComplete why entries 
 abbrev pub sight_in : Situation → Sight
 sight_in now = sight_of now.pass (standing no_outputs now.store now.launcher) now.log
 
--- A cursor was opened, and it came to the end of the queue: behind the last of these stretches the gate said to stop, and behind each
--- other one to go on. All actions on the products that it was given stand whole, with all files shut and all programs waited for; the log
--- has all lines; and the cursor was closed.
+-- A cursor was opened, and it came to the end of the queue: behind the last of these stretches the gate said to stop,
+-- and behind each other one to go on. All actions on the products that it was given stand whole, with all files shut and
+-- all programs waited for; the log has all lines; and the cursor was closed.
 pub record ActsToTheEnd (entries : List EntryView) (old new : Situation) : Type 0 where
   -- the place of the cursor
   pub k : ℕ
@@ -74,8 +75,8 @@ pub record ActsToTheEnd (entries : List EntryView) (old new : Situation) : Type 
   pub logged : Takes old.log (work_in entries (earlier ++ last ∷ [])).lines new.log
   pub idled : IdledAll (map (λ (stretch : Stretch). go.On) earlier ++ go.Stop ∷ []) old.gate new.gate
 
--- The end is that of its cause: the gate said to stop, once all was done; all cursors were taken, as the queue answered, and nothing else was
--- touched; or there is no memory.
+-- The end is that of its cause: the gate said to stop, once all was done; all cursors were taken, as the queue answered,
+-- and nothing else was touched; or there is no memory.
 abbrev pub ActIsComplete : ActEnd → List EntryView → (old new : Situation) → Type 0
 ActIsComplete end.Stopped entries old new = ActsToTheEnd entries old new
 ActIsComplete end.AllBusy entries old new = ActsOnNone end.AllBusy old new

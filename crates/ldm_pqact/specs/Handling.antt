@@ -134,7 +134,8 @@ pub record DoesHeld (it : Bodied) (deeds : List (Action × List ℕ)) (old new :
 abbrev pub DoesAll : Result (Unit {0}) ActEnd → Bodied → List (Action × List ℕ) → (old new : Lent) → Type 0
 DoesAll (Ok whole) it deeds old new = DoesHeld it deeds old new
 DoesAll (Err why) it deeds old new =
-    (log : SinkRecord) → Breaks why it.holding.reader.k (only_in_hand (product_work deeds [])) (with_log old log) (with_log new log)
+    (log : SinkRecord)
+    → Breaks why it.holding.reader.k (only_in_hand (product_work deeds [])) (with_log old log) (with_log new log)
 
 -- ---- what entries make of it
 
@@ -158,7 +159,8 @@ pub record Noted (entries : List EntryView) (held : Held) (chosen : List Chosen)
 -- there was no memory, and nothing was written; or the log failed behind a front of the lines
 abbrev pub NotedInPart : ActEnd → List EntryView → Held → (old new : SinkRecord) → Type 0
 NotedInPart end.OutOfMemory entries held old new = new ≡ old
-NotedInPart end.LogFault entries held old new = Rose old.faults new.faults × WritesFront old (lines_for entries held) new
+NotedInPart end.LogFault entries held old new =
+    Rose old.faults new.faults × WritesFront old (lines_for entries held) new
 NotedInPart end.Stopped entries held old new = ⊥
 NotedInPart end.StoreFault entries held old new = ⊥
 NotedInPart end.LaunchFault entries held old new = ⊥

@@ -1,5 +1,5 @@
--- What the promises to complete ask for can be: one product was queued, and its body went to a file, over a store, a launcher, a log and a
--- gate of memory.
+-- What the promises to complete ask for can be: one product was queued, and its body went to a file, over a store, a
+-- launcher, a log and a gate of memory.
 use Rattle.std.specs.Prelude.{ℕ, List, [], ◌∷◌, take, Some, None, codes}
 use Rattle.ldm_model.specs.declared.event.Entry.{Entry}
 use Rattle.ldm_model.specs.declared.event.Event.TheVariants.{Close, Read, Release, Step}
@@ -10,12 +10,13 @@ use Rattle.ldm_outside.specs.Store.{File, StoreRecord}
 use Rattle.ldm_shared.specs.Passes.{PassView}
 use Rattle.ldm_pqact.specs.Acted.{Situation, opening}
 
--- The product is queued by actor 1. Actor 0 opens a cursor, is given it, reads its four bytes, lets it go, comes to the end of the queue and
--- closes the cursor.
+-- The product is queued by actor 1. Actor 0 opens a cursor, is given it, reads its four bytes, lets it go, comes to the
+-- end of the queue and closes the cursor.
 abbrev pub entries_acted : List Entry
 entries_acted =
     entries_of (empty 168 10)
-    (by 1 (insert_of 100 1 4) ∷ by 0 opening ∷ by 0 (Step 0) ∷ by 0 (Read 0 0 4) ∷ by 0 (Release 0) ∷ by 0 (Step 0) ∷ by 0 (Close 0) ∷ [])
+    (by 1 (insert_of 100 1 4) ∷ by 0 opening ∷ by 0 (Step 0) ∷ by 0 (Read 0 0 4)
+    ∷ by 0 (Release 0) ∷ by 0 (Step 0) ∷ by 0 (Close 0) ∷ [])
 
 -- the pass of actor 0, and what it has seen
 abbrev pub pass_at : List Entry → PassView

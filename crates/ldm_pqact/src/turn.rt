@@ -19,8 +19,8 @@ use ldm_shared::{Pass, Shared, Turn};
 use std::sync::Wait;
 
 impl Carrier {
-    // One step of the cursor, and what follows it. A fault of the store or of the launcher leaves the front of the ident
-    // of the product in hand.
+    // One step of the cursor, and what follows it. A fault of the store or of the launcher leaves the front of the
+    // ident of the product in hand.
     pub(crate) fn turn<H: Wait, F: Store, L: Launcher, E: Sink>(
         &mut self,
         rt: &H,
