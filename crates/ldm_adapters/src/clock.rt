@@ -3,10 +3,11 @@ ghost use Rattle.std.specs.Prelude.{◌≡◌, ◌≤◌, min, None};
 ghost use Rattle.ldm_types.specs.declared.limits.TheConstants.{GREATEST_INSTANT};
 
 use ldm_outside::Clock;
+use ldm_rest::Rests;
 use ldm_types::Micros;
-use std::io;
 use std::rt::HostRuntime;
 use std::time::{Clock as SystemClock, Duration};
+use std::{io, thread};
 
 /// The clock of the system, which it follows forward alone. It tells no answer.
 ///
@@ -73,5 +74,16 @@ impl Clock for RealClock {
         self.last = instant(system.max(going));
         self.read = read;
         self.last
+    }
+}
+
+/// It sleeps, and a sleep that a signal interrupted goes on. So the next answer is later by that much at least.
+impl Rests for RealClock {
+    ghost use Rattle.ldm_adapters.specs.Told.{told_by_clock};
+
+    fn rest(&mut self, seconds: u32)
+        ensures { told_by_clock self.new ≡ told_by_clock self.old }
+    {
+        thread::sleep(&self.rt, Duration::from_secs(u64::from(seconds)));
     }
 }
