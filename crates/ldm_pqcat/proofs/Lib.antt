@@ -1,5 +1,2 @@
-mod Using
 mod Reading
-mod ShownTurns
-mod Opened
-mod Gathered
+mod Written

@@ -1,9 +1,5 @@
-pub mod Turns
-pub mod Uses
-pub mod Showing
-pub mod Product
-pub mod CatView
-pub mod Handling
+pub mod Writing
+pub mod Taking
+pub mod Bodies
 pub mod Statuses
-pub mod Course
 pub mod Cats

@@ -1,55 +1,28 @@
 -- The statuses of the ends of `pqcat`.
 use Rattle.std.specs.Prelude.{◌≡◌, ℕ, Option, Some, None}
 use Rattle.ldm_outside.specs.Io.{SinkRecord}
-use Rattle.ldm_intake.specs.declared.end.RecvEnd.{RecvEnd}
-use Rattle.ldm_intake.specs.declared.end.RecvEnd.TheVariants as recv_end
-use Rattle.ldm_gather.specs.declared.end.GatherEnd.{GatherEnd}
-use Rattle.ldm_gather.specs.declared.end.GatherEnd.TheVariants as gather_end
+use Rattle.ldm_gather.specs.declared.each_end.EachEnd.{EachEnd}
+use Rattle.ldm_gather.specs.declared.each_end.EachEnd.TheVariants.{NotMade, Unreached, Received, Enough, Stopped}
+use Rattle.ldm_gather.specs.declared.taker.EachStop.{EachStop}
+use Rattle.ldm_gather.specs.declared.taker.EachStop.TheVariants.{ByTaker, LogFault, Worn}
+use Rattle.ldm_gather.specs.Statuses.{status_of_queue, status_of_receiving}
 use Rattle.ldm_status.specs.declared.status.Status.{Status}
 use Rattle.ldm_status.specs.declared.status.Status.TheVariants as status
 use Rattle.ldm_status.specs.declared.status.TheConstants.{LOG_FAULT}
 use Rattle.ldm_status.specs.Status.{ReportsBecause}
-use Rattle.ldm_pqcat.specs.declared.end.CatEnd.{CatEnd}
-use Rattle.ldm_pqcat.specs.declared.end.CatEnd.TheVariants.{NoMemory, Unreached, Received, Enough, Stopped}
-use Rattle.ldm_pqcat.specs.declared.shown.CatStop.{CatStop}
-use Rattle.ldm_pqcat.specs.declared.shown.CatStop.TheVariants as stop
 
--- a fact where the handler stopped
-abbrev pub IfStopped : GatherEnd → Type 0 → Type 0
-IfStopped (gather_end.Received end) P = Unit {0}
-IfStopped gather_end.Enough P = Unit {0}
-IfStopped gather_end.Stopped P = P
+-- ---- there is none where the log failed
 
--- how it ends, by how the gathering ended and why the handler stopped
-abbrev pub IsEndOf : CatEnd → GatherEnd → Option CatStop → Type 0
-IsEndOf (Received end) gathered why = gathered ≡ gather_end.Received end
-IsEndOf Enough gathered why = gathered ≡ gather_end.Enough
-IsEndOf (Stopped stop) gathered why = (gathered ≡ gather_end.Stopped) × (why ≡ Some stop)
-IsEndOf NoMemory gathered why = ⊥
-IsEndOf Unreached gathered why = ⊥
+-- what stops the writing of a body is the sink
+abbrev pub stop_status : EachStop → Option Status
+stop_status ByTaker = Some status.SinkFault
+stop_status LogFault = None
+stop_status Worn = Some status.Worn
 
--- ---- statuses; there is none where the log failed
-
-abbrev pub receive_status : RecvEnd → Option Status
-receive_status recv_end.Ended = Some status.Done
-receive_status (recv_end.Truncated at) = Some (status.BadFrame at)
-receive_status (recv_end.BadFrame at) = Some (status.BadFrame at)
-receive_status (recv_end.Refused answer) = Some status.Denied
-receive_status recv_end.LinkFault = Some status.NetFault
-receive_status recv_end.LogFault = None
-receive_status recv_end.StreamLimit = Some status.StreamLimit
-receive_status recv_end.Worn = Some status.Worn
-receive_status recv_end.OutOfMemory = Some status.NoMemory
-
-abbrev pub stop_status : CatStop → Option Status
-stop_status stop.SinkFault = Some status.SinkFault
-stop_status stop.LogFault = None
-stop_status stop.Worn = Some status.Worn
-
-abbrev pub status_of : CatEnd → Option Status
-status_of NoMemory = Some status.NoMemory
+abbrev pub status_of : EachEnd → Option Status
+status_of (NotMade fault) = Some (status_of_queue fault)
 status_of Unreached = Some status.NetFault
-status_of (Received end) = receive_status end
+status_of (Received end) = status_of_receiving end
 status_of Enough = Some status.Done
 status_of (Stopped why) = stop_status why
 

@@ -1,10 +1,11 @@
 use Rattle.std.proofs.Common.{◌-◌}
+use Rattle.ldm_pqcat.specs.Writing.{sight_of}
 use Rattle.ldm_pqcat.proofs.Reading.{KeepsBody}
-use Rattle.ldm_pqcat.proofs.product.write_body.Given as goal
+use Rattle.ldm_pqcat.proofs.body.write_body.Given as goal
 
 abbrev pub invariant-loop-offset : goal.invariant-loop-offset
 invariant-loop-offset g l =
-    KeepsBody l.reader.k l.held l.offset l.initial.pass l.pass (g.K.Sink.tells l.initial.sink) (g.K.Sink.tells l.sink)
+    KeepsBody l.reader.k l.held l.offset (sight_of l.initial.pass (g.K.Sink.tells l.initial.sink)) (sight_of l.pass (g.K.Sink.tells l.sink))
 
 abbrev pub decreases-loop-offset : goal.decreases-loop-offset
 decreases-loop-offset g l = l.size - l.offset

@@ -1,7 +1,7 @@
 use Rattle.std.proofs.Common.{ℕ, List, subst}
 use Rattle.ldm_outside.specs.Io.{Takes}
-use Rattle.ldm_pqcat.proofs.Using.{uses_read}
-use Rattle.ldm_pqcat.proofs.product.write_piece.Goals as goal
+use Rattle.ldm_gather.proofs.Using.{uses_read}
+use Rattle.ldm_pqcat.proofs.body.write_piece.Goals as goal
 
 pub returns-in-Ok-clause-reads : goal.returns-in-Ok-clause-reads
 returns-in-Ok-clause-reads g c body holds = (
