@@ -19,7 +19,7 @@ use Rattle.ldm_outside.specs.Link.{bytes_given}
 use Rattle.ldm_sender.specs.declared.end.SendEnd.{SendEnd}
 use Rattle.ldm_sender.specs.declared.end.SendEnd.TheVariants as feed
 use Rattle.ldm_sender.specs.Asked.{Asked}
-use Rattle.ldm_sender.specs.Opening.{Answered, Denied, Reclassed, IsAnswerTo}
+use Rattle.ldm_sender.specs.Opening.{Answered, Busy, Denied, Opened, Reclassed, IsAnswerTo}
 use Rattle.ldm_downstream.specs.Pushing.{Ends}
 use Rattle.ldm_downstream.specs.Pieces.{beginning}
 use Rattle.ldm_between_ends.specs.OnePass.{IsOnlyPass, state_of}
@@ -29,11 +29,11 @@ use Rattle.ldm_chain.specs.declared.node.Break.TheVariants as broken
 use Rattle.ldm_chain.specs.declared.node.ChainEnd.{ChainEnd}
 use Rattle.ldm_chain.specs.Breaking.{Breaks, BreaksAt, BreaksSo, Came, FedFirst, LeavesNothing}
 use Rattle.ldm_chain.specs.Causes.{AreAllTaken, CauseAt, HadAllCalls, HadNoCursor, ReceiveCause, StoodSo}
-use Rattle.ldm_chain.specs.Ending.{broken_off, by_receiver, by_told, by_told_of, end_by}
+use Rattle.ldm_chain.specs.Ending.{broken_off, by_receiver, end_by}
 use Rattle.ldm_chain.specs.Linking.{Fed, FedFewer, asking, request_read}
 use Rattle.ldm_chain.specs.MirrorView.{MirrorView, all_read}
 use Rattle.ldm_chain.specs.Reflecting.{Went, pieces_at}
-use Rattle.ldm_chain.proofs.Answering.{ReclassEnds, busy-ends, busy-seen, denied-ends, no-bad_reply, reclassed-ends, stopped-goes_on}
+use Rattle.ldm_chain.proofs.Answering.{ReclassEnds, all-sent, busy-ends, busy-seen, carries-all, denied-ends, granted-goes_on, no-bad_reply, over-whole, reclassed-ends, stopped-goes_on}
 use Rattle.ldm_chain.proofs.FedWhole.{TookAll, still-only}
 use Rattle.ldm_chain.proofs.FedFew.{fed-over}
 use Rattle.ldm_chain.proofs.Linked.{took-rest, took-whole}
@@ -160,7 +160,8 @@ module _ (laws : Laws) (more : EndLaws) (asked : Asked) (number : asked.xid ≡ 
         let how = feed.Denied rule in
         let feeds = first.fed.feeds in (
           subst (IsAnswerTo asked) feeds.cause feeds.is_feeding.answered,
-          denied-ends laws more how asked old new _ _ feeds only breaks.small now before.actor t.made end (first-all how first.fed) feeds.sent_part rule feeds.cause,
+          denied-ends laws more how asked old new _ _ feeds only breaks.small now before.actor t.made end (first-all how first.fed) rule feeds.cause
+              (carries-all laws more how asked old new _ _ feeds only breaks.small now before.actor t.made end (first-all how first.fed) feeds.sent_part),
         )
     denied rule (inr part) =
         let feeds = part.rest.fed.feeds in absurd (not-denied asked part.rest.fewer part.rest.left feeds.feeding.answered rule feeds.is_feeding.answered feeds.cause)
@@ -168,35 +169,14 @@ module _ (laws : Laws) (more : EndLaws) (asked : Asked) (number : asked.xid ≡ 
     busy : FedFirst feed.AllBusy asked old new at_first m ⊎ FedFewer feed.AllBusy breaks.b asked old new at_first m → end ≡ Some (receive.Refused class_answer.Busy)
     busy (inl first) =
         let feeds = first.fed.feeds in
-        busy-ends laws more feed.AllBusy asked old new _ _ feeds only breaks.small now before.actor t.made end (first-all feed.AllBusy first.fed) feeds.sent_part
-        feeds.cause.0 feeds.cause.1
+        busy-ends laws more feed.AllBusy asked old new _ _ feeds only breaks.small now before.actor t.made end (first-all feed.AllBusy first.fed) feeds.cause.0 feeds.cause.1
+        (carries-all laws more feed.AllBusy asked old new _ _ feeds only breaks.small now before.actor t.made end (first-all feed.AllBusy first.fed) feeds.sent_part)
     busy (inr part) =
         let feeds = part.rest.fed.feeds in
         busy-ends laws more feed.AllBusy (narrower asked part.rest.fewer part.rest.left) part.mid new _ _ feeds (mid-only feed.AllBusy part) (mid-small feed.AllBusy part)
-        now before.actor t.made end (rest-all feed.AllBusy part) feeds.sent_part feeds.cause.0 feeds.cause.1
-
-    -- a part is left, and the receiver asks for it, or a pattern means nothing
-    record IsLeft : Type 0 where
-      fewer : ClassSpec
-      left : reduce asked.rules asked.host asked.class ≡ reduced.Fewer fewer
-      ends : ReclassEnds (bad_place fewer.specs.items) end
-
-    reclassed : FedFirst feed.Reclassed asked old new at_first m ⊎ FedFewer feed.Reclassed breaks.b asked old new at_first m → IsLeft
-    reclassed (inl first) =
-        let feeds = first.fed.feeds in
-        let class = feeds.cause.0 in
-        let feeds_left = feeds_for asked.host asked.rules in
-        let rule_left = or_none (first_rule (is_about asked.host) asked.rules) in
-        let left : reduce asked.rules asked.host asked.class ≡ reduced.Fewer class = subst (IsAnswerTo asked) feeds.cause.1 feeds.is_feeding.answered in
-        record {
-          fewer = class;
-          left = left;
-          ends = reclassed-ends laws more feed.Reclassed asked old new _ _ feeds only breaks.small now before.actor t.made end (first-all feed.Reclassed first.fed)
-              feeds.sent_part class feeds.cause.1 (fewer-fits feeds_left rule_left asked.class class left breaks.fits) number (fewer-other feeds_left rule_left asked.class class left);
-        }
-    reclassed (inr part) =
-        let feeds = part.rest.fed.feeds in
-        absurd (not-reclassed asked part.rest.fewer part.rest.left feeds.feeding.answered feeds.cause.0 feeds.is_feeding.answered feeds.cause.1)
+        now before.actor t.made end (rest-all feed.AllBusy part) feeds.cause.0 feeds.cause.1
+        (carries-all laws more feed.AllBusy (narrower asked part.rest.fewer part.rest.left) part.mid new _ _ feeds (mid-only feed.AllBusy part) (mid-small feed.AllBusy part)
+        now before.actor t.made end (rest-all feed.AllBusy part) feeds.sent_part)
 
   -- ---- ends of a feeder that need no receiver
 
@@ -270,33 +250,72 @@ module _ (laws : Laws) (more : EndLaws) (asked : Asked) (number : asked.xid ≡ 
         subst (λ (e : RecvEnd). ReceiveCause e asked found new) (told-by (receive.BadFrame ends.0) ends.1)
         (record { fewer = fewer; left = left; bad = subst (λ (o : Option ℕ). IsSome o) (sym is) refl })
 
-    told-feeder : (how : SendEnd) → (how ≡ feed.Stopped → ⊥) → FedFirst how asked old new at_first m ⊎ FedFewer how breaks.b asked old new at_first m
-        → CauseAt (end_by (by_told_of told how)) asked found new
-    told-feeder feed.Stopped unlike by = absurd (unlike refl)
-    told-feeder feed.Reclassed unlike by =
-        let left = reclassed took-it by in left-cause left.fewer left.left (bad_place left.fewer.specs.items) refl left.ends
-    told-feeder (feed.Denied rule) unlike by =
-        let denied_so = denied took-it rule by in
-        subst (λ (e : RecvEnd). ReceiveCause e asked found new) (told-by (receive.Refused class_answer.Denied) denied_so.1) (rule, denied_so.0)
-    told-feeder (feed.PeerEnd place) unlike by = absurd (no-peer_end place by)
-    told-feeder feed.LinkFault unlike by = tt
-    told-feeder feed.LogFault unlike by = absurd (no-log_fault by)
-    told-feeder (feed.BadReply place) unlike by = absurd (bad-reply took-it place by)
-    told-feeder feed.AllBusy unlike (inl first) =
-        subst (λ (e : RecvEnd). ReceiveCause e asked found new) (told-by (receive.Refused class_answer.Busy) (busy took-it (inl first)))
-        (found-in old found new stood.taken (busy-seen laws asked old new _ _ only first.fed.feeds))
-    told-feeder feed.AllBusy unlike (inr part) =
-        subst (λ (e : RecvEnd). ReceiveCause e asked found new) (told-by (receive.Refused class_answer.Busy) (busy took-it (inr part)))
-        (found-in part.mid found new (λ all. stood.taken (subst AreAllTaken (mid-state feed.AllBusy part) all))
-        (busy-seen laws (narrower asked part.rest.fewer part.rest.left) part.mid new _ _ (mid-only feed.AllBusy part) part.rest.fed.feeds))
-    told-feeder feed.Worn unlike by = worn by
-    told-feeder feed.OutOfMemory unlike by = tt
+    is-over : IsSome end
+    is-over = subst (λ (e : Option RecvEnd). IsSome e) (sym over) refl
 
-    told-cause : (fed : Option Break) → Came fed breaks.b asked old new at_first m → CauseAt (end_by (by_told told fed)) asked found new
+    -- by how its request was answered, however the feeder ended then
+    module _ (how : SendEnd) (first : FedFirst how asked old new at_first m) where
+      feeds-all : TookAll asked first.fed.feeds.sent first.fed.feeds.given now before.actor took-it.made end
+      feeds-all = first-all took-it how first.fed
+
+      first-told : (answered : Answered) → first.fed.feeds.feeding.answered ≡ answered → ReceiveCause told asked found new
+      first-told (Denied rule) is =
+          let feeds = first.fed.feeds in
+          let whole = over-whole laws more how asked old new _ _ feeds only breaks.small now before.actor took-it.made end feeds-all (Denied rule) is tt tt is-over in
+          let ends = denied-ends laws more how asked old new _ _ feeds only breaks.small now before.actor took-it.made end feeds-all rule is whole in
+          subst (λ (e : RecvEnd). ReceiveCause e asked found new) (told-by (receive.Refused class_answer.Denied) ends)
+          (rule, subst (IsAnswerTo asked) is feeds.is_feeding.answered)
+      first-told (Reclassed class) is =
+          let feeds = first.fed.feeds in
+          let feeds_left = feeds_for asked.host asked.rules in
+          let rule_left = or_none (first_rule (is_about asked.host) asked.rules) in
+          let left : reduce asked.rules asked.host asked.class ≡ reduced.Fewer class = subst (IsAnswerTo asked) is feeds.is_feeding.answered in
+          let fits = fewer-fits feeds_left rule_left asked.class class left breaks.fits in
+          let whole = over-whole laws more how asked old new _ _ feeds only breaks.small now before.actor took-it.made end feeds-all (Reclassed class) is tt fits is-over in
+          left-cause class left (bad_place class.specs.items) refl
+          (reclassed-ends laws more how asked old new _ _ feeds only breaks.small now before.actor took-it.made end feeds-all class is fits number
+          (fewer-other feeds_left rule_left asked.class class left) whole)
+      first-told (Busy missed) is =
+          let feeds = first.fed.feeds in
+          let whole = over-whole laws more how asked old new _ _ feeds only breaks.small now before.actor took-it.made end feeds-all (Busy missed) is tt tt is-over in
+          let ends = busy-ends laws more how asked old new _ _ feeds only breaks.small now before.actor took-it.made end feeds-all missed is whole in
+          let sent = all-sent laws more how asked old new _ _ feeds only breaks.small now before.actor took-it.made end feeds-all whole in
+          subst (λ (e : RecvEnd). ReceiveCause e asked found new) (told-by (receive.Refused class_answer.Busy) ends)
+          (found-in old found new stood.taken (busy-seen laws how asked old new _ _ only feeds missed is at_first m feeds.exchanged.passed sent first.fed.decided))
+      first-told (Opened missed k) is =
+          absurd (not-live (granted-goes_on laws more how asked old new _ _ first.fed.feeds only breaks.small now before.actor took-it.made end feeds-all missed k is))
+
+    module _ (how : SendEnd) (part : FedFewer how breaks.b asked old new at_first m) where
+      abbrev asked-rest : Asked
+      asked-rest = narrower asked part.rest.fewer part.rest.left
+
+      rest-told : (answered : Answered) → part.rest.fed.feeds.feeding.answered ≡ answered → ReceiveCause told asked found new
+      rest-told (Denied rule) is =
+          absurd (not-denied asked part.rest.fewer part.rest.left (Denied rule) rule (subst (IsAnswerTo asked-rest) is part.rest.fed.feeds.is_feeding.answered) refl)
+      rest-told (Reclassed class) is =
+          absurd (not-reclassed asked part.rest.fewer part.rest.left (Reclassed class) class (subst (IsAnswerTo asked-rest) is part.rest.fed.feeds.is_feeding.answered) refl)
+      rest-told (Busy missed) is =
+          let feeds = part.rest.fed.feeds in
+          let all = rest-all took-it how part in
+          let mid_only = mid-only how part in
+          let whole = over-whole laws more how asked-rest part.mid new _ _ feeds mid_only (mid-small how part) now before.actor took-it.made end all (Busy missed) is tt tt is-over in
+          let ends = busy-ends laws more how asked-rest part.mid new _ _ feeds mid_only (mid-small how part) now before.actor took-it.made end all missed is whole in
+          let sent = all-sent laws more how asked-rest part.mid new _ _ feeds mid_only (mid-small how part) now before.actor took-it.made end all whole in
+          subst (λ (e : RecvEnd). ReceiveCause e asked found new) (told-by (receive.Refused class_answer.Busy) ends)
+          (found-in part.mid found new (λ all. stood.taken (subst AreAllTaken (mid-state how part) all))
+          (busy-seen laws how asked-rest part.mid new _ _ mid_only feeds missed is (all_read part.told) m feeds.exchanged.passed sent part.rest.fed.decided))
+      rest-told (Opened missed k) is =
+          absurd (not-live (granted-goes_on laws more how asked-rest part.mid new _ _ part.rest.fed.feeds (mid-only how part) (mid-small how part) now before.actor took-it.made end
+          (rest-all took-it how part) missed k is))
+
+    told-cause : (fed : Option Break) → Came fed breaks.b asked old new at_first m → ReceiveCause told asked found new
     told-cause None came = absurd (not-live (stopped took-it came))
-    told-cause (Some (broken.Feed how)) came = told-feeder how came.0 came.1
-    told-cause (Some (broken.Receive bad)) came = absurd (not-live came.1)
-    told-cause (Some broken.OutOfMemory) came = tt
+    told-cause (Some (broken.Feed how)) came = elim came.1 [
+      | inl first ↦ first-told how first first.fed.feeds.feeding.answered refl
+      | inr part ↦ rest-told how part part.rest.fed.feeds.feeding.answered refl
+    ]
+    told-cause (Some (broken.Receive bad)) came = absurd (not-live came.1.goes_on)
+    told-cause (Some broken.OutOfMemory) came = absurd (not-live came.goes_on)
 
   -- ---- all
 
@@ -346,11 +365,11 @@ module _ (laws : Laws) (more : EndLaws) (asked : Asked) (number : asked.xid ≡ 
       subst (λ (b : Break). CauseAt (end_by b) asked found new) (let same : broken.OutOfMemory ≡ how = cc is in same) tt
   by-receiver (Some receive.Worn) over fed came how is = absurd (receiver-worn over)
   by-receiver (Some (receive.BadFrame at)) over fed came how is =
-      subst (λ (b : Break). CauseAt (end_by b) asked found new) (let same : by_told (receive.BadFrame at) fed ≡ how = cc is in same) (told-cause (receive.BadFrame at) tt over fed came)
+      subst (λ (b : Break). CauseAt (end_by b) asked found new) (let same : broken.Receive (receive.BadFrame at) ≡ how = cc is in same) (told-cause (receive.BadFrame at) tt over fed came)
   by-receiver (Some (receive.Refused answer)) over fed came how is =
-      subst (λ (b : Break). CauseAt (end_by b) asked found new) (let same : by_told (receive.Refused answer) fed ≡ how = cc is in same) (told-cause (receive.Refused answer) tt over fed came)
+      subst (λ (b : Break). CauseAt (end_by b) asked found new) (let same : broken.Receive (receive.Refused answer) ≡ how = cc is in same) (told-cause (receive.Refused answer) tt over fed came)
   by-receiver (Some receive.StreamLimit) over fed came how is =
-      subst (λ (b : Break). CauseAt (end_by b) asked found new) (let same : by_told receive.StreamLimit fed ≡ how = cc is in same) (told-cause receive.StreamLimit tt over fed came)
+      subst (λ (b : Break). CauseAt (end_by b) asked found new) (let same : broken.Receive receive.StreamLimit ≡ how = cc is in same) (told-cause receive.StreamLimit tt over fed came)
   by-receiver (Some receive.Ended) over fed came how is = absurd (no-end receive.Ended over)
   by-receiver (Some (receive.Truncated at)) over fed came how is = absurd (no-end (receive.Truncated at) over)
   by-receiver (Some receive.LinkFault) over fed came how is = absurd (no-end receive.LinkFault over)
@@ -362,8 +381,10 @@ module _ (laws : Laws) (more : EndLaws) (asked : Asked) (number : asked.xid ≡ 
 module _ (laws : Laws) (more : EndLaws) (asked : Asked) (number : asked.xid ≡ 1) (found old new before after : PassView) (only : IsOnlyPass old) (next : IsOnlyPass before)
     (fresh : before.seen ≡ []) (stood : StoodSo found old) where
   by-break : (why : Break) → Breaks why asked old new before after → CauseAt (end_by why) asked found new
-  by-break (broken.Feed how) breaks = so-cause laws more asked number (broken.Feed how) found old new before after only next fresh stood breaks
-  by-break (broken.Receive over) breaks = so-cause laws more asked number (broken.Receive over) found old new before after only next fresh stood breaks
+  by-break (broken.Feed how) (inl unasked) = absurd unasked
+  by-break (broken.Feed how) (inr breaks) = so-cause laws more asked number (broken.Feed how) found old new before after only next fresh stood breaks
+  by-break (broken.Receive over) (inl unasked) = absurd unasked
+  by-break (broken.Receive over) (inr breaks) = so-cause laws more asked number (broken.Receive over) found old new before after only next fresh stood breaks
   by-break broken.OutOfMemory breaks = tt
 
   pub causes : (ending : ChainEnd) → BreaksAt ending asked old new before after → CauseAt ending asked found new

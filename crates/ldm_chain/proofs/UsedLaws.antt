@@ -1,6 +1,6 @@
 -- The laws that lead from the calls of a link to the states of its queues.
 use Rattle.std.proofs.Common.{◌≡◌, ℕ, ◌+◌, ◌*◌, ◌≤◌, List, ◌++◌, length, Some, None}
-use Rattle.std.specs.Prelude.{true, slice_get}
+use Rattle.std.specs.Prelude.{IsSome, true, slice_get}
 use Rattle.ldm_types.specs.declared.class.ClassSpec.{ClassSpec}
 use Rattle.ldm_types.specs.declared.limits.TheConstants.{LARGEST_ARENA}
 use Rattle.ldm_types.specs.Info.{IsMetadata}
@@ -73,7 +73,8 @@ pub record EndLaws : Type 0 where
   pub broke_off : (p : Position) (pieces : List Piece) (old new : Standing) (breaks : BreaksOff (arrivals p pieces) old new)
       → length breaks.takes.made + length breaks.made ≤ 2 * length (joined pieces) + 2
   pub live : (p : Passing) → IsPassing p → p.came_to.end ≡ None
-  pub replied : (p : Passing) (ungranted : IsUngranted p) → EndsByReply p ungranted
+  pub replied : (p : Passing) (ungranted : IsUngranted p) → CarriesAll p → EndsByReply p ungranted
+  pub part : (p : Passing) → IsUngranted p → IsSome p.came_to.end → CarriesAll p
   pub answered : (p : Passing) (product : Given) (sent_at at : ℕ) (given more : List ℕ) (behind : List Placed) → IsPassing p → CarriesAll p
       → p.feeding.last ≡ Unanswered product sent_at → Said given (codes_of p.feeding) behind → given ++ more ≡ records_of p.came_to.replies
       → IsNoReply (stands p.feeding).next at given behind → ⊥

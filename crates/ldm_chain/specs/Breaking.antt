@@ -23,6 +23,7 @@ use Rattle.ldm_chain.specs.Causes.{MeansNothing}
 use Rattle.ldm_chain.specs.Ending.{by_receiver, end_by}
 use Rattle.ldm_chain.specs.Linking.{Fed, FedAll, FedFewer, FedRest, Links, asked_by, asking, host_name, request_read}
 use Rattle.ldm_chain.specs.MirrorView.{MirrorView}
+use Rattle.ldm_chain.specs.Nodes.{KeepsNode}
 use Rattle.ldm_chain.specs.Reflecting.{Reflects}
 
 -- ---- building what is left
@@ -45,21 +46,26 @@ LeavesNothing _ asked = ⊥
 abbrev pub CameRest : Option Break → Asked → (old new : PassView) → (before after : MirrorView) → Type 0
 CameRest None asked old new before after = FedRest Stopped asked old new before after
 CameRest (Some (broken.Feed why)) asked old new before after = (why ≡ Stopped → ⊥) × FedRest why asked old new before after
-CameRest (Some (broken.Receive end)) asked old new before after = LeavesNothing end asked × (after ≡ before)
-CameRest (Some broken.OutOfMemory) asked old new before after = Unit {0}
+CameRest (Some (broken.Receive end)) asked old new before after = LeavesNothing end asked × (new ≡ old) × (after ≡ before)
+CameRest (Some broken.OutOfMemory) asked old new before after = (new ≡ old) × (after ≡ before)
 
 -- A feeding ended so. Where a part of the class was left, the receiver was over.
 pub record FedFirst (why : SendEnd) (asked : Asked) (old new : PassView) (before after : MirrorView) : Type 0 where
   pub fed : Fed why asked old new before after
   pub over : why ≡ Reclassed → IsSome after.receiver.end
 
+-- The node was told that a part of its class is left, and goes on; that part was not fed.
+pub record IsToldPart (asked : Asked) (old new : PassView) (before after : MirrorView) : Type 0 where
+  pub fed : Fed Reclassed asked old new before after
+  pub goes_on : after.receiver.end ≡ None
+
 -- how feeding a class, or what is left of it, came out
 abbrev pub Came : Option Break → Beginning → Asked → (old new : PassView) → (before after : MirrorView) → Type 0
 Came None b asked old new before after = FedAll b asked old new before after
 Came (Some (broken.Feed why)) b asked old new before after =
     (why ≡ Stopped → ⊥) × (FedFirst why asked old new before after ⊎ FedFewer why b asked old new before after)
-Came (Some (broken.Receive end)) b asked old new before after = LeavesNothing end asked × (after.receiver.end ≡ None)
-Came (Some broken.OutOfMemory) b asked old new before after = Unit {0}
+Came (Some (broken.Receive end)) b asked old new before after = LeavesNothing end asked × IsToldPart asked old new before after
+Came (Some broken.OutOfMemory) b asked old new before after = IsToldPart asked old new before after
 
 -- ---- a link
 
@@ -78,11 +84,15 @@ pub record BreaksSo (why : Break) (asked : Asked) (old new before after : PassVi
   pub pass_is : end.pass ≡ after
   pub is : by_receiver end.receiver.end fed ≡ Some why
 
--- nothing is said where there was no memory
+-- There was no memory for the receiver, and nothing was done.
+abbrev pub IsUnasked : Break → (old new before after : PassView) → Type 0
+IsUnasked (broken.Feed why) old new before after = ⊥
+IsUnasked (broken.Receive end) old new before after = ⊥
+IsUnasked broken.OutOfMemory old new before after = (new ≡ old) × (after ≡ before)
+
+-- Want of memory is of the feeder, or of a receiver that did not end by what it was told; or it came before either began.
 abbrev pub Breaks : Break → Asked → (old new before after : PassView) → Type 0
-Breaks (broken.Feed why) asked old new before after = BreaksSo (broken.Feed why) asked old new before after
-Breaks (broken.Receive end) asked old new before after = BreaksSo (broken.Receive end) asked old new before after
-Breaks broken.OutOfMemory asked old new before after = Unit {0}
+Breaks why asked old new before after = IsUnasked why old new before after ⊎ BreaksSo why asked old new before after
 
 -- ---- some nodes
 
@@ -92,13 +102,13 @@ pub record BreaksAt (end : ChainEnd) (asked : Asked) (old new before after : Pas
   pub is : end ≡ end_by why
   pub breaks : Breaks why asked old new before after
 
--- The first of these nodes, which has that number, was fed from one whose pass went from there to there, and those behind it one after another,
--- up to one whose feeding broke the chain so.
-abbrev pub BreaksEach : ℕ → Rules → ChainEnd → (from to : PassView) → (olds news : List ChainNode) → Type 0
-BreaksEach i rules end from to [] [] = ⊥
-BreaksEach i rules end from to [] (new ∷ news) = ⊥
-BreaksEach i rules end from to (old ∷ olds) [] = ⊥
-BreaksEach i rules end from to (old ∷ olds) (new ∷ news) =
-    BreaksAt end (asked_by (host_name i) rules 1 old.class old.max_hereis) from to old.pass new.pass
-    ⊎ ((now : ℕ) × (fed : PassView) × Links (asked_by (host_name i) rules 1 old.class old.max_hereis) now from to old.pass fed
-    × BreaksEach (i + 1) rules end fed new.pass olds news)
+-- The second of these nodes, which has that number, was fed from the first, and each behind it from the one before, up to one whose feeding
+-- broke the chain so: that of the last instant. Those behind that one are as they were.
+abbrev pub BreaksEach : ℕ → Rules → ChainEnd → (olds news : List ChainNode) → List ℕ → Type 0
+BreaksEach i rules end (from ∷ old ∷ olds) (to ∷ new ∷ news) (now ∷ []) =
+    BreaksAt end (asked_by (host_name i) rules 1 old.class old.max_hereis) from.pass to.pass old.pass new.pass × (news ≡ olds)
+BreaksEach i rules end (from ∷ old ∷ olds) (to ∷ new ∷ news) (now ∷ next ∷ instants) =
+    (fed : ChainNode) × KeepsNode old fed
+    × Links (asked_by (host_name i) rules 1 old.class old.max_hereis) now from.pass to.pass old.pass fed.pass
+    × BreaksEach (i + 1) rules end (fed ∷ olds) (new ∷ news) (next ∷ instants)
+BreaksEach i rules end olds news instants = ⊥

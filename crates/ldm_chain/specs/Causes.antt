@@ -1,5 +1,5 @@
 -- Why a chain ended before each node was fed: the cause of each end, at the node that it came from.
-use Rattle.std.specs.Prelude.{◌≡◌, ◌⊎◌, ℕ, ◌+◌, ◌*◌, ◌≤◌, true, List, [], ◌∷◌, ◌++◌, length, IsSome, is_some}
+use Rattle.std.specs.Prelude.{◌≡◌, ℕ, ◌+◌, ◌*◌, ◌≤◌, true, List, [], ◌∷◌, ◌++◌, length, IsSome, is_some}
 use Rattle.std.specs.List.{list_all}
 use Rattle.ldm_types.specs.declared.class.ClassSpec.{ClassSpec}
 use Rattle.ldm_types.specs.declared.feed.Feed.{Feed}
@@ -109,22 +109,11 @@ CauseAt chain_end.OutOfMemory asked found from = Unit {0}
 
 -- ---- at one of some nodes
 
--- The chain ended so at the first of these nodes, which has that number, or at one behind it.
-abbrev pub CauseEach : ℕ → Rules → ChainEnd → (found from : PassView) → (olds news : List ChainNode) → Type 0
-CauseEach i rules end found from [] [] = ⊥
-CauseEach i rules end found from [] (new ∷ news) = ⊥
-CauseEach i rules end found from (old ∷ olds) [] = ⊥
-CauseEach i rules end found from (old ∷ olds) (new ∷ news) =
-    CauseAt end (asked_by (host_name i) rules 1 old.class old.max_hereis) found from ⊎ CauseEach (i + 1) rules end old.pass new.pass olds news
-
--- at one of the nodes behind the first one
-abbrev pub CauseBehind : ℕ → Rules → ChainEnd → (olds news : List ChainNode) → Type 0
-CauseBehind i rules end [] [] = ⊥
-CauseBehind i rules end [] (new ∷ news) = ⊥
-CauseBehind i rules end (old ∷ olds) [] = ⊥
-CauseBehind i rules end (old ∷ olds) (new ∷ news) = CauseEach i rules end old.pass new.pass olds news
-
--- a chain that ended before each node was fed has its cause
-abbrev pub CausesAll : ℕ → Rules → ChainEnd → (olds news : List ChainNode) → Type 0
-CausesAll i rules chain_end.Done olds news = Unit {0}
-CausesAll i rules end olds news = CauseBehind i rules end olds news
+-- The chain ended so while a node was fed: that of the last instant. The second of these nodes has that number, and was fed from the first
+-- at the first instant; and so on.
+abbrev pub CauseEach : ℕ → Rules → ChainEnd → (olds news : List ChainNode) → List ℕ → Type 0
+CauseEach i rules end (found ∷ old ∷ olds) (from ∷ new ∷ news) (now ∷ []) =
+    CauseAt end (asked_by (host_name i) rules 1 old.class old.max_hereis) found.pass from.pass
+CauseEach i rules end (found ∷ old ∷ olds) (from ∷ new ∷ news) (now ∷ next ∷ instants) =
+    CauseEach (i + 1) rules end (old ∷ olds) (new ∷ news) (next ∷ instants)
+CauseEach i rules end olds news instants = ⊥

@@ -1,7 +1,7 @@
 -- How a receiver ended, by what a push answered; and how a chain ended, by how a feeder and a receiver did.
 use Rattle.std.specs.Prelude.{Option, Some, None}
 use Rattle.ldm_intake.specs.declared.end.RecvEnd.{RecvEnd}
-use Rattle.ldm_intake.specs.declared.end.RecvEnd.TheVariants.{Worn, OutOfMemory}
+use Rattle.ldm_intake.specs.declared.end.RecvEnd.TheVariants.{OutOfMemory}
 use Rattle.ldm_sender.specs.declared.end.SendEnd.{SendEnd}
 use Rattle.ldm_sender.specs.declared.end.SendEnd.TheVariants as end
 use Rattle.ldm_downstream.specs.declared.receiver.Pushed.{Pushed}
@@ -38,24 +38,8 @@ by_feeder (Some (broken.Feed why)) = Some (broken_off why)
 by_feeder (Some (broken.Receive over)) = Some (broken.Receive over)
 by_feeder (Some broken.OutOfMemory) = Some broken.OutOfMemory
 
--- The receiver ended by what it was told. Its feeder has done then all that there was to do; the end of one that could not go on counts, since
--- that says nothing of what it told. This does not come.
-abbrev pub by_told_of : RecvEnd → SendEnd → Break
-by_told_of over end.LinkFault = broken_off end.LinkFault
-by_told_of over end.LogFault = broken_off end.LogFault
-by_told_of over end.Worn = broken_off end.Worn
-by_told_of over end.OutOfMemory = broken_off end.OutOfMemory
-by_told_of over why = broken.Receive over
-
-abbrev pub by_told : RecvEnd → Option Break → Break
-by_told over None = broken.Receive over
-by_told over (Some (broken.Feed why)) = by_told_of over why
-by_told over (Some (broken.Receive bad)) = broken.Receive over
-by_told over (Some broken.OutOfMemory) = broken.OutOfMemory
-
--- how a node's feeding ends a chain, if it does: by the receiver, if that is over, else by the feeder
+-- How a node's feeding ends a chain, if it does: by the receiver, if that is over, however its feeder ended; else by the feeder.
 abbrev pub by_receiver : Option RecvEnd → Option Break → Option Break
 by_receiver None fed = by_feeder fed
 by_receiver (Some OutOfMemory) fed = Some broken.OutOfMemory
-by_receiver (Some Worn) fed = Some (broken.Receive Worn)
-by_receiver (Some over) fed = Some (by_told over fed)
+by_receiver (Some over) fed = Some (broken.Receive over)

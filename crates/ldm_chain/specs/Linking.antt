@@ -14,11 +14,11 @@ use Rattle.ldm_intake.specs.Room.{records_of}
 use Rattle.ldm_sender.specs.declared.end.SendEnd.{SendEnd}
 use Rattle.ldm_sender.specs.declared.end.SendEnd.TheVariants.{Stopped, Reclassed}
 use Rattle.ldm_sender.specs.Asked.{Asked}
-use Rattle.ldm_upstream.specs.Feeds.{Feeds}
+use Rattle.ldm_upstream.specs.Feeds.{DecidesFirst, Feeds}
 use Rattle.ldm_downstream.specs.Receives.{at_first}
 use Rattle.ldm_downstream.specs.ReceiverView.{before_stream}
 use Rattle.ldm_chain.specs.Beginning.{Beginning}
-use Rattle.ldm_chain.specs.MirrorView.{MirrorView, all_read}
+use Rattle.ldm_chain.specs.MirrorView.{MirrorView, all_read, told_by_mirror}
 use Rattle.ldm_chain.specs.Outside.{outside}
 use Rattle.ldm_chain.specs.Reflecting.{Reflects}
 
@@ -34,6 +34,7 @@ asked_by host rules xid class max_hereis = record { host = host; rules = rules_f
 pub record Fed (why : SendEnd) (asked : Asked) (old new : PassView) (before after : MirrorView) : Type 0 where
   pub stops : ℕ
   pub feeds : Feeds why asked [] old new (outside before 0) (outside after stops)
+  pub decided : DecidesFirst asked old new (told_by_mirror before) (told_by_mirror after)
 
 -- What is left of the class is asked for by a second request, and feeding it ended so.
 pub record FedRest (why : SendEnd) (asked : Asked) (old new : PassView) (before after : MirrorView) : Type 0 where

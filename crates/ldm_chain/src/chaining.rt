@@ -1,11 +1,12 @@
 //! Feeding a chain of queues.
-ghost use Rattle.std.specs.Prelude.{◌≡◌, ◌≤◌, ◌<◌, ◌+◌, ℕ, List, length};
+ghost use Rattle.std.specs.Prelude.{◌≡◌, ◌≤◌, ◌<◌, ◌+◌, ◌∷◌, ℕ, List, length};
 ghost use Rattle.ldm_session.specs.Exchange.{AnsweredAll};
 ghost use Rattle.ldm_chain.specs.Linking.{host_name};
 ghost use Rattle.ldm_chain.specs.Breaking.{BreaksEach};
-ghost use Rattle.ldm_chain.specs.Causes.{CausesAll};
+ghost use Rattle.ldm_chain.specs.Causes.{CauseEach};
 ghost use Rattle.ldm_chain.specs.Nodes.{AreNodes, IsNode, KeepsNode, KeepsNodes, LinksAll, LinksEach};
 ghost use Rattle.ldm_chain.specs.Queues.{IsChain, QueuesAll};
+ghost use Rattle.ldm_chain.specs.Standing.{StandsUpTo};
 
 use crate::feeding::feed_next;
 use crate::laws::{a_break_has_a_cause, a_link_passes_on};
@@ -41,8 +42,9 @@ fn link_all<H: Wait, C: Clock>(
     ensures done { result ≡ ChainEnd.Done → (instants : List ℕ)
         × AnsweredAll instants (C.tells clock.old) (C.tells clock.new)
         × LinksEach i policy.now from.old.pass from.new.pass nodes.old nodes.new instants }
-    ensures broken { (result ≡ ChainEnd.Done → ⊥)
-        → BreaksEach i policy.now result from.old.pass from.new.pass nodes.old nodes.new }
+    ensures broken { (result ≡ ChainEnd.Done → ⊥) → (instants : List ℕ)
+        × AnsweredAll instants (C.tells clock.old) (C.tells clock.new)
+        × BreaksEach i policy.now result (from.old ∷ nodes.old) (from.new ∷ nodes.new) instants }
 {
     let Some((to, behind)) = nodes.split_first_mut() else {
         return ChainEnd::Done;
@@ -58,7 +60,8 @@ fn link_all<H: Wait, C: Clock>(
 /// Feeds each node, but the first one, from the one before it, in one process: in turn, and each time all that is
 /// queued there and is due. Node i asks as host `nodei`, under the ALLOW rules of the policy.
 ///
-/// A chain that ends before each node was fed has the cause of its end at one of the nodes.
+/// A chain that ends before each node was fed has the cause of its end at the node that was to be fed then: that of the
+/// last answer of the clock. Those before it were fed whole, and those behind it are as they were.
 ///
 /// The clock is asked once for each node, before that node is fed. Its answer is the moment of each product that the
 /// node takes.
@@ -79,7 +82,10 @@ pub fn chain<H: Wait, C: Clock>(
     ensures queues { result ≡ ChainEnd.Done → (instants : List ℕ)
         × AnsweredAll instants (C.tells clock.old) (C.tells clock.new)
         × QueuesAll 1 policy.now nodes.old nodes.new instants }
-    ensures cause { CausesAll 1 policy.now result nodes.old nodes.new }
+    ensures broken { (result ≡ ChainEnd.Done → ⊥) → (instants : List ℕ)
+        × AnsweredAll instants (C.tells clock.old) (C.tells clock.new)
+        × CauseEach 1 policy.now result nodes.old nodes.new instants
+        × StandsUpTo policy.now nodes.old nodes.new instants }
 {
     a_link_passes_on();
     a_break_has_a_cause();

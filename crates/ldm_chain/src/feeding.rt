@@ -12,7 +12,7 @@ ghost use Rattle.ldm_intake.specs.Room.{records_of};
 ghost use Rattle.ldm_downstream.specs.ReceiverView.{before_stream};
 ghost use Rattle.ldm_downstream.specs.Receives.{at_first};
 ghost use Rattle.ldm_chain.specs.Breaking.{Breaks, Came, CameRest, IsUnbuilt};
-ghost use Rattle.ldm_chain.specs.Ending.{broken_off, by_feeder, by_receiver, by_told, by_told_of, ended_by};
+ghost use Rattle.ldm_chain.specs.Ending.{broken_off, by_feeder, by_receiver, ended_by};
 ghost use Rattle.ldm_chain.specs.Linking.{Fed, Links, asked_by, asking};
 ghost use Rattle.ldm_chain.specs.MirrorView.{MirrorView};
 ghost use Rattle.ldm_chain.specs.Nodes.{IsNode, KeepsNode};
@@ -33,38 +33,22 @@ use std::alloc::Global;
 use std::marker::Brand;
 use std::sync::Wait;
 
-// Feeds a class over a mirror, as the answer to the call of that number.
-fn feed_over<H: Wait, B: Begun>(
-    rt: &H,
-    alloc: Global,
-    shared: &Shared,
-    pass: &mut Pass,
-    mirror: &mut Mirror<'_, '_, H, B>,
-    policy: &Policy,
-    host: &[u8],
-    xid: u32,
-    class: &Class,
+// What a node asks of the one before it, and at which moment: from its shared queue, as that host, under these rules.
+#[derive(Drop)]
+struct Feeding<'f> {
+    shared: &'f Shared,
+    policy: &'f Policy,
+    host: &'f [u8],
+    class: &'f Class,
     max_hereis: u32,
-    now: Micros,
-) -> FeedEnd
-    requires of { IsPassOf shared.now pass.old }
-    requires name { length host.now ≤ LONGEST_NAME }
-    requires open { mirror.old.closed ≡ false }
-    ensures kept { IsSamePass pass.old pass.new }
-    ensures fed { Fed result
-        (asked_by host.now policy.now xid class.now max_hereis) pass.old pass.new mirror.old mirror.new }
-{
-    let ask = Feedme {
-        xid,
-        class: class.spec().copy(),
-        max_hereis,
-    };
-    let mut log = SureSink;
-    let mut gate = StopGate { stops: 0 };
-    let mut clock = StillClock(now);
-    feed(
-        rt, alloc, shared, pass, mirror, &mut log, &mut gate, &mut clock, host, &ask, class, policy,
-    )
+    moment: Micros,
+}
+
+// A receiver that asks, and the record of its request.
+#[derive(Drop)]
+struct Asker<'f> {
+    receiver: Receiver<'f>,
+    request: Vec<u8>,
 }
 
 // How a feeding ends a chain, if it does.
@@ -74,23 +58,6 @@ fn ended(end: FeedEnd) -> Option<Break>
     match end {
         FeedEnd::Stopped => None,
         end => Some(Break::Feed(end)),
-    }
-}
-
-// What is left of a class of which a part is left.
-fn fewer_of(
-    alloc: Global,
-    policy: &Policy,
-    host: &[u8],
-    class: &Class,
-) -> Result<ClassSpec, OutOfMemory>
-    requires { (fewer : ClassSpec) × (reduce (rules_for false policy.now) host.now class.now ≡ reduced.Fewer fewer) }
-    ensures { IfOk result (λ fewer. reduce (rules_for false policy.now) host.now class.now ≡ reduced.Fewer fewer) }
-{
-    match policy.reduce(alloc, host, class.spec(), false)? {
-        Reduced::Fewer(fewer) => Ok(fewer),
-        Reduced::Same => unreachable!(),
-        Reduced::Nothing { .. } => unreachable!(),
     }
 }
 
@@ -107,80 +74,7 @@ fn build_fewer(alloc: Global, fewer: &ClassSpec) -> Result<Class, Break>
     }
 }
 
-// Feeds what is left of the class. The receiver was told which part that is and asked for it: its request waits.
-fn feed_fewer<H: Wait, B: Begun>(
-    rt: &H,
-    alloc: Global,
-    shared: &Shared,
-    pass: &mut Pass,
-    mirror: &mut Mirror<'_, '_, H, B>,
-    policy: &Policy,
-    host: &[u8],
-    class: &Class,
-    max_hereis: u32,
-    now: Micros,
-) -> Option<Break>
-    requires of { IsPassOf shared.now pass.old }
-    requires name { length host.now ≤ LONGEST_NAME }
-    requires open { mirror.old.closed ≡ false }
-    requires left { (fewer : ClassSpec)
-        × (reduce (rules_for false policy.now) host.now class.now ≡ reduced.Fewer fewer) }
-    ensures kept { IsSamePass pass.old pass.new }
-    ensures fed { CameRest result
-        (asked_by host.now policy.now 1 class.now max_hereis) pass.old pass.new mirror.old mirror.new }
-{
-    let fewer = match fewer_of(alloc, policy, host, class) {
-        Ok(fewer) => fewer,
-        Err(_) => return Some(Break::OutOfMemory),
-    };
-    let built = match build_fewer(alloc, &fewer) {
-        Ok(built) => built,
-        Err(end) => return Some(end),
-    };
-    class_fits(&fewer);
-    mirror.take_request();
-    let end = feed_over(
-        rt, alloc, shared, pass, mirror, policy, host, 2, &built, max_hereis, now,
-    );
-    ended(end)
-}
-
-// Feeds a class, or what is left of it.
-fn feed_class<H: Wait, B: Begun>(
-    rt: &H,
-    alloc: Global,
-    shared: &Shared,
-    pass: &mut Pass,
-    mirror: &mut Mirror<'_, '_, H, B>,
-    policy: &Policy,
-    host: &[u8],
-    class: &Class,
-    max_hereis: u32,
-    now: Micros,
-) -> Option<Break>
-    requires of { IsPassOf shared.now pass.old }
-    requires name { length host.now ≤ LONGEST_NAME }
-    requires open { mirror.old.closed ≡ false }
-    ensures kept { IsSamePass pass.old pass.new }
-    ensures fed { Came result B.begun
-        (asked_by host.now policy.now 1 class.now max_hereis) pass.old pass.new mirror.old mirror.new }
-{
-    let end = feed_over(
-        rt, alloc, shared, pass, mirror, policy, host, 1, class, max_hereis, now,
-    );
-    let FeedEnd::Reclassed = end else {
-        return ended(end);
-    };
-    if mirror.is_over() {
-        return Some(Break::Feed(end));
-    }
-    feed_fewer(
-        rt, alloc, shared, pass, mirror, policy, host, class, max_hereis, now,
-    )
-}
-
-// How a feeder ends a chain that could not go on. A mirror fails where its receiver is over, which decides before, or
-// where it has no room for more.
+// How a feeder ends a chain whose receiver goes on. Then a mirror failed since it has no room for more.
 fn broken_off(end: FeedEnd) -> Break
     ensures { result ≡ broken_off end }
 {
@@ -200,112 +94,200 @@ fn by_feeder(fed: Option<Break>) -> Option<Break>
     }
 }
 
-// How a node's feeding ends a chain whose receiver ended by what it was told. A feeder has done then all that there was
-// to do. One that could not go on would say nothing of what it told, so that its end would count; this does not come.
-fn by_told_of(over: RecvEnd, end: FeedEnd) -> Break
-    ensures { result ≡ by_told_of over end }
-{
-    match end {
-        FeedEnd::LinkFault | FeedEnd::LogFault | FeedEnd::Worn | FeedEnd::OutOfMemory => {
-            broken_off(end)
-        }
-        _ => Break::Receive(over),
-    }
-}
-
-fn by_told(over: RecvEnd, fed: Option<Break>) -> Break
-    ensures { result ≡ by_told over fed }
-{
-    match fed {
-        Some(Break::Feed(end)) => by_told_of(over, end),
-        Some(Break::OutOfMemory) => Break::OutOfMemory,
-        _ => Break::Receive(over),
-    }
-}
-
-// How a node's feeding ends a chain, if it does: by the receiver, if that is over, else by the feeder.
+// How a node's feeding ends a chain, if it does: by the receiver, if that is over, however its feeder ended; else by
+// the feeder.
 fn by_receiver(over: Option<RecvEnd>, fed: Option<Break>) -> Option<Break>
     ensures { result ≡ by_receiver over fed }
 {
     match over {
         None => by_feeder(fed),
         Some(RecvEnd::OutOfMemory) => Some(Break::OutOfMemory),
-        Some(RecvEnd::Worn) => Some(Break::Receive(RecvEnd::Worn)),
-        Some(over) => Some(by_told(over, fed)),
+        Some(over) => Some(Break::Receive(over)),
     }
 }
 
-// Feeds a receiver that has asked by a first request, over a mirror. Tells how that ends the chain, if it does.
-fn reflect<'a, 'p, H: Wait, B: Begun>(
-    rt: &'a H,
-    alloc: Global,
-    shared: &Shared,
-    pass: &mut Pass,
-    next: &'a Shared,
-    lent: Lent<'p>,
-    receiver: Receiver<'a>,
-    request: Vec<u8>,
-    policy: &Policy,
-    host: &[u8],
-    class: &Class,
-    max_hereis: u32,
-    now: Micros,
-    end: &mut Option<Break>,
-) -> Lent<'p>
-    requires of { IsPassOf shared.now pass.old }
-    requires next { IsPassOf next.now lent.pass.now }
-    requires name { length host.now ≤ LONGEST_NAME }
-    requires before { receiver ≡ before_stream (asking class.now max_hereis) false }
-    requires asks { request.items ≡ records_of (request_of (asking class.now max_hereis)) }
-    requires first { B.begun.first ≡ at_first (asking class.now max_hereis) lent.pass.now }
-    requires moment { B.begun.now ≡ now }
-    requires lender { B.begun.name ≡ lent.pass.ghost_name }
-    ensures kept { IsSamePass pass.old pass.new }
-    ensures lender { result.pass.ghost_name ≡ lent.entry.pass.ghost_name }
-    ensures next { IsSamePass lent.entry.pass.now result.pass.now }
-    ensures links { IfNone end.new
-        (Links (asked_by host.now policy.now 1 class.now max_hereis) now pass.old pass.new lent.entry.pass.now
-        result.pass.now) }
-    ensures broken { IfSome end.new
-        (λ why. Breaks why (asked_by host.now policy.now 1 class.now max_hereis) pass.old pass.new lent.entry.pass.now
-        result.pass.now) }
-{
-    // The bound of the arena is known then, and that the class can be written.
-    let _arena = shared.arena();
-    class_fits(class.spec());
-    let mut mirror = Mirror::<'a, 'p, H, B>::over(rt, alloc, next, lent, receiver, request, now);
-    mirror.take_request();
-    let fed = feed_class(
-        rt,
-        alloc,
-        shared,
-        pass,
-        &mut mirror,
-        policy,
-        host,
-        class,
-        max_hereis,
-        now,
-    );
-    let Returned { lent, end: over } = mirror.into_parts();
-    *end = by_receiver(over, fed);
-    lent
+impl Feeding<'_> {
+    // Feeds a class over a mirror, as the answer to the call of that number.
+    fn feed_over<H: Wait, B: Begun>(
+        &self,
+        rt: &H,
+        alloc: Global,
+        pass: &mut Pass,
+        mirror: &mut Mirror<'_, '_, H, B>,
+        xid: u32,
+        class: &Class,
+    ) -> FeedEnd
+        requires of { IsPassOf self.now.shared.now pass.old }
+        requires name { length self.now.host.now ≤ LONGEST_NAME }
+        requires open { mirror.old.closed ≡ false }
+        ensures kept { IsSamePass pass.old pass.new }
+        ensures fed { Fed result
+            (asked_by self.now.host.now self.now.policy.now xid class.now self.now.max_hereis)
+            pass.old pass.new mirror.old mirror.new }
+    {
+        let ask = Feedme {
+            xid,
+            class: class.spec().copy(),
+            max_hereis: self.max_hereis,
+        };
+        let mut log = SureSink;
+        let mut gate = StopGate { stops: 0 };
+        let mut clock = StillClock(self.moment);
+        feed(
+            rt,
+            alloc,
+            self.shared,
+            pass,
+            mirror,
+            &mut log,
+            &mut gate,
+            &mut clock,
+            self.host,
+            &ask,
+            class,
+            self.policy,
+        )
+    }
+
+    // What is left of the class, where a part of it is left.
+    fn fewer(&self, alloc: Global) -> Result<ClassSpec, OutOfMemory>
+        requires { (fewer : ClassSpec)
+            × (reduce (rules_for false self.now.policy.now) self.now.host.now self.now.class.now
+            ≡ reduced.Fewer fewer) }
+        ensures { IfOk result
+            (λ fewer. reduce (rules_for false self.now.policy.now) self.now.host.now self.now.class.now
+            ≡ reduced.Fewer fewer) }
+    {
+        match self
+            .policy
+            .reduce(alloc, self.host, self.class.spec(), false)?
+        {
+            Reduced::Fewer(fewer) => Ok(fewer),
+            Reduced::Same => unreachable!(),
+            Reduced::Nothing { .. } => unreachable!(),
+        }
+    }
+
+    // Feeds what is left of the class. The receiver was told which part that is and asked for it: its request waits.
+    fn feed_fewer<H: Wait, B: Begun>(
+        &self,
+        rt: &H,
+        alloc: Global,
+        pass: &mut Pass,
+        mirror: &mut Mirror<'_, '_, H, B>,
+    ) -> Option<Break>
+        requires of { IsPassOf self.now.shared.now pass.old }
+        requires name { length self.now.host.now ≤ LONGEST_NAME }
+        requires open { mirror.old.closed ≡ false }
+        requires left { (fewer : ClassSpec)
+            × (reduce (rules_for false self.now.policy.now) self.now.host.now self.now.class.now
+            ≡ reduced.Fewer fewer) }
+        ensures kept { IsSamePass pass.old pass.new }
+        ensures fed { CameRest result
+            (asked_by self.now.host.now self.now.policy.now 1 self.now.class.now self.now.max_hereis)
+            pass.old pass.new mirror.old mirror.new }
+    {
+        let fewer = match self.fewer(alloc) {
+            Ok(fewer) => fewer,
+            Err(_) => return Some(Break::OutOfMemory),
+        };
+        let built = match build_fewer(alloc, &fewer) {
+            Ok(built) => built,
+            Err(end) => return Some(end),
+        };
+        class_fits(&fewer);
+        mirror.take_request();
+        let end = self.feed_over(rt, alloc, pass, mirror, 2, &built);
+        ended(end)
+    }
+
+    // Feeds the class, or what is left of it.
+    fn feed_class<H: Wait, B: Begun>(
+        &self,
+        rt: &H,
+        alloc: Global,
+        pass: &mut Pass,
+        mirror: &mut Mirror<'_, '_, H, B>,
+    ) -> Option<Break>
+        requires of { IsPassOf self.now.shared.now pass.old }
+        requires name { length self.now.host.now ≤ LONGEST_NAME }
+        requires open { mirror.old.closed ≡ false }
+        ensures kept { IsSamePass pass.old pass.new }
+        ensures fed { Came result B.begun
+            (asked_by self.now.host.now self.now.policy.now 1 self.now.class.now self.now.max_hereis)
+            pass.old pass.new mirror.old mirror.new }
+    {
+        let end = self.feed_over(rt, alloc, pass, mirror, 1, self.class);
+        let FeedEnd::Reclassed = end else {
+            return ended(end);
+        };
+        if mirror.is_over() {
+            return Some(Break::Feed(end));
+        }
+        self.feed_fewer(rt, alloc, pass, mirror)
+    }
+
+    // Feeds a receiver that has asked by a first request, over a mirror. Tells how that ends the chain, if it does.
+    fn reflect<'a, 'p, H: Wait, B: Begun>(
+        &self,
+        rt: &'a H,
+        alloc: Global,
+        pass: &mut Pass,
+        next: &'a Shared,
+        lent: Lent<'p>,
+        asker: Asker<'a>,
+        end: &mut Option<Break>,
+    ) -> Lent<'p>
+        requires of { IsPassOf self.now.shared.now pass.old }
+        requires next { IsPassOf next.now lent.pass.now }
+        requires name { length self.now.host.now ≤ LONGEST_NAME }
+        requires before { asker.receiver ≡ before_stream (asking self.now.class.now self.now.max_hereis) false }
+        requires asks { asker.request.items ≡ records_of (request_of (asking self.now.class.now self.now.max_hereis)) }
+        requires first { B.begun.first ≡ at_first (asking self.now.class.now self.now.max_hereis) lent.pass.now }
+        requires moment { B.begun.now ≡ self.now.moment }
+        requires lender { B.begun.name ≡ lent.pass.ghost_name }
+        ensures kept { IsSamePass pass.old pass.new }
+        ensures lender { result.pass.ghost_name ≡ lent.entry.pass.ghost_name }
+        ensures next { IsSamePass lent.entry.pass.now result.pass.now }
+        ensures links { IfNone end.new
+            (Links (asked_by self.now.host.now self.now.policy.now 1 self.now.class.now self.now.max_hereis)
+            self.now.moment pass.old pass.new lent.entry.pass.now result.pass.now) }
+        ensures broken { IfSome end.new
+            (λ why. Breaks why
+            (asked_by self.now.host.now self.now.policy.now 1 self.now.class.now self.now.max_hereis)
+            pass.old pass.new lent.entry.pass.now result.pass.now) }
+    {
+        // The bound of the arena is known then, and that the class can be written.
+        let _arena = self.shared.arena();
+        class_fits(self.class.spec());
+        let Asker { receiver, request } = asker;
+        let mut mirror = Mirror::<'a, 'p, H, B>::over(
+            rt,
+            alloc,
+            next,
+            lent,
+            receiver,
+            request,
+            self.moment,
+        );
+        mirror.take_request();
+        let fed = self.feed_class(rt, alloc, pass, &mut mirror);
+        let Returned { lent, end: over } = mirror.into_parts();
+        *end = by_receiver(over, fed);
+        lent
+    }
 }
 
-// A receiver that asks for a class, and the record of its request.
-fn asker(
-    alloc: Global,
-    class: &Class,
-    max_hereis: u32,
-) -> Result<(Receiver<'_>, Vec<u8>), OutOfMemory>
+// A receiver that asks for a class.
+fn new_asker(alloc: Global, class: &Class, max_hereis: u32) -> Result<Asker<'_>, OutOfMemory>
     ensures { IfOk result
-        (λ made. (made.0 ≡ before_stream (asking class.now max_hereis) false)
-        × (made.1.items ≡ records_of (request_of (asking class.now max_hereis)))) }
+        (λ made. (made.receiver ≡ before_stream (asking class.now max_hereis) false)
+        × (made.request.items ≡ records_of (request_of (asking class.now max_hereis)))) }
 {
     let mut receiver = Receiver::request(alloc, class, None, max_hereis)?;
     let mut request = Vec::new(alloc);
     receiver.begin(&mut request)?;
-    Ok((receiver, request))
+    Ok(Asker { receiver, request })
 }
 
 /// Feeds a node from the one before it, at that moment. Answers how that ends the chain, if it does.
@@ -330,25 +312,26 @@ pub(crate) fn feed_next<H: Wait>(
         (λ why. Breaks why (asked_by host.now policy.now 1 to.old.class to.old.max_hereis) from.old.pass from.new.pass
         to.old.pass to.new.pass) }
 {
-    let (receiver, request) = match asker(alloc, &to.class, to.max_hereis) {
-        Ok(asked) => asked,
+    let asker = match new_asker(alloc, &to.class, to.max_hereis) {
+        Ok(asker) => asker,
         Err(_) => return Some(Break::OutOfMemory),
     };
+    let feeding = Feeding {
+        shared: &from.shared,
+        policy,
+        host,
+        class: &to.class,
+        max_hereis: to.max_hereis,
+        moment: now,
+    };
     let mut end = None;
-    reflect::<H, Brand>(
+    feeding.reflect::<H, Brand>(
         rt,
         alloc,
-        &from.shared,
         &mut from.pass,
         &to.shared,
         Lent { pass: &mut to.pass },
-        receiver,
-        request,
-        policy,
-        host,
-        &to.class,
-        to.max_hereis,
-        now,
+        asker,
         &mut end,
     );
     end

@@ -1,7 +1,7 @@
 -- When the program does all that its words ask for.
 use Rattle.std.specs.Prelude.{ℕ, Option, Some, None}
 use Rattle.ldm_play.specs.Complete.{Completes}
-use Rattle.ldm_chain_command.specs.Complete.{ChainCompletes}
+use Rattle.ldm_chain.specs.Complete.{ChainCompletes}
 use Rattle.ldm_crowd.specs.Complete.{CrowdCompletes}
 use Rattle.ldm_exercise.specs.Complete.{ExerciseCompletes}
 use Rattle.ldm_node_command.specs.Complete.{NodeCompletes}

@@ -1,7 +1,7 @@
 -- The law of what the program writes, by what its words ask for.
 use Rattle.std.specs.Prelude.{◌≡◌, ◌⊎◌, ℕ, Bool, Option, Some, None}
 use Rattle.ldm_play.specs.Law.{ObeysPlayLaw}
-use Rattle.ldm_chain_command.specs.Law.{ObeysChainLaw}
+use Rattle.ldm_chain.specs.Law.{ObeysChainLaw}
 use Rattle.ldm_crowd.specs.Law.{ObeysCrowdLaw}
 use Rattle.ldm_exercise.specs.Law.{ObeysExerciseLaw}
 use Rattle.ldm_node_command.specs.Law.{ObeysNodeLaw}

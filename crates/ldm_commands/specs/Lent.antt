@@ -2,7 +2,7 @@
 use Rattle.std.specs.Prelude.{◌≡◌}
 use Rattle.ldm_outside.specs.Dial.{Asked}
 use Rattle.ldm_conf.specs.Addresses.{Address}
-use Rattle.ldm_chain_command.specs.Work.{ChainOutside, ChainWork}
+use Rattle.ldm_chain.specs.Work.{ChainOutside, ChainWork}
 use Rattle.ldm_node_command.specs.Outside as node_command
 use Rattle.ldm_node_command.specs.Setup.{Setup}
 use Rattle.ldm_notifyme.specs.Notifyme.{Wanted}

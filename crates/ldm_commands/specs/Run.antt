@@ -5,7 +5,7 @@ use Rattle.ldm_status.specs.Streams.{IsUntouched}
 use Rattle.ldm_status.specs.declared.status.Status.TheVariants as status
 use Rattle.ldm_status.specs.Status.{Reports, ReportsBecause}
 use Rattle.ldm_play.specs.Run.{Plays}
-use Rattle.ldm_chain_command.specs.Run.{RunsChain}
+use Rattle.ldm_chain.specs.Run.{RunsChain}
 use Rattle.ldm_crowd.specs.Run.{CrowdRuns}
 use Rattle.ldm_exercise.specs.Run.{Exercises}
 use Rattle.ldm_node_command.specs.Run.{NodeRuns}

@@ -6,7 +6,7 @@ ghost use Rattle.ldm_commands.specs.Doing.{Done};
 ghost use Rattle.ldm_commands.specs.World.{tells_of, world_view};
 
 use crate::world::World;
-use ldm_chain_command::{ChainSetup, run_chain};
+use ldm_chain::{ChainSetup, run_chain};
 use ldm_disk::Disk;
 use ldm_outside::{Clock, Launcher, Net, Sink, Source, Store};
 use ldm_words::ChainWords;

@@ -5,7 +5,7 @@
 
 pub mod adapters;
 pub mod book;
-pub mod chain_command;
+pub mod chain;
 pub mod class;
 pub mod command_files;
 pub mod commands;

@@ -22,9 +22,9 @@ use Rattle.ldm_script.specs.Order.{Plain}
 use Rattle.ldm_model.specs.declared.event.Event.TheVariants as event
 use Rattle.ldm_play.specs.Play.{play_line}
 use Rattle.ldm_chain.specs.Linking.{host_name}
-use Rattle.ldm_chain_command.specs.Policy.{TakesRules, all_allowed}
-use Rattle.ldm_chain_command.specs.Unfed.{AsksFor, LeavesNothing, LeavesUnmeant}
-use Rattle.ldm_chain_command.specs.Complete.{LeavesAll}
+use Rattle.ldm_chain.specs.Policy.{TakesRules, all_allowed}
+use Rattle.ldm_chain.specs.Unfed.{AsksFor, LeavesNothing, LeavesUnmeant}
+use Rattle.ldm_chain.specs.Complete.{LeavesAll}
 use Rattle.ldm_witnesses.specs.Premises.{PlayIsUnhindered, CrowdIsUnhindered, ChainIsUnhindered, NodeIsUnhindered, line, store, class, work, station}
 
 -- no count rose

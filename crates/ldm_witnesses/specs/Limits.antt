@@ -35,7 +35,7 @@ use Rattle.ldm_conf.specs.declared.limits.TheConstants as confs
 use Rattle.ldm_words.specs.declared.limits.TheConstants as words
 use Rattle.ldm_pqact_match.specs.declared.day.TheConstants as days
 use Rattle.ldm_pqact_match.specs.declared.chosen.TheConstants as chosen
-use Rattle.ldm_chain_command.specs.declared.setup.TheConstants as chains
+use Rattle.ldm_chain.specs.declared.setup.TheConstants as chains
 use Rattle.ldm_actions.specs.declared.limits.TheConstants as actions
 use Rattle.ldm_pqact.specs.declared.limits.TheConstants as acting
 use Rattle.ldm_pqact_command.specs.declared.limits.TheConstants as acts

@@ -15,8 +15,8 @@ use Rattle.ldm_outside.specs.Store.{StoreRecord}
 use Rattle.ldm_status.specs.Streams.{StreamsRecord}
 use Rattle.ldm_play.specs.Complete.{Unhindered}
 use Rattle.ldm_crowd.specs.Complete.{CrowdUnhindered}
-use Rattle.ldm_chain_command.specs.Work.{ChainWork, ChainOutside}
-use Rattle.ldm_chain_command.specs.Complete.{ChainUnhindered}
+use Rattle.ldm_chain.specs.Work.{ChainWork, ChainOutside}
+use Rattle.ldm_chain.specs.Complete.{ChainUnhindered}
 use Rattle.ldm_node_command.specs.Outside.{Outside}
 use Rattle.ldm_node_command.specs.Setup.{Setup}
 use Rattle.ldm_node_command.specs.Complete.{NodeUnhindered}
