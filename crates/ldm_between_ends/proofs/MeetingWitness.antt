@@ -21,7 +21,8 @@ use Rattle.ldm_sender.specs.declared.end.SendEnd.TheVariants as fed
 use Rattle.ldm_sender.specs.Opening.{Opened, opening_entries}
 use Rattle.ldm_upstream.specs.Examples.{feeding_of, sample_asked}
 use Rattle.ldm_upstream.specs.Feeding.{GoesOn}
-use Rattle.ldm_downstream.specs.Pieces.{arrivals}
+use Rattle.ldm_downstream.specs.Answering.{place_of, settled_at}
+use Rattle.ldm_downstream.specs.Pieces.{arrivals, beginning}
 use Rattle.ldm_downstream.specs.Receives.{at_first}
 use Rattle.ldm_between_ends.specs.Meeting.{FeedingCall, ReceivingCall, Connects, WasGranted}
 
@@ -106,6 +107,10 @@ asking = requesting sample_asked.class None sample_asked.max_hereis
 abbrev stood : Standing
 stood = at_first asking first_pass
 
+-- the same, where the request was sent
+abbrev asked : Standing
+asked = settled_at (place_of beginning stood)
+
 pub cut-receiving : ReceivingCall
 unfolding arrivals taken
 cut-receiving = record {
@@ -148,10 +153,47 @@ cut-receiving = record {
       };
       sent = records_of (request_of asking);
       lines = [];
-      passed = record { given = []; all = refl; exchanged = record { passed = tt; left = refl }; moments = inr refl; logged = refl };
+      passed = record {
+        given = [];
+        all = refl;
+        exchanged = record { passed = tt; left = refl };
+        moments = inr refl;
+        logged = refl;
+        first = records_of (request_of asking);
+        rounds = [];
+        pieces_are = refl;
+        sent_is = sym (append-nil (records_of (request_of asking)));
+        in_rounds = refl;
+      };
       sent_is = ([], append-nil (records_of (request_of asking)));
       lines_are = ([], refl);
       cause = inl (omega arith);
+      first_is = ([], append-nil (records_of (request_of asking)));
+      in_turn = record {
+        front = [];
+        last = [];
+        all = refl;
+        between = place_of beginning stood;
+        takes = refl;
+        at_end = asked;
+        ends = record {
+          between = asked;
+          breaks = record {
+            front = [];
+            behind = [];
+            all = refl;
+            between = asked;
+            takes = record { made = []; to = taken_none asking; leads = refl; end_is = refl; calls = calls_none first_pass; receiving = refl; sends = refl; logs = refl };
+            made = [];
+            begins = refl;
+            calls = calls_none first_pass;
+            same = refl;
+          };
+          gives_up = record { closes = record { made = []; leads = refl; calls = calls_none first_pass }; sends = refl; logs = refl };
+        };
+        receiving = refl;
+        pass = refl;
+      };
     };
     pass_is = refl;
     last_is = refl;

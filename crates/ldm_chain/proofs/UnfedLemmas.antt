@@ -1,5 +1,5 @@
 -- Why not each node was fed, and what was fed before: for `AreFedUpTo`.
-use Rattle.std.proofs.Common.{◌≡◌, ◌∙◌, ℕ, ◌+◌, ◌<◌, ◌≤◌, List, [], ◌∷◌, ◌++◌, length, map, Some, refl, ap, sym, subst, append_assoc, length-append, arith}
+use Rattle.std.proofs.Common.{◌≡◌, ◌∙◌, ℕ, ◌+◌, ◌<◌, ◌≤◌, List, [], ◌∷◌, ◌++◌, length, map, Some, refl, ap, sym, subst, append_assoc, length-append, zero-add, arith}
 use Rattle.std.specs.Prelude.{remove, slice_get, slice_index_or}
 use Rattle.std.specs.List.{AllByRecursion}
 use Rattle.ldm_types.specs.declared.class.ClassSpec.{ClassSpec}
@@ -156,8 +156,10 @@ module _ (rules : Rules) (work : ChainWork) (most : work.slots ≤ MOST_SLOTS) (
   unfed script first others [] instants kept new is_first cause = absurd kept
   unfed script first others (now ∷ news) instants kept new is_first cause =
       let sized : IsSized work first.pass = record { arena = is_first.arena_is; slots = is_first.slots_is } in
-      each-unfed [] work.classes refl first now others news instants (same-sized work first.pass now.pass sized kept.0.pass) is_first.few
-      (λ all. first-not_taken work.arena work.slots script (subst AreAllTaken is_first.state all)) new kept.1 cause
+      let unfed_cause = each-unfed [] work.classes refl first now others news instants
+      (same-sized work first.pass now.pass sized kept.0.pass) is_first.few
+      (λ all. first-not_taken work.arena work.slots script (subst AreAllTaken is_first.state all)) new kept.1 cause in
+      subst (λ (n : ℕ). UnfedCause end rules work n) (zero-add (length instants)) unfed_cause
 
 -- ---- what was fed before
 
