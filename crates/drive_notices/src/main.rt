@@ -8,6 +8,7 @@ mod serving;
 mod watching;
 
 use ldm_drive::{Trial, drive};
+use ldm_watch::NoticeForm;
 use std::io;
 use std::sync::Wait;
 
@@ -15,7 +16,8 @@ use std::sync::Wait;
 fn answer<H: Wait>(rt: &H, trial: &mut Trial) {
     match trial.word() {
         "notify" => notices::notify_case(rt, trial),
-        "watch" => watching::watch_case(trial),
+        "watch" => watching::watch_case(trial, NoticeForm::Numbers),
+        "watch_text" => watching::watch_case(trial, NoticeForm::Names),
         "respond" => responding::respond_case(rt, trial),
         "serve" => serving::serve_case(rt, trial),
         _ => trial.refuse("no such word"),

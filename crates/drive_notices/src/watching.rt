@@ -5,11 +5,11 @@ ghost use Rattle.std.specs.Option.{ForSome};
 use ldm_class::Class;
 use ldm_drive::Trial;
 use ldm_drive_sessions::{Case, link_of, log_of, tell_answer, tell_place, tell_sent};
-use ldm_watch::{WatchEnd, watch};
+use ldm_watch::{NoticeForm, WatchEnd, watch};
 
-/// `watch NAME=VALUE ..`: one asks to be told of the products of a class. Tells its end, what it sent, and the lines
-/// that it wrote.
-pub fn watch_case(trial: &mut Trial) {
+/// `watch NAME=VALUE ..`, or `watch_text` where lines are for people: one asks to be told of the products of a class.
+/// Tells its end, what it sent, and the lines that it wrote.
+pub fn watch_case(trial: &mut Trial, form: NoticeForm) {
     let case = Case::of(trial);
     let Ok(class) = Class::build(trial.alloc(), &case.class) else {
         return trial.refuse("a pattern means nothing");
@@ -22,6 +22,7 @@ pub fn watch_case(trial: &mut Trial) {
         &mut sink,
         &class,
         most_notices(&case),
+        form,
     );
     tell_watched(trial, &end);
     tell_sent(trial, &link);

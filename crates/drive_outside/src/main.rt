@@ -29,6 +29,7 @@ fn answer(rt: HostRuntime, trial: &mut Trial) {
         "beside" => system::beside(rt, trial),
         "tcp" => tcp::tcp(rt, trial),
         "time" => gates::time(rt, trial),
+        "rest" => gates::rest(rt, trial),
         _ => trial.refuse("no such word"),
     }
 }

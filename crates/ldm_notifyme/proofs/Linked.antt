@@ -48,7 +48,7 @@ module _ (end : WatchEnd) (wanted : Wanted) (came : LinkRecord) (old lent new : 
     failed = counted came.faults left.faults lent.links.failed old.links.failed new.links.failed dialled.0.no_faults (ap (λ (d : DialRecord). d.links.failed) dialled.1) back.0.failed;
   }
 
-  pub watches_peer : Holds end wanted.class wanted.count came lent new old_sink new_sink → WatchesPeer end wanted old new old_sink new_sink
+  pub watches_peer : Holds end wanted.sought came lent new old_sink new_sink → WatchesPeer end wanted old new old_sink new_sink
   watches_peer holds =
       let is = linked holds.left holds.not_closed holds.given_back in
       record {

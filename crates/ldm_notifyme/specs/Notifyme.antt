@@ -1,6 +1,5 @@
 -- What `notifyme` does.
-use Rattle.std.specs.Prelude.{◌≡◌, ◌⊎◌, ℕ, List, Option, Some}
-use Rattle.ldm_types.specs.declared.class.ClassSpec.{ClassSpec}
+use Rattle.std.specs.Prelude.{◌≡◌, ◌⊎◌, ℕ, List, Some}
 use Rattle.ldm_outside.specs.Count.{Rose}
 use Rattle.ldm_outside.specs.Dial.{Asked, DialRecord}
 use Rattle.ldm_outside.specs.Io.{SinkRecord}
@@ -13,15 +12,22 @@ use Rattle.ldm_tools.specs.Mon.{MonRecord}
 use Rattle.ldm_watch.specs.declared.end.WatchEnd.{WatchEnd}
 use Rattle.ldm_watch.specs.declared.end.WatchEnd.TheVariants.{Ended, Counted, Truncated, BadFrame, Refused, LinkFault, SinkFault, StreamLimit, OutOfMemory}
 use Rattle.ldm_watch.specs.Complete.{Accepts}
+use Rattle.ldm_watch.specs.Sought.{Sought}
 use Rattle.ldm_watch.specs.Watches.{Watches}
+use Rattle.ldm_notifyme.specs.declared.asked.NoticesAsked.{NoticesAsked}
 use Rattle.ldm_notifyme.specs.declared.notify.NotifymeEnd.{NotifymeEnd}
 use Rattle.ldm_notifyme.specs.declared.notify.NotifymeEnd.TheVariants.{Unreached, Watched}
 
--- Whom one asks, for which products, and how many notices one waits for where a count is given.
+-- Whom one asks, and for what.
 pub record Wanted : Type 0 where
   pub peer : Asked
-  pub class : ClassSpec
-  pub count : Option ℕ
+  pub sought : Sought
+
+abbrev pub wanted_by : NoticesAsked → Wanted
+wanted_by asked = record {
+  peer = record { host = asked.host.now; port = asked.port };
+  sought = record { class = asked.class.now; count = asked.count; form = asked.form };
+}
 
 -- the status of a watching that ended so
 abbrev pub status_of_watch : WatchEnd → Status
@@ -38,7 +44,7 @@ status_of_watch OutOfMemory = status.NoMemory
 -- Where the link had a stream left that is accepted, no link failed and neither did the sink, all went well, or there is no memory.
 abbrev pub Completes : WatchEnd → Wanted → LinkRecord → (old_net new_net : DialRecord) → (old_sink new_sink : SinkRecord) → Type 0
 Completes end wanted came old_net new_net old_sink new_sink =
-    (stream : List ℕ) → came.left ≡ Some stream → Accepts wanted.class wanted.count stream
+    (stream : List ℕ) → came.left ≡ Some stream → Accepts wanted.sought stream
     → ¬ Rose old_net.links.failed new_net.links.failed → ¬ Rose old_sink.faults new_sink.faults
     → (status_of_watch end ≡ status.Done) ⊎ (end ≡ OutOfMemory)
 
@@ -47,7 +53,7 @@ pub record WatchesPeer (end : WatchEnd) (wanted : Wanted) (old_net new_net : Dia
   pub came : LinkRecord
   pub left : LinkRecord
   pub linked : IsLinked wanted.peer came left old_net new_net
-  pub watches : Watches end wanted.class wanted.count (record { link = came; sink = old_sink }) (record { link = left; sink = new_sink })
+  pub watches : Watches end wanted.sought (record { link = came; sink = old_sink }) (record { link = left; sink = new_sink })
   pub completes : Completes end wanted came old_net new_net old_sink new_sink
 
 -- How asking a peer to be told of products ends.

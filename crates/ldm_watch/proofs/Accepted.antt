@@ -5,7 +5,6 @@ use Rattle.std.proofs.lemmas.Bool.Decides.{nat_tests}
 use Rattle.std.proofs.lemmas.List.{append-nil, length-take, take-append-le, take_all}
 use Rattle.std.proofs.Math.Seq.{take-append-add}
 use borrow.Author.Tests.{leb-true}
-use Rattle.ldm_types.specs.declared.class.ClassSpec.{ClassSpec}
 use Rattle.ldm_outside.specs.Count.{Rose}
 use Rattle.ldm_rpc.specs.declared.fault.RpcFault.{RpcFault}
 use Rattle.ldm_rpc.specs.declared.stage.Stage.{Stage}
@@ -20,6 +19,7 @@ use Rattle.ldm_watch.specs.declared.end.WatchEnd.TheVariants.{Ended, Counted, Tr
 use Rattle.ldm_session.specs.declared.limits.TheConstants.{LONGEST_STREAM}
 use Rattle.ldm_watch.specs.Complete.{Accepts, Completes, IsComplete}
 use Rattle.ldm_watch.specs.Outside.{WatchRecord}
+use Rattle.ldm_watch.specs.Sought.{Sought}
 use Rattle.ldm_watch.specs.Told.{at_stream_end, beginning, end_behind, end_by_bytes, hand, is_edge, told, within}
 use Rattle.ldm_watch.specs.Watched.{Watched, opening, watched}
 use Rattle.ldm_watch.specs.Watches.{Watches}
@@ -81,9 +81,9 @@ over-by given rest end false false faulty_is full_is ended =
     let none : end_by_bytes (hand given) ≡ None = rw (faulty_is, full_is) refl in
     absurd (let same : None ≡ Some end = sym none ∙ ended in cc same)
 
-module _ (class : ClassSpec) (count : Option ℕ) (given rest : List ℕ) where
+module _ (sought : Sought) (given rest : List ℕ) where
   abbrev so_far : Watched
-  so_far = taken_of class count given
+  so_far = taken_of sought given
 
   abbrev more : List ℕ
   more = take (LONGEST_STREAM - length given) rest
@@ -91,24 +91,24 @@ module _ (class : ClassSpec) (count : Option ℕ) (given rest : List ℕ) where
   hand-longer : hand (given ++ rest) ≡ in_hand (hand given) more
   hand-longer = ap (in_hand beginning) (longer-by given rest (leb (length given) LONGEST_STREAM) refl) ∙ in_hand-append beginning (within beginning given) more
 
-  taken-longer : taken_of class count (given ++ rest) ≡ watched so_far (records_in (hand given) more)
+  taken-longer : taken_of sought (given ++ rest) ≡ watched so_far (records_in (hand given) more)
   taken-longer =
-      ap (λ (bytes : List ℕ). watched (opening class count) (records_in beginning bytes)) (longer-by given rest (leb (length given) LONGEST_STREAM) refl)
-      ∙ ap (watched (opening class count)) (records-append beginning (within beginning given) more)
-      ∙ watched-append (opening class count) (records_in beginning (within beginning given)) (records_in (hand given) more)
+      ap (λ (bytes : List ℕ). watched (opening sought) (records_in beginning bytes)) (longer-by given rest (leb (length given) LONGEST_STREAM) refl)
+      ∙ ap (watched (opening sought)) (records-append beginning (within beginning given) more)
+      ∙ watched-append (opening sought) (records_in beginning (within beginning given)) (records_in (hand given) more)
 
-  told-by : (end : WatchEnd) (by : Option WatchEnd) → so_far.end ≡ by → end_behind (hand given) by ≡ Some end → (told class count (given ++ rest)).end ≡ Some end
+  told-by : (end : WatchEnd) (by : Option WatchEnd) → so_far.end ≡ by → end_behind (hand given) by ≡ Some end → (told sought (given ++ rest)).end ≡ Some end
   told-by end (Some other) by_is ended =
-      let still : taken_of class count (given ++ rest) ≡ so_far = taken-longer ∙ watched-ended so_far other by_is (records_in (hand given) more) in
+      let still : taken_of sought (given ++ rest) ≡ so_far = taken-longer ∙ watched-ended so_far other by_is (records_in (hand given) more) in
       ap (λ (t : Watched). end_behind (hand (given ++ rest)) t.end) still ∙ ap (end_behind (hand (given ++ rest))) by_is ∙ ended
   told-by end None by_is ended =
       let is = over-by given rest end (is_faulty (hand given).reading) (leb LONGEST_STREAM (hand given).came) refl refl ended in
-      let still : taken_of class count (given ++ rest) ≡ so_far = taken-longer ∙ ap (watched so_far) is.none ∙ watched-none so_far in
+      let still : taken_of sought (given ++ rest) ≡ so_far = taken-longer ∙ ap (watched so_far) is.none ∙ watched-none so_far in
       ap (λ (t : Watched). end_behind (hand (given ++ rest)) t.end) still ∙ ap (end_behind (hand (given ++ rest))) by_is
       ∙ ap end_by_bytes hand-longer ∙ is.same ∙ ended
 
   -- what they ended so is ended so by a longer stream
-  pub told-longer : (end : WatchEnd) → (told class count given).end ≡ Some end → (told class count (given ++ rest)).end ≡ Some end
+  pub told-longer : (end : WatchEnd) → (told sought given).end ≡ Some end → (told sought (given ++ rest)).end ≡ Some end
   told-longer end ended = told-by end so_far.end refl ended
 
 -- ---- completeness
@@ -123,32 +123,32 @@ rest_of : (given stream : List ℕ) (left : Option (List ℕ)) → Some stream �
 rest_of given stream None is = absurd (cc is)
 rest_of given stream (Some rest) is = record { rest = rest; left_is = refl; all = let same : given ++ rest ≡ stream = cc is in same }
 
-not_by : (class : ClassSpec) (count : Option ℕ) (stream : List ℕ) (end : WatchEnd) → (told class count stream).end ≡ Some end → (Some end ≡ Some Counted → ⊥) → Accepts class count stream → ⊥
-not_by class count stream end ended other (inl fine) = let same : Some end ≡ None = sym ended ∙ fine.0 in cc same
-not_by class count stream end ended other (inr fine) = other (sym ended ∙ fine)
+not_by : (sought : Sought) (stream : List ℕ) (end : WatchEnd) → (told sought stream).end ≡ Some end → (Some end ≡ Some Counted → ⊥) → Accepts sought stream → ⊥
+not_by sought stream end ended other (inl fine) = let same : Some end ≡ None = sym ended ∙ fine.0 in cc same
+not_by sought stream end ended other (inr fine) = other (sym ended ∙ fine)
 
-module _ (class : ClassSpec) (count : Option ℕ) (before after : WatchRecord) (stream : List ℕ) (left : before.link.left ≡ Some stream) (accepts : Accepts class count stream) where
-  not_ended : (end : WatchEnd) (given : List ℕ) → (told class count given).end ≡ Some end → (Some end ≡ Some Counted → ⊥)
+module _ (sought : Sought) (before after : WatchRecord) (stream : List ℕ) (left : before.link.left ≡ Some stream) (accepts : Accepts sought stream) where
+  not_ended : (end : WatchEnd) (given : List ℕ) → (told sought given).end ≡ Some end → (Some end ≡ Some Counted → ⊥)
       → before.link.left ≡ option_map (λ (rest : List ℕ). given ++ rest) after.link.left → ⊥
   not_ended end given ended other gave =
       let front = rest_of given stream after.link.left (sym left ∙ gave) in
-      let longer : (told class count stream).end ≡ Some end =
-      subst (λ (bytes : List ℕ). (told class count bytes).end ≡ Some end) front.all (told-longer class count given front.rest end ended) in
-      not_by class count stream end longer other accepts
+      let longer : (told sought stream).end ≡ Some end =
+      subst (λ (bytes : List ℕ). (told sought bytes).end ≡ Some end) front.all (told-longer sought given front.rest end ended) in
+      not_by sought stream end longer other accepts
 
-  not_truncated : (at : ℕ) (given : List ℕ) → (told class count given).end ≡ None → Truncated at ≡ at_stream_end (hand given) (told class count given).watching.phase
+  not_truncated : (at : ℕ) (given : List ℕ) → (told sought given).end ≡ None → Truncated at ≡ at_stream_end (hand given) (told sought given).watching.phase
       → before.link.left ≡ option_map (λ (rest : List ℕ). given ++ rest) after.link.left → IfSome after.link.left (λ rest. rest ≡ []) → ⊥
   not_truncated at given goes is gave ended =
       let front = rest_of given stream after.link.left (sym left ∙ gave) in
       let none : front.rest ≡ [] = subst (λ (o : Option (List ℕ)). IfSome o (λ (rest : List ℕ). rest ≡ [])) front.left_is ended in
       let all : given ≡ stream = sym (append-nil given) ∙ ap (λ (xs : List ℕ). given ++ xs) (sym none) ∙ front.all in
-      let fine = subst (λ (bytes : List ℕ). Accepts class count bytes) (sym all) accepts in
+      let fine = subst (λ (bytes : List ℕ). Accepts sought bytes) (sym all) accepts in
       elim fine [
         | inl edge ↦ (let same : Truncated at ≡ Ended = is ∙ rw edge.1 refl in cc same)
         | inr counted ↦ (let same : None ≡ Some Counted = sym goes ∙ counted in cc same)
       ]
 
-  completes_by : (end : WatchEnd) → Watches end class count before after → ¬ Rose before.link.faults after.link.faults → ¬ Rose before.sink.faults after.sink.faults → IsComplete end
+  completes_by : (end : WatchEnd) → Watches end sought before after → ¬ Rose before.link.faults after.link.faults → ¬ Rose before.sink.faults after.sink.faults → IsComplete end
   completes_by Ended watches link sink = tt
   completes_by Counted watches link sink = tt
   completes_by OutOfMemory watches link sink = tt
@@ -160,5 +160,5 @@ module _ (class : ClassSpec) (count : Option ℕ) (before after : WatchRecord) (
   completes_by LinkFault watches link sink = link watches.cause
   completes_by SinkFault watches link sink = sink watches.cause
 
-pub completes : (end : WatchEnd) (class : ClassSpec) (count : Option ℕ) (before after : WatchRecord) → Watches end class count before after → Completes end class count before after
-completes end class count before after watches stream left accepts link sink = completes_by class count before after stream left accepts end watches link sink
+pub completes : (end : WatchEnd) (sought : Sought) (before after : WatchRecord) → Watches end sought before after → Completes end sought before after
+completes end sought before after watches stream left accepts link sink = completes_by sought before after stream left accepts end watches link sink

@@ -5,7 +5,6 @@ use Rattle.std.proofs.lemmas.Bool.Decides.{nat_tests}
 use Rattle.std.proofs.lemmas.List.{append-nil, length-append}
 use Rattle.std.proofs.Common.{append_assoc}
 use Rattle.ldm_types.specs.Info.{Metadata}
-use Rattle.ldm_types.specs.declared.class.ClassSpec.{ClassSpec}
 use Rattle.ldm_relay.specs.Sent.{Sent}
 use Rattle.ldm_relay.specs.Sent as sent
 use Rattle.ldm_rpc.specs.Reading.{is_faulty}
@@ -16,6 +15,7 @@ use Rattle.ldm_session.specs.declared.limits.TheConstants.{LONGEST_STREAM}
 use Rattle.ldm_watch.specs.declared.step.Step.{Step}
 use Rattle.ldm_watch.specs.declared.step.Step.TheVariants.{Alive, Begins, AsksAgain, Notice, Bad, Declined}
 use Rattle.ldm_watch.specs.Step.{watch_step}
+use Rattle.ldm_watch.specs.Sought.{Sought}
 use Rattle.ldm_watch.specs.Told.{end_behind, end_by_bytes}
 use Rattle.ldm_watch.specs.Watched.{Watched, after_step, counted, opening, take_record, watched}
 
@@ -89,12 +89,15 @@ unfolding watched
 watched-made count t [] made = made
 watched-made count t (placed ∷ records) made = watched-made count (take_record t.end t placed) records (record-made t.end count t placed refl made)
 
-opening-made : (class : ClassSpec) (count : Option ℕ) → ForSome count (λ n. 0 < n) → Made count (opening class count)
-opening-made class None some = tt
-opening-made class (Some count) some = (some count refl, omega arith)
+opening-made : (sought : Sought) → ForSome sought.count (λ n. 0 < n) → Made sought.count (opening sought)
+opening-made sought some = go sought.count some
+  where
+    go : (count : Option ℕ) → ForSome count (λ n. 0 < n) → IsMade None count count 0
+    go None positive = tt
+    go (Some count) positive = (positive count refl, omega arith)
 
-pub taken-made : (class : ClassSpec) (count : Option ℕ) (records : List Placed) → ForSome count (λ n. 0 < n) → Made count (watched (opening class count) records)
-taken-made class count records some = watched-made count (opening class count) records (opening-made class count some)
+pub taken-made : (sought : Sought) (records : List Placed) → ForSome sought.count (λ n. 0 < n) → Made sought.count (watched (opening sought) records)
+taken-made sought records some = watched-made sought.count (opening sought) records (opening-made sought some)
 
 -- with what is in hand
 bytes-made : (p : Position) (faulty full : Bool) (count left : Option ℕ) (came : ℕ) → is_faulty p.reading ≡ faulty → leb LONGEST_STREAM p.came ≡ full → LeftIs count left came

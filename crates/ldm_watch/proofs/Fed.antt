@@ -3,16 +3,16 @@ use Rattle.std.proofs.Common.{◌≡◌, ℕ, ◌+◌, ◌-◌, ◌≤◌, ◌<�
 use Rattle.std.proofs.lemmas.Bool.Decides.{nat_tests}
 use Rattle.std.proofs.lemmas.List.{length-take, take_all}
 use Rattle.std.proofs.Math.Seq.{take-append-add}
-use Rattle.ldm_types.specs.declared.class.ClassSpec.{ClassSpec}
 use Rattle.ldm_rpc.specs.Reading.{after_byte, is_faulty}
 use Rattle.ldm_rpc.specs.Streams.{Position, Placed, forgets, records_in, in_hand}
 use Rattle.ldm_rpc.proofs.Joined.{records-append, in_hand-append}
 use Rattle.ldm_watch.specs.declared.end.WatchEnd.{WatchEnd}
 use Rattle.ldm_watch.specs.declared.end.WatchEnd.TheVariants.{BadFrame, StreamLimit}
 use Rattle.ldm_session.specs.declared.limits.TheConstants.{LONGEST_STREAM}
+use Rattle.ldm_watch.specs.Sought.{Sought}
 use Rattle.ldm_watch.specs.Told.{beginning, end_behind, end_by_bytes, hand, told, with_hand, within}
 use Rattle.ldm_watch.specs.Watched.{Watched, opening, watched}
-use Rattle.ldm_watch.proofs.Taken.{watched-append, watched-none}
+use Rattle.ldm_watch.proofs.Taken.{watched-append, watched-form, watched-none}
 
 pub came-behind : (p : Position) (bytes : List ℕ) → (in_hand p bytes).came ≡ p.came + length bytes
 unfolding in_hand
@@ -39,16 +39,20 @@ none-behind p None is = (refl, is)
 none-behind p (Some end) is = absurd (cc is)
 
 -- what the whole records of these bytes come to
-abbrev pub taken_of : ClassSpec → Option ℕ → List ℕ → Watched
-taken_of class count given = watched (opening class count) (records_in beginning (within beginning given))
+abbrev pub taken_of : Sought → List ℕ → Watched
+taken_of sought given = watched (opening sought) (records_in beginning (within beginning given))
+
+-- lines are written as they were asked for
+pub form-of : (sought : Sought) (given : List ℕ) → (taken_of sought given).watching.form ≡ sought.form
+form-of sought given = watched-form (opening sought) (records_in beginning (within beginning given))
 
 -- nothing came
-pub told-none : (class : ClassSpec) (count : Option ℕ) → told class count [] ≡ opening class count
+pub told-none : (sought : Sought) → told sought [] ≡ opening sought
 unfolding records_in in_hand
-told-none class count =
+told-none sought =
     let none : within beginning [] ≡ [] = take_all (LONGEST_STREAM - beginning.came) [] (omega arith) in
-    ap (λ (bytes : List ℕ). with_hand (in_hand beginning bytes) (watched (opening class count) (records_in beginning bytes))) none
-    ∙ ap (with_hand beginning) (watched-none (opening class count))
+    ap (λ (bytes : List ℕ). with_hand (in_hand beginning bytes) (watched (opening sought) (records_in beginning bytes))) none
+    ∙ ap (with_hand beginning) (watched-none (opening sought))
 
 pub hand-none : hand [] ≡ beginning
 unfolding in_hand
@@ -83,9 +87,9 @@ module _ (given : List ℕ) (goes : end_by_bytes (hand given) ≡ None) where
     pub hand-more : hand (given ++ piece) ≡ in_hand (hand given) (within (hand given) piece)
     hand-more = ap (in_hand beginning) within-more ∙ in_hand-append beginning (within beginning given) (within (hand given) piece)
 
-    pub taken-more : (class : ClassSpec) (count : Option ℕ)
-        → taken_of class count (given ++ piece) ≡ watched (taken_of class count given) (records_in (hand given) (within (hand given) piece))
-    taken-more class count =
-        ap (λ (bytes : List ℕ). watched (opening class count) (records_in beginning bytes)) within-more
-        ∙ ap (watched (opening class count)) (records-append beginning (within beginning given) (within (hand given) piece))
-        ∙ watched-append (opening class count) (records_in beginning (within beginning given)) (records_in (hand given) (within (hand given) piece))
+    pub taken-more : (sought : Sought)
+        → taken_of sought (given ++ piece) ≡ watched (taken_of sought given) (records_in (hand given) (within (hand given) piece))
+    taken-more sought =
+        ap (λ (bytes : List ℕ). watched (opening sought) (records_in beginning bytes)) within-more
+        ∙ ap (watched (opening sought)) (records-append beginning (within beginning given) (within (hand given) piece))
+        ∙ watched-append (opening sought) (records_in beginning (within beginning given)) (records_in (hand given) (within (hand given) piece))

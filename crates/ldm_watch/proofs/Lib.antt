@@ -1,3 +1,5 @@
+pub mod Members
+pub mod Timed
 pub mod Taken
 pub mod Moved
 pub mod Followed

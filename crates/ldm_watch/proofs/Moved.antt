@@ -11,6 +11,7 @@ use Rattle.ldm_relay.specs.Spelling.{record_of, written as spelling_of}
 use Rattle.ldm_relay.specs.declared.message.ClassAnswer.{ClassAnswer}
 use Rattle.ldm_watch.specs.declared.end.WatchEnd.{WatchEnd}
 use Rattle.ldm_watch.specs.declared.end.WatchEnd.TheVariants.{BadFrame, Refused}
+use Rattle.ldm_watch.specs.declared.form.NoticeForm.{NoticeForm}
 use Rattle.ldm_watch.specs.declared.step.Step.{Step}
 use Rattle.ldm_watch.specs.declared.step.Step.TheVariants.{Alive, Begins, AsksAgain, Notice, Bad, Declined}
 use Rattle.ldm_watch.specs.declared.stop.Stop.{Stop}
@@ -21,7 +22,7 @@ use Rattle.ldm_watch.specs.Notices.{notice_line, notice_lines}
 use Rattle.ldm_watch.specs.Taking.{Standing, IsAt, StepsTo, Moves, Counts, Takes, Finds}
 use Rattle.ldm_watch.specs.Step.{watch_step}
 use Rattle.ldm_watch.specs.Watched.{Watched, after_step, watched}
-use Rattle.ldm_watch.proofs.Taken.{watched-one}
+use Rattle.ldm_watch.proofs.Taken.{counted-form, watched-one}
 
 pub alive : (at : ℕ) (old : Standing) → StepsTo None Alive at old old
 alive at old t went written is = is
@@ -55,24 +56,29 @@ module _ (class : ClassSpec) (at : ℕ) (w : Watching) (out new_out lines : List
       }
 
 -- the notice behind those before, and one fewer is left to come
-module _ (info : Metadata) (at : ℕ) (w new : Watching) (out lines new_lines : List ℕ) (lines_are : new_lines ≡ lines ++ notice_line info) where
-  told_of : (t : Watched) (written : List ℕ) → written ++ lines ≡ notice_lines t.notices → written ++ new_lines ≡ notice_lines (t.notices ++ info ∷ [])
-  told_of t written is =
-      ap (λ (bytes : List ℕ). written ++ bytes) lines_are ∙ sym (append_assoc written lines (notice_line info))
-      ∙ ap (λ (bytes : List ℕ). bytes ++ notice_line info) is ∙ flat_map_more notice_line [] t.notices info
+module _ (info : Metadata) (at : ℕ) (w new : Watching) (out lines new_lines : List ℕ) (lines_are : new_lines ≡ lines ++ notice_line w.form info) where
+  told_of : (t : Watched) (written : List ℕ) → w ≡ t.watching → written ++ lines ≡ notice_lines t.watching.form t.notices
+      → written ++ new_lines ≡ notice_lines t.watching.form (t.notices ++ info ∷ [])
+  told_of t written same is =
+      let line = notice_line t.watching.form in
+      ap (λ (bytes : List ℕ). written ++ bytes) (lines_are ∙ ap (λ (v : Watching). lines ++ notice_line v.form info) same)
+      ∙ sym (append_assoc written lines (line info)) ∙ ap (λ (bytes : List ℕ). bytes ++ line info) is ∙ flat_map_more line [] t.notices info
 
   pub noticed : (result : Option Stop) → ((t : Watched) → w ≡ t.watching → Counts result t new)
       → Moves result (Notice info) at (record { watching = w; out = out; lines = lines }) (record { watching = new; out = out; lines = new_lines })
   noticed None counts = λ t went written is.
       let u = record t { notices = t.notices ++ info ∷ [] } in
+      let counted_is = counts u is.watching_is in
+      let form_is : t.watching.form ≡ new.form = sym (counted-form u u.watching.left) ∙ ap (λ (v : Watched). v.watching.form) counted_is in
+      let told = told_of t written is.watching_is is.told ∙ ap (λ (form : NoticeForm). notice_lines form (t.notices ++ info ∷ [])) form_is in
       let there : IsAt (record u { watching = new }) None went written (record { watching = new; out = out; lines = new_lines }) =
-      record { end_is = is.end_is; watching_is = refl; owed = is.owed; told = told_of t written is.told } in
-      subst (λ (v : Watched). IsAt v None went written (record { watching = new; out = out; lines = new_lines })) (sym (counts u is.watching_is)) there
+      record { end_is = is.end_is; watching_is = refl; owed = is.owed; told = told } in
+      subst (λ (v : Watched). IsAt v None went written (record { watching = new; out = out; lines = new_lines })) (sym counted_is) there
   noticed (Some (Over end)) counts = λ t went written is.
       let u = record t { notices = t.notices ++ info ∷ [] } in
       let counted_is = counts u is.watching_is in
       let there : IsAt (record u { end = Some end }) (Some end) went written (record { watching = new; out = out; lines = new_lines }) =
-      record { end_is = refl; watching_is = counted_is.1; owed = is.owed; told = told_of t written is.told } in
+      record { end_is = refl; watching_is = counted_is.1; owed = is.owed; told = told_of t written is.watching_is is.told } in
       subst (λ (v : Watched). IsAt v (Some end) went written (record { watching = new; out = out; lines = new_lines })) (sym counted_is.0) there
   noticed (Some OutOfMemory) counts = tt
 

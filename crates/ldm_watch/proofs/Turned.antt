@@ -2,7 +2,6 @@
 use Rattle.std.proofs.Common.{◌≡◌, ℕ, ◌+◌, ◌-◌, ◌<◌, ◌≤◌, min, Bool, true, false, List, [], ◌∷◌, ◌++◌, length, take, Option, Some, None, IfSome, IfNone, inl, inr, refl, ap, sym, subst, ◌∙◌, arith}
 use Rattle.std.specs.Option.{ForSome}
 use Rattle.std.proofs.lemmas.List.{append-nil, length-take, take-take, take-append-le}
-use Rattle.ldm_types.specs.declared.class.ClassSpec.{ClassSpec}
 use Rattle.ldm_outside.specs.declared.io.Got.TheVariants.{Bytes, End, Failed}
 use Rattle.ldm_outside.specs.Io.{SinkRecord, Takes as TakesBytes}
 use Rattle.ldm_outside.specs.Link.{LinkRecord, RecvGives}
@@ -24,6 +23,7 @@ use Rattle.ldm_watch.specs.Outside.{WatchRecord, KeepsCounts}
 use Rattle.ldm_watch.specs.Sessions.{HasGiven, Rounds, RunsOn, Writes, WritesAt, WritesLast}
 use Rattle.ldm_watch.specs.StreamView.{StreamView}
 use Rattle.ldm_watch.specs.Taking.{Standing}
+use Rattle.ldm_watch.specs.Sought.{Sought, sought_by}
 use Rattle.ldm_watch.specs.Told.{at_stream_end, beginning, hand, is_edge, told, within}
 use Rattle.ldm_watch.specs.Turns.{EndsIn, TakesPiece}
 use Rattle.ldm_watch.specs.Watched.{Watched, opening}
@@ -41,8 +41,8 @@ moves piece p q a b some takes =
     let len = length-take (LONGEST_STREAM - p.came) piece in
     omega (arith, below, came, len, some)
 
-module _ (class : ClassSpec) (count : Option ℕ) (some : ForSome count (λ n. 0 < n)) (old : WatchRecord) (stream : StreamView) (begins mid : WatchRecord)
-    (runs : RunsOn class count old stream begins) (bytes piece out lines : List ℕ) (same : bytes ≡ piece) (no_out : out ≡ []) (no_lines : lines ≡ [])
+module _ (sought : Sought) (some : ForSome sought.count (λ n. 0 < n)) (old : WatchRecord) (stream : StreamView) (begins mid : WatchRecord)
+    (runs : RunsOn sought old stream begins) (bytes piece out lines : List ℕ) (same : bytes ≡ piece) (no_out : out ≡ []) (no_lines : lines ≡ [])
     (given : HasGiven piece begins mid) where
   abbrev before : Standing
   before = record { watching = stream.watching; out = out; lines = lines }
@@ -60,33 +60,33 @@ module _ (class : ClassSpec) (count : Option ℕ) (some : ForSome count (λ n. 0
       subst Q runs.hand_is (subst P same ends)
 
   abbrev so_far : Watched
-  so_far = taken_of class count runs.given
+  so_far = taken_of sought runs.given
 
   -- all of it was taken
   pub take-on : (q : Position) (b : Standing) (new : StreamView) (result : Option WatchEnd) (after : WatchRecord) → TakesPiece bytes stream.hand q before b
-      → new ≡ record { watching = b.watching; hand = q } → WritesAt result b.out b.lines mid after → KeepsCounts mid after → Rounds result class count old new after
+      → new ≡ record { watching = b.watching; hand = q } → WritesAt result b.out b.lines mid after → KeepsCounts mid after → Rounds result sought old new after
   take-on q b new None after takes new_is writes kept =
       let there = takes-here q b takes in
-      let is = there.takes so_far (records_of so_far.owed) (notice_lines so_far.notices) (here class count some old stream begins runs out lines no_out no_lines) in
-      subst (λ (v : StreamView). RunsOn class count old v after) (sym new_is)
-      (round-on class count some old stream begins runs piece mid given None b is after q refl there.hand_is there.goes_on writes kept)
+      let is = there.takes so_far (records_of so_far.owed) (notice_lines sought.form so_far.notices) (here sought some old stream begins runs out lines no_out no_lines) in
+      subst (λ (v : StreamView). RunsOn sought old v after) (sym new_is)
+      (round-on sought some old stream begins runs piece mid given None b is after q refl there.hand_is there.goes_on writes kept)
   take-on q b new (Some fault) after takes new_is writes kept =
       let there = takes-here q b takes in
-      let is = there.takes so_far (records_of so_far.owed) (notice_lines so_far.notices) (here class count some old stream begins runs out lines no_out no_lines) in
-      round-failed class count some old stream begins runs piece mid given None b is after fault writes
+      let is = there.takes so_far (records_of so_far.owed) (notice_lines sought.form so_far.notices) (here sought some old stream begins runs out lines no_out no_lines) in
+      round-failed sought some old stream begins runs piece mid given None b is after fault writes
 
   -- it ended so
   pub take-over : (end result : WatchEnd) (b : Standing) (after : WatchRecord) → EndsIn end bytes stream.hand before b → WritesLast result end b.out b.lines mid after
-      → Watches result class count old after
+      → Watches result sought old after
   take-over end result b after ends (inr fails) =
       let there = ends-here end b ends in
-      let is = there.takes so_far (records_of so_far.owed) (notice_lines so_far.notices) (here class count some old stream begins runs out lines no_out no_lines) in
-      round-failed class count some old stream begins runs piece mid given there.by_record b is after result fails
+      let is = there.takes so_far (records_of so_far.owed) (notice_lines sought.form so_far.notices) (here sought some old stream begins runs out lines no_out no_lines) in
+      round-failed sought some old stream begins runs piece mid given there.by_record b is after result fails
   take-over end result b after ends (inl done) =
       let there = ends-here end b ends in
-      let is = there.takes so_far (records_of so_far.owed) (notice_lines so_far.notices) (here class count some old stream begins runs out lines no_out no_lines) in
-      subst (λ (e : WatchEnd). Watches e class count old after) (sym done.0)
-      (round-over class count some old stream begins runs piece mid given there.by_record b is after end there.end_is done.1)
+      let is = there.takes so_far (records_of so_far.owed) (notice_lines sought.form so_far.notices) (here sought some old stream begins runs out lines no_out no_lines) in
+      subst (λ (e : WatchEnd). Watches e sought old after) (sym done.0)
+      (round-over sought some old stream begins runs piece mid given there.by_record b is after end there.end_is done.1)
 
 -- ---- what the link gave
 
@@ -111,16 +111,16 @@ cause-edge p phase false edge count given t old new none same ended =
     let is : Truncated p.came ≡ at_stream_end (hand given) t.watching.phase = sym (rw edge refl) ∙ same in
     rw edge ((none, is), ended)
 
-module _ (class : ClassSpec) (count : Option ℕ) (old : WatchRecord) (stream : StreamView) (begins now : WatchRecord)
-    (runs : RunsOn class count old stream begins) (sink : now.sink ≡ begins.sink) where
+module _ (sought : Sought) (old : WatchRecord) (stream : StreamView) (begins now : WatchRecord)
+    (runs : RunsOn sought old stream begins) (sink : now.sink ≡ begins.sink) where
   abbrev all : Watched
-  all = told class count runs.given
+  all = told sought runs.given
 
-  written-still : TakesBytes old.sink (notice_lines all.notices) now.sink
-  written-still = subst (λ (s : SinkRecord). TakesBytes old.sink (notice_lines all.notices) s) (sym sink) runs.written
+  written-still : TakesBytes old.sink (notice_lines sought.form all.notices) now.sink
+  written-still = subst (λ (s : SinkRecord). TakesBytes old.sink (notice_lines sought.form all.notices) s) (sym sink) runs.written
 
   -- the stream ended
-  pub turn-ended : (into : List ℕ) → RecvGives End into begins.link now.link → Watches (at_stream_end stream.hand stream.watching.phase) class count old now
+  pub turn-ended : (into : List ℕ) → RecvGives End into begins.link now.link → Watches (at_stream_end stream.hand stream.watching.phase) sought old now
   turn-ended into gives =
       let left : now.link.left ≡ begins.link.left = ap (λ (l : LinkRecord). l.left) gives.2 in
       let end = at_stream_end stream.hand stream.watching.phase in
@@ -133,38 +133,38 @@ module _ (class : ClassSpec) (count : Option ℕ) (old : WatchRecord) (stream : 
       record {
         given = runs.given;
         sent = records_of all.owed;
-        lines = notice_lines all.notices;
+        lines = notice_lines sought.form all.notices;
         exchanged = Exchanged-still old.link begins.link now.link _ runs.given runs.exchanged (ap (λ (l : LinkRecord). l.passed) gives.2) left;
         written = written-still;
         sent_is = part-of (sends_all end) _ _ refl;
         lines_are = part-of (writes_all end) _ _ refl;
-        cause = cause-edge stream.hand stream.watching.phase (is_edge stream.hand stream.watching.phase) refl count runs.given all old now runs.goes_on same ended;
+        cause = cause-edge stream.hand stream.watching.phase (is_edge stream.hand stream.watching.phase) refl sought.count runs.given all old now runs.goes_on same ended;
       }
 
   -- the link failed
-  pub turn-failed : (into : List ℕ) → RecvGives Failed into begins.link now.link → Watches LinkFault class count old now
+  pub turn-failed : (into : List ℕ) → RecvGives Failed into begins.link now.link → Watches LinkFault sought old now
   turn-failed into gives = record {
     given = runs.given;
     sent = records_of all.owed;
-    lines = notice_lines all.notices;
+    lines = notice_lines sought.form all.notices;
     exchanged = Exchanged-still old.link begins.link now.link _ runs.given runs.exchanged (ap (λ (l : LinkRecord). l.passed) gives.1) (ap (λ (l : LinkRecord). l.left) gives.1);
     written = written-still;
     sent_is = ([], append-nil (records_of all.owed));
-    lines_are = ([], append-nil (notice_lines all.notices));
+    lines_are = ([], append-nil (notice_lines sought.form all.notices));
     cause = Rose-later old.link.faults begins.link.faults now.link.faults runs.kept.link gives.0;
   }
 
 -- ---- the request
 
-module _ (class : ClassSpec) (count : Option ℕ) (out lines : List ℕ) (owed : out ≡ records_of (sent.Notifyme 1 class ∷ [])) (no_lines : lines ≡ []) (old new : WatchRecord) where
-  owed-is : out ≡ records_of (told class count []).owed
-  owed-is = owed ∙ ap (λ (t : Watched). records_of t.owed) (sym (told-none class count))
+module _ (sought : Sought) (out lines : List ℕ) (owed : out ≡ records_of (sent.Notifyme 1 sought.class ∷ [])) (no_lines : lines ≡ []) (old new : WatchRecord) where
+  owed-is : out ≡ records_of (told sought []).owed
+  owed-is = owed ∙ ap (λ (t : Watched). records_of t.owed) (sym (told-none sought))
 
-  told-is : lines ≡ notice_lines (told class count []).notices
-  told-is = no_lines ∙ ap (λ (t : Watched). notice_lines t.notices) (sym (told-none class count))
+  told-is : lines ≡ notice_lines sought.form (told sought []).notices
+  told-is = no_lines ∙ ap (λ (t : Watched). notice_lines sought.form t.notices) (sym (told-none sought))
 
   -- it was not sent
-  pub request-failed : (fault : WatchEnd) → WritesAt (Some fault) out lines old new → Watches fault class count old new
+  pub request-failed : (fault : WatchEnd) → WritesAt (Some fault) out lines old new → Watches fault sought old new
   request-failed LinkFault fails = record {
     given = [];
     sent = fails.sent;
@@ -194,42 +194,42 @@ module _ (class : ClassSpec) (count : Option ℕ) (out lines : List ℕ) (owed :
   request-failed OutOfMemory fails = absurd fails
 
   -- it was sent
-  pub request-sent : (stream : StreamView) → stream ≡ record { watching = (opening class count).watching; hand = beginning } → Writes out lines old new → KeepsCounts old new
-      → RunsOn class count old stream new
+  pub request-sent : (stream : StreamView) → stream ≡ record { watching = (opening sought).watching; hand = beginning } → Writes out lines old new → KeepsCounts old new
+      → RunsOn sought old stream new
   request-sent stream stream_is writes kept = record {
     given = [];
     exchanged = subst (λ (xs : List ℕ). Exchanged old.link xs [] new.link) owed-is writes.exchanged;
     written = subst (λ (xs : List ℕ). TakesBytes old.sink xs new.sink) told-is writes.written;
-    goes_on = ap (λ (t : Watched). t.end) (told-none class count);
-    watching_is = ap (λ (s : StreamView). s.watching) stream_is ∙ ap (λ (t : Watched). t.watching) (sym (told-none class count));
+    goes_on = ap (λ (t : Watched). t.end) (told-none sought);
+    watching_is = ap (λ (s : StreamView). s.watching) stream_is ∙ ap (λ (t : Watched). t.watching) (sym (told-none sought));
     hand_is = ap (λ (s : StreamView). s.hand) stream_is ∙ sym hand-none;
     kept = kept;
   }
 
 -- there is no memory to begin with
-pub none-watched : (class : ClassSpec) (count : Option ℕ) (outside : WatchRecord) → Watches OutOfMemory class count outside outside
-none-watched class count outside = record {
+pub none-watched : (sought : Sought) (outside : WatchRecord) → Watches OutOfMemory sought outside outside
+none-watched sought outside = record {
   given = [];
   sent = [];
   lines = [];
   exchanged = Exchanged-nothing outside.link outside.link refl refl;
   written = Takes-nothing outside.sink outside.sink refl;
-  sent_is = (records_of (told class count []).owed, refl);
-  lines_are = (notice_lines (told class count []).notices, refl);
+  sent_is = (records_of (told sought []).owed, refl);
+  lines_are = (notice_lines sought.form (told sought []).notices, refl);
   cause = tt;
 }
 
 -- what is in hand where it runs on
-pub sound-of : (class : ClassSpec) (count : Option ℕ) (old : WatchRecord) (stream : StreamView) (now : WatchRecord) → RunsOn class count old stream now
+pub sound-of : (sought : Sought) (old : WatchRecord) (stream : StreamView) (now : WatchRecord) → RunsOn sought old stream now
     → is_faulty stream.hand.reading ≡ false
-sound-of class count old stream now runs =
-    let t = taken_of class count runs.given in
+sound-of sought old stream now runs =
+    let t = taken_of sought runs.given in
     ap (λ (p : Position). is_faulty p.reading) runs.hand_is ∙ (goes-on (hand runs.given) (none-behind (hand runs.given) t.end runs.goes_on).1).sound
 
-pub below-of : (class : ClassSpec) (count : Option ℕ) (old : WatchRecord) (stream : StreamView) (now : WatchRecord) → RunsOn class count old stream now
+pub below-of : (sought : Sought) (old : WatchRecord) (stream : StreamView) (now : WatchRecord) → RunsOn sought old stream now
     → stream.hand.came < LONGEST_STREAM
-below-of class count old stream now runs =
-    let t = taken_of class count runs.given in
+below-of sought old stream now runs =
+    let t = taken_of sought runs.given in
     let below = (goes-on (hand runs.given) (none-behind (hand runs.given) t.end runs.goes_on).1).below in
     let same = ap (λ (p : Position). p.came) runs.hand_is in
     omega (arith, below, same)
@@ -239,7 +239,7 @@ if-none None fact = fact
 if-none (Some end) fact = tt
 
 pub stands-at : (stream : StreamView) → stream.hand ≡ beginning → stream.watching.phase ≡ Asked false
-    → stream ≡ record { watching = (opening stream.watching.class stream.watching.left).watching; hand = beginning }
+    → stream ≡ record { watching = (opening (sought_by stream.watching)).watching; hand = beginning }
 stands-at stream hand_is phase_is =
     ap (λ (p : Position). record stream { hand = p }) hand_is
     ∙ ap (λ (p : Phase). record { watching = record stream.watching { phase = p }; hand = beginning }) phase_is

@@ -2,12 +2,18 @@
 use Rattle.std.specs.Prelude.{◌≡◌, ℕ, List, [], ◌∷◌, ◌++◌, true, false, codes, replicate, Option, Some, None, Ok}
 use Rattle.ldm_types.specs.Info.{Metadata}
 use Rattle.ldm_types.specs.declared.class.ClassSpec.{ClassSpec}
+use Rattle.ldm_types.specs.declared.limits.TheConstants.{GREATEST_INSTANT}
 use Rattle.ldm_relay.specs.declared.message.ClassAnswer.TheVariants as class_answer
 use Rattle.ldm_relay.specs.Sent as sent
+use Rattle.ldm_script.specs.Answer.{info_text}
 use Rattle.ldm_watch.specs.declared.end.WatchEnd.TheVariants.{Counted, BadFrame}
 use Rattle.ldm_watch.specs.declared.step.Step.TheVariants.{Alive, AsksAgain, Notice, Bad, Declined}
 use Rattle.ldm_watch.specs.declared.watching.Phase.TheVariants.{Asked, Told}
+use Rattle.ldm_watch.specs.declared.form.NoticeForm.TheVariants.{Numbers, Names}
+use Rattle.ldm_watch.specs.FeedNames.{feeds_text}
+use Rattle.ldm_watch.specs.Instants.{instant_text}
 use Rattle.ldm_watch.specs.Notices.{notice_line}
+use Rattle.ldm_watch.specs.Sought.{Sought}
 use Rattle.ldm_watch.specs.Step.{answered, by_call}
 use Rattle.ldm_watch.specs.Watched.{Watched, after_step, opening}
 
@@ -22,13 +28,37 @@ class = record { from = 0; to = 4294967295999999; specs = record { items = [] } 
 abbrev pub narrower : ClassSpec
 narrower = record class { from = 1 }
 
+abbrev pub sought : ClassSpec → Option ℕ → Sought
+sought class count = record { class = class; count = count; form = Numbers }
+
 -- the request was answered, and so many notices are left to come
 abbrev pub telling : Option ℕ → Watched
-telling left = record (opening class left) { watching = record { class = class; phase = Told; left = left } }
+telling left = record (opening (sought class left)) { watching = record { class = class; phase = Told; left = left; form = Numbers } }
 
--- its line
+-- its line; as numbers, the fields of any are those of an answer of a queue
 abbrev pub Line : Type 0
-Line = notice_line product ≡ codes "notice 100 01010101010101010101010101010101 0x00000002 1 h p 4" ++ 10 ∷ []
+Line =
+    (notice_line Numbers product ≡ codes "notice 100 01010101010101010101010101010101 0x00000002 1 h p 4" ++ 10 ∷ [])
+    × ((info : Metadata) → notice_line Numbers info ≡ codes "notice" ++ info_text info ++ 10 ∷ [])
+
+-- its line for people
+abbrev pub LineOfNames : Type 0
+LineOfNames = notice_line Names product ≡ codes "notice 1970-01-01T00:00:00.000100Z 01010101010101010101010101010101 DDS 1 h p 4" ++ 10 ∷ []
+
+-- the first and the last instant, the last microsecond of a leap day and of a year, and one with zeros in front
+abbrev pub Dates : Type 0
+Dates =
+    (instant_text 0 ≡ codes "1970-01-01T00:00:00.000000Z")
+    × (instant_text GREATEST_INSTANT ≡ codes "2106-02-07T06:28:15.999999Z")
+    × (instant_text 1709251199999999 ≡ codes "2024-02-29T23:59:59.999999Z")
+    × (instant_text 1798761599999999 ≡ codes "2026-12-31T23:59:59.999999Z")
+    × (instant_text 1796043907000123 ≡ codes "2026-11-30T13:05:07.000123Z")
+
+-- a set has its name, or those of its members
+abbrev pub Feeds : Type 0
+Feeds =
+    (feeds_text 0 ≡ codes "NONE") × (feeds_text 0xffff_ffff ≡ codes "ANY") × (feeds_text 15 ≡ codes "WMO")
+    × (feeds_text 11 ≡ codes "PPS|DDS|IDS") × (feeds_text 0xc000_0040 ≡ codes "FT6|EXP|FT31")
 
 -- the last notice that was asked for ends it, and is told
 abbrev pub LastNotice : Type 0
@@ -55,8 +85,8 @@ Requests =
 abbrev pub Narrower : Type 0
 Narrower =
     (answered class false 1 (class_answer.Reclass narrower) ≡ AsksAgain narrower)
-    × (after_step (opening class None) 0 (AsksAgain narrower)
-    ≡ record (opening narrower None) {
-      watching = record { class = narrower; phase = Asked true; left = None };
+    × (after_step (opening (sought class None)) 0 (AsksAgain narrower)
+    ≡ record (opening (sought narrower None)) {
+      watching = record { class = narrower; phase = Asked true; left = None; form = Numbers };
       owed = sent.Notifyme 1 class ∷ sent.Notifyme 2 narrower ∷ [];
     })

@@ -1,5 +1,8 @@
+pub mod Sought
 pub mod Step
 pub mod Watched
+pub mod Instants
+pub mod FeedNames
 pub mod Notices
 pub mod Told
 pub mod Outside

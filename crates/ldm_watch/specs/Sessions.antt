@@ -1,6 +1,5 @@
 -- What watching over a link keeps between two pieces.
 use Rattle.std.specs.Prelude.{◌≡◌, ◌⊎◌, ℕ, ◌<◌, List, [], ◌++◌, Option, Some, None}
-use Rattle.ldm_types.specs.declared.class.ClassSpec.{ClassSpec}
 use Rattle.ldm_outside.specs.Count.{Rose}
 use Rattle.ldm_outside.specs.Io.{SinkRecord, Takes as TakesBytes}
 use Rattle.ldm_outside.specs.Link.{LinkRecord}
@@ -10,6 +9,7 @@ use Rattle.ldm_watch.specs.declared.end.WatchEnd.{WatchEnd}
 use Rattle.ldm_watch.specs.declared.end.WatchEnd.TheVariants.{LinkFault, SinkFault}
 use Rattle.ldm_watch.specs.Notices.{notice_lines}
 use Rattle.ldm_watch.specs.Outside.{WatchRecord, KeepsCounts}
+use Rattle.ldm_watch.specs.Sought.{Sought}
 use Rattle.ldm_watch.specs.StreamView.{StreamView}
 use Rattle.ldm_watch.specs.Told.{hand, told}
 use Rattle.ldm_watch.specs.Watches.{IsPart, Watches}
@@ -46,18 +46,18 @@ abbrev pub WritesLast : (result end : WatchEnd) → (out lines : List ℕ) → (
 WritesLast result end out lines old new = ((result ≡ end) × Writes out lines old new) ⊎ WritesAt (Some result) out lines old new
 
 -- The link gave these bytes, and they did not end the watching. All that the peer is owed by them was sent, and all lines were written.
-pub record RunsOn (class : ClassSpec) (count : Option ℕ) (old : WatchRecord) (stream : StreamView) (now : WatchRecord) : Type 0 where
+pub record RunsOn (sought : Sought) (old : WatchRecord) (stream : StreamView) (now : WatchRecord) : Type 0 where
   pub given : List ℕ
-  pub exchanged : Exchanged old.link (records_of (told class count given).owed) given now.link
-  pub written : TakesBytes old.sink (notice_lines (told class count given).notices) now.sink
-  pub goes_on : (told class count given).end ≡ None
-  pub watching_is : stream.watching ≡ (told class count given).watching
+  pub exchanged : Exchanged old.link (records_of (told sought given).owed) given now.link
+  pub written : TakesBytes old.sink (notice_lines sought.form (told sought given).notices) now.sink
+  pub goes_on : (told sought given).end ≡ None
+  pub watching_is : stream.watching ≡ (told sought given).watching
   pub hand_is : stream.hand ≡ hand given
   pub kept : KeepsCounts old now
 
-abbrev pub Rounds : Option WatchEnd → ClassSpec → Option ℕ → WatchRecord → StreamView → WatchRecord → Type 0
-Rounds None class count old stream now = RunsOn class count old stream now
-Rounds (Some end) class count old stream now = Watches end class count old now
+abbrev pub Rounds : Option WatchEnd → Sought → WatchRecord → StreamView → WatchRecord → Type 0
+Rounds None sought old stream now = RunsOn sought old stream now
+Rounds (Some end) sought old stream now = Watches end sought old now
 
 -- since then the link gave these bytes, and nothing else happened
 pub record HasGiven (bytes : List ℕ) (old now : WatchRecord) : Type 0 where

@@ -27,7 +27,7 @@ pub record IsAt (t : Watched) (end : Option WatchEnd) (sent written : List ℕ) 
   pub end_is : t.end ≡ end
   pub watching_is : now.watching ≡ t.watching
   pub owed : sent ++ now.out ≡ records_of t.owed
-  pub told : written ++ now.lines ≡ notice_lines t.notices
+  pub told : written ++ now.lines ≡ notice_lines t.watching.form t.notices
 
 -- a record said this, and it went on, or ended so
 abbrev pub StepsTo : Option WatchEnd → Step → ℕ → Standing → Standing → Type 0

@@ -1,6 +1,5 @@
 -- What the bytes that a link gave come to.
 use Rattle.std.specs.Prelude.{ℕ, ◌-◌, Bool, true, false, ◌&&◌, not, nat_le, List, take, Option, Some, None, if◌then◌else◌}
-use Rattle.ldm_types.specs.declared.class.ClassSpec.{ClassSpec}
 use Rattle.ldm_relay.specs.declared.front.TheConstants.{LONGEST_CALL}
 use Rattle.ldm_rpc.specs.Reading.{is_faulty, is_pending}
 use Rattle.ldm_rpc.specs.Streams.{Position, at_start, records_in, in_hand}
@@ -9,6 +8,7 @@ use Rattle.ldm_watch.specs.declared.end.WatchEnd.TheVariants.{Ended, Truncated, 
 use Rattle.ldm_session.specs.declared.limits.TheConstants.{LONGEST_STREAM}
 use Rattle.ldm_watch.specs.declared.watching.Phase.{Phase}
 use Rattle.ldm_watch.specs.declared.watching.Phase.TheVariants.{Asked, Told}
+use Rattle.ldm_watch.specs.Sought.{Sought}
 use Rattle.ldm_watch.specs.Watched.{Watched, opening, watched}
 
 -- before the first byte of a stream
@@ -40,8 +40,8 @@ with_hand p t = record t { end = end_behind p t.end }
 
 -- One watches the products of a class, up to so many where a count was given: what these bytes of the peer come to, up to a record that
 -- ends it, or else to the end that the bytes behind the last record make.
-abbrev pub told : ClassSpec → Option ℕ → List ℕ → Watched
-told class count given = with_hand (hand given) (watched (opening class count) (records_in beginning (within beginning given)))
+abbrev pub told : Sought → List ℕ → Watched
+told sought given = with_hand (hand given) (watched (opening sought) (records_in beginning (within beginning given)))
 
 abbrev pub is_told : Phase → Bool
 is_told (Asked again) = false

@@ -1,7 +1,6 @@
 -- Watching: what comes of the records of a stream, one after another.
 use Rattle.std.specs.Prelude.{ℕ, ◌-◌, nat_le, true, false, List, [], ◌∷◌, ◌++◌, Option, Some, None, if◌then◌else◌}
 use Rattle.ldm_types.specs.Info.{Metadata}
-use Rattle.ldm_types.specs.declared.class.ClassSpec.{ClassSpec}
 use Rattle.ldm_relay.specs.Sent.{Sent}
 use Rattle.ldm_relay.specs.Sent as sent
 use Rattle.ldm_rpc.specs.Streams.{Placed}
@@ -11,6 +10,7 @@ use Rattle.ldm_watch.specs.declared.watching.Phase.TheVariants as phase
 use Rattle.ldm_watch.specs.declared.watching.Watching.{Watching}
 use Rattle.ldm_watch.specs.declared.step.Step.{Step}
 use Rattle.ldm_watch.specs.declared.step.Step.TheVariants.{Alive, Begins, AsksAgain, Notice, Bad, Declined}
+use Rattle.ldm_watch.specs.Sought.{Sought}
 use Rattle.ldm_watch.specs.Step.{watch_step}
 
 -- What was taken so far.
@@ -24,10 +24,10 @@ pub record Watched : Type 0 where
   pub end : Option WatchEnd
 
 -- before the first record: the NOTIFYME of the class is owed
-abbrev pub opening : ClassSpec → Option ℕ → Watched
-opening class count = record {
-  watching = record { class = class; phase = phase.Asked false; left = count };
-  owed = sent.Notifyme 1 class ∷ [];
+abbrev pub opening : Sought → Watched
+opening sought = record {
+  watching = record { class = sought.class; phase = phase.Asked false; left = sought.count; form = sought.form };
+  owed = sent.Notifyme 1 sought.class ∷ [];
   notices = [];
   end = None;
 }

@@ -1,6 +1,5 @@
 -- What watching does, from its beginning to its end.
 use Rattle.std.specs.Prelude.{◌≡◌, ℕ, Bool, true, false, List, [], ◌++◌, length, Option, Some, None, IfSome}
-use Rattle.ldm_types.specs.declared.class.ClassSpec.{ClassSpec}
 use Rattle.ldm_outside.specs.Count.{Rose}
 use Rattle.ldm_outside.specs.Io.{Takes as TakesBytes}
 use Rattle.ldm_intake.specs.Room.{records_of}
@@ -9,6 +8,7 @@ use Rattle.ldm_watch.specs.declared.end.WatchEnd.{WatchEnd}
 use Rattle.ldm_watch.specs.declared.end.WatchEnd.TheVariants.{Ended, Counted, Truncated, BadFrame, Refused, LinkFault, SinkFault, StreamLimit, OutOfMemory}
 use Rattle.ldm_watch.specs.Notices.{notice_lines}
 use Rattle.ldm_watch.specs.Outside.{WatchRecord}
+use Rattle.ldm_watch.specs.Sought.{Sought}
 use Rattle.ldm_watch.specs.Told.{at_stream_end, hand, told}
 use Rattle.ldm_watch.specs.Watched.{Watched}
 
@@ -63,12 +63,12 @@ Cause SinkFault count given t old new = Rose old.sink.faults new.sink.faults
 Cause OutOfMemory count given t old new = Unit {0}
 
 -- The link gave these bytes. What the peer is owed by them was sent, and the lines of its notices were written, all of it or a front.
-pub record Watches (end : WatchEnd) (class : ClassSpec) (count : Option ℕ) (old new : WatchRecord) : Type 0 where
+pub record Watches (end : WatchEnd) (sought : Sought) (old new : WatchRecord) : Type 0 where
   pub given : List ℕ
   pub sent : List ℕ
   pub lines : List ℕ
   pub exchanged : Exchanged old.link sent given new.link
   pub written : TakesBytes old.sink lines new.sink
-  pub sent_is : IsPart (sends_all end) sent (records_of (told class count given).owed)
-  pub lines_are : IsPart (writes_all end) lines (notice_lines (told class count given).notices)
-  pub cause : Cause end count given (told class count given) old new
+  pub sent_is : IsPart (sends_all end) sent (records_of (told sought given).owed)
+  pub lines_are : IsPart (writes_all end) lines (notice_lines sought.form (told sought given).notices)
+  pub cause : Cause end sought.count given (told sought given) old new

@@ -1,9 +1,13 @@
 //! One asks a peer to be told of the products of a class, and writes a line for each.
 #![tactic(auto)]
 
+mod dates;
 mod end;
 mod examples;
+mod form;
+mod law;
 mod limits;
+mod names;
 mod notices;
 mod reading;
 mod session;
@@ -14,6 +18,8 @@ mod watching;
 
 pub use end::WatchEnd;
 pub use examples::worked_examples;
+pub use form::NoticeForm;
+pub use law::names_are_read_back;
 pub use limits::LONGEST_PIECE;
 pub use session::watch;
 pub use step::Step;

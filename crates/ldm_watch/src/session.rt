@@ -1,9 +1,8 @@
 //! Watching over a link.
-ghost use Rattle.std.specs.Prelude.{◌≡◌, ◌<◌, ◌≤◌, ◌∷◌, [], ℕ, Option, List, true};
+ghost use Rattle.std.specs.Prelude.{◌≡◌, ◌<◌, ◌≤◌, ◌∷◌, [], true};
 ghost use Rattle.std.specs.Prelude.{false, IfOk, IfNone, None, Some, length, take};
 ghost use Rattle.std.specs.Option.{ForSome};
 ghost use Rattle.std.specs.Vec.{vec_len};
-ghost use Rattle.ldm_types.specs.declared.class.ClassSpec.{ClassSpec};
 ghost use Rattle.ldm_outside.specs.Link.{IsNotClosed};
 ghost use Rattle.ldm_relay.specs.Sent as sent;
 ghost use Rattle.ldm_rpc.specs.Reading.{is_faulty};
@@ -12,10 +11,12 @@ ghost use Rattle.ldm_watch.specs.Complete.{Completes};
 ghost use Rattle.ldm_watch.specs.declared.watching.Phase.TheVariants as phase;
 ghost use Rattle.ldm_watch.specs.Outside.{KeepsCounts, WatchRecord, watch_tells};
 ghost use Rattle.ldm_watch.specs.Sessions.{HasGiven, IsReady, Rounds, RunsOn, WritesAt, WritesLast};
+ghost use Rattle.ldm_watch.specs.Sought.{Sought, sought_by};
 ghost use Rattle.ldm_watch.specs.Told.{beginning};
 ghost use Rattle.ldm_watch.specs.Watches.{Watches};
 
 use crate::end::WatchEnd;
+use crate::form::NoticeForm;
 use crate::limits::LONGEST_PIECE;
 use crate::notices::put_notifyme;
 use crate::stop::Stop;
@@ -27,27 +28,28 @@ use ldm_session::LONGEST_STREAM;
 use ldm_types::OutOfMemory;
 use std::alloc::Global;
 
-/// Asks a peer to be told of the products of a class, and writes a line for each that it tells of: `notice ARRIVAL SIG
-/// FEED SEQNO ORIGIN IDENT SIZE`. It goes on until the end of the stream, or until something ends it, or to the end of
-/// so many notices where a count is given.
+/// Asks a peer to be told of the products of a class, and writes a line for each that it tells of, in that form:
+/// `notice ARRIVAL SIG FEED SEQNO ORIGIN IDENT SIZE`. It goes on until the end of the stream, or until something ends
+/// it, or to the end of so many notices where a count is given.
 pub fn watch<K: Link, S: Sink>(
     alloc: Global,
     link: &mut K,
     sink: &mut S,
     class: &Class,
     count: Option<u64>,
+    form: NoticeForm,
 ) -> WatchEnd
     requires not_closed { IsNotClosed (K.tells link.old) }
     requires counted { ForSome count (λ n. 0 < n) }
     ensures still_open { IsNotClosed (K.tells link.new) }
     ensures counts { KeepsCounts (watch_tells K.tells S.tells link.old sink.old)
         (watch_tells K.tells S.tells link.new sink.new) }
-    ensures watches { Watches result class.now count (watch_tells K.tells S.tells link.old sink.old)
-        (watch_tells K.tells S.tells link.new sink.new) }
-    ensures completes { Completes result class.now count (watch_tells K.tells S.tells link.old sink.old)
-        (watch_tells K.tells S.tells link.new sink.new) }
+    ensures watches { Watches result (record { class = class.now; count = count; form = form })
+        (watch_tells K.tells S.tells link.old sink.old) (watch_tells K.tells S.tells link.new sink.new) }
+    ensures completes { Completes result (record { class = class.now; count = count; form = form })
+        (watch_tells K.tells S.tells link.old sink.old) (watch_tells K.tells S.tells link.new sink.new) }
 {
-    match Session::open(alloc, class, count) {
+    match Session::open(alloc, class, count, form) {
         Ok(session) => {
             let mut session = session;
             session.run(link, sink)
@@ -67,11 +69,16 @@ struct Session {
 
 impl Session {
     // Before the request is sent.
-    fn open(alloc: Global, class: &Class, count: Option<u64>) -> Result<Session, OutOfMemory>
+    fn open(
+        alloc: Global,
+        class: &Class,
+        count: Option<u64>,
+        form: NoticeForm,
+    ) -> Result<Session, OutOfMemory>
         ensures stream { IfOk result
             (λ session. session.stream
             ≡ record {
-              watching = record { class = class.now; phase = phase.Asked false; left = count };
+              watching = record { class = class.now; phase = phase.Asked false; left = count; form = form };
               hand
                   = beginning;
             }) }
@@ -85,6 +92,7 @@ impl Session {
             class: class.spec().copy(),
             phase: Phase::Asked { again: false },
             left: count,
+            form,
         };
         Ok(Session {
             stream: Stream::begin(alloc, watching),
@@ -104,7 +112,7 @@ impl Session {
         ensures still_open { IsNotClosed (K.tells link.new) }
         ensures counts { KeepsCounts (watch_tells K.tells S.tells link.old sink.old)
             (watch_tells K.tells S.tells link.new sink.new) }
-        ensures watches { Watches result self.old.stream.watching.class self.old.stream.watching.left
+        ensures watches { Watches result (sought_by self.old.stream.watching)
             (watch_tells K.tells S.tells link.old sink.old) (watch_tells K.tells S.tells link.new sink.new) }
     {
         match self.write(link, sink) {
@@ -130,9 +138,9 @@ impl Session {
             (watch_tells K.tells S.tells link.new sink.new) }
         ensures ready { IfNone result (IsReady self.new.out.items self.new.lines.items (vec_len self.new.piece)) }
         ensures moves { IfNone result (self.old.stream.hand.came < self.new.stream.hand.came) }
-        ensures rounds { (class : ClassSpec) (count : Option ℕ) (old : WatchRecord) → ForSome count (λ n. 0 < n)
-            → RunsOn class count old self.old.stream (watch_tells K.tells S.tells link.old sink.old)
-            → Rounds result class count old self.new.stream (watch_tells K.tells S.tells link.new sink.new) }
+        ensures rounds { (sought : Sought) (old : WatchRecord) → ForSome sought.count (λ n. 0 < n)
+            → RunsOn sought old self.old.stream (watch_tells K.tells S.tells link.old sink.old)
+            → Rounds result sought old self.new.stream (watch_tells K.tells S.tells link.new sink.new) }
     {
         let awaited = Awaited::Feed.or_rest(self.stream.is_pending());
         match link.recv(self.piece.as_mut_slice(), awaited) {
@@ -158,10 +166,10 @@ impl Session {
             (watch_tells K.tells S.tells link.new sink.new) }
         ensures ready { IfNone result (IsReady self.new.out.items self.new.lines.items (vec_len self.new.piece)) }
         ensures moves { IfNone result (self.old.stream.hand.came < self.new.stream.hand.came) }
-        ensures takes { (class : ClassSpec) (limit : Option ℕ) (old begins : WatchRecord) → ForSome limit (λ n. 0 < n)
-            → RunsOn class limit old self.old.stream begins
+        ensures takes { (sought : Sought) (old begins : WatchRecord) → ForSome sought.count (λ n. 0 < n)
+            → RunsOn sought old self.old.stream begins
             → HasGiven (take count self.old.piece.items) begins (watch_tells K.tells S.tells link.old sink.old)
-            → Rounds result class limit old self.new.stream (watch_tells K.tells S.tells link.new sink.new) }
+            → Rounds result sought old self.new.stream (watch_tells K.tells S.tells link.new sink.new) }
     {
         let piece = &self.piece[..count];
         match self

@@ -11,6 +11,7 @@ ghost use Rattle.ldm_watch.specs.Watched.{Watched};
 ghost use Rattle.ldm_watch.specs.declared.step.Step.TheVariants as said;
 
 use crate::end::WatchEnd;
+use crate::form::NoticeForm;
 use crate::notices::{put_notice, put_notifyme};
 use crate::reading::{read_answer, read_notice};
 use crate::step::Step;
@@ -38,6 +39,8 @@ pub struct Watching {
     pub phase: Phase,
     /// How many notices are left to come, where they are counted.
     pub left: Option<u64>,
+    /// How their lines are written.
+    pub form: NoticeForm,
 }
 
 // The number of the first or of the second NOTIFYME.
@@ -158,7 +161,7 @@ impl Watching {
             → Moves result (said.Notice info.now) at (standing self.old out lines.old)
             (standing self.new out lines.new) }
     {
-        match put_notice(lines, info) {
+        match put_notice(lines, self.form, info) {
             Ok(()) => self.count(),
             Err(_) => Some(Stop::OutOfMemory),
         }

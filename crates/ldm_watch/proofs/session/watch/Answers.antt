@@ -1,5 +1,6 @@
 use Rattle.std.proofs.Common.{subst}
 use Rattle.ldm_watch.specs.Outside.{watch_tells}
+use Rattle.ldm_watch.specs.Sought.{Sought, sought_by}
 use Rattle.ldm_watch.specs.StreamView.{StreamView}
 use Rattle.ldm_watch.specs.Watches.{Watches}
 use Rattle.ldm_watch.proofs.Accepted.{completes}
@@ -9,6 +10,7 @@ pub returns-in-Ok-clause-completes : goal.returns-in-Ok-clause-completes
 returns-in-Ok-clause-completes g c =
     let old = watch_tells g.K.Link.tells g.S.Sink.tells c.args.link.now c.args.sink.now in
     let new = watch_tells g.K.Link.tells g.S.Sink.tells c.run.new.link c.run.new.sink in
-    let whole : Watches c.run.result c.args.class.now c.args.count old new =
-    subst (λ (s : StreamView). Watches c.run.result s.watching.class s.watching.left old new) c.in-Ok.ensures.stream c.run.ensures.watches in
-    completes c.run.result c.args.class.now c.args.count old new whole
+    let sought : Sought = record { class = c.args.class.now; count = c.args.count; form = c.args.form } in
+    let whole : Watches c.run.result sought old new =
+    subst (λ (s : StreamView). Watches c.run.result (sought_by s.watching) old new) c.in-Ok.ensures.stream c.run.ensures.watches in
+    completes c.run.result sought old new whole

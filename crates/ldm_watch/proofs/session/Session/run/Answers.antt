@@ -1,5 +1,6 @@
 use Rattle.std.proofs.Common.{◌≡◌, ◌<◌, ◌≤◌, refl, ap, sym, ◌∙◌, arith}
 use Rattle.ldm_watch.specs.Outside.{watch_tells}
+use Rattle.ldm_watch.specs.Sought.{sought_by}
 use Rattle.ldm_watch.specs.StreamView.{StreamView}
 use Rattle.ldm_watch.proofs.Rounds.{kept-then}
 use Rattle.ldm_watch.proofs.Turned.{below-of, request-failed, request-sent, sound-of, stands-at}
@@ -10,7 +11,7 @@ returns-in-Some-clause-watches g c =
     let self = c.args.self.now in
     let old = watch_tells g.K.Link.tells g.S.Sink.tells c.args.link.now c.args.sink.now in
     let new = watch_tells g.K.Link.tells g.S.Sink.tells c.write.new.link c.write.new.sink in
-    request-failed self.stream.watching.class self.stream.watching.left self.out.items self.lines.items c.requires.owed c.requires.no_lines old new
+    request-failed (sought_by self.stream.watching) self.out.items self.lines.items c.requires.owed c.requires.no_lines old new
     c.in-Some.fault c.in-Some.ensures.writes
 
 pub loop-turns-init : goal.loop-turns-init
@@ -19,7 +20,7 @@ loop-turns-init g c =
     let old = watch_tells g.K.Link.tells g.S.Sink.tells c.args.link.now c.args.sink.now in
     let new = watch_tells g.K.Link.tells g.S.Sink.tells c.write.new.link c.write.new.sink in
     record {
-      runs = request-sent self.stream.watching.class self.stream.watching.left self.out.items self.lines.items c.requires.owed c.requires.no_lines old new
+      runs = request-sent (sought_by self.stream.watching) self.out.items self.lines.items c.requires.owed c.requires.no_lines old new
           c.write.new.self.stream (c.write.ensures.same.0 ∙ stands-at self.stream c.requires.begins.0 c.requires.begins.1) c.in-None.ensures.writes c.write.ensures.counts;
       ready = record {
         no_out = c.in-None.ensures.empty.0;
@@ -35,7 +36,7 @@ loop-turns-preserved g c =
     let self = c.args.self.now in
     let old = watch_tells g.K.Link.tells g.S.Sink.tells c.args.link.now c.args.sink.now in
     record {
-      runs = c.in-None-turn.ensures.rounds self.stream.watching.class self.stream.watching.left old c.requires.counted c.loop-turns.invariant.runs;
+      runs = c.in-None-turn.ensures.rounds (sought_by self.stream.watching) old c.requires.counted c.loop-turns.invariant.runs;
       ready = c.in-None-turn.ensures.ready;
       not_closed = c.in-None-turn.ensures.still_open;
       moved = (let before = c.loop-turns.invariant.moved in let more = c.in-None-turn.ensures.moves in omega (arith, before, more));
