@@ -65,7 +65,6 @@ module _ {W A B : Type 0} (handles : Handled → Scene W A B → Scene W A B →
   end_leads end.Stopped old new ends = piece_leads ends.piece _ old new ends.takes
 
   begins_not : (e : GatherEnd) (old new : At) → BeginsNot handles e old new → Leads old new
-  begins_not (end.Received OutOfMemory) old new begins = untouched old new (ap (λ (m : At). parts_of m.scene) begins)
   begins_not (end.Received LinkFault) old new begins = untouched old new (ap (λ (m : At). parts_of m.scene) begins.others)
   begins_not _ old new begins = absurd begins
 

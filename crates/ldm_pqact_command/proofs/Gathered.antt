@@ -362,7 +362,6 @@ module _ {F L : Type 0} (store_tells : F → StoreRecord) (launcher_tells : L �
   }
 
   begins_not : (e : GatherEnd) (old new : At) → BeginsNot Does e old new → EndedBy e old.scene new.scene
-  begins_not (gather_end.Received OutOfMemory) old new begins = same_scene OutOfMemory old new (ap (λ (m : At). m.scene) begins)
   begins_not (gather_end.Received LinkFault) old new begins = same_scene LinkFault old new (ap (λ (m : At). m.scene) begins.others)
   begins_not _ old new begins = absurd begins
 

@@ -15,6 +15,8 @@ use Rattle.ldm_intake.specs.Receiving.{Receiving}
 use Rattle.ldm_gather.specs.declared.end.GatherEnd.{GatherEnd}
 use Rattle.ldm_gather.specs.declared.end.Handled.{Handled}
 use Rattle.ldm_gather.specs.Gathering.{GathersAll}
+use Rattle.ldm_gather.specs.Orders.{OrderView}
+use Rattle.ldm_gather.specs.Runs.{ReachesNot, Situation}
 use Rattle.ldm_gather.specs.Scene.{Lent, Scene}
 use Rattle.ldm_pqact.specs.declared.end.ActEnd.{ActEnd}
 use Rattle.ldm_pqact.specs.declared.end.ActEnd.TheVariants as end
@@ -120,3 +122,9 @@ module _ {F L : Type 0} (store_tells : F → StoreRecord) (launcher_tells : L �
   pub gathered_stays : (e : GatherEnd) (s : Receiving) (old new : Lent ActerView F L) → GathersAll (ActHandles store_tells launcher_tells) e s old new
       → Stays (parts_of old.scene) (parts_of new.scene)
   gathered_stays e s old new all = gathered_leads (ActHandles store_tells launcher_tells) Stays stays_same stays_then stays_handled e s old new all
+
+  -- where no link was connected they are as they were
+  pub unreached_counted : (order : OrderView) (old new : Situation ActerView F L) → ReachesNot order old new → Counted (at (parts_of old.scene)) (at (parts_of new.scene))
+  unreached_counted order old new not =
+      let same = ap (λ (s : Situation ActerView F L). at (parts_of s.scene)) not.others in
+      record { store = omega (arith, ap (λ (s : Standing). s.store.faults) same); launcher = omega (arith, ap (λ (s : Standing). s.launcher.faults) same) }

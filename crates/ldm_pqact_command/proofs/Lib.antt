@@ -1,5 +1,5 @@
-mod Opened
 mod Tallied
 mod Carried
 mod Kept
 mod Gathered
+mod Stopping

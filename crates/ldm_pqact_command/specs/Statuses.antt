@@ -7,13 +7,14 @@ use Rattle.ldm_intake.specs.declared.end.RecvEnd.{RecvEnd}
 use Rattle.ldm_intake.specs.declared.end.RecvEnd.TheVariants as recv_end
 use Rattle.ldm_gather.specs.declared.end.GatherEnd.{GatherEnd}
 use Rattle.ldm_gather.specs.declared.end.GatherEnd.TheVariants as gather_end
+use Rattle.ldm_gather.specs.Statuses.{status_of_queue, status_of_receiving}
 use Rattle.ldm_command_files.specs.PqactFiles.{status_of_entries}
 use Rattle.ldm_status.specs.declared.status.Status.{Status}
 use Rattle.ldm_status.specs.declared.status.Status.TheVariants as status
 use Rattle.ldm_status.specs.declared.status.TheConstants.{LOG_FAULT}
 use Rattle.ldm_status.specs.Status.{ReportsBecause}
 use Rattle.ldm_pqact_command.specs.declared.end.PqactEnd.{PqactEnd}
-use Rattle.ldm_pqact_command.specs.declared.end.PqactEnd.TheVariants.{NotTaken, NoMemory, Unreached, Received, Enough, Stopped}
+use Rattle.ldm_pqact_command.specs.declared.end.PqactEnd.TheVariants.{NotTaken, NotMade, Unreached, Received, Enough, Stopped}
 use Rattle.ldm_pqact_command.specs.declared.stop.ActStop.{ActStop}
 use Rattle.ldm_pqact_command.specs.declared.stop.ActStop.TheVariants as stop
 
@@ -42,17 +43,6 @@ IsEndOf end gather_end.Stopped why closed = (cause : ActStop) × (why ≡ Some c
 
 -- ---- statuses; there is none where the log failed
 
-abbrev pub receive_status : RecvEnd → Option Status
-receive_status recv_end.Ended = Some status.Done
-receive_status (recv_end.Truncated at) = Some (status.BadFrame at)
-receive_status (recv_end.BadFrame at) = Some (status.BadFrame at)
-receive_status (recv_end.Refused answer) = Some status.Denied
-receive_status recv_end.LinkFault = Some status.NetFault
-receive_status recv_end.LogFault = None
-receive_status recv_end.StreamLimit = Some status.StreamLimit
-receive_status recv_end.Worn = Some status.Worn
-receive_status recv_end.OutOfMemory = Some status.NoMemory
-
 abbrev pub stop_status : ActStop → Option Status
 stop_status stop.StoreFault = Some status.StoreFault
 stop_status stop.LaunchFault = Some status.ChildFault
@@ -62,9 +52,9 @@ stop_status stop.OutOfMemory = Some status.NoMemory
 
 abbrev pub status_of : PqactEnd → Option Status
 status_of (NotTaken why) = Some (status_of_entries why)
-status_of NoMemory = Some status.NoMemory
+status_of (NotMade fault) = Some (status_of_queue fault)
 status_of Unreached = Some status.NetFault
-status_of (Received end) = receive_status end
+status_of (Received end) = status_of_receiving end
 status_of Enough = Some status.Done
 status_of (Stopped why) = stop_status why
 

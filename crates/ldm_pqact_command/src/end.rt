@@ -2,15 +2,16 @@
 ghost use Rattle.std.specs.Prelude.{◌≡◌, ◌≤◌, IsSome};
 ghost use Rattle.ldm_outside.specs.Reason.{IsReason};
 ghost use Rattle.ldm_pqact_command.specs.Statuses.{IfStopped, IsEndOf, ReportsIf, after_closing};
-ghost use Rattle.ldm_pqact_command.specs.Statuses.{receive_status, status_of, stop_status};
+ghost use Rattle.ldm_pqact_command.specs.Statuses.{status_of, stop_status};
 
 use crate::stop::ActStop;
 use ldm_actions::Done;
 use ldm_command_files::{EntriesNotTaken, status_of_entries};
-use ldm_gather::GatherEnd;
+use ldm_gather::{GatherEnd, status_of_queue, status_of_receiving};
 use ldm_intake::RecvEnd;
 use ldm_outside::Sink;
 use ldm_reason::Reason;
+use ldm_shared::CreateFault;
 use ldm_status::{LOG_FAULT, Status};
 
 /// How `pqact` ends.
@@ -18,8 +19,8 @@ use ldm_status::{LOG_FAULT, Status};
 pub enum PqactEnd {
     /// No entries were taken.
     NotTaken(EntriesNotTaken),
-    /// There was no memory to begin.
-    NoMemory,
+    /// No queue was made, or there was no memory to begin.
+    NotMade(CreateFault),
     /// No link was connected.
     Unreached,
     /// The receiving ended so, and all that was queued by then was acted on.
@@ -30,8 +31,28 @@ pub enum PqactEnd {
     Stopped(ActStop),
 }
 
+/// How `pqact` ended, and what is known of that: what is wrong with the pqact.conf; or, of a fault of the store or of
+/// the launcher, the ident of the product in hand, if one was.
+#[derive(Drop)]
+pub(crate) struct Ended {
+    pub(crate) end: PqactEnd,
+    pub(crate) known: Reason,
+}
+
+impl Ended {
+    // Nothing more is known.
+    pub(crate) fn at(end: PqactEnd) -> Ended
+        ensures { result.end ≡ end }
+    {
+        Ended {
+            end,
+            known: Reason::new(),
+        }
+    }
+}
+
 // How it ends, by how the gathering ended, why the handler stopped, and what the closing of the outputs answered.
-pub(crate) fn ended(end: GatherEnd, why: Option<ActStop>, closed: Done) -> PqactEnd
+pub(crate) fn end_by(end: GatherEnd, why: Option<ActStop>, closed: Done) -> PqactEnd
     requires { IfStopped end (IsSome why) }
     ensures { IsEndOf result end why closed }
 {
@@ -59,22 +80,6 @@ fn after_closing(end: PqactEnd, closed: Done) -> PqactEnd
     }
 }
 
-fn receive_status(end: RecvEnd) -> Option<Status>
-    ensures { result ≡ receive_status end }
-{
-    match end {
-        RecvEnd::Ended => Some(Status::Done),
-        RecvEnd::Truncated { at } => Some(Status::BadFrame { at }),
-        RecvEnd::BadFrame { at } => Some(Status::BadFrame { at }),
-        RecvEnd::Refused { .. } => Some(Status::Denied),
-        RecvEnd::LinkFault => Some(Status::NetFault),
-        RecvEnd::LogFault => None,
-        RecvEnd::StreamLimit => Some(Status::StreamLimit),
-        RecvEnd::Worn => Some(Status::Worn),
-        RecvEnd::OutOfMemory => Some(Status::NoMemory),
-    }
-}
-
 fn stop_status(why: ActStop) -> Option<Status>
     ensures { result ≡ stop_status why }
 {
@@ -93,9 +98,9 @@ fn status_of(end: PqactEnd) -> Option<Status>
 {
     match end {
         PqactEnd::NotTaken(why) => Some(status_of_entries(why)),
-        PqactEnd::NoMemory => Some(Status::NoMemory),
+        PqactEnd::NotMade(fault) => Some(status_of_queue(fault)),
         PqactEnd::Unreached => Some(Status::NetFault),
-        PqactEnd::Received(end) => receive_status(end),
+        PqactEnd::Received(end) => status_of_receiving(end),
         PqactEnd::Enough => Some(Status::Done),
         PqactEnd::Stopped(why) => stop_status(why),
     }
@@ -112,29 +117,27 @@ fn put_product(reason: &mut Reason, status: &Status, ident: &[u8], said: &[u8]) 
     }
 }
 
-/// Writes the log line of an end, for the reason that the store, the net or the launcher gives, and answers the number
-/// that the program ends with. What is known of the end is what is wrong with the pqact.conf; or, of a fault of the
-/// store or of the launcher, the ident of the product in hand, if one was. Where the log failed there is no line.
+/// Writes the log line of an end, for the reason that is known or that the store, the net or the launcher gives, and
+/// answers the number that the program ends with. Where the log failed there is no line.
 pub(crate) fn report<E: Sink>(
-    end: PqactEnd,
-    known: &[u8],
+    ended: Ended,
     store: &[u8],
     net: &[u8],
     launcher: &[u8],
     log: &mut E,
 ) -> u8
-    requires known { IsReason known.now }
     requires store { IsReason store.now }
     requires net { IsReason net.now }
     requires launcher { IsReason launcher.now }
-    ensures reports { ReportsIf (status_of end) result (E.tells log.old) (E.tells log.new) }
+    ensures reports { ReportsIf (status_of ended.end) result (E.tells log.old) (E.tells log.new) }
     ensures faults_kept { (E.tells log.old).faults ≤ (E.tells log.new).faults }
 {
+    let Ended { end, known } = ended;
     match status_of(end) {
         Some(status) => {
-            let said = status.reason_among(known, store, net, launcher);
+            let said = status.reason_among(known.as_slice(), store, net, launcher);
             let mut reason = Reason::new();
-            put_product(&mut reason, &status, known, said);
+            put_product(&mut reason, &status, known.as_slice(), said);
             reason.put(said);
             status.report_because(reason.as_slice(), log)
         }

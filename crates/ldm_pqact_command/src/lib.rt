@@ -4,12 +4,10 @@
 mod acter;
 mod command;
 mod end;
-mod limits;
 mod stop;
 mod tallying;
 
 pub use acter::Acter;
-pub use command::pqact;
+pub use command::{ActOrder, act_on_products, pqact};
 pub use end::PqactEnd;
-pub use limits::{ARENA, LARGEST_HEREIS, PASSES, SLOTS};
 pub use stop::ActStop;

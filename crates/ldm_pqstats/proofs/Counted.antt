@@ -1,9 +1,8 @@
 -- What the counter has counted at the end of a gathering.
-use Rattle.std.proofs.Common.{◌≡◌, ◌∙◌, ℕ, List, [], ◌∷◌, ◌++◌, map, Some, inl, inr, refl, sym, ap, subst, append_assoc}
+use Rattle.std.proofs.Common.{◌≡◌, ◌∙◌, ℕ, List, [], ◌∷◌, ◌++◌, codes, map, Option, Some, None, inl, inr, refl, sym, ap, subst, append_assoc}
 use Rattle.std.proofs.lemmas.List.{append-nil}
 use Rattle.ldm_intake.specs.declared.end.RecvEnd.{RecvEnd}
 use Rattle.ldm_intake.specs.declared.end.RecvEnd.TheVariants as recv_end
-use Rattle.ldm_gather.specs.declared.asking.Asking.{Asking}
 use Rattle.ldm_gather.specs.declared.each_end.EachEnd.{EachEnd}
 use Rattle.ldm_gather.specs.declared.each_end.EachEnd.TheVariants as each_end
 use Rattle.ldm_gather.specs.declared.end.GatherEnd.{GatherEnd}
@@ -11,8 +10,9 @@ use Rattle.ldm_gather.specs.declared.end.GatherEnd.TheVariants as gather_end
 use Rattle.ldm_gather.specs.declared.taker.EachStop.{EachStop}
 use Rattle.ldm_gather.specs.declared.taker.EachStop.TheVariants.{ByTaker, LogFault, Worn}
 use Rattle.ldm_gather.specs.EachCourse.{Stage, TakesEach}
-use Rattle.ldm_gather.specs.EachRuns.{Asks, GathersEach, HoldsEach, Ready, Situation, each_at, given_by, given_over, situation_of, stage_in}
+use Rattle.ldm_gather.specs.EachRuns.{GathersEach, Makes, Situation, TakesIf, given_by, given_if, situation_of, stage_in}
 use Rattle.ldm_gather.specs.Givens.{Gave, Given, Lost, Turn, products_of}
+use Rattle.ldm_gather.specs.Orders.{OrderView}
 use Rattle.ldm_gather.specs.Taking.{Hands, TakesAll, TakesLast, hands_of}
 use Rattle.ldm_stats.specs.Table.{StandsFor, Table}
 use Rattle.ldm_stats.specs.Totals.{Product}
@@ -20,7 +20,7 @@ use Rattle.ldm_pqstats.specs.declared.counter.Counter.{Counter}
 use Rattle.ldm_pqstats.specs.declared.counter.CountStop.{CountStop}
 use Rattle.ldm_pqstats.specs.Counting.{Adds, CountsProduct, counted_of}
 use Rattle.ldm_pqstats.specs.declared.asked.StatsAsked.{StatsAsked}
-use Rattle.ldm_pqstats.specs.Runs.{Counts, IfTold, IsAsking, Lent, counter_at}
+use Rattle.ldm_pqstats.specs.Runs.{Counts, IfTold, Lent, counter_at, order_of}
 
 abbrev pub Counting : Type 0
 Counting = Hands Counter (Unit {0})
@@ -53,61 +53,44 @@ over_all : (end : GatherEnd) (k : ℕ) (old new : Stage Counter (Unit {0})) (tak
 over_all end k old new takes same =
     counts_all (products_of takes.turns) old.hands new.hands (subst (λ (h : Counting). TakesAll CountsProduct (products_of takes.turns) old.hands h) (sym same) takes.taken)
 
-received_same : (e : RecvEnd) (end : GatherEnd) (k : ℕ) (old new : Stage Counter (Unit {0})) (takes : TakesEach CountsProduct end k old new) → end ≡ gather_end.Received e → new.hands ≡ takes.mid
-received_same e (gather_end.Received other) k old new takes is = takes.ends.1
-received_same e gather_end.Enough k old new takes is = takes.ends.1
-received_same e gather_end.Stopped k old new takes is = absurd (cc is)
+-- it came to its end, and the taker did not stop it
+abbrev IsWhole : Option GatherEnd → Type 0
+IsWhole None = ⊥
+IsWhole (Some (gather_end.Received e)) = Unit {0}
+IsWhole (Some gather_end.Enough) = Unit {0}
+IsWhole (Some gather_end.Stopped) = ⊥
 
-enough_same : (end : GatherEnd) (k : ℕ) (old new : Stage Counter (Unit {0})) (takes : TakesEach CountsProduct end k old new) → end ≡ gather_end.Enough → new.hands ≡ takes.mid
-enough_same (gather_end.Received other) k old new takes is = takes.ends.1
-enough_same gather_end.Enough k old new takes is = takes.ends.1
-enough_same gather_end.Stopped k old new takes is = absurd (cc is)
-
--- ---- over a link that came
-
-held_all : (end : EachEnd) (ready : Ready Counter) (old new : Situation Counter (Unit {0})) (holds : HoldsEach CountsProduct end ready old new)
-    → hands_of holds.left.each.taker new.hands.lent ≡ holds.took.mid → CountsAll (products_of holds.took.turns) ready.each.taker.stats new.hands.taker.stats
-held_all end ready old new holds same =
-    subst (λ (c : Counter). CountsAll (products_of holds.took.turns) ready.each.taker.stats c.stats) (sym holds.taker)
-    (over_all holds.gathered ready.each.reader.k (stage_in ready old) (stage_in holds.left new) holds.took same)
-
-held_received : (e : RecvEnd) (ready : Ready Counter) (old new : Situation Counter (Unit {0})) (holds : HoldsEach CountsProduct (each_end.Received e) ready old new)
-    → CountsAll (products_of holds.took.turns) ready.each.taker.stats new.hands.taker.stats
-held_received e ready old new holds =
-    held_all (each_end.Received e) ready old new holds
-    (received_same e holds.gathered ready.each.reader.k (stage_in ready old) (stage_in holds.left new) holds.took holds.is_end)
-
-held_enough : (ready : Ready Counter) (old new : Situation Counter (Unit {0})) (holds : HoldsEach CountsProduct each_end.Enough ready old new)
-    → CountsAll (products_of holds.took.turns) ready.each.taker.stats new.hands.taker.stats
-held_enough ready old new holds =
-    held_all each_end.Enough ready old new holds (enough_same holds.gathered ready.each.reader.k (stage_in ready old) (stage_in holds.left new) holds.took holds.is_end)
+took_all : (gathered : Option GatherEnd) (k : ℕ) (old new : Stage Counter (Unit {0})) (took : TakesIf CountsProduct gathered k old new) → IsWhole gathered
+    → CountsAll (given_if CountsProduct gathered k old new took) old.hands.taker.stats new.hands.taker.stats
+took_all None k old new took whole = absurd whole
+took_all (Some (gather_end.Received e)) k old new took whole = over_all (gather_end.Received e) k old new took took.ends.1
+took_all (Some gather_end.Enough) k old new took whole = over_all gather_end.Enough k old new took took.ends.1
+took_all (Some gather_end.Stopped) k old new took whole = absurd whole
 
 -- ---- over all
 
-module _ (table : Table) (asking : Asking) (old new : Situation Counter (Unit {0})) (from : old.hands.taker ≡ counter_at table) where
-  abbrev CountsBy : (end : EachEnd) → GathersEach CountsProduct end asking old new → Type 0
+module _ (table : Table) (order : OrderView) (name : List ℕ) (old new : Situation Counter (Unit {0})) (from : old.hands.taker ≡ counter_at table) where
+  abbrev CountsBy : (end : EachEnd) → GathersEach CountsProduct end order name old new → Type 0
   CountsBy end gathers = CountsAll (given_by CountsProduct gathers) table new.hands.taker.stats
 
-  from_table : (givens : List Given) → CountsAll givens old.hands.taker.stats new.hands.taker.stats → CountsAll givens table new.hands.taker.stats
-  from_table givens counts = subst (λ (c : Counter). CountsAll givens c.stats new.hands.taker.stats) from counts
+  made_by : (end : EachEnd) (makes : Makes CountsProduct end order name old new) → IsWhole makes.collects.gathered
+      → CountsAll (given_if CountsProduct makes.collects.gathered _ _ _ makes.collects.took) table new.hands.taker.stats
+  made_by end makes whole =
+      let all = makes.collects in
+      let givens = given_if CountsProduct all.gathered _ _ _ all.took in
+      let counts : CountsAll givens old.hands.taker.stats all.left.taker.stats = took_all all.gathered makes.k _ (stage_in all.left all.last new) all.took whole in
+      subst (λ (c : Counter). CountsAll givens c.stats new.hands.taker.stats) from
+      (subst (λ (c : Counter). CountsAll givens old.hands.taker.stats c.stats) (sym all.taker) counts)
 
-  received_by : (e : RecvEnd) (gathers : GathersEach CountsProduct (each_end.Received e) asking old new) → CountsBy (each_end.Received e) gathers
-  received_by e (inl none) = absurd (cc none.0)
-  received_by e (inr opens) = by_asks opens.asks
-    where
-      by_asks : (asks : Asks CountsProduct (each_end.Received e) (each_at asking opens.k old.hands.taker) opens.first old new) → CountsAll (given_over CountsProduct asks) table new.hands.taker.stats
-      by_asks (inl not) = absurd (cc not.is)
-      by_asks (inr reaches) = from_table (products_of reaches.holds.took.turns) (held_received e _ _ new reaches.holds)
+  received_by : (e : RecvEnd) (gathers : GathersEach CountsProduct (each_end.Received e) order name old new) → CountsBy (each_end.Received e) gathers
+  received_by e (inl none) = absurd (cc none.is)
+  received_by e (inr makes) = made_by (each_end.Received e) makes (subst IsWhole (sym makes.collects.is_end) tt)
 
-  enough_by : (gathers : GathersEach CountsProduct each_end.Enough asking old new) → CountsBy each_end.Enough gathers
-  enough_by (inl none) = absurd (cc none.0)
-  enough_by (inr opens) = by_asks opens.asks
-    where
-      by_asks : (asks : Asks CountsProduct each_end.Enough (each_at asking opens.k old.hands.taker) opens.first old new) → CountsAll (given_over CountsProduct asks) table new.hands.taker.stats
-      by_asks (inl not) = absurd (cc not.is)
-      by_asks (inr reaches) = from_table (products_of reaches.holds.took.turns) (held_enough _ _ new reaches.holds)
+  enough_by : (gathers : GathersEach CountsProduct each_end.Enough order name old new) → CountsBy each_end.Enough gathers
+  enough_by (inl none) = absurd (cc none.is)
+  enough_by (inr makes) = made_by each_end.Enough makes (subst IsWhole (sym makes.collects.is_end) tt)
 
-  told_counts : (end : EachEnd) (gathers : GathersEach CountsProduct end asking old new) → IfTold end (CountsBy end gathers)
+  told_counts : (end : EachEnd) (gathers : GathersEach CountsProduct end order name old new) → IfTold end (CountsBy end gathers)
   told_counts (each_end.Received recv_end.Ended) gathers = received_by recv_end.Ended gathers
   told_counts (each_end.Received recv_end.StreamLimit) gathers = received_by recv_end.StreamLimit gathers
   told_counts each_end.Enough gathers = enough_by gathers
@@ -118,7 +101,7 @@ module _ (table : Table) (asking : Asking) (old new : Situation Counter (Unit {0
   told_counts (each_end.Received recv_end.LogFault) gathers = tt
   told_counts (each_end.Received recv_end.Worn) gathers = tt
   told_counts (each_end.Received recv_end.OutOfMemory) gathers = tt
-  told_counts each_end.NoMemory gathers = tt
+  told_counts (each_end.NotMade why) gathers = tt
   told_counts each_end.Unreached gathers = tt
   told_counts (each_end.Stopped why) gathers = tt
 
@@ -133,37 +116,28 @@ if_told (each_end.Received recv_end.LinkFault) P Q f told = tt
 if_told (each_end.Received recv_end.LogFault) P Q f told = tt
 if_told (each_end.Received recv_end.Worn) P Q f told = tt
 if_told (each_end.Received recv_end.OutOfMemory) P Q f told = tt
-if_told each_end.NoMemory P Q f told = tt
+if_told (each_end.NotMade why) P Q f told = tt
 if_told each_end.Unreached P Q f told = tt
 if_told (each_end.Stopped why) P Q f told = tt
 
--- the table stands for the products that were taken, in order
-pub stands_told : (table : Table) (asking : Asking) (end : EachEnd) (old new : Situation Counter (Unit {0})) → old.hands.taker ≡ counter_at table → StandsFor table []
-    → (gathers : GathersEach CountsProduct end asking old new) → IfTold end (StandsFor new.hands.taker.stats (map counted_of (given_by CountsProduct gathers)))
-stands_told table asking end old new from empty gathers = if_told end _ _ (λ counts. counts.stands [] empty) (told_counts table asking old new from end gathers)
-
-pub hours_told : (table : Table) (hours : ℕ) (asking : Asking) (end : EachEnd) (old new : Situation Counter (Unit {0})) → old.hands.taker ≡ counter_at table → table.window ≡ hours
-    → (gathers : GathersEach CountsProduct end asking old new) → IfTold end (new.hands.taker.stats.window ≡ hours)
-hours_told table hours asking end old new from is gathers = if_told end _ _ (λ counts. counts.window ∙ is) (told_counts table asking old new from end gathers)
-
 -- all of the gathering
-pub counts_of : (asked : StatsAsked) (asking : Asking) (table : Table) (end : EachEnd) (from counter : Counter) (old new : Lent)
-    → GathersEach CountsProduct end asking (situation_of (hands_of from tt) old.net old.log old.clock) (situation_of (hands_of counter tt) new.net new.log new.clock)
-    → from ≡ counter_at table → StandsFor table [] → table.window ≡ asked.hours → IsAsking asked asking → new.sink ≡ old.sink → Counts end counter asked old new
-counts_of asked asking table end from counter old new gathers is empty window is_asking same =
+pub counts_of : (asked : StatsAsked) (table : Table) (end : EachEnd) (from counter : Counter) (old new : Lent)
+    → GathersEach CountsProduct end (order_of asked) (codes "pqstats") (situation_of (hands_of from tt) old.net old.log old.clock)
+    (situation_of (hands_of counter tt) new.net new.log new.clock)
+    → from ≡ counter_at table → StandsFor table [] → table.window ≡ asked.hours → new.sink ≡ old.sink → Counts end counter asked old new
+counts_of asked table end from counter old new gathers is empty window same =
     let last = situation_of (hands_of counter tt) new.net new.log new.clock in
     let first = situation_of (hands_of (counter_at table) tt) old.net old.log old.clock in
-    let all : GathersEach CountsProduct end asking first last =
-    subst (λ (c : Counter). GathersEach CountsProduct end asking (situation_of (hands_of c tt) old.net old.log old.clock) last) is gathers in
+    let all : GathersEach CountsProduct end (order_of asked) (codes "pqstats") first last =
+    subst (λ (c : Counter). GathersEach CountsProduct end (order_of asked) (codes "pqstats") (situation_of (hands_of c tt) old.net old.log old.clock) last) is gathers in
+    let told = told_counts table (order_of asked) (codes "pqstats") first last refl end all in
     record {
       table = table;
       empty = empty;
       window = window;
-      asking = asking;
-      is_asking = is_asking;
       gathers = all;
-      stands = stands_told table asking end first last refl empty all;
-      hours = hours_told table asked.hours asking end first last refl window all;
+      stands = if_told end _ _ (λ counts. counts.stands [] empty) told;
+      hours = if_told end _ _ (λ counts. counts.window ∙ window) told;
       sink = same;
     }
 
@@ -181,23 +155,22 @@ last_why (Gave given ∷ []) mid new last = record { why = last.0; is = ap (λ (
 last_why (Lost count first end ∷ next ∷ more) mid new last = absurd last
 last_why (Gave given ∷ next ∷ more) mid new last = absurd last
 
-took_why : (end : GatherEnd) (k : ℕ) (old new : Stage Counter (Unit {0})) → end ≡ gather_end.Stopped → new.why ≡ Some ByTaker → TakesEach CountsProduct end k old new → HasStopped new.hands.taker
-took_why (gather_end.Received e) k old new is why takes = absurd (cc is)
-took_why gather_end.Enough k old new is why takes = absurd (cc is)
-took_why gather_end.Stopped k old new is why takes = by_why takes.ends.0 takes.ends.1 takes.ends.2
+took_why : (gathered : Option GatherEnd) (k : ℕ) (old new : Stage Counter (Unit {0})) → gathered ≡ Some gather_end.Stopped → new.why ≡ Some ByTaker
+    → TakesIf CountsProduct gathered k old new → HasStopped new.hands.taker
+took_why None k old new is why takes = absurd (cc is)
+took_why (Some (gather_end.Received e)) k old new is why takes = absurd (cc is)
+took_why (Some gather_end.Enough) k old new is why takes = absurd (cc is)
+took_why (Some gather_end.Stopped) k old new is why takes = by_why takes.ends.0 takes.ends.1 takes.ends.2
   where
     by_why : (stop : EachStop) → new.why ≡ Some stop → TakesLast CountsProduct stop takes.in_hand takes.mid new.hands → HasStopped new.hands.taker
     by_why ByTaker same last = last_why takes.in_hand takes.mid new.hands last
     by_why LogFault same last = absurd (cc (same, why))
     by_why Worn same last = absurd (cc (same, why))
 
-pub stop_known : (asking : Asking) (old new : Situation Counter (Unit {0})) → GathersEach CountsProduct (each_end.Stopped ByTaker) asking old new → HasStopped new.hands.taker
-stop_known asking old new (inl none) = absurd (cc none.0)
-stop_known asking old new (inr opens) = by_asks opens.asks
-  where
-    by_asks : Asks CountsProduct (each_end.Stopped ByTaker) (each_at asking opens.k old.hands.taker) opens.first old new → HasStopped new.hands.taker
-    by_asks (inl not) = absurd (cc not.is)
-    by_asks (inr reaches) =
-        let holds = reaches.holds in
-        subst (λ (c : Counter). HasStopped c) (sym holds.taker)
-        (took_why holds.gathered _ _ (stage_in holds.left new) holds.is_end.0 holds.is_end.1 holds.took)
+pub stop_known : (order : OrderView) (name : List ℕ) (old new : Situation Counter (Unit {0})) → GathersEach CountsProduct (each_end.Stopped ByTaker) order name old new
+    → HasStopped new.hands.taker
+stop_known order name old new (inl none) = absurd (cc none.is)
+stop_known order name old new (inr makes) =
+    let all = makes.collects in
+    subst (λ (c : Counter). HasStopped c) (sym all.taker)
+    (took_why all.gathered makes.k _ (stage_in all.left all.last new) all.is_end.0 all.is_end.1 all.took)

@@ -1,7 +1,7 @@
 -- What counting a product does.
 use Rattle.std.specs.Prelude.{◌≡◌, ◌<◌, ◌≤◌, ◌^◌, List, [], ◌∷◌, ◌++◌, Some}
 use Rattle.ldm_gather.specs.declared.taker.Taken.{Taken}
-use Rattle.ldm_gather.specs.declared.taker.Taken.TheVariants.{On, Stopped}
+use Rattle.ldm_gather.specs.declared.taker.Taken.TheVariants.{On, Stopped, Worn}
 use Rattle.ldm_gather.specs.Givens.{Given}
 use Rattle.ldm_gather.specs.Taking.{Hands}
 use Rattle.ldm_stats.specs.Joining.{count_of}
@@ -30,3 +30,4 @@ StopCause OutOfMemory stats = Unit {0}
 abbrev pub CountsProduct : Taken → Given → Hands Counter (Unit {0}) → Hands Counter (Unit {0}) → Type 0
 CountsProduct On given old new = Adds (counted_of given) old.taker.stats new.taker.stats × (new.taker.why ≡ old.taker.why)
 CountsProduct Stopped given old new = (why : CountStop) × (new.taker ≡ record old.taker { why = Some why }) × StopCause why old.taker.stats
+CountsProduct Worn given old new = ⊥

@@ -4,11 +4,11 @@ use Rattle.ldm_outside.specs.Clock.{ClockRecord}
 use Rattle.ldm_outside.specs.Dial.{Asked, DialRecord}
 use Rattle.ldm_outside.specs.Io.{SinkRecord}
 use Rattle.ldm_intake.specs.declared.end.RecvEnd.TheVariants as recv_end
-use Rattle.ldm_gather.specs.declared.asking.Asking.{Asking}
 use Rattle.ldm_gather.specs.declared.each_end.EachEnd.{EachEnd}
 use Rattle.ldm_gather.specs.declared.each_end.EachEnd.TheVariants.{Received, Enough, Stopped}
 use Rattle.ldm_gather.specs.declared.taker.EachStop.TheVariants as each_stop
 use Rattle.ldm_gather.specs.EachRuns.{GathersEach, given_by, situation_of}
+use Rattle.ldm_gather.specs.Orders.{OrderView, usual_order}
 use Rattle.ldm_gather.specs.Taking.{hands_of}
 use Rattle.ldm_stats.specs.Table.{StandsFor, Table}
 use Rattle.ldm_pqstats.specs.declared.asked.StatsAsked.{StatsAsked}
@@ -104,13 +104,9 @@ IfTold _ P = Unit {0}
 
 -- ---- all of it
 
--- What the gathering is asked for.
-pub record IsAsking (asked : StatsAsked) (asking : Asking) : Type 0 where
-  pub host : asking.host.now ≡ asked.host.now
-  pub port : asking.port ≡ asked.port
-  pub class : asking.class.now ≡ asked.class.now
-  pub count : asking.count ≡ asked.count
-  pub name : asking.name.now ≡ codes "pqstats"
+-- what the gathering is asked for
+abbrev pub order_of : StatsAsked → OrderView
+order_of asked = usual_order (record { host = asked.host.now; port = asked.port }) asked.class.now asked.count
 
 -- the counter before the first product
 abbrev pub counter_at : Table → Counter
@@ -122,9 +118,7 @@ pub record Counts (gathered : EachEnd) (counter : Counter) (asked : StatsAsked) 
   pub table : Table
   pub empty : StandsFor table []
   pub window : table.window ≡ asked.hours
-  pub asking : Asking
-  pub is_asking : IsAsking asked asking
-  pub gathers : GathersEach CountsProduct gathered asking (situation_of (hands_of (counter_at table) tt) old.net old.log old.clock)
+  pub gathers : GathersEach CountsProduct gathered (order_of asked) (codes "pqstats") (situation_of (hands_of (counter_at table) tt) old.net old.log old.clock)
       (situation_of (hands_of counter tt) new.net new.log new.clock)
   pub stands : IfTold gathered (StandsFor counter.stats (map counted_of (given_by CountsProduct gathers)))
   pub hours : IfTold gathered (counter.stats.window ≡ asked.hours)

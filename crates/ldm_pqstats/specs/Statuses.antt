@@ -1,11 +1,10 @@
 -- The statuses of the ends of `pqstats`.
 use Rattle.std.specs.Prelude.{◌≡◌, ℕ, Option, Some, None, true, false}
 use Rattle.ldm_outside.specs.Io.{SinkRecord}
-use Rattle.ldm_intake.specs.declared.end.RecvEnd.{RecvEnd}
-use Rattle.ldm_intake.specs.declared.end.RecvEnd.TheVariants as recv_end
 use Rattle.ldm_gather.specs.declared.each_end.EachEnd.{EachEnd}
 use Rattle.ldm_gather.specs.declared.each_end.EachEnd.TheVariants as each_end
 use Rattle.ldm_gather.specs.declared.taker.EachStop.TheVariants as each_stop
+use Rattle.ldm_gather.specs.Statuses.{status_of_queue, status_of_receiving}
 use Rattle.ldm_status.specs.declared.status.Status.{Status}
 use Rattle.ldm_status.specs.declared.status.Status.TheVariants as status
 use Rattle.ldm_status.specs.declared.status.TheConstants.{LOG_FAULT}
@@ -22,22 +21,11 @@ use Rattle.ldm_pqstats.specs.declared.end.StatsEnd.TheVariants.{Gathered, NotCou
 
 -- ---- there is none where the log failed
 
-abbrev pub receive_status : RecvEnd → Option Status
-receive_status recv_end.Ended = Some status.Done
-receive_status (recv_end.Truncated at) = Some (status.BadFrame at)
-receive_status (recv_end.BadFrame at) = Some (status.BadFrame at)
-receive_status (recv_end.Refused answer) = Some status.Denied
-receive_status recv_end.LinkFault = Some status.NetFault
-receive_status recv_end.LogFault = None
-receive_status recv_end.StreamLimit = Some status.StreamLimit
-receive_status recv_end.Worn = Some status.Worn
-receive_status recv_end.OutOfMemory = Some status.NoMemory
-
 -- a counter that stopped has an end of its own
 abbrev pub each_status : EachEnd → Option Status
-each_status each_end.NoMemory = Some status.NoMemory
+each_status (each_end.NotMade fault) = Some (status_of_queue fault)
 each_status each_end.Unreached = Some status.NetFault
-each_status (each_end.Received end) = receive_status end
+each_status (each_end.Received end) = status_of_receiving end
 each_status each_end.Enough = Some status.Done
 each_status (each_end.Stopped each_stop.ByTaker) = Some status.NoMemory
 each_status (each_end.Stopped each_stop.LogFault) = None

@@ -12,7 +12,7 @@ use crate::counter::{CountStop, Counter};
 use crate::end::{StatsEnd, report};
 use crate::report::write_report;
 use crate::sending::send_hours;
-use ldm_gather::{Asking, Collected, EachEnd, EachStop, gather_each};
+use ldm_gather::{ARENA, Asking, Collected, EachEnd, EachStop, Order, SLOTS, gather_each};
 use ldm_intake::RecvEnd;
 use ldm_outside::{Clock, Dial, Reasons, Sink};
 use ldm_stats::Stats;
@@ -54,11 +54,16 @@ pub fn pqstats<H: Wait, N: Dial + Reasons, K: Sink, E: Sink, C: Clock>(
     let Some(stats) = Stats::create(alloc, asked.hours) else {
         unreachable!()
     };
-    let asking = Asking {
+    let order = Order {
         host: asked.host,
         port: asked.port,
         class: asked.class,
         count: asked.count,
+        arena: ARENA,
+        slots: SLOTS,
+    };
+    let asking = Asking {
+        order,
         name: b"pqstats",
     };
     let counter = Counter::create(stats);

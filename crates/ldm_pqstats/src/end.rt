@@ -1,12 +1,11 @@
 //! How `pqstats` ends.
 ghost use Rattle.std.specs.Prelude.{◌≡◌, ◌≤◌};
 ghost use Rattle.ldm_outside.specs.Reason.{IsReason};
-ghost use Rattle.ldm_pqstats.specs.Statuses.{ReportsIf, count_status, each_status, receive_status, report_status};
+ghost use Rattle.ldm_pqstats.specs.Statuses.{ReportsIf, count_status, each_status, report_status};
 ghost use Rattle.ldm_pqstats.specs.Statuses.{send_status, status_of};
 
 use crate::counter::CountStop;
-use ldm_gather::{EachEnd, EachStop};
-use ldm_intake::RecvEnd;
+use ldm_gather::{EachEnd, EachStop, status_of_queue, status_of_receiving};
 use ldm_outside::Sink;
 use ldm_status::{LOG_FAULT, Status};
 use ldm_tools::{PutFault, status_of_put_fault};
@@ -50,30 +49,14 @@ pub enum StatsEnd {
     NotSent(SendFault),
 }
 
-fn receive_status(end: RecvEnd) -> Option<Status>
-    ensures { result ≡ receive_status end }
-{
-    match end {
-        RecvEnd::Ended => Some(Status::Done),
-        RecvEnd::Truncated { at } => Some(Status::BadFrame { at }),
-        RecvEnd::BadFrame { at } => Some(Status::BadFrame { at }),
-        RecvEnd::Refused { .. } => Some(Status::Denied),
-        RecvEnd::LinkFault => Some(Status::NetFault),
-        RecvEnd::LogFault => None,
-        RecvEnd::StreamLimit => Some(Status::StreamLimit),
-        RecvEnd::Worn => Some(Status::Worn),
-        RecvEnd::OutOfMemory => Some(Status::NoMemory),
-    }
-}
-
 // A counter that stopped has an end of its own.
 fn each_status(end: EachEnd) -> Option<Status>
     ensures { result ≡ each_status end }
 {
     match end {
-        EachEnd::NoMemory => Some(Status::NoMemory),
+        EachEnd::NotMade(fault) => Some(status_of_queue(fault)),
         EachEnd::Unreached => Some(Status::NetFault),
-        EachEnd::Received(end) => receive_status(end),
+        EachEnd::Received(end) => status_of_receiving(end),
         EachEnd::Enough => Some(Status::Done),
         EachEnd::Stopped(EachStop::ByTaker) => Some(Status::NoMemory),
         EachEnd::Stopped(EachStop::LogFault) => None,

@@ -38,7 +38,7 @@ use Rattle.ldm_pqact_match.specs.declared.chosen.TheConstants as chosen
 use Rattle.ldm_chain.specs.declared.setup.TheConstants as chains
 use Rattle.ldm_actions.specs.declared.limits.TheConstants as actions
 use Rattle.ldm_pqact.specs.declared.limits.TheConstants as acting
-use Rattle.ldm_pqact_command.specs.declared.limits.TheConstants as acts
+use Rattle.ldm_gather.specs.declared.limits.TheConstants as gathers
 use Rattle.ldm_pqcat.specs.declared.limits.TheConstants as cats
 use Rattle.ldm_pqinsert.specs.declared.limits.TheConstants as inserts
 use Rattle.ldm_status.specs.declared.status.TheConstants as log
@@ -122,16 +122,12 @@ pub record CommandLimits : Type 0 where
   pub most_open_programs : actions.MOST_PIPED ≡ 32
   pub largest_piece_of_pqact : acting.LARGEST_PIECE ≡ 65536
   pub feedtypes_of_pqact : acting.EVERY_FEEDTYPE ≡ 4294967295
-  pub pqact_arena : acts.ARENA ≡ 67108864
-  pub pqact_slots : acts.SLOTS ≡ 16384
-  pub pqact_passes : acts.PASSES ≡ 1
-  pub pqact_hereis : acts.LARGEST_HEREIS ≡ 16384
-  pub pqcat_arena : cats.ARENA ≡ 67108864
-  pub pqcat_slots : cats.SLOTS ≡ 16384
-  pub pqcat_passes : cats.PASSES ≡ 1
-  pub pqcat_hereis : cats.LARGEST_HEREIS ≡ 16384
+  pub tool_arena : gathers.ARENA ≡ 67108864
+  pub tool_slots : gathers.SLOTS ≡ 16384
+  pub tool_passes : gathers.PASSES ≡ 1
+  pub tool_hereis : gathers.LARGEST_HEREIS ≡ 16384
+  pub tool_feedtypes : gathers.EVERY_FEEDTYPE ≡ 4294967295
   pub pqcat_piece : cats.LARGEST_PIECE ≡ 16384
-  pub pqcat_feedtypes : cats.EVERY_FEEDTYPE ≡ 4294967295
   pub largest_file : inserts.LARGEST_FILE ≡ 1073741824
 
 -- The statuses that the program ends with.

@@ -14,8 +14,9 @@ returns-clause-ends g c =
       counter = collected.taker;
       mid = mid;
       counts =
-          counts_of c.args.asked.now _ c.in-Some.stats collected.end c.create-counter.result collected.taker old mid c.gather_each-collected.ensures.ends c.create-counter.ensures
-          c.in-Some.ensures.empty c.in-Some.ensures.window (record { host = refl; port = refl; class = refl; count = refl; name = refl }) refl;
+          counts_of c.args.asked.now c.in-Some.stats collected.end c.create-counter.result collected.taker old mid
+          c.gather_each-collected.ensures.ends c.create-counter.ensures
+          c.in-Some.ensures.empty c.in-Some.ensures.window refl;
       kept = (let stand = c.gather_each-collected.ensures.counts_kept in record { net = stand.net; ended = stand.ended; failed = stand.failed; sink = omega arith; log = stand.log });
       ending = c.tell-end.result;
       tells = c.tell-end.ensures.tells;

@@ -83,16 +83,12 @@ returns-clause-commands c = record {
   most_open_programs = refl;
   largest_piece_of_pqact = refl;
   feedtypes_of_pqact = refl;
-  pqact_arena = refl;
-  pqact_slots = refl;
-  pqact_passes = refl;
-  pqact_hereis = refl;
-  pqcat_arena = refl;
-  pqcat_slots = refl;
-  pqcat_passes = refl;
-  pqcat_hereis = refl;
+  tool_arena = refl;
+  tool_slots = refl;
+  tool_passes = refl;
+  tool_hereis = refl;
+  tool_feedtypes = refl;
   pqcat_piece = refl;
-  pqcat_feedtypes = refl;
   largest_file = refl;
 }
 

@@ -1,7 +1,0 @@
-use Rattle.ldm_pqact_command.proofs.Opened.{no-busy}
-use Rattle.ldm_pqact_command.proofs.command.open.Goals as goal
-
-pub unreachable-requires : goal.unreachable-requires
-unreachable-requires g c =
-    let at = rw c.in-Done-AllBusy.field-0-is at c.in-Done-AllBusy.ensures in
-    no-busy c.one_pass.ensures.since_opening c.args.shared.now c.args.pass.now c.open.new.pass c.requires.first c.requires.alone at.done
