@@ -1074,6 +1074,32 @@ def asks_for_figures(place):
         expect(ran, (69, b"", told), f"{words[0]} where nobody listens")
 
 
+def asks_again_and_again(place):
+    """`pqmon -i` writes a line, rests, and asks again, until it is stopped or the node is gone."""
+    node = place.node(OPEN)
+    node.put_all([P])
+    first = Stat(1, 1, 0, P.extent(), ARENA - P.extent()).line().encode()
+    begun = time.monotonic()
+    programs = [place.start("pqmon", "-i", seconds, "-q", node.at) for seconds in (1, 2**32 - 1)]
+    watch, other = programs
+    for program in programs:
+        until(lambda: program.paths[0].read_bytes().startswith(first), "the first line")
+    second = Product(b"second", b"body")
+    node.put_all([second])
+    used = P.extent() + second.extent()
+    later = Stat(2, 2, 0, used, ARENA - used).line().encode()
+    until(lambda: watch.paths[0].read_bytes().endswith(later), "a line of the second product")
+    if time.monotonic() - begun < 1:
+        raise Wrong("another line came within a second")
+    expect(watch.poll(), None, "pqmon between two lines")
+    node.stop()
+    ran = place.end(watch)
+    told = f"ldm: {node.at}: Connection refused\nldm: net fault\n".encode()
+    expect((ran.status, ran.log), (69, told), "pqmon whose node is gone")
+    expect(ran.output, first * ran.output.count(first) + later * ran.output.count(later), "its lines")
+    expect((other.poll(), other.paths[0].read_bytes()), (None, first), "pqmon that rests")
+
+
 def hears_wrong_replies(place):
     """A tool that is answered by anything but its reply, or whose peer goes, tells the place."""
     answers = [
@@ -1394,6 +1420,11 @@ def writes_notices(place):
         f"notice {p.arrival} {p.signature.hex()} 0x00000008 {p.seqno} 100%25 a%20b {len(p.body)}\n".encode() for p in products
     ]
     expect(place.run("notifyme", "-q", node.at, "-c", 3), (0, b"".join(lines), b""), "notifyme")
+    lines = [
+        f"notice 2023-11-14T22:13:20.{p.arrival % 1_000_000:06}Z {p.signature.hex()} IDS {p.seqno} 100%25 a%20b {len(p.body)}\n".encode()
+        for p in products
+    ]
+    expect(place.run("notifyme", "-t", "-q", node.at, "-c", 3), (0, b"".join(lines), b""), "notifyme -t")
     last = f"notice 100 {hashlib.md5(b'-').hexdigest()} 0x00000008 0 h %2D 1\n".encode()
     expect(place.run("notifyme", "-q", node.at, "-f", "IDS|HDS", "-p", "-", "-c", 1), (0, last, b""), "notifyme -p")
     expect(place.run("notifyme", "-q", node.at, "-f", "HDS"), (78, b"", b"ldm: denied\n"), "notifyme of what nobody may have")
@@ -1781,11 +1812,16 @@ def does_not_begin(place):
         ["node", "-z", "good"],
         ["node", "--help"],
         ["pqmon", "x"],
+        ["pqmon", "-i", 0],
+        ["pqmon", "-i", 2**32],
+        ["pqmon", "-i"],
         ["pqmon", "-q", HOST],
         ["pqmon", "-q", f"{HOST}:0"],
         ["pqmon", "-q", f":{port}"],
         ["pqmon", "-q", f"{'h' * 256}:{port}"],
         ["pqcat", "-c", 0],
+        ["pqcat", "-a", 2**64],
+        ["pqcat", "-S", 2**32],
         ["pqcat", "-c", 2**64],
         ["pqcat", "-f", "FOO"],
         ["pqcat", "-p", "("],
@@ -1814,6 +1850,7 @@ def does_not_begin(place):
         ["pqinsert", "x" * 256],
         ["pqact", "good"],
         ["pqact", "good", HOST],
+        ["pqact", "-S", "8k", "good", f"{HOST}:{port}"],
         ["pqact", "-c", 0, "good", f"{HOST}:{port}"],
         ["Node", "good"],
     ]
@@ -1951,6 +1988,7 @@ CASES = [
     bears_a_slow_peer,
     tells_of_losses,
     asks_for_figures,
+    asks_again_and_again,
     hears_wrong_replies,
     hears_wrong_streams,
     tells_what_cannot_be_written,

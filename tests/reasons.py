@@ -51,6 +51,9 @@ CONF = {
     "no pipe": "IDS\t^SAUS\tPIPE\tno-such-program\n",
     "no program": "IDS\t^SAUS\tEXEC\t./no-right\n",
     "no reader": "IDS\t^big\tPIPE\ttrue\n",
+    "every.conf": f"{OPEN}ALOW ANY .*\nALLOW IDS ^.*[.]edu$\nINCLUDE some.conf\nINCLUDE gone.conf\nREQUEST ANY ( host:388\n",
+    "some.conf": "ALLOW ANY .*\nEXEC\n",
+    "every": "\tFILE\tdata\nIDS\t^S\tFILE\n\tdata/(\\1:dd)\nHDS\t^(.*)\tPIPE\t-flush\n\tdecoder \\1\nHDS\t^(.*)\tFILE\tdata/\\1\nANY\t_ELSE_\tNOP\n",
 }
 
 PATH_OF_100 = "p" * 100
@@ -75,6 +78,9 @@ def usage(place):
         (["pqcat", "-p", "("], "pqcat: -p: ( is no pattern"),
         (["pqinsert", "-p", "i" * 256, "good"], f"pqinsert: -p: {'i' * 80} is no ident"),
         (["pqcat", "-c", 0], "pqcat: -c: 0 is no count of at least 1"),
+        (["pqcat", "-a", "64M"], "pqcat: -a: 64M is no number"),
+        (["pqact", "-S", 2**32], "pqact: -S: 4294967296 is no number below 4294967296"),
+        (["pqmon", "-i", 0], "pqmon: -i: 0 is no number from 1 to 4294967295"),
         (["pqcat", "x\ty"], "pqcat: x?y: one word too many"),
         (["notifyme", "-q", HOST], f"notifyme: -q: {HOST} is no HOST:PORT"),
         (["notifyme", "-c"], "notifyme: -c: has no value"),
@@ -91,6 +97,8 @@ def usage(place):
         (["save", "queue", 168], "save: no number of slots is named"),
         (["resume"], "resume: no file is named"),
         (["pqcheck", "queue", "more"], "pqcheck: more: one word too many"),
+        (["check"], "check: no file is named"),
+        (["check", "-q", "good"], "check: -q: no such option"),
         # these have no more than their status line
         (["play", "1K", 10], None),
         (["crowd", 168], None),
@@ -133,6 +141,26 @@ def configurations(place):
     ]
     for words, why, kind in cases:
         expect(place.run(*words), (65, b"", lines(why, f"bad {kind}")), f"{words}")
+
+
+def every_fault(place):
+    """All that is wrong with files, by `check`."""
+    fields = "too few words, too many, or one of a wrong form"
+    expect(place.run("check", "good"), (0, b"", b""), "a good file")
+    expect(place.run("check", "every.conf", "gone", "long", "-p", "every", "-p", "folder"), (65, (
+        "every.conf:3: no such keyword: ALOW ANY .*\n"
+        f"some.conf:2: {fields}: EXEC\n"
+        "every.conf:6: the file cannot be read: INCLUDE gone.conf\n"
+        "every.conf:7: a pattern that does not read: REQUEST ANY ( host:388\n"
+        "gone: No such file or directory\n"
+        "long: the file is too long\n"
+        "every:1: too few fields, too many, or one of a wrong form: ?FILE?data\n"
+        "every:7: no such action: ANY?_ELSE_?NOP\n"
+        "folder: Is a directory\n"
+        "every.conf:4: warning: the host pattern has letters of a name, and hosts are known by their addresses\n"
+        "every:6: warning: a group of the pattern stands in the path, and may hold a slash or two dots\n"
+    ).encode(), b""), "all faults")
+    expect(place.run("check", "keyword.conf", output=FULL), (75, b"", b"ldm: sink fault\n"), "a full disk")
 
 
 def files_and_programs(place):
@@ -239,7 +267,7 @@ def with_files(case):
 def main():
     if sys.argv[1:]:
         nodes.PROGRAM = pathlib.Path(sys.argv[1]).resolve()
-    cases = [usage, configurations, files_and_programs, actions, images, hosts_and_ports]
+    cases = [usage, configurations, every_fault, files_and_programs, actions, images, hosts_and_ports]
     sys.exit(not all([try_case(with_files(case)) for case in cases]))
 
 

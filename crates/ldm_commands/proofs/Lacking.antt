@@ -33,10 +33,11 @@ module _ {K F L T : Type 0} (tells : Tells K F L T) (old new : WorldView K F L T
   lacking_completes (Some (form.Save save)) code reports = λ free works. inr (is_71 code reports free.log_works)
   lacking_completes (Some (form.Resume file)) code reports = λ free. inr (is_71 code reports free.log_works)
   lacking_completes (Some (form.Pqcheck file)) code reports = λ free. inr (is_71 code reports free.log_works)
+  lacking_completes (Some (form.Check check)) code reports = tt {0}
   lacking_completes (Some (form.Pqact act)) code reports = tt {0}
   lacking_completes (Some (form.Pqinsert insert)) code reports = tt {0}
-  lacking_completes (Some (form.Pqcat receiving)) code reports = tt {0}
-  lacking_completes (Some (form.Notifyme receiving)) code reports = tt {0}
-  lacking_completes (Some (form.Pqmon peer)) code reports = tt {0}
+  lacking_completes (Some (form.Pqcat cat)) code reports = tt {0}
+  lacking_completes (Some (form.Notifyme notices)) code reports = tt {0}
+  lacking_completes (Some (form.Pqmon mon)) code reports = tt {0}
   lacking_completes (Some (form.Wmo wmo)) code reports = tt {0}
   lacking_completes (Some (form.Pqstats stats)) code reports = tt {0}

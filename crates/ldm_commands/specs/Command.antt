@@ -1,9 +1,9 @@
 -- The words of the program: which command they ask for.
 use Rattle.std.specs.Prelude.{ℕ, ◌-◌, ◌^◌, ◌||◌, Bool, false, List, [], ◌∷◌, codes, bytes_eq, Option, Some, None, option_map, if◌then◌else◌}
-use Rattle.ldm_conf.specs.Addresses.{Address}
 use Rattle.ldm_script.specs.Number.{number_up_to}
-use Rattle.ldm_words.specs.Forms.{ActForm, ChainForm, InsertForm, NodeForm, ReceivingForm, SaveForm, StatsForm, WmoForm}
-use Rattle.ldm_words.specs.Forms.{act_form, chain_form, file_form, insert_form, node_form, pqmon_form, receiving_form, save_form, stats_form, wmo_form}
+use Rattle.ldm_words.specs.Checking.{CheckForm, check_form}
+use Rattle.ldm_words.specs.Forms.{ActForm, CatForm, ChainForm, InsertForm, MonForm, NodeForm, NoticesForm, SaveForm, StatsForm, WmoForm}
+use Rattle.ldm_words.specs.Forms.{act_form, cat_form, chain_form, file_form, insert_form, mon_form, node_form, notices_form, save_form, stats_form, wmo_form}
 
 -- What the words of the program ask for.
 pub data Form : Type 0 where
@@ -22,11 +22,11 @@ pub data Form : Type 0 where
   -- to put files into the queue of a node
   Pqinsert : (insert : InsertForm) → Form
   -- to write the bodies of the products of a node
-  Pqcat : (receiving : ReceivingForm) → Form
+  Pqcat : (cat : CatForm) → Form
   -- to write a line for each product of a node
-  Notifyme : (receiving : ReceivingForm) → Form
-  -- to write the figures of a node's queue
-  Pqmon : (peer : Address) → Form
+  Notifyme : (notices : NoticesForm) → Form
+  -- to write the figures of a node's queue, once or again and again
+  Pqmon : (mon : MonForm) → Form
   -- to put the bulletins of a stream into the queue of a node
   Wmo : (wmo : WmoForm) → Form
   -- to write how much of the products of a node came in each hour
@@ -37,6 +37,8 @@ pub data Form : Type 0 where
   Resume : (file : List ℕ) → Form
   -- to write the figures of the queue in a file
   Pqcheck : (file : List ℕ) → Form
+  -- to write what is wrong with configuration files
+  Check : (check : CheckForm) → Form
 
 -- a play, where both numbers could be read
 abbrev pub play_with : Option ℕ → Option ℕ → Option Form
@@ -69,17 +71,18 @@ abbrev pub exercise_of : List (List ℕ) → Option Form
 exercise_of (number ∷ count ∷ []) = exercise_with (number_up_to (2 ^ 64 - 1) number) (number_up_to 1000000 count)
 exercise_of _ = None
 
--- The command of a first word that is about the queue in a file, with the words behind it.
+-- The command of a first word that is about files, and not about a node, with the words behind it.
 abbrev pub with_file : List ℕ → List (List ℕ) → Option Form
 with_file first others =
     if bytes_eq first (codes "save") then option_map Save (save_form others)
     else if bytes_eq first (codes "resume") then option_map Resume (file_form others)
     else if bytes_eq first (codes "pqcheck") then option_map Pqcheck (file_form others)
+    else if bytes_eq first (codes "check") then option_map Check (check_form others)
     else None
 
 -- whether a first word is that of such a command
 abbrev pub has_file : List ℕ → Bool
-has_file first = bytes_eq first (codes "save") || (bytes_eq first (codes "resume") || bytes_eq first (codes "pqcheck"))
+has_file first = bytes_eq first (codes "save") || (bytes_eq first (codes "resume") || (bytes_eq first (codes "pqcheck") || bytes_eq first (codes "check")))
 
 -- The command of a first word whose words are read as options and words of a command line, with the words behind it.
 abbrev pub with_options : List ℕ → List (List ℕ) → Option Form
@@ -87,9 +90,9 @@ with_options first others =
     if bytes_eq first (codes "node") then option_map Node (node_form others)
     else if bytes_eq first (codes "pqact") then option_map Pqact (act_form others)
     else if bytes_eq first (codes "pqinsert") then option_map Pqinsert (insert_form others)
-    else if bytes_eq first (codes "pqcat") then option_map Pqcat (receiving_form others)
-    else if bytes_eq first (codes "notifyme") then option_map Notifyme (receiving_form others)
-    else if bytes_eq first (codes "pqmon") then option_map Pqmon (pqmon_form others)
+    else if bytes_eq first (codes "pqcat") then option_map Pqcat (cat_form others)
+    else if bytes_eq first (codes "notifyme") then option_map Notifyme (notices_form others)
+    else if bytes_eq first (codes "pqmon") then option_map Pqmon (mon_form others)
     else if bytes_eq first (codes "wmo") then option_map Wmo (wmo_form others)
     else if bytes_eq first (codes "pqstats") then option_map Pqstats (stats_form others)
     else with_file first others

@@ -24,11 +24,13 @@ module _ {K F L T : Type 0} (tells : Tells K F L T) where
   RunCompletes (Some (form.Save save)) code old new = SaveCompletes (size_of save) code (saving_of tells old) (saving_of tells new)
   RunCompletes (Some (form.Resume file)) code old new = ResumeCompletes code (saving_of tells old) (saving_of tells new)
   RunCompletes (Some (form.Pqcheck file)) code old new = CheckCompletes code (check_of tells old) (check_of tells new)
+  -- when a `check` writes all stands with how it ends
+  RunCompletes (Some (form.Check check)) code old new = Unit {0}
   -- when a tool does all stands with how it ends
   RunCompletes (Some (form.Pqact act)) code old new = Unit {0}
   RunCompletes (Some (form.Pqinsert insert)) code old new = Unit {0}
-  RunCompletes (Some (form.Pqcat receiving)) code old new = Unit {0}
-  RunCompletes (Some (form.Notifyme receiving)) code old new = Unit {0}
-  RunCompletes (Some (form.Pqmon peer)) code old new = Unit {0}
+  RunCompletes (Some (form.Pqcat cat)) code old new = Unit {0}
+  RunCompletes (Some (form.Notifyme notices)) code old new = Unit {0}
+  RunCompletes (Some (form.Pqmon mon)) code old new = Unit {0}
   RunCompletes (Some (form.Wmo wmo)) code old new = Unit {0}
   RunCompletes (Some (form.Pqstats stats)) code old new = Unit {0}

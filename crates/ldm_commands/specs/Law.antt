@@ -26,12 +26,14 @@ module _ {K F L T : Type 0} (tells : Tells K F L T) where
   DoesLawful (form.Resume file) code old new = ObeysResumeLaw (saving_of tells old) (saving_of tells new)
   -- this writes the figures of a queue, on which it calls nothing else
   DoesLawful (form.Pqcheck file) code old new = Unit {0}
+  -- this has no queue
+  DoesLawful (form.Check check) code old new = Unit {0}
   -- these write what another node answers, or nothing
   DoesLawful (form.Pqact act) code old new = Unit {0}
   DoesLawful (form.Pqinsert insert) code old new = Unit {0}
-  DoesLawful (form.Pqcat receiving) code old new = Unit {0}
-  DoesLawful (form.Notifyme receiving) code old new = Unit {0}
-  DoesLawful (form.Pqmon peer) code old new = Unit {0}
+  DoesLawful (form.Pqcat cat) code old new = Unit {0}
+  DoesLawful (form.Notifyme notices) code old new = Unit {0}
+  DoesLawful (form.Pqmon mon) code old new = Unit {0}
   DoesLawful (form.Wmo wmo) code old new = Unit {0}
   DoesLawful (form.Pqstats stats) code old new = Unit {0}
 

@@ -1,23 +1,28 @@
 -- What each command is told by the form of its words, and what it is lent of a world.
-use Rattle.std.specs.Prelude.{◌≡◌}
+use Rattle.std.specs.Prelude.{◌≡◌, Bool, true, false}
 use Rattle.ldm_outside.specs.Dial.{Asked}
 use Rattle.ldm_conf.specs.Addresses.{Address}
 use Rattle.ldm_chain.specs.Work.{ChainOutside, ChainWork}
+use Rattle.ldm_check.specs.Runs as files
 use Rattle.ldm_node_command.specs.Outside as node_command
 use Rattle.ldm_node_command.specs.Setup.{Setup}
 use Rattle.ldm_notifyme.specs.Notifyme.{Wanted}
-use Rattle.ldm_pqact_command.specs.PqactRuns.{Order, PqactLent, pqact_lent}
+use Rattle.ldm_gather.specs.Orders.{OrderView}
+use Rattle.ldm_pqact_command.specs.PqactRuns.{PqactLent, pqact_lent}
 use Rattle.ldm_pqcat.specs.Cats.{CatLent, cat_lent}
 use Rattle.ldm_pqinsert.specs.Inserting.{Inserting}
 use Rattle.ldm_pqinsert.specs.Inserts.{InsertRecord}
 use Rattle.ldm_play.specs.Ending.{Size}
 use Rattle.ldm_saving.specs.Outside as saving
+use Rattle.ldm_pqmon.specs.Every as pqmon
 use Rattle.ldm_tools.specs.Mon.{MonRecord}
 use Rattle.ldm_pqstats.specs.Runs as pqstats
 use Rattle.ldm_pqstats.specs.declared.asked.StatsAsked.{StatsAsked}
+use Rattle.ldm_watch.specs.declared.form.NoticeForm.{NoticeForm}
+use Rattle.ldm_watch.specs.declared.form.NoticeForm.TheVariants.{Numbers, Names}
 use Rattle.ldm_wmo_command.specs.Ingesting.{Ingesting}
 use Rattle.ldm_wmo_command.specs.Moments as wmo_command
-use Rattle.ldm_words.specs.Forms.{ActForm, ChainForm, InsertForm, NodeForm, ReceivingForm, SaveForm, StatsForm, WmoForm}
+use Rattle.ldm_words.specs.Forms.{ActForm, CatForm, ChainForm, InsertForm, NodeForm, NoticesForm, SaveForm, StatsForm, WmoForm}
 use Rattle.ldm_commands.specs.World.{Tells, WorldView, streams_of}
 
 -- ---- what it is told
@@ -25,8 +30,16 @@ use Rattle.ldm_commands.specs.World.{Tells, WorldView, streams_of}
 abbrev pub asked_of : Address → Asked
 asked_of peer = record { host = peer.host; port = peer.port }
 
-abbrev pub wanted_of : ReceivingForm → Wanted
-wanted_of receiving = record { peer = asked_of receiving.peer; class = receiving.class; count = receiving.count }
+-- how the lines of notices are written: for people, or as numbers
+abbrev pub form_of : Bool → NoticeForm
+form_of true = Names
+form_of false = Numbers
+
+abbrev pub wanted_of : NoticesForm → Wanted
+wanted_of notices = record {
+  peer = asked_of notices.peer;
+  sought = record { class = notices.class; count = notices.count; form = form_of notices.text };
+}
 
 abbrev pub inserting_of : InsertForm → Inserting
 inserting_of insert = record {
@@ -63,8 +76,13 @@ work_of chain = record {
   classes = chain.classes;
 }
 
-abbrev pub order_by : ActForm → Order
-order_by act = record { peer = asked_of act.peer; class = act.class; count = act.count }
+abbrev pub order_by : ActForm → OrderView
+order_by act =
+    record { peer = asked_of act.peer; class = act.class; count = act.count; arena = act.arena; slots = act.slots }
+
+abbrev pub order_of : CatForm → OrderView
+order_of cat =
+    record { peer = asked_of cat.peer; class = cat.class; count = cat.count; arena = cat.arena; slots = cat.slots }
 
 abbrev pub setup_of : NodeForm → Setup
 setup_of node = record {
@@ -93,6 +111,9 @@ module _ {K F L T : Type 0} (tells : Tells K F L T) where
   abbrev pub mon_of : WorldView K F L T → MonRecord
   mon_of world = record { net = world.net; sink = tells.sink world.sink; log = world.log }
 
+  abbrev pub every_of : WorldView K F L T → pqmon.Moment
+  every_of world = pqmon.moment_of (mon_of world) world.clock
+
   abbrev pub insert_of : WorldView K F L T → InsertRecord
   insert_of world = record {
     outside = record { store = tells.store world.store; net = world.net; sink = tells.sink world.sink; clock = world.clock };
@@ -107,6 +128,9 @@ module _ {K F L T : Type 0} (tells : Tells K F L T) where
 
   abbrev pub check_of : WorldView K F L T → saving.CheckRecord
   check_of world = saving.check_tells (tells.sink world.sink) world.log world.disk
+
+  abbrev pub files_of : WorldView K F L T → files.CheckOutside
+  files_of world = files.check_tells (tells.store world.store) (tells.sink world.sink) world.log
 
   abbrev pub ingest_of : WorldView K F L T → wmo_command.Outside
   ingest_of world = record { streams = streams_of tells world; net = world.net; clock = world.clock }

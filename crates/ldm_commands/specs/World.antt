@@ -91,6 +91,10 @@ module _ {K F L T : Type 0} where
   abbrev pub with_check : WorldView K F L T → WorldView K F L T → WorldView K F L T
   with_check other world = record (with_sinks other world) { disk = other.disk }
 
+  -- the sink, the log and the store
+  abbrev pub with_files : WorldView K F L T → WorldView K F L T → WorldView K F L T
+  with_files other world = record (with_sinks other world) { store = other.store }
+
   -- the streams and the disk
   abbrev pub with_saving : WorldView K F L T → WorldView K F L T → WorldView K F L T
   with_saving other world = record (with_check other world) { source = other.source }

@@ -5,13 +5,13 @@ ghost use Rattle.ldm_commands.specs.Command.{take_memory, play_of, with_file, wi
 ghost use Rattle.ldm_commands.specs.Doing.{IsUnread};
 ghost use Rattle.ldm_commands.specs.Views.{IsWithin, form_of};
 
-use ldm_conf::Address;
 use ldm_exercise::MOST_DRAWN;
 use ldm_script::read_number;
 use ldm_words::{
-    ActWords, ChainWords, InsertWords, NodeWords, ReceivingWords, SaveWords, StatsWords, WmoWords,
-    WordsFault, read_chain, read_file, read_node, read_pqact, read_pqinsert, read_pqmon,
-    read_pqstats, read_receiving, read_save, read_wmo,
+    ActWords, CatWords, ChainWords, CheckWords, InsertWords, MonWords, NodeWords, NoticesWords,
+    SaveWords, StatsWords, WmoWords, WordsFault, read_chain, read_check, read_file, read_node,
+    read_notifyme, read_pqact, read_pqcat, read_pqinsert, read_pqmon, read_pqstats, read_save,
+    read_wmo,
 };
 use std::alloc::Global;
 
@@ -43,11 +43,11 @@ pub enum Command<'a> {
     /// `pqinsert ..`: to put files into the queue of a node.
     Pqinsert(InsertWords<'a>),
     /// `pqcat ..`: to write the bodies of the products of a node.
-    Pqcat(ReceivingWords),
+    Pqcat(CatWords),
     /// `notifyme ..`: to write a line for each product of a node.
-    Notifyme(ReceivingWords),
-    /// `pqmon ..`: to write the figures of a node's queue.
-    Pqmon(Address),
+    Notifyme(NoticesWords),
+    /// `pqmon ..`: to write the figures of a node's queue, once or again and again.
+    Pqmon(MonWords),
     /// `wmo ..`: to put the bulletins of a stream into the queue of a node.
     Wmo(WmoWords<'a>),
     /// `pqstats ..`: to write how much of the products of a node came in each hour.
@@ -58,6 +58,8 @@ pub enum Command<'a> {
     Resume(&'a str),
     /// `pqcheck FILE`: to write the figures of the queue in a file.
     Pqcheck(&'a str),
+    /// `check ..`: to write what is wrong with configuration files.
+    Check(CheckWords<'a>),
 }
 
 /// Reads the words behind the program's name. [`WordsFault::Usage`] comes exactly where they are no form of a command,
@@ -101,9 +103,9 @@ fn read_with_options<'a>(
     } else if word == b"pqinsert".as_slice() {
         Ok(Command::Pqinsert(read_pqinsert(alloc, words)?))
     } else if word == b"pqcat".as_slice() {
-        Ok(Command::Pqcat(read_receiving(alloc, words)?))
+        Ok(Command::Pqcat(read_pqcat(alloc, words)?))
     } else if word == b"notifyme".as_slice() {
-        Ok(Command::Notifyme(read_receiving(alloc, words)?))
+        Ok(Command::Notifyme(read_notifyme(alloc, words)?))
     } else if word == b"pqmon".as_slice() {
         Ok(Command::Pqmon(read_pqmon(alloc, words)?))
     } else if word == b"wmo".as_slice() {
@@ -115,7 +117,7 @@ fn read_with_options<'a>(
     }
 }
 
-// Reads the words behind that of a command about the queue in a file.
+// Reads the words behind that of a command about files.
 fn read_with_file<'a>(
     alloc: Global,
     word: &[u8],
@@ -131,6 +133,8 @@ fn read_with_file<'a>(
         Ok(Command::Resume(read_file(alloc, words)?))
     } else if word == b"pqcheck".as_slice() {
         Ok(Command::Pqcheck(read_file(alloc, words)?))
+    } else if word == b"check".as_slice() {
+        Ok(Command::Check(read_check(alloc, words)?))
     } else {
         Err(WordsFault::Usage)
     }

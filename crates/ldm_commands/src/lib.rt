@@ -6,6 +6,7 @@
 
 mod chain;
 mod command;
+mod files;
 mod node;
 mod run;
 mod saving;

@@ -11,6 +11,7 @@ ghost use Rattle.ldm_commands.specs.World.{KeepsAllFaults, tells_of, world_view}
 
 use crate::chain::feed_chain;
 use crate::command::{Command, read_command};
+use crate::files::check_files;
 use crate::node::run_words;
 use crate::saving::{check_queue, resume_queue, save_queue};
 use crate::tools::{
@@ -22,8 +23,9 @@ use crate::world::World;
 use ldm_crowd::crowd;
 use ldm_disk::Disk;
 use ldm_exercise::exercise;
-use ldm_outside::{Clock, Dial, Door, Launcher, Net, Reasons, Sink, Source, Store};
+use ldm_outside::{Dial, Door, Launcher, Net, Reasons, Sink, Source, Store};
 use ldm_play::play;
+use ldm_rest::Rests;
 use ldm_status::Status;
 use ldm_words::WordsFault;
 use std::alloc::Global;
@@ -42,7 +44,7 @@ pub fn run_ldm<
     S: Source,
     K: Sink,
     E: Sink,
-    C: Clock,
+    C: Rests,
     F: Store + Reasons,
     L: Launcher + Reasons,
     N: Net + Reasons,
@@ -90,7 +92,7 @@ fn run<
     S: Source,
     K: Sink,
     E: Sink,
-    C: Clock,
+    C: Rests,
     F: Store + Reasons,
     L: Launcher + Reasons,
     N: Net + Reasons,
@@ -124,11 +126,12 @@ where
         Command::Pqinsert(words) => put_files(alloc, &words, world),
         Command::Pqcat(words) => write_bodies(rt, alloc, &words, world),
         Command::Notifyme(words) => tell_products(alloc, &words, world),
-        Command::Pqmon(peer) => tell_figures(alloc, &peer, world),
+        Command::Pqmon(words) => tell_figures(alloc, &words, world),
         Command::Wmo(words) => put_bulletins(alloc, &words, world),
         Command::Pqstats(words) => count_products(rt, alloc, &words, world),
         Command::Save(words) => save_queue(alloc, &words, world),
         Command::Resume(path) => resume_queue(alloc, path, world),
         Command::Pqcheck(path) => check_queue(alloc, path, world),
+        Command::Check(words) => check_files(alloc, &words, world),
     }
 }

@@ -1,55 +1,72 @@
 //! The tools that ask a node over a link.
 ghost use Rattle.std.specs.Prelude.{◌≡◌, false};
-ghost use Rattle.ldm_conf.specs.AddressViews.{address_view};
 ghost use Rattle.ldm_outside.specs.Station.{station_tells};
-ghost use Rattle.ldm_words.specs.Views.{act_view, insert_view, receiving_view, stats_view, wmo_view};
+ghost use Rattle.ldm_words.specs.Views.{act_view, cat_view, insert_view, mon_view, notices_view};
+ghost use Rattle.ldm_words.specs.Views.{stats_view, wmo_view};
 ghost use Rattle.ldm_commands.specs.Command as form;
 ghost use Rattle.ldm_commands.specs.Doing.{Done};
+ghost use Rattle.ldm_commands.specs.Lent.{form_of};
 ghost use Rattle.ldm_commands.specs.World.{tells_of, world_view};
 
 use crate::world::World;
-use ldm_conf::Address;
 use ldm_disk::Disk;
-use ldm_notifyme::notifyme;
+use ldm_gather::Order;
+use ldm_notifyme::{NoticesAsked, notifyme};
 use ldm_outside::{Clock, Launcher, Net, Reasons, Sink, Source, Store};
-use ldm_pqact_command::pqact;
-use ldm_pqcat::pqcat;
+use ldm_pqact_command::ActOrder;
+use ldm_pqcat::cat_products;
 use ldm_pqinsert::{Insertion, pqinsert};
+use ldm_pqmon::pqmon_every;
 use ldm_pqstats::{StatsAsked, pqstats};
+use ldm_rest::Rests;
 use ldm_tools::pqmon;
+use ldm_watch::NoticeForm;
 use ldm_wmo_command::{Ingestion, ingest};
-use ldm_words::{ActWords, InsertWords, ReceivingWords, StatsWords, WmoWords};
+use ldm_words::{ActWords, CatWords, InsertWords, MonWords, NoticesWords, StatsWords, WmoWords};
 use std::alloc::Global;
 use std::sync::Wait;
 
-/// Writes the figures of a node's queue.
+/// Writes the figures of a node's queue, once or again and again.
 #[inline(never)]
 pub(crate) fn tell_figures<
     S: Source,
     K: Sink,
     E: Sink,
-    C: Clock,
+    C: Rests,
     F: Store,
     L: Launcher,
     N: Net + Reasons,
     D: Disk,
->(alloc: Global, peer: &Address, world: &mut World<S, K, E, C, F, L, N, D>) -> u8
+>(alloc: Global, words: &MonWords, world: &mut World<S, K, E, C, F, L, N, D>) -> u8
     requires { (N.tells world.old.net).links.out ≡ false }
     ensures { let tells = tells_of K.tells F.tells L.tells
         (station_tells N.StationDoor.tells N.StationDial.tells N.StationLog.tells N.StationClock.tells
         N.StationGate.tells) in
-        Done tells (form.Pqmon (address_view peer.now)) result
+        Done tells (form.Pqmon (mon_view words.now)) result
         (world_view S.tells E.tells C.tells N.tells N.kept N.port_asked D.tells world.old)
         (world_view S.tells E.tells C.tells N.tells N.kept N.port_asked D.tells world.new) }
 {
-    pqmon(
-        alloc,
-        &mut world.net,
-        &mut world.streams.sink,
-        &mut world.streams.log,
-        peer.host.as_slice(),
-        peer.port,
-    )
+    let peer = &words.peer;
+    match words.every {
+        Some(seconds) => pqmon_every(
+            alloc,
+            &mut world.net,
+            &mut world.streams.sink,
+            &mut world.streams.log,
+            &mut world.clock,
+            peer.host.as_slice(),
+            peer.port,
+            seconds,
+        ),
+        None => pqmon(
+            alloc,
+            &mut world.net,
+            &mut world.streams.sink,
+            &mut world.streams.log,
+            peer.host.as_slice(),
+            peer.port,
+        ),
+    }
 }
 
 /// Acts on the products of a node.
@@ -73,7 +90,19 @@ pub(crate) fn act_on_products<
         (world_view S.tells E.tells C.tells N.tells N.kept N.port_asked D.tells world.old)
         (world_view S.tells E.tells C.tells N.tells N.kept N.port_asked D.tells world.new) }
 {
-    pqact(
+    let order = Order {
+        host: words.peer.host.as_slice(),
+        port: words.peer.port,
+        class: &words.class,
+        count: words.count,
+        arena: words.arena,
+        slots: words.slots,
+    };
+    let order = ActOrder {
+        order,
+        conf: words.conf,
+    };
+    ldm_pqact_command::act_on_products(
         rt,
         alloc,
         &mut world.net,
@@ -81,11 +110,7 @@ pub(crate) fn act_on_products<
         &mut world.launcher,
         &mut world.streams.log,
         &mut world.clock,
-        words.peer.host.as_slice(),
-        words.peer.port,
-        &words.class,
-        words.count,
-        words.conf,
+        &order,
     )
 }
 
@@ -101,26 +126,31 @@ pub(crate) fn write_bodies<
     L: Launcher,
     N: Net + Reasons,
     D: Disk,
->(rt: &H, alloc: Global, words: &ReceivingWords, world: &mut World<S, K, E, C, F, L, N, D>) -> u8
+>(rt: &H, alloc: Global, words: &CatWords, world: &mut World<S, K, E, C, F, L, N, D>) -> u8
     requires { (N.tells world.old.net).links.out ≡ false }
     ensures { let tells = tells_of K.tells F.tells L.tells
         (station_tells N.StationDoor.tells N.StationDial.tells N.StationLog.tells N.StationClock.tells
         N.StationGate.tells) in
-        Done tells (form.Pqcat (receiving_view words.now)) result
+        Done tells (form.Pqcat (cat_view words.now)) result
         (world_view S.tells E.tells C.tells N.tells N.kept N.port_asked D.tells world.old)
         (world_view S.tells E.tells C.tells N.tells N.kept N.port_asked D.tells world.new) }
 {
-    pqcat(
+    let order = Order {
+        host: words.peer.host.as_slice(),
+        port: words.peer.port,
+        class: &words.class,
+        count: words.count,
+        arena: words.arena,
+        slots: words.slots,
+    };
+    cat_products(
         rt,
         alloc,
         &mut world.net,
         &mut world.streams.sink,
         &mut world.streams.log,
         &mut world.clock,
-        words.peer.host.as_slice(),
-        words.peer.port,
-        &words.class,
-        words.count,
+        &order,
     )
 }
 
@@ -135,25 +165,40 @@ pub(crate) fn tell_products<
     L: Launcher,
     N: Net + Reasons,
     D: Disk,
->(alloc: Global, words: &ReceivingWords, world: &mut World<S, K, E, C, F, L, N, D>) -> u8
+>(alloc: Global, words: &NoticesWords, world: &mut World<S, K, E, C, F, L, N, D>) -> u8
     requires { (N.tells world.old.net).links.out ≡ false }
     ensures { let tells = tells_of K.tells F.tells L.tells
         (station_tells N.StationDoor.tells N.StationDial.tells N.StationLog.tells N.StationClock.tells
         N.StationGate.tells) in
-        Done tells (form.Notifyme (receiving_view words.now)) result
+        Done tells (form.Notifyme (notices_view words.now)) result
         (world_view S.tells E.tells C.tells N.tells N.kept N.port_asked D.tells world.old)
         (world_view S.tells E.tells C.tells N.tells N.kept N.port_asked D.tells world.new) }
 {
+    let asked = NoticesAsked {
+        host: words.peer.host.as_slice(),
+        port: words.peer.port,
+        class: &words.class,
+        count: words.count,
+        form: form_of(words.text),
+    };
     notifyme(
         alloc,
         &mut world.net,
         &mut world.streams.sink,
         &mut world.streams.log,
-        words.peer.host.as_slice(),
-        words.peer.port,
-        &words.class,
-        words.count,
+        &asked,
     )
+}
+
+// How the lines of notices are written: for people, or as numbers.
+fn form_of(text: bool) -> NoticeForm
+    ensures { result ≡ form_of text }
+{
+    if text {
+        NoticeForm::Names
+    } else {
+        NoticeForm::Numbers
+    }
 }
 
 /// Puts files into the queue of a node.

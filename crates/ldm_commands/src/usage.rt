@@ -9,7 +9,7 @@ use ldm_words::why_usage;
 use std::alloc::Global;
 
 /// Reports that the words are no form of a command, and what is wrong with them, if their first one is that of a
-/// command with options or of one about the queue in a file.
+/// command with options or of one about files.
 pub(crate) fn report_usage<E: Sink>(alloc: Global, words: &[String], log: &mut E) -> u8
     ensures reports { ReportsUsage (map string_bytes words.now) result (E.tells log.old) (E.tells log.new) }
     ensures faults_kept { (E.tells log.old).faults ≤ (E.tells log.new).faults }
@@ -33,7 +33,7 @@ fn report_words<E: Sink>(alloc: Global, first: &[u8], others: &[String], log: &m
     }
 }
 
-// Whether a first word is that of a command with options, or of one about the queue in a file.
+// Whether a first word is that of a command with options, or of one about files.
 fn has_options(word: &[u8]) -> bool
     ensures { result ≡ has_options word.now }
 {
@@ -58,7 +58,7 @@ fn has_options(word: &[u8]) -> bool
     }
 }
 
-// Whether a first word is that of a command about the queue in a file.
+// Whether a first word is that of a command about files.
 fn has_file(word: &[u8]) -> bool
     ensures { result ≡ has_file word.now }
 {
@@ -66,7 +66,9 @@ fn has_file(word: &[u8]) -> bool
         true
     } else if word == b"resume".as_slice() {
         true
+    } else if word == b"pqcheck".as_slice() {
+        true
     } else {
-        word == b"pqcheck".as_slice()
+        word == b"check".as_slice()
     }
 }

@@ -6,6 +6,7 @@
 pub mod adapters;
 pub mod book;
 pub mod chain;
+pub mod check;
 pub mod class;
 pub mod command_files;
 pub mod commands;

@@ -3,11 +3,12 @@
 ghost use Rattle.std.specs.Prelude.{◌≡◌, false};
 
 use ldm_class::Class;
-use ldm_notifyme::notifyme;
+use ldm_notifyme::{NoticesAsked, notifyme};
 use ldm_outside::{Dial, Reasons, Sink};
+use ldm_watch::NoticeForm;
 use std::alloc::Global;
 
-/// Writes the notice of the next product of a class that comes into the queue of a node on this machine.
+/// Writes the notice of the next product of a class that comes into the queue of a node on this machine, for people.
 pub fn next_notice<N: Dial + Reasons, K: Sink, E: Sink>(
     alloc: Global,
     net: &mut N,
@@ -17,5 +18,12 @@ pub fn next_notice<N: Dial + Reasons, K: Sink, E: Sink>(
 ) -> u8
     requires { (N.tells net.old).links.out ≡ false }
 {
-    notifyme(alloc, net, sink, log, b"127.0.0.1", 388, class, Some(1))
+    let asked = NoticesAsked {
+        host: b"127.0.0.1",
+        port: 388,
+        class,
+        count: Some(1),
+        form: NoticeForm::Names,
+    };
+    notifyme(alloc, net, sink, log, &asked)
 }

@@ -3,3 +3,4 @@ pub mod Values
 pub mod Forms
 pub mod Views
 pub mod Faults
+pub mod Checking

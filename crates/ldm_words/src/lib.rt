@@ -7,6 +7,7 @@
 mod act;
 mod cat;
 mod chain;
+mod check;
 mod command;
 mod examples;
 mod fault;
@@ -26,6 +27,7 @@ mod wmo;
 pub use act::read_pqact;
 pub use cat::read_pqcat;
 pub use chain::read_chain;
+pub use check::{CheckWords, read_check};
 pub use examples::{
     worked_examples_of_chain, worked_examples_of_classes, worked_examples_of_files,
     worked_examples_of_node, worked_examples_of_notifyme, worked_examples_of_pqinsert,

@@ -99,7 +99,12 @@ impl Telling<'_> {
                 places = places.saturating_add(1);
             }
         }
-        if let Some(missing) = missing_at(self.command, places) {
+        let named = if may_repeat(self.command) {
+            places.saturating_add(seen.len())
+        } else {
+            places
+        };
+        if let Some(missing) = missing_at(self.command, named) {
             self.name();
             self.why.put(missing);
         } else if self.command == b"pqinsert".as_slice() && !seen.contains(&b'p') {
@@ -133,7 +138,7 @@ impl Telling<'_> {
                 self.refuse(word, b"no such option");
                 return Looked::Faulty;
             };
-            if seen.contains(&letter) {
+            if seen.contains(&letter) && !may_repeat(self.command) {
                 self.refuse_option(letter, b"given twice");
                 return Looked::Faulty;
             }
@@ -233,6 +238,11 @@ impl Telling<'_> {
     }
 }
 
+// Whether an option of the command may come more than once. Each names a file, as the words do.
+fn may_repeat(command: &[u8]) -> bool {
+    command == b"check".as_slice()
+}
+
 // Whether a word is read as options.
 fn is_option(word: &[u8]) -> bool {
     word.len() > 1 && word[0] == b'-'
@@ -264,6 +274,10 @@ fn kind_of(command: &[u8], letter: u8) -> Option<Kind> {
         b"pqmon" => match letter {
             b'i' => Some(Kind::Seconds),
             b'q' => Some(Kind::Peer),
+            _ => None,
+        },
+        b"check" => match letter {
+            b'p' => Some(Kind::Path),
             _ => None,
         },
         b"wmo" => match letter {
@@ -327,6 +341,7 @@ fn kind_of_pqinsert(letter: u8) -> Option<Kind> {
 fn kind_at(command: &[u8], place: usize) -> Option<Kind> {
     match command {
         b"pqinsert" => Some(Kind::Path),
+        b"check" => Some(Kind::Path),
         b"pqact" => match place {
             0 => Some(Kind::Path),
             1 => Some(Kind::Peer),
@@ -354,6 +369,7 @@ fn missing_at(command: &[u8], places: usize) -> Option<&'static [u8]> {
     match command {
         b"node" => missing_first(places, b"no configuration is named"),
         b"pqinsert" => missing_first(places, b"no file is named"),
+        b"check" => missing_first(places, b"no file is named"),
         b"resume" => missing_first(places, b"no file is named"),
         b"pqcheck" => missing_first(places, b"no file is named"),
         b"pqact" => match places {

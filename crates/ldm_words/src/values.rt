@@ -33,8 +33,8 @@ pub(crate) fn value<'a>(matches: &ArgMatches<'a>, name: &str) -> Option<&'a str>
     matches.get_str(name)
 }
 
-// The values of words.
-fn values<'m, 'a>(matches: &'m ArgMatches<'a>, name: &str) -> Option<&'m [&'a str]>
+/// The values of words.
+pub(crate) fn values<'m, 'a>(matches: &'m ArgMatches<'a>, name: &str) -> Option<&'m [&'a str]>
     ensures { option_map (λ texts. texts_of texts.now) result ≡ all_of name.now (rows_in matches.entry.now) }
 {
     matches.get_raw(name)
