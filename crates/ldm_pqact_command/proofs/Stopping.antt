@@ -30,7 +30,9 @@ module _ {F L : Type 0} (store_tells : F → StoreRecord) (launcher_tells : L �
 
   by_begin : (old new : At) → Asks (ActHandles store_tells launcher_tells) end.Stopped old new ⊎ BeginsNot (ActHandles store_tells launcher_tells) end.Stopped old new
       → IsSome new.scene.handler.why
-  by_begin old new (inl asks) = follows_why _ _ _ _ _ _ asks.gathers.ends.takes.handles_it.handled.follows
+  by_begin old new (inl asks) =
+      let takes = asks.gathers.ends.takes in
+      follows_why _ asks.gathers.ends.takes.told.scene.handler.k _ _ _ _ takes.handles_it.handled.follows
   by_begin old new (inr not) = absurd not
 
   pub stopped_why : (e : GatherEnd) (s : Receiving) (old new : Lent ActerView F L) → GathersAll (ActHandles store_tells launcher_tells) e s old new
