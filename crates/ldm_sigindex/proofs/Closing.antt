@@ -17,8 +17,8 @@ pub record HasOther (entries : List Entry) (hole slot : ℕ) : Type 0 where
   pub at : slot_at entries place ≡ slot
 
 -- the table is kept, but that the entry in the hole counts for nothing
-pub record IsOpen (entries : List Entry) (table : Table) (hole : ℕ) : Type 0 where
-  pub told : (place : ℕ) → (place ≡ hole → ⊥) → (slot_at entries place ≡ END → ⊥) → HasSignature (entry_at entries place) table
+pub record IsOpen (key : ℕ) (entries : List Entry) (table : Table) (hole : ℕ) : Type 0 where
+  pub told : (place : ℕ) → (place ≡ hole → ⊥) → (slot_at entries place ≡ END → ⊥) → HasSignature key (entry_at entries place) table
   pub listed : (slot : ℕ) (signature : List ℕ) → slice_get table slot ≡ Some (Some signature) → HasOther entries hole slot
   pub once : (place other : ℕ) → (place ≡ hole → ⊥) → (other ≡ hole → ⊥) → (slot_at entries place ≡ END → ⊥) → slot_at entries other ≡ slot_at entries place → other ≡ place
   pub reached : (place before : ℕ) → (slot_at entries place ≡ END → ⊥) → before < length entries → IsOnWay (home_of (length entries) (entry_at entries place).mark) before place →
@@ -29,10 +29,10 @@ pub record IsOpen (entries : List Entry) (table : Table) (hole : ℕ) : Type 0 w
 
 -- ---- the entry of a slot that has no signature any more is in the hole
 
-pub opened : (entries : List Entry) (table : Table) (hole : ℕ) → (slot_at entries hole ≡ END → ⊥) → IsKept entries table → IsOpen entries (set table (slot_at entries hole) None) hole
-opened entries table hole taken kept =
+pub opened : (key : ℕ) (entries : List Entry) (table : Table) (hole : ℕ) → (slot_at entries hole ≡ END → ⊥) → IsKept key entries table → IsOpen key entries (set table (slot_at entries hole) None) hole
+opened key entries table hole taken kept =
     let slot = slot_at entries hole in
-    let lt : slot < length table = slot_inside entries table kept hole taken in
+    let lt : slot < length table = slot_inside key entries table kept hole taken in
     record {
       told = λ place apart taken'.
           let has = kept.told place taken' in
@@ -63,7 +63,7 @@ opened entries table hole taken kept =
 
 -- ---- an entry moves into the hole, and its place is the hole then
 
-module _ (entries : List Entry) (table : Table) (hole at : ℕ) (open_at : IsOpen entries table hole) (hole_inside : hole < length entries)
+module _ (key : ℕ) (entries : List Entry) (table : Table) (hole at : ℕ) (open_at : IsOpen key entries table hole) (hole_inside : hole < length entries)
     (taken : slot_at entries at ≡ END → ⊥) (apart : at ≡ hole → ⊥) (on : IsOnWay (home_of (length entries) (entry_at entries at).mark) hole at) where
   abbrev entries' : List Entry
   entries' = set entries hole (entry_at entries at)
@@ -93,12 +93,12 @@ module _ (entries : List Entry) (table : Table) (hole at : ℕ) (open_at : IsOpe
   kept_slot : (one : ℕ) → (one ≡ hole → ⊥) → slot_at entries' one ≡ slot_at entries one
   kept_slot one away = ap (λ (e : Entry). e.slot) (other one away)
 
-  pub moved : IsOpen entries' table at
+  pub moved : IsOpen key entries' table at
   moved = record {
     told = λ place away taken'.
         elim (cases_eq place hole) [
-          | inl here ↦ subst (λ (e : Entry). HasSignature e table) (sym (ap (entry_at entries') here ∙ same)) (open_at.told at apart taken)
-          | inr off ↦ subst (λ (e : Entry). HasSignature e table) (sym (other place off)) (open_at.told place off (was place off taken'))
+          | inl here ↦ subst (λ (e : Entry). HasSignature key e table) (sym (ap (entry_at entries') here ∙ same)) (open_at.told at apart taken)
+          | inr off ↦ subst (λ (e : Entry). HasSignature key e table) (sym (other place off)) (open_at.told place off (was place off taken'))
         ];
     listed = λ slot signature held.
         let old = open_at.listed slot signature held in
@@ -142,7 +142,7 @@ abbrev pub IsBehind : (entries : List Entry) (hole at : ℕ) → Type 0
 IsBehind entries hole at =
     (place : ℕ) → place < length entries → (place ≡ hole → ⊥) → IsOnWay hole place at → IsOnWay (home_of (length entries) (entry_at entries place).mark) hole place → ⊥
 
-module _ (entries : List Entry) (table : Table) (hole at : ℕ) (open_at : IsOpen entries table hole) (hole_inside : hole < length entries) (at_inside : at < length entries)
+module _ (key : ℕ) (entries : List Entry) (table : Table) (hole at : ℕ) (open_at : IsOpen key entries table hole) (hole_inside : hole < length entries) (at_inside : at < length entries)
     (ended : slot_at entries at ≡ END) (behind : IsBehind entries hole at) where
   abbrev entries'' : List Entry
   entries'' = set entries hole free
@@ -173,9 +173,9 @@ module _ (entries : List Entry) (table : Table) (hole at : ℕ) (open_at : IsOpe
         | inr later ↦ open_at.reached place at taken at_inside (on_way_behind (home_of (length entries) (entry_at entries place).mark) hole at place on later) ended
       ]
 
-  pub closed : IsKept entries'' table
+  pub closed : IsKept key entries'' table
   closed = record {
-    told = λ place taken. subst (λ (e : Entry). HasSignature e table) (sym (rest place (off place taken))) (open_at.told place (off place taken) (was' place taken));
+    told = λ place taken. subst (λ (e : Entry). HasSignature key e table) (sym (rest place (off place taken))) (open_at.told place (off place taken) (was' place taken));
     listed = λ slot signature held. let old = open_at.listed slot signature held in record { place = old.place; at = rest_slot old.place old.apart ∙ old.at };
     once = λ place two taken equal.
         let two_taken : slot_at entries'' two ≡ END → ⊥ = λ gone. taken (sym equal ∙ gone) in
@@ -205,7 +205,7 @@ pub record IsClosing (began entries : List Entry) (place hole at : ℕ) : Type 0
   pub apart : at ≡ hole → ⊥
   pub short_of : (at ≡ free_of began → ⊥) → IsOnWay hole at (free_of began)
   pub behind : IsBehind entries hole at
-  pub kept : (table : Table) → IsKept began table → IsOpen entries (set table (slot_at began place) None) hole
+  pub kept : (key : ℕ) (table : Table) → IsKept key began table → IsOpen key entries (set table (slot_at began place) None) hole
 
 none_behind : (entries : List Entry) (at : ℕ) → at < length entries → IsBehind entries at (after_of (length entries) at)
 none_behind entries at at_inside place lt away on over =
@@ -227,7 +227,7 @@ closing_first entries place taken free_inside =
       apart = after_apart (length entries) place (free_of entries) lt free_inside off;
       short_of = next_on_way (length entries) place (free_of entries) lt free_inside off;
       behind = none_behind entries place lt;
-      kept = λ table kept. opened entries table place taken kept;
+      kept = λ key table kept. opened key entries table place taken kept;
     }
 
 module _ (began entries : List Entry) (place hole at : ℕ) (free_inside : free_of began < length began) (turn : IsClosing began entries place hole at) (taken : slot_at entries at ≡ END → ⊥) where
@@ -278,13 +278,13 @@ module _ (began entries : List Entry) (place hole at : ℕ) (free_inside : free_
         apart = after_apart (length entries) at (free_of began) turn.at_inside free_lt short;
         short_of = next_on_way (length entries) at (free_of began) turn.at_inside free_lt short;
         behind = subst (λ n. IsBehind (set entries hole (entry_at entries at)) at (after_of n at)) table_len (none_behind (set entries hole (entry_at entries at)) at (omega (arith, table_len, turn.at_inside)));
-        kept = λ table kept. moved entries (set table (slot_at began place) None) hole at (turn.kept table kept) turn.hole_inside taken turn.apart over;
+        kept = λ key table kept. moved key entries (set table (slot_at began place) None) hole at (turn.kept key table kept) turn.hole_inside taken turn.apart over;
       }
 
-pub closing_end : (began entries : List Entry) (place hole at : ℕ) (table : Table) → IsClosing began entries place hole at → slot_at entries at ≡ END → IsKept began table →
-    IsKept (set entries hole free) (set table (slot_at began place) None)
-closing_end began entries place hole at table turn ended kept =
-    closed entries (set table (slot_at began place) None) hole at (turn.kept table kept) turn.hole_inside turn.at_inside ended turn.behind
+pub closing_end : (key : ℕ) (began entries : List Entry) (place hole at : ℕ) (table : Table) → IsClosing began entries place hole at → slot_at entries at ≡ END → IsKept key began table →
+    IsKept key (set entries hole free) (set table (slot_at began place) None)
+closing_end key began entries place hole at table turn ended kept =
+    closed key entries (set table (slot_at began place) None) hole at (turn.kept key table kept) turn.hole_inside turn.at_inside ended turn.behind
 
 -- the same, in the words of the code
 pub turn_past : (began entries after : List Entry) (place hole hole_then at next home : ℕ) → free_of began < length began → IsClosing began entries place hole at →

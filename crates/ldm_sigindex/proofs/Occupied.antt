@@ -53,7 +53,7 @@ stands (one ∷ rest) number d has =
       | inr there ↦ let at = stands rest number d there in (suc at.0, (omega (arith, at.1.0), at.1.1))
     ]
 
-module _ (entries : List Entry) (table : Table) (kept : IsKept entries table) where
+module _ (key : ℕ) (entries : List Entry) (table : Table) (kept : IsKept key entries table) where
   pub slot_inside : (place : ℕ) → (slot_at entries place ≡ END → ⊥) → slot_at entries place < length table
   slot_inside place taken = let has = kept.told place taken in slice_get_within table (slot_at entries place) (Some has.signature) has.told.held
 
@@ -79,22 +79,22 @@ module _ (entries : List Entry) (table : Table) (kept : IsKept entries table) wh
 
   -- ---- what a search comes to
 
-  pub entry_found : (entry : Entry) (signature : List ℕ) → IsEntry entry table signature → slot_of table signature ≡ Some entry.slot
+  pub entry_found : (entry : Entry) (signature : List ℕ) → IsEntry key entry table signature → slot_of table signature ≡ Some entry.slot
   entry_found entry signature is = found table signature entry.slot kept.one_to_one is.held
 
   -- the entry of a slot is that of its signature
   pub entry_is : (place slot : ℕ) (signature : List ℕ) → slice_get table slot ≡ Some (Some signature) → slot_at entries place ≡ slot →
-      (slot_at entries place ≡ END → ⊥) × IsEntry (entry_at entries place) table signature
+      (slot_at entries place ≡ END → ⊥) × IsEntry key (entry_at entries place) table signature
   entry_is place slot signature held at =
       let lt = slice_get_within table slot (Some signature) held in
       let taken : slot_at entries place ≡ END → ⊥ = λ ended. absurd (omega (arith, at, ended, lt, kept.within)) in
       let has = kept.told place taken in
       let same : has.signature ≡ signature = let e = sym has.told.held ∙ ap (slice_get table) at ∙ held in cc in
-      (taken, subst (IsEntry (entry_at entries place) table) same has.told)
+      (taken, subst (IsEntry key (entry_at entries place) table) same has.told)
 
   -- no slot has a signature, if no entry up to a free place is its
   pub nothing_found : (signature : List ℕ) (at : ℕ) → at < length entries → slot_at entries at ≡ END →
-      ((place : ℕ) → place < length entries → IsOnWay (home_of (length entries) (mark_of signature)) place at → IsEntry (entry_at entries place) table signature → ⊥) →
+      ((place : ℕ) → place < length entries → IsOnWay (home_of (length entries) (mark_of key signature)) place at → IsEntry key (entry_at entries place) table signature → ⊥) →
       slot_of table signature ≡ None
   nothing_found signature at at_inside ended passed =
       not_found table signature (λ slot held.
@@ -104,18 +104,18 @@ module _ (entries : List Entry) (table : Table) (kept : IsKept entries table) wh
       let place = kept.listed slot signature held' in
       let is = entry_is place.place slot signature held' place.at in
       let place_inside = inside entries place.place is.0 in
-      let home : home_of (length entries) (entry_at entries place.place).mark ≡ home_of (length entries) (mark_of signature) = ap (home_of (length entries)) is.1.mark in
-      elim (either_on_way (home_of (length entries) (mark_of signature)) place.place at (λ same. is.0 (ap (slot_at entries) same ∙ ended))) [
+      let home : home_of (length entries) (entry_at entries place.place).mark ≡ home_of (length entries) (mark_of key signature) = ap (home_of (length entries)) is.1.mark in
+      elim (either_on_way (home_of (length entries) (mark_of key signature)) place.place at (λ same. is.0 (ap (slot_at entries) same ∙ ended))) [
         | inl before ↦ passed place.place place_inside before is.1
         | inr behind ↦ kept.reached place.place at is.0 at_inside (subst (λ h. IsOnWay h at place.place) (sym home) behind) ended
       ])
 
 -- ---- an entry is put in
 
-module _ (entries : List Entry) (table : Table) (kept : IsKept entries table) (signature : List ℕ) (slot place : ℕ) (absent : slot_of table signature ≡ None)
-    (empty : slice_get table slot ≡ Some None) (first : IsFirstFree entries (home_of (length entries) (mark_of signature)) place) where
+module _ (key : ℕ) (entries : List Entry) (table : Table) (kept : IsKept key entries table) (signature : List ℕ) (slot place : ℕ) (absent : slot_of table signature ≡ None)
+    (empty : slice_get table slot ≡ Some None) (first : IsFirstFree entries (home_of (length entries) (mark_of key signature)) place) where
   abbrev entry : Entry
-  entry = record { mark = mark_of signature; slot = slot }
+  entry = record { mark = mark_of key signature; slot = slot }
 
   abbrev entries' : List Entry
   entries' = set entries place entry
@@ -150,10 +150,10 @@ module _ (entries : List Entry) (table : Table) (kept : IsKept entries table) (s
   not_its : (one : ℕ) → (slot_at entries one ≡ END → ⊥) → slot_at entries one ≡ slot → ⊥
   not_its one taken same = let has = kept.told one taken in let e = sym has.told.held ∙ ap (slice_get table) same ∙ empty in absurd cc
 
-  is_its : IsEntry entry table' signature
+  is_its : IsEntry key entry table' signature
   is_its = record { held = get-set_same table slot (Some signature) slot_lt; mark = refl }
 
-  has_signature : (one : ℕ) → (one ≡ place → ⊥) → (slot_at entries one ≡ END → ⊥) → HasSignature (entry_at entries one) table'
+  has_signature : (one : ℕ) → (one ≡ place → ⊥) → (slot_at entries one ≡ END → ⊥) → HasSignature key (entry_at entries one) table'
   has_signature one apart taken =
       let has = kept.told one taken in
       record {
@@ -164,20 +164,20 @@ module _ (entries : List Entry) (table : Table) (kept : IsKept entries table) (s
   len : length entries' ≡ length entries
   len = length-set entries place entry
 
-  pub kept_put : IsKept entries' table'
+  pub kept_put : IsKept key entries' table'
   kept_put = record {
     told = λ one taken'.
         elim (cases_eq one place) [
           | inl here ↦
-              subst (λ (e : Entry). HasSignature e table') (sym (ap (entry_at entries') here ∙ same)) (record { signature = signature; told = is_its })
-          | inr apart ↦ subst (λ (e : Entry). HasSignature e table') (sym (other one apart)) (has_signature one apart (was one apart taken'))
+              subst (λ (e : Entry). HasSignature key e table') (sym (ap (entry_at entries') here ∙ same)) (record { signature = signature; told = is_its })
+          | inr apart ↦ subst (λ (e : Entry). HasSignature key e table') (sym (other one apart)) (has_signature one apart (was one apart taken'))
         ];
     listed = λ number held there.
         elim (was_put table slot number signature held there) [
           | inl its ↦ record { place = place; at = ap (λ (e : Entry). e.slot) same ∙ sym its.0 }
           | inr before ↦
               let old = kept.listed number held before in
-              let is = entry_is entries table kept old.place number held before old.at in
+              let is = entry_is key entries table kept old.place number held before old.at in
               let apart : old.place ≡ place → ⊥ = λ here. is.0 (ap (slot_at entries) here ∙ first.is_free) in
               record { place = old.place; at = ap (λ (e : Entry). e.slot) (other old.place apart) ∙ old.at }
         ];
@@ -200,7 +200,7 @@ module _ (entries : List Entry) (table : Table) (kept : IsKept entries table) (s
     reached = λ one before taken' lt on.
         elim (cases_eq one place) [
           | inl here ↦
-              let home : home_of (length entries') (entry_at entries' one).mark ≡ home_of (length entries) (mark_of signature) =
+              let home : home_of (length entries') (entry_at entries' one).mark ≡ home_of (length entries) (mark_of key signature) =
               ap (λ n. home_of n (entry_at entries' one).mark) len ∙ ap (λ (e : Entry). home_of (length entries) e.mark) (ap (entry_at entries') here ∙ same) in
               stays before (first.taken before (omega (arith, len, lt)) (subst (λ h. IsOnWay h before place) home (subst (IsOnWay (home_of (length entries') (entry_at entries' one).mark) before) here on)))
           | inr apart ↦
@@ -215,8 +215,8 @@ module _ (entries : List Entry) (table : Table) (kept : IsKept entries table) (s
 
 -- ---- no entry is in
 
-pub kept_empty : (places slots : ℕ) → slots < places → slots < 2 ^ 32 → IsKept (replicate places free) (replicate slots None)
-kept_empty places slots roomy within =
+pub kept_empty : (key : ℕ) (places slots : ℕ) → slots < places → slots < 2 ^ 32 → IsKept key (replicate places free) (replicate slots None)
+kept_empty key places slots roomy within =
     let each : (place : ℕ) → slot_at (replicate places free) place ≡ END =
     λ place. elim (cases_lt place places) [
       | inl lt ↦ ap (λ (e : Entry). e.slot) (get_or-replicate places place free free lt)

@@ -45,11 +45,11 @@ is_not_held_there slots slot d signature lt is_not held =
     let same : bytes_of (get_or slots slot d) ≡ Some signature = let e = sym (held_is slots slot d lt) ∙ held in cc in
     both_ways (has signature (bytes_of (get_or slots slot d))) is_not (ap (has signature) same ∙ (bytes_eq-Decides signature signature).1 refl)
 
-module _ (entries : List Entry) (slots : List (Option Signature)) (signature : List ℕ) (at : ℕ) (blank : Entry) (d : Option Signature) (result : Bool) (kept : IsKept entries (table_of slots))
+module _ (key : ℕ) (entries : List Entry) (slots : List (Option Signature)) (signature : List ℕ) (at : ℕ) (blank : Entry) (d : Option Signature) (result : Bool) (kept : IsKept key entries (table_of slots))
     (lt : at < length entries) (taken : (get_or entries at blank).slot ≡ END → ⊥) (is : result ≡ has signature (bytes_of (get_or slots (get_or entries at blank).slot d))) where
   slot_lt : (get_or entries at blank).slot < length slots
   slot_lt =
-      let there = slot_inside entries (table_of slots) kept at (read_taken entries at blank lt taken) in
+      let there = slot_inside key entries (table_of slots) kept at (read_taken entries at blank lt taken) in
       omega (arith, there, read_slot entries at blank lt, length-map slots bytes_of)
 
   -- the slot of an entry has the signature

@@ -13,9 +13,9 @@ pub record IsWalked (entries : List Entry) (home at : ℕ) : Type 0 where
   pub taken : (before : ℕ) → before < length entries → IsOnWay home before at → slot_at entries before ≡ END → ⊥
 
 -- no entry was that of a signature
-pub record IsPassed (entries : List Entry) (table : Table) (signature : List ℕ) (at : ℕ) : Type 0 where
+pub record IsPassed (key : ℕ) (entries : List Entry) (table : Table) (signature : List ℕ) (at : ℕ) : Type 0 where
   pub inside : at < length entries
-  pub other : (place : ℕ) → place < length entries → IsOnWay (home_of (length entries) (mark_of signature)) place at → IsEntry (entry_at entries place) table signature → ⊥
+  pub other : (place : ℕ) → place < length entries → IsOnWay (home_of (length entries) (mark_of key signature)) place at → IsEntry key (entry_at entries place) table signature → ⊥
 
 pub way_shorter : (entries : List Entry) (at : ℕ) → at < length entries → free_of entries < length entries → (slot_at entries at ≡ END → ⊥) →
     way (length entries) (after_of (length entries) at) (free_of entries) < way (length entries) at (free_of entries)
@@ -37,16 +37,16 @@ walked_next entries home at taken walked = record {
 pub walked_end : (entries : List Entry) (home at : ℕ) → slot_at entries at ≡ END → IsWalked entries home at → IsFirstFree entries home at
 walked_end entries home at ended walked = record { inside = walked.inside; is_free = ended; taken = walked.taken }
 
-pub passed_first : (entries : List Entry) (table : Table) (signature : List ℕ) → home_of (length entries) (mark_of signature) < length entries →
-    IsPassed entries table signature (home_of (length entries) (mark_of signature))
-passed_first entries table signature inside = record { inside = inside; other = λ place _ on. absurd (none_on_way (home_of (length entries) (mark_of signature)) place on) }
+pub passed_first : (key : ℕ) (entries : List Entry) (table : Table) (signature : List ℕ) → home_of (length entries) (mark_of key signature) < length entries →
+    IsPassed key entries table signature (home_of (length entries) (mark_of key signature))
+passed_first key entries table signature inside = record { inside = inside; other = λ place _ on. absurd (none_on_way (home_of (length entries) (mark_of key signature)) place on) }
 
-pub passed_next : (entries : List Entry) (table : Table) (signature : List ℕ) (at : ℕ) → (IsEntry (entry_at entries at) table signature → ⊥) → IsPassed entries table signature at →
-    IsPassed entries table signature (after_of (length entries) at)
-passed_next entries table signature at apart passed = record {
+pub passed_next : (key : ℕ) (entries : List Entry) (table : Table) (signature : List ℕ) (at : ℕ) → (IsEntry key (entry_at entries at) table signature → ⊥) → IsPassed key entries table signature at →
+    IsPassed key entries table signature (after_of (length entries) at)
+passed_next key entries table signature at apart passed = record {
   inside = after_inside (length entries) at passed.inside;
-  other = λ place lt on is. elim (on_way_after (length entries) (home_of (length entries) (mark_of signature)) place at passed.inside lt on) [
-    | inl here ↦ apart (subst (λ one. IsEntry (entry_at entries one) table signature) here is)
+  other = λ place lt on is. elim (on_way_after (length entries) (home_of (length entries) (mark_of key signature)) place at passed.inside lt on) [
+    | inl here ↦ apart (subst (λ one. IsEntry key (entry_at entries one) table signature) here is)
     | inr earlier ↦ passed.other place lt earlier is
   ];
 }

@@ -1,7 +1,9 @@
 -- How the signatures of slots are kept: each has an entry in a table, at its home or behind it.
 use Rattle.std.specs.Prelude.{◌≡◌, ◌≢◌, ◌⊎◌, ℕ, suc, ◌+◌, ◌-◌, ◌/◌, ◌<◌, ◌≤◌, ◌^◌, ◌==◌, if◌then◌else◌, bit_and}
 use Rattle.std.specs.Prelude.{List, [], ◌∷◌, length, map, get_or, slice_get, Option, Some, None}
+use Rattle.std.specs.Hash.{u64}
 use Rattle.std.specs.Hash.DefaultHasher.{initial, write, finish}
+use Rattle.std.specs.List.{fold}
 use Rattle.ldm_types.specs.declared.signature.Signature.{Signature}
 use Rattle.ldm_sigindex.specs.declared.entries.Entry.{Entry}
 use Rattle.ldm_sigindex.specs.declared.entries.TheConstants.{END}
@@ -30,9 +32,9 @@ abbrev pub free_of : List Entry → ℕ
 free_of [] = 0
 free_of (entry ∷ entries) = if entry.slot == END then 0 else suc (free_of entries)
 
--- what an entry keeps of the hash of its signature
-abbrev pub mark_of : List ℕ → ℕ
-mark_of signature = finish (write initial signature) / 2 ^ 32
+-- what an entry keeps of the hash of the key and then its signature
+abbrev pub mark_of : ℕ → List ℕ → ℕ
+mark_of key signature = finish (write (fold write initial (u64 key)) signature) / 2 ^ 32
 
 -- where the search for a mark begins, of so many places
 abbrev pub home_of : ℕ → ℕ → ℕ
@@ -58,14 +60,14 @@ pub record IsFirstFree (entries : List Entry) (home place : ℕ) : Type 0 where
   pub taken : (before : ℕ) → before < length entries → IsOnWay home before place → slot_at entries before ≢ END
 
 -- an entry is that of a slot with this signature
-pub record IsEntry (entry : Entry) (table : Table) (signature : List ℕ) : Type 0 where
+pub record IsEntry (key : ℕ) (entry : Entry) (table : Table) (signature : List ℕ) : Type 0 where
   pub held : slice_get table entry.slot ≡ Some (Some signature)
-  pub mark : entry.mark ≡ mark_of signature
+  pub mark : entry.mark ≡ mark_of key signature
 
 -- an entry is that of a slot with a signature
-pub record HasSignature (entry : Entry) (table : Table) : Type 0 where
+pub record HasSignature (key : ℕ) (entry : Entry) (table : Table) : Type 0 where
   pub signature : List ℕ
-  pub told : IsEntry entry table signature
+  pub told : IsEntry key entry table signature
 
 -- a slot has an entry
 pub record HasPlace (entries : List Entry) (slot : ℕ) : Type 0 where
@@ -74,8 +76,8 @@ pub record HasPlace (entries : List Entry) (slot : ℕ) : Type 0 where
 
 -- Each entry tells of a slot with a signature, each such slot has one entry, and no place is free from the home of an
 -- entry to its place. No signature is there twice. There are more places than slots, and no slot has the number `END`.
-pub record IsKept (entries : List Entry) (table : Table) : Type 0 where
-  pub told : (place : ℕ) → slot_at entries place ≢ END → HasSignature (entry_at entries place) table
+pub record IsKept (key : ℕ) (entries : List Entry) (table : Table) : Type 0 where
+  pub told : (place : ℕ) → slot_at entries place ≢ END → HasSignature key (entry_at entries place) table
   pub listed : (slot : ℕ) (signature : List ℕ) → slice_get table slot ≡ Some (Some signature) → HasPlace entries slot
   pub once : (place other : ℕ) → slot_at entries place ≢ END → slot_at entries other ≡ slot_at entries place →
       other ≡ place

@@ -2,7 +2,7 @@
 //!
 //! An entry's home is told by its mark, so that a table is searched and closed up without the signatures: one is read
 //! only where its mark is the one that is sought.
-ghost use Rattle.std.specs.Prelude.{◌≡◌, ◌≢◌, ◌<◌, length, set, IfSome, None, true, false};
+ghost use Rattle.std.specs.Prelude.{◌≡◌, ◌≢◌, ◌<◌, ℕ, length, set, IfSome, None, true, false};
 ghost use Rattle.ldm_sigindex.specs.Index.{Table, has, slot_of};
 ghost use Rattle.ldm_sigindex.specs.Entries.{IsEntry, IsFirstFree, IsKept, IsOnWay, after_of, bytes_of};
 ghost use Rattle.ldm_sigindex.specs.Entries.{entry_at, free_of, home_of, mark_of, slot_at, table_of};
@@ -13,18 +13,19 @@ use std::hash::{DefaultHasher, Hasher};
 /// The slot of a free entry. No slot has this number.
 pub const END: u32 = u32::MAX;
 
-/// An entry: half of the hash of a signature, and the slot that has the signature.
+/// An entry: half of the hash of the key and a signature, and the slot that has the signature.
 #[derive(Clone, Copy)]
 pub struct Entry {
     pub mark: u32,
     pub slot: u32,
 }
 
-/// What an entry keeps of the hash of its signature: its upper half.
-pub fn mark(signature: &Signature) -> u32
-    ensures { result ≡ mark_of signature.now.0 }
+/// What an entry keeps of the hash of the table's key and its signature: its upper half.
+pub fn mark(key: u64, signature: &Signature) -> u32
+    ensures { result ≡ mark_of key signature.now.0 }
 {
     let mut hasher = DefaultHasher::new();
+    hasher.write_u64(key);
     hasher.write(&signature.0);
     (hasher.finish() >> 32) as u32
 }
@@ -81,13 +82,18 @@ fn is_held(slot: &Option<Signature>, signature: &Signature) -> bool
     }
 }
 
-/// The place of the entry of a signature, if a slot has it.
-pub fn seek(entries: &[Entry], slots: &[Option<Signature>], signature: &Signature) -> Option<usize>
-    requires { IsKept entries.now (table_of slots.now) }
-    ensures found { IfSome result (λ place. IsEntry (entry_at entries.now place) (table_of slots.now) signature.now.0) }
+/// The place of the entry of a signature, if a slot has it, in a table that is kept with this key.
+pub fn seek(
+    key: u64,
+    entries: &[Entry],
+    slots: &[Option<Signature>],
+    signature: &Signature,
+) -> Option<usize>
+    requires { IsKept key entries.now (table_of slots.now) }
+    ensures found { IfSome result (λ place. IsEntry key (entry_at entries.now place) (table_of slots.now) signature.now.0) }
     ensures absent { result ≡ None → slot_of (table_of slots.now) signature.now.0 ≡ None }
 {
-    let mark = mark(signature);
+    let mark = mark(key, signature);
     let mut at = home(mark, entries.len());
     while entries[at].slot != END {
         let entry = entries[at];
@@ -104,8 +110,8 @@ pub fn seek(entries: &[Entry], slots: &[Option<Signature>], signature: &Signatur
 pub fn close(entries: &mut [Entry], place: usize)
     requires taken { slot_at entries.old place ≢ END }
     requires free { free_of entries.old < length entries.old }
-    ensures { (table : Table) → IsKept entries.old table →
-        IsKept entries.new (set table (slot_at entries.old place) None) }
+    ensures { (key : ℕ) (table : Table) → IsKept key entries.old table →
+        IsKept key entries.new (set table (slot_at entries.old place) None) }
 {
     let mut hole = place;
     let mut at = after(place, entries.len());

@@ -13,6 +13,8 @@ use std::marker::Model;
 /// slots have the same one.
 #[derive(Drop)]
 pub struct SigIndex {
+    /// What the hash of each signature begins with.
+    key: u64,
     /// Where the slots' signatures are found.
     entries: Vec<Entry>,
     /// The signature of each slot that has one.
@@ -27,7 +29,7 @@ impl Model for SigIndex {
 
     ghost view = { λ index. table_of index.slots.items };
 
-    ghost invariant = { λ index. IsKept index.entries.items (table_of index.slots.items) };
+    ghost invariant = { λ index. IsKept index.key index.entries.items (table_of index.slots.items) };
 }
 
 impl SigIndex {
@@ -36,10 +38,23 @@ impl SigIndex {
     pub fn create(alloc: Global, slots: u32) -> Result<SigIndex, OutOfMemory>
         ensures { IfOk result (λ index. index ≡ replicate slots None) }
     {
+        SigIndex::create_keyed(alloc, slots, 0)
+    }
+
+    /// An index as `create` makes it, which hashes the key before each signature. Signatures that collide under one
+    /// key hardly do under another, so a stranger who does not know the key cannot choose signatures whose searches are
+    /// long. The key changes no answer.
+    pub fn create_keyed(alloc: Global, slots: u32, key: u64) -> Result<SigIndex, OutOfMemory>
+        ensures { IfOk result (λ index. index ≡ replicate slots None) }
+    {
         let free = Entry { mark: 0, slot: END };
         let entries = vec![in alloc; free; (2 * slots as usize).next_power_of_two()]?;
         let slots = vec![in alloc; None; slots as usize]?;
-        Ok(SigIndex { entries, slots })
+        Ok(SigIndex {
+            key,
+            entries,
+            slots,
+        })
     }
 
     /// Gives a slot that has none a signature that no slot has.
@@ -49,7 +64,7 @@ impl SigIndex {
         ensures put { self.new ≡ set self.old slot (Some s.0) }
         ensures one_to_one { IsOneToOne self.new }
     {
-        let mark = entries::mark(&s);
+        let mark = entries::mark(self.key, &s);
         let home = entries::home(mark, self.entries.len());
         let place = entries::free_place(&self.entries, home);
         self.entries[place] = Entry { mark, slot };
@@ -62,7 +77,7 @@ impl SigIndex {
         ensures taken { IfSome (slot_of self.old s.now.0) (λ slot. self.new ≡ set self.old slot None) }
         ensures one_to_one { IsOneToOne self.new }
     {
-        if let Some(place) = entries::seek(&self.entries, &self.slots, s) {
+        if let Some(place) = entries::seek(self.key, &self.entries, &self.slots, s) {
             let slot = self.entries[place].slot;
             self.slots[slot as usize] = None;
             entries::close(&mut self.entries, place);
@@ -74,7 +89,7 @@ impl SigIndex {
         ensures slot { result ≡ slot_of self.now s.now.0 }
         ensures one_to_one { IsOneToOne self.now }
     {
-        let place = entries::seek(&self.entries, &self.slots, s)?;
+        let place = entries::seek(self.key, &self.entries, &self.slots, s)?;
         Some(self.entries[place].slot)
     }
 }

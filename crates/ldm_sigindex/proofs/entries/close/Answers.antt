@@ -27,6 +27,6 @@ loop-entries-preserved c =
     ]
 
 pub returns : goal.returns
-returns c table kept =
-    closing_end c.args.entries.now c.loop-entries.entries c.args.place c.loop-entries.hole c.loop-entries.at table c.loop-entries.invariant
+returns c key table kept =
+    closing_end key c.args.entries.now c.loop-entries.entries c.args.place c.loop-entries.hole c.loop-entries.at table c.loop-entries.invariant
     (sym (read_slot c.loop-entries.entries c.loop-entries.at _ c.loop-entries.invariant.at_inside) ∙ c.loop-entries-test.false) kept
