@@ -98,10 +98,26 @@ impl Book {
         ensures limits { IfOk result (λ _. IsGoodArena arena × IsGoodSlots slots) }
         ensures faults { IfErr result (IsFaultOf arena slots) }
     {
+        Book::create_keyed(alloc, arena, slots, 0)
+    }
+
+    /// An empty queue as [`Book::create`] makes it, which hashes the key before each signature. Signatures that collide
+    /// under one key hardly do under another, so a stranger who does not know the key cannot choose signatures whose
+    /// searches are long. The key changes no answer.
+    pub fn create_keyed(
+        alloc: Global,
+        arena: u64,
+        slots: u32,
+        key: u64,
+    ) -> Result<Book, CreateFault>
+        ensures stands { IfOk result (λ book. StandsFor book (empty arena slots)) }
+        ensures limits { IfOk result (λ _. IsGoodArena arena × IsGoodSlots slots) }
+        ensures faults { IfErr result (IsFaultOf arena slots) }
+    {
         Book::check_sizes(arena, slots)?;
         Ok(Book {
             arena: vec![in alloc; 0u8; arena as usize]?,
-            products: Products::create(alloc, arena, slots)?,
+            products: Products::create(alloc, arena, slots, key)?,
             cursors: Cursors::create(alloc)?,
             admitted: 0,
             last: None,

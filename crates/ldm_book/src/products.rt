@@ -65,8 +65,13 @@ impl Products {
     ghost use Rattle.ldm_book.specs.Restoring.{IsPlaceable, SignaturesDiffer, TimesAreRising, note_of};
 
     /// No products, with all the memory that they will ever take but the arena's. An error only where there is
-    /// too little of it.
-    pub(crate) fn create(alloc: Global, arena: u64, slots: u32) -> Result<Products, OutOfMemory>
+    /// too little of it. The key is that of the signatures' index.
+    pub(crate) fn create(
+        alloc: Global,
+        arena: u64,
+        slots: u32,
+        key: u64,
+    ) -> Result<Products, OutOfMemory>
         requires whole { arena % ARENA_UNIT ≡ 0 }
         requires least { SMALLEST_ARENA ≤ arena }
         requires greatest { arena ≤ LARGEST_ARENA }
@@ -83,7 +88,7 @@ impl Products {
             slots: vec![in alloc; Row::unused(); slots as usize]?,
             free,
             regions: Regions::create(alloc, arena, slots)?,
-            by_signature: SigIndex::create(alloc, slots)?,
+            by_signature: SigIndex::create_keyed(alloc, slots, key)?,
             by_number: TimeIndex::create(alloc, slots)?,
             used: 0,
             reserved: Reservations::create(alloc)?,

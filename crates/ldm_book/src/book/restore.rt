@@ -136,7 +136,7 @@ impl Book {
         }
         Ok(Book {
             arena,
-            products: Products::create(alloc, size, slots)?,
+            products: Products::create(alloc, size, slots, 0)?,
             cursors: Cursors::create(alloc)?,
             admitted,
             last,

@@ -22,12 +22,12 @@ invariant_of-result c =
       slots = c.in_ok-vec.field-0;
       free = c.loop-behind.free;
       regions = c.in_ok-create.field-0;
-      by_signature = c.in_ok-create-2.field-0;
-      by_number = c.in_ok-create-3.field-0;
+      by_signature = c.in_ok-create_keyed.field-0;
+      by_number = c.in_ok-create-2.field-0;
       used = 0;
-      reserved = c.in_ok-create-4.field-0;
+      reserved = c.in_ok-create-3.field-0;
     })
     slots c.args.arena
     (omega (arith, c.in_ok-vec.field-0.ok.0, c.in_ok-vec.ensures.len))
     (sym (append-nil c.loop-behind.free.items) ∙ ap (λ n. c.loop-behind.free.items ++ down_from n) (sym none) ∙ sofar.free)
-    sofar.roomy c.in_ok-create.ensures.empty c.in_ok-create.ensures.tiles c.in_ok-create-2.ensures c.in_ok-create-3.ensures refl c.in_ok-create-4.ensures c.requires.slots c.requires.greatest
+    sofar.roomy c.in_ok-create.ensures.empty c.in_ok-create.ensures.tiles c.in_ok-create_keyed.ensures c.in_ok-create-2.ensures refl c.in_ok-create-3.ensures c.requires.slots c.requires.greatest
