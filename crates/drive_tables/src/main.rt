@@ -32,7 +32,7 @@ impl Tables {
         Some(Tables {
             gaps: Gaps::create(alloc, 0, 0).ok()?,
             regions: Owners::create(alloc, 64, 0).ok()?,
-            signatures: Signatures::create(alloc, 0).ok()?,
+            signatures: Signatures::create(alloc, 0, 0).ok()?,
             times: Times::create(alloc, 0).ok()?,
             cursors: Seats::create(alloc).ok()?,
         })

@@ -35,16 +35,24 @@ fn signature(trial: &mut Trial) -> Signature {
 }
 
 impl Signatures {
-    pub fn create(alloc: Global, slots: u32) -> Result<Signatures, OutOfMemory> {
-        let index = SigIndex::create(alloc, slots)?;
+    pub fn create(alloc: Global, slots: u32, key: u64) -> Result<Signatures, OutOfMemory> {
+        let index = SigIndex::create_keyed(alloc, slots, key)?;
         let free = vec![in alloc; true; slots as usize]?;
         Ok(Signatures { index, free })
     }
 
-    /// A case: `new SLOTS`, `toggle SIGNATURE SLOT`, `find SIGNATURE`, `toggles MEMBERS COUNT`, `many COUNT`.
+    /// A case: `new SLOTS`, `keyed SLOTS KEY`, `toggle SIGNATURE SLOT`, `find SIGNATURE`, `toggles MEMBERS COUNT`,
+    /// `many COUNT`.
     pub fn answer(&mut self, trial: &mut Trial) {
         match trial.word() {
-            "new" => self.begin(trial),
+            "new" => {
+                let slots = trial.small();
+                self.begin(trial, slots, 0);
+            }
+            "keyed" => {
+                let (slots, key) = (trial.small(), trial.number());
+                self.begin(trial, slots, key);
+            }
             "find" => {
                 let s = signature(trial);
                 trial.tell_debug(&self.index.find(&s));
@@ -63,9 +71,8 @@ impl Signatures {
         }
     }
 
-    fn begin(&mut self, trial: &mut Trial) {
-        let slots = trial.small();
-        match Signatures::create(trial.alloc(), slots) {
+    fn begin(&mut self, trial: &mut Trial, slots: u32, key: u64) {
+        match Signatures::create(trial.alloc(), slots, key) {
             Ok(signatures) => {
                 *self = signatures;
                 trial.tell("ok");
