@@ -39,7 +39,25 @@ impl Shared {
         ensures limits { IfOk result (λ _. IsGoodArena arena × IsGoodSlots slots × IsGoodPasses passes) }
         ensures faults { IfErr result (IsFaultOf arena slots passes) }
     {
-        let book = first_book(alloc, arena, slots, passes)?;
+        Shared::create_keyed(alloc, arena, slots, passes, 0)
+    }
+
+    /// A queue and its passes as [`Shared::create`] makes them, with the key that [`Book::create_keyed`] is given: who
+    /// does not know it cannot choose signatures whose searches are long. The key changes no answer.
+    pub fn create_keyed(
+        alloc: Global,
+        arena: u64,
+        slots: u32,
+        passes: u32,
+        key: u64,
+    ) -> Result<(Shared, Vec<Pass>), CreateFault>
+        ensures made { IfOk result (λ made. made.1.items ≡ map (new_pass made.0) (range_with_len 0 passes)) }
+        ensures sizes { IfOk result
+            (λ made. (made.0.arena ≡ arena) × (made.0.slots ≡ slots) × (made.0.passes ≡ passes)) }
+        ensures limits { IfOk result (λ _. IsGoodArena arena × IsGoodSlots slots × IsGoodPasses passes) }
+        ensures faults { IfErr result (IsFaultOf arena slots passes) }
+    {
+        let book = first_book(alloc, arena, slots, passes, key)?;
         let mut all = Vec::with_capacity(alloc, passes as usize)?;
         let sizes = Sizes {
             arena,
@@ -104,7 +122,13 @@ impl Shared {
 }
 
 // The book of an empty queue. It takes memory only where all sizes are good.
-fn first_book(alloc: Global, arena: u64, slots: u32, passes: u32) -> Result<Book, CreateFault>
+fn first_book(
+    alloc: Global,
+    arena: u64,
+    slots: u32,
+    passes: u32,
+    key: u64,
+) -> Result<Book, CreateFault>
     ensures stands { IfOk result (λ book. StandsFor book (empty arena slots)) }
     ensures limits { IfOk result (λ _. IsGoodArena arena × IsGoodSlots slots × IsGoodPasses passes) }
     ensures faults { IfErr result (IsFaultOf arena slots passes) }
@@ -118,7 +142,7 @@ fn first_book(alloc: Global, arena: u64, slots: u32, passes: u32) -> Result<Book
     if passes == 0 || passes > Actor::COUNT {
         return Err(CreateFault::BadPasses { passes });
     }
-    match Book::create(alloc, arena, slots) {
+    match Book::create_keyed(alloc, arena, slots, key) {
         Ok(book) => Ok(book),
         Err(_) => Err(CreateFault::OutOfMemory),
     }

@@ -8,7 +8,7 @@ use Rattle.ldm_shared.specs.declared.view.View.{View}
 use Rattle.ldm_shared.specs.Passes.{PassView, new_pass}
 use Rattle.ldm_shared.specs.Joining.{without_pass}
 use Rattle.ldm_shared.proofs.Opening.{dealt-actors, dealt-more, items_more}
-use Rattle.ldm_shared.proofs.shared.Shared.create.Goals as goal
+use Rattle.ldm_shared.proofs.shared.Shared.create_keyed.Goals as goal
 
 pub deal-requires-clause-first : goal.deal-requires-clause-first
 deal-requires-clause-first c =
