@@ -3,7 +3,7 @@
 use ldm_adapters::{RealClock, RealGate};
 use ldm_drive::Trial;
 use ldm_drive_outside::{ask, idle, tell_go, tell_word};
-use ldm_rest::Rests;
+use ldm_outside::Rests;
 use std::rt::HostRuntime;
 
 /// `time`: an idle call of the gate of the system, which stops after one, takes most of its time by the clock of the

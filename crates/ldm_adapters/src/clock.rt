@@ -2,8 +2,7 @@
 ghost use Rattle.std.specs.Prelude.{◌≡◌, ◌≤◌, min, None};
 ghost use Rattle.ldm_types.specs.declared.limits.TheConstants.{GREATEST_INSTANT};
 
-use ldm_outside::Clock;
-use ldm_rest::Rests;
+use ldm_outside::{Clock, Rests};
 use ldm_types::Micros;
 use std::rt::HostRuntime;
 use std::time::{Clock as SystemClock, Duration};

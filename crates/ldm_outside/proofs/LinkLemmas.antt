@@ -1,12 +1,12 @@
 -- Lemmas for callers of links: bytes sent one piece after another, and all bytes that went one way.
-use Rattle.std.proofs.Common.{◌≡◌, ◌∙◌, ℕ, ◌+◌, List, [], ◌∷◌, ◌++◌, take, drop, Option, Some, None, refl, sym, ap, subst, append_assoc}
+use Rattle.std.proofs.Common.{◌≡◌, ◌∙◌, ℕ, ◌+◌, ◌<◌, List, [], ◌∷◌, ◌++◌, length, take, drop, Option, Some, None, refl, sym, ap, subst, append_assoc}
 use Rattle.std.specs.Option.{option_map}
 use Rattle.std.proofs.Math.Seq.{take-add}
 use Rattle.std.proofs.lemmas.List.{take-append-drop, append-nil, map-append}
 use Rattle.ldm_outside.specs.declared.link.Passed.{Passed}
 use Rattle.ldm_outside.specs.declared.link.Way.{Way}
 use Rattle.ldm_outside.specs.declared.link.Way.TheVariants as way
-use Rattle.ldm_outside.specs.Link.{LinkRecord, Sent, Failing, passed_all, then_all, after_sent, with_byte, bytes_passed}
+use Rattle.ldm_outside.specs.Link.{LinkRecord, Sent, Failing, passed_all, passed_piece, then_all, then_piece, after_sent, with_sent, with_given, bytes_sent, bytes_given}
 
 then_all-append : (w : Way) (first second : List ℕ) (passed : List Passed) → then_all w second (then_all w first passed) ≡ then_all w (first ++ second) passed
 then_all-append w first second passed =
@@ -40,34 +40,55 @@ SendsAll-failed old mid new piece n sent failing =
     let P : LinkRecord → Type 0 = λ link. Failing link new in
     (take n piece, drop n piece, take-append-drop n piece, subst P sent failing)
 
-with_byte-append : (asked went : Way) (byte : ℕ) (front back : List ℕ) → with_byte asked went byte (front ++ back) ≡ with_byte asked went byte front ++ back
-with_byte-append way.Sent way.Sent byte front back = refl
-with_byte-append way.Sent way.Given byte front back = refl
-with_byte-append way.Given way.Sent byte front back = refl
-with_byte-append way.Given way.Given byte front back = refl
+with_sent-append : (went : Way) (byte : ℕ) (front back : List ℕ) → with_sent went byte (front ++ back) ≡ with_sent went byte front ++ back
+with_sent-append way.Sent byte front back = refl
+with_sent-append way.First byte front back = refl
+with_sent-append way.Given byte front back = refl
+
+with_given-append : (went : Way) (byte : ℕ) (front back : List ℕ) → with_given went byte (front ++ back) ≡ with_given went byte front ++ back
+with_given-append way.Sent byte front back = refl
+with_given-append way.First byte front back = refl
+with_given-append way.Given byte front back = refl
 
 -- the bytes of what passed, and then of what passed later
-pub bytes_passed-append : (asked : Way) (front back : List Passed) → bytes_passed asked (front ++ back) ≡ bytes_passed asked front ++ bytes_passed asked back
-bytes_passed-append asked [] back = refl
-bytes_passed-append asked (item ∷ front) back =
-    ap (with_byte asked item.way item.byte) (bytes_passed-append asked front back)
-    ∙ with_byte-append asked item.way item.byte (bytes_passed asked front) (bytes_passed asked back)
+pub bytes_sent-append : (front back : List Passed) → bytes_sent (front ++ back) ≡ bytes_sent front ++ bytes_sent back
+bytes_sent-append [] back = refl
+bytes_sent-append (item ∷ front) back = ap (with_sent item.way item.byte) (bytes_sent-append front back) ∙ with_sent-append item.way item.byte (bytes_sent front) (bytes_sent back)
 
--- of bytes that all went one way, the bytes that went this way are all
-pub bytes_passed-same : (w : Way) (bytes : List ℕ) → bytes_passed w (passed_all w bytes) ≡ bytes
-bytes_passed-same way.Sent [] = refl
-bytes_passed-same way.Sent (byte ∷ rest) = ap (λ (bytes : List ℕ). byte ∷ bytes) (bytes_passed-same way.Sent rest)
-bytes_passed-same way.Given [] = refl
-bytes_passed-same way.Given (byte ∷ rest) = ap (λ (bytes : List ℕ). byte ∷ bytes) (bytes_passed-same way.Given rest)
+pub bytes_given-append : (front back : List Passed) → bytes_given (front ++ back) ≡ bytes_given front ++ bytes_given back
+bytes_given-append [] back = refl
+bytes_given-append (item ∷ front) back = ap (with_given item.way item.byte) (bytes_given-append front back) ∙ with_given-append item.way item.byte (bytes_given front) (bytes_given back)
+
+-- of bytes that were all sent, all were sent, and none was given
+pub sent-all : (bytes : List ℕ) → bytes_sent (passed_all way.Sent bytes) ≡ bytes
+sent-all [] = refl
+sent-all (byte ∷ rest) = ap (λ (bytes : List ℕ). byte ∷ bytes) (sent-all rest)
+
+pub given-none : (bytes : List ℕ) → bytes_given (passed_all way.Sent bytes) ≡ []
+given-none [] = refl
+given-none (byte ∷ rest) = given-none rest
+
+-- of a piece all bytes were given, and none was sent
+given-behind : (bytes : List ℕ) → bytes_given (passed_all way.Given bytes) ≡ bytes
+given-behind [] = refl
+given-behind (byte ∷ rest) = ap (λ (bytes : List ℕ). byte ∷ bytes) (given-behind rest)
+
+sent-behind : (bytes : List ℕ) → bytes_sent (passed_all way.Given bytes) ≡ []
+sent-behind [] = refl
+sent-behind (byte ∷ rest) = sent-behind rest
+
+pub given-piece : (bytes : List ℕ) → bytes_given (passed_piece bytes) ≡ bytes
+given-piece [] = refl
+given-piece (byte ∷ rest) = ap (λ (bytes : List ℕ). byte ∷ bytes) (given-behind rest)
+
+pub sent-piece : (bytes : List ℕ) → bytes_sent (passed_piece bytes) ≡ []
+sent-piece [] = refl
+sent-piece (byte ∷ rest) = sent-behind rest
 
 -- all bytes that a link was sent, after it was sent more
-pub bytes_sent-more : (piece : List ℕ) (passed : List Passed) → bytes_passed way.Sent (then_all way.Sent piece passed) ≡ bytes_passed way.Sent passed ++ piece
-bytes_sent-more piece passed =
-    bytes_passed-append way.Sent passed (passed_all way.Sent piece)
-    ∙ ap (λ (bytes : List ℕ). bytes_passed way.Sent passed ++ bytes) (bytes_passed-same way.Sent piece)
+pub bytes_sent-more : (piece : List ℕ) (passed : List Passed) → bytes_sent (then_all way.Sent piece passed) ≡ bytes_sent passed ++ piece
+bytes_sent-more piece passed = bytes_sent-append passed (passed_all way.Sent piece) ∙ ap (λ (bytes : List ℕ). bytes_sent passed ++ bytes) (sent-all piece)
 
 -- all bytes that a link gave, after it gave more
-pub bytes_given-more : (piece : List ℕ) (passed : List Passed) → bytes_passed way.Given (then_all way.Given piece passed) ≡ bytes_passed way.Given passed ++ piece
-bytes_given-more piece passed =
-    bytes_passed-append way.Given passed (passed_all way.Given piece)
-    ∙ ap (λ (bytes : List ℕ). bytes_passed way.Given passed ++ bytes) (bytes_passed-same way.Given piece)
+pub bytes_given-more : (piece : List ℕ) (passed : List Passed) → bytes_given (then_piece piece passed) ≡ bytes_given passed ++ piece
+bytes_given-more piece passed = bytes_given-append passed (passed_piece piece) ∙ ap (λ (bytes : List ℕ). bytes_given passed ++ bytes) (given-piece piece)

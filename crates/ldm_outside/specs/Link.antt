@@ -15,25 +15,32 @@ use Rattle.ldm_outside.specs.Count.{Rose}
 abbrev pub passed_all : Way → List ℕ → List Passed
 passed_all way bytes = map (λ byte. record { way = way; byte = byte }) bytes
 
--- a byte in front of others, where it went the way that is asked for
-abbrev pub with_byte : (asked went : Way) → ℕ → List ℕ → List ℕ
-with_byte way.Sent way.Sent byte rest = byte ∷ rest
-with_byte way.Sent way.Given byte rest = rest
-with_byte way.Given way.Sent byte rest = rest
-with_byte way.Given way.Given byte rest = byte ∷ rest
+-- what passes where a link is asked for bytes and gives these
+abbrev pub passed_piece : List ℕ → List Passed
+passed_piece [] = []
+passed_piece (byte ∷ rest) = record { way = way.First; byte = byte } ∷ passed_all way.Given rest
 
--- all bytes that went that way, in order
-abbrev pub bytes_passed : Way → List Passed → List ℕ
-bytes_passed asked [] = []
-bytes_passed asked (item ∷ rest) = with_byte asked item.way item.byte (bytes_passed asked rest)
+-- a byte in front of others, where the link was sent it
+abbrev pub with_sent : Way → ℕ → List ℕ → List ℕ
+with_sent way.Sent byte rest = byte ∷ rest
+with_sent way.First byte rest = rest
+with_sent way.Given byte rest = rest
 
--- all bytes that a link was sent
+-- a byte in front of others, where the link gave it
+abbrev pub with_given : Way → ℕ → List ℕ → List ℕ
+with_given way.Sent byte rest = rest
+with_given way.First byte rest = byte ∷ rest
+with_given way.Given byte rest = byte ∷ rest
+
+-- all bytes that a link was sent, in order
 abbrev pub bytes_sent : List Passed → List ℕ
-bytes_sent passed = bytes_passed way.Sent passed
+bytes_sent [] = []
+bytes_sent (item ∷ rest) = with_sent item.way item.byte (bytes_sent rest)
 
--- all bytes that a link gave
+-- all bytes that a link gave, in order
 abbrev pub bytes_given : List Passed → List ℕ
-bytes_given passed = bytes_passed way.Given passed
+bytes_given [] = []
+bytes_given (item ∷ rest) = with_given item.way item.byte (bytes_given rest)
 
 -- What a link tells at a moment.
 pub record LinkRecord : Type 0 where
@@ -63,6 +70,10 @@ pub record IsFresh (link : LinkRecord) : Type 0 where
 abbrev pub then_all : Way → List ℕ → List Passed → List Passed
 then_all way bytes passed = passed ++ passed_all way bytes
 
+-- what passed, and then these bytes that the link gave when it was asked
+abbrev pub then_piece : List ℕ → List Passed → List Passed
+then_piece bytes passed = passed ++ passed_piece bytes
+
 -- what a link tells after it was sent bytes
 abbrev pub after_sent : List ℕ → LinkRecord → LinkRecord
 after_sent piece link = record link { passed = option_map (then_all way.Sent piece) link.passed }
@@ -75,7 +86,7 @@ Sent old piece new = new ≡ after_sent piece old
 abbrev pub Gave : LinkRecord → List ℕ → LinkRecord → Type 0
 Gave old piece new =
     (old.left ≡ option_map (λ rest. piece ++ rest) new.left)
-    × (new ≡ record old { passed = option_map (then_all way.Given piece) old.passed; left = new.left })
+    × (new ≡ record old { passed = option_map (then_piece piece) old.passed; left = new.left })
 
 -- A link failed, and nothing but its count of faults changed.
 abbrev pub Failing : LinkRecord → LinkRecord → Type 0

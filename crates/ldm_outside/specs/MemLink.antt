@@ -7,7 +7,7 @@ use Rattle.ldm_outside.specs.declared.io.Put.TheVariants as put
 use Rattle.ldm_outside.specs.declared.mem_link.LinkScript.{LinkScript}
 use Rattle.ldm_outside.specs.declared.link.Passed.{Passed}
 use Rattle.ldm_outside.specs.declared.link.Way.TheVariants as way
-use Rattle.ldm_outside.specs.Link.{LinkRecord, then_all}
+use Rattle.ldm_outside.specs.Link.{LinkRecord, then_all, then_piece}
 use Rattle.ldm_outside.specs.Memory.{Plan, raised, next_fails, after_call, first_plan, with_most}
 
 -- a link that does as its script says
@@ -51,7 +51,7 @@ RecvsAsPlanned (Bytes n) room old new =
     (next_fails old.plan ≡ false)
     × (n ≡ min (min (length old.left) (next_piece old.pieces)) room)
     × (new ≡ record old {
-      passed = then_all way.Given (take n old.left) old.passed;
+      passed = then_piece (take n old.left) old.passed;
       left = drop n old.left;
       pieces = drop 1 old.pieces;
       plan = after_call old.plan;

@@ -28,6 +28,7 @@ mod memory;
 mod net;
 mod open_gate;
 mod reason;
+mod rests;
 mod store;
 mod sure;
 
@@ -51,5 +52,6 @@ pub use memory::{MemSink, MemSource};
 pub use net::{Manned, Net, Station};
 pub use open_gate::OpenGate;
 pub use reason::{LONGEST_REASON, Reasons};
+pub use rests::Rests;
 pub use store::{FileNo, FileRead, Store};
 pub use sure::{SureSink, SureSource};

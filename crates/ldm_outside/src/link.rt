@@ -9,7 +9,9 @@ use crate::io::{Got, Put};
 pub enum Way {
     /// The link was sent it.
     Sent,
-    /// The link gave it.
+    /// The link gave it, as the first byte of a call of `recv`: here it was asked for more.
+    First,
+    /// The link gave it, behind such a byte, in the same call.
     Given,
 }
 
@@ -49,9 +51,9 @@ impl Awaited {
 pub trait Link {
     ghost use Rattle.ldm_outside.specs.Link.{RecvGives, SendGives, ChecksPeer, Closes};
 
-    /// What it tells: what passed, byte by byte and both ways in one order, and the bytes that it has left to give, if
-    /// it tells these; how often it failed and was at its end; and whether it was closed. A count stands still at the
-    /// end of `u64`.
+    /// What it tells: what passed, byte by byte and both ways in one order, and which bytes came with one call, and the
+    /// bytes that it has left to give, if it tells these; how often it failed and was at its end; and whether it was
+    /// closed. A count stands still at the end of `u64`.
     ghost tells: { Self → LinkRecord };
 
     /// Receives some bytes into the front of the buffer, which has room for one at least.

@@ -1,6 +1,7 @@
 //! Links in memory, which do as a script says.
-ghost use Rattle.std.specs.Prelude.{◌≡◌, true, ◌<◌, ◌≤◌, length, take, drop, OnOk, OnErr, IsOk};
-ghost use Rattle.ldm_outside.specs.Link.{then_all};
+ghost use Rattle.std.specs.Prelude.{◌≡◌, true, ◌+◌, ◌<◌, ◌≤◌, length, take, drop, OnOk, OnErr, IsOk, vec_len, vec_capacity};
+ghost use Rattle.ldm_outside.specs.Link.{then_all, then_piece};
+ghost use Rattle.ldm_outside.specs.declared.link.Way.TheVariants as way;
 ghost use Rattle.ldm_outside.specs.MemLink.{next_piece};
 
 use crate::calls::Calls;
@@ -149,7 +150,7 @@ impl Link for MemLink {
         }
         let left = &self.bytes[self.at..];
         let n = left.len().min(next_most(&self.pieces)).min(into.len());
-        if keep(&mut self.passed, Way::Given, &left[..n]).is_err() {
+        if keep_piece(&mut self.passed, &left[..n]).is_err() {
             self.calls.fail();
             return Got::Failed;
         }
@@ -170,7 +171,7 @@ impl Link for MemLink {
             return Put::Failed;
         }
         let n = piece.len().min(self.calls.most());
-        if keep(&mut self.passed, Way::Sent, &piece[..n]).is_err() {
+        if keep_sent(&mut self.passed, &piece[..n]).is_err() {
             self.calls.fail();
             return Put::Failed;
         }
@@ -213,14 +214,38 @@ fn copy_next(bytes: &[u8], n: usize, into: &mut [u8])
     into[..n].copy_from_slice(&bytes[..n]);
 }
 
-// Keeps bytes that passed one way, behind the others. Without memory these stay as they were.
-fn keep(passed: &mut Vec<Passed>, way: Way, bytes: &[u8]) -> Result<(), AllocError>
-    ensures kept { OnOk result (passed.new.items ≡ then_all way bytes.now passed.old.items) }
+// Keeps bytes that were sent, behind what passed before. Without memory this stays as it was.
+fn keep_sent(passed: &mut Vec<Passed>, bytes: &[u8]) -> Result<(), AllocError>
+    ensures kept { OnOk result (passed.new.items ≡ then_all way.Sent bytes.now passed.old.items) }
     ensures same { OnErr result (passed.new.items ≡ passed.old.items) }
 {
     passed.reserve(bytes.len())?;
+    push_all(passed, Way::Sent, bytes);
+    Ok(())
+}
+
+// Keeps a piece that came with one call, behind what passed before. Without memory this stays as it was.
+fn keep_piece(passed: &mut Vec<Passed>, bytes: &[u8]) -> Result<(), AllocError>
+    ensures kept { OnOk result (passed.new.items ≡ then_piece bytes.now passed.old.items) }
+    ensures same { OnErr result (passed.new.items ≡ passed.old.items) }
+{
+    passed.reserve(bytes.len())?;
+    if let Some((first, rest)) = bytes.split_first() {
+        passed.push_reserved(Passed {
+            way: Way::First,
+            byte: *first,
+        });
+        push_all(passed, Way::Given, rest);
+    }
+    Ok(())
+}
+
+// Pushes bytes that went one way.
+fn push_all(passed: &mut Vec<Passed>, way: Way, bytes: &[u8])
+    requires room { length bytes.now + vec_len passed.old ≤ vec_capacity passed.old }
+    ensures pushed { passed.new.items ≡ then_all way bytes.now passed.old.items }
+{
     for byte in bytes {
         passed.push_reserved(Passed { way, byte: *byte });
     }
-    Ok(())
 }

@@ -3,8 +3,7 @@ ghost use Rattle.std.specs.Prelude.{◌≡◌, ◌<◌, ◌≤◌, false};
 ghost use Rattle.ldm_tools.specs.Mon.{KeepsCounts, mon_tells};
 ghost use Rattle.ldm_pqmon.specs.Every.{AsksOn, moment_of};
 
-use ldm_outside::{Dial, Reasons, Sink};
-use ldm_rest::Rests;
+use ldm_outside::{Dial, Reasons, Rests, Sink};
 use ldm_tools::pqmon;
 use std::alloc::Global;
 

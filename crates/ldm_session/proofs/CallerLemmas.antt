@@ -11,8 +11,8 @@ use Rattle.ldm_outside.specs.declared.link.Way.TheVariants as way
 use Rattle.ldm_outside.specs.Clock.{ClockRecord, Answers}
 use Rattle.ldm_outside.specs.Count.{Rose}
 use Rattle.ldm_outside.specs.Gate.{GateRecord, Idles}
-use Rattle.ldm_outside.specs.Link.{LinkRecord, Sent, Gave, Failing, passed_all, then_all, after_sent, bytes_sent, bytes_given}
-use Rattle.ldm_outside.proofs.LinkLemmas.{bytes_passed-append, bytes_passed-same}
+use Rattle.ldm_outside.specs.Link.{LinkRecord, Sent, Gave, Failing, passed_all, passed_piece, then_all, then_piece, after_sent, bytes_sent, bytes_given}
+use Rattle.ldm_outside.proofs.LinkLemmas.{bytes_given-append, bytes_sent-append, given-none, given-piece, sent-all, sent-piece}
 use Rattle.ldm_relay.specs.declared.message.TheConstants.{LARGEST_REPLY}
 use Rattle.ldm_rpc.specs.Streams.{Placed, at_start, records_in}
 use Rattle.ldm_rpc.proofs.Joined.{records-append}
@@ -29,8 +29,8 @@ PassesMore-then : (old mid new : List Passed) (sent given more_sent more_given :
 PassesMore-then old mid new sent given more_sent more_given first second = record {
   more = first.more ++ second.more;
   goes_on = second.goes_on ∙ ap (λ (x : List Passed). x ++ second.more) first.goes_on ∙ append_assoc old first.more second.more;
-  sent_is = bytes_passed-append way.Sent first.more second.more ∙ ap (λ (x : List ℕ). x ++ bytes_sent second.more) first.sent_is ∙ ap (λ (x : List ℕ). sent ++ x) second.sent_is;
-  given_is = bytes_passed-append way.Given first.more second.more ∙ ap (λ (x : List ℕ). x ++ bytes_given second.more) first.given_is ∙ ap (λ (x : List ℕ). given ++ x) second.given_is;
+  sent_is = bytes_sent-append first.more second.more ∙ ap (λ (x : List ℕ). x ++ bytes_sent second.more) first.sent_is ∙ ap (λ (x : List ℕ). sent ++ x) second.sent_is;
+  given_is = bytes_given-append first.more second.more ∙ ap (λ (x : List ℕ). x ++ bytes_given second.more) first.given_is ∙ ap (λ (x : List ℕ). given ++ x) second.given_is;
 }
 
 TellsPassed-then : (old mid new : Option (List Passed)) (sent given more_sent more_given : List ℕ) → TellsPassed old mid sent given → TellsPassed mid new more_sent more_given
@@ -99,24 +99,15 @@ Exchanged-still old mid new sent given exchanged passed left =
       left = exchanged.left ∙ ap (option_map (λ (rest : List ℕ). given ++ rest)) (sym left);
     }
 
--- of bytes that all went one way, none went the other
-none_given : (bytes : List ℕ) → bytes_given (passed_all way.Sent bytes) ≡ []
-none_given [] = refl
-none_given (byte ∷ bytes) = none_given bytes
-
-none_sent : (bytes : List ℕ) → bytes_sent (passed_all way.Given bytes) ≡ []
-none_sent [] = refl
-none_sent (byte ∷ bytes) = none_sent bytes
-
 passed_sent : (piece : List ℕ) (passed : Option (List Passed)) → TellsPassed passed (option_map (then_all way.Sent piece) passed) piece []
 passed_sent piece None = tt
 passed_sent piece (Some passed) =
-    record { more = passed_all way.Sent piece; goes_on = refl; sent_is = bytes_passed-same way.Sent piece; given_is = none_given piece }
+    record { more = passed_all way.Sent piece; goes_on = refl; sent_is = sent-all piece; given_is = given-none piece }
 
-passed_given : (piece : List ℕ) (passed : Option (List Passed)) → TellsPassed passed (option_map (then_all way.Given piece) passed) [] piece
+passed_given : (piece : List ℕ) (passed : Option (List Passed)) → TellsPassed passed (option_map (then_piece piece) passed) [] piece
 passed_given piece None = tt
 passed_given piece (Some passed) =
-    record { more = passed_all way.Given piece; goes_on = refl; sent_is = none_sent piece; given_is = bytes_passed-same way.Given piece }
+    record { more = passed_piece piece; goes_on = refl; sent_is = sent-piece piece; given_is = given-piece piece }
 
 -- The link was sent a piece.
 pub Exchanged-sent : (old new : LinkRecord) (piece : List ℕ) → Sent old piece new → Exchanged old piece [] new

@@ -2,8 +2,7 @@ use Rattle.std.proofs.Common.{◌≡◌, ◌∙◌, ℕ, List, Some, false, Resu
 use Rattle.ldm_outside.specs.declared.fault.Failed.{Failed}
 use Rattle.ldm_outside.specs.Memory.{after_call}
 use Rattle.ldm_outside.specs.MemCalls.{CallsState, Begins}
-use Rattle.ldm_outside.specs.declared.link.Way.TheVariants as way
-use Rattle.ldm_outside.specs.Link.{then_all}
+use Rattle.ldm_outside.specs.Link.{then_piece}
 use Rattle.ldm_outside.proofs.CopyFront.{drop-copied}
 use Rattle.std.proofs.lemmas.List.{take_rest}
 use Rattle.ldm_outside.proofs.mem_link.MemLinkLink.recv.Goals as goal
@@ -22,8 +21,8 @@ pub returns-clause-given : goal.returns-clause-given
 returns-clause-given c =
     let copied = rw (take_rest, c.deref.ensures.value) at c.copy_next.ensures.front in
     let calls = begun c.begin.result c.self.inside.calls c.begin.new.self c.begin.ensures.begun (sym c.is_err.ensures.value ∙ c.if-is_err.false) in
-    let kept_bytes = kept c.keep.result (rw (take_rest, c.deref.ensures.value) at c.keep.ensures.kept) (sym c.is_err-2.ensures.value ∙ c.if-is_err-2.false) in
-    let passed = kept_bytes ∙ ap (λ (bytes : List ℕ). then_all way.Given bytes c.self.inside.passed.items) (sym copied) in
+    let kept_bytes = kept c.keep_piece.result (rw (take_rest, c.deref.ensures.value) at c.keep_piece.ensures.kept) (sym c.is_err-2.ensures.value ∙ c.if-is_err-2.false) in
+    let passed = kept_bytes ∙ ap (λ (bytes : List ℕ). then_piece bytes c.self.inside.passed.items) (sym copied) in
     rw (← c.self.view_is, calls, passed) (
       omega arith,
       omega arith,

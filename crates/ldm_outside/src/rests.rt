@@ -1,7 +1,8 @@
 //! Clocks that let time pass.
 ghost use Rattle.std.specs.Prelude.{◌≡◌};
 
-use ldm_outside::{Clock, MemClock};
+use crate::clock::Clock;
+use crate::mem_clock::MemClock;
 
 /// A clock that lets time pass where it is asked to.
 pub trait Rests: Clock {

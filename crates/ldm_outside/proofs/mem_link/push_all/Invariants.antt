@@ -1,6 +1,6 @@
 use Rattle.std.proofs.Common.{◌≡◌, ◌≤◌, ◌+◌, length, take, vec_len, vec_capacity}
 use Rattle.ldm_outside.specs.Link.{then_all}
-use Rattle.ldm_outside.proofs.mem_link.keep.Given as goal
+use Rattle.ldm_outside.proofs.mem_link.push_all.Given as goal
 
 abbrev pub invariant-loop-byte : goal.invariant-loop-byte
 invariant-loop-byte l = record {

@@ -1,6 +1,0 @@
-//! Clocks by which one can rest.
-#![tactic(auto)]
-
-mod rests;
-
-pub use rests::Rests;
