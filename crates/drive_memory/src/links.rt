@@ -34,11 +34,11 @@ fn hear<K: Link>(trial: &mut Trial, link: &mut K, count: u64)
     }
 }
 
-// All bytes that went that way.
-fn tell_passed(trial: &mut Trial, way: Way, link: &MemLink) {
+// All bytes that the link was sent, or all that it gave.
+fn tell_passed(trial: &mut Trial, sent: bool, link: &MemLink) {
     let mut bytes = Vec::new(trial.alloc());
     for item in link.passed() {
-        if item.way == way {
+        if (item.way == Way::Sent) == sent {
             push(trial, &mut bytes, item.byte);
         }
     }
@@ -59,7 +59,7 @@ pub fn recv(trial: &mut Trial) {
     let count = trial.number();
     hear(trial, &mut link, count);
     tell_word(trial, "given");
-    tell_passed(trial, Way::Given, &link);
+    tell_passed(trial, false, &link);
     end_of_link(trial, &link);
 }
 
@@ -70,7 +70,7 @@ pub fn send(trial: &mut Trial) {
     let sent = send_all(&mut link, bytes_in(trial.word()));
     tell_word(trial, if sent.is_ok() { "ok" } else { "failed" });
     tell_word(trial, "sent");
-    tell_passed(trial, Way::Sent, &link);
+    tell_passed(trial, true, &link);
     end_of_link(trial, &link);
 }
 

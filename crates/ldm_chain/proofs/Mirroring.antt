@@ -7,8 +7,8 @@ use Rattle.std.proofs.lemmas.List.Concat.{flat_map-append}
 use Rattle.ldm_rpc.specs.Streams.{Position}
 use Rattle.ldm_outside.specs.declared.link.Passed.{Passed}
 use Rattle.ldm_outside.specs.declared.link.Way.TheVariants as way
-use Rattle.ldm_outside.specs.Link.{bytes_sent, bytes_given, passed_all, then_all}
-use Rattle.ldm_outside.proofs.LinkLemmas.{bytes_passed-append, bytes_sent-more, bytes_given-more}
+use Rattle.ldm_outside.specs.Link.{bytes_sent, bytes_given, passed_all, passed_piece, then_all, then_piece}
+use Rattle.ldm_outside.proofs.LinkLemmas.{bytes_given-append, bytes_given-more, bytes_sent-append, bytes_sent-more, given-none, sent-piece}
 use Rattle.ldm_shared.specs.Passes.{SharedView, PassView, IsPassOf, IsSamePass}
 use Rattle.ldm_intake.specs.declared.end.RecvEnd.{RecvEnd}
 use Rattle.ldm_intake.specs.Opening.{request_of}
@@ -29,27 +29,19 @@ use Rattle.ldm_chain.proofs.Pushed.{pushes-moves, went-then}
 
 -- ---- bytes one way and the other
 
-none_given : (bytes : List ℕ) → bytes_given (passed_all way.Sent bytes) ≡ []
-none_given [] = refl
-none_given (byte ∷ bytes) = none_given bytes
-
-none_sent : (bytes : List ℕ) → bytes_sent (passed_all way.Given bytes) ≡ []
-none_sent [] = refl
-none_sent (byte ∷ bytes) = none_sent bytes
-
 bytes_given-sent : (bytes : List ℕ) (passed : List Passed) → bytes_given (then_all way.Sent bytes passed) ≡ bytes_given passed
 bytes_given-sent bytes passed =
-    bytes_passed-append way.Given passed (passed_all way.Sent bytes) ∙ ap (λ (x : List ℕ). bytes_given passed ++ x) (none_given bytes) ∙ append-nil (bytes_given passed)
+    bytes_given-append passed (passed_all way.Sent bytes) ∙ ap (λ (x : List ℕ). bytes_given passed ++ x) (given-none bytes) ∙ append-nil (bytes_given passed)
 
-pub bytes_sent-given : (bytes : List ℕ) (passed : List Passed) → bytes_sent (then_all way.Given bytes passed) ≡ bytes_sent passed
+pub bytes_sent-given : (bytes : List ℕ) (passed : List Passed) → bytes_sent (then_piece bytes passed) ≡ bytes_sent passed
 bytes_sent-given bytes passed =
-    bytes_passed-append way.Sent passed (passed_all way.Given bytes) ∙ ap (λ (x : List ℕ). bytes_sent passed ++ x) (none_sent bytes) ∙ append-nil (bytes_sent passed)
+    bytes_sent-append passed (passed_piece bytes) ∙ ap (λ (x : List ℕ). bytes_sent passed ++ x) (sent-piece bytes) ∙ append-nil (bytes_sent passed)
 
 -- how many bytes were sent, where more are sent or given
 pub sent-more : (piece : List ℕ) (old new : List Passed) → new ≡ then_all way.Sent piece old → length (bytes_sent new) ≡ length (bytes_sent old) + length piece
 sent-more piece old new told = ap (λ (ps : List Passed). length (bytes_sent ps)) told ∙ ap length (bytes_sent-more piece old) ∙ length-append (bytes_sent old) piece
 
-pub sent-kept : (bytes : List ℕ) (old new : List Passed) → new ≡ then_all way.Given bytes old → length (bytes_sent new) ≡ length (bytes_sent old)
+pub sent-kept : (bytes : List ℕ) (old new : List Passed) → new ≡ then_piece bytes old → length (bytes_sent new) ≡ length (bytes_sent old)
 sent-kept bytes old new told = ap (λ (ps : List Passed). length (bytes_sent ps)) told ∙ ap length (bytes_sent-given bytes old)
 
 -- there is room for a piece
@@ -85,9 +77,9 @@ begins b receiver pass passed request before asks first none =
 -- ---- replies are read
 
 reads : (b : Beginning) (m : MirrorView) (front rest : List ℕ) → m.waiting ≡ front ++ rest → Reflects b m
-    → Reflects b (record m { passed = then_all way.Given front m.passed; waiting = rest })
+    → Reflects b (record m { passed = then_piece front m.passed; waiting = rest })
 reads b m front rest split r =
-    let out : bytes_given m.passed ++ m.waiting ≡ bytes_given (then_all way.Given front m.passed) ++ rest =
+    let out : bytes_given m.passed ++ m.waiting ≡ bytes_given (then_piece front m.passed) ++ rest =
     ap (λ (w : List ℕ). bytes_given m.passed ++ w) split ∙ sym (append_assoc (bytes_given m.passed) front rest)
     ∙ sym (ap (λ (g : List ℕ). g ++ rest) (bytes_given-more front m.passed)) in
     record {
@@ -102,7 +94,7 @@ module _ (b : Beginning) (passed : List Passed) (faults : ℕ) (closed : Bool) (
   was = mirror_of passed faults closed read replies receiver pass
 
   -- some from the front
-  pub reads-front : (after : List Passed) (n : ℕ) → after ≡ then_all way.Given (take n (drop read replies)) passed → Reflects b was
+  pub reads-front : (after : List Passed) (n : ℕ) → after ≡ then_piece (take n (drop read replies)) passed → Reflects b was
       → Reflects b (mirror_of after faults closed (read + n) replies receiver pass)
   reads-front after n told r =
       subst (λ (ps : List Passed). Reflects b (mirror_of ps faults closed (read + n) replies receiver pass)) (sym told)
@@ -110,11 +102,11 @@ module _ (b : Beginning) (passed : List Passed) (faults : ℕ) (closed : Bool) (
       (sym (take-append-drop n (drop read replies)) ∙ ap (λ (xs : List ℕ). take n (drop read replies) ++ xs) (drop-drop n read replies)) r)
 
   -- all
-  pub reads-all : (after : List Passed) (none : List ℕ) → after ≡ then_all way.Given (drop read replies) passed → none ≡ [] → Reflects b was
+  pub reads-all : (after : List Passed) (none : List ℕ) → after ≡ then_piece (drop read replies) passed → none ≡ [] → Reflects b was
       → Reflects b (mirror_of after faults closed 0 none receiver pass)
   reads-all after none told empty r =
       subst (λ (ps : List Passed). Reflects b (mirror_of ps faults closed 0 none receiver pass)) (sym told)
-      (subst (λ (xs : List ℕ). Reflects b (mirror_of (then_all way.Given (drop read replies) passed) faults closed 0 xs receiver pass)) (sym empty)
+      (subst (λ (xs : List ℕ). Reflects b (mirror_of (then_piece (drop read replies) passed) faults closed 0 xs receiver pass)) (sym empty)
       (reads b was (drop read replies) [] (sym (append-nil (drop read replies))) r))
 
 -- ---- a piece is pushed

@@ -5,8 +5,8 @@ use Rattle.ldm_model.specs.declared.event.Entry.{Entry}
 use Rattle.ldm_rpc.specs.Streams.{Position}
 use Rattle.ldm_outside.specs.declared.link.Passed.{Passed}
 use Rattle.ldm_outside.specs.declared.link.Way.TheVariants as way
-use Rattle.ldm_outside.specs.Link.{bytes_given, bytes_sent, then_all}
-use Rattle.ldm_outside.proofs.LinkLemmas.{bytes_given-more, bytes_passed-append}
+use Rattle.ldm_outside.specs.Link.{bytes_given, bytes_sent, then_piece}
+use Rattle.ldm_outside.proofs.LinkLemmas.{bytes_given-append, bytes_given-more, bytes_sent-append}
 use Rattle.ldm_shared.specs.Passes.{PassView, Calls}
 use Rattle.ldm_session.specs.Exchange.{PassesMore}
 use Rattle.ldm_intake.specs.declared.end.RecvEnd.{RecvEnd}
@@ -108,19 +108,19 @@ took-told b s before m told r first is over few =
 
 pub sent-then : (old new : List Passed) (sent given : List ℕ) → PassesMore old new sent given → bytes_sent new ≡ bytes_sent old ++ sent
 sent-then old new sent given more =
-    ap bytes_sent more.goes_on ∙ bytes_passed-append way.Sent old more.more ∙ ap (λ (x : List ℕ). bytes_sent old ++ x) more.sent_is
+    ap bytes_sent more.goes_on ∙ bytes_sent-append old more.more ∙ ap (λ (x : List ℕ). bytes_sent old ++ x) more.sent_is
 
 pub given-then : (old new : List Passed) (sent given : List ℕ) → PassesMore old new sent given → bytes_given new ≡ bytes_given old ++ given
 given-then old new sent given more =
-    ap bytes_given more.goes_on ∙ bytes_passed-append way.Given old more.more ∙ ap (λ (x : List ℕ). bytes_given old ++ x) more.given_is
+    ap bytes_given more.goes_on ∙ bytes_given-append old more.more ∙ ap (λ (x : List ℕ). bytes_given old ++ x) more.given_is
 
 -- all that waited was read, and then this passed
-module _ (m : MirrorView) (new : List Passed) (sent given : List ℕ) (more : PassesMore (then_all way.Given m.waiting m.passed) new sent given) where
+module _ (m : MirrorView) (new : List Passed) (sent given : List ℕ) (more : PassesMore (then_piece m.waiting m.passed) new sent given) where
   pub sent-behind : bytes_sent new ≡ bytes_sent m.passed ++ sent
-  sent-behind = sent-then (then_all way.Given m.waiting m.passed) new sent given more ∙ ap (λ (x : List ℕ). x ++ sent) (bytes_sent-given m.waiting m.passed)
+  sent-behind = sent-then (then_piece m.waiting m.passed) new sent given more ∙ ap (λ (x : List ℕ). x ++ sent) (bytes_sent-given m.waiting m.passed)
 
   pub given-behind : bytes_given new ≡ (bytes_given m.passed ++ m.waiting) ++ given
-  given-behind = given-then (then_all way.Given m.waiting m.passed) new sent given more ∙ ap (λ (x : List ℕ). x ++ given) (bytes_given-more m.waiting m.passed)
+  given-behind = given-then (then_piece m.waiting m.passed) new sent given more ∙ ap (λ (x : List ℕ). x ++ given) (bytes_given-more m.waiting m.passed)
 
   -- what was replied behind that is what was given and what waits
   pub replied-behind : (waiting front replies : List ℕ) → bytes_given m.passed ++ m.waiting ≡ front → bytes_given new ++ waiting ≡ front ++ replies → given ++ waiting ≡ replies

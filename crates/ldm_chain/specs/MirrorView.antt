@@ -5,8 +5,7 @@ use Rattle.ldm_outside.specs.declared.io.Got.TheVariants.{Bytes, End, Failed}
 use Rattle.ldm_outside.specs.declared.io.Put.{Put}
 use Rattle.ldm_outside.specs.declared.io.Put.TheVariants as put
 use Rattle.ldm_outside.specs.declared.link.Passed.{Passed}
-use Rattle.ldm_outside.specs.declared.link.Way.TheVariants as way
-use Rattle.ldm_outside.specs.Link.{LinkRecord, bytes_sent, then_all}
+use Rattle.ldm_outside.specs.Link.{LinkRecord, bytes_sent, then_piece}
 use Rattle.ldm_outside.specs.Memory.{raised}
 use Rattle.ldm_shared.specs.Passes.{PassView}
 use Rattle.ldm_session.specs.declared.limits.TheConstants.{LONGEST_STREAM}
@@ -31,7 +30,7 @@ told_by_mirror m = record { passed = Some m.passed; left = None; ends = 0; fault
 abbrev pub RecvsFrom : Got → ℕ → MirrorView → MirrorView → Type 0
 RecvsFrom (Bytes n) room old new =
     (n ≡ min (length old.waiting) room)
-    × (new ≡ record old { passed = then_all way.Given (take n old.waiting) old.passed; waiting = drop n old.waiting })
+    × (new ≡ record old { passed = then_piece (take n old.waiting) old.passed; waiting = drop n old.waiting })
 RecvsFrom End room old new = ⊥
 RecvsFrom Failed room old new = (old.waiting ≡ []) × IsSome old.receiver.end × (new ≡ record old { faults = raised old.faults })
 
@@ -46,4 +45,4 @@ SendsTo put.Failed piece old new = (IsSome old.receiver.end ⊎ HasNoRoom piece 
 
 -- all that waits is taken as read
 abbrev pub all_read : MirrorView → MirrorView
-all_read m = record m { passed = then_all way.Given m.waiting m.passed; waiting = [] }
+all_read m = record m { passed = then_piece m.waiting m.passed; waiting = [] }

@@ -5,7 +5,7 @@ ghost use Rattle.ldm_outside.specs.declared.link.Passed.{Passed};
 
 use std::marker::Model;
 
-/// Bytes that pass on a link, one way.
+/// Bytes that pass on a link, one way: those that it gives come with one call.
 #[derive(Clone, Copy)]
 pub(crate) enum Passing<'a> {
     /// The link is sent them.

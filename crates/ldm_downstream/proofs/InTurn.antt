@@ -4,17 +4,16 @@ use Rattle.std.specs.Option.{option_map}
 use Rattle.std.proofs.lemmas.List.{append-nil, map-append}
 use Rattle.std.proofs.lemmas.List.Concat.{flat_map-append}
 use Rattle.ldm_outside.specs.declared.link.Passed.{Passed}
-use Rattle.ldm_outside.specs.declared.link.Way.{Way}
 use Rattle.ldm_outside.specs.declared.link.Way.TheVariants as way
-use Rattle.ldm_outside.specs.Link.{LinkRecord, bytes_given, bytes_sent, passed_all}
-use Rattle.ldm_outside.proofs.LinkLemmas.{bytes_passed-append, bytes_passed-same}
+use Rattle.ldm_outside.specs.Link.{LinkRecord, bytes_given, bytes_sent, passed_all, passed_piece}
+use Rattle.ldm_outside.proofs.LinkLemmas.{bytes_given-append, bytes_sent-append, given-none, given-piece, sent-all, sent-piece}
 use Rattle.ldm_intake.specs.declared.end.RecvEnd.{RecvEnd}
 use Rattle.ldm_intake.specs.TakesRecord.{Standing}
 use Rattle.ldm_downstream.specs.Answering.{Place, TakesRounds, TimedRound, left_ahead, piece_of, pieces_in, rounds_of}
 use Rattle.ldm_downstream.specs.InTurn.{PassesRounds, Round, given_in, passed_in, sent_in}
 use Rattle.ldm_downstream.specs.Pieces.{Piece, joined}
 use Rattle.ldm_downstream.specs.Receives.{AnswersInTurn, EndsRounds}
-use Rattle.ldm_downstream.specs.Sessions.{PassesAll}
+use Rattle.ldm_downstream.specs.Sessions.{PassesPiece, PassesSent}
 
 -- ---- what passed
 
@@ -31,7 +30,7 @@ passed-append : (first : List ℕ) (xs ys : List TimedRound) → passed_in (roun
 unfolding round_at
 passed-append first xs ys =
     ap passed_in (rounds-append first xs ys)
-    ∙ flat_map-append (λ (round : Round). passed_all way.Given round.given ++ passed_all way.Sent round.sent) (rounds_of first xs) (map round_at ys)
+    ∙ flat_map-append (λ (round : Round). passed_piece round.given ++ passed_all way.Sent round.sent) (rounds_of first xs) (map round_at ys)
 
 pub sent-append : (first : List ℕ) (xs ys : List TimedRound) → sent_in (rounds_of first (xs ++ ys)) ≡ sent_in (rounds_of first xs) ++ sent_in (rounds_of [] ys)
 unfolding round_at
@@ -47,9 +46,13 @@ behind-none : (passed : Option (List Passed)) → passed ≡ option_map (λ befo
 behind-none None = refl
 behind-none (Some before) = ap (λ (t : List Passed). Some t) (sym (append-nil before))
 
--- nothing passed one way
-pub passes-none : (w : Way) (link : LinkRecord) → PassesAll w [] link link
-passes-none w link = behind-none link.passed
+-- nothing was sent
+pub passes-none : (link : LinkRecord) → PassesSent [] link link
+passes-none link = behind-none link.passed
+
+-- no piece came
+pub passes-no-piece : (link : LinkRecord) → PassesPiece [] link link
+passes-no-piece link = behind-none link.passed
 
 -- the same items
 passes-same : (old new : LinkRecord) (items same : List Passed) → items ≡ same → new.passed ≡ option_map (λ before. before ++ items) old.passed
@@ -69,14 +72,14 @@ pub passes-nothing : (old new : LinkRecord) → new.passed ≡ old.passed → Pa
 passes-nothing old new same = same ∙ behind-none old.passed
 
 -- bytes were sent, and no piece came
-pub passes-sent : (sent : List ℕ) (old new : LinkRecord) → PassesAll way.Sent sent old new → PassesRounds (rounds_of sent []) old new
+pub passes-sent : (sent : List ℕ) (old new : LinkRecord) → PassesSent sent old new → PassesRounds (rounds_of sent []) old new
 passes-sent sent old new sends = passes-same old new (passed_all way.Sent sent) (passed_in (rounds_of sent [])) (sym (append-nil (passed_all way.Sent sent))) sends
 
 -- one round
-pub passes-round : (timed : TimedRound) (old mid new : LinkRecord) → PassesAll way.Given timed.round.given old mid → PassesAll way.Sent timed.round.sent mid new
+pub passes-round : (timed : TimedRound) (old mid new : LinkRecord) → PassesPiece timed.round.given old mid → PassesSent timed.round.sent mid new
     → PassesRounds (rounds_of [] (timed ∷ [])) old new
 passes-round timed old mid new gave sends =
-    let given = passed_all way.Given timed.round.given in
+    let given = passed_piece timed.round.given in
     let sent = passed_all way.Sent timed.round.sent in
     passes-same old new (given ++ sent) (passed_in (rounds_of [] (timed ∷ []))) (sym (append-nil (given ++ sent)))
     (sends ∙ ap (option_map (λ (before : List Passed). before ++ sent)) gave ∙ behind-both given sent old.passed)
@@ -139,32 +142,23 @@ answers-then end ahead xs ys a b c new none before receiving pass later = record
 
 -- ---- what a link tells of rounds
 
--- of bytes that all went one way, none went the other
-none-sent : (bytes : List ℕ) → bytes_sent (passed_all way.Given bytes) ≡ []
-none-sent [] = refl
-none-sent (byte ∷ bytes) = none-sent bytes
-
-none-given : (bytes : List ℕ) → bytes_given (passed_all way.Sent bytes) ≡ []
-none-given [] = refl
-none-given (byte ∷ bytes) = none-given bytes
-
 pub told-sent : (rounds : List Round) → bytes_sent (passed_in rounds) ≡ sent_in rounds
 told-sent [] = refl
 told-sent (round ∷ rounds) =
-    let given = passed_all way.Given round.given in
+    let given = passed_piece round.given in
     let sent = passed_all way.Sent round.sent in
-    bytes_passed-append way.Sent (given ++ sent) (passed_in rounds)
+    bytes_sent-append (given ++ sent) (passed_in rounds)
     ∙ ap (λ (x : List ℕ). x ++ bytes_sent (passed_in rounds))
-    (bytes_passed-append way.Sent given sent ∙ ap (λ (x : List ℕ). x ++ bytes_sent sent) (none-sent round.given) ∙ bytes_passed-same way.Sent round.sent)
+    (bytes_sent-append given sent ∙ ap (λ (x : List ℕ). x ++ bytes_sent sent) (sent-piece round.given) ∙ sent-all round.sent)
     ∙ ap (λ (x : List ℕ). round.sent ++ x) (told-sent rounds)
 
 pub told-given : (rounds : List Round) → bytes_given (passed_in rounds) ≡ given_in rounds
 told-given [] = refl
 told-given (round ∷ rounds) =
-    let given = passed_all way.Given round.given in
+    let given = passed_piece round.given in
     let sent = passed_all way.Sent round.sent in
-    bytes_passed-append way.Given (given ++ sent) (passed_in rounds)
+    bytes_given-append (given ++ sent) (passed_in rounds)
     ∙ ap (λ (x : List ℕ). x ++ bytes_given (passed_in rounds))
-    (bytes_passed-append way.Given given sent ∙ ap (λ (x : List ℕ). bytes_given given ++ x) (none-given round.sent) ∙ append-nil (bytes_given given)
-    ∙ bytes_passed-same way.Given round.given)
+    (bytes_given-append given sent ∙ ap (λ (x : List ℕ). bytes_given given ++ x) (given-none round.sent) ∙ append-nil (bytes_given given)
+    ∙ given-piece round.given)
     ∙ ap (λ (x : List ℕ). round.given ++ x) (told-given rounds)

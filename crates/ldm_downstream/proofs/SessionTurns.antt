@@ -27,7 +27,7 @@ use Rattle.ldm_downstream.specs.Pushing.{Continues, Pushes, PushesAt, FailsAt, F
 use Rattle.ldm_downstream.specs.Receives.{Passed, at_first}
 use Rattle.ldm_downstream.specs.Sessions.{HasCome, Writes, WritesAt, Rounds, RunsOn, RunsOut, settled}
 use Rattle.ldm_downstream.proofs.Ending.{continues-none}
-use Rattle.ldm_downstream.proofs.InTurn.{passes-none, passes-sent}
+use Rattle.ldm_downstream.proofs.InTurn.{passes-no-piece, passes-none, passes-sent}
 use Rattle.ldm_downstream.proofs.Linked.{Passed-nothing, TakesBytes-nothing}
 use Rattle.ldm_downstream.proofs.Rounds.{front-all, front-none, link_fault, log_fault, round-written, round-ended, round-unfed}
 use Rattle.ldm_downstream.proofs.Written.{failed-round}
@@ -92,7 +92,7 @@ all-ahead bytes now old new link log answered = record {
   given = [];
   all = sym (append-nil bytes);
   few = omega arith;
-  gave = ap (λ (l : LinkRecord). l.passed) link ∙ passes-none way.Given old.link;
+  gave = ap (λ (l : LinkRecord). l.passed) link ∙ passes-no-piece old.link;
   exchanged = Exchanged-nothing old.link new.link (ap (λ (l : LinkRecord). l.passed) link) (ap (λ (l : LinkRecord). l.left) link);
   faults = ap (λ (l : LinkRecord). l.faults) link;
   log = log;
@@ -103,7 +103,7 @@ all-ahead bytes now old new link log answered = record {
 pub nothing-written : (now : SessionRecord) → Writes [] [] now.link now.link now.log now.log
 nothing-written now = record {
   exchanged = Exchanged-nothing now.link now.link refl refl;
-  sends = passes-none way.Sent now.link;
+  sends = passes-none now.link;
   logged = TakesBytes-nothing now.log now.log refl;
 }
 

@@ -1,19 +1,19 @@
--- What passed on a link in turn: bytes came, and then bytes were sent.
+-- What passed on a link in turn: a piece came, and then bytes were sent.
 use Rattle.std.specs.Prelude.{◌≡◌, ℕ, List, ◌++◌}
 use Rattle.std.specs.List.{flat_map}
 use Rattle.std.specs.Option.{option_map}
 use Rattle.ldm_outside.specs.declared.link.Passed.{Passed}
 use Rattle.ldm_outside.specs.declared.link.Way.TheVariants as way
-use Rattle.ldm_outside.specs.Link.{LinkRecord, passed_all}
+use Rattle.ldm_outside.specs.Link.{LinkRecord, passed_all, passed_piece}
 
--- A round: bytes that came, and then bytes that were sent.
+-- A round: the bytes of one piece, and then bytes that were sent. Where no byte came, nothing was asked for.
 pub record Round : Type 0 where
   pub given : List ℕ
   pub sent : List ℕ
 
 -- what passed in rounds, one after another
 abbrev pub passed_in : List Round → List Passed
-passed_in rounds = flat_map (λ (round : Round). passed_all way.Given round.given ++ passed_all way.Sent round.sent) rounds
+passed_in rounds = flat_map (λ (round : Round). passed_piece round.given ++ passed_all way.Sent round.sent) rounds
 
 -- all that came, in order
 abbrev pub given_in : List Round → List ℕ

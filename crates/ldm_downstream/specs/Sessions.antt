@@ -7,9 +7,8 @@ use Rattle.ldm_outside.specs.Count.{Rose}
 use Rattle.ldm_outside.specs.Io.{SinkRecord, Takes as TakesBytes}
 use Rattle.ldm_outside.specs.declared.io.Got.{Got}
 use Rattle.ldm_outside.specs.declared.io.Got.TheVariants as got
-use Rattle.ldm_outside.specs.declared.link.Way.{Way}
 use Rattle.ldm_outside.specs.declared.link.Way.TheVariants as way
-use Rattle.ldm_outside.specs.Link.{LinkRecord, then_all}
+use Rattle.ldm_outside.specs.Link.{LinkRecord, then_all, then_piece}
 use Rattle.ldm_outside.specs.Session.{SessionRecord, no_gate}
 use Rattle.ldm_shared.specs.Passes.{PassView}
 use Rattle.ldm_session.specs.Exchange.{Exchanged}
@@ -34,14 +33,18 @@ IsFew (got.Bytes n) most = n ≤ most
 IsFew got.End most = Unit {0}
 IsFew got.Failed most = Unit {0}
 
--- just these bytes passed, all one way, where the link tells what passed
-abbrev pub PassesAll : Way → List ℕ → LinkRecord → LinkRecord → Type 0
-PassesAll way bytes old new = new.passed ≡ option_map (then_all way bytes) old.passed
+-- just these bytes were sent, where the link tells what passed
+abbrev pub PassesSent : List ℕ → LinkRecord → LinkRecord → Type 0
+PassesSent bytes old new = new.passed ≡ option_map (then_all way.Sent bytes) old.passed
+
+-- just this piece came, with one call, where the link tells what passed
+abbrev pub PassesPiece : List ℕ → LinkRecord → LinkRecord → Type 0
+PassesPiece bytes old new = new.passed ≡ option_map (then_piece bytes) old.passed
 
 -- Bytes that the peer is owed were sent, and log lines were written.
 pub record Writes (sent lines : List ℕ) (link new_link : LinkRecord) (log new_log : SinkRecord) : Type 0 where
   pub exchanged : Exchanged link sent [] new_link
-  pub sends : PassesAll way.Sent sent link new_link
+  pub sends : PassesSent sent link new_link
   pub logged : TakesBytes log lines new_log
 
 -- a front of some bytes
@@ -84,7 +87,7 @@ pub record HasCome (ahead : List ℕ) (piece : Piece) (begins now : SessionRecor
   pub all : piece.bytes ≡ ahead ++ given
   pub few : length given ≤ LONGEST_PIECE
   pub exchanged : Exchanged begins.link [] given now.link
-  pub gave : PassesAll way.Given given begins.link now.link
+  pub gave : PassesPiece given begins.link now.link
   pub faults : now.link.faults ≡ begins.link.faults
   pub log : now.log ≡ begins.log
   pub moment : Answers piece.now begins.clock now.clock

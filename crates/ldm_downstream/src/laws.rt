@@ -2,7 +2,7 @@
 ghost use Rattle.std.specs.Prelude.{◌≡◌, ◌≤◌, ◌∷◌, [], ℕ, List, Option, length};
 ghost use Rattle.ldm_rpc.specs.Streams.{records_in, in_hand};
 ghost use Rattle.ldm_session.specs.declared.limits.TheConstants.{LONGEST_STREAM};
-ghost use Rattle.ldm_outside.specs.declared.link.Way.TheVariants.{Given, Sent};
+ghost use Rattle.ldm_outside.specs.declared.link.Way.TheVariants.{First, Given, Sent};
 ghost use Rattle.ldm_outside.specs.Link.{bytes_given, bytes_sent};
 ghost use Rattle.ldm_downstream.specs.declared.limits.TheConstants.{LONGEST_PIECE};
 ghost use Rattle.ldm_downstream.specs.InTurn.{Round, given_in, passed_in, sent_in};
@@ -35,14 +35,14 @@ pub fn pieces_make_no_difference()
         → hand beginning pieces ≡ in_hand beginning (joined pieces) }
 {}
 
-/// What passed in rounds: of each first the bytes that came, and then those that were sent. A piece has at most so many
-/// bytes.
+/// What passed in rounds: of each first the piece that came, with a mark on its first byte, and then the bytes that
+/// were sent. A piece has at most so many bytes.
 pub fn rounds_are_told()
     ensures sent { (rounds : List Round) → bytes_sent (passed_in rounds) ≡ sent_in rounds }
     ensures given { (rounds : List Round) → bytes_given (passed_in rounds) ≡ given_in rounds }
     ensures order { passed_in
         (record { given = 1 ∷ 2 ∷ []; sent = 3 ∷ [] } ∷ record { given = 4 ∷ []; sent = [] } ∷ [])
-        ≡ record { way = Given; byte = 1 } ∷ record { way = Given; byte = 2 } ∷ record { way = Sent; byte = 3 }
-        ∷ record { way = Given; byte = 4 } ∷ [] }
+        ≡ record { way = First; byte = 1 } ∷ record { way = Given; byte = 2 } ∷ record { way = Sent; byte = 3 }
+        ∷ record { way = First; byte = 4 } ∷ [] }
     ensures longest_piece { LONGEST_PIECE ≡ 262144 }
 {}

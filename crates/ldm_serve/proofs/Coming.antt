@@ -4,7 +4,7 @@ use Rattle.std.specs.Prelude.{IfSome, if◌then◌else◌, map}
 use Rattle.std.proofs.lemmas.List.{take-append-le, take-take}
 use Rattle.ldm_outside.specs.declared.io.Got.TheVariants.{Bytes, End, Failed}
 use Rattle.ldm_outside.specs.Count.{Rose}
-use Rattle.ldm_outside.specs.Link.{IsNotClosed, LinkRecord, RecvGives}
+use Rattle.ldm_outside.specs.Link.{Gave, IsNotClosed, LinkRecord, RecvGives}
 use Rattle.ldm_outside.specs.Session.{KeepsFaults}
 use Rattle.ldm_outside.proofs.CallerLemmas.{Rose-later}
 use Rattle.ldm_rpc.specs.Reading.{is_pending}
@@ -67,7 +67,7 @@ module _ (client : Client) (begins : Moment) (outlived : List Outlived) (taken :
       (Exchanged-then_given begins.outside.link now.outside.link link reaches.sent (taken ++ []) bytes reaches.exchanged gave)
 
   -- all was sent that is owed for what came
-  reaches-gave : (bytes : List ℕ) (link : LinkRecord) → Exchanged now.outside.link [] bytes link → length bytes ≤ LONGEST_PIECE
+  reaches-gave : (bytes : List ℕ) (link : LinkRecord) → Gave now.outside.link bytes link → length bytes ≤ LONGEST_PIECE
       → Reaches true true client (outliving outlived) taken bytes begins (linked now link)
   reaches-gave bytes link gave few =
       let given : (taken ++ []) ++ bytes ≡ taken ++ bytes = ap (λ (xs : List ℕ). xs ++ bytes) (append-nil taken) in
@@ -75,9 +75,9 @@ module _ (client : Client) (begins : Moment) (outlived : List Outlived) (taken :
       ap placed_of (sym (append-nil (map step_of outlived))) ∙ reaches.records ∙ ap (records_in beginning) (sym (append-nil taken)) in
       let sent : reaches.sent ≡ records_of (messages_for_all client outlived) =
       reaches.sent_part ∙ ap records_of (append-nil (messages_for_all client outlived)) in
-      reaches-link bytes link (exchanged-more bytes link gave)
+      reaches-link bytes link (exchanged-more bytes link (Exchanged-gave now.outside.link link bytes gave))
       (subst (λ (all : List ℕ). InTurn client outlived (record { given = all; sent = reaches.sent }) begins.outside.link link) given
-      (turn-given client outlived total begins.outside.link now.outside.link link reaches.in_turn records sent bytes gave.passed few))
+      (turn-given client outlived total begins.outside.link now.outside.link link reaches.in_turn records sent bytes (ap (λ (l : LinkRecord). l.passed) gave.1) few))
 
   reaches-still : (link : LinkRecord) → Exchanged now.outside.link [] [] link → Reaches true true client (outliving outlived) taken [] begins (linked now link)
   reaches-still link still =
@@ -155,7 +155,7 @@ module _ (client : Client) (begins : Moment) (p : Position) (now : Moment) (here
     came-reads n gives few = record {
       outlived = here.outlived;
       taken = here.taken;
-      reaches = reaches-gave client begins here.outlived here.taken now here.reaches (take n into) link (Exchanged-gave now.outside.link link (take n into) gives.2) few;
+      reaches = reaches-gave client begins here.outlived here.taken now here.reaches (take n into) link gives.2 few;
       hand_is = here.hand_is;
       counts = counts-here;
     }

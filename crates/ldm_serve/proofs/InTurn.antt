@@ -9,13 +9,14 @@ use Rattle.std.proofs.lemmas.List.Elements.{All-nil, All-push}
 use Rattle.ldm_outside.specs.declared.link.Passed.{Passed}
 use Rattle.ldm_outside.specs.declared.link.Way.{Way}
 use Rattle.ldm_outside.specs.declared.link.Way.TheVariants as way
-use Rattle.ldm_outside.specs.Link.{LinkRecord, bytes_given, bytes_sent, passed_all, then_all, with_byte}
+use Rattle.ldm_outside.specs.Link.{LinkRecord, bytes_given, bytes_sent, passed_all, passed_piece, then_all, then_piece, with_given, with_sent}
 use Rattle.ldm_rpc.specs.Streams.{records_in}
 use Rattle.ldm_session.specs.Exchange.{TellsPassed}
 use Rattle.ldm_intake.specs.Room.{records_of}
 use Rattle.ldm_downstream.specs.declared.limits.TheConstants.{LONGEST_PIECE}
 use Rattle.ldm_serve.specs.Client.{Client}
 use Rattle.ldm_downstream.specs.InTurn.{PassesRounds, Round, given_in, passed_in, sent_in}
+use Rattle.ldm_downstream.specs.Sessions.{PassesPiece}
 use Rattle.ldm_serve.specs.InTurn.{AreAnswered, InTurn, IsSmall}
 use Rattle.ldm_serve.specs.Outlived.{Outlived, messages_for_all, step_of}
 use Rattle.ldm_serve.specs.ServingView.{beginning}
@@ -23,23 +24,15 @@ use Rattle.ldm_serve.specs.Steps.{placed_of}
 
 -- ---- bytes that all went one way
 
-only-first : (w : Way) (byte : ℕ) (more : List Passed) (others bytes : List ℕ) → with_byte way.Given w byte others ≡ []
-    → (others ≡ [] → more ≡ passed_all way.Sent bytes) → record { way = w; byte = byte } ∷ more ≡ passed_all way.Sent (with_byte way.Sent w byte bytes)
+only-first : (w : Way) (byte : ℕ) (more : List Passed) (others bytes : List ℕ) → with_given w byte others ≡ []
+    → (others ≡ [] → more ≡ passed_all way.Sent bytes) → record { way = w; byte = byte } ∷ more ≡ passed_all way.Sent (with_sent w byte bytes)
 only-first way.Sent byte more others bytes none same = ap (λ (xs : List Passed). record { way = way.Sent; byte = byte } ∷ xs) (same none)
+only-first way.First byte more others bytes none same = absurd (cc none)
 only-first way.Given byte more others bytes none same = absurd (cc none)
 
 only-sent : (more : List Passed) → bytes_given more ≡ [] → more ≡ passed_all way.Sent (bytes_sent more)
 only-sent [] none = refl
 only-sent (item ∷ more) none = only-first item.way item.byte more (bytes_given more) (bytes_sent more) none (λ none_more. only-sent more none_more)
-
-given-first : (w : Way) (byte : ℕ) (more : List Passed) (others bytes : List ℕ) → with_byte way.Sent w byte others ≡ []
-    → (others ≡ [] → more ≡ passed_all way.Given bytes) → record { way = w; byte = byte } ∷ more ≡ passed_all way.Given (with_byte way.Given w byte bytes)
-given-first way.Given byte more others bytes none same = ap (λ (xs : List Passed). record { way = way.Given; byte = byte } ∷ xs) (same none)
-given-first way.Sent byte more others bytes none same = absurd (cc none)
-
-only-given : (more : List Passed) → bytes_sent more ≡ [] → more ≡ passed_all way.Given (bytes_given more)
-only-given [] none = refl
-only-given (item ∷ more) none = given-first item.way item.byte more (bytes_sent more) (bytes_given more) none (λ none_more. only-given more none_more)
 
 tells-sent : (old new : Option (List Passed)) (sent : List ℕ) → TellsPassed old new sent [] → new ≡ option_map (then_all way.Sent sent) old
 tells-sent (Some old) (Some new) sent passes =
@@ -48,14 +41,6 @@ tells-sent (Some old) (Some new) sent passes =
 tells-sent None None sent passes = refl
 tells-sent (Some old) None sent passes = absurd passes
 tells-sent None (Some new) sent passes = absurd passes
-
-tells-given : (old new : Option (List Passed)) (given : List ℕ) → TellsPassed old new [] given → new ≡ option_map (then_all way.Given given) old
-tells-given (Some old) (Some new) given passes =
-    let all : passes.more ≡ passed_all way.Given given = only-given passes.more passes.sent_is ∙ ap (passed_all way.Given) passes.given_is in
-    ap (λ (xs : List Passed). Some xs) (passes.goes_on ∙ ap (λ (xs : List Passed). old ++ xs) all)
-tells-given None None given passes = refl
-tells-given (Some old) None given passes = absurd passes
-tells-given None (Some new) given passes = absurd passes
 
 -- ---- rounds
 
@@ -81,8 +66,8 @@ module _ {A : Type 0} where
 passed-sent : (before : List Round) (latest : Round) (more : List ℕ)
     → passed_in (before ++ sends-more latest more ∷ []) ≡ passed_in (before ++ latest ∷ []) ++ passed_all way.Sent more
 passed-sent before latest more =
-    let of : Round → List Passed = λ (round : Round). passed_all way.Given round.given ++ passed_all way.Sent round.sent in
-    let given = passed_all way.Given latest.given in
+    let of : Round → List Passed = λ (round : Round). passed_piece round.given ++ passed_all way.Sent round.sent in
+    let given = passed_piece latest.given in
     let sent = passed_all way.Sent latest.sent in
     let rest = passed_all way.Sent more in
     flat_map-append of before (sends-more latest more ∷ [])
@@ -104,10 +89,10 @@ given-sent before latest more =
     let of : Round → List ℕ = λ (round : Round). round.given in
     flat_map-append of before (sends-more latest more ∷ []) ∙ sym (flat_map-append of before (latest ∷ []))
 
-passed-given : (rounds : List Round) (bytes : List ℕ) → passed_in (rounds ++ brings bytes ∷ []) ≡ passed_in rounds ++ passed_all way.Given bytes
+passed-given : (rounds : List Round) (bytes : List ℕ) → passed_in (rounds ++ brings bytes ∷ []) ≡ passed_in rounds ++ passed_piece bytes
 passed-given rounds bytes =
-    let of : Round → List Passed = λ (round : Round). passed_all way.Given round.given ++ passed_all way.Sent round.sent in
-    let given = passed_all way.Given bytes in
+    let of : Round → List Passed = λ (round : Round). passed_piece round.given ++ passed_all way.Sent round.sent in
+    let given = passed_piece bytes in
     flat_map-append of rounds (brings bytes ∷ []) ∙ ap (λ (xs : List Passed). passed_in rounds ++ xs) (append-nil (given ++ []) ∙ append-nil given)
 
 sent-given : (rounds : List Round) (bytes : List ℕ) → sent_in (rounds ++ brings bytes ∷ []) ≡ sent_in rounds
@@ -200,13 +185,13 @@ module _ (client : Client) (outlived : List Outlived) where
         sent = turn.sent ∙ sent;
       }
 
-      pub turn-given : (bytes : List ℕ) → TellsPassed mid.passed new.passed [] bytes → length bytes ≤ LONGEST_PIECE
+      pub turn-given : (bytes : List ℕ) → PassesPiece bytes mid new → length bytes ≤ LONGEST_PIECE
           → InTurn client outlived (record { given = total.given ++ bytes; sent = total.sent }) old new
       turn-given bytes tells few = record {
         before = turn.before ++ turn.latest ∷ [];
         latest = brings bytes;
-        passed = tells-given mid.passed new.passed bytes tells ∙ ap (option_map (then_all way.Given bytes)) turn.passed
-            ∙ passed-then old.passed (passed_in (turn.before ++ turn.latest ∷ [])) (passed_all way.Given bytes) _ (passed-given (turn.before ++ turn.latest ∷ []) bytes);
+        passed = tells ∙ ap (option_map (then_piece bytes)) turn.passed
+            ∙ passed-then old.passed (passed_in (turn.before ++ turn.latest ∷ [])) (passed_piece bytes) _ (passed-given (turn.before ++ turn.latest ∷ []) bytes);
         given = given-given (turn.before ++ turn.latest ∷ []) bytes ∙ ap (λ (xs : List ℕ). xs ++ bytes) turn.given;
         sent = sent-given (turn.before ++ turn.latest ∷ []) bytes ∙ turn.sent;
         small = All-push IsSmall turn.before turn.latest turn.small turn.latest_small;
