@@ -1,5 +1,5 @@
 #!/usr/bin/env python3
-"""Answers the cases of `drive_stats` by a plain program, and compares them with its `stdout`.
+"""Answers the cases of hourly totals of `drive_values` by a plain program, and compares them with its `stdout`.
 
 A table of the plain program keeps all products that it was ever given, and how often each; its report is made of those that lie within the
 window, line by line.
@@ -18,7 +18,7 @@ HOUR = 3_600_000_000
 MOST_HOURS = 8_760
 MOST_PRODUCTS = 2**31
 LONGEST_TOLD = 4_000
-FOLDER = pathlib.Path(__file__).resolve().parent.parent / "crates/drive_stats"
+FOLDER = pathlib.Path(__file__).resolve().parent.parent / "crates/drive_values"
 
 
 class Product(typing.NamedTuple):
@@ -144,27 +144,33 @@ def tell_split(words):
 ANSWERS = {"hour": lambda words: hour_text(int(words[0])), "table": tell_steps, "split": tell_split}
 
 
+def is_asked(line):
+    return line.split(" ")[0] in ANSWERS
+
+
 def answer(line):
-    if line == "" or line.startswith("#"):
-        return line
     word, *fields = line.split(" ")
     return ANSWERS[word](collections.deque(fields))
 
 
 def main():
     cases = (FOLDER / "stdin").read_text().splitlines()
-    answers = [answer(line) for line in cases]
-    if sys.argv[1:] == ["--write"]:
-        (FOLDER / "stdout").write_text("".join(f"{line}\n" for line in answers))
-        return
     found = (FOLDER / "stdout").read_text().splitlines()
-    for line, wanted, told in zip(cases, answers, found):
-        if wanted != told:
-            sys.exit(f"to {line[:300]!r} the answer is {wanted[:500]!r}, and stdout of drive_stats has {told[:500]!r}")
-    count = sum(line != "" and not line.startswith("#") for line in cases)
-    if len(found) != len(cases) or count == 0:
-        sys.exit(f"stdout of drive_stats has {len(found)} lines for {len(cases)} of stdin")
-    print(f"{count} cases of drive_stats have the answers of a plain program")
+    if len(found) != len(cases):
+        sys.exit(f"stdout of drive_values has {len(found)} lines for {len(cases)} of stdin")
+    asked = [at for at, line in enumerate(cases) if is_asked(line)]
+    if sys.argv[1:] == ["--write"]:
+        for at in asked:
+            found[at] = answer(cases[at])
+        (FOLDER / "stdout").write_text("".join(f"{line}\n" for line in found))
+        return
+    for at in asked:
+        wanted = answer(cases[at])
+        if wanted != found[at]:
+            sys.exit(f"to {cases[at][:300]!r} the answer is {wanted[:500]!r}, and stdout of drive_values has {found[at][:500]!r}")
+    if not asked:
+        sys.exit("no case of hourly totals is there")
+    print(f"{len(asked)} cases of hourly totals have the answers of a plain program")
 
 
 if __name__ == "__main__":

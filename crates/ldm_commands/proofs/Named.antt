@@ -2,7 +2,7 @@
 use Rattle.std.proofs.Common.{◌≡◌, ℕ, List, Option, Some, None, sym, subst}
 use Rattle.std.specs.Borrow.{Bor}
 use Rattle.std.specs.List.{All}
-use Rattle.ldm_pqinsert.specs.Inserting as inserting
+use Rattle.ldm_tools.specs.Inserting as inserting
 use Rattle.ldm_words.specs.Values as words
 use Rattle.ldm_words.specs.Values.{IsName, texts_of}
 

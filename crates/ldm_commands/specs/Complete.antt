@@ -5,7 +5,7 @@ use Rattle.ldm_chain.specs.Complete.{ChainCompletes}
 use Rattle.ldm_crowd.specs.Complete.{CrowdCompletes}
 use Rattle.ldm_exercise.specs.Complete.{ExerciseCompletes}
 use Rattle.ldm_node_command.specs.Complete.{NodeCompletes}
-use Rattle.ldm_saving.specs.Complete.{CheckCompletes, ResumeCompletes, SaveCompletes}
+use Rattle.ldm_play.specs.SavingComplete.{CheckCompletes, ResumeCompletes, SaveCompletes}
 use Rattle.ldm_commands.specs.Command.{Form}
 use Rattle.ldm_commands.specs.Command as form
 use Rattle.ldm_commands.specs.Lent.{chain_of, check_of, node_of, saving_of, setup_of, size_of, work_of}

@@ -5,7 +5,7 @@ use Rattle.ldm_chain.specs.Law.{ObeysChainLaw}
 use Rattle.ldm_crowd.specs.Law.{ObeysCrowdLaw}
 use Rattle.ldm_exercise.specs.Law.{ObeysExerciseLaw}
 use Rattle.ldm_node_command.specs.Law.{ObeysNodeLaw}
-use Rattle.ldm_saving.specs.Law.{ObeysResumeLaw}
+use Rattle.ldm_play.specs.SavingLaw.{ObeysResumeLaw}
 use Rattle.ldm_commands.specs.Command.{Form}
 use Rattle.ldm_commands.specs.Command as form
 use Rattle.ldm_commands.specs.Lent.{chain_of, node_of, saving_of, setup_of, size_of, work_of}

@@ -6,22 +6,22 @@ use Rattle.ldm_chain.specs.Work.{ChainOutside, ChainWork}
 use Rattle.ldm_check.specs.Runs as files
 use Rattle.ldm_node_command.specs.Outside as node_command
 use Rattle.ldm_node_command.specs.Setup.{Setup}
-use Rattle.ldm_notifyme.specs.Notifyme.{Wanted}
+use Rattle.ldm_watch.specs.Notifyme.{Wanted}
 use Rattle.ldm_gather.specs.Orders.{OrderView}
 use Rattle.ldm_pqact_command.specs.PqactRuns.{PqactLent, pqact_lent}
-use Rattle.ldm_pqcat.specs.Cats.{CatLent, cat_lent}
-use Rattle.ldm_pqinsert.specs.Inserting.{Inserting}
-use Rattle.ldm_pqinsert.specs.Inserts.{InsertRecord}
+use Rattle.ldm_gather.specs.Cats.{CatLent, cat_lent}
+use Rattle.ldm_tools.specs.Inserting.{Inserting}
+use Rattle.ldm_tools.specs.Inserts.{InsertRecord}
 use Rattle.ldm_play.specs.Ending.{Size}
-use Rattle.ldm_saving.specs.Outside as saving
-use Rattle.ldm_pqmon.specs.Every as pqmon
+use Rattle.ldm_play.specs.Outside as saving
+use Rattle.ldm_tools.specs.Every as pqmon
 use Rattle.ldm_tools.specs.Mon.{MonRecord}
 use Rattle.ldm_pqstats.specs.Runs as pqstats
 use Rattle.ldm_pqstats.specs.declared.asked.StatsAsked.{StatsAsked}
 use Rattle.ldm_watch.specs.declared.form.NoticeForm.{NoticeForm}
 use Rattle.ldm_watch.specs.declared.form.NoticeForm.TheVariants.{Numbers, Names}
-use Rattle.ldm_wmo_command.specs.Ingesting.{Ingesting}
-use Rattle.ldm_wmo_command.specs.Moments as wmo_command
+use Rattle.ldm_wmo.specs.Ingesting.{Ingesting}
+use Rattle.ldm_wmo.specs.Moments as wmo_command
 use Rattle.ldm_words.specs.Forms.{ActForm, CatForm, ChainForm, InsertForm, NodeForm, NoticesForm, SaveForm, StatsForm, WmoForm}
 use Rattle.ldm_commands.specs.World.{Tells, WorldView, streams_of}
 

@@ -12,16 +12,16 @@ use Rattle.ldm_crowd.specs.Run.{CrowdRuns}
 use Rattle.ldm_exercise.specs.Run.{Exercises}
 use Rattle.ldm_node_command.specs.Run.{NodeRuns}
 use Rattle.ldm_node_command.specs.Told.{TellsCommands}
-use Rattle.ldm_notifyme.specs.Notifyme.{Notifies}
+use Rattle.ldm_watch.specs.Notifyme.{Notifies}
 use Rattle.ldm_pqact_command.specs.PqactRuns.{Pqacts}
-use Rattle.ldm_pqcat.specs.Cats.{Cats}
-use Rattle.ldm_pqinsert.specs.Inserts.{Inserts}
-use Rattle.ldm_pqmon.specs.Every.{AsksOn}
+use Rattle.ldm_gather.specs.Cats.{Cats}
+use Rattle.ldm_tools.specs.Inserts.{Inserts}
+use Rattle.ldm_tools.specs.Every.{AsksOn}
 use Rattle.ldm_pqstats.specs.Runs.{Pqstats}
 use Rattle.ldm_pqstats.specs.declared.asked.StatsAsked.{StatsAsked}
-use Rattle.ldm_saving.specs.Runs.{CheckRuns, ResumeRuns, SaveRuns}
+use Rattle.ldm_play.specs.Runs.{CheckRuns, ResumeRuns, SaveRuns}
 use Rattle.ldm_tools.specs.Mon.{Mons}
-use Rattle.ldm_wmo_command.specs.Ingests.{Ingests}
+use Rattle.ldm_wmo.specs.Ingests.{Ingests}
 use Rattle.ldm_commands.specs.Command.{Form, has_options, take_memory}
 use Rattle.ldm_commands.specs.Command as form
 use Rattle.ldm_commands.specs.Lent.{IsAskedFor, act_of, asked_of, cat_of, chain_of, check_of, every_of, files_of, ingest_of, ingesting_of, insert_of, inserting_of, mon_of, node_of}

@@ -8,7 +8,7 @@ ghost use Rattle.ldm_commands.specs.World.{tells_of, world_view};
 use crate::world::World;
 use ldm_disk::Disk;
 use ldm_outside::{Clock, Launcher, Net, Sink, Source, Store};
-use ldm_saving::{pqcheck, resume, save};
+use ldm_play::{pqcheck, resume, save};
 use ldm_words::SaveWords;
 use std::alloc::Global;
 

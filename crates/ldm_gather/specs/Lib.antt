@@ -16,3 +16,8 @@ pub mod EachCourse
 pub mod EachEnds
 pub mod EachRuns
 pub mod Statuses
+pub mod Writing
+pub mod CatTaking
+pub mod Bodies
+pub mod CatStatuses
+pub mod Cats

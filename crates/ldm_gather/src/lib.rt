@@ -6,7 +6,12 @@
 //! hands each product that the cursor gives to a [`Taker`], up to a count.
 #![tactic(auto)]
 
+mod body;
+mod cat;
+mod cat_end;
+mod cat_limits;
 mod collect;
+mod command;
 mod course;
 mod each;
 mod each_end;
@@ -28,3 +33,6 @@ pub use limits::{ARENA, EVERY_FEEDTYPE, LARGEST_HEREIS, PASSES, SLOTS};
 pub use order::{Asking, Order};
 pub use statuses::{status_of_queue, status_of_receiving};
 pub use taker::{EachStop, Taken, Taker};
+pub use cat::Cat;
+pub use command::{cat_products, pqcat};
+pub use cat_limits::LARGEST_PIECE;

@@ -6,3 +6,7 @@ pub mod PlaysScriptLemmas
 pub mod CompletesLemmas
 pub mod LawLemmas
 pub mod HandedOnLemmas
+pub mod FileLemmas
+pub mod OpenLemmas
+pub mod SavingCompletesLemmas
+pub mod RunLemmas

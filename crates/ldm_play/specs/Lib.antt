@@ -11,3 +11,13 @@ pub mod Statuses
 pub mod Run
 pub mod Complete
 pub mod HandedOn
+pub mod Outside
+pub mod Files
+pub mod Save
+pub mod Resume
+pub mod Check
+pub mod SavingStatuses
+pub mod SavingLaw
+pub mod SavingComplete
+pub mod Runs
+pub mod Steps

@@ -10,3 +10,14 @@ pub mod Lines
 pub mod Telling
 pub mod Owing
 pub mod Told
+pub mod Every
+pub mod Inserting
+pub mod InsertLines
+pub mod Moments
+pub mod Files
+pub mod Runs
+pub mod InsertOwing
+pub mod Inserts
+pub mod InsertTold
+pub mod Examples
+pub mod Parts

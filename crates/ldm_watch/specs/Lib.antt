@@ -14,3 +14,5 @@ pub mod Taking
 pub mod Turns
 pub mod Sessions
 pub mod Examples
+pub mod Held
+pub mod Notifyme

@@ -1,6 +1,7 @@
 //! One asks a peer to be told of the products of a class, and writes a line for each.
 #![tactic(auto)]
 
+mod asked;
 mod dates;
 mod end;
 mod examples;
@@ -9,6 +10,7 @@ mod law;
 mod limits;
 mod names;
 mod notices;
+mod notify;
 mod reading;
 mod session;
 mod step;
@@ -24,3 +26,5 @@ pub use limits::LONGEST_PIECE;
 pub use session::watch;
 pub use step::Step;
 pub use watching::{Phase, Watching};
+pub use asked::NoticesAsked;
+pub use notify::{NotifymeEnd, notifyme};

@@ -39,8 +39,8 @@ use Rattle.ldm_chain.specs.declared.setup.TheConstants as chains
 use Rattle.ldm_actions.specs.declared.limits.TheConstants as actions
 use Rattle.ldm_pqact.specs.declared.limits.TheConstants as acting
 use Rattle.ldm_gather.specs.declared.limits.TheConstants as gathers
-use Rattle.ldm_pqcat.specs.declared.limits.TheConstants as cats
-use Rattle.ldm_pqinsert.specs.declared.limits.TheConstants as inserts
+use Rattle.ldm_gather.specs.declared.cat_limits.TheConstants as cats
+use Rattle.ldm_tools.specs.declared.limits.TheConstants as inserts
 use Rattle.ldm_status.specs.declared.status.TheConstants as log
 use Rattle.ldm_status.specs.declared.status.Status.TheVariants as status
 use Rattle.ldm_status.specs.Status.{code_of}

@@ -12,3 +12,14 @@ pub mod Taking
 pub mod Stages
 pub mod Courses
 pub mod Samples
+pub mod Ingesting
+pub mod IngestLines
+pub mod Outcomes
+pub mod Moments
+pub mod IngestTaking
+pub mod Runs
+pub mod Owing
+pub mod Ingests
+pub mod Told
+pub mod IngestSamples
+pub mod Parts

@@ -4,15 +4,26 @@
 #![tactic(auto)]
 
 mod bulletin;
+mod command;
 mod course;
 mod examples;
 mod fault;
 mod heading;
+mod ingest_examples;
+mod ingest_fault;
+mod ingest_laws;
+mod ingest_lines;
+mod ingestion;
 mod item;
 mod laws;
 mod lines;
+mod metadata;
+mod outcome;
 mod scanner;
 mod stage;
+mod statuses;
+mod streaming;
+mod taking;
 mod write;
 
 pub use examples::worked_examples;
@@ -26,3 +37,10 @@ pub use laws::{
 pub use scanner::Scanner;
 pub use stage::LARGEST_BULLETIN;
 pub use write::{LARGEST_SEQNO, write_bulletin};
+pub use command::ingest;
+pub use ingest_examples::worked_examples_of_ingesting;
+pub use ingest_fault::IngestFault;
+pub use ingestion::Ingestion;
+pub use ingest_laws::{what_is_signed, what_is_told_of_bulletins};
+pub use outcome::Outcome;
+pub use statuses::BAD_BULLETIN;

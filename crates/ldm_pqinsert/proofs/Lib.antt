@@ -1,5 +1,0 @@
-mod Taken
-mod Running
-mod Completed
-mod Held
-mod Telling

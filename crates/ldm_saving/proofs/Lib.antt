@@ -1,4 +1,0 @@
-pub mod FileLemmas
-pub mod OpenLemmas
-pub mod CompletesLemmas
-pub mod RunLemmas

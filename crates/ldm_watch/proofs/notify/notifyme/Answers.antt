@@ -1,0 +1,15 @@
+use Rattle.std.proofs.Common.{subst}
+use Rattle.ldm_status.specs.declared.status.Status.{Status}
+use Rattle.ldm_status.specs.Status.{ReportsBecause}
+use Rattle.ldm_watch.proofs.notify.notifyme.Goals as goal
+
+pub returns-clause-ends : goal.returns-clause-ends
+returns-clause-ends g c =
+    let tells = g.E.Sink.tells in
+    record {
+      end = c.reach-end.result;
+      ends = c.reach-end.ensures.ends;
+      reports =
+          subst (λ (ending : Status). ReportsBecause ending c.report_because.result (tells c.args.log.now) (tells c.report_because.new.log)) c.status_of_end.ensures
+          c.report_because.ensures.because;
+    }
