@@ -178,6 +178,7 @@ impl Scene {
             launcher: self.launcher(trial),
             net: self.net(trial),
             disk: self.disk_file(trial),
+            secret: 0,
         }
     }
 

@@ -119,6 +119,7 @@ impl Plans {
             launcher: MemLauncher::new(alloc, Vec::new(alloc), Vec::new(alloc)),
             net: net_of_nobody(alloc),
             disk: MemDisk::new(alloc, Vec::new(alloc), Vec::new(alloc)),
+            secret: 0,
         };
         let status = run_ldm(rt, alloc, words, &mut world);
         let written = world.streams.sink.written().to_vec(alloc).ok()?;

@@ -12,12 +12,22 @@ use ldm_status::{Status, Streams};
 use std::env;
 use std::io::{self, ErrorKind};
 use std::process::ExitCode;
+use std::random::RandomSource;
 
 // The words behind the program's name.
 fn words(rt: &HostRuntime) -> io::Result<Vec<String>> {
     let mut args = env::args(rt)?;
     args.next();
     Ok(args.collect(rt.alloc())?)
+}
+
+// A number that no stranger knows. Where the system has none to give, it is 0.
+fn secret(rt: &HostRuntime) -> u64 {
+    let mut bytes = [0; 8];
+    match rt.fill_bytes(&mut bytes) {
+        Ok(()) => u64::from_le_bytes(bytes),
+        Err(_) => 0,
+    }
 }
 
 fn main(rt: HostRuntime) -> ExitCode {
@@ -34,6 +44,7 @@ fn main(rt: HostRuntime) -> ExitCode {
         launcher: RealLauncher::new(rt),
         net: RealNet::new(rt),
         disk: RealDisk::new(rt),
+        secret: secret(&rt),
     };
     let code = match words(&rt) {
         Ok(words) => run_ldm(&rt, rt.alloc(), &words, &mut world),

@@ -17,4 +17,6 @@ pub struct World<S, K, E, C, F, L, N, D> {
     pub net: N,
     /// The file of a queue: a [`Disk`](ldm_disk::Disk).
     pub disk: D,
+    /// A number that no stranger knows, for the tables of a node's queue. No clause speaks of it.
+    pub secret: u64,
 }

@@ -25,6 +25,7 @@ pub fn run_alone<H: Threads + Wait + Sync>(rt: &H, alloc: Global, words: &[Strin
             Vec::new(alloc),
         ),
         disk: MemDisk::new(alloc, Vec::new(alloc), Vec::new(alloc)),
+        secret: 0,
     };
     run_ldm(rt, alloc, words, &mut world)
 }

@@ -284,7 +284,7 @@ fn make_queue(
         (IsFaultOf setup.now.arena setup.now.slots (passes_for (setup_of setup.now) (conf_view conf.now))) }
 {
     let passes = count_passes(setup.options.workers, conf.requests.len());
-    Shared::create(alloc, setup.arena, setup.slots, passes)
+    Shared::create_keyed(alloc, setup.arena, setup.slots, passes, setup.secret)
 }
 
 // Has the workers of the node work at their stations until all have stopped.

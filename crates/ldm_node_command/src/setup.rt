@@ -11,6 +11,8 @@ pub struct NodeSetup<'a> {
     pub slots: u32,
     /// What the node is told besides its configuration.
     pub options: NodeOptions,
+    /// A number that no stranger knows, for the tables of the queue. No clause speaks of it.
+    pub secret: u64,
     /// The path of its configuration.
     pub conf: &'a str,
 }
