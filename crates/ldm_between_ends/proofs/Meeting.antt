@@ -23,7 +23,7 @@ use Rattle.ldm_intake.specs.Room.{records_of}
 use Rattle.ldm_session.specs.declared.limits.TheConstants.{LONGEST_STREAM}
 use Rattle.ldm_sender.specs.Acts.{is_whole}
 use Rattle.ldm_sender.specs.Asked.{Asked}
-use Rattle.ldm_sender.specs.Does.{IsPart}
+use Rattle.ldm_session.specs.Part.{IsPart}
 use Rattle.ldm_sender.specs.Opening.{Opened}
 use Rattle.ldm_upstream.specs.Feeding.{bytes_of, codes_of, given_of}
 use Rattle.ldm_downstream.specs.Pieces.{joined}

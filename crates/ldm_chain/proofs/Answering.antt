@@ -42,7 +42,7 @@ use Rattle.ldm_sender.specs.declared.end.SendEnd.TheVariants as feed
 use Rattle.ldm_sender.specs.Acts.{is_whole}
 use Rattle.ldm_sender.specs.Asked.{Asked}
 use Rattle.ldm_sender.specs.Calls.{MayBeUnmade}
-use Rattle.ldm_sender.specs.Does.{IsPart}
+use Rattle.ldm_session.specs.Part.{IsPart}
 use Rattle.ldm_sender.specs.Ending.{closing_of}
 use Rattle.ldm_sender.specs.Opening.{Answered, Busy, Denied, IsAnswerTo, Opened, Reclassed, class_answer_of, feeds_of, from_instant, opening_calls, opening_entries, place_of}
 use Rattle.ldm_upstream.specs.Turn.{Given, Turn}

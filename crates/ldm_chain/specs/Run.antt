@@ -13,7 +13,7 @@ RunsChain work code old new =
     (ending : Result (Unit {0}) ChainFault) × ChainEnds ending work old new × Reports (status_of_chain ending) code old.streams.log new.streams.log
 
 -- No count of faults fell.
-pub record KeepsCounts (old new : ChainOutside) : Type 0 where
+pub record KeepsChainCounts (old new : ChainOutside) : Type 0 where
   pub streams : KeepsFaults old.streams new.streams
   pub store : old.store.faults ≤ new.store.faults
   pub long : old.store.long ≤ new.store.long

@@ -9,7 +9,7 @@ ghost use Rattle.ldm_chain.specs.Work.{chain_outside, work_of};
 ghost use Rattle.ldm_chain.specs.Policy.{UntakenCompletes};
 ghost use Rattle.ldm_chain.specs.CommandEnding.{ChainEnds};
 ghost use Rattle.ldm_chain.specs.Law.{ObeysChainLaw};
-ghost use Rattle.ldm_chain.specs.Run.{KeepsCounts, RunsChain};
+ghost use Rattle.ldm_chain.specs.Run.{KeepsChainCounts, RunsChain};
 ghost use Rattle.ldm_chain.specs.Complete.{ChainCompletes};
 
 use crate::fault::ChainFault;
@@ -98,7 +98,7 @@ pub fn run_chain<H: Wait, S: Source, K: Sink, E: Sink, C: Clock, F: Store>(
         (C.tells clock.old) (F.tells store.old) in
         let new = chain_outside (streams_tells S.tells K.tells E.tells streams.new) (C.tells clock.new)
         (F.tells store.new) in
-        KeepsCounts old new }
+        KeepsChainCounts old new }
 {
     histories_are_lawful();
     let ending = feed_and_write(

@@ -111,7 +111,7 @@ module _ {K F L T : Type 0} (tells : Tells K F L T) where
   abbrev pub mon_of : WorldView K F L T → MonRecord
   mon_of world = record { net = world.net; sink = tells.sink world.sink; log = world.log }
 
-  abbrev pub every_of : WorldView K F L T → pqmon.Moment
+  abbrev pub every_of : WorldView K F L T → pqmon.AskingMoment
   every_of world = pqmon.moment_of (mon_of world) world.clock
 
   abbrev pub insert_of : WorldView K F L T → InsertRecord

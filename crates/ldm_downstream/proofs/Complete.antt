@@ -29,7 +29,7 @@ use Rattle.ldm_downstream.specs.Pieces.{Piece, arrived, arrivals, beginning, han
 use Rattle.ldm_downstream.specs.Taking.{GivesUp}
 use Rattle.ldm_downstream.specs.Received.{at_stream_end, end_behind, end_by_bytes, is_edge, received, with_hand}
 use Rattle.ldm_downstream.specs.Pushing.{EndsWhole}
-use Rattle.ldm_downstream.specs.Receives.{EndsStream, HasEnded, Passed, Receives, ReceivesAll, at_first}
+use Rattle.ldm_downstream.specs.Receives.{EndsStream, ReceivingHasEnded, Passed, Receives, ReceivesAll, at_first}
 use Rattle.ldm_downstream.specs.Complete.{AcceptsBy, AcceptsReplied, Completes, IsComplete}
 use Rattle.ldm_downstream.proofs.Arrivals.{arrivals-append, arrivals-one, hand-append, hand-one}
 
@@ -195,7 +195,7 @@ module _ (s : Receiving) (ahead : List ℕ) (old new : PassView) (before after :
       no_end longer.to end longer.end_is fine.0
 
   not_truncated : (at : ℕ) (pieces : List Piece) (at_end : Standing) → EndsStream (Truncated at) pieces beginning (at_first s old) at_end → at_end.pass ≡ new
-      → Some (ahead ++ behind) ≡ option_map (λ (rest : List ℕ). joined pieces ++ rest) after.link.left → HasEnded before after → ⊥
+      → Some (ahead ++ behind) ≡ option_map (λ (rest : List ℕ). joined pieces ++ rest) after.link.left → ReceivingHasEnded before after → ⊥
   not_truncated at pieces at_end ends pass_is given ended =
       let takes = ends.takes in
       let front = rest_of pieces (ahead ++ behind) after.link.left given in

@@ -17,7 +17,8 @@ use Rattle.ldm_intake.specs.TakesRecord.{Standing}
 use Rattle.ldm_downstream.specs.Pieces.{Piece, joined}
 use Rattle.ldm_downstream.specs.Answering.{TimedRound, left_ahead, pieces_in, place_of, rounds_of}
 use Rattle.ldm_downstream.specs.InTurn.{PassesRounds, sent_in}
-use Rattle.ldm_downstream.specs.Receives.{Passed, IsPart, Cause, Receives, is_first_sent, is_whole_end}
+use Rattle.ldm_downstream.specs.Receives.{Passed, Cause, Receives, is_first_sent, is_whole_end}
+use Rattle.ldm_session.specs.Part.{IsPart}
 use Rattle.ldm_downstream.specs.Sessions.{Advances, Writes, HasCome}
 use Rattle.ldm_downstream.proofs.Ending.{in_front_of, anew, comes-anew, continues-anew}
 use Rattle.ldm_downstream.proofs.InTurn.{answers-then, none-left, passes-nothing, passes-round, passes-then, pieces-then, sent-append, takes-rounds}

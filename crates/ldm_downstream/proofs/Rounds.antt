@@ -15,7 +15,8 @@ use Rattle.ldm_downstream.specs.Received.{at_stream_end, is_edge}
 use Rattle.ldm_downstream.specs.Pushing.{Continues, EndsEarly, EndsWhole, Ends, Pushes, ClosesIf, FailsAt, is_worn}
 use Rattle.ldm_downstream.specs.Answering.{TimedRound, piece_of, place_of, rounds_of}
 use Rattle.ldm_downstream.specs.InTurn.{sent_in}
-use Rattle.ldm_downstream.specs.Receives.{AnswersInTurn, Comes, Passed, IsPart, Cause, HasEnded, Receives, is_first_sent, is_whole_end}
+use Rattle.ldm_downstream.specs.Receives.{AnswersInTurn, Comes, Passed, Cause, ReceivingHasEnded, Receives, is_first_sent, is_whole_end}
+use Rattle.ldm_session.specs.Part.{IsPart}
 use Rattle.ldm_downstream.specs.Sessions.{Advances, HasCome, IsFront, Rounds, RunsOn, RunsOut, Writes, settled}
 use Rattle.ldm_downstream.proofs.PieceEnds.{closed_at}
 use Rattle.ldm_downstream.proofs.Ending.{in_front_of, anew, comes-stream, comes-fault, comes-ends, early-whole, end-worn}
@@ -251,7 +252,7 @@ module _ (ahead : List ℕ) (piece : Piece) (p : Position) (s : Receiving) (v : 
 
 -- ---- the stream ended, or the link failed
 
-cause-edge : (p : Position) (s : Receiving) (pass : PassView) (old new : SessionRecord) (edge : Bool) → is_edge p s ≡ edge → HasEnded old new
+cause-edge : (p : Position) (s : Receiving) (pass : PassView) (old new : SessionRecord) (edge : Bool) → is_edge p s ≡ edge → ReceivingHasEnded old new
     → Cause (at_stream_end p s) pass old new
 cause-edge p s pass old new true edge ended = rw edge ended
 cause-edge p s pass old new false edge ended = rw edge ended
@@ -259,7 +260,7 @@ cause-edge p s pass old new false edge ended = rw edge ended
 -- the stream ended
 pub round-ended : (p : Position) (s : Receiving) (v : PassView) (result : RecvEnd) (is_now : ReceiverView) (pass : PassView) (old new : SessionRecord)
     → Continues [] p p (settled s v) (settled s v) → ClosesIf (is_worn (at_stream_end p s)) (at_stream_end p s) result s is_now.receiving v pass
-    → Passed [] [] [] [] old new → HasEnded old new → RunsOut result [] is_now pass p (settled s v) old new
+    → Passed [] [] [] [] old new → ReceivingHasEnded old new → RunsOut result [] is_now pass p (settled s v) old new
 round-ended p s v result is_now pass old new continues closes passed ended =
     let a = settled s v in
     let end = at_stream_end p s in

@@ -19,6 +19,7 @@ use Rattle.ldm_downstream.specs.Pieces.{Piece, beginning, hand, joined}
 use Rattle.ldm_downstream.specs.Taking.{Takes, GivesUp}
 use Rattle.ldm_downstream.specs.Received.{at_stream_end, received}
 use Rattle.ldm_downstream.specs.Pushing.{EndsEarly, EndsWhole, EndsWorn}
+use Rattle.ldm_session.specs.Part.{IsPart}
 
 -- The stream ended behind these pieces: all that they ask for was asked, and what was open is given up.
 pub record EndsStream (end : RecvEnd) (pieces : List Piece) (p : Position) (old new : Standing) : Type 0 where
@@ -51,11 +52,6 @@ is_whole_end LogFault = false
 is_whole_end OutOfMemory = false
 is_whole_end Worn = false
 
--- some bytes are all of these, or a front of them
-abbrev pub IsPart : Bool → List ℕ → List ℕ → Type 0
-IsPart true part all = part ≡ all
-IsPart false part all = (rest : List ℕ) × (part ++ rest ≡ all)
-
 -- A receiving ended with the piece of a round, or once it came: all that this piece made owed was sent, or a front of it.
 pub record EndsRound (end : RecvEnd) (ahead : List ℕ) (timed : TimedRound) (at : Place) (new : Standing) : Type 0 where
   pub short : IsShort timed
@@ -87,13 +83,13 @@ is_first_sent end [] = is_whole_end end
 is_first_sent end (timed ∷ rounds) = true
 
 -- the stream ended: the link said so, and has nothing left
-abbrev pub HasEnded : SessionRecord → SessionRecord → Type 0
-HasEnded old new = Rose old.link.ends new.link.ends × IfSome new.link.left (λ rest. rest ≡ [])
+abbrev pub ReceivingHasEnded : SessionRecord → SessionRecord → Type 0
+ReceivingHasEnded old new = Rose old.link.ends new.link.ends × IfSome new.link.left (λ rest. rest ≡ [])
 
 -- what stands at an end besides, in the outside and in what the pass has seen
 abbrev pub Cause : RecvEnd → PassView → SessionRecord → SessionRecord → Type 0
-Cause Ended pass old new = HasEnded old new
-Cause (Truncated at) pass old new = HasEnded old new
+Cause Ended pass old new = ReceivingHasEnded old new
+Cause (Truncated at) pass old new = ReceivingHasEnded old new
 Cause (BadFrame at) pass old new = Unit {0}
 Cause (Refused answer) pass old new = Unit {0}
 Cause StreamLimit pass old new = Unit {0}

@@ -28,7 +28,7 @@ use Rattle.ldm_gather.specs.Causes.{HasCause}
 use Rattle.ldm_gather.specs.Complete.{Completes, IsWhole}
 use Rattle.ldm_gather.specs.Gathering.{Asks, BeginsNot, EndsBy, EndsStream, Gathers, GathersAll, GoesOn, TakesPiece}
 use Rattle.ldm_gather.specs.Runs.{Gathered}
-use Rattle.ldm_gather.specs.Scene.{Lent, Moment, Scene, moment_of}
+use Rattle.ldm_gather.specs.Scene.{Lent, GatherMoment, Scene, moment_of}
 use Rattle.ldm_gather.proofs.Caused.{caused}
 use Rattle.ldm_gather.proofs.Lasting.{by, by-records, ended-more, leads-by, received-leads}
 use Rattle.ldm_gather.proofs.Turning.{pushes-live}
@@ -132,19 +132,19 @@ no-both : (t : Taken) (end : RecvEnd) → t.end ≡ Some end → t.end ≡ None 
 no-both t end some none = let same : Some end ≡ None = sym some ∙ none in cc same
 
 module _ {W A B : Type 0} (handles : Handled → Scene W A B → Scene W A B → Type 0) (s : Receiving) (stream : List ℕ) (accepts : Accepts s stream) where
-  piece-left : (piece : Piece) (answer : Handled) (old new : Moment W A B) → TakesPiece handles piece answer old new → old.link.left ≡ option_map (λ (rest : List ℕ). piece.bytes ++ rest) new.link.left
+  piece-left : (piece : Piece) (answer : Handled) (old new : GatherMoment W A B) → TakesPiece handles piece answer old new → old.link.left ≡ option_map (λ (rest : List ℕ). piece.bytes ++ rest) new.link.left
   piece-left piece answer old new takes =
       let sent : takes.told.link.left ≡ takes.pushed.link.left = ap (λ (link : LinkRecord). link.left) takes.tells.sent in
-      let left : new.link.left ≡ takes.told.link.left = ap (λ (m : Moment W A B). m.link.left) takes.handles_it.others in
+      let left : new.link.left ≡ takes.told.link.left = ap (λ (m : GatherMoment W A B). m.link.left) takes.handles_it.others in
       takes.comes.gave.0 ∙ ap (option_map (λ (rest : List ℕ). piece.bytes ++ rest)) (sym (left ∙ sent))
 
   -- Pieces came, all of them a front of the stream.
-  record Far (pieces : List Piece) (now : Moment W A B) : Type 0 where
+  record Far (pieces : List Piece) (now : GatherMoment W A B) : Type 0 where
     led : Led s pieces now.receiver
     live : now.receiver.end ≡ None
     rest : HasRest (joined pieces) stream now.link.left
 
-  rest-then : (pieces : List Piece) (piece : Piece) (answer : Handled) (old new : Moment W A B) → HasRest (joined pieces) stream old.link.left → TakesPiece handles piece answer old new
+  rest-then : (pieces : List Piece) (piece : Piece) (answer : Handled) (old new : GatherMoment W A B) → HasRest (joined pieces) stream old.link.left → TakesPiece handles piece answer old new
       → HasRest (joined (pieces ++ piece ∷ [])) stream new.link.left
   rest-then pieces piece answer old new has takes =
       let more = rest-of piece.bytes has.rest old.link.left new.link.left (piece-left piece answer old new takes) has.left_is in
@@ -157,7 +157,7 @@ module _ {W A B : Type 0} (handles : Handled → Scene W A B → Scene W A B →
       }
 
   -- what the piece that came was pushed to
-  pushed-to : (piece : Piece) (answer : Handled) (old new : Moment W A B) → old.receiver.end ≡ None → (takes : TakesPiece handles piece answer old new) → (over : Option RecvEnd)
+  pushed-to : (piece : Piece) (answer : Handled) (old new : GatherMoment W A B) → old.receiver.end ≡ None → (takes : TakesPiece handles piece answer old new) → (over : Option RecvEnd)
       → new.receiver.end ≡ over
       → Pushes over piece old.receiver.hand takes.pushed.receiver.hand (stands old.receiver.receiving old.scene.pass [] [])
       (stands takes.pushed.receiver.receiving takes.pushed.scene.pass takes.out takes.notes)
@@ -165,16 +165,16 @@ module _ {W A B : Type 0} (handles : Handled → Scene W A B → Scene W A B →
       let before = stands old.receiver.receiving old.scene.pass [] [] in
       let after = stands takes.pushed.receiver.receiving takes.pushed.scene.pass takes.out takes.notes in
       let same : new.receiver.end ≡ takes.pushed.receiver.end =
-      ap (λ (m : Moment W A B). m.receiver.end) takes.handles_it.others ∙ ap (λ (m : Moment W A B). m.receiver.end) takes.tells.others in
+      ap (λ (m : GatherMoment W A B). m.receiver.end) takes.handles_it.others ∙ ap (λ (m : GatherMoment W A B). m.receiver.end) takes.tells.others in
       subst (λ (o : Option RecvEnd). Pushes o piece old.receiver.hand takes.pushed.receiver.hand before after) (sym same ∙ is)
       (pushes-live piece old.receiver takes.pushed.receiver before after live takes.comes.pushes)
 
-  far-then : (pieces : List Piece) (piece : Piece) (old new : Moment W A B) → Far pieces old → new.receiver.end ≡ None → TakesPiece handles piece handled.On old new
+  far-then : (pieces : List Piece) (piece : Piece) (old new : GatherMoment W A B) → Far pieces old → new.receiver.end ≡ None → TakesPiece handles piece handled.On old new
       → Far (pieces ++ piece ∷ []) new
   far-then pieces piece old new far live takes =
       let continues = pushed-to piece handled.On old new far.live takes None live in
       let same : new.receiver ≡ takes.pushed.receiver =
-      ap (λ (m : Moment W A B). m.receiver) takes.handles_it.others ∙ ap (λ (m : Moment W A B). m.receiver) takes.tells.others in
+      ap (λ (m : GatherMoment W A B). m.receiver) takes.handles_it.others ∙ ap (λ (m : GatherMoment W A B). m.receiver) takes.tells.others in
       record {
         led =
             subst (λ (r : ReceiverView). Led s (pieces ++ piece ∷ []) r) (sym same)
@@ -185,18 +185,18 @@ module _ {W A B : Type 0} (handles : Handled → Scene W A B → Scene W A B →
       }
 
   -- Pieces came behind others.
-  record FarFrom (now : Moment W A B) : Type 0 where
+  record FarFrom (now : GatherMoment W A B) : Type 0 where
     pieces : List Piece
     far : Far pieces now
 
-  far-goes : (front pieces : List Piece) (old new : Moment W A B) → Far front old → GoesOn handles pieces old new → FarFrom new
+  far-goes : (front pieces : List Piece) (old new : GatherMoment W A B) → Far front old → GoesOn handles pieces old new → FarFrom new
   far-goes front [] old new far goes = subst FarFrom (sym goes) (record { pieces = front; far = far })
   far-goes front (piece ∷ pieces) old new far goes =
       far-goes (front ++ piece ∷ []) pieces goes.0 new (far-then front piece old goes.0 far goes.1.live goes.1.takes) goes.2
 
   -- ---- the ends that do not come
 
-  not-over : (e : RecvEnd) (pieces : List Piece) (piece : Piece) (old new : Moment W A B) → Far pieces old → (takes : TakesPiece handles piece handled.On old new)
+  not-over : (e : RecvEnd) (pieces : List Piece) (piece : Piece) (old new : GatherMoment W A B) → Far pieces old → (takes : TakesPiece handles piece handled.On old new)
       → EndsWhole e (piece ∷ []) old.receiver.hand (stands old.receiver.receiving old.scene.pass [] [])
       (stands takes.pushed.receiver.receiving takes.pushed.scene.pass takes.out takes.notes) → ⊥
   not-over e pieces piece old new far takes whole =
@@ -207,11 +207,11 @@ module _ {W A B : Type 0} (handles : Handled → Scene W A B → Scene W A B →
       let fine = accepts 0 one.made ((pieces ++ piece ∷ []) ++ last ∷ []) longer.to (joined-more (pieces ++ piece ∷ []) rest.rest ∙ rest.all) longer.leads in
       no-both longer.to e longer.end_is fine.0
 
-  not-truncated : (at : ℕ) (pieces : List Piece) (old new : Moment W A B) → Far pieces old → EndsStream (Truncated at) old new → ⊥
+  not-truncated : (at : ℕ) (pieces : List Piece) (old new : GatherMoment W A B) → Far pieces old → EndsStream (Truncated at) old new → ⊥
   not-truncated at pieces old new far ends = by_close closed.1
     where
       receiver_is : ends.at_end.receiver ≡ old.receiver
-      receiver_is = ap (λ (m : Moment W A B). m.receiver) ends.is_at_end.others
+      receiver_is = ap (λ (m : GatherMoment W A B). m.receiver) ends.is_at_end.others
 
       closed : EndsAt None (Truncated at) old.receiver ends.at_end.scene.pass new.scene.pass
       closed =
@@ -237,7 +237,7 @@ module _ {W A B : Type 0} (handles : Handled → Scene W A B → Scene W A B →
       by_close (inl done) = let same : Truncated at ≡ Ended = done.0 ∙ is_ended in cc same
       by_close (inr kept) = let same : Truncated at ≡ Worn = kept.0 in cc same
 
-  whole-by : (e : GatherEnd) (pieces : List Piece) (old new : Moment W A B) → Far pieces old → EndsBy handles e old new
+  whole-by : (e : GatherEnd) (pieces : List Piece) (old new : GatherMoment W A B) → Far pieces old → EndsBy handles e old new
       → (e ≡ end.Received LinkFault → ⊥) → (e ≡ end.Received LogFault → ⊥) → IsWhole e
   whole-by (end.Received Ended) pieces old new far ends link log = tt
   whole-by (end.Received Worn) pieces old new far ends link log = tt
@@ -254,7 +254,7 @@ module _ {W A B : Type 0} (handles : Handled → Scene W A B → Scene W A B →
   whole-by (end.Received LinkFault) pieces old new far ends link log = link refl
   whole-by (end.Received LogFault) pieces old new far ends link log = log refl
 
-  begins-whole : (e : GatherEnd) (old new : Moment W A B) → BeginsNot handles e old new → (e ≡ end.Received LinkFault → ⊥) → IsWhole e
+  begins-whole : (e : GatherEnd) (old new : GatherMoment W A B) → BeginsNot handles e old new → (e ≡ end.Received LinkFault → ⊥) → IsWhole e
   begins-whole (end.Received LinkFault) old new begins link = link refl
   begins-whole _ old new begins link = absurd begins
 
@@ -262,16 +262,16 @@ module _ {W A B : Type 0} (handles : Handled → Scene W A B → Scene W A B →
       → (e ≡ end.Received LinkFault → ⊥) → (e ≡ end.Received LogFault → ⊥) → IsWhole e
   all-whole e old new all had link log = by_begin all.gathers
     where
-      first : Moment W A B
+      first : GatherMoment W A B
       first = moment_of (before_stream s false) old
 
-      last : Moment W A B
+      last : GatherMoment W A B
       last = moment_of all.receiver new
 
       by_begin : Asks handles e first last ⊎ BeginsNot handles e first last → IsWhole e
       by_begin (inl asks) =
-          let at : Moment W A B = record first { link = asks.asked.link } in
-          let gathers : Gathers handles e at last = subst (λ (m : Moment W A B). Gathers handles e m last) asks.others asks.gathers in
+          let at : GatherMoment W A B = record first { link = asks.asked.link } in
+          let gathers : Gathers handles e at last = subst (λ (m : GatherMoment W A B). Gathers handles e m last) asks.others asks.gathers in
           let left : at.link.left ≡ Some stream = ap (λ (link : LinkRecord). link.left) asks.sent ∙ had in
           let far : Far [] at = record { led = led-none s; live = refl; rest = record { rest = stream; left_is = left; all = refl } } in
           let there = far-goes [] gathers.pieces at gathers.last far gathers.goes_on in

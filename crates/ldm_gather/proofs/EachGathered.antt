@@ -24,7 +24,7 @@ use Rattle.ldm_gather.specs.declared.end.Handled.{Handled}
 use Rattle.ldm_gather.specs.declared.end.Handled.TheVariants as handled
 use Rattle.ldm_gather.specs.Gathering.{Asks, BeginsNot, Comes, EndsBy, EndsStream, GathersAll, Gathers, GoesOn, TakesPiece}
 use Rattle.ldm_gather.specs.Quiet.{AreQuiet, CallsQuietly, IsQuiet}
-use Rattle.ldm_gather.specs.Scene.{Lent, Moment, Scene, moment_of}
+use Rattle.ldm_gather.specs.Scene.{Lent, GatherMoment, Scene, moment_of}
 use Rattle.ldm_gather.proofs.Cursors.{closes-quiet, pushes-quiet}
 use Rattle.ldm_gather.specs.declared.each.Each.{Each}
 use Rattle.ldm_gather.specs.declared.each.Stepped.TheVariants as stepped
@@ -199,7 +199,7 @@ module _ {T A : Type 0} (takes : Taken → Given → Hands T A → Hands T A →
   -- ---- pieces
 
   abbrev At : Type 0
-  At = Moment (Each T) A (Unit {0})
+  At = GatherMoment (Each T) A (Unit {0})
 
   abbrev hands_at : At → H
   hands_at at = hands_of at.scene.handler.taker at.scene.first

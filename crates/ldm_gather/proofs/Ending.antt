@@ -16,7 +16,7 @@ use Rattle.ldm_gather.specs.declared.end.GatherEnd.{GatherEnd}
 use Rattle.ldm_gather.specs.declared.end.GatherEnd.TheVariants as end
 use Rattle.ldm_gather.specs.declared.end.Handled.{Handled}
 use Rattle.ldm_gather.specs.Gathering.{EndsBy, EndsStream, Gathers, GathersAll}
-use Rattle.ldm_gather.specs.Scene.{Lent, Moment, Scene, moment_of}
+use Rattle.ldm_gather.specs.Scene.{Lent, GatherMoment, Scene, moment_of}
 use Rattle.ldm_gather.specs.Turning.{RunsToEnd}
 
 -- an end that a stream's end can lead to
@@ -46,7 +46,7 @@ stream-end result receiver pass after live ends = by_close at_end.1
     by_close (inr kept) = subst IsStreamEnd (sym kept.0) tt
 
 module _ {W A B : Type 0} (handles : Handled → Scene W A B → Scene W A B → Type 0) where
-  ends-stream : (result : RecvEnd) (last new : Moment W A B) → IsStreamEnd result → EndsStream result last new → EndsBy handles (end.Received result) last new
+  ends-stream : (result : RecvEnd) (last new : GatherMoment W A B) → IsStreamEnd result → EndsStream result last new → EndsBy handles (end.Received result) last new
   ends-stream Ended last new is ends = ends
   ends-stream (Truncated at) last new is ends = ends
   ends-stream Worn last new is ends = inr ends
@@ -58,7 +58,7 @@ module _ {W A B : Type 0} (handles : Handled → Scene W A B → Scene W A B →
   ends-stream OutOfMemory last new is ends = absurd is
 
   -- pieces came, and the receiver came to its end with the stream
-  pub ran-out : (result : RecvEnd) (old at_end : Moment W A B) (after : PassView) → RunsToEnd handles old at_end → at_end.receiver.end ≡ None
+  pub ran-out : (result : RecvEnd) (old at_end : GatherMoment W A B) (after : PassView) → RunsToEnd handles old at_end → at_end.receiver.end ≡ None
       → EndsAt at_end.receiver.end result at_end.receiver at_end.scene.pass after
       → Gathers handles (end.Received result) old (record at_end { scene = record at_end.scene { pass = after } })
   ran-out result old at_end after runs live ends = record {

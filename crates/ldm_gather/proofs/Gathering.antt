@@ -5,7 +5,7 @@ use Rattle.ldm_downstream.specs.Pieces.{Piece}
 use Rattle.ldm_gather.specs.declared.end.Handled.{Handled}
 use Rattle.ldm_gather.specs.declared.gatherer.Gatherer.{Gatherer}
 use Rattle.ldm_gather.specs.Gathering.{GoesOn, Steps}
-use Rattle.ldm_gather.specs.Scene.{KeepsCounts, Lent, Moment, Scene}
+use Rattle.ldm_gather.specs.Scene.{KeepsGatherCounts, Lent, GatherMoment, Scene}
 use Rattle.ldm_gather.specs.Turning.{SameButCourse}
 
 pub same-then : (old mid new : PassView) → IsSamePass old mid → IsSamePass mid new → IsSamePass old new
@@ -16,7 +16,7 @@ same-course old mid new first second =
     second ∙ ap (λ (it : Gatherer). record it { pass = new.pass; receiver = new.receiver; buffers = new.buffers }) first
 
 -- no count fell, twice
-pub counts-then : {W A B : Type 0} (a b c : Lent W A B) → KeepsCounts a b → KeepsCounts b c → KeepsCounts a c
+pub counts-then : {W A B : Type 0} (a b c : Lent W A B) → KeepsGatherCounts a b → KeepsGatherCounts b c → KeepsGatherCounts a c
 counts-then a b c first second = record {
   link = omega (arith, first.link, second.link);
   ends = omega (arith, first.ends, second.ends);
@@ -25,7 +25,7 @@ counts-then a b c first second = record {
 
 module _ {W A B : Type 0} (handles : Handled → Scene W A B → Scene W A B → Type 0) where
   -- one piece more
-  pub goes_on-then : (pieces : List Piece) (piece : Piece) (old mid new : Moment W A B) → GoesOn handles pieces old mid → Steps handles piece mid new
+  pub goes_on-then : (pieces : List Piece) (piece : Piece) (old mid new : GatherMoment W A B) → GoesOn handles pieces old mid → Steps handles piece mid new
       → GoesOn handles (pieces ++ piece ∷ []) old new
-  goes_on-then [] piece old mid new goes steps = (new, subst (λ (m : Moment W A B). Steps handles piece m new) goes steps, refl)
+  goes_on-then [] piece old mid new goes steps = (new, subst (λ (m : GatherMoment W A B). Steps handles piece m new) goes steps, refl)
   goes_on-then (first ∷ pieces) piece old mid new goes steps = (goes.0, goes.1, goes_on-then pieces piece goes.0 mid new goes.2 steps)

@@ -17,7 +17,7 @@ use Rattle.ldm_gather.specs.declared.end.GatherEnd.TheVariants as end
 use Rattle.ldm_gather.specs.declared.end.Handled.{Handled}
 use Rattle.ldm_gather.specs.declared.end.Handled.TheVariants as handled
 use Rattle.ldm_gather.specs.Gathering.{Comes, EndsBy, TakesPiece}
-use Rattle.ldm_gather.specs.Scene.{Scene, Moment}
+use Rattle.ldm_gather.specs.Scene.{Scene, GatherMoment}
 use Rattle.ldm_gather.specs.Turning.{IsReady, TellsBy, Turns, turned}
 
 -- the bytes that came stand at the front of the buffer
@@ -56,7 +56,7 @@ module _ {W A B : Type 0} where
   }
 
   -- The link or the log failed behind a piece.
-  pub untold : (handles : Handled → Scene W A B → Scene W A B → Type 0) (fault : RecvEnd) (piece : Piece) (out notes : List ℕ) (old pushed new : Moment W A B) → Comes piece out notes old pushed
+  pub untold : (handles : Handled → Scene W A B → Scene W A B → Type 0) (fault : RecvEnd) (piece : Piece) (out notes : List ℕ) (old pushed new : GatherMoment W A B) → Comes piece out notes old pushed
       → TellsBy (Some fault) out notes pushed.link new.link pushed.scene.log new.scene.log
       → new ≡ record pushed { link = new.link; scene = record pushed.scene { log = new.scene.log } } → EndsBy handles (end.Received fault) old new
   untold handles LinkFault piece out notes old pushed new comes tells others = inr (record {
@@ -91,7 +91,7 @@ module _ {W A B : Type 0} where
 
   module _ (handles : Handled → Scene W A B → Scene W A B → Type 0) where
     -- the receiver is over by a piece
-    over-by : (over : RecvEnd) (piece : Piece) (p q : Position) (a b : Standing) (old new : Moment W A B) → Pushes (Some over) piece p q a b → TakesPiece handles piece handled.On old new
+    over-by : (over : RecvEnd) (piece : Piece) (p q : Position) (a b : Standing) (old new : GatherMoment W A B) → Pushes (Some over) piece p q a b → TakesPiece handles piece handled.On old new
         → new.receiver.end ≡ Some over → EndsBy handles (end.Received over) old new
     over-by (BadFrame at) piece p q a b old new pushes takes is = record { piece = piece; takes = takes; over = is }
     over-by (Refused answer) piece p q a b old new pushes takes is = record { piece = piece; takes = takes; over = is }
@@ -104,7 +104,7 @@ module _ {W A B : Type 0} where
     over-by LogFault piece p q a b old new pushes takes is = absurd pushes
 
     -- a piece was taken
-    pub taken-turns : (answer : Handled) (over : Option RecvEnd) (piece : Piece) (p q : Position) (a b : Standing) (old new : Moment W A B) → Pushes over piece p q a b
+    pub taken-turns : (answer : Handled) (over : Option RecvEnd) (piece : Piece) (p q : Position) (a b : Standing) (old new : GatherMoment W A B) → Pushes over piece p q a b
         → TakesPiece handles piece answer old new → new.receiver.end ≡ over → Turns handles (turned answer over) old new
     taken-turns handled.On None piece p q a b old new pushes takes is = (piece, record { takes = takes; live = is })
     taken-turns handled.On (Some over) piece p q a b old new pushes takes is = over-by over piece p q a b old new pushes takes is

@@ -29,7 +29,7 @@ abbrev pub with_cat : {K : Type 0} → Cat → CatLent K → Situation Cat K
 with_cat cat lent = situation_of (hands_of cat lent.sink) lent.net lent.log lent.clock
 
 -- No count fell.
-pub record KeepsCounts {K : Type 0} (old new : CatLent K) : Type 0 where
+pub record KeepsCatCounts {K : Type 0} (old new : CatLent K) : Type 0 where
   pub net : old.net.faults ≤ new.net.faults
   pub ended : old.net.links.ended ≤ new.net.links.ended
   pub failed : old.net.links.failed ≤ new.net.links.failed

@@ -8,13 +8,13 @@ use Rattle.ldm_gather.specs.declared.end.GatherEnd.TheVariants.{Received, Enough
 use Rattle.ldm_gather.specs.Scene.{Lent}
 
 -- the link said that the stream is at its end, and has nothing left
-abbrev pub HasEnded : LinkRecord → LinkRecord → Type 0
-HasEnded old new = Rose old.ends new.ends × IfSome new.left (λ rest. rest ≡ [])
+abbrev pub LinkHasEnded : LinkRecord → LinkRecord → Type 0
+LinkHasEnded old new = Rose old.ends new.ends × IfSome new.left (λ rest. rest ≡ [])
 
 -- At an end that is by the receiver or the handler alone, `EndsBy` says all.
 abbrev pub HasCause : {W A B : Type 0} → GatherEnd → Lent W A B → Lent W A B → Type 0
-HasCause (Received Ended) old new = HasEnded old.link new.link
-HasCause (Received (Truncated at)) old new = HasEnded old.link new.link
+HasCause (Received Ended) old new = LinkHasEnded old.link new.link
+HasCause (Received (Truncated at)) old new = LinkHasEnded old.link new.link
 HasCause (Received LinkFault) old new = Rose old.link.faults new.link.faults
 HasCause (Received LogFault) old new = Rose old.scene.log.faults new.scene.log.faults
 HasCause (Received (BadFrame at)) old new = Unit {0}

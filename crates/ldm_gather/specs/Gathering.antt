@@ -18,14 +18,14 @@ use Rattle.ldm_gather.specs.declared.end.GatherEnd.{GatherEnd}
 use Rattle.ldm_gather.specs.declared.end.GatherEnd.TheVariants.{Received, Enough, Stopped}
 use Rattle.ldm_gather.specs.declared.end.Handled.{Handled}
 use Rattle.ldm_gather.specs.declared.end.Handled.TheVariants as handled
-use Rattle.ldm_gather.specs.Scene.{Scene, Lent, Moment, moment_of}
+use Rattle.ldm_gather.specs.Scene.{Scene, Lent, GatherMoment, moment_of}
 
 module _ {W A B : Type 0} where
   -- ---- what a piece does
 
   -- A piece came: the link gave its bytes, and the clock was asked once, for its moment. The receiver was pushed it, so the peer is owed
   -- `out`, and `notes` are to be logged.
-  pub record Comes (piece : Piece) (out notes : List ℕ) (old new : Moment W A B) : Type 0 where
+  pub record Comes (piece : Piece) (out notes : List ℕ) (old new : GatherMoment W A B) : Type 0 where
     pub some : 0 < length piece.bytes
     pub gave : Gave old.link piece.bytes new.link
     pub asked : Answers piece.now old.clock new.clock
@@ -34,14 +34,14 @@ module _ {W A B : Type 0} where
     pub others : new.scene ≡ record old.scene { pass = new.scene.pass }
 
   -- What the peer is owed was sent, and the lines were written.
-  pub record Tells (out notes : List ℕ) (old new : Moment W A B) : Type 0 where
+  pub record Tells (out notes : List ℕ) (old new : GatherMoment W A B) : Type 0 where
     pub sent : Sent old.link out new.link
     pub logged : Takes old.scene.log notes new.scene.log
     pub log_kept : old.scene.log.faults ≤ new.scene.log.faults
     pub others : new ≡ record old { link = new.link; scene = record old.scene { log = new.scene.log } }
 
   -- The link failed, after a front of what the peer is owed was sent, and no line was written.
-  pub record SendsFront (out : List ℕ) (old new : Moment W A B) : Type 0 where
+  pub record SendsFront (out : List ℕ) (old new : GatherMoment W A B) : Type 0 where
     pub front : List ℕ
     pub rest : List ℕ
     pub all : front ++ rest ≡ out
@@ -49,87 +49,87 @@ module _ {W A B : Type 0} where
     pub others : new ≡ record old { link = new.link }
 
   -- What the peer is owed was sent, and the log failed, after a front of the lines was written.
-  pub record LogsFront (out notes : List ℕ) (old new : Moment W A B) : Type 0 where
+  pub record LogsFront (out notes : List ℕ) (old new : GatherMoment W A B) : Type 0 where
     pub sent : Sent old.link out new.link
     pub rose : Rose old.scene.log.faults new.scene.log.faults
     pub front : WritesFront old.scene.log notes new.scene.log
     pub others : new ≡ record old { link = new.link; scene = record old.scene { log = new.scene.log } }
 
   -- The link failed, and no piece came.
-  pub record GivesNone (old new : Moment W A B) : Type 0 where
+  pub record GivesNone (old new : GatherMoment W A B) : Type 0 where
     pub failing : Failing old.link new.link
     pub others : new ≡ record old { link = new.link }
 
   -- The link said that the stream is at its end, and has nothing left.
-  pub record IsAtEnd (old new : Moment W A B) : Type 0 where
+  pub record IsAtEnd (old new : GatherMoment W A B) : Type 0 where
     pub given : RecvGives End [] old.link new.link
     pub others : new ≡ record old { link = new.link }
 
   -- The receiver came to its end with the stream.
-  pub record EndsStream (end : RecvEnd) (old new : Moment W A B) : Type 0 where
-    pub at_end : Moment W A B
+  pub record EndsStream (end : RecvEnd) (old new : GatherMoment W A B) : Type 0 where
+    pub at_end : GatherMoment W A B
     pub is_at_end : IsAtEnd old at_end
     pub ends : EndsAt at_end.receiver.end end at_end.receiver at_end.scene.pass new.scene.pass
     pub others : new ≡ record at_end { scene = record at_end.scene { pass = new.scene.pass } }
 
   -- The sending failed behind a piece, or the log did.
-  pub record FailsToSend (old new : Moment W A B) : Type 0 where
+  pub record FailsToSend (old new : GatherMoment W A B) : Type 0 where
     pub piece : Piece
     pub out : List ℕ
     pub notes : List ℕ
-    pub pushed : Moment W A B
+    pub pushed : GatherMoment W A B
     pub comes : Comes piece out notes old pushed
     pub sends : SendsFront out pushed new
 
-  pub record FailsToLog (old new : Moment W A B) : Type 0 where
+  pub record FailsToLog (old new : GatherMoment W A B) : Type 0 where
     pub piece : Piece
     pub out : List ℕ
     pub notes : List ℕ
-    pub pushed : Moment W A B
+    pub pushed : GatherMoment W A B
     pub comes : Comes piece out notes old pushed
     pub logs : LogsFront out notes pushed new
 
 module _ {W A B : Type 0} (handles : Handled → Scene W A B → Scene W A B → Type 0) where
   -- The handler was called, and answered so.
-  pub record Handles (answer : Handled) (old new : Moment W A B) : Type 0 where
+  pub record Handles (answer : Handled) (old new : GatherMoment W A B) : Type 0 where
     pub handled : handles answer old.scene new.scene
     pub log_kept : old.scene.log.faults ≤ new.scene.log.faults
     pub others : new ≡ record old { scene = new.scene }
 
   -- A piece came and was pushed, what it made was sent and written, and then the handler was called.
-  pub record TakesPiece (piece : Piece) (answer : Handled) (old new : Moment W A B) : Type 0 where
+  pub record TakesPiece (piece : Piece) (answer : Handled) (old new : GatherMoment W A B) : Type 0 where
     pub out : List ℕ
     pub notes : List ℕ
-    pub pushed : Moment W A B
-    pub told : Moment W A B
+    pub pushed : GatherMoment W A B
+    pub told : GatherMoment W A B
     pub comes : Comes piece out notes old pushed
     pub tells : Tells out notes pushed told
     pub handles_it : Handles answer told new
 
   -- A piece behind which it goes on.
-  pub record Steps (piece : Piece) (old new : Moment W A B) : Type 0 where
+  pub record Steps (piece : Piece) (old new : GatherMoment W A B) : Type 0 where
     pub takes : TakesPiece piece handled.On old new
     pub live : new.receiver.end ≡ None
 
   -- pieces, one after another, behind each of which it goes on
-  abbrev pub GoesOn : List Piece → Moment W A B → Moment W A B → Type 0
+  abbrev pub GoesOn : List Piece → GatherMoment W A B → GatherMoment W A B → Type 0
   GoesOn [] old new = new ≡ old
-  GoesOn (piece ∷ pieces) old new = (mid : Moment W A B) × Steps piece old mid × GoesOn pieces mid new
+  GoesOn (piece ∷ pieces) old new = (mid : GatherMoment W A B) × Steps piece old mid × GoesOn pieces mid new
 
   -- ---- how it ends behind them
 
   -- The receiver is over by the last piece. That was handled too.
-  pub record IsOver (end : RecvEnd) (old new : Moment W A B) : Type 0 where
+  pub record IsOver (end : RecvEnd) (old new : GatherMoment W A B) : Type 0 where
     pub piece : Piece
     pub takes : TakesPiece piece handled.On old new
     pub over : new.receiver.end ≡ Some end
 
   -- The handler ended it, behind the last piece.
-  pub record HandlesLast (answer : Handled) (old new : Moment W A B) : Type 0 where
+  pub record HandlesLast (answer : Handled) (old new : GatherMoment W A B) : Type 0 where
     pub piece : Piece
     pub takes : TakesPiece piece answer old new
 
-  abbrev pub EndsBy : GatherEnd → Moment W A B → Moment W A B → Type 0
+  abbrev pub EndsBy : GatherEnd → GatherMoment W A B → GatherMoment W A B → Type 0
   EndsBy (Received Ended) old new = EndsStream Ended old new
   EndsBy (Received (Truncated at)) old new = EndsStream (Truncated at) old new
   EndsBy (Received (BadFrame at)) old new = IsOver (BadFrame at) old new
@@ -144,23 +144,23 @@ module _ {W A B : Type 0} (handles : Handled → Scene W A B → Scene W A B →
   EndsBy Stopped old new = HandlesLast handled.Stopped old new
 
   -- Pieces came, behind each of which it went on, and then it ended so.
-  pub record Gathers (end : GatherEnd) (old new : Moment W A B) : Type 0 where
+  pub record Gathers (end : GatherEnd) (old new : GatherMoment W A B) : Type 0 where
     pub pieces : List Piece
-    pub last : Moment W A B
+    pub last : GatherMoment W A B
     pub goes_on : GoesOn pieces old last
     pub ends : EndsBy end last new
 
   -- ---- all of it
 
   -- The request was sent, and then pieces came.
-  pub record Asks (end : GatherEnd) (old new : Moment W A B) : Type 0 where
-    pub asked : Moment W A B
+  pub record Asks (end : GatherEnd) (old new : GatherMoment W A B) : Type 0 where
+    pub asked : GatherMoment W A B
     pub sent : Sent old.link (records_of (request_of old.receiver.receiving)) asked.link
     pub others : asked ≡ record old { link = asked.link }
     pub gathers : Gathers end asked new
 
   -- It did not come to that: the link failed, after a front of the request.
-  abbrev pub BeginsNot : GatherEnd → Moment W A B → Moment W A B → Type 0
+  abbrev pub BeginsNot : GatherEnd → GatherMoment W A B → GatherMoment W A B → Type 0
   BeginsNot (Received LinkFault) old new = SendsFront (records_of (request_of old.receiver.receiving)) old new
   BeginsNot _ old new = ⊥
 

@@ -35,17 +35,17 @@ abbrev pub lent_of : {W A B : Type 0} → Scene W A B → LinkRecord → ClockRe
 lent_of scene link clock = record { scene = scene; link = link; clock = clock }
 
 -- A moment of a gathering: what it is lent, and its receiver.
-pub record Moment (W A B : Type 0) : Type 0 where
+pub record GatherMoment (W A B : Type 0) : Type 0 where
   pub receiver : ReceiverView
   pub scene : Scene W A B
   pub link : LinkRecord
   pub clock : ClockRecord
 
-abbrev pub moment_of : {W A B : Type 0} → ReceiverView → Lent W A B → Moment W A B
+abbrev pub moment_of : {W A B : Type 0} → ReceiverView → Lent W A B → GatherMoment W A B
 moment_of receiver lent = record { receiver = receiver; scene = lent.scene; link = lent.link; clock = lent.clock }
 
 -- No count fell.
-pub record KeepsCounts {W A B : Type 0} (old new : Lent W A B) : Type 0 where
+pub record KeepsGatherCounts {W A B : Type 0} (old new : Lent W A B) : Type 0 where
   pub link : old.link.faults ≤ new.link.faults
   pub ends : old.link.ends ≤ new.link.ends
   pub log : old.scene.log.faults ≤ new.scene.log.faults

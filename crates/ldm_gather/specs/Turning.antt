@@ -14,7 +14,7 @@ use Rattle.ldm_gather.specs.declared.gatherer.Gatherer.{Gatherer}
 use Rattle.ldm_gather.specs.declared.turn.Turned.{Turned}
 use Rattle.ldm_gather.specs.declared.turn.Turned.TheVariants.{On, AtEnd, Over}
 use Rattle.ldm_gather.specs.Gathering.{EndsBy, Gathers, GoesOn, IsAtEnd, Steps}
-use Rattle.ldm_gather.specs.Scene.{Scene, Moment}
+use Rattle.ldm_gather.specs.Scene.{Scene, GatherMoment}
 
 -- all but the pass, the receiver and the buffers is as it was
 abbrev pub SameButCourse : Gatherer → Gatherer → Type 0
@@ -42,19 +42,19 @@ turned handled.Stopped over = Over end.Stopped
 
 module _ {W A B : Type 0} (handles : Handled → Scene W A B → Scene W A B → Type 0) where
   -- What one turn came to: a piece was taken, and it goes on; or the stream is at its end; or it is over.
-  abbrev pub Turns : Turned → Moment W A B → Moment W A B → Type 0
+  abbrev pub Turns : Turned → GatherMoment W A B → GatherMoment W A B → Type 0
   Turns On old new = (piece : Piece) × Steps handles piece old new
   Turns AtEnd old new = IsAtEnd old new
   Turns (Over end) old new = EndsBy handles end old new
 
   -- Pieces came, and then the stream was at its end.
-  pub record RunsToEnd (old new : Moment W A B) : Type 0 where
+  pub record RunsToEnd (old new : GatherMoment W A B) : Type 0 where
     pub pieces : List Piece
-    pub last : Moment W A B
+    pub last : GatherMoment W A B
     pub goes_on : GoesOn handles pieces old last
     pub is_at_end : IsAtEnd last new
 
-  abbrev pub Runs : Option GatherEnd → Moment W A B → Moment W A B → Type 0
+  abbrev pub Runs : Option GatherEnd → GatherMoment W A B → GatherMoment W A B → Type 0
   Runs None old new = RunsToEnd old new
   Runs (Some end) old new = Gathers handles end old new
 

@@ -2,7 +2,7 @@
 ghost use Rattle.std.specs.Prelude.{◌≡◌, ◌≤◌, ◌<◌, false};
 ghost use Rattle.std.specs.Option.{ForSome};
 ghost use Rattle.ldm_gather.specs.Orders.{order_view, usual_order};
-ghost use Rattle.ldm_gather.specs.Cats.{CatEnds, Cats, KeepsCounts, cat_lent};
+ghost use Rattle.ldm_gather.specs.Cats.{CatEnds, Cats, KeepsCatCounts, cat_lent};
 
 use crate::cat::Cat;
 use crate::cat_end::report;
@@ -36,7 +36,7 @@ pub fn pqcat<H: Wait, N: Dial + Reasons, K: Sink, E: Sink, C: Clock>(
         (cat_lent (N.tells net.new) sink.new (E.tells log.new) (C.tells clock.new)) }
     ensures none_out { (N.tells net.new).links.out ≡ false }
     ensures sink_kept { (K.tells sink.old).faults ≤ (K.tells sink.new).faults }
-    ensures counts_kept { KeepsCounts
+    ensures counts_kept { KeepsCatCounts
         (cat_lent (N.tells net.old) sink.old (E.tells log.old) (C.tells clock.old))
         (cat_lent (N.tells net.new) sink.new (E.tells log.new) (C.tells clock.new)) }
 {
@@ -74,7 +74,7 @@ pub fn cat_products<H: Wait, N: Dial + Reasons, K: Sink, E: Sink, C: Clock>(
         (cat_lent (N.tells net.new) sink.new (E.tells log.new) (C.tells clock.new)) }
     ensures none_out { (N.tells net.new).links.out ≡ false }
     ensures sink_kept { (K.tells sink.old).faults ≤ (K.tells sink.new).faults }
-    ensures counts_kept { KeepsCounts
+    ensures counts_kept { KeepsCatCounts
         (cat_lent (N.tells net.old) sink.old (E.tells log.old) (C.tells clock.old))
         (cat_lent (N.tells net.new) sink.new (E.tells log.new) (C.tells clock.new)) }
 {
@@ -99,7 +99,7 @@ fn cat<H: Wait, N: Dial, K: Sink, E: Sink, C: Clock>(
         (cat_lent (N.tells net.new) sink.new (E.tells log.new) (C.tells clock.new)) }
     ensures none_out { (N.tells net.new).links.out ≡ false }
     ensures sink_kept { (K.tells sink.old).faults ≤ (K.tells sink.new).faults }
-    ensures counts_kept { KeepsCounts
+    ensures counts_kept { KeepsCatCounts
         (cat_lent (N.tells net.old) sink.old (E.tells log.old) (C.tells clock.old))
         (cat_lent (N.tells net.new) sink.new (E.tells log.new) (C.tells clock.new)) }
 {

@@ -7,7 +7,7 @@ ghost use Rattle.ldm_reader.specs.Reader.{HasCursor};
 ghost use Rattle.ldm_gather.specs.Orders.{asks_for, order_view};
 ghost use Rattle.ldm_gather.specs.Queue.{IsOpen};
 ghost use Rattle.ldm_gather.specs.Runs.{Gathered};
-ghost use Rattle.ldm_gather.specs.Scene.{KeepsCounts, lent_of, moment_of, scene_of};
+ghost use Rattle.ldm_gather.specs.Scene.{KeepsGatherCounts, lent_of, moment_of, scene_of};
 ghost use Rattle.ldm_gather.specs.Turning.{IsReady, Runs, SameButCourse};
 
 use crate::end::GatherEnd;
@@ -39,7 +39,7 @@ impl Gatherer<'_> {
         requires may { W.begins handler.old first.old second.old }
         requires not_closed { IsNotClosed (K.tells link.old) }
         ensures still_open { IsNotClosed (K.tells link.new) }
-        ensures counts { KeepsCounts
+        ensures counts { KeepsGatherCounts
             (lent_of (scene_of handler.old first.old second.old self.entry.pass (E.tells log.old)) (K.tells link.old)
             (C.tells clock.old))
             (lent_of (scene_of handler.new first.new second.new self.entry.pass (E.tells log.new)) (K.tells link.new)
@@ -87,7 +87,7 @@ impl Gatherer<'_> {
         ensures others { SameButCourse self.old self.new }
         ensures kept { IsSamePass self.old.pass self.new.pass }
         ensures still_open { IsNotClosed (K.tells link.new) }
-        ensures counts { KeepsCounts
+        ensures counts { KeepsGatherCounts
             (lent_of (scene_of handler.old first.old second.old self.old.pass (E.tells log.old)) (K.tells link.old)
             (C.tells clock.old))
             (lent_of (scene_of handler.new first.new second.new self.new.pass (E.tells log.new)) (K.tells link.new)

@@ -6,7 +6,7 @@ ghost use Rattle.ldm_outside.specs.Link.{IsNotClosed};
 ghost use Rattle.ldm_shared.specs.Passes.{IsPassOf, IsSamePass};
 ghost use Rattle.ldm_downstream.specs.Pushing.{answer_of};
 ghost use Rattle.ldm_reader.specs.Reader.{HasCursor};
-ghost use Rattle.ldm_gather.specs.Scene.{KeepsCounts, lent_of, moment_of, scene_of};
+ghost use Rattle.ldm_gather.specs.Scene.{KeepsGatherCounts, lent_of, moment_of, scene_of};
 ghost use Rattle.ldm_gather.specs.Turning.{IfGoesOn, IsReady, SameButCourse, TellsBy, Turns, turned};
 
 use crate::end::{GatherEnd, Handled};
@@ -50,7 +50,7 @@ impl Gatherer<'_> {
         ensures others { SameButCourse self.old self.new }
         ensures kept { IsSamePass self.old.pass self.new.pass }
         ensures still_open { IsNotClosed (K.tells link.new) }
-        ensures counts { KeepsCounts
+        ensures counts { KeepsGatherCounts
             (lent_of (scene_of handler.old first.old second.old self.old.pass (E.tells log.old)) (K.tells link.old)
             (C.tells clock.old))
             (lent_of (scene_of handler.new first.new second.new self.new.pass (E.tells log.new)) (K.tells link.new)

@@ -7,20 +7,20 @@ use Rattle.ldm_outside.proofs.CallerLemmas.{Rose-later}
 use Rattle.ldm_node.specs.declared.stop.NodeStop.{NodeStop}
 use Rattle.ldm_node.specs.declared.stop.NodeStop.TheVariants.{Done, NetFault, LogFault, Worn, OutOfMemory}
 use Rattle.ldm_node.specs.ServingEnds.{stop_by}
-use Rattle.ldm_node.specs.DoorMoments.{Moment, KeepsCounts}
+use Rattle.ldm_node.specs.DoorMoments.{DoorMoment, KeepsDoorCounts}
 use Rattle.ldm_node.specs.Visits.{Visit, Admits}
 use Rattle.ldm_node.specs.DoorWorks.{AreVisits, EndCause, RoseBy, StopCause, Works}
 use Rattle.ldm_node.specs.VisitSteps.{AdmitsOne}
 
 -- Moments of a worker, its visits up to one of them, and that no count fell.
-pub record Goes (rules : Rules) (held : ℕ) (old new : Moment) : Type 0 where
+pub record Goes (rules : Rules) (held : ℕ) (old new : DoorMoment) : Type 0 where
   pub visits : List Visit
   pub many : length visits ≡ held
   pub each : AreVisits rules visits old new
-  pub counts : KeepsCounts old.station new.station
+  pub counts : KeepsDoorCounts old.station new.station
   pub peers : RoseBy held old.station.door.peers new.station.door.peers
 
-counts-same : (station : StationRecord) → KeepsCounts station station
+counts-same : (station : StationRecord) → KeepsDoorCounts station station
 counts-same station = record {
   door = omega arith;
   peers = omega arith;
@@ -31,7 +31,7 @@ counts-same station = record {
   stops = omega arith;
 }
 
-pub counts-then : (old mid new : StationRecord) → KeepsCounts old mid → KeepsCounts mid new → KeepsCounts old new
+pub counts-then : (old mid new : StationRecord) → KeepsDoorCounts old mid → KeepsDoorCounts mid new → KeepsDoorCounts old new
 counts-then old mid new one other = record {
   door = (let a = one.door in let b = other.door in omega arith);
   peers = (let a = one.peers in let b = other.peers in omega arith);
@@ -48,10 +48,10 @@ rose-next held old mid new (inl rose) (inr still) = inr (omega (arith, still.1))
 rose-next held old mid new (inr most) (inl more) = inr (omega arith)
 rose-next held old mid new (inr most) (inr still) = inr (omega (arith, still.1))
 
-visits-more : (rules : Rules) (visits : List Visit) (visit : Visit) (old mid new : Moment) → AreVisits rules visits old mid → Admits true rules visit mid new
+visits-more : (rules : Rules) (visits : List Visit) (visit : Visit) (old mid new : DoorMoment) → AreVisits rules visits old mid → Admits true rules visit mid new
     → stop_by visit.end ≡ None → AreVisits rules (visits ++ visit ∷ []) old new
 visits-more rules [] visit old mid new each more on =
-    let P : Moment → Type 0 = λ m. Admits true rules visit m new in
+    let P : DoorMoment → Type 0 = λ m. Admits true rules visit m new in
     (new, subst P each more, on, refl)
 visits-more rules (first ∷ visits) visit old mid new each more on =
     (each.0, each.1, each.2, visits-more rules visits visit each.0 mid new each.3 more on)
@@ -59,10 +59,10 @@ visits-more rules (first ∷ visits) visit old mid new each more on =
 many-more : (visits : List Visit) (visit : Visit) (held : ℕ) → length visits ≡ held → length (visits ++ visit ∷ []) ≡ held + 1
 many-more visits visit held many = length-append visits (visit ∷ []) ∙ ap (λ (n : ℕ). n + 1) many
 
-pub goes-first : (rules : Rules) (old : Moment) → Goes rules 0 old old
+pub goes-first : (rules : Rules) (old : DoorMoment) → Goes rules 0 old old
 goes-first rules old = record { visits = []; many = refl; each = refl; counts = counts-same old.station; peers = inl (omega arith) }
 
-pub goes-on : (rules : Rules) (held : ℕ) (old mid new : Moment) → Goes rules held old mid → AdmitsOne None rules mid new → KeepsCounts mid.station new.station
+pub goes-on : (rules : Rules) (held : ℕ) (old mid new : DoorMoment) → Goes rules held old mid → AdmitsOne None rules mid new → KeepsDoorCounts mid.station new.station
     → Goes rules (held + 1) old new
 goes-on rules held old mid new goes one kept = record {
   visits = goes.visits ++ one.0 ∷ [];
@@ -73,24 +73,24 @@ goes-on rules held old mid new goes one kept = record {
 }
 
 -- it has held all its sessions
-pub works-spent : (rules : Rules) (held sessions : ℕ) (old new : Moment) → held ≡ sessions → Goes rules held old new → Works Done rules sessions old new
+pub works-spent : (rules : Rules) (held sessions : ℕ) (old new : DoorMoment) → held ≡ sessions → Goes rules held old new → Works Done rules sessions old new
 works-spent rules held sessions old new all goes =
     record { visits = goes.visits; at_end = new; each = goes.each; ending = None; ends = refl; count = goes.many ∙ all }
 
-pub cause-spent : (rules : Rules) (held sessions : ℕ) (old new : Moment) → held ≡ sessions → Goes rules held old new
+pub cause-spent : (rules : Rules) (held sessions : ℕ) (old new : DoorMoment) → held ≡ sessions → Goes rules held old new
     → StopCause Done sessions new.pass old.station new.station
 cause-spent rules held sessions old new all goes =
     let P : ℕ → Type 0 = λ times. RoseBy times old.station.door.peers new.station.door.peers in
     inl (subst P all goes.peers)
 
 -- something ended it before
-pub works-ended : (stop : NodeStop) (rules : Rules) (held sessions : ℕ) (old mid new : Moment) → held < sessions → Goes rules held old mid
+pub works-ended : (stop : NodeStop) (rules : Rules) (held sessions : ℕ) (old mid new : DoorMoment) → held < sessions → Goes rules held old mid
     → AdmitsOne (Some stop) rules mid new → Works stop rules sessions old new
 works-ended stop rules held sessions old mid new more goes one =
     let many = goes.many in
     record { visits = goes.visits; at_end = mid; each = goes.each; ending = Some one.0; ends = one.1; count = omega (arith, many) }
 
-pub cause-ended : (stop : NodeStop) (rules : Rules) (held sessions : ℕ) (old mid new : Moment) → Goes rules held old mid → AdmitsOne (Some stop) rules mid new
+pub cause-ended : (stop : NodeStop) (rules : Rules) (held sessions : ℕ) (old mid new : DoorMoment) → Goes rules held old mid → AdmitsOne (Some stop) rules mid new
     → StopCause stop sessions new.pass old.station new.station
 cause-ended Done rules held sessions old mid new goes one = inr (by_cause one.2)
   where

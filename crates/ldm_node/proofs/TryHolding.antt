@@ -16,7 +16,7 @@ use Rattle.ldm_downstream.specs.Complete.{Completes}
 use Rattle.ldm_downstream.specs.Receives.{Cause, ReceivesAll}
 use Rattle.ldm_node.specs.declared.stop.NodeStop.{NodeStop}
 use Rattle.ldm_node.specs.declared.stop.NodeStop.TheVariants.{Done, NetFault, LogFault, Worn, OutOfMemory}
-use Rattle.ldm_node.specs.RequestMoments.{Moment, with_dial}
+use Rattle.ldm_node.specs.RequestMoments.{RequestMoment, with_dial}
 use Rattle.ldm_node.specs.SessionEnds.{stop_of_receiving}
 use Rattle.ldm_node.specs.Tries.{Session, asking, outside, peer_of}
 use Rattle.ldm_node.specs.TrySteps.{Finishes, HoldsOne, TriesOne}
@@ -42,7 +42,7 @@ log-rose end pass before after log cause kept (inl session) =
     subst Q (sym session.1) (subst P session.0 cause)
 log-rose end pass before after log cause kept (inr rose) = Rose-later before.log.faults after.log.faults log.faults kept rose
 
-pub holds-one : (stop : Option NodeStop) (end : RecvEnd) (request : RequestView) (came left : LinkRecord) (log : SinkRecord) (old new : Moment)
+pub holds-one : (stop : Option NodeStop) (end : RecvEnd) (request : RequestView) (came left : LinkRecord) (log : SinkRecord) (old new : RequestMoment)
     → ReceivesAll end new.last (asking request old.last) [] old.pass new.pass (outside came old.station.log old.station.clock) (outside left log new.station.clock)
     → Completes end (asking request old.last) [] old.pass new.pass (outside came old.station.log old.station.clock) (outside left log new.station.clock)
     → old.station.log.faults ≤ log.faults
@@ -72,7 +72,7 @@ holds-one (Some Done) end request came left log old new receives completes kept 
 holds-one (Some NetFault) end request came left log old new receives completes kept given_back finishes same = absurd finishes
 holds-one (Some OutOfMemory) end request came left log old new receives completes kept given_back finishes same = absurd finishes
 
-pub tries-one : (stop : Option NodeStop) (request : RequestView) (came : LinkRecord) (lent : DialRecord) (old new : Moment)
+pub tries-one : (stop : Option NodeStop) (request : RequestView) (came : LinkRecord) (lent : DialRecord) (old new : RequestMoment)
     → ConnectGives (λ (link : LinkRecord). link) (Linked came) (peer_of request) old.station.dial lent
     → HoldsOne stop request came (with_dial lent old) new → TriesOne stop request old new
 tries-one None request came lent old new dialled holds =

@@ -12,22 +12,22 @@ use Rattle.ldm_node.specs.declared.stop.NodeStop.{NodeStop}
 use Rattle.ldm_node.specs.declared.stop.NodeStop.TheVariants.{Done, NetFault, LogFault, Worn, OutOfMemory}
 use Rattle.ldm_node.specs.SessionEnds.{end_of_receiving}
 use Rattle.ldm_node.specs.Lines.{session_line}
-use Rattle.ldm_node.specs.RequestMoments.{Moment}
+use Rattle.ldm_node.specs.RequestMoments.{RequestMoment}
 use Rattle.ldm_node.specs.Tries.{Try, Unreached, Session, TriesOnce, asking, peer_of}
 use Rattle.ldm_node.specs.RequestWorks.{AreTries, EndsBy, TriesAndAsks, Works}
 use Rattle.ldm_node.specs.Noted.{IsNoted}
 use Rattle.ldm_node.specs.TriesTold.{AreAllOwn, AreOwn, Follow, all_tries, asked_by, line_of, log_of}
 
 -- the last try, and the moment at which its line was written; behind it the dial was not asked
-record LastTry (request : RequestView) (try : Try) (old new : Moment) : Type 0 where
+record LastTry (request : RequestView) (try : Try) (old new : RequestMoment) : Type 0 where
   pub whole : Bool
-  pub between : Moment
+  pub between : RequestMoment
   pub tries : TriesOnce whole request try old between
   pub dial : new.station.dial ≡ between.station.dial
 
-last-try : (stop : NodeStop) (request : RequestView) (try : Try) (old new : Moment) → EndsBy stop request try old new → LastTry request try old new
+last-try : (stop : NodeStop) (request : RequestView) (try : Try) (old new : RequestMoment) → EndsBy stop request try old new → LastTry request try old new
 last-try Done request try old new ends =
-    record { whole = true; between = ends.between; tries = ends.tries; dial = ap (λ (m : Moment). m.station.dial) ends.asks.same }
+    record { whole = true; between = ends.between; tries = ends.tries; dial = ap (λ (m : RequestMoment). m.station.dial) ends.asks.same }
 last-try LogFault request try old new ends = record { whole = false; between = new; tries = ends; dial = refl }
 last-try Worn request try old new ends = record { whole = true; between = new; tries = ends.0; dial = refl }
 last-try NetFault request try old new ends = absurd ends
@@ -49,30 +49,30 @@ asks-then first second old mid new (inl told) (inl more) =
     inl (more ∙ ap (option_map (λ (before : List Asked). before ++ second)) told ∙ after-more first second old)
 asks-then first second old mid new (inr silent) (inl more) = inr (more ∙ ap (option_map (λ (before : List Asked). before ++ second)) silent)
 
-asks-once : (whole : Bool) (request : RequestView) (try : Try) (old new : Moment) → TriesOnce whole request try old new
+asks-once : (whole : Bool) (request : RequestView) (try : Try) (old new : RequestMoment) → TriesOnce whole request try old new
     → AsksMore (peer_of request ∷ []) old.station.dial.asked new.station.dial.asked
 asks-once whole request Unreached old new tries = tries.dialled.1
 asks-once whole request (Session end before behind) old new tries =
     inl (ap (λ (d : DialRecord). d.asked) tries.0.holds.given_back.1 ∙ ap (λ (d : DialRecord). d.asked) tries.0.dialled.1)
 
-same-dial : (request : RequestView) (old mid new : Moment) → new.station.dial ≡ mid.station.dial → AsksMore (peer_of request ∷ []) old.station.dial.asked mid.station.dial.asked
+same-dial : (request : RequestView) (old mid new : RequestMoment) → new.station.dial ≡ mid.station.dial → AsksMore (peer_of request ∷ []) old.station.dial.asked mid.station.dial.asked
     → AsksMore (peer_of request ∷ []) old.station.dial.asked new.station.dial.asked
 same-dial request old mid new same asks =
     let P : DialRecord → Type 0 = λ d. AsksMore (peer_of request ∷ []) old.station.dial.asked d.asked in
     subst P (sym same) asks
 
-tries-ask : (request : RequestView) (tries : List Try) (last : Try) (old mid new : Moment) → AreTries request tries old mid
+tries-ask : (request : RequestView) (tries : List Try) (last : Try) (old mid new : RequestMoment) → AreTries request tries old mid
     → AsksMore (peer_of request ∷ []) mid.station.dial.asked new.station.dial.asked → AsksMore (asked_by request (tries ++ last ∷ [])) old.station.dial.asked new.station.dial.asked
 tries-ask request [] last old mid new each asks =
-    let P : Moment → Type 0 = λ m. AsksMore (peer_of request ∷ []) m.station.dial.asked new.station.dial.asked in
+    let P : RequestMoment → Type 0 = λ m. AsksMore (peer_of request ∷ []) m.station.dial.asked new.station.dial.asked in
     subst P each asks
 tries-ask request (try ∷ tries) last old mid new each asks =
     let between = each.1.between in
     asks-then (peer_of request ∷ []) (asked_by request (tries ++ last ∷ [])) old.station.dial.asked each.0.station.dial.asked new.station.dial.asked
-    (same-dial request old between each.0 (ap (λ (m : Moment). m.station.dial) each.1.asks.same) (asks-once true request try old between each.1.tries))
+    (same-dial request old between each.0 (ap (λ (m : RequestMoment). m.station.dial) each.1.asks.same) (asks-once true request try old between each.1.tries))
     (tries-ask request tries last each.0 mid new each.2 asks)
 
-pub works-ask : (stop : NodeStop) (request : RequestView) (old new : Moment) (works : Works stop request old new)
+pub works-ask : (stop : NodeStop) (request : RequestView) (old new : RequestMoment) (works : Works stop request old new)
     → AsksMore (asked_by request (all_tries works)) old.station.dial.asked new.station.dial.asked
 works-ask stop request old new works =
     let last = last-try stop request works.last works.before_last new works.ends in
@@ -93,7 +93,7 @@ record LogsAll (request : RequestView) (tries : List Try) (old new : SinkRecord)
   pub are : AreAllOwn request tries own
   pub taken : Takes old (log_of request tries own) new
 
-logs-once : (request : RequestView) (try : Try) (old new : Moment) → TriesOnce true request try old new
+logs-once : (request : RequestView) (try : Try) (old new : RequestMoment) → TriesOnce true request try old new
     → LogsOne request try old.station.log new.station.log
 logs-once request Unreached old new tries = record { lines = []; are = refl; taken = tries.logged }
 logs-once request (Session end before behind) old new tries =
@@ -115,19 +115,19 @@ logs-once request (Session end before behind) old new tries =
           (session_line request.host (end_of_receiving end)) receives.passed.logged holds.logged;
     }
 
-logs-asked : (go : Go) (request : RequestView) (try : Try) (old new : Moment) → TriesAndAsks go request try old new
+logs-asked : (go : Go) (request : RequestView) (try : Try) (old new : RequestMoment) → TriesAndAsks go request try old new
     → LogsOne request try old.station.log new.station.log
 logs-asked go request try old new tries =
-    let same : new.station.log ≡ tries.between.station.log = ap (λ (m : Moment). m.station.log) tries.asks.same in
+    let same : new.station.log ≡ tries.between.station.log = ap (λ (m : RequestMoment). m.station.log) tries.asks.same in
     let Q : SinkRecord → Type 0 = λ log. LogsOne request try old.station.log log in
     subst Q (sym same) (logs-once request try old tries.between tries.tries)
 
-tries-log : (request : RequestView) (tries : List Try) (last : Try) (old mid new : Moment)
+tries-log : (request : RequestView) (tries : List Try) (last : Try) (old mid new : RequestMoment)
     → AreTries request tries old mid → TriesAndAsks Stop request last mid new
     → LogsAll request (tries ++ last ∷ []) old.station.log new.station.log
 tries-log request [] last old mid new each ends =
     let once = logs-asked Stop request last mid new ends in
-    let P : Moment → Type 0 = λ m. LogsAll request (last ∷ []) m.station.log new.station.log in
+    let P : RequestMoment → Type 0 = λ m. LogsAll request (last ∷ []) m.station.log new.station.log in
     subst P each (record {
       own = once.lines ∷ [];
       are = (once.are, tt);
@@ -144,7 +144,7 @@ tries-log request (try ∷ tries) last old mid new each ends =
           (log_of request (tries ++ last ∷ []) rest.own) once.taken rest.taken;
     }
 
-pub works-log : (request : RequestView) (old new : Moment) (works : Works Done request old new)
+pub works-log : (request : RequestView) (old new : RequestMoment) (works : Works Done request old new)
     → (own : List (List ℕ)) × AreAllOwn request (all_tries works) own
     × Takes old.station.log (log_of request (all_tries works) own) new.station.log
 works-log request old new works =
@@ -153,26 +153,26 @@ works-log request old new works =
 
 -- ---- how sessions follow one another
 
-follows-once : (whole : Bool) (request : RequestView) (try : Try) (old new : Moment) → TriesOnce whole request try old new → Follow old.last (try ∷ [])
+follows-once : (whole : Bool) (request : RequestView) (try : Try) (old new : RequestMoment) → TriesOnce whole request try old new → Follow old.last (try ∷ [])
 follows-once whole request Unreached old new tries = tt
 follows-once whole request (Session end before behind) old new tries = (tries.1, tt)
 
-follows-then : (request : RequestView) (try : Try) (tries : List Try) (old new : Moment) → TriesAndAsks On request try old new → Follow new.last tries → Follow old.last (try ∷ tries)
+follows-then : (request : RequestView) (try : Try) (tries : List Try) (old new : RequestMoment) → TriesAndAsks On request try old new → Follow new.last tries → Follow old.last (try ∷ tries)
 follows-then request Unreached tries old new one rest =
     let P : Option (List ℕ) → Type 0 = λ last. Follow last tries in
-    subst P (ap (λ (m : Moment). m.last) one.asks.same ∙ ap (λ (m : Moment). m.last) one.tries.same) rest
+    subst P (ap (λ (m : RequestMoment). m.last) one.asks.same ∙ ap (λ (m : RequestMoment). m.last) one.tries.same) rest
 follows-then request (Session end before behind) tries old new one rest =
     let P : Option (List ℕ) → Type 0 = λ last. Follow last tries in
-    (one.tries.1, subst P (ap (λ (m : Moment). m.last) one.asks.same ∙ sym one.tries.2) rest)
+    (one.tries.1, subst P (ap (λ (m : RequestMoment). m.last) one.asks.same ∙ sym one.tries.2) rest)
 
-tries-follow : (request : RequestView) (tries : List Try) (last : Try) (old mid : Moment) → AreTries request tries old mid → Follow mid.last (last ∷ []) → Follow old.last (tries ++ last ∷ [])
+tries-follow : (request : RequestView) (tries : List Try) (last : Try) (old mid : RequestMoment) → AreTries request tries old mid → Follow mid.last (last ∷ []) → Follow old.last (tries ++ last ∷ [])
 tries-follow request [] last old mid each follows =
-    let P : Moment → Type 0 = λ m. Follow m.last (last ∷ []) in
+    let P : RequestMoment → Type 0 = λ m. Follow m.last (last ∷ []) in
     subst P each follows
 tries-follow request (try ∷ tries) last old mid each follows =
     follows-then request try (tries ++ last ∷ []) old each.0 each.1 (tries-follow request tries last each.0 mid each.2 follows)
 
-pub works-follow : (stop : NodeStop) (request : RequestView) (old new : Moment) (works : Works stop request old new) → Follow old.last (all_tries works)
+pub works-follow : (stop : NodeStop) (request : RequestView) (old new : RequestMoment) (works : Works stop request old new) → Follow old.last (all_tries works)
 works-follow stop request old new works =
     let last = last-try stop request works.last works.before_last new works.ends in
     tries-follow request works.tries works.last old works.before_last works.each

@@ -8,12 +8,12 @@ use Rattle.ldm_outside.specs.Link.{LinkRecord}
 use Rattle.ldm_outside.proofs.CallerLemmas.{Rose-later}
 use Rattle.ldm_shared.specs.Passes.{SharedView, PassView, IsPassOf}
 use Rattle.ldm_serve.specs.declared.end.ServeEnd.{ServeEnd}
-use Rattle.ldm_serve.specs.Connection.{Moment as Situation, moment_of}
+use Rattle.ldm_serve.specs.Connection.{ServingMoment as Situation, moment_of}
 use Rattle.ldm_serve.specs.Serve.{ServesAll}
 use Rattle.ldm_serve.specs.Client.{Client}
 use Rattle.ldm_node.specs.declared.stop.NodeStop.{NodeStop}
 use Rattle.ldm_node.specs.declared.stop.NodeStop.TheVariants.{Done, NetFault, LogFault, Worn, OutOfMemory}
-use Rattle.ldm_node.specs.DoorMoments.{Moment, with_door}
+use Rattle.ldm_node.specs.DoorMoments.{DoorMoment, with_door}
 use Rattle.ldm_node.specs.Visits.{client_of, outside, peer_of, visit_of}
 use Rattle.ldm_node.specs.DoorWorks.{FailsAt, LastVisit}
 use Rattle.ldm_node.specs.VisitSteps.{AdmitsOne, Finishes, HoldsOne}
@@ -36,7 +36,7 @@ log-rose end client before after log serves kept (inl within) =
 log-rose end client before after log serves kept (inr rose) =
     Rose-later before.outside.log.faults after.outside.log.faults log.faults kept rose
 
-pub holds-one : (stop : Option NodeStop) (end : ServeEnd) (rules : Rules) (host : List ℕ) (came left : LinkRecord) (log : SinkRecord) (old new : Moment)
+pub holds-one : (stop : Option NodeStop) (end : ServeEnd) (rules : Rules) (host : List ℕ) (came left : LinkRecord) (log : SinkRecord) (old new : DoorMoment)
     → ServesAll end (client_of rules host old.pass) (moment_of old.pass (outside came old.station.log old.station)) (moment_of new.pass (outside left log new.station))
     → old.station.log.faults ≤ log.faults
     → DoorTakesBack left old.station.door new.station.door
@@ -75,7 +75,7 @@ peers-rose peers left lent door rose back =
     let same : door.peers ≡ lent.peers = ap (λ (d : DoorRecord). d.peers) back.1 in
     subst P (sym same) rose
 
-pub admits-one : (stop : Option NodeStop) (rules : Rules) (host : List ℕ) (came : LinkRecord) (lent : DoorRecord) (old new : Moment)
+pub admits-one : (stop : Option NodeStop) (rules : Rules) (host : List ℕ) (came : LinkRecord) (lent : DoorRecord) (old new : DoorMoment)
     → AcceptGives (λ (link : LinkRecord). link) (peer_of host came) old.station.door lent
     → HoldsOne stop rules host came (with_door lent old) new → AdmitsOne stop rules old new
 admits-one None rules host came lent old new accepted holds = (

@@ -7,7 +7,7 @@ use Rattle.ldm_model.specs.declared.event.Entry.{Entry}
 use Rattle.ldm_sender.specs.declared.end.SendEnd.{SendEnd}
 use Rattle.ldm_sender.specs.declared.end.SendEnd.TheVariants as sending
 use Rattle.ldm_sender.specs.Acts.{Logged}
-use Rattle.ldm_sender.specs.Does.{IsPart}
+use Rattle.ldm_session.specs.Part.{IsPart}
 use Rattle.ldm_notify.specs.Notifies.{send_end}
 use Rattle.ldm_serve.specs.declared.responded.Responded.{Responded}
 use Rattle.ldm_serve.specs.declared.responded.Responded.TheVariants as responded
@@ -15,7 +15,7 @@ use Rattle.ldm_serve.specs.Responds.{goes_on}
 use Rattle.ldm_serve.specs.declared.end.ServeEnd.{ServeEnd}
 use Rattle.ldm_serve.specs.declared.end.ServeEnd.TheVariants as serving
 use Rattle.ldm_serve.specs.Becoming.{IsDenied, IsRefused}
-use Rattle.ldm_serve.specs.Connection.{Moment}
+use Rattle.ldm_serve.specs.Connection.{ServingMoment}
 use Rattle.ldm_serve.specs.Serve.{EndsByLength, EndsByRecord, ServesAll}
 use Rattle.ldm_serve.specs.Client.{Client}
 use Rattle.ldm_serve.specs.Steps.{response_of}
@@ -58,7 +58,7 @@ written-then What old mid new same wrote =
 wrote-nothing : (old new : SinkRecord) → new.written ≡ old.written → Wrote (λ lines. lines ≡ []) old new
 wrote-nothing old new same = record { lines = []; are = refl; taken = Takes-nothing old new same }
 
-refused-same : (place : ℕ) (next : Responded) (at : ℕ) (old new : Moment) → IsRefused place next at old new → new ≡ old
+refused-same : (place : ℕ) (next : Responded) (at : ℕ) (old new : ServingMoment) → IsRefused place next at old new → new ≡ old
 refused-same place responded.GoesOn at old new is = absurd is
 refused-same place (responded.Feeds ask) at old new is = absurd is
 refused-same place (responded.Receives class) at old new is = absurd is
@@ -66,7 +66,7 @@ refused-same place (responded.Notifies ask) at old new is = absurd is
 refused-same place responded.Refused at old new is = is.1
 refused-same place (responded.Denied rule) at old new is = absurd is
 
-denied-same : (rule : ℕ) (next : Responded) (old new : Moment) → IsDenied rule next old new → new ≡ old
+denied-same : (rule : ℕ) (next : Responded) (old new : ServingMoment) → IsDenied rule next old new → new ≡ old
 denied-same rule responded.GoesOn old new is = absurd is
 denied-same rule (responded.Feeds ask) old new is = absurd is
 denied-same rule (responded.Receives class) old new is = absurd is
@@ -74,11 +74,11 @@ denied-same rule (responded.Notifies ask) old new is = absurd is
 denied-same rule responded.Refused old new is = absurd is
 denied-same rule (responded.Denied first) old new is = is.1
 
-written-of : (old new : Moment) → new ≡ old → new.outside.log.written ≡ old.outside.log.written
-written-of old new same = ap (λ (m : Moment). m.outside.log.written) same
+written-of : (old new : ServingMoment) → new ≡ old → new.outside.log.written ≡ old.outside.log.written
+written-of old new same = ap (λ (m : ServingMoment). m.outside.log.written) same
 
 -- the lines that a session wrote itself
-pub serves-own : (end : ServeEnd) (client : Client) (old new : Moment) → ServesAll end client old new → Wrote (AreOwn client.rules end client.host) old.outside.log new.outside.log
+pub serves-own : (end : ServeEnd) (client : Client) (old new : ServingMoment) → ServesAll end client old new → Wrote (AreOwn client.rules end client.host) old.outside.log new.outside.log
 serves-own (serving.Feed why) client old new serves =
     let fed = was-fed why (goes_on (response_of client serves.ends.last)) client serves.ahead serves.between new serves.ends.becomes in
     written-then (AreLosses why client.host) old.outside.log serves.between.outside.log new.outside.log serves.reaches.log
@@ -117,4 +117,4 @@ serves-own serving.LinkFault client old new serves =
 serves-own serving.OutOfMemory client old new serves =
     wrote-nothing old.outside.log new.outside.log (written-of serves.between new serves.ends.1 ∙ serves.reaches.log)
 serves-own serving.Worn client old new serves =
-    wrote-nothing old.outside.log new.outside.log (ap (λ (m : Moment). m.outside.log.written) serves.ends.same ∙ serves.reaches.log)
+    wrote-nothing old.outside.log new.outside.log (ap (λ (m : ServingMoment). m.outside.log.written) serves.ends.same ∙ serves.reaches.log)

@@ -26,7 +26,7 @@ use Rattle.ldm_serve.specs.Responds.{goes_on}
 use Rattle.ldm_serve.specs.declared.end.ServeEnd.{ServeEnd}
 use Rattle.ldm_serve.specs.declared.end.ServeEnd.TheVariants as serving
 use Rattle.ldm_serve.specs.Becoming.{IsFed, IsNotified, IsReceived, ungated}
-use Rattle.ldm_serve.specs.Connection.{Moment}
+use Rattle.ldm_serve.specs.Connection.{ServingMoment}
 use Rattle.ldm_serve.specs.Serve.{ServesAll}
 use Rattle.ldm_serve.specs.Client.{Client}
 use Rattle.ldm_serve.specs.Steps.{response_of}
@@ -38,12 +38,12 @@ use Rattle.ldm_node.specs.VisitsTold.{ArePushed}
 -- ---- what a connection became
 
 -- A feeding of what was asked by the host.
-pub record WasFed (why : SendEnd) (client : Client) (ahead : List ℕ) (old new : Moment) : Type 0 where
+pub record WasFed (why : SendEnd) (client : Client) (ahead : List ℕ) (old new : ServingMoment) : Type 0 where
   pub asked : Asked
   pub host_is : asked.host ≡ client.host
   pub feeds : Feeds why asked ahead old.pass new.pass old.outside new.outside
 
-pub was-fed : (why : SendEnd) (next : Responded) (client : Client) (ahead : List ℕ) (old new : Moment) → IsFed why next client ahead old new
+pub was-fed : (why : SendEnd) (next : Responded) (client : Client) (ahead : List ℕ) (old new : ServingMoment) → IsFed why next client ahead old new
     → WasFed why client ahead old new
 was-fed why responded.GoesOn client ahead old new is = absurd is
 was-fed why (responded.Feeds ask) client ahead old new is =
@@ -54,12 +54,12 @@ was-fed why responded.Refused client ahead old new is = absurd is
 was-fed why (responded.Denied rule) client ahead old new is = absurd is
 
 -- A session of notices of what was asked by the host.
-pub record WasNotified (why : NotifyEnd) (client : Client) (old new : Moment) : Type 0 where
+pub record WasNotified (why : NotifyEnd) (client : Client) (old new : ServingMoment) : Type 0 where
   pub asked : Asked
   pub host_is : asked.host ≡ client.host
   pub notifies : NotifiesTo (send_end why) asked old.pass new.pass old.outside new.outside
 
-pub was-notified : (why : NotifyEnd) (next : Responded) (client : Client) (old new : Moment) → IsNotified why next client old new → WasNotified why client old new
+pub was-notified : (why : NotifyEnd) (next : Responded) (client : Client) (old new : ServingMoment) → IsNotified why next client old new → WasNotified why client old new
 was-notified why responded.GoesOn client old new is = absurd is
 was-notified why (responded.Feeds ask) client old new is = absurd is
 was-notified why (responded.Receives class) client old new is = absurd is
@@ -69,7 +69,7 @@ was-notified why responded.Refused client old new is = absurd is
 was-notified why (responded.Denied rule) client old new is = absurd is
 
 -- What a receiving that was pushed leaves: its log lines, and why it ended.
-pub record WasReceived (why : RecvEnd) (client : Client) (old new : Moment) : Type 0 where
+pub record WasReceived (why : RecvEnd) (client : Client) (old new : ServingMoment) : Type 0 where
   pub before : SessionRecord
   pub after : SessionRecord
   pub log_before : before.log ≡ old.outside.log
@@ -79,7 +79,7 @@ pub record WasReceived (why : RecvEnd) (client : Client) (old new : Moment) : Ty
   pub pushed : ArePushed why client.rules client.host lines
   pub cause : Cause why new.pass before after
 
-pub was-received : (why : RecvEnd) (next : Responded) (client : Client) (ahead : List ℕ) (old new : Moment) → IsReceived why next client ahead old new
+pub was-received : (why : RecvEnd) (next : Responded) (client : Client) (ahead : List ℕ) (old new : ServingMoment) → IsReceived why next client ahead old new
     → WasReceived why client old new
 was-received why responded.GoesOn client ahead old new is = absurd is
 was-received why (responded.Feeds ask) client ahead old new is = absurd is
@@ -162,7 +162,7 @@ receiving-not_done receiving.Worn is = cc
 receiving-not_done receiving.OutOfMemory is = cc
 
 -- the gate stopped the session
-pub serves-stopped : (end : ServeEnd) (client : Client) (old new : Moment) → stop_by end ≡ Some Done → ServesAll end client old new
+pub serves-stopped : (end : ServeEnd) (client : Client) (old new : ServingMoment) → stop_by end ≡ Some Done → ServesAll end client old new
     → Rose old.outside.gate.stops new.outside.gate.stops
 serves-stopped (serving.Feed why) client old new is serves =
     let fed = was-fed why (goes_on (response_of client serves.ends.last)) client serves.ahead serves.between new serves.ends.becomes in
@@ -183,7 +183,7 @@ serves-stopped serving.Worn client old new is serves = cc
 serves-stopped serving.OutOfMemory client old new is serves = cc
 
 -- the queue has had all its calls
-pub serves-worn : (end : ServeEnd) (client : Client) (old new : Moment) → stop_by end ≡ Some Worn → ServesAll end client old new → length new.pass.seen ≡ MOST_TURNS
+pub serves-worn : (end : ServeEnd) (client : Client) (old new : ServingMoment) → stop_by end ≡ Some Worn → ServesAll end client old new → length new.pass.seen ≡ MOST_TURNS
 serves-worn (serving.Feed why) client old new is serves =
     let fed = was-fed why (goes_on (response_of client serves.ends.last)) client serves.ahead serves.between new serves.ends.becomes in
     sending-worn why fed.feeds.feeding.answered new.pass serves.between.outside new.outside is fed.feeds.cause
@@ -229,7 +229,7 @@ receiving-log receiving.StreamLimit pass before after is cause = cc
 receiving-log receiving.Worn pass before after is cause = cc
 receiving-log receiving.OutOfMemory pass before after is cause = cc
 
-pub serves-log_failed : (end : ServeEnd) (client : Client) (old new : Moment) → stop_by end ≡ Some LogFault → ServesAll end client old new
+pub serves-log_failed : (end : ServeEnd) (client : Client) (old new : ServingMoment) → stop_by end ≡ Some LogFault → ServesAll end client old new
     → Rose old.outside.log.faults new.outside.log.faults
 serves-log_failed (serving.Feed why) client old new is serves =
     let fed = was-fed why (goes_on (response_of client serves.ends.last)) client serves.ahead serves.between new serves.ends.becomes in

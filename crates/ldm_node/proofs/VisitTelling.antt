@@ -24,7 +24,7 @@ use Rattle.ldm_node.specs.declared.stop.NodeStop.{NodeStop}
 use Rattle.ldm_node.specs.declared.stop.NodeStop.TheVariants.{Done, NetFault, LogFault, Worn, OutOfMemory}
 use Rattle.ldm_node.specs.Lines.{session_line}
 use Rattle.ldm_node.specs.ServingEnds.{end_of_sending, end_of_serving, stop_by, stop_of_sending}
-use Rattle.ldm_node.specs.DoorMoments.{Moment}
+use Rattle.ldm_node.specs.DoorMoments.{DoorMoment}
 use Rattle.ldm_node.specs.Visits.{Visit, Admits, client_of, line_of, outside}
 use Rattle.ldm_node.specs.DoorWorks.{AreVisits, ClosedDoor, Declines, Ending, EndsBy, FailedDoor, LastVisit, Works}
 use Rattle.ldm_node.specs.VisitsTold.{AreAllOwn, AreOwn, all_visits, hosts_of, last_visit, log_of}
@@ -32,13 +32,13 @@ use Rattle.ldm_node.proofs.VisitOwning.{serves-own}
 use Rattle.ldm_node.proofs.VisitServing.{receiving-not_done}
 
 -- how a worker ended, without why it stopped
-abbrev EndsSo : Rules → Option Ending → Moment → Moment → Type 0
+abbrev EndsSo : Rules → Option Ending → DoorMoment → DoorMoment → Type 0
 EndsSo rules None old new = new ≡ old
 EndsSo rules (Some ClosedDoor) old new = Declines Closed old new
 EndsSo rules (Some FailedDoor) old new = Declines Failed old new
 EndsSo rules (Some (LastVisit visit)) old new = (whole : Bool) × Admits whole rules visit old new
 
-ends-so : (stop : NodeStop) (rules : Rules) (ending : Option Ending) (old new : Moment) → EndsBy stop rules ending old new → EndsSo rules ending old new
+ends-so : (stop : NodeStop) (rules : Rules) (ending : Option Ending) (old new : DoorMoment) → EndsBy stop rules ending old new → EndsSo rules ending old new
 ends-so Done rules None old new ends = ends
 ends-so Done rules (Some ClosedDoor) old new ends = ends
 ends-so Done rules (Some FailedDoor) old new ends = absurd ends
@@ -82,24 +82,24 @@ module _ {A : Type 0} where
 
 -- ---- the hosts that came
 
-door-of : (old new : Moment) → new ≡ old → new.station.door ≡ old.station.door
-door-of old new same = ap (λ (m : Moment). m.station.door) same
+door-of : (old new : DoorMoment) → new ≡ old → new.station.door ≡ old.station.door
+door-of old new same = ap (λ (m : DoorMoment). m.station.door) same
 
-admits-host : (whole : Bool) (rules : Rules) (visit : Visit) (old new : Moment) → Admits whole rules visit old new
+admits-host : (whole : Bool) (rules : Rules) (visit : Visit) (old new : DoorMoment) → Admits whole rules visit old new
     → new.station.door.hosts ≡ then_more (visit.host ∷ []) old.station.door.hosts
 admits-host whole rules visit old new admits =
     ap (λ (d : DoorRecord). d.hosts) admits.holds.given_back.1 ∙ ap (λ (d : DoorRecord). d.hosts) admits.accepted.2
 
-visits-hosts : (rules : Rules) (visits : List Visit) (old new : Moment) → AreVisits rules visits old new
+visits-hosts : (rules : Rules) (visits : List Visit) (old new : DoorMoment) → AreVisits rules visits old new
     → new.station.door.hosts ≡ then_more (hosts_of visits) old.station.door.hosts
-visits-hosts rules [] old new each = ap (λ (m : Moment). m.station.door.hosts) each ∙ then_more-nothing old.station.door.hosts
+visits-hosts rules [] old new each = ap (λ (m : DoorMoment). m.station.door.hosts) each ∙ then_more-nothing old.station.door.hosts
 visits-hosts rules (visit ∷ visits) old new each =
     visits-hosts rules visits each.0 new each.3 ∙ ap (then_more (hosts_of visits)) (admits-host true rules visit old each.0 each.1)
     ∙ then_more-twice (visit.host ∷ []) (hosts_of visits) old.station.door.hosts
 
-ends-hosts : (rules : Rules) (ending : Option Ending) (old new : Moment) → EndsSo rules ending old new
+ends-hosts : (rules : Rules) (ending : Option Ending) (old new : DoorMoment) → EndsSo rules ending old new
     → new.station.door.hosts ≡ then_more (hosts_of (last_visit ending)) old.station.door.hosts
-ends-hosts rules None old new ends = ap (λ (m : Moment). m.station.door.hosts) ends ∙ then_more-nothing old.station.door.hosts
+ends-hosts rules None old new ends = ap (λ (m : DoorMoment). m.station.door.hosts) ends ∙ then_more-nothing old.station.door.hosts
 ends-hosts rules (Some ClosedDoor) old new ends = ap (λ (d : DoorRecord). d.hosts) ends.answered.1 ∙ then_more-nothing old.station.door.hosts
 ends-hosts rules (Some FailedDoor) old new ends = ap (λ (d : DoorRecord). d.hosts) ends.answered.1 ∙ then_more-nothing old.station.door.hosts
 ends-hosts rules (Some (LastVisit visit)) old new ends = admits-host ends.0 rules visit old new ends.1
@@ -108,7 +108,7 @@ hosts-append : (first second : List Visit) → hosts_of first ++ hosts_of second
 hosts-append [] second = refl
 hosts-append (visit ∷ first) second = ap (λ (hosts : List (List ℕ)). visit.host ∷ hosts) (hosts-append first second)
 
-pub works-hosts : (stop : NodeStop) (rules : Rules) (sessions : ℕ) (old new : Moment) (works : Works stop rules sessions old new)
+pub works-hosts : (stop : NodeStop) (rules : Rules) (sessions : ℕ) (old new : DoorMoment) (works : Works stop rules sessions old new)
     → new.station.door.hosts ≡ option_map (λ (before : List (List ℕ)). before ++ hosts_of (all_visits works)) old.station.door.hosts
 works-hosts stop rules sessions old new works =
     let last = last_visit works.ending in
@@ -143,7 +143,7 @@ record LogsOne (rules : Rules) (visit : Visit) (old new : SinkRecord) : Type 0 w
   pub are : AreOwn rules visit.end visit.host lines
   pub taken : Takes old (lines ++ line_of visit) new
 
-admits-log : (rules : Rules) (visit : Visit) (old new : Moment) → Admits true rules visit old new → LogsOne rules visit old.station.log new.station.log
+admits-log : (rules : Rules) (visit : Visit) (old new : DoorMoment) → Admits true rules visit old new → LogsOne rules visit old.station.log new.station.log
 admits-log rules visit old new admits =
     let holds = admits.holds in
     let own = serves-own visit.end (client_of rules visit.host old.pass) (moment_of old.pass (outside admits.came old.station.log old.station))
@@ -154,29 +154,29 @@ admits-log rules visit old new admits =
       taken = Takes-then old.station.log holds.log new.station.log own.lines (line_of visit) own.taken holds.logged;
     }
 
-logs-all : (rules : Rules) (visits others : List Visit) (old mid : Moment) (new : SinkRecord) → AreVisits rules visits old mid → LogsAll rules others mid.station.log new
+logs-all : (rules : Rules) (visits others : List Visit) (old mid : DoorMoment) (new : SinkRecord) → AreVisits rules visits old mid → LogsAll rules others mid.station.log new
     → LogsAll rules (visits ++ others) old.station.log new
 logs-all rules [] others old mid new each rest =
-    let P : Moment → Type 0 = λ m. LogsAll rules others m.station.log new in
+    let P : DoorMoment → Type 0 = λ m. LogsAll rules others m.station.log new in
     subst P each rest
 logs-all rules (visit ∷ visits) others old mid new each rest =
     let one = admits-log rules visit old each.0 each.1 in
     logs-more rules visit (visits ++ others) one.lines old.station.log each.0.station.log new one.are one.taken (logs-all rules visits others each.0 mid new each.3 rest)
 
-log-of : (old new : Moment) → new ≡ old → new.station.log.written ≡ old.station.log.written
-log-of old new same = ap (λ (m : Moment). m.station.log.written) same
+log-of : (old new : DoorMoment) → new ≡ old → new.station.log.written ≡ old.station.log.written
+log-of old new same = ap (λ (m : DoorMoment). m.station.log.written) same
 
-done-log : (rules : Rules) (ending : Option Ending) (old new : Moment) → EndsBy Done rules ending old new → LogsAll rules (last_visit ending) old.station.log new.station.log
+done-log : (rules : Rules) (ending : Option Ending) (old new : DoorMoment) → EndsBy Done rules ending old new → LogsAll rules (last_visit ending) old.station.log new.station.log
 done-log rules None old new ends = logs-none rules old.station.log new.station.log (log-of old new ends)
 done-log rules (Some ClosedDoor) old new ends =
-    logs-none rules old.station.log new.station.log (ap (λ (m : Moment). m.station.log.written) ends.same)
+    logs-none rules old.station.log new.station.log (ap (λ (m : DoorMoment). m.station.log.written) ends.same)
 done-log rules (Some FailedDoor) old new ends = absurd ends
 done-log rules (Some (LastVisit visit)) old new ends =
     let one = admits-log rules visit old new ends.0 in
     logs-more rules visit [] one.lines old.station.log new.station.log new.station.log one.are one.taken
     (logs-none rules new.station.log new.station.log refl)
 
-pub works-log : (rules : Rules) (sessions : ℕ) (old new : Moment) (works : Works Done rules sessions old new)
+pub works-log : (rules : Rules) (sessions : ℕ) (old new : DoorMoment) (works : Works Done rules sessions old new)
     → (own : List (List ℕ)) × AreAllOwn rules (all_visits works) own × Takes old.station.log (log_of (all_visits works) own) new.station.log
 works-log rules sessions old new works =
     let logs = logs-all rules works.visits (last_visit works.ending) old works.at_end new.station.log works.each (done-log rules works.ending works.at_end new works.ends) in
@@ -209,7 +209,7 @@ serving-stopped serving.StreamLimit is = cc
 serving-stopped serving.Worn is = cc
 serving-stopped serving.OutOfMemory is = cc
 
-pub works-stopped : (rules : Rules) (sessions : ℕ) (old new : Moment) (visit : Visit) (works : Works Done rules sessions old new)
+pub works-stopped : (rules : Rules) (sessions : ℕ) (old new : DoorMoment) (visit : Visit) (works : Works Done rules sessions old new)
     → works.ending ≡ Some (LastVisit visit) → (before : List ℕ) × Takes old.station.log (before ++ session_line visit.host Stopped) new.station.log
 works-stopped rules sessions old new visit works is =
     let P : Option Ending → Type 0 = λ ending. EndsBy Done rules ending works.at_end new in
@@ -244,7 +244,7 @@ back-then m n old mid new one more = (
   tells-then one.0 more.0 old mid new one.2 more.2,
 )
 
-admits-back : (whole : Bool) (rules : Rules) (visit : Visit) (old new : Moment) → Admits whole rules visit old new
+admits-back : (whole : Bool) (rules : Rules) (visit : Visit) (old new : DoorMoment) → Admits whole rules visit old new
     → BackMore 1 old.station.door.links.back new.station.door.links.back
 admits-back whole rules visit old new admits =
     let left = admits.holds.left in
@@ -252,10 +252,10 @@ admits-back whole rules visit old new admits =
     subst P (ap (λ (d : DoorRecord). d.links.back) admits.accepted.2)
     (back-one left left.passed admits.lent.links.back new.station.door.links.back admits.holds.given_back.0.back)
 
-visits-back : (rules : Rules) (visits : List Visit) (count : ℕ) (old mid : Moment) (new : Option (List LinkBack)) → AreVisits rules visits old mid
+visits-back : (rules : Rules) (visits : List Visit) (count : ℕ) (old mid : DoorMoment) (new : Option (List LinkBack)) → AreVisits rules visits old mid
     → BackMore count mid.station.door.links.back new → BackMore (length visits + count) old.station.door.links.back new
 visits-back rules [] count old mid new each rest =
-    let P : Moment → Type 0 = λ m. BackMore count m.station.door.links.back new in
+    let P : DoorMoment → Type 0 = λ m. BackMore count m.station.door.links.back new in
     let Q : ℕ → Type 0 = λ k. BackMore k old.station.door.links.back new in
     subst Q (sym (zero-add count)) (subst P each rest)
 visits-back rules (visit ∷ visits) count old mid new each rest =
@@ -267,16 +267,16 @@ visits-back rules (visit ∷ visits) count old mid new each rest =
     one-more : (m n : ℕ) → 1 + (m + n) ≡ suc m + n
     one-more m n = omega arith
 
-ends-back : (rules : Rules) (ending : Option Ending) (old new : Moment) → EndsSo rules ending old new
+ends-back : (rules : Rules) (ending : Option Ending) (old new : DoorMoment) → EndsSo rules ending old new
     → BackMore (length (last_visit ending)) old.station.door.links.back new.station.door.links.back
-ends-back rules None old new ends = back-none old.station.door.links.back new.station.door.links.back (ap (λ (m : Moment). m.station.door.links.back) ends)
+ends-back rules None old new ends = back-none old.station.door.links.back new.station.door.links.back (ap (λ (m : DoorMoment). m.station.door.links.back) ends)
 ends-back rules (Some ClosedDoor) old new ends =
     back-none old.station.door.links.back new.station.door.links.back (ap (λ (d : DoorRecord). d.links.back) ends.answered.1)
 ends-back rules (Some FailedDoor) old new ends =
     back-none old.station.door.links.back new.station.door.links.back (ap (λ (d : DoorRecord). d.links.back) ends.answered.1)
 ends-back rules (Some (LastVisit visit)) old new ends = admits-back ends.0 rules visit old new ends.1
 
-pub works-back : (stop : NodeStop) (rules : Rules) (sessions : ℕ) (old new : Moment) (works : Works stop rules sessions old new)
+pub works-back : (stop : NodeStop) (rules : Rules) (sessions : ℕ) (old new : DoorMoment) (works : Works stop rules sessions old new)
     → (links : List LinkBack) × (length links ≡ length (all_visits works))
     × TellsMore (λ (before : List LinkBack). before ++ links) old.station.door.links.back new.station.door.links.back
 works-back stop rules sessions old new works =
@@ -287,17 +287,17 @@ works-back stop rules sessions old new works =
 
 -- ---- no link is out
 
-visits-out : (rules : Rules) (visits : List Visit) (old new : Moment) → AreVisits rules visits old new → old.station.door.links.out ≡ false → new.station.door.links.out ≡ false
-visits-out rules [] old new each none = ap (λ (m : Moment). m.station.door.links.out) each ∙ none
+visits-out : (rules : Rules) (visits : List Visit) (old new : DoorMoment) → AreVisits rules visits old new → old.station.door.links.out ≡ false → new.station.door.links.out ≡ false
+visits-out rules [] old new each none = ap (λ (m : DoorMoment). m.station.door.links.out) each ∙ none
 visits-out rules (visit ∷ visits) old new each none = visits-out rules visits each.0 new each.3 each.1.holds.given_back.0.out
 
-ends-out : (rules : Rules) (ending : Option Ending) (old new : Moment) → EndsSo rules ending old new → old.station.door.links.out ≡ false → new.station.door.links.out ≡ false
-ends-out rules None old new ends none = ap (λ (m : Moment). m.station.door.links.out) ends ∙ none
+ends-out : (rules : Rules) (ending : Option Ending) (old new : DoorMoment) → EndsSo rules ending old new → old.station.door.links.out ≡ false → new.station.door.links.out ≡ false
+ends-out rules None old new ends none = ap (λ (m : DoorMoment). m.station.door.links.out) ends ∙ none
 ends-out rules (Some ClosedDoor) old new ends none = ap (λ (d : DoorRecord). d.links.out) ends.answered.1 ∙ none
 ends-out rules (Some FailedDoor) old new ends none = ap (λ (d : DoorRecord). d.links.out) ends.answered.1 ∙ none
 ends-out rules (Some (LastVisit visit)) old new ends none = ends.1.holds.given_back.0.out
 
-pub works-out : (stop : NodeStop) (rules : Rules) (sessions : ℕ) (old new : Moment) → Works stop rules sessions old new
+pub works-out : (stop : NodeStop) (rules : Rules) (sessions : ℕ) (old new : DoorMoment) → Works stop rules sessions old new
     → old.station.door.links.out ≡ false → new.station.door.links.out ≡ false
 works-out stop rules sessions old new works none =
     ends-out rules works.ending works.at_end new (ends-so stop rules works.ending works.at_end new works.ends)

@@ -14,14 +14,14 @@ use Rattle.ldm_serve.specs.declared.end.ServeEnd.{ServeEnd}
 use Rattle.ldm_node.specs.declared.stop.NodeStop.{NodeStop}
 use Rattle.ldm_node.specs.declared.stop.NodeStop.TheVariants.{Done, NetFault, LogFault, Worn, OutOfMemory}
 use Rattle.ldm_node.specs.ServingEnds.{stop_by}
-use Rattle.ldm_node.specs.DoorMoments.{Moment}
+use Rattle.ldm_node.specs.DoorMoments.{DoorMoment}
 use Rattle.ldm_node.specs.Visits.{Visit, Admits}
 
 -- Visits one after another. The log took the line of each, and behind each the worker went on.
-abbrev pub AreVisits : Rules → List Visit → Moment → Moment → Type 0
+abbrev pub AreVisits : Rules → List Visit → DoorMoment → DoorMoment → Type 0
 AreVisits rules [] old new = new ≡ old
 AreVisits rules (visit ∷ visits) old new =
-    (mid : Moment) × Admits true rules visit old mid × (stop_by visit.end ≡ None) × AreVisits rules visits mid new
+    (mid : DoorMoment) × Admits true rules visit old mid × (stop_by visit.end ≡ None) × AreVisits rules visits mid new
 
 -- What ended a worker before it had held as many sessions as it was to.
 pub data Ending : Type 0 where
@@ -33,7 +33,7 @@ pub data Ending : Type 0 where
   LastVisit : (visit : Visit) → Ending
 
 -- The door let nobody in, and nothing else was done.
-pub record Declines (answer : Came LinkRecord) (old new : Moment) : Type 0 where
+pub record Declines (answer : Came LinkRecord) (old new : DoorMoment) : Type 0 where
   pub answered : AcceptGives (λ (link : LinkRecord). link) answer old.station.door new.station.door
   pub same : new ≡ record old { station = record old.station { door = new.station.door } }
 
@@ -43,7 +43,7 @@ abbrev pub FailsAt : ServeEnd → (left new : SinkRecord) → Type 0
 FailsAt end left new = ((stop_by end ≡ Some LogFault) × (new ≡ left)) ⊎ Rose left.faults new.faults
 
 -- How a worker ends, by what ended it, if anything did before it had held as many sessions as it was to.
-abbrev pub EndsBy : NodeStop → Rules → Option Ending → Moment → Moment → Type 0
+abbrev pub EndsBy : NodeStop → Rules → Option Ending → DoorMoment → DoorMoment → Type 0
 EndsBy Done rules None old new = new ≡ old
 EndsBy Done rules (Some ClosedDoor) old new = Declines Closed old new
 -- the gate stopped the last session
@@ -61,9 +61,9 @@ IsCount None held sessions = held ≡ sessions
 IsCount (Some ending) held sessions = held < sessions
 
 -- All that a worker does that is to hold so many sessions: the visits behind which it went on, and how it ended.
-pub record Works (stop : NodeStop) (rules : Rules) (sessions : ℕ) (old new : Moment) : Type 0 where
+pub record Works (stop : NodeStop) (rules : Rules) (sessions : ℕ) (old new : DoorMoment) : Type 0 where
   pub visits : List Visit
-  pub at_end : Moment
+  pub at_end : DoorMoment
   pub each : AreVisits rules visits old at_end
   pub ending : Option Ending
   pub ends : EndsBy stop rules ending at_end new

@@ -5,7 +5,8 @@ use Rattle.ldm_intake.specs.declared.end.RecvEnd.{RecvEnd}
 use Rattle.ldm_intake.specs.Receiving.{Receiving}
 use Rattle.ldm_intake.specs.TakesRecord.{Standing}
 use Rattle.ldm_downstream.specs.Pieces.{Piece, beginning}
-use Rattle.ldm_downstream.specs.Receives.{Comes, IsPart, at_first, is_whole_end}
+use Rattle.ldm_downstream.specs.Receives.{Comes, at_first, is_whole_end}
+use Rattle.ldm_session.specs.Part.{IsPart}
 
 -- A receiving that begins so and comes to that end, with that last product, wrote these lines: those that are noted where some pieces of a
 -- stream come to that end; all of them at an end that is a whole one, and else a front.

@@ -10,29 +10,29 @@ use Rattle.ldm_shared.specs.Passes.{PassView}
 use Rattle.ldm_conf.specs.Confs.{RequestView}
 use Rattle.ldm_node.specs.declared.stop.NodeStop.{NodeStop}
 use Rattle.ldm_node.specs.declared.stop.NodeStop.TheVariants.{Done, NetFault, LogFault, Worn, OutOfMemory}
-use Rattle.ldm_node.specs.RequestMoments.{Moment}
+use Rattle.ldm_node.specs.RequestMoments.{RequestMoment}
 use Rattle.ldm_node.specs.Tries.{Try, TriesOnce, stop_behind}
 
 -- The gate was asked once, and answered this.
-pub record Asks (go : Go) (old new : Moment) : Type 0 where
+pub record Asks (go : Go) (old new : RequestMoment) : Type 0 where
   pub idled : Idles go old.station.gate new.station.gate
   pub same : new ≡ record old { station = record old.station { gate = new.station.gate } }
 
 -- One try, whose line the log took and whose end is not that of the worker; then the gate was asked.
-pub record TriesAndAsks (go : Go) (request : RequestView) (try : Try) (old new : Moment) : Type 0 where
-  pub between : Moment
+pub record TriesAndAsks (go : Go) (request : RequestView) (try : Try) (old new : RequestMoment) : Type 0 where
+  pub between : RequestMoment
   pub tries : TriesOnce true request try old between
   pub goes_on : stop_behind try ≡ None
   pub asks : Asks go between new
 
 -- Tries one after another. Behind each the gate said to go on.
-abbrev pub AreTries : RequestView → List Try → Moment → Moment → Type 0
+abbrev pub AreTries : RequestView → List Try → RequestMoment → RequestMoment → Type 0
 AreTries request [] old new = new ≡ old
-AreTries request (try ∷ tries) old new = (mid : Moment) × TriesAndAsks On request try old mid × AreTries request tries mid new
+AreTries request (try ∷ tries) old new = (mid : RequestMoment) × TriesAndAsks On request try old mid × AreTries request tries mid new
 
 -- The last try of a worker, and why it stops: the gate said to; or the log failed within its session or at its line; or the queue
 -- has had all its calls.
-abbrev pub EndsBy : NodeStop → RequestView → Try → Moment → Moment → Type 0
+abbrev pub EndsBy : NodeStop → RequestView → Try → RequestMoment → RequestMoment → Type 0
 EndsBy Done request try old new = TriesAndAsks Stop request try old new
 EndsBy LogFault request try old new = TriesOnce false request try old new
 EndsBy Worn request try old new = TriesOnce true request try old new × (stop_behind try ≡ Some Worn)
@@ -40,9 +40,9 @@ EndsBy NetFault request try old new = ⊥
 EndsBy OutOfMemory request try old new = ⊥
 
 -- All tries of a worker: those behind which it went on, and the last one.
-pub record Works (stop : NodeStop) (request : RequestView) (old new : Moment) : Type 0 where
+pub record Works (stop : NodeStop) (request : RequestView) (old new : RequestMoment) : Type 0 where
   pub tries : List Try
-  pub before_last : Moment
+  pub before_last : RequestMoment
   pub each : AreTries request tries old before_last
   pub last : Try
   pub ends : EndsBy stop request last before_last new

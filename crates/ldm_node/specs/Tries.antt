@@ -16,7 +16,7 @@ use Rattle.ldm_downstream.specs.Receives.{ReceivesAll}
 use Rattle.ldm_node.specs.declared.stop.NodeStop.{NodeStop}
 use Rattle.ldm_node.specs.SessionEnds.{end_of_receiving, stop_of_receiving}
 use Rattle.ldm_node.specs.Lines.{Logs, session_line, unreached_line}
-use Rattle.ldm_node.specs.RequestMoments.{Moment, with_dial}
+use Rattle.ldm_node.specs.RequestMoments.{RequestMoment, with_dial}
 
 -- What a try came to: the dial failed; or there was a session, with its end, and the signature of the last product before it and
 -- behind it, if there was one.
@@ -37,14 +37,14 @@ abbrev pub outside : LinkRecord → SinkRecord → ClockRecord → SessionRecord
 outside link log clock = record { link = link; log = log; clock = clock; gate = no_gate }
 
 -- The dial failed, and the log took the line: all of it, or a front.
-pub record Misses (whole : Bool) (request : RequestView) (old new : Moment) : Type 0 where
+pub record Misses (whole : Bool) (request : RequestView) (old new : RequestMoment) : Type 0 where
   pub dialled : ConnectGives (λ (link : LinkRecord). link) Failed (peer_of request) old.station.dial new.station.dial
   pub logged : Logs whole (unreached_line request.host) old.station.log new.station.log
   pub same : new ≡ record old { station = record old.station { dial = new.station.dial; log = new.station.log } }
 
 -- Over a link that came the products of the request were received, behind the last one. The link was given back as it was left, and
 -- then the log took the line: all of it, or a front, perhaps nothing.
-pub record Holds (whole : Bool) (end : RecvEnd) (request : RequestView) (came : LinkRecord) (old new : Moment) : Type 0 where
+pub record Holds (whole : Bool) (end : RecvEnd) (request : RequestView) (came : LinkRecord) (old new : RequestMoment) : Type 0 where
   pub left : LinkRecord
   pub log : SinkRecord
   pub receives : ReceivesAll end new.last (asking request old.last) [] old.pass new.pass
@@ -56,14 +56,14 @@ pub record Holds (whole : Bool) (end : RecvEnd) (request : RequestView) (came : 
   pub same : new.station ≡ record old.station { dial = new.station.dial; log = new.station.log; clock = new.station.clock }
 
 -- The dial connected a link that was not used yet, and over it a session was held.
-pub record Meets (whole : Bool) (end : RecvEnd) (request : RequestView) (old new : Moment) : Type 0 where
+pub record Meets (whole : Bool) (end : RecvEnd) (request : RequestView) (old new : RequestMoment) : Type 0 where
   pub came : LinkRecord
   pub lent : DialRecord
   pub dialled : ConnectGives (λ (link : LinkRecord). link) (Linked came) (peer_of request) old.station.dial lent
   pub holds : Holds whole end request came (with_dial lent old) new
 
 -- One try, at the end of which the log took its line: all of it, or a front.
-abbrev pub TriesOnce : (whole : Bool) → RequestView → Try → Moment → Moment → Type 0
+abbrev pub TriesOnce : (whole : Bool) → RequestView → Try → RequestMoment → RequestMoment → Type 0
 TriesOnce whole request Unreached old new = Misses whole request old new
 TriesOnce whole request (Session end before behind) old new =
     Meets whole end request old new × (before ≡ old.last) × (behind ≡ new.last)

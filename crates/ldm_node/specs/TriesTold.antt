@@ -5,13 +5,13 @@ use Rattle.ldm_conf.specs.Confs.{RequestView}
 use Rattle.ldm_node.specs.declared.stop.NodeStop.{NodeStop}
 use Rattle.ldm_node.specs.SessionEnds.{end_of_receiving}
 use Rattle.ldm_node.specs.Lines.{session_line, unreached_line}
-use Rattle.ldm_node.specs.RequestMoments.{Moment}
+use Rattle.ldm_node.specs.RequestMoments.{RequestMoment}
 use Rattle.ldm_node.specs.Noted.{IsNoted}
 use Rattle.ldm_node.specs.Tries.{Try, Unreached, Session, asking, peer_of}
 use Rattle.ldm_node.specs.RequestWorks.{Works}
 
 -- all tries of a worker, in order
-abbrev pub all_tries : {stop : NodeStop} {request : RequestView} {old new : Moment} → Works stop request old new → List Try
+abbrev pub all_tries : {stop : NodeStop} {request : RequestView} {old new : RequestMoment} → Works stop request old new → List Try
 all_tries works = works.tries ++ works.last ∷ []
 
 -- whom a dial was asked for by tries: the host and the port of the request, each time

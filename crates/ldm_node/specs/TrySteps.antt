@@ -10,7 +10,7 @@ use Rattle.ldm_node.specs.declared.stop.NodeStop.{NodeStop}
 use Rattle.ldm_node.specs.declared.stop.NodeStop.TheVariants.{Done, NetFault, LogFault, Worn, OutOfMemory}
 use Rattle.ldm_node.specs.SessionEnds.{end_of_receiving, stop_of_receiving}
 use Rattle.ldm_node.specs.Lines.{Logs, session_line}
-use Rattle.ldm_node.specs.RequestMoments.{Moment}
+use Rattle.ldm_node.specs.RequestMoments.{RequestMoment}
 use Rattle.ldm_node.specs.Tries.{Try, Holds, TriesOnce, stop_behind}
 use Rattle.ldm_node.specs.RequestWorks.{StopCause}
 
@@ -37,7 +37,7 @@ Finishes (Some NetFault) end host old new = ⊥
 Finishes (Some OutOfMemory) end host old new = ⊥
 
 -- one session over a link that came, and whether the worker stops
-abbrev pub HoldsOne : Option NodeStop → RequestView → LinkRecord → Moment → Moment → Type 0
+abbrev pub HoldsOne : Option NodeStop → RequestView → LinkRecord → RequestMoment → RequestMoment → Type 0
 HoldsOne None request came old new = (end : RecvEnd) × Holds true end request came old new × (stop_of_receiving end ≡ None)
 HoldsOne (Some LogFault) request came old new =
     (end : RecvEnd) × Holds false end request came old new × Rose old.station.log.faults new.station.log.faults
@@ -49,7 +49,7 @@ HoldsOne (Some NetFault) request came old new = ⊥
 HoldsOne (Some OutOfMemory) request came old new = ⊥
 
 -- one try, and whether the worker stops
-abbrev pub TriesOne : Option NodeStop → RequestView → Moment → Moment → Type 0
+abbrev pub TriesOne : Option NodeStop → RequestView → RequestMoment → RequestMoment → Type 0
 TriesOne None request old new = (try : Try) × TriesOnce true request try old new × (stop_behind try ≡ None)
 TriesOne (Some LogFault) request old new =
     (try : Try) × TriesOnce false request try old new × Rose old.station.log.faults new.station.log.faults

@@ -9,7 +9,7 @@ use Rattle.ldm_node.specs.declared.stop.NodeStop.{NodeStop}
 use Rattle.ldm_node.specs.declared.stop.NodeStop.TheVariants.{Done, NetFault, LogFault, Worn, OutOfMemory}
 use Rattle.ldm_node.specs.Lines.{Logs, session_line}
 use Rattle.ldm_node.specs.ServingEnds.{end_of_serving, stop_by}
-use Rattle.ldm_node.specs.DoorMoments.{Moment}
+use Rattle.ldm_node.specs.DoorMoments.{DoorMoment}
 use Rattle.ldm_node.specs.Visits.{Visit, Admits, Holds, visit_of}
 use Rattle.ldm_node.specs.DoorWorks.{EndCause, Ending, EndsBy, FailsAt}
 use Rattle.ldm_shared.specs.declared.steps.TheConstants.{MOST_TURNS}
@@ -25,7 +25,7 @@ Finishes (Some NetFault) end host old new = ⊥
 Finishes (Some OutOfMemory) end host old new = ⊥
 
 -- one session over a link that came, and whether the worker stops
-abbrev pub HoldsOne : Option NodeStop → Rules → List ℕ → LinkRecord → Moment → Moment → Type 0
+abbrev pub HoldsOne : Option NodeStop → Rules → List ℕ → LinkRecord → DoorMoment → DoorMoment → Type 0
 HoldsOne None rules host came old new =
     (end : ServeEnd) × Holds true rules (visit_of host end) came old new × (stop_by end ≡ None)
 HoldsOne (Some Done) rules host came old new =
@@ -41,7 +41,7 @@ HoldsOne (Some NetFault) rules host came old new = ⊥
 HoldsOne (Some OutOfMemory) rules host came old new = ⊥
 
 -- one call of the door, and whether the worker stops
-abbrev pub AdmitsOne : Option NodeStop → Rules → Moment → Moment → Type 0
+abbrev pub AdmitsOne : Option NodeStop → Rules → DoorMoment → DoorMoment → Type 0
 AdmitsOne None rules old new =
     (visit : Visit) × Admits true rules visit old new × (stop_by visit.end ≡ None)
     × Rose old.station.door.peers new.station.door.peers

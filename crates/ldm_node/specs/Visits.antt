@@ -15,7 +15,7 @@ use Rattle.ldm_serve.specs.Serve.{ServesAll}
 use Rattle.ldm_serve.specs.Client.{Client}
 use Rattle.ldm_node.specs.Lines.{Logs, session_line}
 use Rattle.ldm_node.specs.ServingEnds.{end_of_serving}
-use Rattle.ldm_node.specs.DoorMoments.{Moment, with_door}
+use Rattle.ldm_node.specs.DoorMoments.{DoorMoment, with_door}
 
 -- A peer that came: its host, and how its session ended.
 pub record Visit : Type 0 where
@@ -39,7 +39,7 @@ outside link log station = record { link = link; log = log; clock = station.cloc
 
 -- Over a link that came a session was served to its end. The link was given back as it was left, and then the log took the line:
 -- all of it, or a front, perhaps nothing. The dial was not touched.
-pub record Holds (whole : Bool) (rules : Rules) (visit : Visit) (came : LinkRecord) (old new : Moment) : Type 0 where
+pub record Holds (whole : Bool) (rules : Rules) (visit : Visit) (came : LinkRecord) (old new : DoorMoment) : Type 0 where
   pub left : LinkRecord
   pub log : SinkRecord
   pub serves : ServesAll visit.end (client_of rules visit.host old.pass)
@@ -53,7 +53,7 @@ abbrev pub peer_of : List ℕ → LinkRecord → Came LinkRecord
 peer_of host link = Peer (record { items = host }) link
 
 -- The door let a peer in, with a link that was not used yet, and over it a session was served.
-pub record Admits (whole : Bool) (rules : Rules) (visit : Visit) (old new : Moment) : Type 0 where
+pub record Admits (whole : Bool) (rules : Rules) (visit : Visit) (old new : DoorMoment) : Type 0 where
   pub came : LinkRecord
   pub lent : DoorRecord
   pub accepted : AcceptGives (λ (link : LinkRecord). link) (peer_of visit.host came) old.station.door lent

@@ -5,7 +5,7 @@ use Rattle.ldm_class.specs.Rules.{Rules}
 use Rattle.ldm_model.specs.declared.event.Entry.{Entry}
 use Rattle.ldm_sender.specs.declared.end.SendEnd.{SendEnd}
 use Rattle.ldm_sender.specs.declared.end.SendEnd.TheVariants as sending
-use Rattle.ldm_sender.specs.Does.{IsPart}
+use Rattle.ldm_session.specs.Part.{IsPart}
 use Rattle.ldm_notify.specs.Notifies.{send_end}
 use Rattle.ldm_serve.specs.declared.end.ServeEnd.{ServeEnd}
 use Rattle.ldm_serve.specs.declared.end.ServeEnd.TheVariants as serving
@@ -14,7 +14,7 @@ use Rattle.ldm_intake.specs.declared.end.RecvEnd.{RecvEnd}
 use Rattle.ldm_intake.specs.Opening.{accepting}
 use Rattle.ldm_node.specs.declared.stop.NodeStop.{NodeStop}
 use Rattle.ldm_node.specs.Noted.{IsNoted}
-use Rattle.ldm_node.specs.DoorMoments.{Moment}
+use Rattle.ldm_node.specs.DoorMoments.{DoorMoment}
 use Rattle.ldm_node.specs.Visits.{Visit, line_of}
 use Rattle.ldm_node.specs.DoorWorks.{Ending, LastVisit, Works}
 
@@ -24,7 +24,7 @@ last_visit (Some (LastVisit visit)) = visit ∷ []
 last_visit _ = []
 
 -- all visits of a worker, in order
-abbrev pub all_visits : {stop : NodeStop} {rules : Rules} {sessions : ℕ} {old new : Moment}
+abbrev pub all_visits : {stop : NodeStop} {rules : Rules} {sessions : ℕ} {old new : DoorMoment}
     → Works stop rules sessions old new → List Visit
 all_visits works = works.visits ++ last_visit works.ending
 

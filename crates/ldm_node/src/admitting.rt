@@ -7,7 +7,7 @@ ghost use Rattle.ldm_session.specs.declared.gaps.TheConstants.{LONGEST_NAME};
 ghost use Rattle.ldm_shared.specs.Passes.{IsPassOf, IsSamePass};
 ghost use Rattle.ldm_serve.specs.Connection.{moment_of};
 ghost use Rattle.ldm_serve.specs.Serve.{ServesAll};
-ghost use Rattle.ldm_node.specs.DoorMoments.{moment, KeepsCounts};
+ghost use Rattle.ldm_node.specs.DoorMoments.{moment, KeepsDoorCounts};
 ghost use Rattle.ldm_node.specs.VisitSteps.{AdmitsOne, HoldsOne};
 
 use crate::stop::NodeStop;
@@ -33,7 +33,7 @@ pub fn admit_one<H: Wait, D: Door, I: Dial, E: Sink, C: Clock, G: Gate>(
     ensures kept { IsSamePass pass.old pass.new }
     ensures none_out { (D.tells station.new.door).links.out ≡ false }
     ensures dial { station.new.dial ≡ station.old.dial }
-    ensures counts { KeepsCounts (station_tells D.tells I.tells E.tells C.tells G.tells station.old)
+    ensures counts { KeepsDoorCounts (station_tells D.tells I.tells E.tells C.tells G.tells station.old)
         (station_tells D.tells I.tells E.tells C.tells G.tells station.new) }
     ensures admits { AdmitsOne result conf.now.policy
         (moment pass.old (station_tells D.tells I.tells E.tells C.tells G.tells station.old))
@@ -75,7 +75,7 @@ fn hold_session<H: Wait, D: Door, I: Dial, E: Sink, C: Clock, G: Gate>(
     ensures kept { IsSamePass pass.old pass.new }
     ensures none_out { (D.tells station.new.door).links.out ≡ false }
     ensures dial { station.new.dial ≡ station.old.dial }
-    ensures counts { KeepsCounts (station_tells D.tells I.tells E.tells C.tells G.tells station.old)
+    ensures counts { KeepsDoorCounts (station_tells D.tells I.tells E.tells C.tells G.tells station.old)
         (station_tells D.tells I.tells E.tells C.tells G.tells station.new) }
     ensures holds { HoldsOne result conf.now.policy host.now (D.Link.tells link)
         (moment pass.old (station_tells D.tells I.tells E.tells C.tells G.tells station.old))

@@ -2,7 +2,7 @@
 ghost use Rattle.std.specs.Prelude.{◌≡◌, false};
 ghost use Rattle.ldm_outside.specs.Station.{station_tells};
 ghost use Rattle.ldm_shared.specs.Passes.{IsPassOf, IsSamePass};
-ghost use Rattle.ldm_node.specs.DoorMoments.{moment, KeepsCounts};
+ghost use Rattle.ldm_node.specs.DoorMoments.{moment, KeepsDoorCounts};
 ghost use Rattle.ldm_node.specs.DoorWorks.{StopCause, Works};
 
 use crate::admitting::admit_one;
@@ -33,7 +33,7 @@ pub fn work_door<H: Wait, D: Door, I: Dial, E: Sink, C: Clock, G: Gate>(
     ensures kept { IsSamePass pass.old pass.new }
     ensures none_out { (D.tells station.new.door).links.out ≡ false }
     ensures dial { station.new.dial ≡ station.old.dial }
-    ensures counts { KeepsCounts (station_tells D.tells I.tells E.tells C.tells G.tells station.old)
+    ensures counts { KeepsDoorCounts (station_tells D.tells I.tells E.tells C.tells G.tells station.old)
         (station_tells D.tells I.tells E.tells C.tells G.tells station.new) }
     ensures sessions { Works result conf.now.policy sessions
         (moment pass.old (station_tells D.tells I.tells E.tells C.tells G.tells station.old))

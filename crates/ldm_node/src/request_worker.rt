@@ -3,7 +3,7 @@ ghost use Rattle.std.specs.Prelude.{◌≡◌, ℕ, List, Option, None, false};
 ghost use Rattle.ldm_outside.specs.Station.{station_tells};
 ghost use Rattle.ldm_shared.specs.Passes.{IsPassOf, IsSamePass};
 ghost use Rattle.ldm_conf.specs.Confs.{request_view};
-ghost use Rattle.ldm_node.specs.RequestMoments.{moment, KeepsCounts};
+ghost use Rattle.ldm_node.specs.RequestMoments.{moment, KeepsRequestCounts};
 ghost use Rattle.ldm_node.specs.RequestWorks.{Works, StopCause};
 
 use crate::stop::NodeStop;
@@ -35,7 +35,7 @@ pub fn work_request<H: Wait, D: Door, I: Dial, E: Sink, C: Clock, G: Gate>(
     ensures kept { IsSamePass pass.old pass.new }
     ensures none_out { (I.tells station.new.dial).links.out ≡ false }
     ensures door { station.new.door ≡ station.old.door }
-    ensures counts { KeepsCounts (station_tells D.tells I.tells E.tells C.tells G.tells station.old)
+    ensures counts { KeepsRequestCounts (station_tells D.tells I.tells E.tells C.tells G.tells station.old)
         (station_tells D.tells I.tells E.tells C.tells G.tells station.new) }
     ensures sessions { (last : Option (List ℕ)) × Works result (request_view request.now)
         (moment pass.old (station_tells D.tells I.tells E.tells C.tells G.tells station.old) None)

@@ -5,7 +5,7 @@ ghost use Rattle.ldm_outside.specs.Link.{IsNotClosed};
 ghost use Rattle.ldm_outside.specs.Station.{station_tells};
 ghost use Rattle.ldm_shared.specs.Passes.{IsPassOf, IsSamePass};
 ghost use Rattle.ldm_conf.specs.Confs.{request_view};
-ghost use Rattle.ldm_node.specs.RequestMoments.{moment, KeepsCounts};
+ghost use Rattle.ldm_node.specs.RequestMoments.{moment, KeepsRequestCounts};
 ghost use Rattle.ldm_node.specs.TrySteps.{HoldsOne, TriesOne};
 
 use crate::lines::write_unreached;
@@ -36,7 +36,7 @@ pub fn try_once<H: Wait, D: Door, I: Dial, E: Sink, C: Clock, G: Gate>(
     ensures none_out { (I.tells station.new.dial).links.out ≡ false }
     ensures door { station.new.door ≡ station.old.door }
     ensures gate { station.new.gate ≡ station.old.gate }
-    ensures counts { KeepsCounts (station_tells D.tells I.tells E.tells C.tells G.tells station.old)
+    ensures counts { KeepsRequestCounts (station_tells D.tells I.tells E.tells C.tells G.tells station.old)
         (station_tells D.tells I.tells E.tells C.tells G.tells station.new) }
     ensures tries { TriesOne result (request_view request.now)
         (moment pass.old (station_tells D.tells I.tells E.tells C.tells G.tells station.old)
@@ -73,7 +73,7 @@ fn hold_session<H: Wait, D: Door, I: Dial, E: Sink, C: Clock, G: Gate>(
     ensures none_out { (I.tells station.new.dial).links.out ≡ false }
     ensures door { station.new.door ≡ station.old.door }
     ensures gate { station.new.gate ≡ station.old.gate }
-    ensures counts { KeepsCounts (station_tells D.tells I.tells E.tells C.tells G.tells station.old)
+    ensures counts { KeepsRequestCounts (station_tells D.tells I.tells E.tells C.tells G.tells station.old)
         (station_tells D.tells I.tells E.tells C.tells G.tells station.new) }
     ensures holds { HoldsOne result (request_view request.now) (I.Link.tells link)
         (moment pass.old (station_tells D.tells I.tells E.tells C.tells G.tells station.old)

@@ -9,7 +9,7 @@ ghost use Rattle.ldm_node.specs.declared.session_end.SessionEnd.TheVariants.{Sto
 ghost use Rattle.ldm_node.specs.declared.stop.NodeStop.{NodeStop};
 ghost use Rattle.ldm_node.specs.declared.stop.NodeStop.TheVariants.{Done};
 ghost use Rattle.ldm_node.specs.Lines.{session_line};
-ghost use Rattle.ldm_node.specs.DoorMoments.{Moment};
+ghost use Rattle.ldm_node.specs.DoorMoments.{DoorMoment};
 ghost use Rattle.ldm_node.specs.VisitsTold.{AreAllOwn, all_visits, hosts_of, log_of};
 ghost use Rattle.ldm_node.specs.Visits.{Visit};
 ghost use Rattle.ldm_node.specs.DoorWorks.{LastVisit, Works};
@@ -17,25 +17,25 @@ ghost use Rattle.ldm_node.specs.DoorWorks.{LastVisit, Works};
 /// What is told of all visits of a worker.
 pub fn what_is_told_of_visits()
     // The hosts that came are those of the visits, in order, where the door tells them.
-    ensures came { (stop : NodeStop) (rules : Rules) (sessions : ℕ) (old new : Moment)
+    ensures came { (stop : NodeStop) (rules : Rules) (sessions : ℕ) (old new : DoorMoment)
         (works : Works stop rules sessions old new) →
         new.station.door.hosts ≡ option_map (λ before. before ++ hosts_of (all_visits works)) old.station.door.hosts }
     // Where the worker is done, its log took one line of each, in order, each behind what its session wrote itself.
-    ensures logged { (rules : Rules) (sessions : ℕ) (old new : Moment) (works : Works Done rules sessions old new) →
+    ensures logged { (rules : Rules) (sessions : ℕ) (old new : DoorMoment) (works : Works Done rules sessions old new) →
         (own : List (List ℕ)) × AreAllOwn rules (all_visits works) own
         × Takes old.station.log (log_of (all_visits works) own) new.station.log }
     // Where the gate stopped the last one, the last line says so.
-    ensures stopped { (rules : Rules) (sessions : ℕ) (old new : Moment) (visit : Visit)
+    ensures stopped { (rules : Rules) (sessions : ℕ) (old new : DoorMoment) (visit : Visit)
         (works : Works Done rules sessions old new) →
         works.ending ≡ Some (LastVisit visit) →
         (before : List ℕ) × Takes old.station.log (before ++ session_line visit.host Stopped) new.station.log }
     // Every link that came was given back, in order: none is out, and one is told of each visit, where the door tells
     // them.
-    ensures given_back { (stop : NodeStop) (rules : Rules) (sessions : ℕ) (old new : Moment)
+    ensures given_back { (stop : NodeStop) (rules : Rules) (sessions : ℕ) (old new : DoorMoment)
         (works : Works stop rules sessions old new) →
         (links : List LinkBack) × (length links ≡ length (all_visits works))
         × TellsMore (λ before. before ++ links) old.station.door.links.back new.station.door.links.back }
-    ensures none_out { (stop : NodeStop) (rules : Rules) (sessions : ℕ) (old new : Moment)
+    ensures none_out { (stop : NodeStop) (rules : Rules) (sessions : ℕ) (old new : DoorMoment)
         (works : Works stop rules sessions old new) →
         old.station.door.links.out ≡ false → new.station.door.links.out ≡ false }
 {}

@@ -16,7 +16,7 @@ use Rattle.ldm_sender.specs.Asked.{Asked}
 use Rattle.ldm_sender.specs.Due.{is_due}
 use Rattle.ldm_sender.specs.Calls.{later_call}
 use Rattle.ldm_sender.specs.Deeds.{and_then, no_deed, calling}
-use Rattle.ldm_sender.specs.Does.{Moment, moment_of}
+use Rattle.ldm_sender.specs.Does.{SendingMoment, moment_of}
 use Rattle.ldm_sender.proofs.Doing.{Toward, all_done, breaks_before, breaks_then, nothing_done, one_done, send_failed}
 use Rattle.ldm_sender.proofs.Doing.{some_sent, toward_then}
 use Rattle.ldm_sender.proofs.Messaging.{gathers}
@@ -47,7 +47,7 @@ tells asked row s s' pass link clock clock' out out' info unclosed due copied ap
     }
 
 -- it is not due
-pub tells_nothing : (asked : Asked) (row : Row) (s : Standing) (now : Moment) → IsNotClosed now.link
+pub tells_nothing : (asked : Asked) (row : Row) (s : Standing) (now : SendingMoment) → IsNotClosed now.link
     → is_due asked row.time row.info ≡ false → HasTold asked row s s now now
 tells_nothing asked row s now unclosed not_due = record {
   handling = Passed;
@@ -59,7 +59,7 @@ tells_nothing asked row s now unclosed not_due = record {
 -- ---- its release
 
 -- it was let go, and then more is left or not
-let_go_toward : (asked : Asked) (k : ℕ) (row : Row) (s s' : Standing) (old : Moment) (mid new : PassView)
+let_go_toward : (asked : Asked) (k : ℕ) (row : Row) (s s' : Standing) (old : SendingMoment) (mid new : PassView)
     (link : LinkRecord) (clock : ClockRecord) (out : List ℕ) → IsNotClosed link
     → (told : HasTold asked row s s' old (moment_of mid link clock out)) → mid.actor ≡ old.pass.actor
     → Makes mid new (let_go mid.actor k row ∷ [])
@@ -76,7 +76,7 @@ let_go_toward asked k row s s' old mid new link clock out unclosed told same mak
     (one_done [] here there second no_deed
     (one_call mid new link clock out (let_go old.pass.actor k row) made unclosed))
 
-pub handled : (asked : Asked) (k : ℕ) (row : Row) (s s' : Standing) (old : Moment) (mid new : PassView)
+pub handled : (asked : Asked) (k : ℕ) (row : Row) (s s' : Standing) (old : SendingMoment) (mid new : PassView)
     (link link' : LinkRecord) (clock : ClockRecord) (out left : List ℕ) → IsNotClosed link
     → HasTold asked row s s' old (moment_of mid link clock out) → mid.actor ≡ old.pass.actor
     → Makes mid new (let_go mid.actor k row ∷ []) → HasCursor new k None
@@ -97,7 +97,7 @@ handled asked k row s s' old mid new link link' clock out left unclosed told sam
     }
 
 -- the link failed
-pub handled_unsent : (asked : Asked) (k : ℕ) (row : Row) (s s' : Standing) (old : Moment) (mid new : PassView)
+pub handled_unsent : (asked : Asked) (k : ℕ) (row : Row) (s s' : Standing) (old : SendingMoment) (mid new : PassView)
     (link link' : LinkRecord) (clock : ClockRecord) (out left : List ℕ) → IsNotClosed link
     → (told : HasTold asked row s s' old (moment_of mid link clock out)) → mid.actor ≡ old.pass.actor
     → Makes mid new (let_go mid.actor k row ∷ []) → HasCursor new k None
@@ -117,7 +117,7 @@ handled_unsent asked k row s s' old mid new link link' clock out left unclosed t
     }
 
 -- the queue has had all its calls
-pub handled_worn : (asked : Asked) (k turns : ℕ) (row : Row) (s s' : Standing) (old : Moment) (mid new : PassView)
+pub handled_worn : (asked : Asked) (k turns : ℕ) (row : Row) (s s' : Standing) (old : SendingMoment) (mid new : PassView)
     (link : LinkRecord) (clock : ClockRecord) (out : List ℕ) → IsNotClosed link
     → HasTold asked row s s' old (moment_of mid link clock out) → FindsWorn mid new turns
     → EndsHandling end.Worn asked k row s old (moment_of new link clock out)
@@ -137,7 +137,7 @@ handled_worn asked k turns row s s' old mid new link clock out unclosed told wor
     }
 
 -- there was no memory for the notice
-pub handled_short : (asked : Asked) (k n : ℕ) (row : Row) (s : Standing) (old new : Moment)
+pub handled_short : (asked : Asked) (k n : ℕ) (row : Row) (s : Standing) (old new : SendingMoment)
     → HasCursor new.pass k (Some n) → LacksRoom asked row s old new
     → EndsHandling end.OutOfMemory asked k row s old new
 handled_short asked k n row s old new has short = record {

@@ -19,7 +19,7 @@ use Rattle.ldm_sender.specs.declared.end.SendEnd.TheVariants as end
 use Rattle.ldm_sender.specs.declared.standing.Standing.{Standing}
 use Rattle.ldm_sender.specs.Asked.{Asked}
 use Rattle.ldm_sender.specs.Calls.{stepped}
-use Rattle.ldm_sender.specs.Does.{Moment, moment_of, Does, Breaks}
+use Rattle.ldm_sender.specs.Does.{SendingMoment, moment_of, Does, Breaks}
 use Rattle.ldm_sender.specs.Acts.{situation_of, then_act, ungated, BreaksAct, EndsAct, IsAllSent}
 use Rattle.ldm_sender.specs.Idling.{quiet_act, alive_act, stop_act, EndsIdle, Idles}
 use Rattle.ldm_sender.specs.Stopping.{StopsSending}
@@ -196,7 +196,7 @@ gave asked k row s s' first old link link' clock clock' out new out' log gate la
 
 -- it broke off in what is done with it
 gave_broken : (why : SendEnd) (asked : Asked) (k : ℕ) (row : Row) (s : Standing) (first old : PassView)
-    (link : LinkRecord) (clock : ClockRecord) (out : List ℕ) (new : Moment)
+    (link : LinkRecord) (clock : ClockRecord) (out : List ℕ) (new : SendingMoment)
     (log : SinkRecord) (gate : GateRecord) → IsNotClosed link
     → Makes first old (stepped first.actor k (given_reply row) ∷ [])
     → (ended : EndsHandling why asked k row s (moment_of old link clock out) new)
@@ -219,7 +219,7 @@ gave_broken why asked k row s first old link clock out new log gate unclosed mak
     breaks_same why asked.host [] a c _ _ (gave_act first.actor k s row ended.handling ∙ sym (then_act-none turns)) both
 
 stops_turns : (why : SendEnd) (old : PassView) (link : LinkRecord) (clock : ClockRecord) (out : List ℕ)
-    (first : PassView) (new : Moment) (log : SinkRecord) (gate : GateRecord)
+    (first : PassView) (new : SendingMoment) (log : SinkRecord) (gate : GateRecord)
     → StopsSending why (moment_of old link clock out) new
     → StopsTurns why (situation_of (moment_of first link clock out) log gate) (situation_of new log gate)
 stops_turns end.LinkFault old link clock out first new log gate cause = cause
@@ -246,7 +246,7 @@ cut_last end.Worn cut = tt
 cut_last end.OutOfMemory cut = tt
 
 gave_ended : (why : SendEnd) (asked : Asked) (k : ℕ) (row : Row) (s : Standing) (first old : PassView)
-    (link : LinkRecord) (clock : ClockRecord) (out : List ℕ) (new : Moment)
+    (link : LinkRecord) (clock : ClockRecord) (out : List ℕ) (new : SendingMoment)
     (log : SinkRecord) (gate : GateRecord) → RowsStay → IsRowIn old row → IsNotClosed link
     → Makes first old (stepped first.actor k (given_reply row) ∷ [])
     → EndsHandling why asked k row s (moment_of old link clock out) new

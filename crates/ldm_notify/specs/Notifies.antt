@@ -12,7 +12,8 @@ use Rattle.ldm_sender.specs.declared.end.SendEnd.TheVariants as end
 use Rattle.ldm_sender.specs.Asked.{Asked}
 use Rattle.ldm_sender.specs.Opening.{Answered}
 use Rattle.ldm_sender.specs.Calls.{MayBeUnmade}
-use Rattle.ldm_sender.specs.Does.{IsPart, IsAllBut}
+use Rattle.ldm_sender.specs.Does.{IsAllBut}
+use Rattle.ldm_session.specs.Part.{IsPart}
 use Rattle.ldm_sender.specs.Acts.{Situation, Act, IsStop, Logged, EndsAct, IsAllSent, is_whole}
 use Rattle.ldm_sender.specs.Ending.{IsEndOf, IsLeft, closing_of, session_of}
 use Rattle.ldm_notify.specs.declared.end.NotifyEnd.{NotifyEnd}

@@ -8,7 +8,7 @@ use Rattle.ldm_sender.specs.declared.standing.Standing.{Standing}
 use Rattle.ldm_sender.specs.Asked.{Asked}
 use Rattle.ldm_sender.specs.Due.{is_due}
 use Rattle.ldm_sender.specs.Deeds.{Deed, and_then, calling, records_of}
-use Rattle.ldm_sender.specs.Does.{Moment, Does, Breaks}
+use Rattle.ldm_sender.specs.Does.{SendingMoment, Does, Breaks}
 use Rattle.ldm_sender.specs.Stopping.{KeepsCursor, StopsSending}
 use Rattle.ldm_notify.specs.Turn.{Row, Handling, Told, handling_messages, handling_instants, let_go, after_handling}
 use Rattle.ldm_notify.specs.Turns.{IsHandled}
@@ -28,18 +28,18 @@ notice_deed next row handling =
     }
 
 -- A notice was gathered where it is due.
-pub record HasTold (asked : Asked) (row : Row) (standing standing' : Standing) (old new : Moment) : Type 0 where
+pub record HasTold (asked : Asked) (row : Row) (standing standing' : Standing) (old new : SendingMoment) : Type 0 where
   pub handling : Handling
   pub is_handled : IsHandled asked row handling
   pub does : Does [] old new (notice_deed standing.next row handling)
   pub stands : standing' ≡ after_handling standing handling
 
 -- There was no memory for it.
-pub record LacksRoom (asked : Asked) (row : Row) (standing : Standing) (old new : Moment) : Type 0 where
+pub record LacksRoom (asked : Asked) (row : Row) (standing : Standing) (old new : SendingMoment) : Type 0 where
   pub due : is_due asked row.time row.info ≡ true
   pub breaks : Breaks [] old new (notice_deed standing.next row (Told 0))
 
-abbrev pub Tells : Result (Unit {0}) OutOfMemory → Asked → Row → (standing standing' : Standing) → (old new : Moment)
+abbrev pub Tells : Result (Unit {0}) OutOfMemory → Asked → Row → (standing standing' : Standing) → (old new : SendingMoment)
     → Type 0
 Tells (Ok done) asked row standing standing' old new = HasTold asked row standing standing' old new
 Tells (Err short) asked row standing standing' old new = LacksRoom asked row standing old new
@@ -50,7 +50,7 @@ abbrev pub product_deed : ℕ → ℕ → ℕ → Row → Handling → Deed
 product_deed actor k next row handling = and_then (notice_deed next row handling) (calling (let_go actor k row))
 
 -- It was handled, and let go.
-pub record Handled (asked : Asked) (k : ℕ) (row : Row) (standing standing' : Standing) (old new : Moment) : Type 0 where
+pub record Handled (asked : Asked) (k : ℕ) (row : Row) (standing standing' : Standing) (old new : SendingMoment) : Type 0 where
   pub handling : Handling
   pub is_handled : IsHandled asked row handling
   pub does : Does [] old new (product_deed old.pass.actor k standing.next row handling)
@@ -59,14 +59,14 @@ pub record Handled (asked : Asked) (k : ℕ) (row : Row) (standing standing' : S
 
 -- It broke off in that.
 pub record EndsHandling (why : SendEnd) (asked : Asked) (k : ℕ) (row : Row) (standing : Standing)
-    (old new : Moment) : Type 0 where
+    (old new : SendingMoment) : Type 0 where
   pub handling : Handling
   pub is_handled : IsHandled asked row handling
   pub breaks : Breaks [] old new (product_deed old.pass.actor k standing.next row handling)
   pub cause : StopsSending why old new
   pub cursor : KeepsCursor why new.pass k
 
-abbrev pub Handles : Result (Unit {0}) SendEnd → Asked → ℕ → Row → (standing standing' : Standing) → (old new : Moment)
+abbrev pub Handles : Result (Unit {0}) SendEnd → Asked → ℕ → Row → (standing standing' : Standing) → (old new : SendingMoment)
     → Type 0
 Handles (Ok done) asked k row standing standing' old new = Handled asked k row standing standing' old new
 Handles (Err why) asked k row standing standing' old new = EndsHandling why asked k row standing old new

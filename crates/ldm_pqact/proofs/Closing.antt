@@ -29,7 +29,7 @@ use Rattle.ldm_actions.specs.Outputs.{Closes, ClosesBy, OutputsView, Standing, n
 use Rattle.ldm_actions.specs.World.{World}
 use Rattle.ldm_pqact.specs.declared.end.ActEnd.{ActEnd}
 use Rattle.ldm_pqact.specs.declared.end.ActEnd.TheVariants as end
-use Rattle.ldm_pqact.specs.Acted.{ActCause, ActsOpened, IsEndAfter, KeepsCounts, LogsBy, Situation, StandsAt, UsesOpened, closing_calls, end_after, opening, opening_call, situation_of}
+use Rattle.ldm_pqact.specs.Acted.{ActCause, ActsOpened, IsEndAfter, KeepsActCounts, LogsBy, Situation, StandsAt, UsesOpened, closing_calls, end_after, opening, opening_call, situation_of}
 use Rattle.ldm_pqact.specs.Acting.{CauseOf, EndsSo, KeepsCursor, LogCount, Sight, sight_of}
 use Rattle.ldm_pqact.specs.Carried.{Carries, Faulted, LauncherCount, StoreCount}
 use Rattle.ldm_pqact.specs.Course.{Follows, Gated, Stretch, course_work, gated_of, goes_of, turns_of}
@@ -291,7 +291,7 @@ worn_cause entries k why old new follows is =
 
 -- ---- what all ends have in common
 
-pub counts_opened : (why : ActEnd) (entries : List EntryView) (old new : Situation) → ActsOpened why entries old new → KeepsCounts old new
+pub counts_opened : (why : ActEnd) (entries : List EntryView) (old new : Situation) → ActsOpened why entries old new → KeepsActCounts old new
 counts_opened why entries old new acts =
     let mid = acts.carries.mid in
     let first = standing no_outputs old.store old.launcher in
@@ -305,5 +305,5 @@ counts_opened why entries old new acts =
     }
 
 pub counts_none : (pass pass' : PassView) (store : StoreRecord) (launcher : LauncherRecord) (log : SinkRecord) (gate : GateRecord)
-    → KeepsCounts (situation_of pass store launcher log gate) (situation_of pass' store launcher log gate)
+    → KeepsActCounts (situation_of pass store launcher log gate) (situation_of pass' store launcher log gate)
 counts_none pass pass' store launcher log gate = record { store = omega arith; launcher = omega arith; log = omega arith; gate = omega arith }

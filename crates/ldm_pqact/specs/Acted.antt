@@ -151,7 +151,7 @@ abbrev pub Acts : ActEnd → List EntryView → Situation → Situation → Type
 Acts why entries old new = ActsOpened why entries old new ⊎ ActsOnNone why old new
 
 -- no count fell
-pub record KeepsCounts (old new : Situation) : Type 0 where
+pub record KeepsActCounts (old new : Situation) : Type 0 where
   pub store : old.store.faults ≤ new.store.faults
   pub launcher : old.launcher.faults ≤ new.launcher.faults
   pub log : old.log.faults ≤ new.log.faults

@@ -4,7 +4,7 @@ ghost use Rattle.ldm_model.specs.declared.event.Reply.TheVariants as reply;
 ghost use Rattle.ldm_shared.specs.Passes.{Grows, IsPassOf, IsSamePass, PassView};
 ghost use Rattle.ldm_reader.specs.Reader.{HasCursor};
 ghost use Rattle.ldm_actions.specs.Outputs.{KeepsUnlessSpent, no_outputs, standing};
-ghost use Rattle.ldm_pqact.specs.Acted.{Acts, ActsOpened, KeepsCounts, end_after, opening, situation_of};
+ghost use Rattle.ldm_pqact.specs.Acted.{Acts, ActsOpened, KeepsActCounts, end_after, opening, situation_of};
 ghost use Rattle.ldm_pqact.specs.Acting.{sight_of};
 ghost use Rattle.ldm_pqact.specs.Complete.{ActCompletes};
 ghost use Rattle.ldm_pqact.specs.Course.{Follows, gated_of};
@@ -140,7 +140,7 @@ pub fn act<H: Wait, F: Store, L: Launcher, E: Sink, G: Gate>(
 ) -> ActEnd
     requires of { IsPassOf shared.now pass.old }
     ensures kept { IsSamePass pass.old pass.new }
-    ensures counts { KeepsCounts
+    ensures counts { KeepsActCounts
         (situation_of pass.old (F.tells store.old) (L.tells launcher.old) (E.tells log.old) (G.tells gate.old))
         (situation_of pass.new (F.tells store.new) (L.tells launcher.new) (E.tells log.new) (G.tells gate.new)) }
     ensures acts { Acts result entries

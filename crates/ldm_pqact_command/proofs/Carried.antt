@@ -9,7 +9,7 @@ use Rattle.ldm_gather.specs.declared.end.GatherEnd.{GatherEnd}
 use Rattle.ldm_gather.specs.declared.end.GatherEnd.TheVariants as end
 use Rattle.ldm_gather.specs.declared.end.Handled.{Handled}
 use Rattle.ldm_gather.specs.Gathering.{Asks, BeginsNot, EndsBy, EndsStream, GathersAll, GoesOn, TakesPiece}
-use Rattle.ldm_gather.specs.Scene.{Lent, Moment, Scene, moment_of}
+use Rattle.ldm_gather.specs.Scene.{Lent, GatherMoment, Scene, moment_of}
 
 -- the handler, and what it is lent
 pub record Parts (W A B : Type 0) : Type 0 where
@@ -25,7 +25,7 @@ module _ {W A B : Type 0} (handles : Handled → Scene W A B → Scene W A B →
     (then : (a b c : Parts W A B) → R a b → R b c → R a c)
     (handled : (answer : Handled) (old new : Scene W A B) → handles answer old new → R (parts_of old) (parts_of new)) where
   abbrev At : Type 0
-  At = Moment W A B
+  At = GatherMoment W A B
 
   abbrev Leads : At → At → Type 0
   Leads old new = R (parts_of old.scene) (parts_of new.scene)

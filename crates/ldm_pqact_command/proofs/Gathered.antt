@@ -31,7 +31,7 @@ use Rattle.ldm_gather.specs.declared.end.Handled.{Handled}
 use Rattle.ldm_gather.specs.declared.end.Handled.TheVariants as handled
 use Rattle.ldm_gather.specs.Gathering.{Asks, BeginsNot, Comes, EndsBy, EndsStream, GathersAll, Gathers, GoesOn, TakesPiece}
 use Rattle.ldm_gather.specs.Quiet.{AreQuiet, CallsQuietly, IsQuiet}
-use Rattle.ldm_gather.specs.Scene.{Lent, Moment, Scene, moment_of}
+use Rattle.ldm_gather.specs.Scene.{Lent, GatherMoment, Scene, moment_of}
 use Rattle.ldm_gather.proofs.Cursors.{closes-quiet, pushes-quiet}
 use Rattle.ldm_pqact.specs.declared.end.ActEnd.{ActEnd}
 use Rattle.ldm_pqact.specs.declared.end.ActEnd.TheVariants as end
@@ -175,7 +175,7 @@ carries_then why first second in_hand a b c one two = breaks_off_then why first 
 
 module _ {F L : Type 0} (store_tells : F → StoreRecord) (launcher_tells : L → LauncherRecord) where
   abbrev At : Type 0
-  At = Moment ActerView F L
+  At = GatherMoment ActerView F L
 
   abbrev Here : Type 0
   Here = Scene ActerView F L

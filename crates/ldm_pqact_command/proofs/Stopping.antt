@@ -9,7 +9,7 @@ use Rattle.ldm_gather.specs.declared.end.GatherEnd.{GatherEnd}
 use Rattle.ldm_gather.specs.declared.end.GatherEnd.TheVariants as end
 use Rattle.ldm_gather.specs.declared.end.Handled.TheVariants as handled
 use Rattle.ldm_gather.specs.Gathering.{Asks, BeginsNot, GathersAll}
-use Rattle.ldm_gather.specs.Scene.{Lent, Moment, moment_of}
+use Rattle.ldm_gather.specs.Scene.{Lent, GatherMoment, moment_of}
 use Rattle.ldm_pqact.specs.declared.end.ActEnd.{ActEnd}
 use Rattle.ldm_pqact_command.specs.declared.stop.ActStop.{ActStop}
 use Rattle.ldm_pqact_command.specs.ActerView.{ActerView}
@@ -26,7 +26,7 @@ follows_why ended k count why old new (inr stopped) = known why stopped.0 stoppe
 
 module _ {F L : Type 0} (store_tells : F → StoreRecord) (launcher_tells : L → LauncherRecord) where
   abbrev At : Type 0
-  At = Moment ActerView F L
+  At = GatherMoment ActerView F L
 
   by_begin : (old new : At) → Asks (ActHandles store_tells launcher_tells) end.Stopped old new ⊎ BeginsNot (ActHandles store_tells launcher_tells) end.Stopped old new
       → IsSome new.scene.handler.why

@@ -127,7 +127,7 @@ module _ {F L : Type 0} (store_tells : F → StoreRecord) (launcher_tells : L �
     pub others : new ≡ record ended { log = new.log }
 
   -- No count fell.
-  pub record KeepsCounts (old new : PqactLent F L) : Type 0 where
+  pub record KeepsPqactCounts (old new : PqactLent F L) : Type 0 where
     pub net : old.net.faults ≤ new.net.faults
     pub ended : old.net.links.ended ≤ new.net.links.ended
     pub failed : old.net.links.failed ≤ new.net.links.failed

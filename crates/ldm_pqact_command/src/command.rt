@@ -10,7 +10,7 @@ ghost use Rattle.ldm_gather.specs.Queue.{IsOpen, Opens};
 ghost use Rattle.ldm_pqact_command.specs.Closing.{ClosesOutputs};
 ghost use Rattle.ldm_pqact_command.specs.Handling.{ActBegins, standing_in};
 ghost use Rattle.ldm_pqact_command.specs.Statuses.{IfStopped, IsEndOf};
-ghost use Rattle.ldm_pqact_command.specs.PqactRuns.{KeepsCounts, PqactEnds, Pqacts, Ran, acter_at};
+ghost use Rattle.ldm_pqact_command.specs.PqactRuns.{KeepsPqactCounts, PqactEnds, Pqacts, Ran, acter_at};
 ghost use Rattle.ldm_pqact_command.specs.PqactRuns.{here_of, pqact_lent};
 
 use crate::acter::Acter;
@@ -64,7 +64,7 @@ pub fn pqact<
         (pqact_lent (N.tells net.old) store.old launcher.old (E.tells log.old) (C.tells clock.old))
         (pqact_lent (N.tells net.new) store.new launcher.new (E.tells log.new) (C.tells clock.new)) }
     ensures none_out { (N.tells net.new).links.out ≡ false }
-    ensures counts_kept { KeepsCounts F.tells L.tells
+    ensures counts_kept { KeepsPqactCounts F.tells L.tells
         (pqact_lent (N.tells net.old) store.old launcher.old (E.tells log.old) (C.tells clock.old))
         (pqact_lent (N.tells net.new) store.new launcher.new (E.tells log.new) (C.tells clock.new)) }
 {
@@ -113,7 +113,7 @@ pub fn act_on_products<
         (pqact_lent (N.tells net.old) store.old launcher.old (E.tells log.old) (C.tells clock.old))
         (pqact_lent (N.tells net.new) store.new launcher.new (E.tells log.new) (C.tells clock.new)) }
     ensures none_out { (N.tells net.new).links.out ≡ false }
-    ensures counts_kept { KeepsCounts F.tells L.tells
+    ensures counts_kept { KeepsPqactCounts F.tells L.tells
         (pqact_lent (N.tells net.old) store.old launcher.old (E.tells log.old) (C.tells clock.old))
         (pqact_lent (N.tells net.new) store.new launcher.new (E.tells log.new) (C.tells clock.new)) }
 {
@@ -137,7 +137,7 @@ fn pqact_by<H: Wait, N: Dial, F: Store, L: Launcher, E: Sink, C: Clock>(
         (pqact_lent (N.tells net.old) store.old launcher.old (E.tells log.old) (C.tells clock.old))
         (pqact_lent (N.tells net.new) store.new launcher.new (E.tells log.new) (C.tells clock.new)) }
     ensures none_out { (N.tells net.new).links.out ≡ false }
-    ensures counts_kept { KeepsCounts F.tells L.tells
+    ensures counts_kept { KeepsPqactCounts F.tells L.tells
         (pqact_lent (N.tells net.old) store.old launcher.old (E.tells log.old) (C.tells clock.old))
         (pqact_lent (N.tells net.new) store.new launcher.new (E.tells log.new) (C.tells clock.new)) }
 {
@@ -208,7 +208,7 @@ fn act<H: Wait, N: Dial, F: Store, L: Launcher, E: Sink, C: Clock>(
         (pqact_lent (N.tells net.old) store.old launcher.old (E.tells log.old) (C.tells clock.old)))
         (pqact_lent (N.tells net.new) store.new launcher.new (E.tells log.new) (C.tells clock.new)) }
     ensures none_out { (N.tells net.new).links.out ≡ false }
-    ensures counts_kept { KeepsCounts F.tells L.tells
+    ensures counts_kept { KeepsPqactCounts F.tells L.tells
         (pqact_lent (N.tells net.old) store.old launcher.old (E.tells log.old) (C.tells clock.old))
         (pqact_lent (N.tells net.new) store.new launcher.new (E.tells log.new) (C.tells clock.new)) }
 {

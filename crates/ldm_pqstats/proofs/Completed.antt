@@ -18,7 +18,7 @@ use Rattle.ldm_pqstats.specs.declared.end.SendFault.{SendFault}
 use Rattle.ldm_pqstats.specs.declared.end.SendFault.TheVariants.{Unreached, OutOfMemory, TooLong, Put}
 use Rattle.ldm_pqstats.specs.declared.limits.TheConstants.{LARGEST_BODY}
 use Rattle.ldm_pqstats.specs.Owing.{Completes, are_long, ending_owed, is_long, sent_of}
-use Rattle.ldm_pqstats.specs.Sending.{AreSent, Moment, Outside, Sends, SendsAll, StopsAt, body_of, moment_of, next_number, number_behind, product_of}
+use Rattle.ldm_pqstats.specs.Sending.{AreSent, ReportMoment, Outside, Sends, SendsAll, StopsAt, body_of, moment_of, next_number, number_behind, product_of}
 
 -- ---- the hours that are sent
 
@@ -55,15 +55,15 @@ long_ends stats hour behind long =
 -- ---- what was sent, as products that were put
 
 -- These hours were sent: their products were put, one for each, and none is long.
-record Projected (stats : Table) (hours : List ℕ) (answers : List PutAnswer) (old new : Moment) : Type 0 where
+record Projected (stats : Table) (hours : List ℕ) (answers : List PutAnswer) (old new : ReportMoment) : Type 0 where
   pub products : List Product
   pub told : AreTold products answers old.wire new.wire
   pub count : length products ≡ length hours
   pub short : AreShort stats hours
 
-projected : (stats : Table) (number : ℕ) (hours : List ℕ) (answers : List PutAnswer) (old new : Moment) → AreSent stats number hours answers old new
+projected : (stats : Table) (number : ℕ) (hours : List ℕ) (answers : List PutAnswer) (old new : ReportMoment) → AreSent stats number hours answers old new
     → Projected stats hours answers old new
-projected stats number [] [] old new sent = record { products = []; told = ap (λ (m : Moment). m.wire) sent; count = refl; short = tt }
+projected stats number [] [] old new sent = record { products = []; told = ap (λ (m : ReportMoment). m.wire) sent; count = refl; short = tt }
 projected stats number [] (answer ∷ answers) old new sent = absurd sent
 projected stats number (hour ∷ hours) [] old new sent = absurd sent
 projected stats number (hour ∷ hours) (answer ∷ answers) old new sent =
@@ -82,10 +82,10 @@ module _ (stats : Table) (came left : LinkRecord) (old new : Outside) (given : L
   abbrev hours : List ℕ
   hours = hours_of stats.entries
 
-  abbrev first : Moment
+  abbrev first : ReportMoment
   first = moment_of came old [] []
 
-  abbrev last : Moment
+  abbrev last : ReportMoment
   last = moment_of left new given answers
 
   -- an hour that is sent or is too long, behind others

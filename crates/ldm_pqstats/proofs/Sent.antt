@@ -23,14 +23,14 @@ use Rattle.ldm_pqstats.specs.declared.limits.TheConstants.{LARGEST_BODY}
 use Rattle.ldm_pqstats.specs.Hours.{Ends, Hand, KeepsEnds, RunsOver, SendsHour, moment_in}
 use Rattle.ldm_pqstats.specs.Linking.{HasHours, SendsHours, SendsOver}
 use Rattle.ldm_pqstats.specs.Outsides.{HoldsHours}
-use Rattle.ldm_pqstats.specs.Sending.{AreSent, HourAt, Moment, Outside, Sends, SendsOne, StopsAt, body_of, hour_at, metadata_of, next_number, number_behind, product_of}
+use Rattle.ldm_pqstats.specs.Sending.{AreSent, HourAt, ReportMoment, Outside, Sends, SendsOne, StopsAt, body_of, hour_at, metadata_of, next_number, number_behind, product_of}
 use Rattle.ldm_pqstats.proofs.Completed.{completes}
 
 -- ---- one more
 
-sent_more : (stats : Table) (number : ℕ) (hours : List ℕ) (answers : List PutAnswer) (hour : ℕ) (answer : PutAnswer) (a b c : Moment) → AreSent stats number hours answers a b
+sent_more : (stats : Table) (number : ℕ) (hours : List ℕ) (answers : List PutAnswer) (hour : ℕ) (answer : PutAnswer) (a b c : ReportMoment) → AreSent stats number hours answers a b
     → SendsOne stats (hour_at hour (number_behind hours number)) answer b c → AreSent stats number (hours ++ hour ∷ []) (answers ++ answer ∷ []) a c
-sent_more stats number [] [] hour answer a b c sent one = (c, subst (λ (m : Moment). SendsOne stats (hour_at hour number) answer m c) sent one, refl)
+sent_more stats number [] [] hour answer a b c sent one = (c, subst (λ (m : ReportMoment). SendsOne stats (hour_at hour number) answer m c) sent one, refl)
 sent_more stats number [] (x ∷ answers) hour answer a b c sent one = absurd sent
 sent_more stats number (h ∷ hours) [] hour answer a b c sent one = absurd sent
 sent_more stats number (h ∷ hours) (x ∷ answers) hour answer a b c sent one =
@@ -82,7 +82,7 @@ goes_on stats done hour refused this puts puts' start mid now goes sends =
           ap (λ (b : Bool). b || this) goes.refused_is ∙ (ap (λ (b : Bool). answers_refuse goes.answers || b) s.4 ∙ sym (refused_more goes.answers s.0));
     }
 
-ends_by : (why : SendFault) (stats : Table) (hours : List ℕ) (old new : Moment) → StopsAt why stats hours old new → Sends (Err why) stats hours old new
+ends_by : (why : SendFault) (stats : Table) (hours : List ℕ) (old new : ReportMoment) → StopsAt why stats hours old new → Sends (Err why) stats hours old new
 ends_by Unreached stats hours old new stops = absurd stops.breaks
 ends_by OutOfMemory stats hours old new stops = inr stops
 ends_by TooLong stats hours old new stops = stops

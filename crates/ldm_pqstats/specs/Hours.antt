@@ -9,7 +9,7 @@ use Rattle.ldm_tools.specs.declared.puts.Puts.{Puts}
 use Rattle.ldm_tools.specs.Lines.{is_refused}
 use Rattle.ldm_tools.specs.Puts.{HasPut}
 use Rattle.ldm_pqstats.specs.declared.end.SendFault.{SendFault}
-use Rattle.ldm_pqstats.specs.Sending.{BreaksAt, HourAt, Moment, SendsOne, Sends, body_of}
+use Rattle.ldm_pqstats.specs.Sending.{BreaksAt, HourAt, ReportMoment, SendsOne, Sends, body_of}
 
 -- What is used to send an hour.
 pub record Hand : Type 0 where
@@ -21,11 +21,11 @@ pub record Hand : Type 0 where
 abbrev pub hand_tells : {L K C : Type 0} → (L → LinkRecord) → (K → SinkRecord) → (C → ClockRecord) → (Puts → L → K → C → Hand)
 hand_tells link sink clock = λ puts of_link of_sink of_clock. record { puts = puts; link = link of_link; sink = sink of_sink; clock = clock of_clock }
 
-abbrev pub moment_at : Hand → List ℕ → List PutAnswer → Moment
+abbrev pub moment_at : Hand → List ℕ → List PutAnswer → ReportMoment
 moment_at hand given answers = record { wire = record { link = hand.link; sink = hand.sink; given = given; answers = answers }; clock = hand.clock }
 
 -- What sending an hour did, to one who knows all that the link gave before: it was sent, and whether it was refused; or why it ended.
-abbrev pub SendsFrom : Result Bool SendFault → Table → HourAt → Hand → (Moment → Type 0)
+abbrev pub SendsFrom : Result Bool SendFault → Table → HourAt → Hand → (ReportMoment → Type 0)
 SendsFrom (Ok refused) stats at new =
     λ old. (answer : PutAnswer) × (given : List ℕ) × SendsOne stats at answer old (moment_at new given (old.wire.answers ++ answer ∷ []))
     × HasPut given (old.wire.answers ++ answer ∷ []) new.puts × (refused ≡ is_refused answer)
@@ -55,7 +55,7 @@ pub record KeepsEnds (old new : Ends) : Type 0 where
 abbrev pub ends_tell : {L K C : Type 0} → (L → LinkRecord) → (K → SinkRecord) → (C → ClockRecord) → (L → K → C → Ends)
 ends_tell link sink clock = λ of_link of_sink of_clock. record { link = link of_link; sink = sink of_sink; clock = clock of_clock }
 
-abbrev pub moment_in : Ends → List ℕ → List PutAnswer → Moment
+abbrev pub moment_in : Ends → List ℕ → List PutAnswer → ReportMoment
 moment_in ends given answers = record { wire = record { link = ends.link; sink = ends.sink; given = given; answers = answers }; clock = ends.clock }
 
 -- The hours were sent over a link that was not used yet.

@@ -39,7 +39,7 @@ abbrev pub outside_in : Lent → Outside
 outside_in lent = outside_of lent.net lent.sink lent.clock
 
 -- No count fell.
-pub record KeepsCounts (old new : Lent) : Type 0 where
+pub record KeepsStatsCounts (old new : Lent) : Type 0 where
   pub net : old.net.faults ≤ new.net.faults
   pub ended : old.net.links.ended ≤ new.net.links.ended
   pub failed : old.net.links.failed ≤ new.net.links.failed
@@ -131,7 +131,7 @@ pub record Pqstats (code : ℕ) (asked : StatsAsked) (old new : Lent) : Type 0 w
   pub mid : Lent
   pub counts : Counts gathered counter asked old mid
   -- no count fell up to there
-  pub kept : KeepsCounts old mid
+  pub kept : KeepsStatsCounts old mid
   pub ending : StatsEnd
   pub tells : TellsBy gathered ending counter asked (outside_in mid) (outside_in new)
   pub reports : ReportsIf (status_of ending) code mid.log new.log

@@ -4,7 +4,7 @@ ghost use Rattle.std.specs.Option.{ForSome};
 ghost use Rattle.ldm_pqstats.specs.declared.counter.CountStop.{CountStop};
 ghost use Rattle.ldm_pqstats.specs.declared.end.StatsEnd.TheVariants.{NotCounted};
 ghost use Rattle.ldm_pqstats.specs.Outsides.{KeepsOutside};
-ghost use Rattle.ldm_pqstats.specs.Runs.{IfByTaker, KeepsCounts, Pqstats, TellsAll, TellsBy, TellsLimited, lent_of};
+ghost use Rattle.ldm_pqstats.specs.Runs.{IfByTaker, KeepsStatsCounts, Pqstats, TellsAll, TellsBy, TellsLimited, lent_of};
 ghost use Rattle.ldm_pqstats.specs.Sending.{outside_of};
 
 use crate::asked::StatsAsked;
@@ -47,7 +47,7 @@ pub fn pqstats<H: Wait, N: Dial + Reasons, K: Sink, E: Sink, C: Clock>(
         (lent_of (N.tells net.old) (K.tells sink.old) (E.tells log.old) (C.tells clock.old))
         (lent_of (N.tells net.new) (K.tells sink.new) (E.tells log.new) (C.tells clock.new)) }
     ensures none_out { (N.tells net.new).links.out ≡ false }
-    ensures counts_kept { KeepsCounts
+    ensures counts_kept { KeepsStatsCounts
         (lent_of (N.tells net.old) (K.tells sink.old) (E.tells log.old) (C.tells clock.old))
         (lent_of (N.tells net.new) (K.tells sink.new) (E.tells log.new) (C.tells clock.new)) }
 {

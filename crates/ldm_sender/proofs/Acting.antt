@@ -13,7 +13,8 @@ use Rattle.ldm_sender.specs.declared.end.SendEnd.{SendEnd}
 use Rattle.ldm_sender.specs.declared.end.SendEnd.TheVariants as end
 use Rattle.ldm_sender.specs.Calls.{MayBeUnmade}
 use Rattle.ldm_sender.specs.Deeds.{Deed}
-use Rattle.ldm_sender.specs.Does.{Moment, Does, Breaks, IsPart, Each}
+use Rattle.ldm_sender.specs.Does.{SendingMoment, Does, Breaks, Each}
+use Rattle.ldm_session.specs.Part.{IsPart}
 use Rattle.ldm_sender.specs.Acts.{Situation, situation_of, Act, then_act, ungated, KeepsBeside, Acts, IsStop, Logged}
 use Rattle.ldm_sender.specs.Acts.{BreaksAct, EndsAct}
 use Rattle.ldm_sender.proofs.Doing.{does_then, keeps_link_then}
@@ -65,7 +66,7 @@ beside_then a b c one two =
     record { log = omega (arith, one.log, two.log); stops = omega (arith, one.stops, two.stops) }
 
 -- log and gate were not asked
-pub acts_of : (host came : List ℕ) (old new : Moment) (log : SinkRecord) (gate : GateRecord) (deed : Deed)
+pub acts_of : (host came : List ℕ) (old new : SendingMoment) (log : SinkRecord) (gate : GateRecord) (deed : Deed)
     → gap_log host deed.entries ≡ [] → Does came old new deed
     → Acts host came (situation_of old log gate) (situation_of new log gate) (ungated deed)
 acts_of host came old new log gate deed silent does = record {
@@ -108,7 +109,7 @@ logged_then end.AllBusy old mid new first second one two = Takes-then old mid ne
 logged_then end.OutOfMemory old mid new first second one two = Takes-then old mid new first second one two
 
 -- log and gate were not asked, and it broke off in calls that may be left out
-pub breaks_act_of : (why : SendEnd) (host came : List ℕ) (old new : Moment) (log : SinkRecord) (gate : GateRecord)
+pub breaks_act_of : (why : SendEnd) (host came : List ℕ) (old new : SendingMoment) (log : SinkRecord) (gate : GateRecord)
     (deed : Deed) (breaks : Breaks came old new deed)
     → gap_log host breaks.called ≡ [] → Each MayBeUnmade deed.entries
     → BreaksAct why host came (situation_of old log gate) (situation_of new log gate) (ungated deed)

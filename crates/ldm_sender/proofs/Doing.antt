@@ -11,7 +11,8 @@ use Rattle.ldm_session.specs.Gathering as gathering
 use Rattle.ldm_session.proofs.CallerLemmas.{Exchanged-then, Exchanged-nothing, Exchanged-sent, Exchanged-front}
 use Rattle.ldm_session.proofs.CallerLemmas.{AnsweredAll-nothing, AnsweredAll-then}
 use Rattle.ldm_sender.specs.Deeds.{Deed, and_then, no_deed}
-use Rattle.ldm_sender.specs.Does.{Moment, moment_of, IsPart, KeepsLink, Does, Breaks}
+use Rattle.ldm_sender.specs.Does.{SendingMoment, moment_of, KeepsLink, Does, Breaks}
+use Rattle.ldm_session.specs.Part.{IsPart}
 
 -- ---- the link
 
@@ -48,7 +49,7 @@ keeps_link_failing old new piece unclosed faults failing = record {
 -- ---- what is left of a deed
 
 -- Of a deed all is done but what is left.
-pub record Toward (given : List ℕ) (old now : Moment) (left all : Deed) : Type 0 where
+pub record Toward (given : List ℕ) (old now : SendingMoment) (left all : Deed) : Type 0 where
   pub made : List Entry
   pub calls : Calls old.pass now.pass made
   pub entries : made ++ left.entries ≡ all.entries
@@ -61,7 +62,7 @@ pub record Toward (given : List ℕ) (old now : Moment) (left all : Deed) : Type
   pub link : KeepsLink old.link now.link
 
 -- nothing is done yet
-pub all_left : (now : Moment) (all : Deed) → IsNotClosed now.link → Toward [] now now all all
+pub all_left : (now : SendingMoment) (all : Deed) → IsNotClosed now.link → Toward [] now now all all
 all_left now all unclosed = record {
   made = [];
   calls = calls_none now.pass;
@@ -80,7 +81,7 @@ parts_then : {A : Type 0} → (made more rest left all : List A) → made ++ lef
 parts_then made more rest left all one two = append_assoc made more rest ∙ ap (λ xs. made ++ xs) two ∙ one
 
 -- it goes on
-pub toward_then : (given more : List ℕ) (old mid new : Moment) (rest left all : Deed) → Toward given old mid left all
+pub toward_then : (given more : List ℕ) (old mid new : SendingMoment) (rest left all : Deed) → Toward given old mid left all
     → Toward more mid new rest left
     → Toward (given ++ more) old new rest all
 toward_then given more old mid new rest left all one two = record {
@@ -98,13 +99,13 @@ toward_then given more old mid new rest left all one two = record {
 }
 
 -- what is left is the same deed in other words
-pub toward_same : (given : List ℕ) (old now : Moment) (left left' all : Deed) → left ≡ left'
+pub toward_same : (given : List ℕ) (old now : SendingMoment) (left left' all : Deed) → left ≡ left'
     → Toward given old now left all → Toward given old now left' all
 toward_same given old now left left' all same toward =
     subst (λ (deed : Deed). Toward given old now deed all) same toward
 
 -- nothing is left
-pub all_done : (given : List ℕ) (old new : Moment) (all : Deed) → Toward given old new no_deed all
+pub all_done : (given : List ℕ) (old new : SendingMoment) (all : Deed) → Toward given old new no_deed all
     → Does given old new all
 all_done given old new all toward = record {
   calls = subst (λ (es : List Entry). Calls old.pass new.pass es)
@@ -118,7 +119,7 @@ all_done given old new all toward = record {
 }
 
 -- a deed is done, and one is left
-pub one_done : (given : List ℕ) (old new : Moment) (first second : Deed) → Does given old new first
+pub one_done : (given : List ℕ) (old new : SendingMoment) (first second : Deed) → Does given old new first
     → Toward given old new second (and_then first second)
 one_done given old new first second does = record {
   made = first.entries;
@@ -136,7 +137,7 @@ one_done given old new first second does = record {
 }
 
 -- one deed, and then another
-pub does_then : (given more : List ℕ) (old mid new : Moment) (first second : Deed) → Does given old mid first
+pub does_then : (given more : List ℕ) (old mid new : SendingMoment) (first second : Deed) → Does given old mid first
     → Does more mid new second
     → Does (given ++ more) old new (and_then first second)
 does_then given more old mid new first second one two = record {
@@ -154,7 +155,7 @@ does_then given more old mid new first second one two = record {
 -- ---- where it breaks off
 
 -- it breaks off where that is left
-pub stops_here : (given : List ℕ) (old new : Moment) (left all : Deed) → Toward given old new left all
+pub stops_here : (given : List ℕ) (old new : SendingMoment) (left all : Deed) → Toward given old new left all
     → Breaks given old new all
 stops_here given old new left all toward = record {
   called = toward.made;
@@ -174,7 +175,7 @@ part_then : {A : Type 0} → (made more left all : List A) → made ++ left ≡ 
 part_then made more left all one part = (part.0, parts_then made more part.0 left all one part.1)
 
 -- it breaks off in what is left
-pub breaks_then : (given more : List ℕ) (old mid new : Moment) (left all : Deed) → Toward given old mid left all
+pub breaks_then : (given more : List ℕ) (old mid new : SendingMoment) (left all : Deed) → Toward given old mid left all
     → Breaks more mid new left
     → Breaks (given ++ more) old new all
 breaks_then given more old mid new left all one two = record {
@@ -195,7 +196,7 @@ more_behind : {A : Type 0} → (part whole behind : List A) → IsPart false par
 more_behind part whole behind is = (is.0 ++ behind, sym (append_assoc part is.0 behind) ∙ ap (λ xs. xs ++ behind) is.1)
 
 -- it breaks off in a first deed, behind which another one was to come
-pub breaks_before : (given : List ℕ) (old new : Moment) (first second : Deed) → Breaks given old new first
+pub breaks_before : (given : List ℕ) (old new : SendingMoment) (first second : Deed) → Breaks given old new first
     → Breaks given old new (and_then first second)
 breaks_before given old new first second breaks = record {
   called = breaks.called;
@@ -213,7 +214,7 @@ breaks_before given old new first second breaks = record {
 }
 
 -- nothing of what is left was done
-pub nothing_done : (now new : Moment) (left : Deed) → IsNotClosed now.link → Calls now.pass new.pass []
+pub nothing_done : (now new : SendingMoment) (left : Deed) → IsNotClosed now.link → Calls now.pass new.pass []
     → new.link ≡ now.link → new.clock ≡ now.clock → Breaks [] now new left
 nothing_done now new left unclosed calls link clock = record {
   called = [];

@@ -1,7 +1,8 @@
 -- Lists of which all is there, or all but such.
 use Rattle.std.proofs.Common.{◌∙◌, List, [], ◌∷◌, ◌++◌, Bool, true, false, refl, sym, ap, subst, append_assoc}
 use Rattle.std.proofs.Common.{append-nil}
-use Rattle.ldm_sender.specs.Does.{IsPart, Each, IsAllBut}
+use Rattle.ldm_sender.specs.Does.{Each, IsAllBut}
+use Rattle.ldm_session.specs.Part.{IsPart}
 
 pub each_then : {A : Type 0} → (Only : A → Type 0) → (xs ys : List A) → Each Only xs → Each Only ys
     → Each Only (xs ++ ys)

@@ -8,7 +8,7 @@ use Rattle.ldm_shared.specs.Passes.{PassView}
 use Rattle.ldm_shared.proofs.Made.{calls_none}
 use Rattle.ldm_session.specs.Gathering as gathering
 use Rattle.ldm_sender.specs.Deeds.{Deed, no_deed, records_of}
-use Rattle.ldm_sender.specs.Does.{Moment, moment_of}
+use Rattle.ldm_sender.specs.Does.{SendingMoment, moment_of}
 use Rattle.ldm_sender.proofs.Doing.{Toward, toward_then, keeps_link, some_sent, exchanged_nothing}
 
 -- a message is owed, and then the clock answers
@@ -35,7 +35,7 @@ gathers pass link clock clock' out out' message at unclosed appended answered = 
 }
 
 -- All that is gathered is sent.
-pub then_sent : (pass : PassView) (clock : ClockRecord) (gathered left : List ℕ) (old : Moment)
+pub then_sent : (pass : PassView) (clock : ClockRecord) (gathered left : List ℕ) (old : SendingMoment)
     (link link' : LinkRecord) (all : Deed)
     → Toward [] old (moment_of pass link clock gathered) no_deed all → IsNotClosed link
     → gathering.MovesOn gathered link left link'

@@ -23,7 +23,7 @@ use Rattle.ldm_sender.specs.Answering.{answer_deed}
 use Rattle.ldm_sender.specs.Stopping.{StopsSending}
 use Rattle.ldm_sender.specs.Deeds.{Deed, and_then}
 use Rattle.ldm_sender.specs.Calls.{MayBeUnmade}
-use Rattle.ldm_sender.specs.Does.{Moment, moment_of, Does, Breaks, KeepsLink, Each}
+use Rattle.ldm_sender.specs.Does.{SendingMoment, moment_of, Does, Breaks, KeepsLink, Each}
 use Rattle.ldm_sender.specs.Acts.{Situation, situation_of, Act, then_act, ungated, Acts, BreaksAct, EndsAct, IsStop}
 use Rattle.ldm_sender.specs.Acts.{is_whole}
 use Rattle.ldm_sender.specs.Ending.{IsEndOf, StopsTurns, session_of}
@@ -156,7 +156,7 @@ IsCut end.Worn = Unit {0}
 IsCut end.OutOfMemory = Unit {0}
 IsCut _ = ⊥
 
-pub stops_cut : (why : SendEnd) (old new : Moment) → StopsSending why old new → IsCut why
+pub stops_cut : (why : SendEnd) (old new : SendingMoment) → StopsSending why old new → IsCut why
 stops_cut end.Stopped old new stops = absurd stops
 stops_cut end.Reclassed old new stops = absurd stops
 stops_cut (end.Denied rule) old new stops = absurd stops
@@ -180,7 +180,7 @@ cut_is end.AllBusy cut = absurd cut
 cut_is end.Worn cut = refl
 cut_is end.OutOfMemory cut = refl
 
-cut_cause : (why : SendEnd) (answered : Answered) (old : Situation) (mid : Moment) (new : Situation)
+cut_cause : (why : SendEnd) (answered : Answered) (old : Situation) (mid : SendingMoment) (new : Situation)
     → old.moment.link ≡ mid.link → StopsSending why mid new.moment
     → IsEndOf why answered new.moment.pass (session_of old) (session_of new)
 cut_cause end.Stopped answered old mid new same stops = absurd stops

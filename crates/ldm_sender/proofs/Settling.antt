@@ -20,7 +20,8 @@ use Rattle.ldm_sender.specs.declared.end.SendEnd.{SendEnd}
 use Rattle.ldm_sender.specs.declared.end.SendEnd.TheVariants as end
 use Rattle.ldm_sender.specs.Opening.{Answered, Opened, closing_entries}
 use Rattle.ldm_sender.specs.Calls.{MayBeUnmade}
-use Rattle.ldm_sender.specs.Does.{moment_of, IsPart, IsAllBut}
+use Rattle.ldm_sender.specs.Does.{moment_of, IsAllBut}
+use Rattle.ldm_session.specs.Part.{IsPart}
 use Rattle.ldm_sender.specs.Acts.{Situation, situation_of, Act, BreaksAct, EndsAct, IsStop, Logged, is_whole, IsAllSent}
 use Rattle.ldm_sender.specs.Stopping.{KeepsCursor}
 use Rattle.ldm_sender.specs.Ending.{session_of, closing_of, IsLeft, IsEndOf}

@@ -25,7 +25,8 @@ use Rattle.ldm_sender.specs.declared.end.SendEnd.TheVariants as end
 use Rattle.ldm_sender.specs.Asked.{Asked, IsAskedOf}
 use Rattle.ldm_sender.specs.Calls.{stepped}
 use Rattle.ldm_sender.specs.Deeds.{no_deed, calling, records_of}
-use Rattle.ldm_sender.specs.Does.{Moment, moment_of, Does, IsPart}
+use Rattle.ldm_sender.specs.Does.{SendingMoment, moment_of, Does}
+use Rattle.ldm_session.specs.Part.{IsPart}
 use Rattle.ldm_sender.specs.Acts.{Situation, situation_of, Act, then_act, ungated, Acts, EndsAct}
 use Rattle.ldm_sender.specs.Ending.{StopsTurns}
 use Rattle.ldm_sender.proofs.Acting.{deed_is, act_is, acts_of}
@@ -136,7 +137,7 @@ one_call old new link clock out entry makes unclosed = record {
 }
 
 -- nothing was done
-pub does_nothing : (now : Moment) → IsNotClosed now.link → Does [] now now no_deed
+pub does_nothing : (now : SendingMoment) → IsNotClosed now.link → Does [] now now no_deed
 does_nothing now unclosed = record {
   calls = calls_none now.pass;
   sent = [];

@@ -19,7 +19,8 @@ use Rattle.ldm_session.proofs.CallerLemmas.{Exchanged-sent}
 use Rattle.ldm_sender.specs.declared.end.SendEnd.TheVariants as end
 use Rattle.ldm_sender.specs.Calls.{MayBeUnmade}
 use Rattle.ldm_sender.specs.Deeds.{Deed, no_deed, records_of}
-use Rattle.ldm_sender.specs.Does.{Moment, moment_of, IsPart, Does, Breaks}
+use Rattle.ldm_sender.specs.Does.{SendingMoment, moment_of, Does, Breaks}
+use Rattle.ldm_session.specs.Part.{IsPart}
 use Rattle.ldm_sender.specs.Acts.{Acts, BreaksAct, situation_of}
 use Rattle.ldm_sender.specs.Idling.{quiet_act, alive_act, stop_act}
 use Rattle.ldm_sender.proofs.Doing.{Toward, toward_then, all_done, send_failed, some_sent, keeps_link, keeps_link_sent}
@@ -85,7 +86,7 @@ answers_last pass clock clock' out link at instants bytes unclosed answered = re
 }
 
 -- the gate was asked once
-pub asked_gate : (host : List ℕ) (old new : Moment) (log : SinkRecord) (gate gate' : GateRecord) (answer : Go)
+pub asked_gate : (host : List ℕ) (old new : SendingMoment) (log : SinkRecord) (gate gate' : GateRecord) (answer : Go)
     (deed : Deed) → deed.entries ≡ [] → Does [] old new deed → Idles answer gate gate'
     → gate.stops ≤ gate'.stops
     → Acts host [] (situation_of old log gate) (situation_of new log gate') (record { deed = deed; goes = answer ∷ [] })

@@ -10,15 +10,15 @@ use Rattle.ldm_sender.specs.declared.end.SendEnd.{SendEnd}
 use Rattle.ldm_sender.specs.declared.end.SendEnd.TheVariants as end
 use Rattle.ldm_sender.specs.Calls.{MayBeUnmade}
 use Rattle.ldm_sender.specs.Deeds.{Deed, and_then}
-use Rattle.ldm_sender.specs.Does.{Moment, Does, Breaks, IsAllBut}
+use Rattle.ldm_sender.specs.Does.{SendingMoment, Does, Breaks, IsAllBut}
 
 -- What such a part finds or leaves.
 pub record Situation : Type 0 where
-  pub moment : Moment
+  pub moment : SendingMoment
   pub log : SinkRecord
   pub gate : GateRecord
 
-abbrev pub situation_of : Moment → SinkRecord → GateRecord → Situation
+abbrev pub situation_of : SendingMoment → SinkRecord → GateRecord → Situation
 situation_of moment log gate = record { moment = moment; log = log; gate = gate }
 
 -- a deed, and what the gate answered

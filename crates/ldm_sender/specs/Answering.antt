@@ -15,7 +15,8 @@ use Rattle.ldm_sender.specs.declared.end.SendEnd.{SendEnd}
 use Rattle.ldm_sender.specs.Asked.{Asked}
 use Rattle.ldm_sender.specs.Opening.{Opened, Busy, MayMiss, opening_entries}
 use Rattle.ldm_sender.specs.Deeds.{Deed, records_of}
-use Rattle.ldm_sender.specs.Does.{Moment, moment_of, Does, Breaks, IsPart}
+use Rattle.ldm_sender.specs.Does.{SendingMoment, moment_of, Does, Breaks}
+use Rattle.ldm_session.specs.Part.{IsPart}
 use Rattle.ldm_sender.specs.Stopping.{StopsSending}
 
 -- the answer is owed, and the clock is asked
@@ -24,7 +25,7 @@ answer_deed xid answer at =
     record { entries = []; bytes = records_of (sent.FeedmeReply xid answer ∷ []); instants = at ∷ [] }
 
 -- It was sent, and the clock said this.
-abbrev pub AnswersClass : Result ℕ SendEnd → ℕ → ClassAnswer → (old new : Moment) → Type 0
+abbrev pub AnswersClass : Result ℕ SendEnd → ℕ → ClassAnswer → (old new : SendingMoment) → Type 0
 AnswersClass (Ok at) xid answer old new = Does [] old new (answer_deed xid answer at)
 AnswersClass (Err why) xid answer old new = (at : ℕ) × Breaks [] old new (answer_deed xid answer at)
     × StopsSending why old new

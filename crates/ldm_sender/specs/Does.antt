@@ -7,22 +7,18 @@ use Rattle.ldm_outside.specs.Link.{LinkRecord, IsNotClosed}
 use Rattle.ldm_shared.specs.Passes.{PassView, Calls}
 use Rattle.ldm_session.specs.Exchange.{Exchanged, AnsweredAll}
 use Rattle.ldm_sender.specs.Deeds.{Deed}
+use Rattle.ldm_session.specs.Part.{IsPart}
 
 -- What a part of a sending finds or leaves.
-pub record Moment : Type 0 where
+pub record SendingMoment : Type 0 where
   pub pass : PassView
   pub link : LinkRecord
   pub clock : ClockRecord
   -- what is gathered for the link, and not sent yet
   pub out : List ℕ
 
-abbrev pub moment_of : PassView → LinkRecord → ClockRecord → List ℕ → Moment
+abbrev pub moment_of : PassView → LinkRecord → ClockRecord → List ℕ → SendingMoment
 moment_of pass link clock out = record { pass = pass; link = link; clock = clock; out = out }
-
--- the whole, or a front of it
-abbrev pub IsPart : {A : Type 0} → Bool → List A → List A → Type 0
-IsPart true part whole = part ≡ whole
-IsPart {A} false part whole = (rest : List A) × (part ++ rest ≡ whole)
 
 -- each of a list is such
 abbrev pub Each : {A : Type 0} → (A → Type 0) → List A → Type 0
@@ -42,7 +38,7 @@ pub record KeepsLink (old new : LinkRecord) : Type 0 where
 
 -- Just this was done, and the link gave these bytes: what was owed was sent, or is gathered still, behind what was
 -- gathered before.
-pub record Does (given : List ℕ) (old new : Moment) (deed : Deed) : Type 0 where
+pub record Does (given : List ℕ) (old new : SendingMoment) (deed : Deed) : Type 0 where
   pub calls : Calls old.pass new.pass deed.entries
   pub sent : List ℕ
   pub gathered : old.out ++ deed.bytes ≡ sent ++ new.out
@@ -51,7 +47,7 @@ pub record Does (given : List ℕ) (old new : Moment) (deed : Deed) : Type 0 whe
   pub link : KeepsLink old.link new.link
 
 -- It broke off: of each part a front was done.
-pub record Breaks (given : List ℕ) (old new : Moment) (deed : Deed) : Type 0 where
+pub record Breaks (given : List ℕ) (old new : SendingMoment) (deed : Deed) : Type 0 where
   pub called : List Entry
   pub calls : Calls old.pass new.pass called
   pub called_part : IsPart false called deed.entries

@@ -10,7 +10,7 @@ use Rattle.ldm_sender.specs.declared.end.SendEnd.{SendEnd}
 use Rattle.ldm_sender.specs.declared.end.SendEnd.TheVariants as send
 use Rattle.ldm_sender.specs.Asked.{Asked}
 use Rattle.ldm_class.specs.Classes.{resumed}
-use Rattle.ldm_sender.specs.Does.{IsPart}
+use Rattle.ldm_session.specs.Part.{IsPart}
 use Rattle.ldm_sender.specs.Ending.{closing_of}
 use Rattle.ldm_sender.specs.Opening.{Answered, Denied, Reclassed, Busy, Opened, closing_entries, opening_calls, opening_entries, place_of}
 use Rattle.ldm_upstream.specs.Blocks.{blocks, reads}

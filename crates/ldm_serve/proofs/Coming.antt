@@ -22,7 +22,7 @@ use Rattle.ldm_downstream.specs.InTurn.{Round}
 use Rattle.ldm_serve.specs.InTurn.{InTurn}
 use Rattle.ldm_serve.specs.Outlived.{Outlived, messages_for_all, step_of}
 use Rattle.ldm_serve.specs.Steps.{placed_of}
-use Rattle.ldm_serve.specs.Connection.{Answers, Moment, Reaches, moment_of}
+use Rattle.ldm_serve.specs.Connection.{Answers, ServingMoment, Reaches, moment_of}
 use Rattle.ldm_serve.specs.Rounds.{IsServed, ReadsOn, Runs, end_at, outliving}
 use Rattle.ldm_serve.specs.ServingView.{beginning}
 use Rattle.ldm_serve.proofs.InTurn.{turn-given, turn-none, turn-sent}
@@ -30,12 +30,12 @@ use Rattle.ldm_serve.proofs.Reaching.{came-behind, counts-link, counts-then}
 use Rattle.ldm_serve.proofs.Turning.{fault-served}
 
 -- a moment that differs by the link
-abbrev pub linked : Moment → LinkRecord → Moment
+abbrev pub linked : ServingMoment → LinkRecord → ServingMoment
 linked now link = moment_of now.pass (record now.outside { link = link })
 
 -- ---- what the link gave
 
-module _ (client : Client) (begins : Moment) (outlived : List Outlived) (taken : List ℕ) (now : Moment)
+module _ (client : Client) (begins : ServingMoment) (outlived : List Outlived) (taken : List ℕ) (now : ServingMoment)
     (reaches : Reaches true true client (outliving outlived) taken [] begins now) where
   -- what passed in all up to now
   abbrev total : Round
@@ -87,7 +87,7 @@ module _ (client : Client) (begins : Moment) (outlived : List Outlived) (taken :
       (turn-sent client outlived total begins.outside.link now.outside.link link reaches.in_turn [] [] still.passed)))
 
 -- a front of what is owed, and of the records
-reaches-part : (all : Bool) (client : Client) (begins : Moment) (answers : Answers) (taken ahead : List ℕ) (now : Moment) → Reaches all true client answers taken ahead begins now
+reaches-part : (all : Bool) (client : Client) (begins : ServingMoment) (answers : Answers) (taken ahead : List ℕ) (now : ServingMoment) → Reaches all true client answers taken ahead begins now
     → Reaches all false client answers taken ahead begins now
 reaches-part all client begins answers taken ahead now reaches = record {
   by = reaches.by;
@@ -104,7 +104,7 @@ reaches-part all client begins answers taken ahead now reaches = record {
   in_turn = reaches.in_turn;
 }
 
-reaches-few : (whole : Bool) (client : Client) (begins : Moment) (answers : Answers) (taken ahead : List ℕ) (now : Moment) → Reaches true whole client answers taken ahead begins now
+reaches-few : (whole : Bool) (client : Client) (begins : ServingMoment) (answers : Answers) (taken ahead : List ℕ) (now : ServingMoment) → Reaches true whole client answers taken ahead begins now
     → Reaches false whole client answers taken ahead begins now
 reaches-few whole client begins answers taken ahead now reaches = record {
   by = reaches.by;
@@ -121,7 +121,7 @@ reaches-few whole client begins answers taken ahead now reaches = record {
   in_turn = reaches.in_turn;
 }
 
-module _ (client : Client) (begins : Moment) (p : Position) (now : Moment) (here : ReadsOn client begins p [] now) where
+module _ (client : Client) (begins : ServingMoment) (p : Position) (now : ServingMoment) (here : ReadsOn client begins p [] now) where
   came-is : p.came ≡ length here.taken
   came-is = ap (λ (v : Position). v.came) here.hand_is ∙ came-behind beginning here.taken ∙ omega arith
 
@@ -223,14 +223,14 @@ take-into n len into rest within came = take-take n len (into ++ rest) within �
 
 -- ---- a piece, and what taking it comes to
 
-pub runs-behind : (result : Option ServeEnd) (client : Client) (p : Position) (bytes : List ℕ) (q : Position) (old mid new : Moment)
-    → ((begins : Moment) → ReadsOn client begins p [] old → ReadsOn client begins p bytes mid) → Runs result client p bytes q mid new → Runs result client p [] q old new
+pub runs-behind : (result : Option ServeEnd) (client : Client) (p : Position) (bytes : List ℕ) (q : Position) (old mid new : ServingMoment)
+    → ((begins : ServingMoment) → ReadsOn client begins p [] old → ReadsOn client begins p bytes mid) → Runs result client p bytes q mid new → Runs result client p [] q old new
 runs-behind None client p bytes q old mid new came runs = λ begins here. runs begins (came begins here)
 runs-behind (Some end) client p bytes q old mid new came runs = λ begins here. runs begins (came begins here)
 
 -- ---- the beginning
 
-pub begins-reads : (client : Client) (now : Moment) → now.pass.actor ≡ client.actor → ReadsOn client now beginning [] now
+pub begins-reads : (client : Client) (now : ServingMoment) → now.pass.actor ≡ client.actor → ReadsOn client now beginning [] now
 unfolding in_hand records_in
 begins-reads client now by = record {
   outlived = [];
@@ -254,7 +254,7 @@ begins-reads client now by = record {
 }
 
 -- there is no memory to begin
-pub memory-begins : (client : Client) (now : Moment) → now.pass.actor ≡ client.actor → IsNotClosed now.outside.link → IsServed end.OutOfMemory client now now
+pub memory-begins : (client : Client) (now : ServingMoment) → now.pass.actor ≡ client.actor → IsNotClosed now.outside.link → IsServed end.OutOfMemory client now now
 memory-begins client now by unclosed =
     let here = begins-reads client now by in
     record {

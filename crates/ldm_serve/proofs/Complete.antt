@@ -41,7 +41,7 @@ use Rattle.ldm_serve.specs.declared.end.ServeEnd.TheVariants as end
 use Rattle.ldm_serve.specs.Becoming.{Becomes, ungated}
 use Rattle.ldm_serve.specs.Client.{Client}
 use Rattle.ldm_serve.specs.Complete.{BecomesBy, FeedsOn, FeedsTo, IsLawful, IsLawfulBy, LacksMemory, NothingHinders, NotifiesOn, NotifiesTo, ReceivesOn, is_outlived_by, is_part, last_response}
-use Rattle.ldm_serve.specs.Connection.{Moment, placed_in}
+use Rattle.ldm_serve.specs.Connection.{ServingMoment, placed_in}
 use Rattle.ldm_serve.specs.Outlived.{Outlived, Answered as WasAnswered, Narrowed, AreOutlived, IsNarrowedTo, step_of}
 use Rattle.ldm_serve.specs.Response.{Response, Says, Puts, Figures, Feeds, Receives, Notifies, Refuses, Denies}
 use Rattle.ldm_serve.specs.Responds.{goes_on}
@@ -395,7 +395,7 @@ module _ (client : Client) (others : List Placed) (start after : SessionRecord) 
       (sym (decided-none client (Notifies xid class) others (ap is_part is))) (why, refl, to))
   told-by xid class (Fewer fewer) is why (inl tells) = absurd tells
 
-module _ (client : Client) (stream ahead : List ℕ) (start : SessionRecord) (at : ℕ) (others : List Placed) (old new : Moment) (p : Position)
+module _ (client : Client) (stream ahead : List ℕ) (start : SessionRecord) (at : ℕ) (others : List Placed) (old new : ServingMoment) (p : Position)
     (none : NothingHinders new.pass start new.outside) (counts : KeepsFaults start old.outside) where
   -- what the connection ends in by that record
   by-record : (how : ServeEnd) (r : Response) → Becomes how (goes_on r) at client ahead old new → IsLawfulBy (decided client r others) p
@@ -463,7 +463,7 @@ module _ (client : Client) (stream ahead : List ℕ) (start : SessionRecord) (at
 
 -- ---- a whole connection
 
-module _ (client : Client) (old new : Moment) (stream : List ℕ) (had : old.outside.link.left ≡ Some stream) (lawful : IsLawful client stream)
+module _ (client : Client) (old new : ServingMoment) (stream : List ℕ) (had : old.outside.link.left ≡ Some stream) (lawful : IsLawful client stream)
     (none : NothingHinders new.pass old.outside new.outside) where
   -- the first bytes were taken, and these stand behind them
   stands : (how : ServeEnd) (serves : ServesAll how client old new) → HasMore serves.taken serves.ahead stream serves.between.outside.link.left
@@ -506,7 +506,7 @@ module _ (client : Client) (old new : Moment) (stream : List ℕ) (had : old.out
   unfolding stands
   taken-all how serves none_ahead same at_end =
       let more = stands how serves in
-      let left : new.outside.link.left ≡ Some more.more = ap (λ (m : Moment). m.outside.link.left) same ∙ more.left_is in
+      let left : new.outside.link.left ≡ Some more.more = ap (λ (m : ServingMoment). m.outside.link.left) same ∙ more.left_is in
       let nothing : more.more ≡ [] = subst (λ (o : Option (List ℕ)). IfSome o (λ (rest : List ℕ). rest ≡ [])) left at_end in
       ap (λ (x : List ℕ). x ++ more.more) none_ahead ∙ nothing
 
@@ -553,6 +553,6 @@ module _ (client : Client) (old new : Moment) (stream : List ℕ) (had : old.out
   completes-by end.Worn serves = absurd (omega (arith, none.few, serves.ends.runs_out.worn))
   completes-by end.OutOfMemory serves = inr tt
 
-pub completes : (how : ServeEnd) (client : Client) (old new : Moment) (stream : List ℕ) → ServesAll how client old new → old.outside.link.left ≡ Some stream
+pub completes : (how : ServeEnd) (client : Client) (old new : ServingMoment) (stream : List ℕ) → ServesAll how client old new → old.outside.link.left ≡ Some stream
     → IsLawful client stream → NothingHinders new.pass old.outside new.outside → BecomesBy client (last_response client (records_in beginning stream)) how old.outside new.outside ⊎ LacksMemory how
 completes how client old new stream serves had lawful none = completes-by client old new stream had lawful none how serves

@@ -20,7 +20,7 @@ use Rattle.ldm_sender.specs.declared.end.SendEnd.{SendEnd}
 use Rattle.ldm_sender.specs.Acts.{is_whole}
 use Rattle.ldm_sender.specs.Asked.{asked_of}
 use Rattle.ldm_sender.specs.Calls.{MayBeUnmade}
-use Rattle.ldm_sender.specs.Does.{IsPart}
+use Rattle.ldm_session.specs.Part.{IsPart}
 use Rattle.ldm_sender.specs.Ending.{closing_of}
 use Rattle.ldm_sender.proofs.Fronts.{front_of}
 use Rattle.ldm_intake.specs.declared.end.RecvEnd.{RecvEnd}
@@ -42,7 +42,7 @@ use Rattle.ldm_serve.specs.declared.end.ServeEnd.TheVariants as end
 use Rattle.ldm_serve.specs.Client.{Client}
 use Rattle.ldm_serve.specs.Steps.{AreSteps, IsStep, Step, entries_of, response_of}
 use Rattle.ldm_serve.specs.Outlived.{AreOutlived, Outlived, Answered, Narrowed, step_of}
-use Rattle.ldm_serve.specs.Connection.{Answers, Moment, entries_in, messages_in, steps_in}
+use Rattle.ldm_serve.specs.Connection.{Answers, ServingMoment, entries_in, messages_in, steps_in}
 use Rattle.ldm_serve.specs.Becoming.{IsDenied, IsFed, IsNotified, IsReceived, IsRefused, ungated}
 use Rattle.ldm_serve.specs.Serve.{EndsBy, EndsWorn, ServesAll}
 use Rattle.ldm_serve.specs.Kept.{AllPutIn, AllTell, MayHandIn, PutsIn, SendsOnly}
@@ -112,7 +112,7 @@ module _ (client : Client) where
   -- ---- what follows the answers
 
   -- Behind these calls and messages, what a connection does keeps to the rules.
-  record Behind (before : List Entry) (owed : List Sent) (old new : Moment) : Type 0 where
+  record Behind (before : List Entry) (owed : List Sent) (old new : ServingMoment) : Type 0 where
     made : List Entry
     calls : Calls old.pass new.pass made
     puts : AllPutIn client before made
@@ -124,7 +124,7 @@ module _ (client : Client) where
     given : List ℕ
     exchanged : Exchanged old.outside.link sent given new.outside.link
 
-  module _ (before : List Entry) (owed : List Sent) (old new : Moment) (by : old.pass.actor ≡ client.actor) where
+  module _ (before : List Entry) (owed : List Sent) (old new : ServingMoment) (by : old.pass.actor ≡ client.actor) where
     nothing : Calls old.pass new.pass [] → new.outside.link ≡ old.outside.link → Behind before owed old new
     nothing calls link = record {
       made = [];
@@ -141,7 +141,7 @@ module _ (client : Client) where
 
     still : new ≡ old → Behind before owed old new
     still same =
-        nothing (subst (λ (moment : Moment). Calls old.pass moment.pass []) (sym same) (calls_none old.pass)) (ap (λ (moment : Moment). moment.outside.link) same)
+        nothing (subst (λ (moment : ServingMoment). Calls old.pass moment.pass []) (sym same) (calls_none old.pass)) (ap (λ (moment : ServingMoment). moment.outside.link) same)
 
     fed : (why : SendEnd) (next : Responded) (ahead : List ℕ) → IsFed why next client ahead old new → Behind before owed old new
     fed why (responded.Feeds ask) ahead is =
@@ -216,7 +216,7 @@ module _ (client : Client) where
     denied rule _ is = absurd is
 
     worn : (answers : Answers) (taken : List ℕ) → EndsWorn client answers taken old new → Behind before owed old new
-    worn answers taken ends = nothing ends.runs_out.calls (ap (λ (moment : Moment). moment.outside.link) ends.same)
+    worn answers taken ends = nothing ends.runs_out.calls (ap (λ (moment : ServingMoment). moment.outside.link) ends.same)
 
     bad : (at : ℕ) (answers : Answers) (taken ahead : List ℕ) → EndsBy (end.BadFrame at) client answers taken ahead old new → Behind before owed old new
     bad at answers taken ahead (inl by_record) = refused at (goes_on (response_of client by_record.last)) by_record.last.placed.at by_record.becomes
@@ -237,7 +237,7 @@ module _ (client : Client) where
 
   -- ---- the whole connection
 
-  module _ (why : ServeEnd) (old new : Moment) (serves : ServesAll why client old new) where
+  module _ (why : ServeEnd) (old new : ServingMoment) (serves : ServesAll why client old new) where
     actor_is : serves.between.pass.actor ≡ client.actor
     actor_is = ap (λ (pass : PassView). pass.actor) serves.reaches.calls.same ∙ serves.reaches.by
 
@@ -290,13 +290,13 @@ module _ (client : Client) where
           serves.reaches.exchanged (ap (λ (l : LinkRecord). l.passed) same) (ap (λ (l : LinkRecord). l.left) same);
     }
 
-  pub sends : (why : ServeEnd) (old new : Moment) → ServesAll why client old new → SendsOnly client old.outside.link new.outside.link
+  pub sends : (why : ServeEnd) (old new : ServingMoment) → ServesAll why client old new → SendsOnly client old.outside.link new.outside.link
   sends end.LinkFault old new serves =
-      sends-still end.LinkFault old new serves serves.reaches.sent_part (ap (λ (moment : Moment). moment.outside.link) serves.ends.1)
+      sends-still end.LinkFault old new serves serves.reaches.sent_part (ap (λ (moment : ServingMoment). moment.outside.link) serves.ends.1)
   sends end.Worn old new serves =
-      sends-still end.Worn old new serves serves.reaches.sent_part (ap (λ (moment : Moment). moment.outside.link) serves.ends.same)
+      sends-still end.Worn old new serves serves.reaches.sent_part (ap (λ (moment : ServingMoment). moment.outside.link) serves.ends.same)
   sends end.OutOfMemory old new serves =
-      sends-still end.OutOfMemory old new serves serves.reaches.sent_part (ap (λ (moment : Moment). moment.outside.link) serves.ends.1)
+      sends-still end.OutOfMemory old new serves serves.reaches.sent_part (ap (λ (moment : ServingMoment). moment.outside.link) serves.ends.1)
   sends (end.Feed why) old new serves = sends-then (end.Feed why) old new serves serves.reaches.sent_part
   sends (end.Receive why) old new serves = sends-then (end.Receive why) old new serves serves.reaches.sent_part
   sends (end.Notify why) old new serves = sends-then (end.Notify why) old new serves serves.reaches.sent_part

@@ -19,7 +19,7 @@ use Rattle.ldm_intake.specs.Room.{records_of}
 use Rattle.ldm_serve.specs.declared.end.ServeEnd.TheVariants as end
 use Rattle.ldm_serve.specs.Client.{Client}
 use Rattle.ldm_serve.specs.Complete.{IsCall, IsLawful, IsLawfulBy, IsTaken, Meets, is_outlived_by, last_response}
-use Rattle.ldm_serve.specs.Connection.{Moment}
+use Rattle.ldm_serve.specs.Connection.{ServingMoment}
 use Rattle.ldm_serve.specs.Respond.{respond, to_call, to_short}
 use Rattle.ldm_serve.specs.Response.{Response}
 use Rattle.ldm_serve.specs.ServingView.{beginning}
@@ -92,7 +92,7 @@ module _ (client : Client) (again : (m : Sent) → Fits m → read_as (kind_of m
 
 -- ---- a connection whose peer sends nothing
 
-abbrev at_first : Client → Moment
+abbrev at_first : Client → ServingMoment
 at_first client = record {
   pass = record { queue = None; arena = client.arena; slots = 0; passes = 0; actor = client.actor; seen = [] };
   outside = record {

@@ -29,7 +29,7 @@ use Rattle.ldm_notify.specs.Notifying as notifying
 use Rattle.ldm_notify.specs.Notifies.{Notifies}
 use Rattle.ldm_notify.specs.Turn as notify_turn
 use Rattle.ldm_serve.specs.Client.{Client}
-use Rattle.ldm_serve.specs.Connection.{Moment}
+use Rattle.ldm_serve.specs.Connection.{ServingMoment}
 use Rattle.ldm_serve.specs.Becoming.{Narrows}
 
 written_none : (written : Option (List ℕ)) → option_map (λ (before : List ℕ). before ++ []) written ≡ written
@@ -37,7 +37,7 @@ written_none None = refl
 written_none (Some before) = ap (λ (x : List ℕ). Some x) (append-nil before)
 
 -- It was answered so, and nothing else was done.
-narrows : (client : Client) (class : ClassSpec) (told : ClassSpec → List Sent) (old new : Moment) (fewer : ClassSpec) (at : ℕ)
+narrows : (client : Client) (class : ClassSpec) (told : ClassSpec → List Sent) (old new : ServingMoment) (fewer : ClassSpec) (at : ℕ)
     → reduce (rules_for false client.rules) client.host class ≡ Fewer fewer
     → (made : List Entry) → Calls old.pass new.pass made → made ≡ []
     → (bytes : List ℕ) (given : List ℕ) → Exchanged old.outside.link bytes given new.outside.link → bytes ≡ records_of (told fewer) → given ≡ []
@@ -72,7 +72,7 @@ narrow_feeding-is fewer fed answered may =
     ∙ ap (λ (turns : List feed_turn.Turn). make (Reclassed fewer) turns fed.last) none.0
     ∙ ap (λ (last : feeding.Last). make (Reclassed fewer) [] last) none.1
 
-pub feeding-narrows : (client : Client) (ask : Feedme) (ahead : List ℕ) (old new : Moment)
+pub feeding-narrows : (client : Client) (ask : Feedme) (ahead : List ℕ) (old new : ServingMoment)
     → Feeds send.Reclassed (asked_of client.host client.rules ask) ahead old.pass new.pass old.outside new.outside
     → Narrows client ask.class (λ fewer. sent.FeedmeReply ask.xid (class_answer.Reclass fewer) ∷ []) old new
 feeding-narrows client ask ahead old new feeds =
@@ -109,7 +109,7 @@ narrow_notifying-is fewer told answered may =
     ∙ ap (λ (turns : List notify_turn.Turn). make (Reclassed fewer) turns told.last) none.0
     ∙ ap (λ (last : notifying.Last). make (Reclassed fewer) [] last) none.1
 
-pub notifying-narrows : (client : Client) (ask : Notifyme) (old new : Moment)
+pub notifying-narrows : (client : Client) (ask : Notifyme) (old new : ServingMoment)
     → Notifies notified.Reclassed (notifying.asked_of client.host client.rules ask) old.pass new.pass old.outside new.outside
     → Narrows client ask.class (λ fewer. sent.NotifymeReply ask.xid (class_answer.Reclass fewer) ∷ []) old new
 notifying-narrows client ask old new notifies =

@@ -18,12 +18,12 @@ use Rattle.ldm_shared.proofs.Made.{calls_trans}
 use Rattle.ldm_session.specs.Exchange.{AnsweredAll, Exchanged}
 use Rattle.ldm_session.specs.Gathering.{Breaks, MovesOn}
 use Rattle.ldm_session.proofs.CallerLemmas.{AnsweredAll-then, Exchanged-front, Exchanged-nothing, Exchanged-sent, Exchanged-then_sent}
-use Rattle.ldm_sender.specs.Does.{IsPart}
+use Rattle.ldm_session.specs.Part.{IsPart}
 use Rattle.ldm_intake.specs.Room.{records_of}
 use Rattle.ldm_serve.specs.Responds.{stands}
 use Rattle.ldm_serve.specs.Client.{Client}
 use Rattle.ldm_serve.specs.Steps.{Does, Step, entries_of, instants_of, messages_of, placed_of}
-use Rattle.ldm_serve.specs.Connection.{Answers, Moment, Reaches, entries_in, messages_in, placed_in, steps_in}
+use Rattle.ldm_serve.specs.Connection.{Answers, ServingMoment, Reaches, entries_in, messages_in, placed_in, steps_in}
 use Rattle.ldm_serve.specs.InTurn.{InTurn}
 use Rattle.ldm_serve.specs.Outlived.{Outlived}
 use Rattle.ldm_serve.specs.Rounds.{ReadsOn, outliving}
@@ -105,7 +105,7 @@ same-actor old new same = ap (λ (p : PassView). p.actor) same
 
 -- ---- a moment, and a later one
 
-module _ (client : Client) (begins : Moment) (a b : Answers) (steps : List Step) (messages : List Sent) (instants : List ℕ) (extends : Extends client a b steps messages instants)
+module _ (client : Client) (begins : ServingMoment) (a b : Answers) (steps : List Step) (messages : List Sent) (instants : List ℕ) (extends : Extends client a b steps messages instants)
   where
     pub placed-extended : placed_in b ≡ placed_in a ++ placed_of steps
     placed-extended = ap (λ (xs : List Step). placed_of xs) extends.steps_are ∙ map-append (λ (step : Step). step.placed) (steps_in a) steps
@@ -117,7 +117,7 @@ module _ (client : Client) (begins : Moment) (a b : Answers) (steps : List Step)
     records-extended = ap records_of extends.messages_are ∙ flat_map-append (λ (m : Sent). record_of (written m)) (messages_in client a) messages
 
     -- with more answers
-    pub reaches-more : (all whole : Bool) (taken ahead more rest : List ℕ) (now new : Moment) → Reaches true true client a taken ahead begins now
+    pub reaches-more : (all whole : Bool) (taken ahead more rest : List ℕ) (now new : ServingMoment) → Reaches true true client a taken ahead begins now
         → IsPart all (placed_in a ++ placed_of steps) (records_in beginning more) → taken ++ ahead ≡ more ++ rest
         → Calls now.pass new.pass (entries_of steps) → AnsweredAll instants now.outside.clock new.outside.clock
         → PutsOut whole (records_of messages) now.outside.link new.outside.link
@@ -173,8 +173,8 @@ records-behind p taken more is =
 
 -- ---- steps were done, and what they owe was sent
 
-module _ (client : Client) (begins : Moment) (p : Position) (bytes : List ℕ) (now : Moment) (here : ReadsOn client begins p bytes now) where
-  pub reaches-steps : (all whole : Bool) (b : Answers) (steps : List Step) (more rest out : List ℕ) (new : Moment)
+module _ (client : Client) (begins : ServingMoment) (p : Position) (bytes : List ℕ) (now : ServingMoment) (here : ReadsOn client begins p bytes now) where
+  pub reaches-steps : (all whole : Bool) (b : Answers) (steps : List Step) (more rest out : List ℕ) (new : ServingMoment)
       → Extends client (outliving here.outlived) b steps (messages_of steps) (instants_of client steps)
       → Does client steps (stands now.pass now.outside.clock []) (stands new.pass new.outside.clock out)
       → more ++ rest ≡ bytes → IsPart all (placed_of steps) (records_in p more)

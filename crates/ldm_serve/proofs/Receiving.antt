@@ -11,7 +11,7 @@ use Rattle.ldm_session.proofs.CallerLemmas.{Exchanged-nothing}
 use Rattle.ldm_downstream.specs.declared.limits.TheConstants.{LONGEST_PIECE}
 use Rattle.ldm_serve.specs.declared.end.ServeEnd.TheVariants as end
 use Rattle.ldm_serve.specs.Client.{Client}
-use Rattle.ldm_serve.specs.Connection.{Moment}
+use Rattle.ldm_serve.specs.Connection.{ServingMoment}
 use Rattle.ldm_serve.specs.Filling.{Fills}
 use Rattle.ldm_serve.specs.Responds.{Standing, stands}
 use Rattle.ldm_serve.specs.Rounds.{IsServed, ReadsOn, end_at}
@@ -52,7 +52,7 @@ still p q bytes is none =
     let none_came : p.came + 0 ≡ p.came = omega arith in
     is ∙ ap (stands-behind p) none ∙ ap (λ (n : ℕ). record { reading = p.reading; begins = p.begins; came = n }) none_came
 
-module _ (client : Client) (room : ℕ) (p q : Position) (now : Moment) (link : LinkRecord) where
+module _ (client : Client) (room : ℕ) (p q : Position) (now : ServingMoment) (link : LinkRecord) where
   -- some bytes came, and no record is complete behind them
   module _ (n : ℕ) (by : now.pass.actor ≡ client.actor) (sound : is_faulty p.reading ≡ false) (came : Fills (Bytes n) room p q now.outside.link link) where
     not-whole : is_whole (after p.reading came.bytes) ≡ false
@@ -82,7 +82,7 @@ module _ (client : Client) (room : ℕ) (p q : Position) (now : Moment) (link : 
         [] (sym (ap (λ (k : ℕ). take k (drop (length bytes) bytes)) all)))
         refl
 
-    pub filled-reads : (begins : Moment) → ReadsOn client begins p [] now → ReadsOn client begins q [] (linked now link)
+    pub filled-reads : (begins : ServingMoment) → ReadsOn client begins p [] now → ReadsOn client begins q [] (linked now link)
     filled-reads begins here =
         let bytes = came.bytes in
         let given = came.receives.came in
@@ -99,14 +99,14 @@ module _ (client : Client) (room : ℕ) (p q : Position) (now : Moment) (link : 
         (on-reads client begins p bytes (linked now link) ahead true [] (linked now link) none refl refl refl q (goes-on (stands now.pass now.outside.clock []) by))
 
   -- the stream ended
-  pub filled-ended : Fills End room p q now.outside.link link → (begins : Moment) → ReadsOn client begins p [] now → IsServed (end_at q) client begins (linked now link)
+  pub filled-ended : Fills End room p q now.outside.link link → (begins : ServingMoment) → ReadsOn client begins p [] now → IsServed (end_at q) client begins (linked now link)
   filled-ended came begins here =
       let none = came.receives.came in
       subst (λ (v : Position). IsServed (end_at v) client begins (linked now link)) (sym (still p q came.bytes came.hand_is none.0))
       (ended-served client begins p now here [] link came.receives.faults came.receives.ends none.1 came.receives.unclosed)
 
   -- the link failed
-  pub filled-failed : Fills Failed room p q now.outside.link link → (begins : Moment) → ReadsOn client begins p [] now → IsServed end.LinkFault client begins (linked now link)
+  pub filled-failed : Fills Failed room p q now.outside.link link → (begins : ServingMoment) → ReadsOn client begins p [] now → IsServed end.LinkFault client begins (linked now link)
   filled-failed came begins here =
       let none = came.receives.came in
       failed-served client begins p now here [] link came.receives.faults came.receives.ends none.1 came.receives.unclosed

@@ -25,7 +25,7 @@ use Rattle.ldm_serve.specs.Steps.{Step, placed_of, response_of}
 use Rattle.ldm_serve.specs.Turns.{AnswersAll, RunsOutAt}
 use Rattle.ldm_serve.specs.Served.{BreaksOff, GoesOn, IsOver, IsTooLong, IsWorn, Serves}
 use Rattle.ldm_serve.specs.Outlived.{IsNarrowedTo, Narrowed, Outlived, narrower}
-use Rattle.ldm_serve.specs.Connection.{Answers, Moment, Reaches, moment_of, placed_in}
+use Rattle.ldm_serve.specs.Connection.{Answers, ServingMoment, Reaches, moment_of, placed_in}
 use Rattle.ldm_serve.specs.Becoming.{Becomes, NarrowsBy}
 use Rattle.ldm_serve.specs.Serve.{EndsByRecord, LeavesLink, ServesAll}
 use Rattle.ldm_serve.specs.Reading.{EndsAt}
@@ -38,7 +38,7 @@ use Rattle.ldm_serve.proofs.Reaching.{PutsOut, came-behind, counts-link, counts-
 -- ---- ends
 
 -- the link failed
-pub fault-served : (client : Client) (begins now : Moment) (answers : Answers) (taken ahead : List ℕ) → Reaches true false client answers taken ahead begins now
+pub fault-served : (client : Client) (begins now : ServingMoment) (answers : Answers) (taken ahead : List ℕ) → Reaches true false client answers taken ahead begins now
     → length answers.last ≤ 1 → Rose begins.outside.link.faults now.outside.link.faults → IsNotClosed now.outside.link → KeepsFaults begins.outside now.outside
     → IsServed end.LinkFault client begins now
 fault-served client begins now answers taken ahead reaches few rose unclosed counts = record {
@@ -47,11 +47,11 @@ fault-served client begins now answers taken ahead reaches few rose unclosed cou
 }
 
 -- a moment that differs by the pass and the clock
-abbrev pub asked : Moment → PassView → ClockRecord → Moment
+abbrev pub asked : ServingMoment → PassView → ClockRecord → ServingMoment
 asked now pass clock = moment_of pass (record now.outside { clock = clock })
 
-module _ (client : Client) (begins : Moment) (p : Position) (bytes : List ℕ) (now : Moment) (here : ReadsOn client begins p bytes now) where
-  module _ (whole : Bool) (out : List ℕ) (new : Moment) (puts : PutsOut whole out now.outside.link new.outside.link)
+module _ (client : Client) (begins : ServingMoment) (p : Position) (bytes : List ℕ) (now : ServingMoment) (here : ReadsOn client begins p bytes now) where
+  module _ (whole : Bool) (out : List ℕ) (new : ServingMoment) (puts : PutsOut whole out now.outside.link new.outside.link)
       (log : new.outside.log ≡ now.outside.log) (gate : new.outside.gate ≡ now.outside.gate) where
     pub counts-now : KeepsFaults begins.outside new.outside
     counts-now = counts-then begins.outside now.outside new.outside here.counts (counts-link now.outside new.outside puts.faults puts.ends log gate)
@@ -142,7 +142,7 @@ module _ (client : Client) (begins : Moment) (p : Position) (bytes : List ℕ) (
     b-of : Answers
     b-of = outliving (here.outlived ++ answered answers.steps)
 
-    there : Moment
+    there : ServingMoment
     there = asked now between.pass between.clock
 
     reaches-front : Reaches false false client b-of (here.taken ++ bytes) [] begins there
@@ -237,7 +237,7 @@ module _ (client : Client) (begins : Moment) (p : Position) (bytes : List ℕ) (
 -- ---- behind a record that the session does not outlive
 
 -- A part of the class that a response asks for is left to the host, which was told so.
-record IsNarrowed (client : Client) (response : Response) (old new : Moment) : Type 0 where
+record IsNarrowed (client : Client) (response : Response) (old new : ServingMoment) : Type 0 where
   fewer : ClassSpec
   narrowed : IsNarrowedTo client response fewer
   at : ℕ
@@ -247,7 +247,7 @@ record IsNarrowed (client : Client) (response : Response) (old new : Moment) : T
   log : new.outside.log.written ≡ old.outside.log.written
   gate : new.outside.gate ≡ old.outside.gate
 
-narrows-by : (client : Client) (response : Response) (old new : Moment) → NarrowsBy (goes_on response) client old new → IsNarrowed client response old new
+narrows-by : (client : Client) (response : Response) (old new : ServingMoment) → NarrowsBy (goes_on response) client old new → IsNarrowed client response old new
 narrows-by client (Feeds xid class max_hereis) old new by =
     record { fewer = by.fewer; narrowed = by.part; at = by.at; calls = by.calls; exchanged = by.exchanged; clock = by.clock; log = by.log; gate = by.gate }
 narrows-by client (Notifies xid class) old new by =
@@ -259,7 +259,7 @@ narrows-by client (Receives class messages) old new by = absurd by
 narrows-by client (Refuses messages) old new by = absurd by
 narrows-by client (Denies rule messages) old new by = absurd by
 
-module _ (client : Client) (begins now new : Moment) (answers : Answers) (taken rest : List ℕ) (last : Step) (is_last : answers.last ≡ last ∷ [])
+module _ (client : Client) (begins now new : ServingMoment) (answers : Answers) (taken rest : List ℕ) (last : Step) (is_last : answers.last ≡ last ∷ [])
     (reaches : Reaches true true client answers taken rest begins now) (counts : KeepsFaults begins.outside now.outside) (more : KeepsFaults now.outside new.outside)
     (next : Responded) (next_is : next ≡ goes_on (response_of client last)) where
   all-counts : KeepsFaults begins.outside new.outside
@@ -298,7 +298,7 @@ module _ (client : Client) (begins now new : Moment) (answers : Answers) (taken 
     becomes-served end becomes left = record { serves = serves-by end becomes left; counts = all-counts }
 
 -- a part of the class is left to the host, and the next record is read
-pub narrowed-reads : (client : Client) (begins now new : Moment) (before : List Outlived) (taken rest : List ℕ) (last : Step) (p : Position)
+pub narrowed-reads : (client : Client) (begins now new : ServingMoment) (before : List Outlived) (taken rest : List ℕ) (last : Step) (p : Position)
     → Reaches true true client (record { outlived = before; last = last ∷ [] }) taken rest begins now → KeepsFaults begins.outside now.outside → KeepsFaults now.outside new.outside
     → (next : Responded) → next ≡ goes_on (response_of client last) → NarrowsBy next client now new → p ≡ in_hand beginning taken → ReadsOn client begins p rest new
 narrowed-reads client begins now new before taken rest last p reaches counts more next next_is by hand_is =
@@ -319,7 +319,7 @@ narrowed-reads client begins now new before taken rest last p reaches counts mor
 
 -- ---- the bytes up to that record were taken, and what is owed for them was sent
 
-module _ (client : Client) (begins : Moment) (p : Position) (bytes : List ℕ) (now mid new : Moment) (here : ReadsOn client begins p bytes now) (out : List ℕ)
+module _ (client : Client) (begins : ServingMoment) (p : Position) (bytes : List ℕ) (now mid new : ServingMoment) (here : ReadsOn client begins p bytes now) (out : List ℕ)
     (puts : PutsOut true out now.outside.link mid.outside.link) (log : mid.outside.log ≡ now.outside.log) (gate : mid.outside.gate ≡ now.outside.gate)
     (next : Responded) (at : ℕ) (q : Position) (over : IsOver client next at p bytes q (stands now.pass now.outside.clock []) (stands mid.pass mid.outside.clock out))
     (more : KeepsFaults mid.outside new.outside) (actor : ℕ) (same : actor ≡ client.actor) where
@@ -391,19 +391,19 @@ room-behind n p bytes q left room advances is =
 -- ---- an end that was written
 
 -- it came to that one
-pub ends-written : (client : Client) (p : Position) (bytes : List ℕ) (q : Position) (old new : Moment) (written : Option ServeEnd) (why : ServeEnd) → written ≡ Some why
+pub ends-written : (client : Client) (p : Position) (bytes : List ℕ) (q : Position) (old new : ServingMoment) (written : Option ServeEnd) (why : ServeEnd) → written ≡ Some why
     → ((end : ServeEnd) → written ≡ Some end → Takes (Err end) client p bytes q old new) → EndsAt written client p bytes q old new
 ends-written client p bytes q old new None why is takes = absurd (cc is)
 ends-written client p bytes q old new (Some end) why is takes = takes end refl
 
 -- what is behind the bytes that were taken before comes to it
-pub ends-run : (client : Client) (p : Position) (bytes : List ℕ) (first : Position) (all : List ℕ) (q last : Position) (begin old new : Moment) (written : Option ServeEnd)
-    → ((begins : Moment) → ReadsOn client begins first all begin → ReadsOn client begins p bytes old) → EndsAt written client p bytes q old new
+pub ends-run : (client : Client) (p : Position) (bytes : List ℕ) (first : Position) (all : List ℕ) (q last : Position) (begin old new : ServingMoment) (written : Option ServeEnd)
+    → ((begins : ServingMoment) → ReadsOn client begins first all begin → ReadsOn client begins p bytes old) → EndsAt written client p bytes q old new
     → Runs written client first all last begin new
 ends-run client p bytes first all q last begin old new None reads ends = absurd ends
 ends-run client p bytes first all q last begin old new (Some end) reads ends = λ begins here. ends begins (reads begins here)
 
-pub ends-not : (X : Type 0) (client : Client) (p : Position) (bytes : List ℕ) (q : Position) (old new : Moment) (written : Option ServeEnd)
+pub ends-not : (X : Type 0) (client : Client) (p : Position) (bytes : List ℕ) (q : Position) (old new : ServingMoment) (written : Option ServeEnd)
     → EndsAt written client p bytes q old new → IfNone written X
 ends-not X client p bytes q old new None ends = absurd ends
 ends-not X client p bytes q old new (Some end) ends = tt

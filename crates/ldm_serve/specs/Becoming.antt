@@ -28,43 +28,43 @@ use Rattle.ldm_serve.specs.declared.responded.Responded.TheVariants as responded
 use Rattle.ldm_serve.specs.declared.end.ServeEnd.{ServeEnd}
 use Rattle.ldm_serve.specs.declared.end.ServeEnd.TheVariants as end
 use Rattle.ldm_serve.specs.Client.{Client}
-use Rattle.ldm_serve.specs.Connection.{Moment}
+use Rattle.ldm_serve.specs.Connection.{ServingMoment}
 
 -- the outside of a session that asks no gate
 abbrev pub ungated : SessionRecord → SessionRecord
 ungated outside = record { link = outside.link; log = outside.log; clock = outside.clock; gate = no_gate }
 
 -- from now on a feeding, with the bytes behind the request ahead of those that the link gives; it ended so
-abbrev pub IsFed : SendEnd → Responded → Client → List ℕ → (old new : Moment) → Type 0
+abbrev pub IsFed : SendEnd → Responded → Client → List ℕ → (old new : ServingMoment) → Type 0
 IsFed why (responded.Feeds ask) client ahead old new =
     Feeds why (asked_of client.host client.rules ask) ahead old.pass new.pass old.outside new.outside × (why ≡ send.Reclassed → ⊥)
 IsFed why _ client ahead old new = ⊥
 
 -- from now on a notifying, which hears nothing of the peer
-abbrev pub IsNotified : NotifyEnd → Responded → Client → (old new : Moment) → Type 0
+abbrev pub IsNotified : NotifyEnd → Responded → Client → (old new : ServingMoment) → Type 0
 IsNotified why (responded.Notifies ask) client old new =
     Notifies why (notifying.asked_of client.host client.rules ask) old.pass new.pass old.outside new.outside × (why ≡ notified.Reclassed → ⊥)
 IsNotified why _ client old new = ⊥
 
 -- from now on a receiving of those products that the rules let the host push, whose stream begins with the bytes behind the offer
-abbrev pub IsReceived : RecvEnd → Responded → Client → List ℕ → (old new : Moment) → Type 0
+abbrev pub IsReceived : RecvEnd → Responded → Client → List ℕ → (old new : ServingMoment) → Type 0
 IsReceived why (responded.Receives class) client ahead old new =
     ((last : Option (List ℕ)) × ReceivesAll why last (accepting class client.rules client.host) ahead old.pass new.pass (ungated old.outside) (ungated new.outside))
     × (new.outside.gate ≡ old.outside.gate)
 IsReceived why _ client ahead old new = ⊥
 
 -- the record is refused, and nothing else is done
-abbrev pub IsRefused : ℕ → Responded → ℕ → (old new : Moment) → Type 0
+abbrev pub IsRefused : ℕ → Responded → ℕ → (old new : ServingMoment) → Type 0
 IsRefused place responded.Refused at old new = (place ≡ at) × (new ≡ old)
 IsRefused place _ at old new = ⊥
 
 -- nothing of what it offers is accepted, and nothing else is done
-abbrev pub IsDenied : ℕ → Responded → (old new : Moment) → Type 0
+abbrev pub IsDenied : ℕ → Responded → (old new : ServingMoment) → Type 0
 IsDenied rule (responded.Denied first) old new = (rule ≡ first) × (new ≡ old)
 IsDenied rule _ old new = ⊥
 
 -- How a connection ends by a record that begins there and goes on so, with these bytes behind it.
-abbrev pub Becomes : ServeEnd → Responded → ℕ → Client → List ℕ → (old new : Moment) → Type 0
+abbrev pub Becomes : ServeEnd → Responded → ℕ → Client → List ℕ → (old new : ServingMoment) → Type 0
 Becomes (end.Feed why) next at client ahead old new = IsFed why next client ahead old new
 Becomes (end.Notify why) next at client ahead old new = IsNotified why next client old new
 Becomes (end.Receive why) next at client ahead old new = IsReceived why next client ahead old new
@@ -78,7 +78,7 @@ Becomes end.Worn next at client ahead old new = ⊥
 Becomes end.OutOfMemory next at client ahead old new = ⊥
 
 -- A part of a class is left to the host: it was told that part, and then the clock was asked. Nothing else was done.
-pub record Narrows (client : Client) (class : ClassSpec) (told : ClassSpec → List Sent) (old new : Moment) : Type 0 where
+pub record Narrows (client : Client) (class : ClassSpec) (told : ClassSpec → List Sent) (old new : ServingMoment) : Type 0 where
   pub fewer : ClassSpec
   pub part : reduce (rules_for false client.rules) client.host class ≡ Fewer fewer
   pub at : ℕ
@@ -88,7 +88,7 @@ pub record Narrows (client : Client) (class : ClassSpec) (told : ClassSpec → L
   pub log : new.outside.log.written ≡ old.outside.log.written
   pub gate : new.outside.gate ≡ old.outside.gate
 
-abbrev pub NarrowsBy : Responded → Client → (old new : Moment) → Type 0
+abbrev pub NarrowsBy : Responded → Client → (old new : ServingMoment) → Type 0
 NarrowsBy (responded.Feeds ask) client old new =
     Narrows client ask.class (λ fewer. sent.FeedmeReply ask.xid (class_answer.Reclass fewer) ∷ []) old new
 NarrowsBy (responded.Notifies ask) client old new =
@@ -96,6 +96,6 @@ NarrowsBy (responded.Notifies ask) client old new =
 NarrowsBy _ client old new = ⊥
 
 -- how a connection goes on behind that record: to that end, or by reading the next record
-abbrev pub Goes : Option ServeEnd → Responded → ℕ → Client → List ℕ → (old new : Moment) → Type 0
+abbrev pub Goes : Option ServeEnd → Responded → ℕ → Client → List ℕ → (old new : ServingMoment) → Type 0
 Goes (Some end) next at client ahead old new = Becomes end next at client ahead old new
 Goes None next at client ahead old new = NarrowsBy next client old new

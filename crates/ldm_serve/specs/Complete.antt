@@ -26,8 +26,8 @@ use Rattle.ldm_serve.specs.declared.end.ServeEnd.{ServeEnd}
 use Rattle.ldm_serve.specs.declared.end.ServeEnd.TheVariants as end
 use Rattle.ldm_serve.specs.Client.{Client}
 use Rattle.ldm_serve.specs.Respond.{respond, to_call}
-use Rattle.ldm_serve.specs.Connection.{Moment}
-use Rattle.ldm_serve.specs.Serve.{HasEnded, ServesAll}
+use Rattle.ldm_serve.specs.Connection.{ServingMoment}
+use Rattle.ldm_serve.specs.Serve.{ServingHasEnded, ServesAll}
 use Rattle.ldm_serve.specs.Response.{Response, Says, Puts, Figures, Feeds, Receives, Notifies, Refuses, Denies}
 use Rattle.ldm_serve.specs.ServingView.{beginning}
 
@@ -110,8 +110,8 @@ NotifiesOn notified.OutOfMemory before after = ⊥
 
 -- How a receiving ends: where the peer ended the stream, or by what stands in it.
 abbrev pub ReceivesOn : RecvEnd → (before after : SessionRecord) → Type 0
-ReceivesOn received.Ended before after = HasEnded before after
-ReceivesOn (received.Truncated at) before after = HasEnded before after
+ReceivesOn received.Ended before after = ServingHasEnded before after
+ReceivesOn (received.Truncated at) before after = ServingHasEnded before after
 ReceivesOn (received.BadFrame at) before after = Unit {0}
 ReceivesOn (received.Refused answer) before after = Unit {0}
 ReceivesOn received.StreamLimit before after = Unit {0}
@@ -135,7 +135,7 @@ NotifiesTo (Fewer fewer) why before after = ⊥
 -- The connection became what that response says, and ended so; or it was denied; or the peer ended the stream behind a
 -- record.
 abbrev pub BecomesBy : Client → Option Response → ServeEnd → (before after : SessionRecord) → Type 0
-BecomesBy client None how before after = (how ≡ end.Ended) × HasEnded before after
+BecomesBy client None how before after = (how ≡ end.Ended) × ServingHasEnded before after
 BecomesBy client (Some (Feeds xid class max_hereis)) how before after =
     (why : SendEnd) × (how ≡ end.Feed why) × FeedsTo (reduce (rules_for false client.rules) client.host class) why before after
 BecomesBy client (Some (Notifies xid class)) how before after =
@@ -172,8 +172,8 @@ pub record IsCall (client : Client) (call : Sent) : Type 0 where
 
 -- A connection that ended so meets the premises of the law.
 pub record Meets (how : ServeEnd) (client : Client) (stream : List ℕ) : Type 0 where
-  pub old : Moment
-  pub new : Moment
+  pub old : ServingMoment
+  pub new : ServingMoment
   pub serves : ServesAll how client old new
   pub had : old.outside.link.left ≡ Some stream
   pub lawful : IsLawful client stream

@@ -6,7 +6,7 @@ use Rattle.ldm_relay.specs.Sent.{Sent}
 use Rattle.ldm_rpc.specs.Streams.{Placed, records_in}
 use Rattle.ldm_shared.specs.Passes.{PassView, Calls}
 use Rattle.ldm_session.specs.Exchange.{Exchanged, AnsweredAll}
-use Rattle.ldm_sender.specs.Does.{IsPart}
+use Rattle.ldm_session.specs.Part.{IsPart}
 use Rattle.ldm_intake.specs.Room.{records_of}
 use Rattle.ldm_serve.specs.Client.{Client}
 use Rattle.ldm_serve.specs.InTurn.{InTurn}
@@ -15,11 +15,11 @@ use Rattle.ldm_serve.specs.Outlived.{Outlived, AreOutlived, instants_for_all, me
 use Rattle.ldm_serve.specs.ServingView.{beginning}
 
 -- What a connection finds or leaves: its pass, and what its outside tells.
-pub record Moment : Type 0 where
+pub record ServingMoment : Type 0 where
   pub pass : PassView
   pub outside : SessionRecord
 
-abbrev pub moment_of : PassView → SessionRecord → Moment
+abbrev pub moment_of : PassView → SessionRecord → ServingMoment
 moment_of pass outside = record { pass = pass; outside = outside }
 
 -- The records that were answered: those that the session outlived, and behind them the last one, where it is known that the session does not
@@ -52,7 +52,7 @@ instants_in client answers = instants_for_all client answers.outlived ++ instant
 -- that the bytes complete: to all of them, or, where something broke off, to the first ones. Just their calls were made, the clock was asked
 -- just for them, and what the peer is owed for them was sent: all of it, or a front; in turn, so that no more came before what was owed by then
 -- was sent. Nothing was logged, and the gate was not asked.
-pub record Reaches (all whole : Bool) (client : Client) (answers : Answers) (taken ahead : List ℕ) (old now : Moment) : Type 0 where
+pub record Reaches (all whole : Bool) (client : Client) (answers : Answers) (taken ahead : List ℕ) (old now : ServingMoment) : Type 0 where
   pub by : old.pass.actor ≡ client.actor
   pub outlived : AreOutlived client answers.outlived
   pub last : AreSteps client answers.last

@@ -8,7 +8,7 @@ use Rattle.ldm_serve.specs.declared.taking.Connection.{Connection}
 use Rattle.ldm_serve.specs.declared.taking.Stop.{Stop}
 use Rattle.ldm_serve.specs.declared.taking.Stop.TheVariants as stop
 use Rattle.ldm_serve.specs.Client.{Client}
-use Rattle.ldm_serve.specs.Connection.{Moment}
+use Rattle.ldm_serve.specs.Connection.{ServingMoment}
 use Rattle.ldm_serve.specs.Rounds.{HasRoom, Takes}
 
 -- Between two records: so many bytes can be taken, what is owed was sent, the next record is read, and it came to no end.
@@ -28,11 +28,11 @@ end_by stop.OutOfMemory written = Some end.OutOfMemory
 end_by stop.Ended written = written
 
 -- there is an end, to which it comes
-abbrev pub EndsAt : Option ServeEnd → Client → Position → List ℕ → Position → (old new : Moment) → Type 0
+abbrev pub EndsAt : Option ServeEnd → Client → Position → List ℕ → Position → (old new : ServingMoment) → Type 0
 EndsAt None client p bytes q old new = ⊥
 EndsAt (Some why) client p bytes q old new = Takes (Err why) client p bytes q old new
 
 -- so many of the bytes were taken, or it came to an end
-abbrev pub TakesTo : Result ℕ Stop → Option ServeEnd → Client → Position → List ℕ → Position → (old new : Moment) → Type 0
+abbrev pub TakesTo : Result ℕ Stop → Option ServeEnd → Client → Position → List ℕ → Position → (old new : ServingMoment) → Type 0
 TakesTo (Ok n) written client p bytes q old new = Takes (Ok n) client p bytes q old new
 TakesTo (Err stop) written client p bytes q old new = EndsAt (end_by stop written) client p bytes q old new

@@ -10,7 +10,7 @@ use Rattle.ldm_serve.specs.declared.end.ServeEnd.{ServeEnd}
 use Rattle.ldm_serve.specs.declared.end.ServeEnd.TheVariants as end
 use Rattle.ldm_serve.specs.Client.{Client}
 use Rattle.ldm_serve.specs.Outlived.{Outlived}
-use Rattle.ldm_serve.specs.Connection.{Answers, Moment, Reaches}
+use Rattle.ldm_serve.specs.Connection.{Answers, ServingMoment, Reaches}
 use Rattle.ldm_serve.specs.Serve.{ServesAll}
 use Rattle.ldm_serve.specs.ServingView.{beginning}
 
@@ -19,7 +19,7 @@ abbrev pub outliving : List Outlived → Answers
 outliving outlived = record { outlived = outlived; last = [] }
 
 -- A connection came to here and goes on, with these bytes ahead: the session outlived each record, and all was sent that the peer is owed.
-pub record ReadsOn (client : Client) (begins : Moment) (p : Position) (ahead : List ℕ) (now : Moment) : Type 0 where
+pub record ReadsOn (client : Client) (begins : ServingMoment) (p : Position) (ahead : List ℕ) (now : ServingMoment) : Type 0 where
   pub outlived : List Outlived
   pub taken : List ℕ
   pub reaches : Reaches true true client (outliving outlived) taken ahead begins now
@@ -27,19 +27,19 @@ pub record ReadsOn (client : Client) (begins : Moment) (p : Position) (ahead : L
   pub counts : KeepsFaults begins.outside now.outside
 
 -- it ended so
-pub record IsServed (end : ServeEnd) (client : Client) (begins now : Moment) : Type 0 where
+pub record IsServed (end : ServeEnd) (client : Client) (begins now : ServingMoment) : Type 0 where
   pub serves : ServesAll end client begins now
   pub counts : KeepsFaults begins.outside now.outside
 
 -- A connection that came with these bytes ahead to the old moment, comes to the new one: so many of them were taken, or it ended.
-abbrev pub Takes : Result ℕ ServeEnd → Client → Position → List ℕ → Position → (old new : Moment) → Type 0
-Takes (Ok n) client p bytes q old new = (begins : Moment) → ReadsOn client begins p bytes old → ReadsOn client begins q (drop n bytes) new
-Takes (Err end) client p bytes q old new = (begins : Moment) → ReadsOn client begins p bytes old → IsServed end client begins new
+abbrev pub Takes : Result ℕ ServeEnd → Client → Position → List ℕ → Position → (old new : ServingMoment) → Type 0
+Takes (Ok n) client p bytes q old new = (begins : ServingMoment) → ReadsOn client begins p bytes old → ReadsOn client begins q (drop n bytes) new
+Takes (Err end) client p bytes q old new = (begins : ServingMoment) → ReadsOn client begins p bytes old → IsServed end client begins new
 
 -- the same, where all of them were taken
-abbrev pub Runs : Option ServeEnd → Client → Position → List ℕ → Position → (old new : Moment) → Type 0
-Runs None client p bytes q old new = (begins : Moment) → ReadsOn client begins p bytes old → ReadsOn client begins q [] new
-Runs (Some end) client p bytes q old new = (begins : Moment) → ReadsOn client begins p bytes old → IsServed end client begins new
+abbrev pub Runs : Option ServeEnd → Client → Position → List ℕ → Position → (old new : ServingMoment) → Type 0
+Runs None client p bytes q old new = (begins : ServingMoment) → ReadsOn client begins p bytes old → ReadsOn client begins q [] new
+Runs (Some end) client p bytes q old new = (begins : ServingMoment) → ReadsOn client begins p bytes old → IsServed end client begins new
 
 -- so many bytes can be taken
 pub record HasRoom (p : Position) (count : ℕ) : Type 0 where

@@ -14,32 +14,32 @@ use Rattle.ldm_serve.specs.declared.end.ServeEnd.{ServeEnd}
 use Rattle.ldm_serve.specs.declared.end.ServeEnd.TheVariants as end
 use Rattle.ldm_serve.specs.Client.{Client}
 use Rattle.ldm_serve.specs.Steps.{Step, response_of}
-use Rattle.ldm_serve.specs.Connection.{Answers, Moment, Reaches, placed_in}
+use Rattle.ldm_serve.specs.Connection.{Answers, ServingMoment, Reaches, placed_in}
 use Rattle.ldm_serve.specs.Becoming.{Becomes}
 use Rattle.ldm_serve.specs.ServingView.{beginning}
 
 -- The last record that was answered ends the session. No record was begun behind it.
-pub record EndsByRecord (end : ServeEnd) (client : Client) (answers : Answers) (taken ahead : List ℕ) (old new : Moment) : Type 0 where
+pub record EndsByRecord (end : ServeEnd) (client : Client) (answers : Answers) (taken ahead : List ℕ) (old new : ServingMoment) : Type 0 where
   pub last : Step
   pub is_last : answers.last ≡ last ∷ []
   pub edge : is_pending (in_hand beginning taken).reading ≡ false
   pub becomes : Becomes end (goes_on (response_of client last)) last.placed.at client ahead old new
 
 -- The session outlived each record, nobody looked at more bytes, and nothing else was done.
-pub record EndsBetween (answers : Answers) (ahead : List ℕ) (old new : Moment) : Type 0 where
+pub record EndsBetween (answers : Answers) (ahead : List ℕ) (old new : ServingMoment) : Type 0 where
   pub outlived : answers.last ≡ []
   pub none_ahead : ahead ≡ []
   pub same : new ≡ old
 
 -- The record that begins there behind the last one is longer than the largest one. Its bytes are among those that were taken.
-pub record EndsByLength (at : ℕ) (answers : Answers) (taken ahead : List ℕ) (old new : Moment) : Type 0 where
+pub record EndsByLength (at : ℕ) (answers : Answers) (taken ahead : List ℕ) (old new : ServingMoment) : Type 0 where
   pub outlived : answers.last ≡ []
   pub faulty : is_faulty (in_hand beginning taken).reading ≡ true
   pub at_is : at ≡ (in_hand beginning taken).begins
   pub same : new ≡ old
 
 -- The first record behind the last one asks the queue, which can have no call more. For an insertion the clock was asked.
-pub record EndsWorn (client : Client) (answers : Answers) (taken : List ℕ) (old new : Moment) : Type 0 where
+pub record EndsWorn (client : Client) (answers : Answers) (taken : List ℕ) (old new : ServingMoment) : Type 0 where
   pub outlived : answers.last ≡ []
   pub asks : Placed
   pub others : List Placed
@@ -48,7 +48,7 @@ pub record EndsWorn (client : Client) (answers : Answers) (taken : List ℕ) (ol
   pub same : new ≡ record old { pass = new.pass; outside = record old.outside { clock = new.outside.clock } }
 
 -- how a connection ends that came to here
-abbrev pub EndsBy : ServeEnd → Client → Answers → (taken ahead : List ℕ) → (old new : Moment) → Type 0
+abbrev pub EndsBy : ServeEnd → Client → Answers → (taken ahead : List ℕ) → (old new : ServingMoment) → Type 0
 EndsBy (end.Feed why) client answers taken ahead old new = EndsByRecord (end.Feed why) client answers taken ahead old new
 EndsBy (end.Receive why) client answers taken ahead old new = EndsByRecord (end.Receive why) client answers taken ahead old new
 EndsBy (end.Notify why) client answers taken ahead old new = EndsByRecord (end.Notify why) client answers taken ahead old new
@@ -79,13 +79,13 @@ is_whole end.OutOfMemory = false
 is_whole _ = true
 
 -- the stream ended: the link said so, and has nothing left
-abbrev pub HasEnded : (old new : SessionRecord) → Type 0
-HasEnded old new = Rose old.link.ends new.link.ends × IfSome new.link.left (λ rest. rest ≡ [])
+abbrev pub ServingHasEnded : (old new : SessionRecord) → Type 0
+ServingHasEnded old new = Rose old.link.ends new.link.ends × IfSome new.link.left (λ rest. rest ≡ [])
 
 -- why it ended before it became something else
 abbrev pub IsCause : ServeEnd → (old new : SessionRecord) → Type 0
-IsCause end.Ended old new = HasEnded old new
-IsCause (end.Truncated at) old new = HasEnded old new
+IsCause end.Ended old new = ServingHasEnded old new
+IsCause (end.Truncated at) old new = ServingHasEnded old new
 IsCause end.LinkFault old new = Rose old.link.faults new.link.faults
 IsCause _ old new = Unit {0}
 
@@ -96,13 +96,13 @@ LeavesLink (end.Notify why) link = IsLeft (send_end why) link
 LeavesLink _ link = IsNotClosed link
 
 -- A connection was served from its first byte to that end.
-pub record ServesAll (end : ServeEnd) (client : Client) (old new : Moment) : Type 0 where
+pub record ServesAll (end : ServeEnd) (client : Client) (old new : ServingMoment) : Type 0 where
   -- the records that were answered, their bytes, and those behind them
   pub answers : Answers
   pub taken : List ℕ
   pub ahead : List ℕ
   -- where all of them were answered
-  pub between : Moment
+  pub between : ServingMoment
   pub reaches : Reaches (is_all end) (is_whole end) client answers taken ahead old between
   pub counts : KeepsFaults old.outside between.outside
   pub ends : EndsBy end client answers taken ahead between new

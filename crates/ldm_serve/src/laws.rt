@@ -7,7 +7,7 @@ ghost use Rattle.ldm_serve.specs.declared.end.ServeEnd.{ServeEnd};
 ghost use Rattle.ldm_serve.specs.Client.{Client};
 ghost use Rattle.ldm_serve.specs.Steps.{AreSteps};
 ghost use Rattle.ldm_serve.specs.Outlived.{AreOutlived};
-ghost use Rattle.ldm_serve.specs.Connection.{Answers, Moment, messages_in};
+ghost use Rattle.ldm_serve.specs.Connection.{Answers, ServingMoment, messages_in};
 ghost use Rattle.ldm_rpc.specs.Streams.{records_in};
 ghost use Rattle.ldm_relay.specs.Sent.{Sent};
 ghost use Rattle.ldm_session.specs.declared.limits.TheConstants.{LONGEST_STREAM};
@@ -26,12 +26,12 @@ use ldm_rpc::records_are_read;
 /// to the last. It does nothing.
 pub fn serving_keeps_the_rules()
     // What the calls of the connection put into the queue are products for which the ACCEPT verdict of the host is Yes.
-    ensures puts_in { (end : ServeEnd) (client : Client) (old new : Moment) (made : List Entry)
+    ensures puts_in { (end : ServeEnd) (client : Client) (old new : ServingMoment) (made : List Entry)
         → ServesAll end client old new →
         Calls old.pass new.pass made → AllPutIn client [] made }
     // Each product that is sent, in part or whole, and each that is told of, is one for which the ALLOW verdict of the
     // host is Yes.
-    ensures sends { (end : ServeEnd) (client : Client) (old new : Moment) → ServesAll end client old new →
+    ensures sends { (end : ServeEnd) (client : Client) (old new : ServingMoment) → ServesAll end client old new →
         SendsOnly client old.outside.link new.outside.link }
     // Before the connection becomes a feeding or a session of notices, nothing of any product is sent.
     ensures answers { (client : Client) (answers : Answers) → AreOutlived client answers.outlived
@@ -46,7 +46,7 @@ pub fn serving_keeps_the_rules()
 /// lawful, the first record behind which none is read decides what the connection becomes, and that ends by the rules,
 /// the gate or the peer; where there is none such, the peer ends it. Or there is no memory.
 pub fn lawful_connections_are_served()
-    ensures served { (end : ServeEnd) (client : Client) (old new : Moment) (stream : List ℕ) → ServesAll end client old new →
+    ensures served { (end : ServeEnd) (client : Client) (old new : ServingMoment) (stream : List ℕ) → ServesAll end client old new →
         old.outside.link.left ≡ Some stream → IsLawful client stream → NothingHinders new.pass old.outside new.outside
         → BecomesBy client (last_response client (records_in beginning stream)) end old.outside new.outside
         ⊎ LacksMemory end }

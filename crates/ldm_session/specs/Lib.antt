@@ -6,3 +6,4 @@ pub mod Hearing
 pub mod Idle
 pub mod Looking
 pub mod Owed
+pub mod Part

@@ -12,14 +12,14 @@ use Rattle.ldm_tools.specs.declared.mon.MonFault.TheVariants.{Unreached, NoStat,
 use Rattle.ldm_tools.specs.declared.no_reply.NoReply.{NoReply}
 use Rattle.ldm_tools.specs.declared.no_reply.NoReply.TheVariants.{BadFrame, StreamLimit, LinkFault, OutOfMemory}
 use Rattle.ldm_tools.specs.Asking.{AsksPeer}
-use Rattle.ldm_tools.specs.Mon.{KeepsCounts, MonEnds, MonRecord, Mons, stat_call, stat_line, status_of_mon}
+use Rattle.ldm_tools.specs.Mon.{KeepsMonCounts, MonEnds, MonRecord, Mons, stat_call, stat_line, status_of_mon}
 use Rattle.ldm_tools.specs.Replies.{IsStatReply}
-use Rattle.ldm_tools.specs.Every.{AreAsked, Asking, AsksOn, IsDue, Moment, lines_of, moment_of}
+use Rattle.ldm_tools.specs.Every.{AreAsked, Asking, AsksOn, IsDue, AskingMoment, lines_of, moment_of}
 
-pub counts_same : (mon : MonRecord) → KeepsCounts mon mon
+pub counts_same : (mon : MonRecord) → KeepsMonCounts mon mon
 counts_same mon = record { net = omega arith; ended = omega arith; failed = omega arith; sink = omega arith; log = omega arith }
 
-pub counts_then : (old mid new : MonRecord) → KeepsCounts old mid → KeepsCounts mid new → KeepsCounts old new
+pub counts_then : (old mid new : MonRecord) → KeepsMonCounts old mid → KeepsMonCounts mid new → KeepsMonCounts old new
 counts_then old mid new one other = record {
   net = (let a = one.net in let b = other.net in omega arith);
   ended = (let a = one.ended in let b = other.ended in omega arith);
@@ -64,7 +64,7 @@ goes_well peer old new mons = by_end mons.ending mons.reports.0 peer old new mon
 -- ---- the askings so far
 
 -- The peer was asked so far, each time well, and at this instant, which the clock told since, one more asking is due.
-pub record GoesOn (peer : Asked) (seconds instant : ℕ) (old now : Moment) : Type 0 where
+pub record GoesOn (peer : Asked) (seconds instant : ℕ) (old now : AskingMoment) : Type 0 where
   pub askings : List Asking
   pub clock : ClockRecord
   pub each : AreAsked peer seconds askings old (moment_of now.mon clock)
@@ -72,7 +72,7 @@ pub record GoesOn (peer : Asked) (seconds instant : ℕ) (old now : Moment) : Ty
   pub due : IsDue seconds askings instant
   pub told : Answers instant clock now.clock
 
-module _ (peer : Asked) (seconds instant : ℕ) (old : Moment) where
+module _ (peer : Asked) (seconds instant : ℕ) (old : AskingMoment) where
   pub goes_first : (now : ClockRecord) → Answers instant old.clock now → GoesOn peer seconds instant old (moment_of old.mon now)
   goes_first now told = record {
     askings = [];
@@ -84,7 +84,7 @@ module _ (peer : Asked) (seconds instant : ℕ) (old : Moment) where
   }
 
   -- the asking that is due did not go well
-  pub fails_at : (mid : Moment) (code : ℕ) (mon : MonRecord) → GoesOn peer seconds instant old mid → ¬ (code ≡ 0) → Mons code peer mid.mon mon
+  pub fails_at : (mid : AskingMoment) (code : ℕ) (mon : MonRecord) → GoesOn peer seconds instant old mid → ¬ (code ≡ 0) → Mons code peer mid.mon mon
       → AsksOn code peer seconds old (moment_of mon mid.clock)
   fails_at mid code mon goes failed mons = record {
     askings = goes.askings;
@@ -96,7 +96,7 @@ module _ (peer : Asked) (seconds instant : ℕ) (old : Moment) where
     ends = inl (record { due = goes.due; failed = failed; asks = mons });
   }
 
-  module _ (mid : Moment) (mon : MonRecord) (goes : GoesOn peer seconds instant old mid) (well : GoesWell peer mid.mon mon) where
+  module _ (mid : AskingMoment) (mon : MonRecord) (goes : GoesOn peer seconds instant old mid) (well : GoesWell peer mid.mon mon) where
     abbrev latest : Asking
     latest = record { instant = instant; stat = well.stat }
 

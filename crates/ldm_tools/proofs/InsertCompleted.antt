@@ -21,7 +21,7 @@ use Rattle.ldm_tools.specs.declared.fault.InsertFault.TheVariants as fault
 use Rattle.ldm_tools.specs.Files.{BreaksLine, Handles, Puts, Step, Put, Takes, TooLong}
 use Rattle.ldm_tools.specs.Inserting.{FileAt, Inserting}
 use Rattle.ldm_tools.specs.Inserts.{status_of}
-use Rattle.ldm_tools.specs.Moments.{Hands, Moment, Outside, hands_of, moment}
+use Rattle.ldm_tools.specs.Moments.{Hands, InsertMoment, Outside, hands_of, moment}
 use Rattle.ldm_tools.specs.InsertOwing.{Completes}
 use Rattle.ldm_tools.specs.InsertTold.{answers_of}
 use Rattle.ldm_tools.specs.Runs.{AreTaken, Runs, StopsAt, TakesAll, are_refused}
@@ -36,22 +36,22 @@ rose_then a b c (inr still) (inr (inl two)) = let P : ℕ → Type 0 = λ n. n <
 rose_then a b c (inr still) (inr (inr same)) = inr (still.0, same.1)
 
 -- the store is not touched by a PUT
-put_store : (all : Inserting) (file : FileAt) (body : List ℕ) (arrival : ℕ) (answer : PutAnswer) (old new : Moment) → Puts all file body arrival answer old new → new.hands.store ≡ old.hands.store
+put_store : (all : Inserting) (file : FileAt) (body : List ℕ) (arrival : ℕ) (answer : PutAnswer) (old new : InsertMoment) → Puts all file body arrival answer old new → new.hands.store ≡ old.hands.store
 put_store all file body arrival answer old new puts = ap (λ (h : Hands). h.store) puts.same
 
-pub takes_store : (all : Inserting) (file : FileAt) (body : List ℕ) (arrival : ℕ) (answer : PutAnswer) (old new : Moment) → Takes all file (Put body arrival answer) old new → new.hands.store ≡ old.hands.store
+pub takes_store : (all : Inserting) (file : FileAt) (body : List ℕ) (arrival : ℕ) (answer : PutAnswer) (old new : InsertMoment) → Takes all file (Put body arrival answer) old new → new.hands.store ≡ old.hands.store
 takes_store all file body arrival answer old new takes =
-    ap (λ (m : Moment). m.hands.store) takes.same ∙ put_store all file body arrival answer old takes.between takes.handled
+    ap (λ (m : InsertMoment). m.hands.store) takes.same ∙ put_store all file body arrival answer old takes.between takes.handled
 
-pub takes_long : (all : Inserting) (file : FileAt) (old new : Moment) → Takes all file TooLong old new → Rose old.hands.store.long new.hands.store.long
+pub takes_long : (all : Inserting) (file : FileAt) (old new : InsertMoment) → Takes all file TooLong old new → Rose old.hands.store.long new.hands.store.long
 takes_long all file old new takes =
-    let same : new.hands.store ≡ takes.between.hands.store = ap (λ (m : Moment). m.hands.store) takes.same in
+    let same : new.hands.store ≡ takes.between.hands.store = ap (λ (m : InsertMoment). m.hands.store) takes.same in
     let P : StoreRecord → Type 0 = λ s. Rose old.hands.store.long s.long in
     subst P (sym same) takes.handled.found.0
 
-pub long_on : (all : Inserting) (number : ℕ) (paths : List (List ℕ)) (steps : List Step) (old new : Moment) → AreTaken all number paths steps old new
+pub long_on : (all : Inserting) (number : ℕ) (paths : List (List ℕ)) (steps : List Step) (old new : InsertMoment) → AreTaken all number paths steps old new
     → (new.hands.store.long ≡ old.hands.store.long) ⊎ Rose old.hands.store.long new.hands.store.long
-long_on all number [] [] old new each = inl (ap (λ (m : Moment). m.hands.store.long) each)
+long_on all number [] [] old new each = inl (ap (λ (m : InsertMoment). m.hands.store.long) each)
 long_on all number [] (step ∷ steps) old new each = absurd each
 long_on all number (path ∷ paths) [] old new each = absurd each
 long_on all number (path ∷ paths) (TooLong ∷ steps) old new each =
@@ -64,7 +64,7 @@ long_on all number (path ∷ paths) (Put body arrival answer ∷ steps) old new 
 
 -- ---- the answers to files that were taken
 
-record Followed (stream : List ℕ) (paths : List (List ℕ)) (steps : List Step) (old new : Moment) : Type 0 where
+record Followed (stream : List ℕ) (paths : List (List ℕ)) (steps : List Step) (old new : InsertMoment) : Type 0 where
   pub follows : Follows stream new.given new.hands.link
   pub answers : new.answers ≡ old.answers ++ answers_of steps
   pub count : length (answers_of steps) ≡ length paths
@@ -75,14 +75,14 @@ record Followed (stream : List ℕ) (paths : List (List ℕ)) (steps : List Step
 none_more : (a b : Bool) → a ≡ false → b ≡ false → (a || b) ≡ false
 none_more a b one other = ap (λ (x : Bool). x || b) one ∙ other
 
-followed : (stream : List ℕ) (all : Inserting) (number : ℕ) (paths : List (List ℕ)) (steps : List Step) (old new : Moment) → AreTaken all number paths steps old new
+followed : (stream : List ℕ) (all : Inserting) (number : ℕ) (paths : List (List ℕ)) (steps : List Step) (old new : InsertMoment) → AreTaken all number paths steps old new
     → ¬ Rose old.hands.store.long new.hands.store.long → Follows stream old.given old.hands.link → HasAnswers old.given old.answers → Followed stream paths steps old new
 followed stream all number [] [] old new each none follows has =
-    let P : Moment → Type 0 = λ m. Follows stream m.given m.hands.link in
-    let Q : Moment → Type 0 = λ m. HasAnswers m.given m.answers in
+    let P : InsertMoment → Type 0 = λ m. Follows stream m.given m.hands.link in
+    let Q : InsertMoment → Type 0 = λ m. HasAnswers m.given m.answers in
     record {
       follows = subst P (sym each) follows;
-      answers = ap (λ (m : Moment). m.answers) each ∙ sym (append-nil old.answers);
+      answers = ap (λ (m : InsertMoment). m.answers) each ∙ sym (append-nil old.answers);
       count = refl;
       none = refl;
       refused = refl;
@@ -103,15 +103,15 @@ followed stream all number (path ∷ paths) (Put body arrival answer ∷ steps) 
     let L : StoreRecord → Type 0 = λ s. ¬ Rose s.long new.hands.store.long in
     let F : LinkRecord → Type 0 = λ l. Follows stream between.given l in
     let G : List ℕ → Type 0 = λ g. Follows stream g mid.hands.link in
-    let H : Moment → Type 0 = λ m. HasAnswers m.given m.answers in
+    let H : InsertMoment → Type 0 = λ m. HasAnswers m.given m.answers in
     let went : Follows stream between.given between.hands.link = follows_more stream old.given between.given _ puts.more old.hands.link between.hands.link puts.exchanged puts.given follows in
     let here : Follows stream mid.given mid.hands.link =
-    subst G (ap (λ (m : Moment). m.given) (sym takes.same)) (subst F (ap (λ (m : Moment). m.hands.link) (sym takes.same)) went) in
+    subst G (ap (λ (m : InsertMoment). m.given) (sym takes.same)) (subst F (ap (λ (m : InsertMoment). m.hands.link) (sym takes.same)) went) in
     let says : HasAnswers mid.given mid.answers = subst H (sym takes.same) puts.says in
     let rest = followed stream all (number + 1) paths steps mid new each.2 (subst L (sym same) none) here says in
     record {
       follows = rest.follows;
-      answers = rest.answers ∙ ap (λ (a : List PutAnswer). a ++ answers_of steps) (ap (λ (m : Moment). m.answers) takes.same ∙ puts.answers) ∙ append_assoc old.answers (answer ∷ []) (answers_of steps);
+      answers = rest.answers ∙ ap (λ (a : List PutAnswer). a ++ answers_of steps) (ap (λ (m : InsertMoment). m.answers) takes.same ∙ puts.answers) ∙ append_assoc old.answers (answer ∷ []) (answers_of steps);
       count = (let n = rest.count in omega arith);
       none = none_more (is_denied answer) (are_denied (answers_of steps)) takes.not_denied rest.none;
       refused = ap (λ (b : Bool). is_refused answer || b) rest.refused;
@@ -120,11 +120,11 @@ followed stream all number (path ∷ paths) (Put body arrival answer ∷ steps) 
 
 -- ---- the end of a run
 
-pub handled_sink : (all : Inserting) (file : FileAt) (step : Step) (old new : Moment) → Handles all file step old new → new.hands.sink ≡ old.hands.sink
-handled_sink all file TooLong old new handled = ap (λ (m : Moment). m.hands.sink) handled.same
+pub handled_sink : (all : Inserting) (file : FileAt) (step : Step) (old new : InsertMoment) → Handles all file step old new → new.hands.sink ≡ old.hands.sink
+handled_sink all file TooLong old new handled = ap (λ (m : InsertMoment). m.hands.sink) handled.same
 handled_sink all file (Put body arrival answer) old new handled = ap (λ (h : Hands). h.sink) handled.same
 
-pub sink_rose : (all : Inserting) (file : FileAt) (start : ℕ) (old new : Moment) → start ≤ old.hands.sink.faults → BreaksLine all file old new → Rose start new.hands.sink.faults
+pub sink_rose : (all : Inserting) (file : FileAt) (start : ℕ) (old new : InsertMoment) → start ≤ old.hands.sink.faults → BreaksLine all file old new → Rose start new.hands.sink.faults
 sink_rose all file start old new kept breaks =
     let same = handled_sink all file breaks.step old breaks.between breaks.handled in
     let P : SinkRecord → Type 0 = λ s. Rose s.faults new.hands.sink.faults in
@@ -172,7 +172,7 @@ stopped fault.Denied all came left old new given answers stops failed = λ strea
 stopped (fault.NoAnswer why) all came left old new given answers stops failed = λ stream owed left_is short says are none.
     let breaks = stops.breaks in
     let end = moment (hands_of left new) given answers in
-    let store : new.store ≡ stops.mid.hands.store = ap (λ (m : Moment). m.hands.store) breaks.same in
+    let store : new.store ≡ stops.mid.hands.store = ap (λ (m : InsertMoment). m.hands.store) breaks.same in
     let L : StoreRecord → Type 0 = λ s. ¬ Rose old.store.long s.long in
     let f = followed stream all 0 stops.before stops.steps (moment (hands_of came old) [] []) stops.mid stops.each (subst L store none.long) (from_start stream came left_is) nothing_heard in
     let went = follows_more stream stops.mid.given given _ breaks.more stops.mid.hands.link left breaks.exchanged breaks.given f.follows in

@@ -17,7 +17,8 @@ use Rattle.ldm_tools.specs.declared.reader.NoRecord.{NoRecord}
 use Rattle.ldm_tools.specs.declared.reader.NoRecord.TheVariants as no_record
 use Rattle.ldm_tools.specs.Hearing.{Heard, HeardNone, HeardSome, Hears, in_reader}
 use Rattle.ldm_tools.specs.Replies.{Answers, HearsReply, Replies, SaysNone, no_reply_of}
-use Rattle.ldm_tools.specs.Asking.{Asks, IsPart, sends_all}
+use Rattle.ldm_tools.specs.Asking.{Asks, sends_all}
+use Rattle.ldm_session.specs.Part.{IsPart}
 
 -- whatever waits, these are the first records
 pub heard_some : (given : List ℕ) (heard : List Placed) (reader : LinkReader) → Heard given heard reader → HeardSome given heard

@@ -16,7 +16,7 @@ use Rattle.ldm_tools.specs.declared.fault.InsertFault.{InsertFault}
 use Rattle.ldm_tools.specs.declared.fault.InsertFault.TheVariants as fault
 use Rattle.ldm_tools.specs.Files.{Breaks, Step, Takes, is_refused_step}
 use Rattle.ldm_tools.specs.Inserting.{FileAt, Inserting}
-use Rattle.ldm_tools.specs.Moments.{Hands, KeepsHands, Moment, moment}
+use Rattle.ldm_tools.specs.Moments.{Hands, KeepsHands, InsertMoment, moment}
 use Rattle.ldm_tools.specs.Parts.{RunsOver, TakesOne}
 use Rattle.ldm_tools.specs.Runs.{AreTaken, Runs, StopsAt, are_refused}
 
@@ -58,10 +58,10 @@ refused_push (first ∷ steps) step =
     ap (λ (b : Bool). is_refused_step first || b) (refused_push steps step) ∙ or_more (is_refused_step first) (are_refused steps) (is_refused_step step)
 
 -- one more file
-taken_push : (all : Inserting) (number : ℕ) (paths : List (List ℕ)) (path : List ℕ) (steps : List Step) (step : Step) (old mid new : Moment) → AreTaken all number paths steps old mid
+taken_push : (all : Inserting) (number : ℕ) (paths : List (List ℕ)) (path : List ℕ) (steps : List Step) (step : Step) (old mid new : InsertMoment) → AreTaken all number paths steps old mid
     → Takes all (record { number = number + length paths; path = path }) step mid new → AreTaken all number (paths ++ path ∷ []) (steps ++ step ∷ []) old new
 taken_push all number [] path [] step old mid new each takes =
-    let P : Moment → Type 0 = λ m. Takes all (record { number = number; path = path }) step m new in
+    let P : InsertMoment → Type 0 = λ m. Takes all (record { number = number; path = path }) step m new in
     let Q : ℕ → Type 0 = λ n. Takes all (record { number = n; path = path }) step mid new in
     let none : number + 0 ≡ number = omega arith in
     (new, subst P each (subst Q none takes), refl)
@@ -89,7 +89,7 @@ goes_on all paths path refused this_one puts new_puts old mid new goes takes =
 
 -- ---- why a run ended at a file, to one who looks at the link from its beginning
 
-breaks_from : (why : InsertFault) (all : Inserting) (file : FileAt) (came now : LinkRecord) (old new : Moment) → came.ends ≤ now.ends → came.faults ≤ now.faults
+breaks_from : (why : InsertFault) (all : Inserting) (file : FileAt) (came now : LinkRecord) (old new : InsertMoment) → came.ends ≤ now.ends → came.faults ≤ now.faults
     → Breaks why all file now old new → Breaks why all file came old new
 breaks_from (fault.NoAnswer why) all file came now old new ends faults breaks = record {
   body = breaks.body;
@@ -111,7 +111,7 @@ breaks_from fault.SinkFault all file came now old new ends faults breaks = break
 breaks_from fault.Unreached all file came now old new ends faults breaks = absurd breaks
 
 -- a run that ended at a file ended so
-by_fault : (why : InsertFault) (all : Inserting) (old new : Moment) → StopsAt why all old new → Runs (Err why) all old new
+by_fault : (why : InsertFault) (all : Inserting) (old new : InsertMoment) → StopsAt why all old new → Runs (Err why) all old new
 by_fault fault.StoreFault all old new stops = stops
 by_fault fault.OutOfMemory all old new stops = inr stops
 by_fault (fault.NoAnswer why) all old new stops = stops

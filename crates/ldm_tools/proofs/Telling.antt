@@ -19,13 +19,13 @@ use Rattle.ldm_tools.specs.declared.fault.InsertFault.TheVariants as fault
 use Rattle.ldm_tools.specs.Files.{Step, Put, Takes, TooLong, call_of, line_of}
 use Rattle.ldm_tools.specs.Inserting.{FileAt, Inserting}
 use Rattle.ldm_tools.specs.Inserts.{InsertEnds}
-use Rattle.ldm_tools.specs.Moments.{Moment, Outside, hands_of, moment}
+use Rattle.ldm_tools.specs.Moments.{InsertMoment, Outside, hands_of, moment}
 use Rattle.ldm_tools.specs.Runs.{AreTaken, StopsAt, TakesAll, are_refused}
 use Rattle.ldm_tools.specs.InsertTold.{AreTold, Cause, RefusedCause, answers_of, calls_of, lines_of}
 use Rattle.ldm_tools.proofs.InsertCompleted.{handled_sink, long_on, rose_then, sink_rose, takes_long, takes_store}
 
 -- the same, of files the first of which has this number
-record Tells (all : Inserting) (number : ℕ) (paths : List (List ℕ)) (steps : List Step) (old new : Moment) : Type 0 where
+record Tells (all : Inserting) (number : ℕ) (paths : List (List ℕ)) (steps : List Step) (old new : InsertMoment) : Type 0 where
   pub more : List ℕ
   pub sent : Exchanged old.hands.link (calls_of all number (length old.answers) paths steps) more new.hands.link
   pub given : new.given ≡ old.given ++ more
@@ -33,20 +33,20 @@ record Tells (all : Inserting) (number : ℕ) (paths : List (List ℕ)) (steps :
   pub written : io.Takes old.hands.sink (lines_of steps) new.hands.sink
 
 -- one line, and those behind it
-line_then : (all : Inserting) (file : FileAt) (step : Step) (lines : List ℕ) (old mid new : Moment) → Takes all file step old mid → io.Takes mid.hands.sink lines new.hands.sink
+line_then : (all : Inserting) (file : FileAt) (step : Step) (lines : List ℕ) (old mid new : InsertMoment) → Takes all file step old mid → io.Takes mid.hands.sink lines new.hands.sink
     → io.Takes old.hands.sink (line_of step ++ lines) new.hands.sink
 line_then all file step lines old mid new takes behind =
     let same = handled_sink all file step old takes.between takes.handled in
     let P : SinkRecord → Type 0 = λ s. io.Takes s (line_of step) mid.hands.sink in
     Takes-then old.hands.sink mid.hands.sink new.hands.sink (line_of step) lines (subst P same takes.written) behind
 
-tells : (all : Inserting) (number : ℕ) (paths : List (List ℕ)) (steps : List Step) (old new : Moment) → AreTaken all number paths steps old new → Tells all number paths steps old new
+tells : (all : Inserting) (number : ℕ) (paths : List (List ℕ)) (steps : List Step) (old new : InsertMoment) → AreTaken all number paths steps old new → Tells all number paths steps old new
 tells all number [] [] old new each = record {
   more = [];
-  sent = Exchanged-nothing old.hands.link new.hands.link (ap (λ (m : Moment). m.hands.link.passed) each) (ap (λ (m : Moment). m.hands.link.left) each);
-  given = ap (λ (m : Moment). m.given) each ∙ sym (append-nil old.given);
-  answers = ap (λ (m : Moment). m.answers) each ∙ sym (append-nil old.answers);
-  written = Takes-nothing old.hands.sink new.hands.sink (ap (λ (m : Moment). m.hands.sink.written) each);
+  sent = Exchanged-nothing old.hands.link new.hands.link (ap (λ (m : InsertMoment). m.hands.link.passed) each) (ap (λ (m : InsertMoment). m.hands.link.left) each);
+  given = ap (λ (m : InsertMoment). m.given) each ∙ sym (append-nil old.given);
+  answers = ap (λ (m : InsertMoment). m.answers) each ∙ sym (append-nil old.answers);
+  written = Takes-nothing old.hands.sink new.hands.sink (ap (λ (m : InsertMoment). m.hands.sink.written) each);
 }
 tells all number [] (step ∷ steps) old new each = absurd each
 tells all number (path ∷ paths) [] old new each = absurd each
@@ -54,9 +54,9 @@ tells all number (path ∷ paths) (TooLong ∷ steps) old new each =
     let mid = each.0 in
     let takes = each.1 in
     let rest = tells all (number + 1) paths steps mid new each.2 in
-    let link : mid.hands.link ≡ old.hands.link = ap (λ (m : Moment). m.hands.link) takes.same ∙ ap (λ (m : Moment). m.hands.link) takes.handled.same in
-    let given : mid.given ≡ old.given = ap (λ (m : Moment). m.given) takes.same ∙ ap (λ (m : Moment). m.given) takes.handled.same in
-    let answers : mid.answers ≡ old.answers = ap (λ (m : Moment). m.answers) takes.same ∙ ap (λ (m : Moment). m.answers) takes.handled.same in
+    let link : mid.hands.link ≡ old.hands.link = ap (λ (m : InsertMoment). m.hands.link) takes.same ∙ ap (λ (m : InsertMoment). m.hands.link) takes.handled.same in
+    let given : mid.given ≡ old.given = ap (λ (m : InsertMoment). m.given) takes.same ∙ ap (λ (m : InsertMoment). m.given) takes.handled.same in
+    let answers : mid.answers ≡ old.answers = ap (λ (m : InsertMoment). m.answers) takes.same ∙ ap (λ (m : InsertMoment). m.answers) takes.handled.same in
     let P : LinkRecord → Type 0 = λ l. Exchanged l (calls_of all (number + 1) (length old.answers) paths steps) rest.more new.hands.link in
     let Q : List PutAnswer → Type 0 = λ a. Exchanged mid.hands.link (calls_of all (number + 1) (length a) paths steps) rest.more new.hands.link in
     record {
@@ -72,9 +72,9 @@ tells all number (path ∷ paths) (Put body arrival answer ∷ steps) old new ea
     let takes = each.1 in
     let puts = takes.handled in
     let rest = tells all (number + 1) paths steps mid new each.2 in
-    let link : takes.between.hands.link ≡ mid.hands.link = ap (λ (m : Moment). m.hands.link) (sym takes.same) in
-    let given : mid.given ≡ old.given ++ puts.more = ap (λ (m : Moment). m.given) takes.same ∙ puts.given in
-    let answers : mid.answers ≡ old.answers ++ answer ∷ [] = ap (λ (m : Moment). m.answers) takes.same ∙ puts.answers in
+    let link : takes.between.hands.link ≡ mid.hands.link = ap (λ (m : InsertMoment). m.hands.link) (sym takes.same) in
+    let given : mid.given ≡ old.given ++ puts.more = ap (λ (m : InsertMoment). m.given) takes.same ∙ puts.given in
+    let answers : mid.answers ≡ old.answers ++ answer ∷ [] = ap (λ (m : InsertMoment). m.answers) takes.same ∙ puts.answers in
     let count : length mid.answers ≡ length old.answers + 1 = omega (arith, ap length answers, length-append old.answers (answer ∷ [])) in
     let P : LinkRecord → Type 0 = λ l. Exchanged old.hands.link (call_of all file body arrival old) puts.more l in
     let Q : ℕ → Type 0 = λ n. Exchanged mid.hands.link (calls_of all (number + 1) n paths steps) rest.more new.hands.link in
@@ -87,15 +87,15 @@ tells all number (path ∷ paths) (Put body arrival answer ∷ steps) old new ea
       written = line_then all file (Put body arrival answer) (lines_of steps) old mid new takes rest.written;
     }
 
-are_told : (all : Inserting) (paths : List (List ℕ)) (steps : List Step) (old new : Moment) → AreTaken all 0 paths steps old new → AreTold all paths steps old new
+are_told : (all : Inserting) (paths : List (List ℕ)) (steps : List Step) (old new : InsertMoment) → AreTaken all 0 paths steps old new → AreTold all paths steps old new
 are_told all paths steps old new each =
     let t = tells all 0 paths steps old new each in
     record { more = t.more; sent = t.sent; given = t.given; answers = t.answers; written = t.written }
 
-pub told_whole : (refused : Bool) (all : Inserting) (old new : Moment) (takes : TakesAll refused all old new) → AreTold all all.files takes.steps old new
+pub told_whole : (refused : Bool) (all : Inserting) (old new : InsertMoment) (takes : TakesAll refused all old new) → AreTold all all.files takes.steps old new
 told_whole refused all old new takes = are_told all all.files takes.steps old new takes.each
 
-pub told_before : (why : InsertFault) (all : Inserting) (old new : Moment) (stops : StopsAt why all old new) → AreTold all stops.before stops.steps old stops.mid
+pub told_before : (why : InsertFault) (all : Inserting) (old new : InsertMoment) (stops : StopsAt why all old new) → AreTold all stops.before stops.steps old stops.mid
 told_before why all old new stops = are_told all stops.before stops.steps old stops.mid stops.each
 
 -- ---- causes
@@ -109,7 +109,7 @@ either_cause true b X (inl is) = inl refl
 either_cause false b X (inl is) = inl is
 either_cause a b X (inr x) = inr x
 
-refused_some : (all : Inserting) (number : ℕ) (paths : List (List ℕ)) (steps : List Step) (old new : Moment) → AreTaken all number paths steps old new → are_refused steps ≡ true
+refused_some : (all : Inserting) (number : ℕ) (paths : List (List ℕ)) (steps : List Step) (old new : InsertMoment) → AreTaken all number paths steps old new → are_refused steps ≡ true
     → RefusedCause steps old new
 refused_some all number [] [] old new each is = absurd cc
 refused_some all number [] (step ∷ steps) old new each is = absurd each
@@ -128,7 +128,7 @@ refused_some all number (path ∷ paths) (Put body arrival answer ∷ steps) old
         let X = Rose old.hands.store.long new.hands.store.long in
         either_cause (is_refused answer) (answers_refuse (answers_of steps)) X (subst P (ap (λ (s : StoreRecord). s.long) same) (later behind))
 
-pub refused_cause : (all : Inserting) (old new : Moment) (takes : TakesAll true all old new) → RefusedCause takes.steps old new
+pub refused_cause : (all : Inserting) (old new : InsertMoment) (takes : TakesAll true all old new) → RefusedCause takes.steps old new
 refused_cause all old new takes = refused_some all 0 all.files takes.steps old new takes.each (sym takes.refused_is)
 
 pub cause : (ending : Result Bool InsertFault) (all : Inserting) (old new : Outside) → InsertEnds ending all old new → Cause ending old new

@@ -15,7 +15,8 @@ use Rattle.ldm_tools.specs.declared.no_reply.NoReply.{NoReply}
 use Rattle.ldm_tools.specs.declared.put_fault.PutFault.{PutFault}
 use Rattle.ldm_tools.specs.declared.put_fault.PutFault.TheVariants as fault
 use Rattle.ldm_tools.specs.declared.puts.Puts.{Puts}
-use Rattle.ldm_tools.specs.Asking.{IsPart, sends_all}
+use Rattle.ldm_tools.specs.Asking.{sends_all}
+use Rattle.ldm_session.specs.Part.{IsPart}
 use Rattle.ldm_tools.specs.Lines.{is_denied, put_line}
 use Rattle.ldm_tools.specs.Puts.{HasPut, PutsOne, put_call}
 use Rattle.ldm_tools.specs.Telling.{AreTold, HasAnswers, IsPut, Product, Putting, PutsProduct, Tells, Wire, call_of, calls_of, lines_of, wire_of}

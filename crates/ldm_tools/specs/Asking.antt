@@ -9,11 +9,7 @@ use Rattle.ldm_session.specs.Exchange.{Exchanged}
 use Rattle.ldm_tools.specs.declared.no_reply.NoReply.{NoReply}
 use Rattle.ldm_tools.specs.declared.no_reply.NoReply.TheVariants.{BadFrame, StreamLimit, LinkFault, OutOfMemory}
 use Rattle.ldm_tools.specs.Replies.{Answers, Says}
-
--- some bytes are all of these, or a front of them
-abbrev pub IsPart : Bool → List ℕ → List ℕ → Type 0
-IsPart true part all = part ≡ all
-IsPart false part all = (rest : List ℕ) × (part ++ rest ≡ all)
+use Rattle.ldm_session.specs.Part.{IsPart}
 
 -- whether all of a call was sent, by what came of it
 abbrev pub sends_all : {A : Type 0} → Result A NoReply → Bool

@@ -11,7 +11,8 @@ use Rattle.ldm_relay.specs.declared.message.PutAnswer.{PutAnswer}
 use Rattle.ldm_relay.specs.declared.message.PutAnswer.TheVariants as put_answer
 use Rattle.ldm_session.specs.Exchange.{Exchanged}
 use Rattle.ldm_tools.specs.declared.no_reply.NoReply.{NoReply}
-use Rattle.ldm_tools.specs.Asking.{IsPart, sends_all}
+use Rattle.ldm_tools.specs.Asking.{sends_all}
+use Rattle.ldm_session.specs.Part.{IsPart}
 use Rattle.ldm_tools.specs.Lines.{is_denied, is_refused, put_line}
 use Rattle.ldm_tools.specs.Puts.{NoAnswer, put_call, put_number}
 use Rattle.ldm_tools.specs.Telling.{HasAnswers}
@@ -20,7 +21,7 @@ use Rattle.ldm_tools.specs.declared.fault.InsertFault.TheVariants as fault
 use Rattle.ldm_tools.specs.declared.limits.TheConstants.{LARGEST_FILE}
 use Rattle.ldm_tools.specs.Inserting.{FileAt, Inserting, metadata_of}
 use Rattle.ldm_tools.specs.InsertLines.{too_long_line}
-use Rattle.ldm_tools.specs.Moments.{Moment}
+use Rattle.ldm_tools.specs.Moments.{InsertMoment}
 
 -- What a file came to: it is too long; or a PUT of these bytes was sent, with this arrival, and answered.
 pub data Step : Type 0 where
@@ -46,16 +47,16 @@ pub record IsBody (body path : List ℕ) (store : StoreRecord) : Type 0 where
   pub told : IfSome store.files (λ files. bytes_under path files ≡ Some body)
 
 -- The file was found to be too long, and nothing was sent.
-pub record FindsLong (path : List ℕ) (old new : Moment) : Type 0 where
+pub record FindsLong (path : List ℕ) (old new : InsertMoment) : Type 0 where
   pub found : ReadsFile read.TooLong path LARGEST_FILE old.hands.store new.hands.store
   pub same : new ≡ record old { hands = record old.hands { store = new.hands.store } }
 
 -- the record of the PUT of a file, behind those that were answered
-abbrev pub call_of : Inserting → FileAt → (body : List ℕ) → (arrival : ℕ) → Moment → List ℕ
+abbrev pub call_of : Inserting → FileAt → (body : List ℕ) → (arrival : ℕ) → InsertMoment → List ℕ
 call_of all file body arrival old = put_call (put_number (length old.answers)) (metadata_of all file body arrival) body
 
 -- The file was read, the clock was asked, and the PUT was sent. The link then gave the answer.
-pub record Puts (all : Inserting) (file : FileAt) (body : List ℕ) (arrival : ℕ) (answer : PutAnswer) (old new : Moment) : Type 0 where
+pub record Puts (all : Inserting) (file : FileAt) (body : List ℕ) (arrival : ℕ) (answer : PutAnswer) (old new : InsertMoment) : Type 0 where
   pub body_is : IsBody body file.path old.hands.store
   pub asked : Answers arrival old.hands.clock new.hands.clock
   pub more : List ℕ
@@ -66,26 +67,26 @@ pub record Puts (all : Inserting) (file : FileAt) (body : List ℕ) (arrival : �
   pub same : new.hands ≡ record old.hands { link = new.hands.link; clock = new.hands.clock }
 
 -- What was done with a file before its line was written.
-abbrev pub Handles : Inserting → FileAt → Step → Moment → Moment → Type 0
+abbrev pub Handles : Inserting → FileAt → Step → InsertMoment → InsertMoment → Type 0
 Handles all file TooLong old new = FindsLong file.path old new
 Handles all file (Put body arrival answer) old new = Puts all file body arrival answer old new
 
 -- the sink alone changed
-abbrev pub IsSink : Moment → Moment → Type 0
+abbrev pub IsSink : InsertMoment → InsertMoment → Type 0
 IsSink old new = new ≡ record old { hands = record old.hands { sink = new.hands.sink } }
 
 -- A file was taken, and its line was written.
-pub record Takes (all : Inserting) (file : FileAt) (step : Step) (old new : Moment) : Type 0 where
-  pub between : Moment
+pub record Takes (all : Inserting) (file : FileAt) (step : Step) (old new : InsertMoment) : Type 0 where
+  pub between : InsertMoment
   pub handled : Handles all file step old between
   pub not_denied : is_denied_step step ≡ false
   pub written : io.Takes between.hands.sink (line_of step) new.hands.sink
   pub same : IsSink between new
 
 -- A file was taken, and the sink failed, after a front of its line.
-pub record BreaksLine (all : Inserting) (file : FileAt) (old new : Moment) : Type 0 where
+pub record BreaksLine (all : Inserting) (file : FileAt) (old new : InsertMoment) : Type 0 where
   pub step : Step
-  pub between : Moment
+  pub between : InsertMoment
   pub handled : Handles all file step old between
   pub not_denied : is_denied_step step ≡ false
   pub rose : Rose between.hands.sink.faults new.hands.sink.faults
@@ -93,7 +94,7 @@ pub record BreaksLine (all : Inserting) (file : FileAt) (old new : Moment) : Typ
   pub same : IsSink between new
 
 -- The file was read, the clock was asked, and of the PUT all was sent or a front. No answer came, and all that the link gave says why.
-pub record BreaksPut (why : NoReply) (all : Inserting) (file : FileAt) (came : LinkRecord) (old new : Moment) : Type 0 where
+pub record BreaksPut (why : NoReply) (all : Inserting) (file : FileAt) (came : LinkRecord) (old new : InsertMoment) : Type 0 where
   pub body : List ℕ
   pub arrival : ℕ
   pub body_is : IsBody body file.path old.hands.store
@@ -107,13 +108,13 @@ pub record BreaksPut (why : NoReply) (all : Inserting) (file : FileAt) (came : L
   pub same : new ≡ record old { hands = record old.hands { link = new.hands.link; clock = new.hands.clock }; given = new.given }
 
 -- The peer answered that the caller may not insert, and nothing was written.
-pub record IsDenied (all : Inserting) (file : FileAt) (old new : Moment) : Type 0 where
+pub record IsDenied (all : Inserting) (file : FileAt) (old new : InsertMoment) : Type 0 where
   pub body : List ℕ
   pub arrival : ℕ
   pub puts : Puts all file body arrival put_answer.Denied old new
 
 -- Why a run ends at a file, over a link that came so.
-abbrev pub Breaks : InsertFault → Inserting → FileAt → (came : LinkRecord) → (old new : Moment) → Type 0
+abbrev pub Breaks : InsertFault → Inserting → FileAt → (came : LinkRecord) → (old new : InsertMoment) → Type 0
 Breaks fault.StoreFault all file came old new =
     StoreFails old.hands.store new.hands.store × (new ≡ record old { hands = record old.hands { store = new.hands.store } })
 Breaks fault.OutOfMemory all file came old new = new ≡ old

@@ -11,7 +11,7 @@ use Rattle.ldm_tools.specs.declared.fault.InsertFault.{InsertFault}
 use Rattle.ldm_tools.specs.declared.fault.InsertFault.TheVariants as fault
 use Rattle.ldm_tools.specs.Inserting.{Inserting, metadata_of}
 use Rattle.ldm_tools.specs.Files.{Step, Put, TooLong, line_of}
-use Rattle.ldm_tools.specs.Moments.{Moment, Outside}
+use Rattle.ldm_tools.specs.Moments.{InsertMoment, Outside}
 
 -- the lines of files, in order
 abbrev pub lines_of : List Step → List ℕ
@@ -34,7 +34,7 @@ calls_of all number before (path ∷ paths) (Put body arrival answer ∷ steps) 
     ++ calls_of all (number + 1) (before + 1) paths steps
 
 -- Over all these files, the link was sent the records of their PUTs, and gave more, the answers came, and the lines were written.
-pub record AreTold (all : Inserting) (paths : List (List ℕ)) (steps : List Step) (old new : Moment) : Type 0 where
+pub record AreTold (all : Inserting) (paths : List (List ℕ)) (steps : List Step) (old new : InsertMoment) : Type 0 where
   pub more : List ℕ
   pub sent : Exchanged old.hands.link (calls_of all 0 (length old.answers) paths steps) more new.hands.link
   pub given : new.given ≡ old.given ++ more
@@ -55,5 +55,5 @@ Cause (Err fault.Denied) old new = Unit {0}
 Cause (Err fault.SinkFault) old new = Rose old.sink.faults new.sink.faults
 
 -- A queue did not admit a product that was sent, or the store's count of files that are too long rose.
-abbrev pub RefusedCause : List Step → Moment → Moment → Type 0
+abbrev pub RefusedCause : List Step → InsertMoment → InsertMoment → Type 0
 RefusedCause steps old new = (answers_refuse (answers_of steps) ≡ true) ⊎ Rose old.hands.store.long new.hands.store.long

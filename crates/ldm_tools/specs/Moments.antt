@@ -19,7 +19,7 @@ outside_tells store net sink clock of_store of_net of_sink of_clock =
     record { store = store of_store; net = net of_net; sink = sink of_sink; clock = clock of_clock }
 
 -- No count fell.
-pub record KeepsCounts (old new : Outside) : Type 0 where
+pub record KeepsInsertCounts (old new : Outside) : Type 0 where
   pub store : old.store.faults ≤ new.store.faults
   pub long : old.store.long ≤ new.store.long
   pub net : old.net.faults ≤ new.net.faults
@@ -51,10 +51,10 @@ pub record KeepsHands (old new : Hands) : Type 0 where
   pub sink : old.sink.faults ≤ new.sink.faults
 
 -- A moment of a run over a link: what is used, all bytes that the link gave, and the answers to the PUTs so far, in order.
-pub record Moment : Type 0 where
+pub record InsertMoment : Type 0 where
   pub hands : Hands
   pub given : List ℕ
   pub answers : List PutAnswer
 
-abbrev pub moment : Hands → List ℕ → List PutAnswer → Moment
+abbrev pub moment : Hands → List ℕ → List PutAnswer → InsertMoment
 moment hands given answers = record { hands = hands; given = given; answers = answers }

@@ -28,7 +28,7 @@ abbrev pub mon_tells : {N K E : Type 0} → (N → DialRecord) → (K → SinkRe
 mon_tells net sink log of_net of_sink of_log = record { net = net of_net; sink = sink of_sink; log = log of_log }
 
 -- No count fell.
-pub record KeepsCounts (old new : MonRecord) : Type 0 where
+pub record KeepsMonCounts (old new : MonRecord) : Type 0 where
   pub net : old.net.faults ≤ new.net.faults
   pub ended : old.net.links.ended ≤ new.net.links.ended
   pub failed : old.net.links.failed ≤ new.net.links.failed

@@ -10,7 +10,8 @@ use Rattle.ldm_session.specs.Exchange.{Exchanged}
 use Rattle.ldm_tools.specs.declared.no_reply.NoReply.{NoReply}
 use Rattle.ldm_tools.specs.declared.no_reply.NoReply.TheVariants.{BadFrame, StreamLimit, LinkFault, OutOfMemory}
 use Rattle.ldm_tools.specs.declared.puts.Puts.{Puts}
-use Rattle.ldm_tools.specs.Asking.{IsPart, sends_all}
+use Rattle.ldm_tools.specs.Asking.{sends_all}
+use Rattle.ldm_session.specs.Part.{IsPart}
 use Rattle.ldm_tools.specs.Hearing.{Heard}
 use Rattle.ldm_tools.specs.Replies.{IsPutReply, SaysNone}
 

@@ -15,7 +15,8 @@ use Rattle.ldm_tools.specs.declared.no_reply.NoReply.{NoReply}
 use Rattle.ldm_tools.specs.declared.put_fault.PutFault.{PutFault}
 use Rattle.ldm_tools.specs.declared.put_fault.PutFault.TheVariants as fault
 use Rattle.ldm_tools.specs.declared.puts.Puts.{Puts}
-use Rattle.ldm_tools.specs.Asking.{IsPart, sends_all}
+use Rattle.ldm_tools.specs.Asking.{sends_all}
+use Rattle.ldm_session.specs.Part.{IsPart}
 use Rattle.ldm_tools.specs.Lines.{is_denied, is_refused, put_line}
 use Rattle.ldm_tools.specs.Mon.{status_of_no_reply}
 use Rattle.ldm_tools.specs.Puts.{AreAnswers, HasPut, NoAnswer, put_call, put_number}

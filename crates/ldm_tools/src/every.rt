@@ -1,6 +1,6 @@
 //! A node that is asked for the figures of its queue again and again.
 ghost use Rattle.std.specs.Prelude.{◌≡◌, ◌<◌, ◌≤◌, false};
-ghost use Rattle.ldm_tools.specs.Mon.{KeepsCounts, mon_tells};
+ghost use Rattle.ldm_tools.specs.Mon.{KeepsMonCounts, mon_tells};
 ghost use Rattle.ldm_tools.specs.Every.{AsksOn, moment_of};
 
 use ldm_outside::{Dial, Reasons, Rests, Sink};
@@ -31,7 +31,7 @@ pub fn pqmon_every<N: Dial + Reasons, K: Sink, E: Sink, C: Rests>(
         (moment_of (mon_tells N.tells K.tells E.tells net.old sink.old log.old) (C.tells clock.old))
         (moment_of (mon_tells N.tells K.tells E.tells net.new sink.new log.new) (C.tells clock.new)) }
     ensures none_out { (N.tells net.new).links.out ≡ false }
-    ensures counts_kept { KeepsCounts (mon_tells N.tells K.tells E.tells net.old sink.old log.old)
+    ensures counts_kept { KeepsMonCounts (mon_tells N.tells K.tells E.tells net.old sink.old log.old)
         (mon_tells N.tells K.tells E.tells net.new sink.new log.new) }
 {
     let rest = u64::from(seconds) * MICROS_A_SECOND;

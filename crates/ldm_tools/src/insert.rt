@@ -3,7 +3,7 @@ ghost use Rattle.std.specs.Prelude.{◌≡◌, ◌≤◌, true, false};
 ghost use Rattle.ldm_outside.specs.Link.{IsNotClosed};
 ghost use Rattle.ldm_tools.specs.Inserting.{AreFew, AreNamed, inserting};
 ghost use Rattle.ldm_tools.specs.Inserts.{InsertEnds, Inserts, insert_tells};
-ghost use Rattle.ldm_tools.specs.Moments.{KeepsCounts, outside_tells};
+ghost use Rattle.ldm_tools.specs.Moments.{KeepsInsertCounts, outside_tells};
 ghost use Rattle.ldm_tools.specs.Parts.{HoldsFiles};
 
 use crate::fault::InsertFault;
@@ -40,7 +40,7 @@ pub fn pqinsert<F: Store + Reasons, N: Dial + Reasons, K: Sink, E: Sink, C: Cloc
         (insert_tells (outside_tells F.tells N.tells K.tells C.tells store.new net.new sink.new clock.new)
         (E.tells log.new)) }
     ensures none_out { (N.tells net.new).links.out ≡ false }
-    ensures counts_kept { KeepsCounts
+    ensures counts_kept { KeepsInsertCounts
         (outside_tells F.tells N.tells K.tells C.tells store.old net.old sink.old clock.old)
         (outside_tells F.tells N.tells K.tells C.tells store.new net.new sink.new clock.new) }
     ensures log_kept { (E.tells log.old).faults ≤ (E.tells log.new).faults }
@@ -67,7 +67,7 @@ fn insert_files<F: Store, N: Dial, K: Sink, C: Clock>(
         (outside_tells F.tells N.tells K.tells C.tells store.old net.old sink.old clock.old)
         (outside_tells F.tells N.tells K.tells C.tells store.new net.new sink.new clock.new) }
     ensures none_out { (N.tells net.new).links.out ≡ false }
-    ensures counts { KeepsCounts (outside_tells F.tells N.tells K.tells C.tells store.old net.old sink.old clock.old)
+    ensures counts { KeepsInsertCounts (outside_tells F.tells N.tells K.tells C.tells store.old net.old sink.old clock.old)
         (outside_tells F.tells N.tells K.tells C.tells store.new net.new sink.new clock.new) }
 {
     match net.connect(insertion.host, insertion.port) {
@@ -94,7 +94,7 @@ fn hold<F: Store, N: Dial, K: Sink, C: Clock>(
         (outside_tells F.tells N.tells K.tells C.tells store.old net.old sink.old clock.old)
         (outside_tells F.tells N.tells K.tells C.tells store.new net.new sink.new clock.new) }
     ensures none_out { (N.tells net.new).links.out ≡ false }
-    ensures counts { KeepsCounts (outside_tells F.tells N.tells K.tells C.tells store.old net.old sink.old clock.old)
+    ensures counts { KeepsInsertCounts (outside_tells F.tells N.tells K.tells C.tells store.old net.old sink.old clock.old)
         (outside_tells F.tells N.tells K.tells C.tells store.new net.new sink.new clock.new) }
 {
     let ending = take_files(alloc, store, &mut link, sink, clock, insertion);

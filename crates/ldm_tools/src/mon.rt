@@ -3,7 +3,7 @@ ghost use Rattle.std.specs.Prelude.{◌≡◌, ◌≤◌, false, true, IfOk, Ok,
 ghost use Rattle.ldm_outside.specs.Dial.{DialTakesBack};
 ghost use Rattle.ldm_outside.specs.Link.{IsNotClosed};
 ghost use Rattle.ldm_tools.specs.Asking.{Asks};
-ghost use Rattle.ldm_tools.specs.Mon.{KeepsCounts, MonEnds, Mons, TellsStat, mon_tells, stat_call};
+ghost use Rattle.ldm_tools.specs.Mon.{KeepsMonCounts, MonEnds, Mons, TellsStat, mon_tells, stat_call};
 ghost use Rattle.ldm_tools.specs.Held.{HoldsStat};
 ghost use Rattle.ldm_tools.specs.Replies.{IsStatReply};
 
@@ -48,7 +48,7 @@ pub fn pqmon<N: Dial + Reasons, K: Sink, E: Sink>(
         (mon_tells N.tells K.tells E.tells net.old sink.old log.old)
         (mon_tells N.tells K.tells E.tells net.new sink.new log.new) }
     ensures none_out { (N.tells net.new).links.out ≡ false }
-    ensures counts_kept { KeepsCounts (mon_tells N.tells K.tells E.tells net.old sink.old log.old)
+    ensures counts_kept { KeepsMonCounts (mon_tells N.tells K.tells E.tells net.old sink.old log.old)
         (mon_tells N.tells K.tells E.tells net.new sink.new log.new) }
 {
     let ending = monitor(alloc, net, sink, host, port);

@@ -21,7 +21,7 @@ use Rattle.ldm_upstream.specs.Turn.{Given, Declined, after_handling}
 use Rattle.ldm_sender.specs.Calls.{later_call}
 use Rattle.ldm_sender.specs.Deeds.{Deed, no_deed}
 use Rattle.ldm_upstream.specs.ProductDeeds.{handling_deed}
-use Rattle.ldm_sender.specs.Does.{Moment, moment_of, KeepsLink}
+use Rattle.ldm_sender.specs.Does.{SendingMoment, moment_of, KeepsLink}
 use Rattle.ldm_upstream.specs.Heard.{HearsLast, IsBehind, SaysLast}
 use Rattle.ldm_sender.specs.NoReplyEnd.{end_of}
 use Rattle.ldm_upstream.specs.Offering.{Announced, EndsAnnouncing}
@@ -80,7 +80,7 @@ reply_came pass clock out came link link' exchanged keeps = record {
   link = keeps;
 }
 
-then_came : (pass : PassView) (clock : ClockRecord) (out came : List ℕ) (old : Moment) (link link' : LinkRecord)
+then_came : (pass : PassView) (clock : ClockRecord) (out came : List ℕ) (old : SendingMoment) (link link' : LinkRecord)
     (all : Deed) → Toward [] old (moment_of pass link clock out) no_deed all
     → Exchanged link [] came link' → KeepsLink link link' → Toward came old (moment_of pass link' clock out) no_deed all
 then_came pass clock out came old link link' all toward exchanged keeps =
@@ -92,7 +92,7 @@ then_came pass clock out came old link link' all toward exchanged keeps =
 
 -- the reply came
 pub announced : (k : ℕ) (given : Given) (answer : SoonAnswer) (standing standing' : Standing) (pass : PassView)
-    (clock : ClockRecord) (out : List ℕ) (old : Moment) (link link' : LinkRecord)
+    (clock : ClockRecord) (out : List ℕ) (old : SendingMoment) (link link' : LinkRecord)
     (replies replies' : Replies)
     → Toward [] old (moment_of pass link clock out) no_deed
     (handling_deed old.pass.actor k standing.next given (Declined standing'.sent_at))
@@ -111,7 +111,7 @@ announced k given answer standing standing' pass clock out old link link' replie
 
 -- it did not come
 pub unanswered : (no_reply : NoReply) (k : ℕ) (given : Given) (standing : Standing) (at : ℕ) (pass : PassView)
-    (clock : ClockRecord) (out : List ℕ) (old : Moment) (link link' : LinkRecord)
+    (clock : ClockRecord) (out : List ℕ) (old : SendingMoment) (link link' : LinkRecord)
     (replies replies' : Replies)
     → Toward [] old (moment_of pass link clock out) no_deed
     (handling_deed old.pass.actor k standing.next given (Declined at))

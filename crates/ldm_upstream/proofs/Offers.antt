@@ -24,7 +24,7 @@ use Rattle.ldm_sender.specs.Calls.{later_call}
 use Rattle.ldm_upstream.specs.Turns.{IsDue, IsHandled, size_of}
 use Rattle.ldm_sender.specs.Deeds.{Deed, and_then, records_of}
 use Rattle.ldm_upstream.specs.ProductDeeds.{handling_deed, blocks_deed}
-use Rattle.ldm_sender.specs.Does.{Moment, moment_of, Does, Breaks}
+use Rattle.ldm_sender.specs.Does.{SendingMoment, moment_of, Does, Breaks}
 use Rattle.ldm_upstream.specs.Giving.{HoldsGiven, GivesWhole, GivesBlocks}
 use Rattle.ldm_sender.specs.Stopping.{KeepsCursor, StopsSending}
 use Rattle.ldm_sender.specs.Acts.{is_whole}
@@ -49,7 +49,7 @@ heard_last why next came codes r r' free on = λ given earlier heard.
 
 -- ---- it breaks off
 
-broke : (why : SendEnd) (asked : Asked) (k : ℕ) (given : Given) (s : Standing) (old new : Moment) (r r' : Replies)
+broke : (why : SendEnd) (asked : Asked) (k : ℕ) (given : Given) (s : Standing) (old new : SendingMoment) (r r' : Replies)
     (handling : Handling) (came : List ℕ)
     → ((x : List ℕ) (behind : List Placed) → IsBehind why (after_handling s given handling).next x behind)
     → IsHandled asked given handling → HearsOn came (handling_codes s.next handling) r r'
@@ -63,7 +63,7 @@ broke why asked k given s old new r r' handling came free is_handled on breaks =
   heard = heard_last why (after_handling s given handling).next came (handling_codes s.next handling) r r' free on;
 }
 
-pub offer_breaks : (why : SendEnd) (asked : Asked) (k : ℕ) (given : Given) (s : Standing) (first old new : Moment)
+pub offer_breaks : (why : SendEnd) (asked : Asked) (k : ℕ) (given : Given) (s : Standing) (first old new : SendingMoment)
     (r r' : Replies) (handling : Handling) (came : List ℕ)
     → IsHandled asked given handling → HearsOn came (handling_codes s.next handling) r r'
     → Breaks came first new (handling_deed first.pass.actor k s.next given handling)
@@ -104,7 +104,7 @@ offer_breaks end.AllBusy asked k given s first old new r r' handling came is_han
 
 -- ---- it is not due, or goes whole
 
-pub offers_nothing : (asked : Asked) (k : ℕ) (given : Given) (s : Standing) (now : Moment) (r : Replies)
+pub offers_nothing : (asked : Asked) (k : ℕ) (given : Given) (s : Standing) (now : SendingMoment) (r : Replies)
     → IsHandled asked given Passed
     → Does [] now now (handling_deed now.pass.actor k s.next given Passed) → HoldsGiven now.pass k given
     → Offered asked k given s s now now r r
@@ -119,7 +119,7 @@ offers_nothing asked k given s now r passed does holds = record {
 }
 
 pub offers_whole : (result : Result (Unit {0}) SendEnd) (asked : Asked) (k : ℕ) (given : Given) (s s' : Standing)
-    (old new : Moment) (r : Replies) → IsDue asked given
+    (old new : SendingMoment) (r : Replies) → IsDue asked given
     → size_of given ≤ asked.max_hereis → GivesWhole result k given s s' old new
     → Offers result asked k given s s' old new r r
 offers_whole (Ok done) asked k given s s' old new r due small gives = record {
@@ -138,7 +138,7 @@ offers_whole (Err why) asked k given s s' old new r due small gives =
 -- ---- it is announced
 
 -- no reply came
-pub offer_unanswered : (why : SendEnd) (asked : Asked) (k n : ℕ) (given : Given) (s : Standing) (old new : Moment)
+pub offer_unanswered : (why : SendEnd) (asked : Asked) (k n : ℕ) (given : Given) (s : Standing) (old new : SendingMoment)
     (r : Replies) → IsDue asked given → asked.max_hereis < size_of given
     → HasCursor old.pass k (Some n) → EndsAnnouncing why k given s old new r → EndsOffer why asked k given s old new r
 offer_unanswered why asked k n given s old new r due large has ended = record {
@@ -163,7 +163,7 @@ offer_unanswered why asked k n given s old new r due large has ended = record {
     by_end false = inl unanswered
 
 -- the peer did not want it
-pub offer_declined : (asked : Asked) (k : ℕ) (given : Given) (s s' : Standing) (old new : Moment) (r r' : Replies)
+pub offer_declined : (asked : Asked) (k : ℕ) (given : Given) (s s' : Standing) (old new : SendingMoment) (r r' : Replies)
     → IsDue asked given → asked.max_hereis < size_of given
     → HoldsGiven new.pass k given → Announced k given soon.DontSend s s' old new r r'
     → Offered asked k given s s' old new r r'
@@ -198,7 +198,7 @@ stands_at s next at one two =
 
 pub offer_in_blocks : (result : Result (Unit {0}) SendEnd) (asked : Asked) (k : ℕ) (given : Given) (s t u : Standing)
     (pass : PassView) (link link' : LinkRecord) (clock clock' : ClockRecord)
-    (out out' : List ℕ) (new : Moment) (r r' : Replies) → IsDue asked given → asked.max_hereis < size_of given
+    (out out' : List ℕ) (new : SendingMoment) (r r' : Replies) → IsDue asked given → asked.max_hereis < size_of given
     → Announced k given soon.Ok s t (moment_of pass link clock out) (moment_of pass link' clock' out') r r'
     → GivesBlocks result k given t u (moment_of pass link' clock' out') new
     → Offers result asked k given s u (moment_of pass link clock out) new r r'

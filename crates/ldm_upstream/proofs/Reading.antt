@@ -18,7 +18,7 @@ use Rattle.ldm_upstream.specs.Blocks.{blocks, reads}
 use Rattle.ldm_upstream.specs.Turn.{Given}
 use Rattle.ldm_sender.specs.Deeds.{Deed, no_deed}
 use Rattle.ldm_upstream.specs.ProductDeeds.{part_of, read_entry, reading_all}
-use Rattle.ldm_sender.specs.Does.{Moment, moment_of}
+use Rattle.ldm_sender.specs.Does.{SendingMoment, moment_of}
 use Rattle.ldm_upstream.specs.Giving.{HoldsGiven, BreaksOff, GoesOn, AppendsPart, FailsToRead}
 use Rattle.ldm_upstream.proofs.Blocks.{IsBlockAt, reads_from, rest_of_body, nothing_left, no_blocks}
 use Rattle.ldm_sender.proofs.Doing.{Toward, toward_then, toward_same, all_done, breaks_then, nothing_done, some_sent}
@@ -75,7 +75,7 @@ part_gathered old new link clock out out' actor k given at len unclosed by is ap
 -- ---- where the reading breaks off
 
 -- no call could be made, or memory is missing
-pub reading_fails : (why : SendEnd) (old : Moment) (mid_pass new_pass : PassView) (link : LinkRecord)
+pub reading_fails : (why : SendEnd) (old : SendingMoment) (mid_pass new_pass : PassView) (link : LinkRecord)
     (clock : ClockRecord) (mid_out new_out : List ℕ) (k : ℕ) (given : Given) (left all : Deed) → IsNotClosed link
     → HoldsGiven mid_pass k given → FailsToRead why mid_pass new_pass
     → Toward [] old (moment_of mid_pass link clock mid_out) left all
@@ -120,7 +120,7 @@ reading_fails end.AllBusy old mid_pass new_pass link clock mid_out new_out k giv
     toward = absurd fails
 
 -- the link failed
-pub sending_fails : (old : Moment) (pass : PassView) (link new_link : LinkRecord) (clock : ClockRecord)
+pub sending_fails : (old : SendingMoment) (pass : PassView) (link new_link : LinkRecord) (clock : ClockRecord)
     (out new_out : List ℕ) (k : ℕ) (given : Given) (left all : Deed)
     → IsNotClosed link → link.faults ≤ new_link.faults → HoldsGiven pass k given → gathering.Breaks out link new_link
     → Toward [] old (moment_of pass link clock out) left all
@@ -134,7 +134,7 @@ sending_fails old pass link new_link clock out new_out k given left all unclosed
 }
 
 -- the link took some of what was gathered
-pub sends_on : (old : Moment) (pass : PassView) (link new_link : LinkRecord) (clock : ClockRecord)
+pub sends_on : (old : SendingMoment) (pass : PassView) (link new_link : LinkRecord) (clock : ClockRecord)
     (out new_out : List ℕ) (left all : Deed)
     → IsNotClosed link → gathering.MovesOn out link new_out new_link
     → Toward [] old (moment_of pass link clock out) left all
@@ -144,7 +144,7 @@ sends_on old pass link new_link clock out new_out left all unclosed moves toward
     (some_sent pass clock out new_out link new_link left unclosed moves)
 
 -- a part was read and gathered, and the link took some of what was gathered
-pub part_goes_on : (first : Moment) (old new : PassView) (link new_link : LinkRecord) (clock : ClockRecord)
+pub part_goes_on : (first : SendingMoment) (old new : PassView) (link new_link : LinkRecord) (clock : ClockRecord)
     (out out' new_out : List ℕ) (actor k : ℕ) (given : Given) (at len : ℕ) (all : Deed)
     → IsNotClosed link → old.actor ≡ actor → IsBlockAt given.product.body at len
     → AppendsPart k given at (part_of at len given.product.body) old new out out'
@@ -160,7 +160,7 @@ part_goes_on first old new link new_link clock out out' new_out actor k given at
     (part_gathered old new link clock out out' actor k given at len unclosed by is appends))
 
 -- the whole body was read
-pub body_read : (first new : Moment) (actor k : ℕ) (given : Given) (at : ℕ) → length given.product.body ≤ at
+pub body_read : (first new : SendingMoment) (actor k : ℕ) (given : Given) (at : ℕ) → length given.product.body ≤ at
     → HoldsGiven new.pass k given
     → Toward [] first new (reading_from actor k given.product.body at) (reading_all actor k given.product.body)
     → GoesOn k given first new (reading_all actor k given.product.body)

@@ -15,14 +15,14 @@ use Rattle.ldm_sender.specs.Asked.{Asked}
 use Rattle.ldm_upstream.specs.Turn.{Given, let_go, after_handling, handling_codes}
 use Rattle.ldm_sender.specs.Deeds.{and_then, calling}
 use Rattle.ldm_upstream.specs.ProductDeeds.{handling_deed}
-use Rattle.ldm_sender.specs.Does.{Moment, moment_of, Does, Breaks}
+use Rattle.ldm_sender.specs.Does.{SendingMoment, moment_of, Does, Breaks}
 use Rattle.ldm_sender.specs.Acts.{is_whole}
 use Rattle.ldm_upstream.specs.Offering.{Offered, EndsOfferBy, EndsOffer, Handled, EndsHandlingBy, EndsHandling}
 use Rattle.ldm_sender.proofs.Doing.{does_then, breaks_then, breaks_before, one_done, nothing_done}
 use Rattle.ldm_upstream.proofs.Offers.{heard_last}
 
 -- it ended before
-ended_by : (whole : Bool) (why : SendEnd) (asked : Asked) (k : ℕ) (given : Given) (s : Standing) (old new : Moment)
+ended_by : (whole : Bool) (why : SendEnd) (asked : Asked) (k : ℕ) (given : Given) (s : Standing) (old new : SendingMoment)
     (r : Replies) → EndsOfferBy whole why asked k given s old new r
     → EndsHandlingBy whole why asked k given s old new r
 ended_by true why asked k given s old new r ends = ends
@@ -38,7 +38,7 @@ ended_by false why asked k given s old new r (inr ends) =
       heard = ends.heard;
     })
 
-pub ended_before : (why : SendEnd) (asked : Asked) (k : ℕ) (given : Given) (s : Standing) (old new : Moment)
+pub ended_before : (why : SendEnd) (asked : Asked) (k : ℕ) (given : Given) (s : Standing) (old new : SendingMoment)
     (r : Replies) → EndsOffer why asked k given s old new r
     → EndsHandling why asked k given s old new r
 ended_before why asked k given s old new r ends =
@@ -50,7 +50,7 @@ ended_before why asked k given s old new r ends =
     }
 
 -- it is let go
-pub let_it_go : (asked : Asked) (k : ℕ) (given : Given) (s s' : Standing) (old : Moment) (mid new : PassView)
+pub let_it_go : (asked : Asked) (k : ℕ) (given : Given) (s s' : Standing) (old : SendingMoment) (mid new : PassView)
     (link : LinkRecord) (clock : ClockRecord) (out : List ℕ) (r r' : Replies)
     → IsNotClosed link → Offered asked k given s s' old (moment_of mid link clock out) r r'
     → Makes mid new (let_go mid.actor k given ∷ []) → HasCursor new k None
@@ -76,7 +76,7 @@ let_it_go asked k given s s' old mid new link clock out r r' unclosed offered ma
     }
 
 -- the queue has had all its calls
-pub worn_before : (asked : Asked) (k turns : ℕ) (given : Given) (s s' : Standing) (old : Moment) (mid new : PassView)
+pub worn_before : (asked : Asked) (k turns : ℕ) (given : Given) (s s' : Standing) (old : SendingMoment) (mid new : PassView)
     (link : LinkRecord) (clock : ClockRecord) (out : List ℕ) (r r' : Replies)
     → IsNotClosed link → Offered asked k given s s' old (moment_of mid link clock out) r r' → FindsWorn mid new turns
     → EndsHandling end.Worn asked k given s old (moment_of new link clock out) r

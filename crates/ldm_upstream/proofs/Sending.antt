@@ -19,7 +19,7 @@ use Rattle.ldm_upstream.specs.Turn.{Given, last_of, block_messages}
 use Rattle.ldm_sender.specs.Calls.{later_call}
 use Rattle.ldm_sender.specs.Deeds.{Deed, and_then, no_deed, asking, records_of}
 use Rattle.ldm_upstream.specs.ProductDeeds.{part_of, reading, blocks_deed}
-use Rattle.ldm_sender.specs.Does.{Moment, moment_of, Does}
+use Rattle.ldm_sender.specs.Does.{SendingMoment, moment_of, Does}
 use Rattle.ldm_upstream.specs.Giving.{HoldsGiven, BreaksOff, GoesOn, AppendsPart, Block, one_block_deed, GaveBlocks}
 use Rattle.ldm_upstream.specs.Giving.{BreaksInBlocks}
 use Rattle.ldm_sender.specs.Stopping.{StopsSending}
@@ -106,7 +106,7 @@ part_done old new link clock out out' part k given offset unclosed appends = rec
 }
 
 -- The body was gathered: the zero bytes and the answer of the clock are left.
-pub body_gathered : (old mid new : Moment) (entries : List Entry) (body zeros whole : List ℕ) (at : ℕ)
+pub body_gathered : (old mid new : SendingMoment) (entries : List Entry) (body zeros whole : List ℕ) (at : ℕ)
     → Toward [] old mid (and_then (body_deed entries body) (message_deed [] zeros at)) (message_deed entries whole at)
     → Does [] mid new (body_deed entries body)
     → Toward [] old new (message_deed [] zeros at) (message_deed entries whole at)
@@ -116,7 +116,7 @@ body_gathered old mid new entries body zeros whole at toward does =
     (one_done [] mid new (body_deed entries body) (message_deed [] zeros at) does)
 
 -- Then these were gathered.
-pub message_gathered : (old : Moment) (pass : PassView) (link : LinkRecord) (clock : ClockRecord)
+pub message_gathered : (old : SendingMoment) (pass : PassView) (link : LinkRecord) (clock : ClockRecord)
     (out out' zeros : List ℕ) (at : ℕ) (all : Deed) → IsNotClosed link → out' ≡ out ++ zeros
     → Toward [] old (moment_of pass link clock out) (message_deed [] zeros at) all
     → Toward [] old (moment_of pass link clock out') (asking at) all
@@ -126,7 +126,7 @@ message_gathered old pass link clock out out' zeros at all unclosed is toward =
     (zeros_gathered pass link clock out out' zeros at unclosed is)
 
 -- Then the clock was asked.
-pub clock_asked : (old : Moment) (pass : PassView) (link : LinkRecord) (clock clock' : ClockRecord) (out : List ℕ)
+pub clock_asked : (old : SendingMoment) (pass : PassView) (link : LinkRecord) (clock clock' : ClockRecord) (out : List ℕ)
     (at : ℕ) (all : Deed) → IsNotClosed link → Answers at clock clock'
     → Toward [] old (moment_of pass link clock out) (asking at) all
     → Toward [] old (moment_of pass link clock' out) no_deed all
@@ -136,7 +136,7 @@ clock_asked old pass link clock clock' out at all unclosed answered toward =
     (clock_answered pass link clock clock' out at unclosed answered)
 
 -- all of it was gathered
-pub whole_gathered : (old : Moment) (pass : PassView) (link : LinkRecord) (clock clock' : ClockRecord)
+pub whole_gathered : (old : SendingMoment) (pass : PassView) (link : LinkRecord) (clock clock' : ClockRecord)
     (out out' zeros : List ℕ) (at : ℕ) (all : Deed) → IsNotClosed link → out' ≡ out ++ zeros
     → Answers at clock clock' → Toward [] old (moment_of pass link clock out) (message_deed [] zeros at) all
     → Toward [] old (moment_of pass link clock' out') no_deed all
@@ -145,7 +145,7 @@ whole_gathered old pass link clock clock' out out' zeros at all unclosed is answ
     (message_gathered old pass link clock out out' zeros at all unclosed is toward)
 
 -- it goes out with what is gathered, and the product is held still
-pub message_given : (old : Moment) (pass : PassView) (link new_link : LinkRecord) (clock : ClockRecord)
+pub message_given : (old : SendingMoment) (pass : PassView) (link new_link : LinkRecord) (clock : ClockRecord)
     (out out' : List ℕ) (k : ℕ) (given : Given) (all : Deed) → IsNotClosed link
     → HoldsGiven pass k given → gathering.MovesOn out link out' new_link
     → Toward [] old (moment_of pass link clock out) no_deed all
@@ -159,14 +159,14 @@ message_given old pass link new_link clock out out' k given all unclosed holds m
 -- ---- where it breaks off
 
 -- there is no memory
-pub no_memory : (old : Moment) (pass : PassView) (link : LinkRecord) (clock : ClockRecord) (out out' : List ℕ) (k : ℕ)
+pub no_memory : (old : SendingMoment) (pass : PassView) (link : LinkRecord) (clock : ClockRecord) (out out' : List ℕ) (k : ℕ)
     (given : Given) (left all : Deed) → IsNotClosed link
     → HoldsGiven pass k given → Toward [] old (moment_of pass link clock out) left all
     → BreaksOff end.OutOfMemory k old (moment_of pass link clock out') all
 no_memory old pass link clock out out' k given left all unclosed holds toward =
     reading_fails end.OutOfMemory old pass pass link clock out out' k given left all unclosed holds refl toward
 
-stops_later : (why : SendEnd) (old mid new : Moment) → old.link.faults ≤ mid.link.faults → StopsSending why mid new
+stops_later : (why : SendEnd) (old mid new : SendingMoment) → old.link.faults ≤ mid.link.faults → StopsSending why mid new
     → StopsSending why old new
 stops_later end.LinkFault old mid new later stops =
     Rose-later old.link.faults mid.link.faults new.link.faults later stops
@@ -181,7 +181,7 @@ stops_later (end.BadReply at) old mid new later stops = stops
 stops_later end.AllBusy old mid new later stops = stops
 
 -- it breaks off in the first of what is left
-pub breaks_off_then : (why : SendEnd) (k : ℕ) (old mid new : Moment) (first second all : Deed)
+pub breaks_off_then : (why : SendEnd) (k : ℕ) (old mid new : SendingMoment) (first second all : Deed)
     → Toward [] old mid (and_then first second) all → BreaksOff why k mid new first
     → BreaksOff why k old new all
 breaks_off_then why k old mid new first second all toward breaks = record {
@@ -230,7 +230,7 @@ one_of_blocks actor k next next' given number at len instant later is next_is =
     (sym (messages_from next signature number body at len is))
 
 -- Blocks were given up to a place, so many as the clock answered since.
-pub record HasGiven (k : ℕ) (given : Given) (standing standing' : Standing) (old new : Moment)
+pub record HasGiven (k : ℕ) (given : Given) (standing standing' : Standing) (old new : SendingMoment)
     (number at : ℕ) : Type 0 where
   pub blocks_at : List ℕ
   pub each : length blocks_at + length (blocks (drop at given.product.body)) ≡ length (blocks given.product.body)
@@ -239,7 +239,7 @@ pub record HasGiven (k : ℕ) (given : Given) (standing standing' : Standing) (o
   pub toward : (later : List ℕ) → Toward [] old new (blocks_left old.pass.actor k standing'.next given number at later)
       (blocks_deed old.pass.actor k standing.next given (blocks_at ++ later))
 
-pub none_given : (k : ℕ) (given : Given) (standing : Standing) (now : Moment) → IsNotClosed now.link
+pub none_given : (k : ℕ) (given : Given) (standing : Standing) (now : SendingMoment) → IsNotClosed now.link
     → standing.next ≡ later_call standing.next 0 → HasGiven k given standing standing now now 0 0
 none_given k given standing now unclosed small = record {
   blocks_at = [];
@@ -254,7 +254,7 @@ last_of-more before at [] = refl
 last_of-more before at (instant ∷ instants) = last_of-more instant at instants
 
 -- what is left before one more is given
-block_toward : (k : ℕ) (given : Given) (standing mid_standing : Standing) (old mid : Moment)
+block_toward : (k : ℕ) (given : Given) (standing mid_standing : Standing) (old mid : SendingMoment)
     (number at len instant next' : ℕ) (later : List ℕ) → mid.pass.actor ≡ old.pass.actor
     → IsBlockAt given.product.body at len → next' ≡ later_call mid_standing.next 1
     → (has : HasGiven k given standing mid_standing old mid number at)
@@ -275,7 +275,7 @@ block_toward k given standing mid_standing old mid number at len instant next' l
     (has.toward (instant ∷ later))
 
 -- one more was given
-pub one_more_given : (k : ℕ) (given : Given) (standing mid_standing standing' : Standing) (old mid new : Moment)
+pub one_more_given : (k : ℕ) (given : Given) (standing mid_standing standing' : Standing) (old mid new : SendingMoment)
     (number at len : ℕ) → mid.pass.actor ≡ old.pass.actor
     → IsBlockAt given.product.body at len → HasGiven k given standing mid_standing old mid number at
     → GoesOn k given mid new
@@ -304,7 +304,7 @@ one_more_given k given standing mid_standing standing' old mid new number at len
     }
 
 -- it breaks off in one
-pub breaks_in_block : (why : SendEnd) (k : ℕ) (given : Given) (standing mid_standing : Standing) (old mid new : Moment)
+pub breaks_in_block : (why : SendEnd) (k : ℕ) (given : Given) (standing mid_standing : Standing) (old mid new : SendingMoment)
     (number at len instant : ℕ) → mid.pass.actor ≡ old.pass.actor
     → IsBlockAt given.product.body at len → HasGiven k given standing mid_standing old mid number at
     → BreaksOff why k mid new
@@ -333,7 +333,7 @@ breaks_in_block why k given standing mid_standing old mid new number at len inst
     }
 
 -- all were given
-pub all_given : (k : ℕ) (given : Given) (standing standing' : Standing) (old new : Moment) (number at : ℕ)
+pub all_given : (k : ℕ) (given : Given) (standing standing' : Standing) (old new : SendingMoment) (number at : ℕ)
     → length given.product.body ≤ at → HoldsGiven new.pass k given
     → HasGiven k given standing standing' old new number at → GaveBlocks k given standing standing' old new
 all_given k given standing standing' old new number at behind holds has =

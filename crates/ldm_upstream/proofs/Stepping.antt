@@ -31,7 +31,7 @@ use Rattle.ldm_sender.specs.Calls.{MayBeUnmade, stepped, later_call}
 use Rattle.ldm_upstream.specs.Feeding.{Last, GoesOn, Stopped, Unanswered}
 use Rattle.ldm_sender.specs.Deeds.{records_of}
 use Rattle.ldm_upstream.specs.ProductDeeds.{handling_deed}
-use Rattle.ldm_sender.specs.Does.{Moment, moment_of, Does, Breaks, Each}
+use Rattle.ldm_sender.specs.Does.{SendingMoment, moment_of, Does, Breaks, Each}
 use Rattle.ldm_sender.specs.Stopping.{KeepsCursor}
 use Rattle.ldm_sender.specs.Acts.{situation_of, then_act, ungated, BreaksAct, EndsAct, IsAllSent, is_whole}
 use Rattle.ldm_upstream.specs.Heard.{HearsOn, HearsLast}
@@ -265,7 +265,7 @@ gave asked k given s s' first old link link' clock clock' out new out' log gate 
     }
 
 offer_to_turns : (why : SendEnd) (old : PassView) (link : LinkRecord) (clock : ClockRecord) (out : List ℕ)
-    (first : PassView) (new : Moment) (log : SinkRecord) (gate : GateRecord)
+    (first : PassView) (new : SendingMoment) (log : SinkRecord) (gate : GateRecord)
     → StopsOffer why (moment_of old link clock out) new
     → StopsTurns why (situation_of (moment_of first link clock out) log gate) (situation_of new log gate)
 offer_to_turns (end.PeerEnd at) old link clock out first new log gate cause = cause
@@ -282,7 +282,7 @@ offer_to_turns end.AllBusy old link clock out first new log gate cause = absurd 
 -- it was announced, or that broke off
 unanswered_act : (whole : Bool) (why : SendEnd) (asked : Asked) (k at : ℕ) (given : Given) (s : Standing)
     (first old : PassView) (link : LinkRecord) (clock : ClockRecord) (out : List ℕ) (came : List ℕ)
-    (new : Moment) (log : SinkRecord) (gate : GateRecord) → IsNotClosed link
+    (new : SendingMoment) (log : SinkRecord) (gate : GateRecord) → IsNotClosed link
     → Makes first old (stepped first.actor k (given_reply given) ∷ [])
     → EndsDeed whole came (moment_of old link clock out) new (handling_deed first.actor k s.next given (Declined at))
     → EndsAct whole why asked.host came (situation_of (moment_of first link clock out) log gate)
@@ -308,7 +308,7 @@ unanswered_act false why asked k at given s first old link clock out came new lo
 
 -- it broke off in what is done with it
 gave_broken : (why : SendEnd) (asked : Asked) (k : ℕ) (given : Given) (s : Standing) (first old : PassView)
-    (link : LinkRecord) (clock : ClockRecord) (out : List ℕ) (new : Moment)
+    (link : LinkRecord) (clock : ClockRecord) (out : List ℕ) (new : SendingMoment)
     (log : SinkRecord) (gate : GateRecord) (r : Replies) → IsNotClosed link
     → Makes first old (stepped first.actor k (given_reply given) ∷ [])
     → (ended : BreaksHandling why asked k given s (moment_of old link clock out) new r)
@@ -339,7 +339,7 @@ gave_broken why asked k given s first old link clock out new log gate r unclosed
 
 -- no reply came
 gave_unanswered : (why : SendEnd) (asked : Asked) (k : ℕ) (given : Given) (s : Standing) (first old : PassView)
-    (link : LinkRecord) (clock : ClockRecord) (out : List ℕ) (new : Moment)
+    (link : LinkRecord) (clock : ClockRecord) (out : List ℕ) (new : SendingMoment)
     (log : SinkRecord) (gate : GateRecord) (r : Replies) → IsRowOf old given → IsNotClosed link
     → Makes first old (stepped first.actor k (given_reply given) ∷ [])
     → (ended : IsUnanswered why asked k given s (moment_of old link clock out) new r)
@@ -368,7 +368,7 @@ gave_unanswered why asked k given s first old link clock out new log gate r row 
     }
 
 ends_broken : (why : SendEnd) (asked : Asked) (k : ℕ) (given : Given) (s : Standing) (first old : PassView)
-    (link : LinkRecord) (clock : ClockRecord) (out : List ℕ) (new : Moment)
+    (link : LinkRecord) (clock : ClockRecord) (out : List ℕ) (new : SendingMoment)
     (log : SinkRecord) (gate : GateRecord) (r : Replies) → RowsStay → IsRowOf old given → IsNotClosed link
     → Makes first old (stepped first.actor k (given_reply given) ∷ [])
     → BreaksHandling why asked k given s (moment_of old link clock out) new r → IsLastOf why GoesOn
@@ -403,7 +403,7 @@ ends_broken why asked k given s first old link clock out new log gate r law row 
 
 -- it broke off, in its announcement or behind it
 gave_partly : (why : SendEnd) (asked : Asked) (k : ℕ) (given : Given) (s : Standing) (first old : PassView)
-    (link : LinkRecord) (clock : ClockRecord) (out : List ℕ) (new : Moment)
+    (link : LinkRecord) (clock : ClockRecord) (out : List ℕ) (new : SendingMoment)
     (log : SinkRecord) (gate : GateRecord) (r : Replies) → RowsStay → IsRowOf old given → IsNotClosed link
     → Makes first old (stepped first.actor k (given_reply given) ∷ [])
     → EndsHandlingBy false why asked k given s (moment_of old link clock out) new r
@@ -420,7 +420,7 @@ gave_partly why asked k given s first old link clock out new log gate r law row 
     part cause cursor
 
 pub gave_ended : (why : SendEnd) (asked : Asked) (k : ℕ) (given : Given) (s : Standing) (first old : PassView)
-    (link : LinkRecord) (clock : ClockRecord) (out : List ℕ) (new : Moment)
+    (link : LinkRecord) (clock : ClockRecord) (out : List ℕ) (new : SendingMoment)
     (log : SinkRecord) (gate : GateRecord) (r : Replies) → RowsStay → IsRowOf old given → IsNotClosed link
     → Makes first old (stepped first.actor k (given_reply given) ∷ [])
     → EndsHandlingBy (is_whole why) why asked k given s (moment_of old link clock out) new r

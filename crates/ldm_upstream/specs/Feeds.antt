@@ -14,7 +14,8 @@ use Rattle.ldm_sender.specs.declared.end.SendEnd.TheVariants as end
 use Rattle.ldm_sender.specs.Asked.{Asked}
 use Rattle.ldm_sender.specs.Opening.{Answered, IsAnswerTo, opening_entries}
 use Rattle.ldm_sender.specs.Calls.{MayBeUnmade}
-use Rattle.ldm_sender.specs.Does.{IsPart, IsAllBut}
+use Rattle.ldm_sender.specs.Does.{IsAllBut}
+use Rattle.ldm_session.specs.Part.{IsPart}
 use Rattle.ldm_sender.specs.Acts.{Situation, Act, IsStop, Logged, EndsAct, IsAllSent, is_whole}
 use Rattle.ldm_sender.specs.Ending.{IsEndOf, IsLeft, closing_of, session_of}
 use Rattle.ldm_upstream.specs.Feeding.{Feeding, IsFeeding, stands, entries_of, bytes_of, codes_of, instants_of, goes_of}

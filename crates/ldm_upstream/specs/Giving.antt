@@ -14,7 +14,7 @@ use Rattle.ldm_upstream.specs.Turn.{Given, Whole, last_of, after_handling}
 use Rattle.ldm_sender.specs.Calls.{later_call}
 use Rattle.ldm_sender.specs.Deeds.{Deed}
 use Rattle.ldm_upstream.specs.ProductDeeds.{part_of, read_entry, reading_all, handling_deed, block_deed, blocks_deed}
-use Rattle.ldm_sender.specs.Does.{Moment, Does, Breaks}
+use Rattle.ldm_sender.specs.Does.{SendingMoment, Does, Breaks}
 
 -- a product that is held, with its body
 abbrev pub given_of : Held → List ℕ → Given
@@ -25,13 +25,13 @@ abbrev pub HoldsGiven : PassView → ℕ → Given → Type 0
 HoldsGiven pass k given = HoldsProduct pass k given.n given.time given.product
 
 -- The giving of a product broke off in this deed.
-pub record BreaksOff (why : SendEnd) (k : ℕ) (old new : Moment) (deed : Deed) : Type 0 where
+pub record BreaksOff (why : SendEnd) (k : ℕ) (old new : SendingMoment) (deed : Deed) : Type 0 where
   pub breaks : Breaks [] old new deed
   pub cause : StopsSending why old new
   pub cursor : KeepsCursor why new.pass k
 
 -- The deed was done, and the product is held still.
-pub record GoesOn (k : ℕ) (given : Given) (old new : Moment) (deed : Deed) : Type 0 where
+pub record GoesOn (k : ℕ) (given : Given) (old new : SendingMoment) (deed : Deed) : Type 0 where
   pub does : Does [] old new deed
   pub holds : HoldsGiven new.pass k given
 
@@ -55,13 +55,13 @@ abbrev pub ReadsPart : Result (Unit {0}) SendEnd → ℕ → Given → ℕ → L
 ReadsPart (Ok done) k given offset part old new out out' = AppendsPart k given offset part old new out out'
 ReadsPart (Err why) k given offset part old new out out' = FailsToRead why old new
 
-abbrev pub ReadsAll : Result (Unit {0}) SendEnd → ℕ → Given → Moment → Moment → Type 0
+abbrev pub ReadsAll : Result (Unit {0}) SendEnd → ℕ → Given → SendingMoment → SendingMoment → Type 0
 ReadsAll (Ok done) k given old new = GoesOn k given old new (reading_all old.pass.actor k given.product.body)
 ReadsAll (Err why) k given old new = BreaksOff why k old new (reading_all old.pass.actor k given.product.body)
 
 -- ---- a product that goes whole
 
-abbrev pub GivesWhole : Result (Unit {0}) SendEnd → ℕ → Given → Standing → Standing → Moment → Moment → Type 0
+abbrev pub GivesWhole : Result (Unit {0}) SendEnd → ℕ → Given → Standing → Standing → SendingMoment → SendingMoment → Type 0
 GivesWhole (Ok done) k given standing standing' old new =
     GoesOn k given old new (handling_deed old.pass.actor k standing.next given (Whole standing'.sent_at))
     × (standing' ≡ after_handling standing given (Whole standing'.sent_at))
@@ -83,7 +83,7 @@ abbrev pub one_block_deed : ℕ → ℕ → ℕ → Given → Block → ℕ → 
 one_block_deed actor k next given block at =
     block_deed actor k next given.product.info.signature block.offset block.number block.bytes at
 
-abbrev pub GivesBlock : Result (Unit {0}) SendEnd → ℕ → Given → Block → Standing → Standing → Moment → Moment → Type 0
+abbrev pub GivesBlock : Result (Unit {0}) SendEnd → ℕ → Given → Block → Standing → Standing → SendingMoment → SendingMoment → Type 0
 GivesBlock (Ok done) k given block standing standing' old new =
     GoesOn k given old new (one_block_deed old.pass.actor k standing.next given block standing'.sent_at)
     × (standing'.next ≡ later_call standing.next 1)
@@ -91,7 +91,7 @@ GivesBlock (Err why) k given block standing standing' old new =
     BreaksOff why k old new (one_block_deed old.pass.actor k standing.next given block standing'.sent_at)
 
 -- All blocks were given, and after each the clock answered.
-pub record GaveBlocks (k : ℕ) (given : Given) (standing standing' : Standing) (old new : Moment) : Type 0 where
+pub record GaveBlocks (k : ℕ) (given : Given) (standing standing' : Standing) (old new : SendingMoment) : Type 0 where
   pub blocks_at : List ℕ
   pub each : length blocks_at ≡ length (blocks given.product.body)
   pub goes_on : GoesOn k given old new (blocks_deed old.pass.actor k standing.next given blocks_at)
@@ -100,11 +100,11 @@ pub record GaveBlocks (k : ℕ) (given : Given) (standing standing' : Standing) 
 
 -- It broke off: the answers that did not come are any.
 pub record BreaksInBlocks (why : SendEnd) (k : ℕ) (given : Given) (standing : Standing)
-    (old new : Moment) : Type 0 where
+    (old new : SendingMoment) : Type 0 where
   pub blocks_at : List ℕ
   pub each : length blocks_at ≡ length (blocks given.product.body)
   pub breaks_off : BreaksOff why k old new (blocks_deed old.pass.actor k standing.next given blocks_at)
 
-abbrev pub GivesBlocks : Result (Unit {0}) SendEnd → ℕ → Given → Standing → Standing → Moment → Moment → Type 0
+abbrev pub GivesBlocks : Result (Unit {0}) SendEnd → ℕ → Given → Standing → Standing → SendingMoment → SendingMoment → Type 0
 GivesBlocks (Ok done) k given standing standing' old new = GaveBlocks k given standing standing' old new
 GivesBlocks (Err why) k given standing standing' old new = BreaksInBlocks why k given standing old new

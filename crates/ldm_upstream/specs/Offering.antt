@@ -14,14 +14,14 @@ use Rattle.ldm_upstream.specs.Turns.{IsHandled}
 use Rattle.ldm_upstream.specs.Feeding.{Unanswered, IsLast}
 use Rattle.ldm_sender.specs.Deeds.{Deed, and_then, calling}
 use Rattle.ldm_upstream.specs.ProductDeeds.{handling_deed}
-use Rattle.ldm_sender.specs.Does.{Moment, Does, Breaks}
+use Rattle.ldm_sender.specs.Does.{SendingMoment, Does, Breaks}
 use Rattle.ldm_upstream.specs.Giving.{HoldsGiven}
 use Rattle.ldm_sender.specs.Stopping.{KeepsCursor}
 use Rattle.ldm_sender.specs.Acts.{is_whole, IsAllSent}
 use Rattle.ldm_upstream.specs.Heard.{HearsOn, HearsLast}
 
 -- why the offer of a product ends
-abbrev pub StopsOffer : SendEnd → Moment → Moment → Type 0
+abbrev pub StopsOffer : SendEnd → SendingMoment → SendingMoment → Type 0
 StopsOffer (end.PeerEnd at) old new = Rose old.link.ends new.link.ends
 StopsOffer (end.BadReply at) old new = Unit {0}
 StopsOffer end.LinkFault old new = Rose old.link.faults new.link.faults
@@ -30,14 +30,14 @@ StopsOffer end.OutOfMemory old new = Unit {0}
 StopsOffer _ old new = ⊥
 
 -- it was done, or it broke off
-abbrev pub EndsDeed : Bool → (came : List ℕ) → (old new : Moment) → Deed → Type 0
+abbrev pub EndsDeed : Bool → (came : List ℕ) → (old new : SendingMoment) → Deed → Type 0
 EndsDeed true came old new deed = Does came old new deed
 EndsDeed false came old new deed = Breaks came old new deed
 
 -- ---- an announcement and its reply
 
 -- It was announced, and this was replied. Nothing is gathered then.
-pub record Announced (k : ℕ) (given : Given) (answer : SoonAnswer) (standing standing' : Standing) (old new : Moment)
+pub record Announced (k : ℕ) (given : Given) (answer : SoonAnswer) (standing standing' : Standing) (old new : SendingMoment)
     (replies replies' : Replies) : Type 0 where
   pub came : List ℕ
   pub does : Does came old new (handling_deed old.pass.actor k standing.next given (Declined standing'.sent_at))
@@ -45,7 +45,7 @@ pub record Announced (k : ℕ) (given : Given) (answer : SoonAnswer) (standing s
   pub heard : HearsOn came (record { xid = standing.next; answer = answer } ∷ []) replies replies'
 
 -- It was announced or not, and no reply came.
-pub record EndsAnnouncing (why : SendEnd) (k : ℕ) (given : Given) (standing : Standing) (old new : Moment)
+pub record EndsAnnouncing (why : SendEnd) (k : ℕ) (given : Given) (standing : Standing) (old new : SendingMoment)
     (replies : Replies) : Type 0 where
   pub at : ℕ
   pub came : List ℕ
@@ -56,7 +56,7 @@ pub record EndsAnnouncing (why : SendEnd) (k : ℕ) (given : Given) (standing : 
   -- no call was made
   pub same : new.pass ≡ old.pass
 
-abbrev pub Announces : Result SoonAnswer SendEnd → ℕ → Given → (standing standing' : Standing) → (old new : Moment)
+abbrev pub Announces : Result SoonAnswer SendEnd → ℕ → Given → (standing standing' : Standing) → (old new : SendingMoment)
     → (replies replies' : Replies) → Type 0
 Announces (Ok answer) k given standing standing' old new replies replies' =
     Announced k given answer standing standing' old new replies replies'
@@ -66,7 +66,7 @@ Announces (Err why) k given standing standing' old new replies replies' =
 -- ---- the whole
 
 -- It was handled, and is held still.
-pub record Offered (asked : Asked) (k : ℕ) (given : Given) (standing standing' : Standing) (old new : Moment)
+pub record Offered (asked : Asked) (k : ℕ) (given : Given) (standing standing' : Standing) (old new : SendingMoment)
     (replies replies' : Replies) : Type 0 where
   pub handling : Handling
   pub is_handled : IsHandled asked given handling
@@ -77,7 +77,7 @@ pub record Offered (asked : Asked) (k : ℕ) (given : Given) (standing standing'
   pub holds : HoldsGiven new.pass k given
 
 -- It was announced, or that broke off, and no reply came.
-pub record IsUnanswered (why : SendEnd) (asked : Asked) (k : ℕ) (given : Given) (standing : Standing) (old new : Moment)
+pub record IsUnanswered (why : SendEnd) (asked : Asked) (k : ℕ) (given : Given) (standing : Standing) (old new : SendingMoment)
     (replies : Replies) : Type 0 where
   pub at : ℕ
   pub is_last : IsLast asked (Unanswered given at)
@@ -89,7 +89,7 @@ pub record IsUnanswered (why : SendEnd) (asked : Asked) (k : ℕ) (given : Given
   pub same : new.pass ≡ old.pass
 
 -- It broke off in a handling: the reply to its announcement came, where it was announced.
-pub record BreaksOffer (why : SendEnd) (asked : Asked) (k : ℕ) (given : Given) (standing : Standing) (old new : Moment)
+pub record BreaksOffer (why : SendEnd) (asked : Asked) (k : ℕ) (given : Given) (standing : Standing) (old new : SendingMoment)
     (replies : Replies) : Type 0 where
   pub handling : Handling
   pub is_handled : IsHandled asked given handling
@@ -98,18 +98,18 @@ pub record BreaksOffer (why : SendEnd) (asked : Asked) (k : ℕ) (given : Given)
   pub heard : HearsLast why (after_handling standing given handling).next came (handling_codes standing.next handling)
       replies
 
-abbrev pub EndsOfferBy : Bool → SendEnd → Asked → ℕ → Given → Standing → (old new : Moment) → Replies → Type 0
+abbrev pub EndsOfferBy : Bool → SendEnd → Asked → ℕ → Given → Standing → (old new : SendingMoment) → Replies → Type 0
 EndsOfferBy true why asked k given standing old new replies = IsUnanswered why asked k given standing old new replies
 EndsOfferBy false why asked k given standing old new replies =
     IsUnanswered why asked k given standing old new replies ⊎ BreaksOffer why asked k given standing old new replies
 
-pub record EndsOffer (why : SendEnd) (asked : Asked) (k : ℕ) (given : Given) (standing : Standing) (old new : Moment)
+pub record EndsOffer (why : SendEnd) (asked : Asked) (k : ℕ) (given : Given) (standing : Standing) (old new : SendingMoment)
     (replies : Replies) : Type 0 where
   pub ends : EndsOfferBy (is_whole why) why asked k given standing old new replies
   pub cause : StopsOffer why old new
   pub cursor : KeepsCursor why new.pass k
 
-abbrev pub Offers : Result (Unit {0}) SendEnd → Asked → ℕ → Given → (standing standing' : Standing) → (old new : Moment)
+abbrev pub Offers : Result (Unit {0}) SendEnd → Asked → ℕ → Given → (standing standing' : Standing) → (old new : SendingMoment)
     → (replies replies' : Replies) → Type 0
 Offers (Ok done) asked k given standing standing' old new replies replies' =
     Offered asked k given standing standing' old new replies replies'
@@ -124,7 +124,7 @@ product_deed actor k next given handling = and_then (handling_deed actor k next 
     (calling (let_go actor k given))
 
 -- It was handled, and let go.
-pub record Handled (asked : Asked) (k : ℕ) (given : Given) (standing standing' : Standing) (old new : Moment)
+pub record Handled (asked : Asked) (k : ℕ) (given : Given) (standing standing' : Standing) (old new : SendingMoment)
     (replies replies' : Replies) : Type 0 where
   pub handling : Handling
   pub is_handled : IsHandled asked given handling
@@ -136,7 +136,7 @@ pub record Handled (asked : Asked) (k : ℕ) (given : Given) (standing standing'
 
 -- It broke off in a handling, or in its release: the reply to its announcement came, where it was announced.
 pub record BreaksHandling (why : SendEnd) (asked : Asked) (k : ℕ) (given : Given) (standing : Standing)
-    (old new : Moment) (replies : Replies) : Type 0 where
+    (old new : SendingMoment) (replies : Replies) : Type 0 where
   pub handling : Handling
   pub is_handled : IsHandled asked given handling
   pub came : List ℕ
@@ -144,19 +144,19 @@ pub record BreaksHandling (why : SendEnd) (asked : Asked) (k : ℕ) (given : Giv
   pub heard : HearsLast why (after_handling standing given handling).next came (handling_codes standing.next handling)
       replies
 
-abbrev pub EndsHandlingBy : Bool → SendEnd → Asked → ℕ → Given → Standing → (old new : Moment) → Replies → Type 0
+abbrev pub EndsHandlingBy : Bool → SendEnd → Asked → ℕ → Given → Standing → (old new : SendingMoment) → Replies → Type 0
 EndsHandlingBy true why asked k given standing old new replies = IsUnanswered why asked k given standing old new replies
 EndsHandlingBy false why asked k given standing old new replies =
     IsUnanswered why asked k given standing old new replies ⊎ BreaksHandling why asked k given standing old new replies
 
-pub record EndsHandling (why : SendEnd) (asked : Asked) (k : ℕ) (given : Given) (standing : Standing) (old new : Moment)
+pub record EndsHandling (why : SendEnd) (asked : Asked) (k : ℕ) (given : Given) (standing : Standing) (old new : SendingMoment)
     (replies : Replies) : Type 0 where
   pub ends : EndsHandlingBy (is_whole why) why asked k given standing old new replies
   pub cause : StopsOffer why old new
   pub cursor : KeepsCursor why new.pass k
 
 abbrev pub Handles : Result (Unit {0}) SendEnd → Asked → ℕ → Given → (standing standing' : Standing)
-    → (old new : Moment) → (replies replies' : Replies) → Type 0
+    → (old new : SendingMoment) → (replies replies' : Replies) → Type 0
 Handles (Ok done) asked k given standing standing' old new replies replies' =
     Handled asked k given standing standing' old new replies replies'
 Handles (Err why) asked k given standing standing' old new replies replies' =

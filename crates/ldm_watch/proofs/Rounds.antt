@@ -20,7 +20,7 @@ use Rattle.ldm_watch.specs.declared.end.WatchEnd.TheVariants.{Ended, Counted, Tr
 use Rattle.ldm_watch.specs.declared.form.NoticeForm.{NoticeForm}
 use Rattle.ldm_watch.specs.declared.stop.Stop.TheVariants.{Over}
 use Rattle.ldm_watch.specs.Notices.{notice_line, notice_lines}
-use Rattle.ldm_watch.specs.Outside.{WatchRecord, KeepsCounts}
+use Rattle.ldm_watch.specs.Outside.{WatchRecord, KeepsWatchCounts}
 use Rattle.ldm_watch.specs.Sessions.{FailsToSend, FailsToWrite, HasGiven, Rounds, RunsOn, Writes, WritesAt, WritesLast}
 use Rattle.ldm_watch.specs.StreamView.{StreamView}
 use Rattle.ldm_watch.specs.Taking.{Standing, IsAt}
@@ -28,7 +28,8 @@ use Rattle.ldm_watch.specs.Sought.{Sought}
 use Rattle.ldm_watch.specs.Told.{at_stream_end, end_behind, end_by_bytes, hand, is_edge, told, within}
 use Rattle.ldm_watch.specs.Turns.{EndsIn, TakesPiece}
 use Rattle.ldm_watch.specs.Watched.{Watched, watched}
-use Rattle.ldm_watch.specs.Watches.{Cause, HasEnded, IsPart, Watches, sends_all, writes_all}
+use Rattle.ldm_watch.specs.Watches.{Cause, WatchHasEnded, Watches, sends_all, writes_all}
+use Rattle.ldm_session.specs.Part.{IsPart}
 use Rattle.ldm_watch.proofs.Counting.{IsMade, IsMore, hand-made, taken-made, watched-more}
 use Rattle.ldm_watch.proofs.Fed.{form-of, hand-more, none-behind, taken-more, taken_of}
 
@@ -41,14 +42,14 @@ part-of false part all is = ([], append-nil part ∙ is)
 front-of : (part rest more all : List ℕ) → part ++ rest ≡ all → (before : List ℕ) → before ++ all ≡ more → IsPart false (before ++ part) more
 front-of part rest more all is before all_is = (rest, append_assoc before part rest ∙ ap (λ (xs : List ℕ). before ++ xs) is ∙ all_is)
 
-pub kept-then : (old mid new : WatchRecord) → KeepsCounts old mid → KeepsCounts mid new → KeepsCounts old new
+pub kept-then : (old mid new : WatchRecord) → KeepsWatchCounts old mid → KeepsWatchCounts mid new → KeepsWatchCounts old new
 kept-then old mid new one other = record {
   link = (let a = one.link in let b = other.link in omega arith);
   ends = (let a = one.ends in let b = other.ends in omega arith);
   sink = (let a = one.sink in let b = other.sink in omega arith);
 }
 
-kept-given : (bytes : List ℕ) (old now : WatchRecord) → HasGiven bytes old now → KeepsCounts old now
+kept-given : (bytes : List ℕ) (old now : WatchRecord) → HasGiven bytes old now → KeepsWatchCounts old now
 kept-given bytes old now given = record {
   link = (let a = given.faults in omega arith);
   ends = (let a = given.ends in omega arith);
@@ -115,7 +116,7 @@ module _ (sought : Sought) (some : ForSome sought.count (λ n. 0 < n)) (old : Wa
     written-given : TakesBytes old.sink (notice_lines sought.form so_far.notices) mid.sink
     written-given = subst (λ (s : SinkRecord). TakesBytes old.sink (notice_lines sought.form so_far.notices) s) (sym given.sink) runs.written
 
-    kept-mid : KeepsCounts old mid
+    kept-mid : KeepsWatchCounts old mid
     kept-mid = kept-then old begins mid runs.kept (kept-given piece begins mid given)
 
     -- there is no memory
@@ -207,7 +208,7 @@ module _ (sought : Sought) (some : ForSome sought.count (λ n. 0 < n)) (old : Wa
 
       -- it goes on, and all was written
       pub round-on : (q : Position) → by ≡ None → q ≡ in_hand (hand runs.given) (within (hand runs.given) piece) → end_by_bytes q ≡ None → Writes b.out b.lines mid after
-          → KeepsCounts mid after → RunsOn sought old (record { watching = b.watching; hand = q }) after
+          → KeepsWatchCounts mid after → RunsOn sought old (record { watching = b.watching; hand = q }) after
       round-on q none q_is goes_on writes kept = record {
         given = all;
         exchanged = Exchanged-same old.link after.link _ all _ all owed-is refl (exchanged-sent b.out writes.exchanged);

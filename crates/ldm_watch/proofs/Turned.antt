@@ -19,7 +19,7 @@ use Rattle.ldm_watch.specs.declared.watching.Phase.{Phase}
 use Rattle.ldm_watch.specs.declared.watching.Phase.TheVariants.{Asked}
 use Rattle.ldm_watch.specs.declared.watching.Watching.{Watching}
 use Rattle.ldm_watch.specs.Notices.{notice_lines}
-use Rattle.ldm_watch.specs.Outside.{WatchRecord, KeepsCounts}
+use Rattle.ldm_watch.specs.Outside.{WatchRecord, KeepsWatchCounts}
 use Rattle.ldm_watch.specs.Sessions.{HasGiven, Rounds, RunsOn, Writes, WritesAt, WritesLast}
 use Rattle.ldm_watch.specs.StreamView.{StreamView}
 use Rattle.ldm_watch.specs.Taking.{Standing}
@@ -27,7 +27,8 @@ use Rattle.ldm_watch.specs.Sought.{Sought, sought_by}
 use Rattle.ldm_watch.specs.Told.{at_stream_end, beginning, hand, is_edge, told, within}
 use Rattle.ldm_watch.specs.Turns.{EndsIn, TakesPiece}
 use Rattle.ldm_watch.specs.Watched.{Watched, opening}
-use Rattle.ldm_watch.specs.Watches.{Cause, HasEnded, IsPart, Watches, sends_all, writes_all}
+use Rattle.ldm_watch.specs.Watches.{Cause, WatchHasEnded, Watches, sends_all, writes_all}
+use Rattle.ldm_session.specs.Part.{IsPart}
 use Rattle.ldm_watch.proofs.Fed.{came-behind, goes-on, hand-none, none-behind, taken_of, told-none}
 use Rattle.ldm_watch.proofs.Rounds.{here, kept-then, part-of, round-failed, round-memory, round-on, round-over}
 
@@ -64,7 +65,7 @@ module _ (sought : Sought) (some : ForSome sought.count (λ n. 0 < n)) (old : Wa
 
   -- all of it was taken
   pub take-on : (q : Position) (b : Standing) (new : StreamView) (result : Option WatchEnd) (after : WatchRecord) → TakesPiece bytes stream.hand q before b
-      → new ≡ record { watching = b.watching; hand = q } → WritesAt result b.out b.lines mid after → KeepsCounts mid after → Rounds result sought old new after
+      → new ≡ record { watching = b.watching; hand = q } → WritesAt result b.out b.lines mid after → KeepsWatchCounts mid after → Rounds result sought old new after
   take-on q b new None after takes new_is writes kept =
       let there = takes-here q b takes in
       let is = there.takes so_far (records_of so_far.owed) (notice_lines sought.form so_far.notices) (here sought some old stream begins runs out lines no_out no_lines) in
@@ -103,7 +104,7 @@ pub take-into : (n len : ℕ) (into rest : List ℕ) → n ≤ len → n ≤ len
 take-into n len into rest in_len came = take-take n len (into ++ rest) in_len ∙ take-append-le n into rest came
 
 cause-edge : (p : Position) (phase : Phase) (edge : Bool) → is_edge p phase ≡ edge → (count : Option ℕ) (given : List ℕ) (t : Watched) (old new : WatchRecord) → t.end ≡ None
-    → at_stream_end p phase ≡ at_stream_end (hand given) t.watching.phase → HasEnded old new → Cause (at_stream_end p phase) count given t old new
+    → at_stream_end p phase ≡ at_stream_end (hand given) t.watching.phase → WatchHasEnded old new → Cause (at_stream_end p phase) count given t old new
 cause-edge p phase true edge count given t old new none same ended =
     let is : Ended ≡ at_stream_end (hand given) t.watching.phase = sym (rw edge refl) ∙ same in
     rw edge ((none, is), ended)
@@ -126,7 +127,7 @@ module _ (sought : Sought) (old : WatchRecord) (stream : StreamView) (begins now
       let end = at_stream_end stream.hand stream.watching.phase in
       let same : end ≡ at_stream_end (hand runs.given) all.watching.phase =
       ap (λ (p : Position). at_stream_end p stream.watching.phase) runs.hand_is ∙ ap (λ (w : Watching). at_stream_end (hand runs.given) w.phase) runs.watching_is in
-      let ended : HasEnded old now = (
+      let ended : WatchHasEnded old now = (
         Rose-later old.link.ends begins.link.ends now.link.ends runs.kept.ends gives.0,
         subst (λ (o : Option (List ℕ)). IfSome o (λ rest. rest ≡ [])) (sym left) gives.1,
       ) in
@@ -194,7 +195,7 @@ module _ (sought : Sought) (out lines : List ℕ) (owed : out ≡ records_of (se
   request-failed OutOfMemory fails = absurd fails
 
   -- it was sent
-  pub request-sent : (stream : StreamView) → stream ≡ record { watching = (opening sought).watching; hand = beginning } → Writes out lines old new → KeepsCounts old new
+  pub request-sent : (stream : StreamView) → stream ≡ record { watching = (opening sought).watching; hand = beginning } → Writes out lines old new → KeepsWatchCounts old new
       → RunsOn sought old stream new
   request-sent stream stream_is writes kept = record {
     given = [];

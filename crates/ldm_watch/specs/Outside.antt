@@ -12,7 +12,7 @@ abbrev pub watch_tells : {K S : Type 0} → (K → LinkRecord) → (S → SinkRe
 watch_tells link sink of_link of_sink = record { link = link of_link; sink = sink of_sink }
 
 -- No count fell: none of faults and of ends.
-pub record KeepsCounts (old new : WatchRecord) : Type 0 where
+pub record KeepsWatchCounts (old new : WatchRecord) : Type 0 where
   pub link : old.link.faults ≤ new.link.faults
   pub ends : old.link.ends ≤ new.link.ends
   pub sink : old.sink.faults ≤ new.sink.faults

@@ -8,11 +8,12 @@ use Rattle.ldm_session.specs.Exchange.{Exchanged}
 use Rattle.ldm_watch.specs.declared.end.WatchEnd.{WatchEnd}
 use Rattle.ldm_watch.specs.declared.end.WatchEnd.TheVariants.{LinkFault, SinkFault}
 use Rattle.ldm_watch.specs.Notices.{notice_lines}
-use Rattle.ldm_watch.specs.Outside.{WatchRecord, KeepsCounts}
+use Rattle.ldm_watch.specs.Outside.{WatchRecord, KeepsWatchCounts}
 use Rattle.ldm_watch.specs.Sought.{Sought}
 use Rattle.ldm_watch.specs.StreamView.{StreamView}
 use Rattle.ldm_watch.specs.Told.{hand, told}
-use Rattle.ldm_watch.specs.Watches.{IsPart, Watches}
+use Rattle.ldm_watch.specs.Watches.{Watches}
+use Rattle.ldm_session.specs.Part.{IsPart}
 
 -- Bytes that the peer is owed were sent, and lines were written.
 pub record Writes (sent lines : List ℕ) (old new : WatchRecord) : Type 0 where
@@ -53,7 +54,7 @@ pub record RunsOn (sought : Sought) (old : WatchRecord) (stream : StreamView) (n
   pub goes_on : (told sought given).end ≡ None
   pub watching_is : stream.watching ≡ (told sought given).watching
   pub hand_is : stream.hand ≡ hand given
-  pub kept : KeepsCounts old now
+  pub kept : KeepsWatchCounts old now
 
 abbrev pub Rounds : Option WatchEnd → Sought → WatchRecord → StreamView → WatchRecord → Type 0
 Rounds None sought old stream now = RunsOn sought old stream now

@@ -11,6 +11,7 @@ use Rattle.ldm_watch.specs.Outside.{WatchRecord}
 use Rattle.ldm_watch.specs.Sought.{Sought}
 use Rattle.ldm_watch.specs.Told.{at_stream_end, hand, told}
 use Rattle.ldm_watch.specs.Watched.{Watched}
+use Rattle.ldm_session.specs.Part.{IsPart}
 
 -- whether at that end all was sent that the peer is owed
 abbrev pub sends_all : WatchEnd → Bool
@@ -36,14 +37,9 @@ writes_all SinkFault = false
 writes_all LinkFault = false
 writes_all OutOfMemory = false
 
--- some bytes are all of these, or a front of them
-abbrev pub IsPart : Bool → List ℕ → List ℕ → Type 0
-IsPart true part all = part ≡ all
-IsPart false part all = (rest : List ℕ) × (part ++ rest ≡ all)
-
 -- the stream ended: the link said so, and has nothing left
-abbrev pub HasEnded : WatchRecord → WatchRecord → Type 0
-HasEnded old new = Rose old.link.ends new.link.ends × IfSome new.link.left (λ rest. rest ≡ [])
+abbrev pub WatchHasEnded : WatchRecord → WatchRecord → Type 0
+WatchHasEnded old new = Rose old.link.ends new.link.ends × IfSome new.link.left (λ rest. rest ≡ [])
 
 -- nothing of these bytes ended it, and it ends so where the stream ends behind them
 abbrev pub EndsStream : WatchEnd → Option ℕ → List ℕ → Watched → Type 0
@@ -52,8 +48,8 @@ EndsStream end count given t = (t.end ≡ None) × (end ≡ at_stream_end (hand 
 -- The cause of an end: what the bytes come to that the link gave, or what the outside tells. At `Counted` just as many products were told
 -- of as were asked for.
 abbrev pub Cause : WatchEnd → Option ℕ → List ℕ → Watched → (old new : WatchRecord) → Type 0
-Cause Ended count given t old new = EndsStream Ended count given t × HasEnded old new
-Cause (Truncated at) count given t old new = EndsStream (Truncated at) count given t × HasEnded old new
+Cause Ended count given t old new = EndsStream Ended count given t × WatchHasEnded old new
+Cause (Truncated at) count given t old new = EndsStream (Truncated at) count given t × WatchHasEnded old new
 Cause Counted count given t old new = (t.end ≡ Some Counted) × (count ≡ Some (length t.notices))
 Cause (BadFrame at) count given t old new = t.end ≡ Some (BadFrame at)
 Cause (Refused answer) count given t old new = t.end ≡ Some (Refused answer)

@@ -2,7 +2,7 @@
 ghost use Rattle.std.specs.Prelude.{◌≡◌, ◌<◌, ◌≤◌, false, true};
 ghost use Rattle.std.specs.Option.{ForSome};
 ghost use Rattle.ldm_outside.specs.Link.{IsNotClosed};
-ghost use Rattle.ldm_tools.specs.Mon.{KeepsCounts, mon_tells};
+ghost use Rattle.ldm_tools.specs.Mon.{KeepsMonCounts, mon_tells};
 ghost use Rattle.ldm_watch.specs.Held.{Holds};
 ghost use Rattle.ldm_watch.specs.Notifyme.{Notifies, NotifymeEnds, status_of_end, status_of_watch, wanted_by};
 
@@ -41,7 +41,7 @@ pub fn notifyme<N: Dial + Reasons, K: Sink, E: Sink>(
         (mon_tells N.tells K.tells E.tells net.old sink.old log.old)
         (mon_tells N.tells K.tells E.tells net.new sink.new log.new) }
     ensures none_out { (N.tells net.new).links.out ≡ false }
-    ensures counts_kept { KeepsCounts (mon_tells N.tells K.tells E.tells net.old sink.old log.old)
+    ensures counts_kept { KeepsMonCounts (mon_tells N.tells K.tells E.tells net.old sink.old log.old)
         (mon_tells N.tells K.tells E.tells net.new sink.new log.new) }
 {
     let end = reach(alloc, net, sink, asked);

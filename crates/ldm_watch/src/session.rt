@@ -9,7 +9,7 @@ ghost use Rattle.ldm_rpc.specs.Reading.{is_faulty};
 ghost use Rattle.ldm_intake.specs.Room.{records_of};
 ghost use Rattle.ldm_watch.specs.Complete.{Completes};
 ghost use Rattle.ldm_watch.specs.declared.watching.Phase.TheVariants as phase;
-ghost use Rattle.ldm_watch.specs.Outside.{KeepsCounts, WatchRecord, watch_tells};
+ghost use Rattle.ldm_watch.specs.Outside.{KeepsWatchCounts, WatchRecord, watch_tells};
 ghost use Rattle.ldm_watch.specs.Sessions.{HasGiven, IsReady, Rounds, RunsOn, WritesAt, WritesLast};
 ghost use Rattle.ldm_watch.specs.Sought.{Sought, sought_by};
 ghost use Rattle.ldm_watch.specs.Told.{beginning};
@@ -42,7 +42,7 @@ pub fn watch<K: Link, S: Sink>(
     requires not_closed { IsNotClosed (K.tells link.old) }
     requires counted { ForSome count (λ n. 0 < n) }
     ensures still_open { IsNotClosed (K.tells link.new) }
-    ensures counts { KeepsCounts (watch_tells K.tells S.tells link.old sink.old)
+    ensures counts { KeepsWatchCounts (watch_tells K.tells S.tells link.old sink.old)
         (watch_tells K.tells S.tells link.new sink.new) }
     ensures watches { Watches result (record { class = class.now; count = count; form = form })
         (watch_tells K.tells S.tells link.old sink.old) (watch_tells K.tells S.tells link.new sink.new) }
@@ -110,7 +110,7 @@ impl Session {
         requires no_lines { self.old.lines.items ≡ [] }
         requires room { 0 < vec_len self.old.piece }
         ensures still_open { IsNotClosed (K.tells link.new) }
-        ensures counts { KeepsCounts (watch_tells K.tells S.tells link.old sink.old)
+        ensures counts { KeepsWatchCounts (watch_tells K.tells S.tells link.old sink.old)
             (watch_tells K.tells S.tells link.new sink.new) }
         ensures watches { Watches result (sought_by self.old.stream.watching)
             (watch_tells K.tells S.tells link.old sink.old) (watch_tells K.tells S.tells link.new sink.new) }
@@ -134,7 +134,7 @@ impl Session {
         requires sound { is_faulty self.old.stream.hand.reading ≡ false }
         requires ready { IsReady self.old.out.items self.old.lines.items (vec_len self.old.piece) }
         ensures still_open { IsNotClosed (K.tells link.new) }
-        ensures counts { KeepsCounts (watch_tells K.tells S.tells link.old sink.old)
+        ensures counts { KeepsWatchCounts (watch_tells K.tells S.tells link.old sink.old)
             (watch_tells K.tells S.tells link.new sink.new) }
         ensures ready { IfNone result (IsReady self.new.out.items self.new.lines.items (vec_len self.new.piece)) }
         ensures moves { IfNone result (self.old.stream.hand.came < self.new.stream.hand.came) }
@@ -162,7 +162,7 @@ impl Session {
         requires ready { IsReady self.old.out.items self.old.lines.items (vec_len self.old.piece) }
         requires count { (0 < count) × (count ≤ vec_len self.old.piece) }
         ensures still_open { IsNotClosed (K.tells link.new) }
-        ensures counts { KeepsCounts (watch_tells K.tells S.tells link.old sink.old)
+        ensures counts { KeepsWatchCounts (watch_tells K.tells S.tells link.old sink.old)
             (watch_tells K.tells S.tells link.new sink.new) }
         ensures ready { IfNone result (IsReady self.new.out.items self.new.lines.items (vec_len self.new.piece)) }
         ensures moves { IfNone result (self.old.stream.hand.came < self.new.stream.hand.came) }
@@ -192,7 +192,7 @@ impl Session {
         requires { IsNotClosed (K.tells link.old) }
         ensures writes { WritesLast result end self.old.out.items self.old.lines.items
             (watch_tells K.tells S.tells link.old sink.old) (watch_tells K.tells S.tells link.new sink.new) }
-        ensures counts { KeepsCounts (watch_tells K.tells S.tells link.old sink.old)
+        ensures counts { KeepsWatchCounts (watch_tells K.tells S.tells link.old sink.old)
             (watch_tells K.tells S.tells link.new sink.new) }
         ensures still_open { IsNotClosed (K.tells link.new) }
     {
@@ -209,7 +209,7 @@ impl Session {
             (watch_tells K.tells S.tells link.old sink.old) (watch_tells K.tells S.tells link.new sink.new) }
         ensures empty { IfNone result ((self.new.out.items ≡ []) × (self.new.lines.items ≡ [])) }
         ensures same { (self.new.stream ≡ self.old.stream) × (vec_len self.new.piece ≡ vec_len self.old.piece) }
-        ensures counts { KeepsCounts (watch_tells K.tells S.tells link.old sink.old)
+        ensures counts { KeepsWatchCounts (watch_tells K.tells S.tells link.old sink.old)
             (watch_tells K.tells S.tells link.new sink.new) }
         ensures still_open { IsNotClosed (K.tells link.new) }
     {

@@ -20,7 +20,7 @@ use Rattle.ldm_wmo.specs.declared.ingest_fault.IngestFault.{IngestFault}
 use Rattle.ldm_wmo.specs.declared.ingest_fault.IngestFault.TheVariants as fault
 use Rattle.ldm_wmo.specs.declared.outcome.Outcome.{Outcome}
 use Rattle.ldm_wmo.specs.Ingesting.{Ingesting, Report, product_of, reports_of}
-use Rattle.ldm_wmo.specs.Moments.{KeepsMoment, Moment, Outside, Span, span_of}
+use Rattle.ldm_wmo.specs.Moments.{KeepsMoment, IngestMoment, Outside, Span, span_of}
 use Rattle.ldm_wmo.specs.Outcomes.{Step, cut_outcome, owed_of, then_of}
 use Rattle.ldm_wmo.specs.Owing.{Completes, IsNoMemory, IsServed, NoneRose, ending_owed}
 use Rattle.ldm_wmo.specs.Runs.{BreaksCut, Runs, SourceFails, StopsAt, StopsReading, TakesAll, TakesMost, bytes_of, items_behind, steps_of}
@@ -89,7 +89,7 @@ module _ (all : Ingesting) (came left : LinkRecord) (old new : Outside) (given :
   -- ---- the run ended at a bulletin
 
   -- what was taken before it
-  record Before (bytes : List ℕ) (item : Found) (mid : Moment) : Type 0 where
+  record Before (bytes : List ℕ) (item : Found) (mid : IngestMoment) : Type 0 where
     pub items : List Found
     pub steps : List Step
     pub behind : List Found
@@ -119,7 +119,7 @@ module _ (all : Ingesting) (came left : LinkRecord) (old new : Outside) (given :
         taken = taken_append all (items_of seen) at.before (steps_of stops.turns) at.steps first.moment stops.mid.moment at.mid w.taken at.each;
       }
 
-  fewer : (bytes : List ℕ) (at seqno : ℕ) (heading text : List ℕ) (mid : Moment) → (b : Before bytes (Bulletin at seqno heading text) mid)
+  fewer : (bytes : List ℕ) (at seqno : ℕ) (heading text : List ℕ) (mid : IngestMoment) → (b : Before bytes (Bulletin at seqno heading text) mid)
       → length (products_of all b.items b.steps) < length (reports_of (items_of bytes))
   fewer bytes at seqno heading text mid b =
       let p = projected all b.items b.steps first.moment mid b.taken in
@@ -128,7 +128,7 @@ module _ (all : Ingesting) (came left : LinkRecord) (old new : Outside) (given :
       let parts = length-append (reports_of b.items) (reports_of (Bulletin at seqno heading text ∷ b.behind)) in
       omega (arith, p.count, count, joined, parts)
 
-  denied_put : (bytes stream : List ℕ) (owed : List PutAnswer) (at seqno : ℕ) (heading text : List ℕ) (mid : Moment) → IsServed bytes stream owed came old
+  denied_put : (bytes stream : List ℕ) (owed : List PutAnswer) (at seqno : ℕ) (heading text : List ℕ) (mid : IngestMoment) → IsServed bytes stream owed came old
       → (b : Before bytes (Bulletin at seqno heading text) mid)
       → BreaksPut put_fault.Denied (product_of all (record { seqno = seqno; heading = heading; bytes = text })) came mid last.moment
       → Err (fault.Put put_fault.Denied) ≡ ending_owed bytes owed
@@ -141,7 +141,7 @@ module _ (all : Ingesting) (came left : LinkRecord) (old new : Outside) (given :
       let denial : Result Outcome IngestFault = Err (fault.Put put_fault.Denied) in
       ap (λ (x : Bool). cond x denial ends) (sym is)
 
-  unanswered_put : (why : NoReply) (bytes stream : List ℕ) (owed : List PutAnswer) (at seqno : ℕ) (heading text : List ℕ) (mid : Moment) → IsServed bytes stream owed came old
+  unanswered_put : (why : NoReply) (bytes stream : List ℕ) (owed : List PutAnswer) (at seqno : ℕ) (heading text : List ℕ) (mid : IngestMoment) → IsServed bytes stream owed came old
       → ¬ Rose came.faults left.faults → (b : Before bytes (Bulletin at seqno heading text) mid)
       → BreaksPut (put_fault.NoAnswer why) (product_of all (record { seqno = seqno; heading = heading; bytes = text })) came mid last.moment → why ≡ no_reply.OutOfMemory
   unanswered_put why bytes stream owed at seqno heading text mid served quiet b breaks =
@@ -150,7 +150,7 @@ module _ (all : Ingesting) (came left : LinkRecord) (old new : Outside) (given :
       (product_of all (record { seqno = seqno; heading = heading; bytes = text }) breaks.arrival) first.moment.wire mid.wire last.moment.wire (refl, refl) served.link served.says served.owed
       (fewer bytes at seqno heading text mid b) p.told breaks.breaks served.short_stream quiet
 
-  put_ends : (why : PutFault) (item : Found) (bytes stream : List ℕ) (owed : List PutAnswer) (mid : Moment) → IsServed bytes stream owed came old → NoneRose old new
+  put_ends : (why : PutFault) (item : Found) (bytes stream : List ℕ) (owed : List PutAnswer) (mid : IngestMoment) → IsServed bytes stream owed came old → NoneRose old new
       → ¬ Rose came.faults left.faults → KeepsMoment first.moment mid → Before bytes item mid → Breaks (fault.Put why) all item came mid last.moment
       → (Err (fault.Put why) ≡ ending_owed bytes owed) ⊎ IsNoMemory (Err (fault.Put why))
   put_ends why (Bad at) bytes stream owed mid served none quiet kept b breaks = absurd breaks
@@ -166,7 +166,7 @@ module _ (all : Ingesting) (came left : LinkRecord) (old new : Outside) (given :
   pub kept_before : (why : IngestFault) → (stops : StopsAt why all first last) → KeepsMoment first.moment stops.breaks.mid
   kept_before why stops = moment_then first.moment stops.mid.moment stops.breaks.mid stops.takes.kept.moment stops.breaks.kept
 
-  pub log_rose : (item : Found) (mid : Moment) → KeepsMoment first.moment mid → Breaks fault.LogFault all item came mid last.moment → Rose old.streams.log.faults new.streams.log.faults
+  pub log_rose : (item : Found) (mid : IngestMoment) → KeepsMoment first.moment mid → Breaks fault.LogFault all item came mid last.moment → Rose old.streams.log.faults new.streams.log.faults
   log_rose (Bulletin at seqno heading text) mid kept breaks = absurd breaks
   log_rose (Bad at) mid kept breaks = Rose-later old.streams.log.faults mid.log.faults new.streams.log.faults kept.log breaks.rose
 

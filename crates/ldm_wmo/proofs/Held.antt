@@ -15,7 +15,7 @@ use Rattle.ldm_wmo.specs.declared.ingest_fault.IngestFault.TheVariants as fault
 use Rattle.ldm_wmo.specs.declared.outcome.Outcome.{Outcome}
 use Rattle.ldm_wmo.specs.Ingesting.{Ingesting}
 use Rattle.ldm_wmo.specs.Ingests.{IngestEnds, IngestsOver}
-use Rattle.ldm_wmo.specs.Moments.{KeepsMoment, Moment, Outside, span_of}
+use Rattle.ldm_wmo.specs.Moments.{KeepsMoment, IngestMoment, Outside, span_of}
 use Rattle.ldm_wmo.specs.Parts.{HoldsStream}
 use Rattle.ldm_wmo.specs.Runs.{Runs}
 use Rattle.ldm_wmo.specs.IngestTaking.{Breaks}
@@ -48,13 +48,13 @@ ingest_ends (Err fault.Unreached) all came lent old new dialled holds = absurd h
 
 -- ---- causes
 
-sink_rose : (all : Ingesting) (item : Found) (came : LinkRecord) (first mid last : Moment) → KeepsMoment first mid → Breaks (fault.Put put_fault.SinkFault) all item came mid last
+sink_rose : (all : Ingesting) (item : Found) (came : LinkRecord) (first mid last : IngestMoment) → KeepsMoment first mid → Breaks (fault.Put put_fault.SinkFault) all item came mid last
     → Rose first.wire.sink.faults last.wire.sink.faults
 sink_rose all (Bad at) came first mid last kept breaks = absurd breaks
 sink_rose all (Bulletin at seqno heading bytes) came first mid last kept breaks =
     Rose-later first.wire.sink.faults mid.wire.sink.faults last.wire.sink.faults kept.sink breaks.breaks.rose
 
-link_rose : (all : Ingesting) (item : Found) (came : LinkRecord) (mid last : Moment) → Breaks (fault.Put (put_fault.NoAnswer no_reply.LinkFault)) all item came mid last
+link_rose : (all : Ingesting) (item : Found) (came : LinkRecord) (mid last : IngestMoment) → Breaks (fault.Put (put_fault.NoAnswer no_reply.LinkFault)) all item came mid last
     → Rose came.faults last.wire.link.faults
 link_rose all (Bad at) came mid last breaks = absurd breaks
 link_rose all (Bulletin at seqno heading bytes) came mid last breaks = breaks.breaks.says.says.1

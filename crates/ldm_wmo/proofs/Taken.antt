@@ -17,7 +17,7 @@ use Rattle.ldm_wmo.specs.declared.outcome.Outcome.{Outcome}
 use Rattle.ldm_wmo.specs.declared.outcome.Outcome.TheVariants as outcome
 use Rattle.ldm_wmo.specs.Ingesting.{Ingesting, Report, product_of}
 use Rattle.ldm_wmo.specs.IngestLines.{bad_line}
-use Rattle.ldm_wmo.specs.Moments.{KeepsMoment, Moment}
+use Rattle.ldm_wmo.specs.Moments.{KeepsMoment, IngestMoment}
 use Rattle.ldm_wmo.specs.Outcomes.{Step, Put, Logged, first_of, outcome_in, outcome_of, then_of}
 use Rattle.ldm_wmo.specs.Parts.{Hands, KeepsHands, SentBy, Sends, TakesFrom, TakesSome, moment_of, putting_of, result_of}
 use Rattle.ldm_wmo.specs.IngestTaking.{AreTaken, Breaks}
@@ -35,10 +35,10 @@ hands_then old mid new one other = record {
   log = (let a = one.log in let b = other.log in omega arith);
 }
 
-moment_same : (m : Moment) → KeepsMoment m m
+moment_same : (m : IngestMoment) → KeepsMoment m m
 moment_same m = record { ends = omega arith; faults = omega arith; sink = omega arith; log = omega arith }
 
-pub moment_then : (old mid new : Moment) → KeepsMoment old mid → KeepsMoment mid new → KeepsMoment old new
+pub moment_then : (old mid new : IngestMoment) → KeepsMoment old mid → KeepsMoment mid new → KeepsMoment old new
 moment_then old mid new one other = record {
   ends = (let a = one.ends in let b = other.ends in omega arith);
   faults = (let a = one.faults in let b = other.faults in omega arith);
@@ -69,15 +69,15 @@ first_append (step ∷ a) b = ap (then_of (outcome_in step)) (first_append a b) 
 module _ (all : Ingesting) where
   -- ---- items one after another
 
-  pub taken_append : (a b : List Found) (steps more : List Step) (old mid new : Moment) → AreTaken all a steps old mid → AreTaken all b more mid new
+  pub taken_append : (a b : List Found) (steps more : List Step) (old mid new : IngestMoment) → AreTaken all a steps old mid → AreTaken all b more mid new
       → AreTaken all (a ++ b) (steps ++ more) old new
-  taken_append [] b [] more old mid new one other = let P : Moment → Type 0 = λ m. AreTaken all b more m new in subst P one other
+  taken_append [] b [] more old mid new one other = let P : IngestMoment → Type 0 = λ m. AreTaken all b more m new in subst P one other
   taken_append [] b (step ∷ steps) more old mid new one other = absurd one
   taken_append (item ∷ a) b [] more old mid new one other = absurd one
   taken_append (item ∷ a) b (step ∷ steps) more old mid new one other = (one.0, one.1, taken_append a b steps more one.0 mid new one.2 other)
 
   -- why a run ends at an item, to one who looks at the link from its beginning
-  pub breaks_from : (why : IngestFault) (item : Found) (came now : LinkRecord) (old new : Moment) → came.ends ≤ now.ends → came.faults ≤ now.faults → Breaks why all item now old new
+  pub breaks_from : (why : IngestFault) (item : Found) (came now : LinkRecord) (old new : IngestMoment) → came.ends ≤ now.ends → came.faults ≤ now.faults → Breaks why all item now old new
       → Breaks why all item came old new
   breaks_from (fault.Put why) (Bulletin at seqno heading bytes) came now old new ends faults breaks = record {
     arrival = breaks.arrival;

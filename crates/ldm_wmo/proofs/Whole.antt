@@ -11,7 +11,7 @@ use Rattle.ldm_wmo.specs.Streams.{in_hand, items_in, items_of}
 use Rattle.ldm_wmo.proofs.Joined.{in_hand-append, items-append}
 use Rattle.ldm_wmo.specs.Ingesting.{Ingesting, reports_of}
 use Rattle.ldm_wmo.specs.IngestLines.{bad_line, bad_lines}
-use Rattle.ldm_wmo.specs.Moments.{Moment, Span}
+use Rattle.ldm_wmo.specs.Moments.{IngestMoment, Span}
 use Rattle.ldm_wmo.specs.Outcomes.{Step, Put, Logged, first_of, outcome_in, owed_of, then_of}
 use Rattle.ldm_wmo.specs.Runs.{AreTurns, Turn, bytes_of, items_behind, steps_of}
 use Rattle.ldm_wmo.specs.IngestTaking.{AreTaken}
@@ -68,18 +68,18 @@ module _ (all : Ingesting) where
   -- ---- the bulletins of items that were taken
 
   -- These items were taken, and their bulletins put.
-  pub record Projected (items : List Found) (steps : List Step) (old new : Moment) : Type 0 where
+  pub record Projected (items : List Found) (steps : List Step) (old new : IngestMoment) : Type 0 where
     pub told : AreTold (products_of all items steps) (answers_of steps) old.wire new.wire
     pub count : length (products_of all items steps) ≡ length (reports_of items)
     pub owed : owed_of items (answers_of steps) ≡ first_of steps
     pub logged : io.Takes old.log (bad_lines items) new.log
 
-  pub projected : (items : List Found) (steps : List Step) (old new : Moment) → AreTaken all items steps old new → Projected items steps old new
+  pub projected : (items : List Found) (steps : List Step) (old new : IngestMoment) → AreTaken all items steps old new → Projected items steps old new
   projected [] [] old new each = record {
-    told = ap (λ (m : Moment). m.wire) each;
+    told = ap (λ (m : IngestMoment). m.wire) each;
     count = refl;
     owed = refl;
-    logged = Takes-nothing old.log new.log (ap (λ (m : Moment). m.log.written) each);
+    logged = Takes-nothing old.log new.log (ap (λ (m : IngestMoment). m.log.written) each);
   }
   projected [] (step ∷ steps) old new each = absurd each
   projected (item ∷ items) [] old new each = absurd each
@@ -99,13 +99,13 @@ module _ (all : Ingesting) where
       let rest = projected items steps mid new each.2 in
       let P : Wire → Type 0 = λ w. AreTold (products_of all items steps) (answers_of steps) w new.wire in
       record {
-        told = subst P (ap (λ (m : Moment). m.wire) each.1.same) rest.told;
+        told = subst P (ap (λ (m : IngestMoment). m.wire) each.1.same) rest.told;
         count = rest.count;
         owed = refl;
         logged = Takes-then old.log mid.log new.log (bad_line at) (bad_lines items) each.1.written rest.logged;
       }
 
-  pub told : (items : List Found) (steps : List Step) (old new : Moment) → AreTaken all items steps old new → Told all items steps old new
+  pub told : (items : List Found) (steps : List Step) (old new : IngestMoment) → AreTaken all items steps old new → Told all items steps old new
   told items steps old new each =
       let p = projected items steps old new each in
       let t = tells (products_of all items steps) (answers_of steps) old.wire new.wire p.told in

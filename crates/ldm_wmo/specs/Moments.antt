@@ -21,7 +21,7 @@ abbrev pub outside_tells : {N C : Type 0} → (N → DialRecord) → (C → Cloc
 outside_tells net clock streams of_net of_clock = record { streams = streams; net = net of_net; clock = clock of_clock }
 
 -- No count fell.
-pub record KeepsCounts (old new : Outside) : Type 0 where
+pub record KeepsIngestCounts (old new : Outside) : Type 0 where
   pub source : old.streams.source.faults ≤ new.streams.source.faults
   pub net : old.net.faults ≤ new.net.faults
   pub ended : old.net.links.ended ≤ new.net.links.ended
@@ -30,13 +30,13 @@ pub record KeepsCounts (old new : Outside) : Type 0 where
   pub log : old.streams.log.faults ≤ new.streams.log.faults
 
 -- A moment of a run over a link: the link with the sink of the answers, the log, and the clock.
-pub record Moment : Type 0 where
+pub record IngestMoment : Type 0 where
   pub wire : Wire
   pub log : SinkRecord
   pub clock : ClockRecord
 
 -- no count of these fell
-pub record KeepsMoment (old new : Moment) : Type 0 where
+pub record KeepsMoment (old new : IngestMoment) : Type 0 where
   pub ends : old.wire.link.ends ≤ new.wire.link.ends
   pub faults : old.wire.link.faults ≤ new.wire.link.faults
   pub sink : old.wire.sink.faults ≤ new.wire.sink.faults
@@ -45,7 +45,7 @@ pub record KeepsMoment (old new : Moment) : Type 0 where
 -- the same with the source
 pub record Span : Type 0 where
   pub source : SourceRecord
-  pub moment : Moment
+  pub moment : IngestMoment
 
 pub record KeepsSpan (old new : Span) : Type 0 where
   pub source : old.source.faults ≤ new.source.faults

@@ -17,7 +17,7 @@ use Rattle.ldm_wmo.specs.declared.outcome.Outcome.{Outcome}
 use Rattle.ldm_wmo.specs.declared.outcome.Outcome.TheVariants as outcome
 use Rattle.ldm_wmo.specs.Ingesting.{Ingesting, Report, product_of}
 use Rattle.ldm_wmo.specs.IngestLines.{cut_line}
-use Rattle.ldm_wmo.specs.Moments.{Moment, Outside, Span}
+use Rattle.ldm_wmo.specs.Moments.{IngestMoment, Outside, Span}
 use Rattle.ldm_wmo.specs.Outcomes.{Step, first_of, outcome_of, then_of}
 use Rattle.ldm_wmo.specs.Runs.{Runs}
 use Rattle.ldm_wmo.specs.IngestTaking.{AreTaken, BreaksAt}
@@ -45,7 +45,7 @@ hands_tell tells puts link sink log clock =
     record { puts = puts; link = tells.link link; sink = tells.sink sink; log = tells.log log; clock = tells.clock clock }
 
 -- the moment with these hands, where the link gave this and these answers
-abbrev pub moment_of : Hands → List ℕ → List PutAnswer → Moment
+abbrev pub moment_of : Hands → List ℕ → List PutAnswer → IngestMoment
 moment_of hands given answers = record {
   wire = record { link = hands.link; sink = hands.sink; given = given; answers = answers };
   log = hands.log;
@@ -60,7 +60,7 @@ pub record KeepsHands (old new : Hands) : Type 0 where
   pub log : old.log.faults ≤ new.log.faults
 
 -- What taking items did, to one who knows all that the link gave before.
-abbrev pub TakesFrom : Result Outcome IngestFault → Ingesting → List Found → (new : Hands) → (old : Moment) → Type 0
+abbrev pub TakesFrom : Result Outcome IngestFault → Ingesting → List Found → (new : Hands) → (old : IngestMoment) → Type 0
 TakesFrom (Ok outcome) all items new old =
     (steps : List Step) × (given : List ℕ) × (answers : List PutAnswer) × AreTaken all items steps old (moment_of new given answers) × HasPut given answers new.puts
     × (outcome ≡ first_of steps)

@@ -12,7 +12,7 @@ use Rattle.ldm_wmo.specs.declared.ingest_fault.IngestFault.TheVariants as fault
 use Rattle.ldm_wmo.specs.declared.outcome.Outcome.{Outcome}
 use Rattle.ldm_wmo.specs.Ingesting.{Ingesting}
 use Rattle.ldm_wmo.specs.IngestLines.{cut_line}
-use Rattle.ldm_wmo.specs.Moments.{KeepsSpan, Moment, Span}
+use Rattle.ldm_wmo.specs.Moments.{KeepsSpan, IngestMoment, Span}
 use Rattle.ldm_wmo.specs.Outcomes.{Step, cut_outcome, first_of, then_of}
 use Rattle.ldm_wmo.specs.IngestTaking.{AreTaken, BreaksAt, BreaksLog, Logs}
 
@@ -52,7 +52,7 @@ pub record Takes (all : Ingesting) (turns : List Turn) (old new : Span) : Type 0
   pub short : length (bytes_of turns) < LONGEST_STREAM
 
 -- the line of the candidate that the end cuts off was written, if there is one
-abbrev pub LogsCut : Option ℕ → Moment → Moment → Type 0
+abbrev pub LogsCut : Option ℕ → IngestMoment → IngestMoment → Type 0
 LogsCut None old new = new ≡ old
 LogsCut (Some at) old new = Logs (cut_line at) old new
 

@@ -13,7 +13,7 @@ use Rattle.ldm_wmo.specs.declared.ingest_fault.IngestFault.TheVariants as fault
 use Rattle.ldm_wmo.specs.declared.outcome.Outcome.{Outcome}
 use Rattle.ldm_wmo.specs.Ingesting.{Ingesting, product_of}
 use Rattle.ldm_wmo.specs.IngestLines.{bad_lines}
-use Rattle.ldm_wmo.specs.Moments.{Moment, Outside}
+use Rattle.ldm_wmo.specs.Moments.{IngestMoment, Outside}
 use Rattle.ldm_wmo.specs.Outcomes.{Step, Put, Logged}
 
 -- the answers to bulletins, in order
@@ -33,7 +33,7 @@ products_of all (Bad at ∷ items) (step ∷ steps) = products_of all items step
 
 -- Over all these items, the link was sent the records of the PUTs of the bulletins, and gave more; the answers came, their lines were written,
 -- and the log took the lines of the other candidates.
-pub record Told (all : Ingesting) (items : List Found) (steps : List Step) (old new : Moment) : Type 0 where
+pub record Told (all : Ingesting) (items : List Found) (steps : List Step) (old new : IngestMoment) : Type 0 where
   pub more : List ℕ
   pub sent : Exchanged old.wire.link (calls_of (length old.wire.answers) (products_of all items steps)) more new.wire.link
   pub given : new.wire.given ≡ old.wire.given ++ more

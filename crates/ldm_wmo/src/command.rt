@@ -3,7 +3,7 @@ ghost use Rattle.std.specs.Prelude.{◌≡◌, ◌≤◌, true, false};
 ghost use Rattle.ldm_outside.specs.Link.{IsNotClosed};
 ghost use Rattle.ldm_wmo.specs.Ingesting.{IsNamed, ingesting};
 ghost use Rattle.ldm_wmo.specs.Ingests.{IngestEnds, Ingests};
-ghost use Rattle.ldm_wmo.specs.Moments.{KeepsCounts, outside_tells, streams_tell};
+ghost use Rattle.ldm_wmo.specs.Moments.{KeepsIngestCounts, outside_tells, streams_tell};
 ghost use Rattle.ldm_wmo.specs.Parts.{HoldsStream};
 
 use crate::ingest_fault::IngestFault;
@@ -41,7 +41,7 @@ pub fn ingest<S: Source, N: Dial + Reasons, K: Sink, E: Sink, C: Clock>(
         (outside_tells N.tells C.tells
         (streams_tell S.tells K.tells E.tells source.new sink.new log.new) net.new clock.new) }
     ensures none_out { (N.tells net.new).links.out ≡ false }
-    ensures counts_kept { KeepsCounts
+    ensures counts_kept { KeepsIngestCounts
         (outside_tells N.tells C.tells
         (streams_tell S.tells K.tells E.tells source.old sink.old log.old) net.old clock.old)
         (outside_tells N.tells C.tells
@@ -69,7 +69,7 @@ fn ingest_stream<S: Source, N: Dial, K: Sink, E: Sink, C: Clock>(
         (outside_tells N.tells C.tells
         (streams_tell S.tells K.tells E.tells source.new sink.new log.new) net.new clock.new) }
     ensures none_out { (N.tells net.new).links.out ≡ false }
-    ensures counts { KeepsCounts
+    ensures counts { KeepsIngestCounts
         (outside_tells N.tells C.tells
         (streams_tell S.tells K.tells E.tells source.old sink.old log.old) net.old clock.old)
         (outside_tells N.tells C.tells
@@ -101,7 +101,7 @@ fn hold<S: Source, N: Dial, K: Sink, E: Sink, C: Clock>(
         (outside_tells N.tells C.tells
         (streams_tell S.tells K.tells E.tells source.new sink.new log.new) net.new clock.new) }
     ensures none_out { (N.tells net.new).links.out ≡ false }
-    ensures counts { KeepsCounts
+    ensures counts { KeepsIngestCounts
         (outside_tells N.tells C.tells
         (streams_tell S.tells K.tells E.tells source.old sink.old log.old) net.old clock.old)
         (outside_tells N.tells C.tells

@@ -8,7 +8,7 @@ ghost use Rattle.ldm_wmo.specs.declared.ingest_fault.IngestFault.{IngestFault};
 ghost use Rattle.ldm_wmo.specs.declared.outcome.Outcome.{Outcome};
 ghost use Rattle.ldm_wmo.specs.Ingesting.{Ingesting, from_heading};
 ghost use Rattle.ldm_wmo.specs.Ingests.{IngestEnds};
-ghost use Rattle.ldm_wmo.specs.Moments.{Moment, Outside, Span};
+ghost use Rattle.ldm_wmo.specs.Moments.{IngestMoment, Outside, Span};
 ghost use Rattle.ldm_wmo.specs.Outcomes.{Step};
 ghost use Rattle.ldm_wmo.specs.Runs.{AreTurns, Turn, bytes_of, items_behind, steps_of};
 ghost use Rattle.ldm_wmo.specs.IngestTaking.{AreTaken};
@@ -21,7 +21,7 @@ pub fn what_is_told_of_bulletins()
         → Gives old.source (bytes_of turns) new.source
         × Told all (items_of (bytes_of turns)) (steps_of turns) old.moment new.moment }
     // Over items that were taken of a piece, before one at which the run ended.
-    ensures items { (all : Ingesting) (items : List Found) (steps : List Step) (old new : Moment)
+    ensures items { (all : Ingesting) (items : List Found) (steps : List Step) (old new : IngestMoment)
         → AreTaken all items steps old new → Told all items steps old new }
     // The items of a piece come behind those of the bytes before it.
     ensures behind { (seen piece : List ℕ) → items_of (seen ++ piece) ≡ items_of seen ++ items_behind seen piece }

@@ -1,5 +1,5 @@
 use Rattle.std.proofs.Common.{◌∙◌, [], ◌∷◌, ◌++◌, ap}
-use Rattle.ldm_gather.specs.Scene.{Moment, lent_of, moment_of, scene_of}
+use Rattle.ldm_gather.specs.Scene.{GatherMoment, lent_of, moment_of, scene_of}
 use Rattle.ldm_gather.proofs.Gathering.{counts-then, goes_on-then, same-course, same-then}
 use Rattle.ldm_gather.proofs.gatherer.Gatherer.run.Goals as goal
 
@@ -44,4 +44,4 @@ returns-in-Over-clause-runs g c = record {
 
 pub returns-in-AtEnd-clause-live : goal.returns-in-AtEnd-clause-live
 returns-in-AtEnd-clause-live g c =
-    ap (λ (m : Moment g.row.W.Denot g.row.A.Denot g.row.B.Denot). m.receiver.end) c.in-AtEnd.ensures.turns.others ∙ c.loop.invariant.live
+    ap (λ (m : GatherMoment g.row.W.Denot g.row.A.Denot g.row.B.Denot). m.receiver.end) c.in-AtEnd.ensures.turns.others ∙ c.loop.invariant.live

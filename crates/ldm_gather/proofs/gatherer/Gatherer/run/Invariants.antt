@@ -5,7 +5,7 @@ use Rattle.ldm_shared.specs.Passes.{IsSamePass}
 use Rattle.ldm_downstream.specs.Pieces.{Piece}
 use Rattle.ldm_reader.specs.Reader.{HasCursor}
 use Rattle.ldm_gather.specs.Gathering.{GoesOn}
-use Rattle.ldm_gather.specs.Scene.{KeepsCounts, lent_of, moment_of, scene_of}
+use Rattle.ldm_gather.specs.Scene.{KeepsGatherCounts, lent_of, moment_of, scene_of}
 use Rattle.ldm_gather.specs.Turning.{IsReady, SameButCourse}
 use Rattle.ldm_gather.proofs.gatherer.Gatherer.run.Given as goal
 
@@ -14,7 +14,7 @@ invariant-loop g l = record {
   goes : (pieces : List Piece) × GoesOn g.W.Handler.handles pieces
       (moment_of l.initial.self.receiver (lent_of (scene_of l.initial.handler l.initial.first l.initial.second l.initial.self.pass (g.E.Sink.tells l.initial.log)) (g.K.Link.tells l.initial.link) (g.C.Clock.tells l.initial.clock)))
       (moment_of l.self.receiver (lent_of (scene_of l.handler l.first l.second l.self.pass (g.E.Sink.tells l.log)) (g.K.Link.tells l.link) (g.C.Clock.tells l.clock)));
-  counts : KeepsCounts
+  counts : KeepsGatherCounts
       (lent_of (scene_of l.initial.handler l.initial.first l.initial.second l.initial.self.pass (g.E.Sink.tells l.initial.log)) (g.K.Link.tells l.initial.link) (g.C.Clock.tells l.initial.clock))
       (lent_of (scene_of l.handler l.first l.second l.self.pass (g.E.Sink.tells l.log)) (g.K.Link.tells l.link) (g.C.Clock.tells l.clock));
   others : SameButCourse l.initial.self l.self;

@@ -5,14 +5,14 @@ use Rattle.ldm_outside.specs.Session.{session_tells}
 use Rattle.ldm_downstream.specs.declared.limits.TheConstants.{LONGEST_PIECE}
 use Rattle.ldm_shared.specs.Passes.{IsSamePass}
 use Rattle.ldm_serve.specs.ClientView.{client_by}
-use Rattle.ldm_serve.specs.Connection.{Moment, moment_of}
+use Rattle.ldm_serve.specs.Connection.{ServingMoment, moment_of}
 use Rattle.ldm_serve.specs.Reading.{ReadsCalls}
 use Rattle.ldm_serve.specs.Rounds.{ReadsOn}
 use Rattle.ldm_serve.proofs.connection.Server.run.Given as goal
 
 abbrev pub invariant-loop : goal.invariant-loop
 invariant-loop g l = record {
-  reads : (begins : Moment)
+  reads : (begins : ServingMoment)
       → ReadsOn (client_by l.fn.self.connection.client l.fn.pass.actor) begins l.fn.self.connection.serving []
       (moment_of l.fn.pass (session_tells g.K.Link.tells g.E.Sink.tells g.C.Clock.tells g.G.Gate.tells l.fn.link l.fn.log l.fn.clock l.fn.gate))
       → ReadsOn (client_by l.fn.self.connection.client l.fn.pass.actor) begins l.self.connection.serving []
