@@ -6,8 +6,8 @@ ghost use Rattle.ldm_gather.specs.Cats.{CatEnds, Cats, KeepsCatCounts, cat_lent}
 
 use crate::cat::Cat;
 use crate::cat_end::report;
-use ldm_class::Class;
 use crate::{ARENA, Asking, Collected, EachEnd, Order, SLOTS, gather_each};
+use ldm_class::Class;
 use ldm_outside::{Clock, Dial, Reasons, Sink};
 use ldm_shared::CreateFault;
 use ldm_types::OutOfMemory;

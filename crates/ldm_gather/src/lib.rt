@@ -24,7 +24,10 @@ mod statuses;
 mod taker;
 mod turn;
 
+pub use cat::Cat;
+pub use cat_limits::LARGEST_PIECE;
 pub use collect::{Collected, gather_each};
+pub use command::{cat_products, pqcat};
 pub use each_end::EachEnd;
 pub use end::{GatherEnd, Handled};
 pub use gatherer::Gatherer;
@@ -33,6 +36,3 @@ pub use limits::{ARENA, EVERY_FEEDTYPE, LARGEST_HEREIS, PASSES, SLOTS};
 pub use order::{Asking, Order};
 pub use statuses::{status_of_queue, status_of_receiving};
 pub use taker::{EachStop, Taken, Taker};
-pub use cat::Cat;
-pub use command::{cat_products, pqcat};
-pub use cat_limits::LARGEST_PIECE;

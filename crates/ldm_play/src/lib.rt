@@ -15,10 +15,10 @@ mod save_command;
 mod saving_statuses;
 mod statuses;
 
+pub use check_command::pqcheck;
 pub use on_book::{PlayedBook, play_on};
 pub use play_command::{SCRIPT_LIMIT, ScriptEnd, play};
 pub use player::LineFault;
-pub use statuses::status_of;
-pub use check_command::pqcheck;
 pub use resume_command::resume;
 pub use save_command::save;
+pub use statuses::status_of;

@@ -13,10 +13,10 @@ ghost use Rattle.ldm_play.specs.Steps.{ResumeComes};
 use crate::files::open_file;
 use crate::save_command::KeptPlay;
 use crate::saving_statuses::status_of_resume;
+use crate::{ScriptEnd, play_on};
 use ldm_disk::Disk;
 use ldm_image::{ImageFault, save_image};
 use ldm_outside::{Sink, Source};
-use crate::{ScriptEnd, play_on};
 use ldm_status::Streams;
 use std::alloc::Global;
 

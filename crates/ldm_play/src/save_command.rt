@@ -12,11 +12,11 @@ ghost use Rattle.ldm_play.specs.Steps.{SaveComes};
 
 use crate::files::save_file;
 use crate::saving_statuses::status_of_save;
+use crate::{ScriptEnd, play_on};
 use ldm_book::{Book, CreateFault};
 use ldm_disk::Disk;
 use ldm_image::SaveEnd;
 use ldm_outside::{Sink, Source};
-use crate::{ScriptEnd, play_on};
 use ldm_status::Streams;
 use std::alloc::Global;
 

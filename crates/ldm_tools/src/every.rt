@@ -3,8 +3,8 @@ ghost use Rattle.std.specs.Prelude.{◌≡◌, ◌<◌, ◌≤◌, false};
 ghost use Rattle.ldm_tools.specs.Mon.{KeepsMonCounts, mon_tells};
 ghost use Rattle.ldm_tools.specs.Every.{AsksOn, moment_of};
 
-use ldm_outside::{Dial, Reasons, Rests, Sink};
 use crate::pqmon;
+use ldm_outside::{Dial, Reasons, Rests, Sink};
 use std::alloc::Global;
 
 const MICROS_A_SECOND: u64 = 1_000_000;

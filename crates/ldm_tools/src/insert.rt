@@ -7,8 +7,8 @@ ghost use Rattle.ldm_tools.specs.Moments.{KeepsInsertCounts, outside_tells};
 ghost use Rattle.ldm_tools.specs.Parts.{HoldsFiles};
 
 use crate::fault::InsertFault;
-use crate::insertion::Insertion;
 use crate::insert_statuses::status_of;
+use crate::insertion::Insertion;
 use crate::taking::take_files;
 use ldm_outside::{Clock, Dial, Dialled, Reasons, Sink, Store};
 use std::alloc::Global;

@@ -3,8 +3,8 @@ ghost use Rattle.std.specs.Prelude.{◌≡◌};
 ghost use Rattle.ldm_tools.specs.Inserts.{status_of};
 
 use crate::fault::InsertFault;
-use ldm_status::Status;
 use crate::status_of_no_reply;
+use ldm_status::Status;
 
 /// The status of how inserting ended: with all files taken, and whether some file was refused, or with a fault.
 pub(crate) fn status_of(ending: Result<bool, InsertFault>) -> Status

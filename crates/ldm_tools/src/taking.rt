@@ -11,8 +11,8 @@ use crate::insertion::Insertion;
 use crate::limits::LARGEST_FILE;
 use crate::lines::write_too_long;
 use crate::metadata::metadata_of;
-use ldm_outside::{Clock, FileRead, Link, Sink, SinkFailed, Store};
 use crate::{Puts, put_product};
+use ldm_outside::{Clock, FileRead, Link, Sink, SinkFailed, Store};
 use std::alloc::Global;
 
 /// Takes all files over a link that was not used yet. Answers whether some file was refused.

@@ -1,7 +1,7 @@
 //! What is asked for.
 
-use ldm_class::Class;
 use crate::NoticeForm;
+use ldm_class::Class;
 
 /// Whom to ask for notices of which products, and how their lines are written.
 #[derive(Clone, Copy)]

@@ -18,13 +18,13 @@ mod stop;
 mod stream;
 mod watching;
 
+pub use asked::NoticesAsked;
 pub use end::WatchEnd;
 pub use examples::worked_examples;
 pub use form::NoticeForm;
 pub use law::names_are_read_back;
 pub use limits::LONGEST_PIECE;
+pub use notify::{NotifymeEnd, notifyme};
 pub use session::watch;
 pub use step::Step;
 pub use watching::{Phase, Watching};
-pub use asked::NoticesAsked;
-pub use notify::{NotifymeEnd, notifyme};

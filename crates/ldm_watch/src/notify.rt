@@ -7,9 +7,9 @@ ghost use Rattle.ldm_watch.specs.Held.{Holds};
 ghost use Rattle.ldm_watch.specs.Notifyme.{Notifies, NotifymeEnds, status_of_end, status_of_watch, wanted_by};
 
 use crate::asked::NoticesAsked;
+use crate::{WatchEnd, watch};
 use ldm_outside::{Dial, Dialled, Reasons, Sink};
 use ldm_status::Status;
-use crate::{WatchEnd, watch};
 use std::alloc::Global;
 
 /// How `notifyme` ended.

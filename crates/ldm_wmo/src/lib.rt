@@ -26,21 +26,21 @@ mod streaming;
 mod taking;
 mod write;
 
+pub use command::ingest;
 pub use examples::worked_examples;
 pub use fault::WriteFault;
 pub use heading::LONGEST_HEADING;
+pub use ingest_examples::worked_examples_of_ingesting;
+pub use ingest_fault::IngestFault;
+pub use ingest_laws::{what_is_signed, what_is_told_of_bulletins};
+pub use ingestion::Ingestion;
 pub use item::Item;
 pub use laws::{
     bulletins_are_read, pieces_join, pushes_scan_the_stream, streams_are_read,
     written_bulletins_are_found,
 };
+pub use outcome::Outcome;
 pub use scanner::Scanner;
 pub use stage::LARGEST_BULLETIN;
-pub use write::{LARGEST_SEQNO, write_bulletin};
-pub use command::ingest;
-pub use ingest_examples::worked_examples_of_ingesting;
-pub use ingest_fault::IngestFault;
-pub use ingestion::Ingestion;
-pub use ingest_laws::{what_is_signed, what_is_told_of_bulletins};
-pub use outcome::Outcome;
 pub use statuses::BAD_BULLETIN;
+pub use write::{LARGEST_SEQNO, write_bulletin};

@@ -9,9 +9,10 @@ ghost use Rattle.ldm_wmo.specs.Scanning.{begun, cut_of, is_complete};
 ghost use Rattle.ldm_wmo.specs.Ingesting.{IsNamed, ingesting};
 ghost use Rattle.ldm_wmo.specs.Parts.{KeepsOver, RunsFrom, TellsCut, finished, over_tells, tellers};
 
+use crate::Scanner;
 use crate::ingest_fault::IngestFault;
-use crate::ingestion::Ingestion;
 use crate::ingest_lines::write_cut;
+use crate::ingestion::Ingestion;
 use crate::outcome::Outcome;
 use crate::taking::take_piece;
 use ldm_outside::{Clock, Got, Link, Sink, Source};
@@ -19,7 +20,6 @@ use ldm_session::LONGEST_STREAM;
 use ldm_status::PIECE;
 use ldm_tools::Puts;
 use ldm_types::OutOfMemory;
-use crate::Scanner;
 use std::alloc::Global;
 
 // What takes the bulletins of a stream.

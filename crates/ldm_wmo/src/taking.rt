@@ -12,13 +12,13 @@ ghost use Rattle.ldm_wmo.specs.Outcomes.{outcome_of};
 ghost use Rattle.ldm_wmo.specs.Parts.{KeepsHands, Sends, TakesSome, hands_tell, sent_by, tellers};
 
 use crate::ingest_fault::IngestFault;
-use crate::ingestion::Ingestion;
 use crate::ingest_lines::write_bad;
+use crate::ingestion::Ingestion;
 use crate::metadata::metadata_of;
 use crate::outcome::Outcome;
+use crate::{Item, Scanner};
 use ldm_outside::{Clock, Link, Sink};
 use ldm_tools::{Puts, put_product};
-use crate::{Item, Scanner};
 
 /// Takes a piece of the stream, and each item that it completes. Answers what was met first.
 pub(crate) fn take_piece<L: Link, K: Sink, E: Sink, C: Clock>(
