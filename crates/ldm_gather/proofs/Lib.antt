@@ -10,3 +10,5 @@ mod StepTurns
 mod EachGathered
 mod Connected
 mod Opened
+mod Written
+mod Reading

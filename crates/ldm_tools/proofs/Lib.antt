@@ -8,3 +8,9 @@ mod Answered
 pub mod Told
 pub mod Owed
 pub mod Followed
+mod Held
+mod InsertCompleted
+mod InsertTelling
+mod Running
+mod Taken
+mod Going

@@ -12,3 +12,4 @@ pub mod Rounds
 pub mod Turned
 pub mod Accepted
 pub mod Sending
+mod Linked

@@ -13,3 +13,11 @@ mod Holding
 pub mod Decoded
 mod Once
 mod Sound
+mod Held
+mod Named
+mod Completed
+mod Whole
+mod Stream
+mod Pieces
+mod Signed
+mod Taken

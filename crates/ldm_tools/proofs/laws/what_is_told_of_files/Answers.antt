@@ -1,4 +1,4 @@
-use Rattle.ldm_tools.proofs.Telling.{cause, refused_cause, told_before, told_whole}
+use Rattle.ldm_tools.proofs.InsertTelling.{cause, refused_cause, told_before, told_whole}
 use Rattle.ldm_tools.proofs.laws.what_is_told_of_files.Goals as goal
 
 pub returns-clause-whole : goal.returns-clause-whole
