@@ -1,4 +1,4 @@
--- What the sending ends of a connection ask of the queue: nothing is put in.
+-- What the sending ends of a connection ask of the queue: nothing is put in, and no figures are asked for.
 use Rattle.std.proofs.Common.{ℕ, ◌+◌, Bool, true, false, List, [], ◌∷◌, ◌++◌, length, Option, Some, None, sym, subst}
 use Rattle.ldm_model.specs.declared.event.Event.{Event}
 use Rattle.ldm_model.specs.declared.event.Event.TheVariants.{OpenCursor, Step, Read, Release, Close, Insert, Look, Expire, Tally, Stat}
@@ -32,7 +32,7 @@ PutsNone (Step k) = Unit {0}
 PutsNone (Read k offset count) = Unit {0}
 PutsNone (Release k) = Unit {0}
 PutsNone (Close k) = Unit {0}
-PutsNone Stat = Unit {0}
+PutsNone Stat = ⊥
 PutsNone (Fill r bytes) = Unit {0}
 PutsNone (Discard r) = Unit {0}
 PutsNone (Look signature) = ⊥
@@ -52,7 +52,7 @@ none-puts client before (Step k) none = tt
 none-puts client before (Read k offset count) none = tt
 none-puts client before (Release k) none = tt
 none-puts client before (Close k) none = tt
-none-puts client before Stat none = tt
+none-puts client before Stat none = absurd none
 none-puts client before (Fill r bytes) none = tt
 none-puts client before (Discard r) none = tt
 none-puts client before (Look signature) none = absurd none

@@ -1,4 +1,4 @@
--- What a host that pushes hands in: a receiving keeps to the ACCEPT rules, and replies with nothing of a product.
+-- What a host that pushes hands in: a receiving keeps to the ACCEPT rules, and replies with nothing of a product and no figures.
 use Rattle.std.proofs.Common.{◌≡◌, ℕ, ◌+◌, ◌==◌, true, nat_le, ◌&&◌, List, [], ◌∷◌, ◌++◌, length, Option, Some, None, Result, Ok, refl, sym, ap, subst, ◌∙◌}
 use Rattle.std.specs.Prelude.{is_none}
 use Rattle.std.proofs.lemmas.Bool.{and_parts}
@@ -28,12 +28,9 @@ use Rattle.ldm_intake.specs.Step.{Step, Goes, Bad, Declined}
 use Rattle.ldm_intake.specs.Taken.{Arrival, Taken, after_step, taken, taken_none, discards}
 use Rattle.ldm_intake.proofs.FeedCourses.{feeding}
 use Rattle.ldm_serve.specs.Client.{Client}
-use Rattle.ldm_serve.specs.Kept.{AllTellNone, MayHandIn, WasReserved}
+use Rattle.ldm_serve.specs.Kept.{MayHandIn, WasReserved}
+use Rattle.ldm_serve.proofs.MayGo.{AllMayGo, go-append}
 use Rattle.ldm_serve.proofs.PuttingIn.{AsksOnly, asks-if, asks-then, reserved-more}
-
-pub none-append : (first second : List Sent) → AllTellNone first → AllTellNone second → AllTellNone (first ++ second)
-none-append [] second one two = two
-none-append (message ∷ first) second one two = (one.0, none-append first second one.1 two)
 
 module _ (client : Client) where
   -- a product of which blocks are to come was reserved
@@ -62,15 +59,15 @@ module _ (client : Client) where
 
   -- what a record comes to keeps to the rules again
   abbrev pub StepKeeps : Receiving → List Entry → Step → Type 0
-  StepKeeps s before (Goes next replies notes) = Keeps before next × AllTellNone replies
+  StepKeeps s before (Goes next replies notes) = Keeps before next × AllMayGo client replies
   StepKeeps s before Bad = Keeps before s
   StepKeeps s before (Declined answer) = Keeps before s
 
   module _ (s : Receiving) (now : ℕ) where
-    commits-keeps : (origin before : List Entry) (replies : List Sent) (info : Metadata) (r : ℕ) → Keeps origin s → AllTellNone replies → WasReserved client before r
+    commits-keeps : (origin before : List Entry) (replies : List Sent) (info : Metadata) (r : ℕ) → Keeps origin s → AllMayGo client replies → WasReserved client before r
         → AsksOnly client before (commits s now replies info r) (StepKeeps s)
-    commits-keeps origin before replies info r keeps none was =
-        (was, λ (answer : Reply). (keeps-with origin _ s None (Some info.signature) keeps tt, none))
+    commits-keeps origin before replies info r keeps go was =
+        (was, λ (answer : Reply). (keeps-with origin _ s None (Some info.signature) keeps tt, go))
 
     hereis-keeps : (before : List Entry) (xid : ℕ) (info : Metadata) (body : List ℕ) → Keeps before s → AsksOnly client before (call_course s now (Ok (sent.Hereis xid info body))) (StepKeeps s)
     hereis-keeps before xid info body keeps =
@@ -136,15 +133,15 @@ module _ (client : Client) where
 
   -- what was taken keeps to the rules
   abbrev pub TakenKeeps : List Entry → Taken → Type 0
-  TakenKeeps before t = Keeps before t.receiving × AllTellNone t.replies
+  TakenKeeps before t = Keeps before t.receiving × AllMayGo client t.replies
 
   step-keeps : (t : Taken) (at : ℕ) (rest : Taken → Course Taken)
       → ((before : List Entry) (next : Taken) → TakenKeeps before next → AsksOnly client before (rest next) TakenKeeps)
-      → AllTellNone t.replies → (before : List Entry) (step : Step) → StepKeeps t.receiving before step → AsksOnly client before (after_step t at rest step) TakenKeeps
-  step-keeps t at rest behind none before (Goes s replies notes) keeps =
-      behind before (record t { receiving = s; replies = t.replies ++ replies; notes = t.notes ++ notes }) (keeps.0, none-append t.replies replies none keeps.1)
-  step-keeps t at rest behind none before Bad keeps = (keeps, none)
-  step-keeps t at rest behind none before (Declined answer) keeps = (keeps, none)
+      → AllMayGo client t.replies → (before : List Entry) (step : Step) → StepKeeps t.receiving before step → AsksOnly client before (after_step t at rest step) TakenKeeps
+  step-keeps t at rest behind go before (Goes s replies notes) keeps =
+      behind before (record t { receiving = s; replies = t.replies ++ replies; notes = t.notes ++ notes }) (keeps.0, go-append client t.replies replies go keeps.1)
+  step-keeps t at rest behind go before Bad keeps = (keeps, go)
+  step-keeps t at rest behind go before (Declined answer) keeps = (keeps, go)
 
   pub taken-keeps : (arrivals : List Arrival) (before : List Entry) (t : Taken) → TakenKeeps before t → AsksOnly client before (taken t arrivals) TakenKeeps
   unfolding taken

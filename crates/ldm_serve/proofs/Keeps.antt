@@ -45,16 +45,21 @@ use Rattle.ldm_serve.specs.Outlived.{AreOutlived, Outlived, Answered, Narrowed, 
 use Rattle.ldm_serve.specs.Connection.{Answers, ServingMoment, entries_in, messages_in, steps_in}
 use Rattle.ldm_serve.specs.Becoming.{IsDenied, IsFed, IsNotified, IsReceived, IsRefused, ungated}
 use Rattle.ldm_serve.specs.Serve.{EndsBy, EndsWorn, ServesAll}
-use Rattle.ldm_serve.specs.Kept.{AllPutIn, AllTell, MayHandIn, PutsIn, SendsOnly}
+use Rattle.ldm_serve.specs.Kept.{AllPutIn, AllTell, MayAsk, MayHandIn, PutsIn, SendsOnly}
 use Rattle.ldm_serve.proofs.PuttingIn.{all_put-append}
 use Rattle.ldm_serve.proofs.Calling.{closing-none, feeding-puts_none, none-put_in, notifying-puts_none, puts-append, puts-part}
+use Rattle.ldm_serve.proofs.MayGo.{go-tell}
 use Rattle.ldm_serve.proofs.Pushed.{received-pushes}
-use Rattle.ldm_serve.proofs.Telling.{feeding-tells, messages-none, none-tell, notifying-tells, tell-append}
+use Rattle.ldm_serve.proofs.Telling.{feeding-tells, messages-go, notifying-tells, tell-append}
 
--- what is known of responses: no record has a product inserted but by the rules
+-- what is known of responses: no record has a product inserted, and none has the queue asked for its figures, but by the rules
 abbrev pub InsertsByRules : Client → Type 0
 InsertsByRules client = (content : List ℕ) (now : ℕ) (made : List Entry) (time : ℕ) (info : Metadata) (body : List ℕ)
     → Begins client.actor (answering (respond client content) now) made → Contains (events_of made) (Insert time info body) → MayHandIn client info
+
+abbrev pub AsksByRules : Client → Type 0
+AsksByRules client = (content : List ℕ) (now : ℕ) (made : List Entry)
+    → Begins client.actor (answering (respond client content) now) made → Contains (events_of made) Stat → MayAsk client
 
 part_rest : (whole : Bool) (part all : List ℕ) → IsPart whole part all → (rest : List ℕ) × (part ++ rest ≡ all)
 part_rest true part all is = ([], append-nil part ∙ is)
@@ -68,38 +73,41 @@ module _ (client : Client) where
   comes-puts before owed messages (entry ∷ made) leads = absurd leads
 
   response-puts : (before : List Entry) (response : Response) (now : ℕ) (made : List Entry) (messages : List Sent) → Leads client.actor (answering response now) made messages
-      → ((time : ℕ) (info : Metadata) (body : List ℕ) → Contains (events_of made) (Insert time info body) → MayHandIn client info) → AllPutIn client before made
-  response-puts before (Puts xid info body) now [] messages leads may = absurd leads
-  response-puts before (Puts xid info body) now (entry ∷ []) messages leads may =
+      → ((time : ℕ) (info : Metadata) (body : List ℕ) → Contains (events_of made) (Insert time info body) → MayHandIn client info)
+      → (Contains (events_of made) Stat → MayAsk client) → AllPutIn client before made
+  response-puts before (Puts xid info body) now [] messages leads may asks = absurd leads
+  response-puts before (Puts xid info body) now (entry ∷ []) messages leads may asks =
       let event : entry.event ≡ Insert now info body = ap (λ (e : Entry). e.event) leads.0 in
       let there : Contains (entry.event ∷ []) (Insert now info body) =
       subst (λ (e : Event). Contains (e ∷ []) (Insert now info body)) (sym event) (Contains-push [] (Insert now info body)) in
       (subst (λ (e : Event). PutsIn client before e) (sym event) (may now info body there), tt)
-  response-puts before (Puts xid info body) now (entry ∷ other ∷ made) messages leads may = absurd leads.1
-  response-puts before (Figures xid) now [] messages leads may = absurd leads
-  response-puts before (Figures xid) now (entry ∷ []) messages leads may =
+  response-puts before (Puts xid info body) now (entry ∷ other ∷ made) messages leads may asks = absurd leads.1
+  response-puts before (Figures xid) now [] messages leads may asks = absurd leads
+  response-puts before (Figures xid) now (entry ∷ []) messages leads may asks =
       let event : entry.event ≡ Stat = ap (λ (e : Entry). e.event) leads.0 in
-      (subst (λ (e : Event). PutsIn client before e) (sym event) tt, tt)
-  response-puts before (Figures xid) now (entry ∷ other ∷ made) messages leads may = absurd leads.1
-  response-puts before (Says owed) now made messages leads may = comes-puts before owed messages made leads
-  response-puts before (Feeds xid class max_hereis) now made messages leads may = comes-puts before [] messages made leads
-  response-puts before (Receives class owed) now made messages leads may = comes-puts before owed messages made leads
-  response-puts before (Notifies xid class) now made messages leads may = comes-puts before [] messages made leads
-  response-puts before (Refuses owed) now made messages leads may = comes-puts before owed messages made leads
-  response-puts before (Denies rule owed) now made messages leads may = comes-puts before owed messages made leads
+      let there : Contains (entry.event ∷ []) Stat = subst (λ (e : Event). Contains (e ∷ []) Stat) (sym event) (Contains-push [] Stat) in
+      (subst (λ (e : Event). PutsIn client before e) (sym event) (asks there), tt)
+  response-puts before (Figures xid) now (entry ∷ other ∷ made) messages leads may asks = absurd leads.1
+  response-puts before (Says owed) now made messages leads may asks = comes-puts before owed messages made leads
+  response-puts before (Feeds xid class max_hereis) now made messages leads may asks = comes-puts before [] messages made leads
+  response-puts before (Receives class owed) now made messages leads may asks = comes-puts before owed messages made leads
+  response-puts before (Notifies xid class) now made messages leads may asks = comes-puts before [] messages made leads
+  response-puts before (Refuses owed) now made messages leads may asks = comes-puts before owed messages made leads
+  response-puts before (Denies rule owed) now made messages leads may asks = comes-puts before owed messages made leads
 
   outlived-are : (outlived : List Outlived) (last : List Step) → AreOutlived client outlived → AreSteps client last → AreSteps client (map step_of outlived ++ last)
   outlived-are [] last are behind = behind
   outlived-are (Answered step ∷ others) last are behind = (are.0.0, outlived-are others last are.1 behind)
   outlived-are (Narrowed step fewer at ∷ others) last are behind = (are.0.0, outlived-are others last are.1 behind)
 
-  module _ (inserts : InsertsByRules client) where
+  module _ (inserts : InsertsByRules client) (asks : AsksByRules client) where
     step-puts : (before : List Entry) (step : Step) → IsStep client step → AllPutIn client before step.made
     step-puts before step is =
         let response = response_of client step in
+        let begins = leads-begins client.actor (answering response step.now) step.made step.messages is in
         response-puts before response step.now step.made step.messages is
-        (λ (time : ℕ) (info : Metadata) (body : List ℕ) there. inserts step.placed.content step.now step.made time info body
-        (leads-begins client.actor (answering response step.now) step.made step.messages is) there)
+        (λ (time : ℕ) (info : Metadata) (body : List ℕ) there. inserts step.placed.content step.now step.made time info body begins there)
+        (λ there. asks step.placed.content step.now step.made begins there)
 
     steps-put : (before : List Entry) (steps : List Step) → AreSteps client steps → AllPutIn client before (entries_of steps)
     steps-put before [] are = tt
@@ -198,7 +206,7 @@ module _ (client : Client) where
           calls = pushes.calls;
           puts = pushes.puts;
           messages = pushes.messages;
-          tell = none-tell client owed pushes.messages pushes.none;
+          tell = go-tell client owed pushes.messages pushes.go;
           sent = pushes.sent;
           rest = pushes.rest;
           front = pushes.front;
@@ -245,13 +253,13 @@ module _ (client : Client) where
     behind = ends-behind (entries_in serves.answers) (messages_in client serves.answers) serves.between new actor_is why serves.answers serves.taken serves.ahead serves.ends
 
     answers_tell : AllTell client [] (messages_in client serves.answers)
-    answers_tell = none-tell client [] (messages_in client serves.answers) (messages-none client serves.answers serves.reaches.outlived serves.reaches.last)
+    answers_tell = go-tell client [] (messages_in client serves.answers) (messages-go client serves.answers serves.reaches.outlived serves.reaches.last)
 
-    pub puts-in : InsertsByRules client → (made : List Entry) → Calls old.pass new.pass made → AllPutIn client [] made
-    puts-in inserts made calls =
+    pub puts-in : InsertsByRules client → AsksByRules client → (made : List Entry) → Calls old.pass new.pass made → AllPutIn client [] made
+    puts-in inserts asks made calls =
         let first = entries_in serves.answers in
         let all = calls_trans old.pass serves.between.pass new.pass first behind.made serves.reaches.calls behind.calls in
-        let put = all_put-append client [] first behind.made (answers-put inserts serves.answers serves.reaches.outlived serves.reaches.last) behind.puts in
+        let put = all_put-append client [] first behind.made (answers-put inserts asks serves.answers serves.reaches.outlived serves.reaches.last) behind.puts in
         subst (λ (entries : List Entry). AllPutIn client [] entries)
         (append_cancel_left (own old.pass.actor old.pass.seen) (first ++ behind.made) made (sym all.adds.own ∙ calls.adds.own)) put
 

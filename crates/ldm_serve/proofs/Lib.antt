@@ -17,6 +17,7 @@ pub mod Coming
 pub mod Receiving
 pub mod Narrowing
 pub mod PuttingIn
+pub mod MayGo
 pub mod HandingIn
 pub mod Pushed
 pub mod Calling

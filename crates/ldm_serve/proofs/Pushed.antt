@@ -23,7 +23,8 @@ use Rattle.ldm_downstream.specs.Taking.{Takes, BeginsNext, BreaksOff, GivesUp}
 use Rattle.ldm_downstream.specs.Received.{received, with_hand}
 use Rattle.ldm_downstream.specs.Receives as receives
 use Rattle.ldm_serve.specs.Client.{Client}
-use Rattle.ldm_serve.specs.Kept.{AllPutIn, AllTellNone}
+use Rattle.ldm_serve.specs.Kept.{AllPutIn}
+use Rattle.ldm_serve.proofs.MayGo.{AllMayGo}
 use Rattle.ldm_serve.proofs.PuttingIn.{AsksOnly, all_put-append, asks-then, begins-asked, leads-asked}
 use Rattle.ldm_serve.proofs.HandingIn.{Keeps, StepKeeps, TakenKeeps, accepting-keeps, closing-keeps, record-keeps, taken-keeps}
 
@@ -31,13 +32,13 @@ same_actor : (client : Client) (old new : PassView) (made : List Entry) → old.
 same_actor client old new made by calls = ap (λ (pass : PassView). pass.actor) calls.same ∙ by
 
 module _ (client : Client) where
-  -- Between two moments a receiving made calls that keep to the rules, behind others, and it owes messages with nothing of a product.
+  -- Between two moments a receiving made calls that keep to the rules, behind others, and it owes messages that may go.
   pub record HandsIn (before : List Entry) (old new : Standing) : Type 0 where
     pub made : List Entry
     pub calls : Calls old.pass new.pass made
     pub puts : AllPutIn client before made
     pub replies : List Sent
-    pub none : AllTellNone replies
+    pub go : AllMayGo client replies
     pub owed : new.out ≡ old.out ++ records_of replies
 
   -- the same of a course of records
@@ -56,7 +57,7 @@ module _ (client : Client) where
           calls = takes.calls;
           puts = begins-asked client (TakenKeeps client) before course takes.made asks (leads-begins client.actor course takes.made takes.to leads);
           replies = takes.to.replies;
-          none = such.1;
+          go = such.1;
           owed = takes.sends;
         };
         keeps = subst (λ (s : Receiving). Keeps client (before ++ takes.made) s) (sym takes.receiving) such.0;
@@ -80,7 +81,7 @@ module _ (client : Client) where
             (begins-next (before ++ hands.made) breaks.between.receiving breaks.behind breaks.made took.keeps
             (subst (λ (actor : ℕ). BeginsNext actor breaks.between.receiving breaks.behind breaks.made) by breaks.begins));
         replies = hands.replies;
-        none = hands.none;
+        go = hands.go;
         owed = ap (λ (s : Standing). s.out) breaks.same ∙ hands.owed;
       }
 
@@ -98,7 +99,7 @@ module _ (client : Client) where
             (closing-keeps client (before ++ hands.made) (taken_none between.receiving) between.receiving.pending)
             (leads-begins client.actor course gives.closes.made (taken_none new.receiving) leads));
         replies = hands.replies;
-        none = hands.none;
+        go = hands.go;
         owed = gives.sends ∙ hands.owed;
       }
 
@@ -139,7 +140,7 @@ module _ (client : Client) where
     pub calls : Calls old new made
     pub puts : AllPutIn client before made
     pub messages : List Sent
-    pub none : AllTellNone messages
+    pub go : AllMayGo client messages
     pub sent : List ℕ
     pub rest : List ℕ
     pub front : sent ++ rest ≡ records_of messages
@@ -158,7 +159,7 @@ module _ (client : Client) where
         calls = subst (λ (pass : PassView). Calls old pass hands.made) all.pass_is hands.calls;
         puts = hands.puts;
         messages = hands.replies;
-        none = hands.none;
+        go = hands.go;
         sent = goes.sent;
         rest = front.0;
         front = front.1 ∙ hands.owed;

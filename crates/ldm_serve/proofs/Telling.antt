@@ -1,4 +1,4 @@
--- What a host is told: the answers to its records have nothing of a product, and a feeding and a session of notices keep to the ALLOW rules.
+-- What a host is told: the answers to its records may go whatever went before, and a feeding and a session of notices keep to the ALLOW rules.
 use Rattle.std.proofs.Common.{◌≡◌, ℕ, ◌+◌, ◌&&◌, nat_le, Bool, true, false, List, [], ◌∷◌, ◌++◌, None, refl, sym, subst, append_assoc, append-nil}
 use Rattle.std.specs.Prelude.{if◌then◌else◌}
 use Rattle.std.proofs.lemmas.Bool.{and_parts}
@@ -41,108 +41,106 @@ use Rattle.ldm_serve.specs.Client.{Client}
 use Rattle.ldm_serve.specs.Steps.{AreSteps, Step, messages_of, response_of}
 use Rattle.ldm_serve.specs.Outlived.{Outlived, Answered, Narrowed, AreOutlived, messages_for, messages_for_all, narrower}
 use Rattle.ldm_serve.specs.Connection.{Answers, messages_in}
-use Rattle.ldm_serve.specs.Kept.{AllTell, AllTellNone, MayHave, Tells, TellsNone, WasAnnounced}
+use Rattle.ldm_serve.specs.Kept.{AllTell, MayAsk, MayHave, WasAnnounced}
 use Rattle.ldm_serve.proofs.Cases.{each_response}
-use Rattle.ldm_serve.proofs.HandingIn.{none-append}
+use Rattle.ldm_serve.proofs.MayGo.{AllMayGo, go-append}
 
--- ---- answers have nothing of a product
-
-abbrev SaysNone : Response → Type 0
-SaysNone (Says messages) = AllTellNone messages
-SaysNone (Puts xid info body) = Unit {0}
-SaysNone (Figures xid) = Unit {0}
-SaysNone (Feeds xid class max_hereis) = Unit {0}
-SaysNone (Receives class messages) = AllTellNone messages
-SaysNone (Notifies xid class) = Unit {0}
-SaysNone (Refuses messages) = AllTellNone messages
-SaysNone (Denies rule messages) = AllTellNone messages
-
-says-if : (test : Bool) (one other : Response) → SaysNone one → SaysNone other → SaysNone (if test then one else other)
-says-if true one other first second = first
-says-if false one other first second = second
-
-says-offer : (xid : ℕ) (class : ClassSpec) (left : Reduced) → SaysNone (to_offer xid class left)
-says-offer xid class Same = (tt, tt)
-says-offer xid class (Fewer fewer) = (tt, tt)
-says-offer xid class (Nothing rule) = (tt, tt)
-
-says-fault : (fault : RelayFault) → SaysNone (to_fault fault)
-says-fault (WrongProcedure xid procedure) = (tt, tt)
-says-fault (WrongProgram xid program version) = (tt, tt)
-says-fault (BadMessage xid at) = (tt, tt)
-says-fault (NotRpc at) = tt
-
-put-none : (xid : ℕ) (answer : Reply) → AllTellNone (put_replies xid answer)
-put-none xid (reply.Admitted n time evicted) = (tt, tt)
-put-none xid (reply.TooBig need arena) = (tt, tt)
-put-none xid (reply.Duplicate n) = (tt, tt)
-put-none xid reply.TimeEnd = (tt, tt)
-put-none xid (reply.Locked held) = (tt, tt)
-put-none xid _ = tt
-
-stat-none : (xid : ℕ) (answer : Reply) → AllTellNone (stat_replies xid answer)
-stat-none xid (reply.Stat admitted queued held used largest_free) = (tt, tt)
-stat-none xid _ = tt
-
--- what is owed at once
-comes-none : (actor : ℕ) (owed messages : List Sent) (made : List Entry) → AllTellNone owed → Leads actor (Comes owed) made messages → AllTellNone messages
-comes-none actor owed messages [] none leads = subst AllTellNone leads none
-comes-none actor owed messages (entry ∷ made) none leads = absurd leads
-
--- what is owed behind one call
-asked-none : (actor : ℕ) (owed : Reply → List Sent) (messages : List Sent) (answer : Reply) (made : List Entry) → ((other : Reply) → AllTellNone (owed other))
-    → Leads actor (Comes (owed answer)) made messages → AllTellNone messages
-asked-none actor owed messages answer made none leads = comes-none actor (owed answer) messages made (none answer) leads
+-- ---- answers may go whatever went before
 
 module _ (client : Client) where
-  says-call : (call : Sent) → SaysNone (to_call client.rules client.host call)
-  says-call (sent.Feedme xid class max_hereis) = says-if (means_all class) (Feeds xid class max_hereis) (Says (sent.FeedmeReply xid class_answer.BadPattern ∷ [])) tt (tt, tt)
-  says-call (sent.Notifyme xid class) = says-if (means_all class) (Notifies xid class) (Says (sent.NotifymeReply xid class_answer.BadPattern ∷ [])) tt (tt, tt)
-  says-call (sent.Hiya xid class) =
-      says-if (means_all class) (to_offer xid class (reduce client.rules.accept client.host class)) (Says (sent.HiyaReply xid MAX_HEREIS class_answer.BadPattern ∷ []))
-      (says-offer xid class (reduce client.rules.accept client.host class)) (tt, tt)
-  says-call (sent.Put xid info body) = says-if (may_push client.rules client.host info) (Puts xid info body) (Says (sent.PutReply xid put_answer.Denied ∷ [])) tt (tt, tt)
-  says-call (sent.Qstat xid) = says-if (may_know client.rules client.host) (Figures xid) (Says (sent.QstatReply xid None ∷ [])) tt (tt, tt)
-  says-call _ = tt
+  abbrev GoesAs : Response → Type 0
+  GoesAs (Says messages) = AllMayGo client messages
+  GoesAs (Puts xid info body) = Unit {0}
+  GoesAs (Figures xid) = MayAsk client
+  GoesAs (Feeds xid class max_hereis) = Unit {0}
+  GoesAs (Receives class messages) = AllMayGo client messages
+  GoesAs (Notifies xid class) = Unit {0}
+  GoesAs (Refuses messages) = AllMayGo client messages
+  GoesAs (Denies rule messages) = AllMayGo client messages
 
-  says : (content : List ℕ) → SaysNone (respond client content)
-  says = each_response client SaysNone says-call says-fault (λ xid answer. (tt, tt)) tt
+  goes-if : (test : Bool) (one other : Response) → (test ≡ true → GoesAs one) → GoesAs other → GoesAs (if test then one else other)
+  goes-if true one other first second = first refl
+  goes-if false one other first second = second
 
-  answers-none : (response : Response) (now : ℕ) (made : List Entry) (messages : List Sent) → SaysNone response → Leads client.actor (answering response now) made messages → AllTellNone messages
-  answers-none (Says owed) now made messages none leads = comes-none client.actor owed messages made none leads
-  answers-none (Puts xid info body) now [] messages none leads = absurd leads
-  answers-none (Puts xid info body) now (entry ∷ made) messages none leads = asked-none client.actor (put_replies xid) messages entry.reply made (put-none xid) leads.1
-  answers-none (Figures xid) now [] messages none leads = absurd leads
-  answers-none (Figures xid) now (entry ∷ made) messages none leads = asked-none client.actor (stat_replies xid) messages entry.reply made (stat-none xid) leads.1
-  answers-none (Feeds xid class max_hereis) now made messages none leads = comes-none client.actor [] messages made tt leads
-  answers-none (Receives class owed) now made messages none leads = comes-none client.actor owed messages made none leads
-  answers-none (Notifies xid class) now made messages none leads = comes-none client.actor [] messages made tt leads
-  answers-none (Refuses owed) now made messages none leads = comes-none client.actor owed messages made none leads
-  answers-none (Denies rule owed) now made messages none leads = comes-none client.actor owed messages made none leads
+  goes-offer : (xid : ℕ) (class : ClassSpec) (left : Reduced) → GoesAs (to_offer xid class left)
+  goes-offer xid class Same = (tt, tt)
+  goes-offer xid class (Fewer fewer) = (tt, tt)
+  goes-offer xid class (Nothing rule) = (tt, tt)
 
-  step-none : (step : Step) → Leads client.actor (answering (response_of client step) step.now) step.made step.messages → AllTellNone step.messages
-  step-none step leads = answers-none (response_of client step) step.now step.made step.messages (says step.placed.content) leads
+  goes-fault : (fault : RelayFault) → GoesAs (to_fault fault)
+  goes-fault (WrongProcedure xid procedure) = (tt, tt)
+  goes-fault (WrongProgram xid program version) = (tt, tt)
+  goes-fault (BadMessage xid at) = (tt, tt)
+  goes-fault (NotRpc at) = tt
 
-  steps-none : (steps : List Step) → AreSteps client steps → AllTellNone (messages_of steps)
-  steps-none [] are = tt
-  steps-none (step ∷ steps) are = none-append step.messages (messages_of steps) (step-none step are.0) (steps-none steps are.1)
+  put-goes : (xid : ℕ) (answer : Reply) → AllMayGo client (put_replies xid answer)
+  put-goes xid (reply.Admitted n time evicted) = (tt, tt)
+  put-goes xid (reply.TooBig need arena) = (tt, tt)
+  put-goes xid (reply.Duplicate n) = (tt, tt)
+  put-goes xid reply.TimeEnd = (tt, tt)
+  put-goes xid (reply.Locked held) = (tt, tt)
+  put-goes xid _ = tt
 
-  narrower-none : (response : Response) (fewer : ClassSpec) → AllTellNone (narrower response fewer)
-  narrower-none (Feeds xid class max_hereis) fewer = (tt, tt)
-  narrower-none (Notifies xid class) fewer = (tt, tt)
-  narrower-none _ fewer = tt
+  stat-goes : (xid : ℕ) (answer : Reply) → MayAsk client → AllMayGo client (stat_replies xid answer)
+  stat-goes xid (reply.Stat admitted queued held used largest_free) may = (may, tt)
+  stat-goes xid _ may = tt
 
-  outlived-none : (outlived : List Outlived) → AreOutlived client outlived → AllTellNone (messages_for_all client outlived)
-  outlived-none [] are = tt
-  outlived-none (Answered step ∷ others) are = none-append step.messages (messages_for_all client others) (step-none step are.0.0) (outlived-none others are.1)
-  outlived-none (Narrowed step fewer at ∷ others) are =
-      none-append (messages_for client (Narrowed step fewer at)) (messages_for_all client others)
-      (none-append step.messages (narrower (response_of client step) fewer) (step-none step are.0.0) (narrower-none (response_of client step) fewer))
-      (outlived-none others are.1)
+  -- what is owed at once
+  comes-go : (owed messages : List Sent) (made : List Entry) → AllMayGo client owed → Leads client.actor (Comes owed) made messages → AllMayGo client messages
+  comes-go owed messages [] go leads = subst (λ (sent : List Sent). AllMayGo client sent) leads go
+  comes-go owed messages (entry ∷ made) go leads = absurd leads
 
-  pub messages-none : (answers : Answers) → AreOutlived client answers.outlived → AreSteps client answers.last → AllTellNone (messages_in client answers)
-  messages-none answers outlived last =
-      none-append (messages_for_all client answers.outlived) (messages_of answers.last) (outlived-none answers.outlived outlived) (steps-none answers.last last)
+  goes-call : (call : Sent) → GoesAs (to_call client.rules client.host call)
+  goes-call (sent.Feedme xid class max_hereis) =
+      goes-if (means_all class) (Feeds xid class max_hereis) (Says (sent.FeedmeReply xid class_answer.BadPattern ∷ [])) (λ means. tt) (tt, tt)
+  goes-call (sent.Notifyme xid class) = goes-if (means_all class) (Notifies xid class) (Says (sent.NotifymeReply xid class_answer.BadPattern ∷ [])) (λ means. tt) (tt, tt)
+  goes-call (sent.Hiya xid class) =
+      goes-if (means_all class) (to_offer xid class (reduce client.rules.accept client.host class)) (Says (sent.HiyaReply xid MAX_HEREIS class_answer.BadPattern ∷ []))
+      (λ means. goes-offer xid class (reduce client.rules.accept client.host class)) (tt, tt)
+  goes-call (sent.Put xid info body) =
+      goes-if (may_push client.rules client.host info) (Puts xid info body) (Says (sent.PutReply xid put_answer.Denied ∷ [])) (λ may. tt) (tt, tt)
+  goes-call (sent.Qstat xid) = goes-if (may_know client.rules client.host) (Figures xid) (Says (sent.QstatReply xid None ∷ [])) (λ may. may) (tt, tt)
+  goes-call _ = tt
+
+  goes : (content : List ℕ) → GoesAs (respond client content)
+  goes = each_response client GoesAs goes-call goes-fault (λ xid answer. (tt, tt)) tt
+
+  answers-go : (response : Response) (now : ℕ) (made : List Entry) (messages : List Sent) → GoesAs response → Leads client.actor (answering response now) made messages
+      → AllMayGo client messages
+  answers-go (Says owed) now made messages go leads = comes-go owed messages made go leads
+  answers-go (Puts xid info body) now [] messages go leads = absurd leads
+  answers-go (Puts xid info body) now (entry ∷ made) messages go leads = comes-go (put_replies xid entry.reply) messages made (put-goes xid entry.reply) leads.1
+  answers-go (Figures xid) now [] messages go leads = absurd leads
+  answers-go (Figures xid) now (entry ∷ made) messages go leads = comes-go (stat_replies xid entry.reply) messages made (stat-goes xid entry.reply go) leads.1
+  answers-go (Feeds xid class max_hereis) now made messages go leads = comes-go [] messages made tt leads
+  answers-go (Receives class owed) now made messages go leads = comes-go owed messages made go leads
+  answers-go (Notifies xid class) now made messages go leads = comes-go [] messages made tt leads
+  answers-go (Refuses owed) now made messages go leads = comes-go owed messages made go leads
+  answers-go (Denies rule owed) now made messages go leads = comes-go owed messages made go leads
+
+  step-goes : (step : Step) → Leads client.actor (answering (response_of client step) step.now) step.made step.messages → AllMayGo client step.messages
+  step-goes step leads = answers-go (response_of client step) step.now step.made step.messages (goes step.placed.content) leads
+
+  steps-go : (steps : List Step) → AreSteps client steps → AllMayGo client (messages_of steps)
+  steps-go [] are = tt
+  steps-go (step ∷ steps) are = go-append client step.messages (messages_of steps) (step-goes step are.0) (steps-go steps are.1)
+
+  narrower-goes : (response : Response) (fewer : ClassSpec) → AllMayGo client (narrower response fewer)
+  narrower-goes (Feeds xid class max_hereis) fewer = (tt, tt)
+  narrower-goes (Notifies xid class) fewer = (tt, tt)
+  narrower-goes _ fewer = tt
+
+  outlived-go : (outlived : List Outlived) → AreOutlived client outlived → AllMayGo client (messages_for_all client outlived)
+  outlived-go [] are = tt
+  outlived-go (Answered step ∷ others) are = go-append client step.messages (messages_for_all client others) (step-goes step are.0.0) (outlived-go others are.1)
+  outlived-go (Narrowed step fewer at ∷ others) are =
+      go-append client (messages_for client (Narrowed step fewer at)) (messages_for_all client others)
+      (go-append client step.messages (narrower (response_of client step) fewer) (step-goes step are.0.0) (narrower-goes (response_of client step) fewer))
+      (outlived-go others are.1)
+
+  pub messages-go : (answers : Answers) → AreOutlived client answers.outlived → AreSteps client answers.last → AllMayGo client (messages_in client answers)
+  messages-go answers outlived last =
+      go-append client (messages_for_all client answers.outlived) (messages_of answers.last) (outlived-go answers.outlived outlived) (steps-go answers.last last)
 
   -- ---- messages one behind the other
 
@@ -153,29 +151,6 @@ module _ (client : Client) where
     tell-append (before ++ message ∷ []) messages more first.1
         (subst (λ (b : List Sent). AllTell client b more) (sym (append_assoc before (message ∷ []) messages)) second),
   )
-
-  none-tells : (before : List Sent) (message : Sent) → TellsNone message → Tells client before message
-  none-tells before (sent.Hereis xid info body) none = absurd none
-  none-tells before (sent.Comingsoon xid info block_size) none = absurd none
-  none-tells before (sent.Notification xid info) none = absurd none
-  none-tells before (sent.Blkdata xid signature number block) none = absurd none
-  none-tells before (sent.FeedmeReply xid answer) none = tt
-  none-tells before (sent.HiyaReply xid max_hereis answer) none = tt
-  none-tells before (sent.ComingsoonReply xid answer) none = tt
-  none-tells before (sent.Isalive xid) none = tt
-  none-tells before (sent.QstatReply xid stat) none = tt
-  none-tells before (sent.PutReply xid answer) none = tt
-  none-tells before (sent.NotifymeReply xid answer) none = tt
-  none-tells before (sent.Refused xid why) none = tt
-  none-tells before (sent.Feedme xid class max_hereis) none = absurd none
-  none-tells before (sent.Hiya xid class) none = absurd none
-  none-tells before (sent.Qstat xid) none = absurd none
-  none-tells before (sent.Put xid info body) none = absurd none
-  none-tells before (sent.Notifyme xid class) none = absurd none
-
-  pub none-tell : (before messages : List Sent) → AllTellNone messages → AllTell client before messages
-  none-tell before [] none = tt
-  none-tell before (message ∷ messages) none = (none-tells before message none.0, none-tell (before ++ message ∷ []) messages none.1)
 
   -- ---- feedings
 

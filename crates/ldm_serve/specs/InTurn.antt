@@ -1,4 +1,4 @@
--- A connection that is served in turn: what is owed for the records that came is sent before more comes.
+-- A connection that is served in turn: what is owed for the records that came is sent before the link is asked for more.
 use Rattle.std.specs.Prelude.{◌≡◌, ℕ, ◌≤◌, List, [], ◌∷◌, ◌++◌, length, map, All}
 use Rattle.ldm_outside.specs.Link.{LinkRecord}
 use Rattle.ldm_rpc.specs.Streams.{records_in}
@@ -10,7 +10,7 @@ use Rattle.ldm_serve.specs.Outlived.{Outlived, messages_for_all, step_of}
 use Rattle.ldm_serve.specs.ServingView.{beginning}
 use Rattle.ldm_serve.specs.Steps.{placed_of}
 
--- no more came in it than is received at once
+-- its piece is no longer than what is received at once
 abbrev pub IsSmall : Round → Type 0
 IsSmall round = length round.given ≤ LONGEST_PIECE
 
@@ -22,8 +22,9 @@ pub record AreAnswered (client : Client) (outlived : List Outlived) (rounds : Li
   pub records : placed_of (map step_of first) ≡ records_in beginning (given_in rounds)
   pub sent : sent_in rounds ≡ records_of (messages_for_all client first)
 
--- A connection passed these bytes in turn, so many at once at most: before the latest of them came, and before each that came earlier, all that
--- was owed by then was sent. What is owed since then is sent behind all that came: all of it, or a front.
+-- A connection passed these bytes in turn. Each round has the piece that one call of the link gave, of so many bytes at most: before that call,
+-- of the latest round as of the earlier ones, just what was owed by then was sent. What is owed since then is sent behind all that came: all
+-- of it, or a front.
 pub record InTurn (client : Client) (outlived : List Outlived) (total : Round) (old now : LinkRecord) : Type 0 where
   pub before : List Round
   pub latest : Round

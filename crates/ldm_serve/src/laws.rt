@@ -22,15 +22,16 @@ use crate::response_laws::rules_are_kept;
 use ldm_relay::what_is_written_is_read;
 use ldm_rpc::records_are_read;
 
-/// Whatever a host sends, the rules decide what it hands in and what it is told, from the first byte of its connection
-/// to the last. It does nothing.
+/// Whatever a host sends, the rules decide what it hands in, what it asks and what it is told, from the first byte of
+/// its connection to the last. It does nothing.
 pub fn serving_keeps_the_rules()
     // What the calls of the connection put into the queue are products for which the ACCEPT verdict of the host is Yes.
+    // The queue is asked for its figures only where an ALLOW rule is about the host.
     ensures puts_in { (end : ServeEnd) (client : Client) (old new : ServingMoment) (made : List Entry)
         → ServesAll end client old new →
         Calls old.pass new.pass made → AllPutIn client [] made }
     // Each product that is sent, in part or whole, and each that is told of, is one for which the ALLOW verdict of the
-    // host is Yes.
+    // host is Yes. Figures are told only where an ALLOW rule is about the host.
     ensures sends { (end : ServeEnd) (client : Client) (old new : ServingMoment) → ServesAll end client old new →
         SendsOnly client old.outside.link new.outside.link }
     // Before the connection becomes a feeding or a session of notices, nothing of any product is sent.
