@@ -28,7 +28,7 @@ use Rattle.ldm_sender.specs.Opening.{Opened}
 use Rattle.ldm_upstream.specs.Feeding.{bytes_of, codes_of, given_of}
 use Rattle.ldm_downstream.specs.Pieces.{joined}
 use Rattle.ldm_downstream.specs.Received.{received}
-use Rattle.ldm_downstream.specs.Receives.{IsPart as IsBytesPart, at_first, is_whole_end}
+use Rattle.ldm_downstream.specs.Receives.{at_first, is_whole_end}
 use Rattle.ldm_between_ends.specs.Codes.{Agree, soon_codes}
 use Rattle.ldm_between_ends.specs.Following.{Follows}
 use Rattle.ldm_between_ends.specs.Life.{HasLife}
@@ -55,10 +55,6 @@ pub record PassingLaws : Type 0 where
 front-first : (whole : Bool) (part all : List ℕ) → IsPart whole part all → IsPrefix part all
 front-first true part all is = ([], append-nil part ∙ is)
 front-first false part all is = is
-
-bytes-first : (whole : Bool) (part all : List ℕ) → IsBytesPart whole part all → IsPrefix part all
-bytes-first true part all is = ([], append-nil part ∙ is)
-bytes-first false part all is = is
 
 front-of_front : (a b c : List ℕ) → IsPrefix a b → IsPrefix b c → IsPrefix a c
 front-of_front a b c first second =
@@ -135,7 +131,7 @@ module _ (laws : PassingLaws) (f : FeedingCall) (r : ReceivingCall) (connects : 
       behind-same request (f.ahead ++ f.feeds.given) (records_of at_end.to.replies)
       (subst (λ (x : List ℕ). IsPrefix (request ++ (f.ahead ++ f.feeds.given)) x) out
       (front-of_front (request ++ (f.ahead ++ f.feeds.given)) (sent_by r) r.receives.at_end.out connects.up
-      (bytes-first (is_whole_end r.end) (sent_by r) r.receives.at_end.out r.receives.receives.sent_is)))
+      (front-first (is_whole_end r.end) (sent_by r) r.receives.at_end.out r.receives.receives.sent_is)))
 
   is-passing : IsPassing passing
   is-passing = record {
