@@ -1,5 +1,6 @@
 -- What a whole gathering came to: piece by piece.
-use Rattle.std.proofs.Common.{◌≡◌, ◌∙◌, ℕ, false, List, [], ◌∷◌, ◌++◌, map, Option, Some, None, inl, inr, ◌⊎◌, refl, sym, ap, subst, append_assoc}
+use Rattle.std.proofs.Common.{◌≡◌, ◌∙◌, ℕ, ◌≤◌, false, List, [], ◌∷◌, ◌++◌, length, map, Option, Some, None, inl, inr, ◌⊎◌, refl, sym, ap, subst, append_assoc, arith}
+use Rattle.std.specs.Prelude.{IfSome}
 use Rattle.std.specs.List.{flat_map}
 use Rattle.std.proofs.lemmas.List.{append-nil, map-append}
 use Rattle.std.proofs.lemmas.List.Concat.{flat_map-append}
@@ -10,11 +11,17 @@ use Rattle.ldm_model.specs.declared.event.Reply.TheVariants as reply
 use Rattle.ldm_model.specs.declared.event.Entry.{Entry}
 use Rattle.ldm_model.specs.History.{after, IsLegal}
 use Rattle.ldm_model.specs.Product.{Product}
+use Rattle.ldm_outside.specs.Count.{Rose}
+use Rattle.ldm_outside.specs.Io.{SinkRecord}
 use Rattle.ldm_outside.specs.Launcher.{LauncherRecord}
 use Rattle.ldm_outside.specs.Store.{StoreRecord}
+use Rattle.ldm_outside.proofs.CallerLemmas.{Rose-later}
+use Rattle.ldm_shared.specs.declared.steps.TheConstants.{MOST_TURNS}
 use Rattle.ldm_shared.specs.Passes.{PassView}
 use Rattle.ldm_shared.proofs.Made.{calls_none, calls_some, calls_trans}
 use Rattle.ldm_reader.specs.Staying.{HasRow}
+use Rattle.ldm_actions.specs.declared.answers.Fault.{Fault}
+use Rattle.ldm_actions.specs.declared.answers.Fault.TheVariants as fault
 use Rattle.ldm_actions.specs.Effects.{Action}
 use Rattle.ldm_actions.specs.Outputs.{Standing}
 use Rattle.ldm_intake.specs.declared.end.RecvEnd.{RecvEnd}
@@ -35,8 +42,8 @@ use Rattle.ldm_gather.specs.Scene.{Lent, GatherMoment, Scene, moment_of}
 use Rattle.ldm_gather.proofs.Cursors.{closes-quiet, pushes-quiet}
 use Rattle.ldm_pqact.specs.declared.end.ActEnd.{ActEnd}
 use Rattle.ldm_pqact.specs.declared.end.ActEnd.TheVariants as end
-use Rattle.ldm_pqact.specs.Acting.{EndsSo, IsInHand, Run, Sight, last_answer, parted_of}
-use Rattle.ldm_pqact.specs.Carried.{Carries, Stands}
+use Rattle.ldm_pqact.specs.Acting.{Breaks, EndsSo, IsInHand, LogCount, Run, Sight, last_answer, parted_of, sight_of}
+use Rattle.ldm_pqact.specs.Carried.{Carries, Faulted, Stands}
 use Rattle.ldm_pqact.specs.Turns.{Gave, Lost, Turn, deeds_of, products_in, turn_deeds, turn_reply}
 use Rattle.ldm_pqact.specs.Uses.{AreRows, AreUses, Uses, answer_by, step_answers}
 use Rattle.ldm_pqact.specs.Work.{Parted, replies_of}
@@ -44,10 +51,14 @@ use Rattle.ldm_pqact.proofs.Carrying.{breaks_off_then, stands_none, stands_then}
 use Rattle.ldm_pqact.proofs.Coursing.{called_at, rows_then}
 use Rattle.ldm_pqact_conf.specs.Entries.{EntryView}
 use Rattle.ldm_pqact_command.specs.declared.stop.ActStop.{ActStop}
+use Rattle.ldm_pqact_command.specs.declared.stop.ActStop.TheVariants as stop
 use Rattle.ldm_pqact_command.specs.ActerView.{ActerView}
-use Rattle.ldm_pqact_command.specs.Course.{ActsAll, AreCallsOf, Gives, IsEndedBy, told, told_by}
-use Rattle.ldm_pqact_command.specs.Handling.{ActHandles, Follows, Tallies, standing_in}
+use Rattle.ldm_pqact_command.specs.Course.{ActsAll, AreCallsOf, Gives, HasStopCause, IsEndedBy, StopCause, told, told_by}
+use Rattle.ldm_pqact_command.specs.Handling.{ActHandles, Counts, Follows, Tallies, standing_in}
+use Rattle.ldm_pqact_command.specs.Statuses.{IfStopped}
+use Rattle.ldm_pqact_command.specs.Stops.{end_of}
 use Rattle.ldm_pqact_command.proofs.Carried.{Parts, parts_of}
+use Rattle.ldm_pqact_command.proofs.Kept.{rose_le}
 
 -- a product keeps its number, metadata, body and insertion time
 abbrev pub RowsStay : Type 0
@@ -168,10 +179,73 @@ carried_at : (why : ActEnd) (k : ℕ) (work : Parted) (old new : Sight) → Ends
 carried_at end.Stopped k work old new ends = ends.0.carried
 carried_at why k work old new ends = ends.carried
 
+-- the count of the log
+log_count_at : (why : ActEnd) (k : ℕ) (work : Parted) (old new : Sight) → EndsSo why k work old new → LogCount why old.log new.log
+log_count_at end.Stopped k work old new ends = ends.0.log_faults
+log_count_at why k work old new ends = ends.log_count
+
+le_then : (a b c : ℕ) → a ≤ b → b ≤ c → a ≤ c
+le_then a b c one two = omega (arith, one, two)
+
+log_count_then : (why : ActEnd) (a b c : SinkRecord) → a.faults ≤ b.faults → LogCount why b c → LogCount why a c
+log_count_then end.LogFault a b c kept count = Rose-later a.faults b.faults c.faults kept count
+log_count_then why a b c kept count = le_then a.faults b.faults c.faults kept count
+
 carries_then : (why : ActEnd) (first second in_hand : List (Action × List ℕ)) (a b c : Standing) → Stands first a b → Carries why second in_hand b c
     → Carries why (first ++ second) in_hand a c
 carries_then end.Stopped first second in_hand a b c one two = stands_then first second a b c one two
 carries_then why first second in_hand a b c one two = breaks_off_then why first second in_hand a b c one two
+
+-- ---- what the handler stopped for
+
+-- the queue has had all its calls where the cursor was not told how many products it was given
+counts_worn : (k : ℕ) (count : Option ℕ) (old new : PassView) → Counts handled.Stopped k count old new → length new.seen ≡ MOST_TURNS
+counts_worn k None old new counts = absurd counts
+counts_worn k (Some count) old new counts = counts.1.long ∙ counts.1.turns_are
+
+-- it has had them too where acting on products ended for that
+ends_worn : (ended : ActEnd) (k : ℕ) (work : Parted) (old new : Sight) → ended ≡ end.Worn → EndsSo ended k work old new → length new.pass.seen ≡ MOST_TURNS
+ends_worn ended k work old new is ends =
+    let broke : Breaks end.Worn k work old new = subst (λ (e : ActEnd). EndsSo e k work old new) is ends in
+    broke.cause
+
+-- What it stopped for, and how acting on products then ended.
+record Stops (why : Option ActStop) (ended : ActEnd) (pass : PassView) : Type 0 where
+  cause : ActStop
+  is_why : why ≡ Some cause
+  is_end : (ended ≡ end_of cause) ⊎ ((cause ≡ stop.Worn) × (ended ≡ end.Stopped))
+  worn : cause ≡ stop.Worn → length pass.seen ≡ MOST_TURNS
+
+stops_by : (ended : ActEnd) (k : ℕ) (count : Option ℕ) (why : Option ActStop) (work : Parted) (old acted : Sight) (pass : PassView) → EndsSo ended k work old acted
+    → Follows handled.Stopped ended k count why acted.pass pass → Stops why ended pass
+stops_by ended k count why work old acted pass ends (inl worn) = record {
+  cause = stop.Worn;
+  is_why = worn.1;
+  is_end = inr (refl, worn.0);
+  worn = λ is. counts_worn k count acted.pass pass worn.2;
+}
+stops_by ended k count why work old acted pass ends (inr stopped) = record {
+  cause = stopped.0;
+  is_why = stopped.2;
+  is_end = inl stopped.1;
+  worn = λ is. ap (λ (p : PassView). length p.seen) stopped.3 ∙ ends_worn ended k work old acted (stopped.1 ∙ ap end_of is) ends;
+}
+
+-- outputs that were not spent before have no earlier fault to answer again
+rose_now : (why : Fault) (count count' : ℕ) (old new : Standing) → old.outputs.spent ≡ None → Faulted why count count' old new → Rose count count'
+rose_now why count count' old new none (inl rose) = rose
+rose_now why count count' old new none (inr spent) = absurd (let no : None ≡ Some why = sym none ∙ spent.0 in cc)
+
+cause_at : (cause : ActStop) (whole in_hand : List (Action × List ℕ)) (old new : Sight) → old.standing.outputs.spent ≡ None
+    → Carries (end_of cause) whole in_hand old.standing new.standing → LogCount (end_of cause) old.log new.log
+    → (cause ≡ stop.Worn → length new.pass.seen ≡ MOST_TURNS) → StopCause cause old new
+cause_at stop.StoreFault whole in_hand old new none carried count worn =
+    rose_now fault.Store old.standing.store.faults new.standing.store.faults old.standing new.standing none carried.store_count
+cause_at stop.LaunchFault whole in_hand old new none carried count worn =
+    rose_now fault.Launch old.standing.launcher.faults new.standing.launcher.faults old.standing new.standing none carried.launcher_count
+cause_at stop.LogFault whole in_hand old new none carried count worn = count
+cause_at stop.Worn whole in_hand old new none carried count worn = worn refl
+cause_at stop.OutOfMemory whole in_hand old new none carried count worn = tt
 
 module _ {F L : Type 0} (store_tells : F → StoreRecord) (launcher_tells : L → LauncherRecord) where
   abbrev At : Type 0
@@ -193,16 +267,22 @@ module _ {F L : Type 0} (store_tells : F → StoreRecord) (launcher_tells : L �
     is_held : IsInHand why held
     gives : Gives old.handler.k (turns ++ held) old.pass new.pass
     carried : Carries why (deeds_of old.handler.entries turns) (deeds_of old.handler.entries held) (in_hand (parts_of old)) (in_hand (parts_of new))
+    log_count : LogCount why old.log new.log
     same_k : new.handler.k ≡ old.handler.k
     same_entries : new.handler.entries ≡ old.handler.entries
 
-  acted_quiet : (old new : Here) → parts_of new ≡ parts_of old → CallsQuietly old.pass new.pass → Acted end.Stopped old new
-  acted_quiet old new same quietly = record {
+  -- the log is the same still
+  log_kept : (old new : Here) → new.log ≡ old.log → old.log.faults ≤ new.log.faults
+  log_kept old new same = let is : new.log.faults ≡ old.log.faults = ap (λ (log : SinkRecord). log.faults) same in omega (arith, is)
+
+  acted_quiet : (old new : Here) → parts_of new ≡ parts_of old → CallsQuietly old.pass new.pass → old.log.faults ≤ new.log.faults → Acted end.Stopped old new
+  acted_quiet old new same quietly kept = record {
     turns = [];
     held = [];
     is_held = refl;
     gives = gives-quiet old.handler.k old.pass new.pass quietly;
     carried = subst (λ (p : Parts ActerView F L). Stands [] (in_hand (parts_of old)) (in_hand p)) (sym same) (stands_none (in_hand (parts_of old)));
+    log_count = kept;
     same_k = ap (λ (p : Parts ActerView F L). p.handler.k) same;
     same_entries = ap (λ (p : Parts ActerView F L). p.handler.entries) same;
   }
@@ -228,6 +308,7 @@ module _ {F L : Type 0} (store_tells : F → StoreRecord) (launcher_tells : L �
             (sym (flat_map-append (turn_deeds entries) one.turns two.turns))
             (carries_then why (deeds_of entries one.turns) (deeds_of entries two.turns) (deeds_of entries two.held) (in_hand (parts_of a)) (in_hand (parts_of b)) (in_hand (parts_of c))
             one.carried carried);
+        log_count = log_count_then why a.log b.log c.log one.log_count two.log_count;
         same_k = two.same_k ∙ one.same_k;
         same_entries = two.same_entries ∙ one.same_entries;
       }
@@ -248,6 +329,7 @@ module _ {F L : Type 0} (store_tells : F → StoreRecord) (launcher_tells : L �
         gives =
             subst (λ (ts : List Turn). Gives k ts old.pass new.pass) (append-nil turns) (gives-then law k turns [] old.pass does.acted new.pass acted asked);
         carried = carried_at does.ended k _ _ _ does.acts.ends;
+        log_count = log_count_at does.ended k _ _ _ does.acts.ends;
         same_k = ap (λ (acter : ActerView). acter.k) does.others;
         same_entries = ap (λ (acter : ActerView). acter.entries) does.others;
       }
@@ -266,6 +348,7 @@ module _ {F L : Type 0} (store_tells : F → StoreRecord) (launcher_tells : L �
   acted_come : (piece : Piece) (out notes : List ℕ) (old pushed : At) → old.receiver.end ≡ None → Comes piece out notes old pushed → Acted end.Stopped old.scene pushed.scene
   acted_come piece out notes old pushed live comes =
       acted_quiet old.scene pushed.scene (ap parts_of comes.others) (comes-quiet piece out notes old pushed live comes)
+      (log_kept old.scene pushed.scene (ap (λ (s : Here). s.log) comes.others))
 
   acted_piece : (law : RowsStay) (piece : Piece) (answer : Handled) (old new : At) → old.receiver.end ≡ None → (takes : TakesPiece Does piece answer old new)
       → Acted takes.handles_it.handled.ended old.scene new.scene
@@ -274,7 +357,7 @@ module _ {F L : Type 0} (store_tells : F → StoreRecord) (launcher_tells : L �
       let told_is = ap (λ (m : At). m.scene) takes.tells.others in
       let told : Acted end.Stopped takes.pushed.scene takes.told.scene =
       acted_quiet takes.pushed.scene takes.told.scene (ap parts_of told_is)
-      (quiet-none takes.pushed.scene.pass takes.told.scene.pass (ap (λ (s : Here). s.pass) told_is)) in
+      (quiet-none takes.pushed.scene.pass takes.told.scene.pass (ap (λ (s : Here). s.pass) told_is)) takes.tells.log_kept in
       acted_then law does.ended old.scene takes.pushed.scene new.scene (acted_come piece takes.out takes.notes old takes.pushed live takes.comes)
       (acted_then law does.ended takes.pushed.scene takes.told.scene new.scene told (acted_handled law answer takes.told.scene new.scene does))
 
@@ -290,6 +373,7 @@ module _ {F L : Type 0} (store_tells : F → StoreRecord) (launcher_tells : L �
   went : (law : RowsStay) (pieces : List Piece) (old new : At) → old.receiver.end ≡ None → GoesOn Does pieces old new → Acted end.Stopped old.scene new.scene
   went law [] old new live goes =
       acted_quiet old.scene new.scene (ap (λ (m : At). parts_of m.scene) goes) (quiet-none old.scene.pass new.scene.pass (ap (λ (m : At). m.scene.pass) goes))
+      (log_kept old.scene new.scene (ap (λ (m : At). m.scene.log) goes))
   went law (piece ∷ pieces) old new live goes =
       let takes = goes.1.takes in
       acted_then law end.Stopped old.scene goes.0.scene new.scene (acted_on law piece handled.On old goes.0 live takes takes.handles_it.handled.follows.0)
@@ -297,14 +381,25 @@ module _ {F L : Type 0} (store_tells : F → StoreRecord) (launcher_tells : L �
 
   -- ---- the end
 
+  -- what is seen of a moment
+  abbrev sight_in : Here → Sight
+  sight_in now = sight_of now.pass (in_hand (parts_of now)) now.log
+
+  -- why the handler stopped
+  stops_in : (old new : Here) → (does : Does handled.Stopped old new) → Stops new.handler.why does.ended new.pass
+  stops_in old new does =
+      stops_by does.ended old.handler.k old.handler.count new.handler.why (parted_of does.ended old.handler.entries does.acts.run) (sight_in old)
+      (sight_of does.acted (in_hand (parts_of new)) new.log) new.pass does.acts.ends does.follows
+
   -- how it ended
   record EndedBy (e : GatherEnd) (old new : Here) : Type 0 where
     ended : ActEnd
-    is_ended : IsEndedBy e ended
+    is_ended : IsEndedBy e new.handler.why ended
+    stops : IfStopped e (Stops new.handler.why ended new.pass)
     acted : Acted ended old new
 
   received : (e : RecvEnd) (old new : Here) → Acted end.Stopped old new → EndedBy (gather_end.Received e) old new
-  received e old new acted = record { ended = end.Stopped; is_ended = refl; acted = acted }
+  received e old new acted = record { ended = end.Stopped; is_ended = refl; stops = tt; acted = acted }
 
   over : (law : RowsStay) (e : RecvEnd) (piece : Piece) (old new : At) → old.receiver.end ≡ None → TakesPiece Does piece handled.On old new
       → EndedBy (gather_end.Received e) old.scene new.scene
@@ -325,11 +420,13 @@ module _ {F L : Type 0} (store_tells : F → StoreRecord) (launcher_tells : L �
       let scene_is = ap (λ (m : At). m.scene) ends.is_at_end.others in
       let quietly = closes-none e ends.at_end.receiver ends.at_end.scene.pass new.scene.pass (ap (λ (m : At). m.receiver.end) ends.is_at_end.others ∙ live) ends.ends in
       let from : CallsQuietly old.scene.pass new.scene.pass = subst (λ (p : PassView). CallsQuietly p new.scene.pass) (ap (λ (s : Here). s.pass) scene_is) quietly in
-      received e old.scene new.scene (acted_quiet old.scene new.scene (ap (λ (m : At). parts_of m.scene) ends.others ∙ ap parts_of scene_is) from)
+      received e old.scene new.scene (acted_quiet old.scene new.scene (ap (λ (m : At). parts_of m.scene) ends.others ∙ ap parts_of scene_is) from
+      (log_kept old.scene new.scene (ap (λ (m : At). m.scene.log) ends.others ∙ ap (λ (s : Here). s.log) scene_is)))
 
   same_scene : (e : RecvEnd) (old new : At) → new.scene ≡ old.scene → EndedBy (gather_end.Received e) old.scene new.scene
   same_scene e old new same =
-      received e old.scene new.scene (acted_quiet old.scene new.scene (ap parts_of same) (quiet-none old.scene.pass new.scene.pass (ap (λ (s : Here). s.pass) same)))
+      received e old.scene new.scene (acted_quiet old.scene new.scene (ap parts_of same) (quiet-none old.scene.pass new.scene.pass (ap (λ (s : Here). s.pass) same))
+      (log_kept old.scene new.scene (ap (λ (s : Here). s.log) same)))
 
   ends_by : (law : RowsStay) (e : GatherEnd) (old new : At) → old.receiver.end ≡ None → EndsBy Does e old new → EndedBy e old.scene new.scene
   ends_by law (gather_end.Received Ended) old new live ends = stream Ended old new live ends
@@ -349,27 +446,56 @@ module _ {F L : Type 0} (store_tells : F → StoreRecord) (launcher_tells : L �
       let scene_is = ap (λ (m : At). m.scene) fails.logs.others in
       received LogFault old.scene new.scene
       (acted_then law end.Stopped old.scene fails.pushed.scene new.scene (acted_come fails.piece fails.out fails.notes old fails.pushed live fails.comes)
-      (acted_quiet fails.pushed.scene new.scene (ap parts_of scene_is) (quiet-none fails.pushed.scene.pass new.scene.pass (ap (λ (s : Here). s.pass) scene_is))))
+      (acted_quiet fails.pushed.scene new.scene (ap parts_of scene_is) (quiet-none fails.pushed.scene.pass new.scene.pass (ap (λ (s : Here). s.pass) scene_is))
+      (rose_le fails.pushed.scene.log.faults new.scene.log.faults fails.logs.rose)))
   ends_by law gather_end.Enough old new live ends = record {
     ended = end.Stopped;
     is_ended = refl;
+    stops = tt;
     acted = acted_on law ends.piece handled.Enough old new live ends.takes ends.takes.handles_it.handled.follows.0;
   }
-  ends_by law gather_end.Stopped old new live ends = record {
-    ended = ends.takes.handles_it.handled.ended;
-    is_ended = tt;
-    acted = acted_piece law ends.piece handled.Stopped old new live ends.takes;
-  }
+  ends_by law gather_end.Stopped old new live ends =
+      let does = ends.takes.handles_it.handled in
+      let stops : Stops new.scene.handler.why does.ended new.scene.pass = stops_in ends.takes.told.scene new.scene does in
+      record {
+        ended = does.ended;
+        is_ended = (stops.cause, stops.is_why, stops.is_end);
+        stops = stops;
+        acted = acted_piece law ends.piece handled.Stopped old new live ends.takes;
+      }
 
   begins_not : (e : GatherEnd) (old new : At) → BeginsNot Does e old new → EndedBy e old.scene new.scene
   begins_not (gather_end.Received LinkFault) old new begins = same_scene LinkFault old new (ap (λ (m : At). m.scene) begins.others)
   begins_not _ old new begins = absurd begins
 
-  all_of : (e : GatherEnd) (old new : Here) → EndedBy e old new
-      → ActsAll e old.handler.entries old.handler.k old.pass new.pass (in_hand (parts_of old)) (in_hand (parts_of new))
+  stop_cause : (ended : ActEnd) (old new : Here) → Acted ended old new → Stops new.handler.why ended new.pass
+      → HasStopCause new.handler.why (sight_in old) (sight_in new)
+  stop_cause ended old new acted stops none =
+      subst (λ (why : Option ActStop). IfSome why (λ (cause : ActStop). StopCause cause (sight_in old) (sight_in new))) (sym stops.is_why) (by_end stops.is_end)
+    where
+      whole : List (Action × List ℕ)
+      whole = deeds_of old.handler.entries acted.turns
+
+      held : List (Action × List ℕ)
+      held = deeds_of old.handler.entries acted.held
+
+      by_end : (ended ≡ end_of stops.cause) ⊎ ((stops.cause ≡ stop.Worn) × (ended ≡ end.Stopped)) → StopCause stops.cause (sight_in old) (sight_in new)
+      by_end (inl is) =
+          cause_at stops.cause whole held (sight_in old) (sight_in new) none
+          (subst (λ (why : ActEnd). Carries why whole held (in_hand (parts_of old)) (in_hand (parts_of new))) is acted.carried)
+          (subst (λ (why : ActEnd). LogCount why old.log new.log) is acted.log_count) stops.worn
+      by_end (inr worn) = subst (λ (cause : ActStop). StopCause cause (sight_in old) (sight_in new)) (sym worn.0) (stops.worn worn.0)
+
+  cause_of : (e : GatherEnd) (old new : Here) → EndedBy e old new → IfStopped e (HasStopCause new.handler.why (sight_in old) (sight_in new))
+  cause_of (gather_end.Received e) old new by = tt
+  cause_of gather_end.Enough old new by = tt
+  cause_of gather_end.Stopped old new by = stop_cause by.ended old new by.acted by.stops
+
+  all_of : (e : GatherEnd) (old new : Here) → EndedBy e old new → ActsAll e new.handler.why old.handler (sight_in old) (sight_in new)
   all_of e old new by = record {
     ended = by.ended;
     is_ended = by.is_ended;
+    cause = cause_of e old new by;
     turns = by.acted.turns;
     in_hand = by.acted.held;
     is_in_hand = by.acted.is_held;
@@ -379,7 +505,7 @@ module _ {F L : Type 0} (store_tells : F → StoreRecord) (launcher_tells : L �
 
   -- what a whole gathering came to
   pub gathered_all : (law : RowsStay) (e : GatherEnd) (s : Receiving) (old new : Lent ActerView F L) → GathersAll Does e s old new
-      → ActsAll e old.scene.handler.entries old.scene.handler.k old.scene.pass new.scene.pass (in_hand (parts_of old.scene)) (in_hand (parts_of new.scene))
+      → ActsAll e new.scene.handler.why old.scene.handler (sight_in old.scene) (sight_in new.scene)
   gathered_all law e s old new all = by_begin all.gathers
     where
       first : At
@@ -389,7 +515,7 @@ module _ {F L : Type 0} (store_tells : F → StoreRecord) (launcher_tells : L �
       last = moment_of all.receiver new
 
       by_begin : Asks Does e first last ⊎ BeginsNot Does e first last
-          → ActsAll e old.scene.handler.entries old.scene.handler.k old.scene.pass new.scene.pass (in_hand (parts_of old.scene)) (in_hand (parts_of new.scene))
+          → ActsAll e new.scene.handler.why old.scene.handler (sight_in old.scene) (sight_in new.scene)
       by_begin (inl asks) =
           let at : At = record first { link = asks.asked.link } in
           let gathers : Gathers Does e at last = subst (λ (m : At). Gathers Does e m last) asks.others asks.gathers in
@@ -397,6 +523,7 @@ module _ {F L : Type 0} (store_tells : F → StoreRecord) (launcher_tells : L �
           all_of e old.scene new.scene (record {
             ended = ends.ended;
             is_ended = ends.is_ended;
+            stops = ends.stops;
             acted = acted_then law ends.ended at.scene gathers.last.scene last.scene (went law gathers.pieces at gathers.last refl gathers.goes_on) ends.acted;
           })
       by_begin (inr not) = all_of e old.scene new.scene (begins_not e first last not)

@@ -29,7 +29,7 @@ use Rattle.ldm_pqact_command.proofs.Carried.{Parts, gathered_leads, parts_of}
 
 -- ---- counts
 
-rose_le : (old new : ℕ) → Rose old new → old ≤ new
+pub rose_le : (old new : ℕ) → Rose old new → old ≤ new
 rose_le old new (inl rose) = omega arith
 rose_le old new (inr still) = omega (arith, still.0, still.1)
 

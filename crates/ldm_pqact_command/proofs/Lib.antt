@@ -3,3 +3,4 @@ mod Carried
 mod Kept
 mod Gathered
 mod Stopping
+mod Completing

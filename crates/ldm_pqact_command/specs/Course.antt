@@ -1,23 +1,28 @@
 -- What a whole gathering came to, over all its pieces: which products, of which calls on the queue, and what was done with them.
-use Rattle.std.specs.Prelude.{◌≡◌, ◌⊎◌, ℕ, List, [], ◌∷◌, ◌++◌, map}
+use Rattle.std.specs.Prelude.{◌≡◌, ◌⊎◌, ℕ, List, [], ◌∷◌, ◌++◌, length, map, Option, Some, None, IfSome}
 use Rattle.std.specs.List.{flat_map}
 use Rattle.ldm_model.specs.declared.event.Event.{Event}
 use Rattle.ldm_model.specs.declared.event.Event.TheVariants as event
 use Rattle.ldm_model.specs.declared.event.Reply.{Reply}
 use Rattle.ldm_model.specs.declared.event.Reply.TheVariants as reply
 use Rattle.ldm_model.specs.declared.event.Entry.{Entry}
+use Rattle.ldm_outside.specs.Count.{Rose}
+use Rattle.ldm_shared.specs.declared.steps.TheConstants.{MOST_TURNS}
 use Rattle.ldm_shared.specs.Passes.{PassView, Calls}
-use Rattle.ldm_actions.specs.Outputs.{Standing}
 use Rattle.ldm_gather.specs.declared.end.GatherEnd.{GatherEnd}
 use Rattle.ldm_gather.specs.declared.end.GatherEnd.TheVariants.{Received, Enough, Stopped}
 use Rattle.ldm_gather.specs.Quiet.{IsQuiet}
 use Rattle.ldm_pqact.specs.declared.end.ActEnd.{ActEnd}
 use Rattle.ldm_pqact.specs.declared.end.ActEnd.TheVariants as end
-use Rattle.ldm_pqact.specs.Acting.{IsInHand}
+use Rattle.ldm_pqact.specs.Acting.{IsInHand, Sight}
 use Rattle.ldm_pqact.specs.Carried.{Carries}
 use Rattle.ldm_pqact.specs.Turns.{Turn, deeds_of, products_in, turn_reply}
 use Rattle.ldm_pqact.specs.Uses.{AreRows, IsUse, step_answers}
-use Rattle.ldm_pqact_conf.specs.Entries.{EntryView}
+use Rattle.ldm_pqact_command.specs.declared.stop.ActStop.{ActStop}
+use Rattle.ldm_pqact_command.specs.declared.stop.ActStop.TheVariants as stop
+use Rattle.ldm_pqact_command.specs.ActerView.{ActerView}
+use Rattle.ldm_pqact_command.specs.Statuses.{IfStopped}
+use Rattle.ldm_pqact_command.specs.Stops.{end_of}
 
 -- a call of the receiving, which is about no cursor; a use of the cursor at that place; or it was asked how many products it was given
 abbrev pub IsCallOf : ℕ → Event → Type 0
@@ -44,20 +49,40 @@ pub record Gives (k : ℕ) (turns : List Turn) (old new : PassView) : Type 0 whe
   pub answered : told (step_answers called) ≡ map turn_reply turns
   pub rows : AreRows new (flat_map products_in turns)
 
--- only where the handler stopped, acting on products may have been broken off
-abbrev pub IsEndedBy : GatherEnd → ActEnd → Type 0
-IsEndedBy (Received received) ended = ended ≡ end.Stopped
-IsEndedBy Enough ended = ended ≡ end.Stopped
-IsEndedBy Stopped ended = Unit {0}
+-- ---- how it ended
+
+-- Why the handler stopped, and how acting on products then ended: only there it may have been broken off. It comes to the end of the queue
+-- where the queue had all its calls before the cursor was asked how many products it was given.
+abbrev pub IsEndedBy : GatherEnd → Option ActStop → ActEnd → Type 0
+IsEndedBy (Received received) why ended = ended ≡ end.Stopped
+IsEndedBy Enough why ended = ended ≡ end.Stopped
+IsEndedBy Stopped why ended =
+    (cause : ActStop) × (why ≡ Some cause) × ((ended ≡ end_of cause) ⊎ ((cause ≡ stop.Worn) × (ended ≡ end.Stopped)))
+
+-- What it stopped for: a count that rose from the beginning of the gathering to its end, or the queue has had all its calls. Want of memory
+-- may come at any time.
+abbrev pub StopCause : ActStop → Sight → Sight → Type 0
+StopCause stop.StoreFault old new = Rose old.standing.store.faults new.standing.store.faults
+StopCause stop.LaunchFault old new = Rose old.standing.launcher.faults new.standing.launcher.faults
+StopCause stop.LogFault old new = Rose old.log.faults new.log.faults
+StopCause stop.Worn old new = length new.pass.seen ≡ MOST_TURNS
+StopCause stop.OutOfMemory old new = Unit {0}
+
+-- the same with outputs that were not spent before: those that are answer their fault again, and no count rises
+abbrev pub HasStopCause : Option ActStop → Sight → Sight → Type 0
+HasStopCause why old new = old.standing.outputs.spent ≡ None → IfSome why (λ cause. StopCause cause old new)
+
+-- ---- all of it
 
 -- The cursor gave these products, and files and programs are what the chosen actions make of what stood before, product by product and
 -- entry by entry. Where that broke off, at most one turn was in hand: of its actions some stand whole and of the next a part, and all of
--- the earlier ones stand whole.
-pub record ActsAll (gathered : GatherEnd) (entries : List EntryView) (k : ℕ) (first last : PassView) (old new : Standing) : Type 0 where
+-- the earlier ones stand whole. `why` is what the handler stopped for, if it did.
+pub record ActsAll (gathered : GatherEnd) (why : Option ActStop) (acter : ActerView) (old new : Sight) : Type 0 where
   pub ended : ActEnd
-  pub is_ended : IsEndedBy gathered ended
+  pub is_ended : IsEndedBy gathered why ended
+  pub cause : IfStopped gathered (HasStopCause why old new)
   pub turns : List Turn
   pub in_hand : List Turn
   pub is_in_hand : IsInHand ended in_hand
-  pub gives : Gives k (turns ++ in_hand) first last
-  pub carried : Carries ended (deeds_of entries turns) (deeds_of entries in_hand) old new
+  pub gives : Gives acter.k (turns ++ in_hand) old.pass new.pass
+  pub carried : Carries ended (deeds_of acter.entries turns) (deeds_of acter.entries in_hand) old.standing new.standing

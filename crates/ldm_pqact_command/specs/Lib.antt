@@ -5,3 +5,5 @@ pub mod Closing
 pub mod Course
 pub mod Statuses
 pub mod PqactRuns
+pub mod Complete
+pub mod Premises

@@ -19,6 +19,7 @@ use Rattle.ldm_gather.specs.Orders.{OrderView}
 use Rattle.ldm_gather.specs.Queue.{Opens}
 use Rattle.ldm_gather.specs.Runs.{Connects, Situation, situation_of}
 use Rattle.ldm_gather.specs.Scene.{scene_of}
+use Rattle.ldm_pqact.specs.Acting.{Sight, sight_of}
 use Rattle.ldm_pqact_conf.specs.Entries.{EntryView}
 use Rattle.ldm_pqact_command.specs.declared.end.PqactEnd.{PqactEnd}
 use Rattle.ldm_pqact_command.specs.declared.end.PqactEnd.TheVariants.{NotTaken, NotMade, Unreached}
@@ -68,9 +69,13 @@ module _ {F L : Type 0} (store_tells : F → StoreRecord) (launcher_tells : L �
   abbrev pub standing_at : Here F L → Standing
   standing_at here = standing_in store_tells launcher_tells here.acter here.lent.store here.lent.launcher
 
+  -- the same with the pass and the log
+  abbrev pub sight_at : Here F L → Sight
+  sight_at here = sight_of here.pass (standing_at here) here.lent.log
+
   -- What was acted on over all pieces of a gathering, and behind it the outputs were closed.
   pub record Closes (end : PqactEnd) (gathered : GatherEnd) (old mid : Here F L) (new : PqactLent F L) : Type 0 where
-    pub acts : ActsAll gathered old.acter.entries old.acter.k old.pass mid.pass (standing_at old) (standing_at mid)
+    pub acts : ActsAll gathered mid.acter.why old.acter (sight_at old) (sight_at mid)
     -- what the closing answered
     pub answer : Done
     pub closes : ClosesOutputs answer (standing_at mid) (store_tells new.store) (launcher_tells new.launcher)

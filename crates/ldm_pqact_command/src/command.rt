@@ -8,6 +8,7 @@ ghost use Rattle.ldm_gather.specs.declared.limits.TheConstants.{PASSES};
 ghost use Rattle.ldm_gather.specs.Orders.{order_view, usual_order};
 ghost use Rattle.ldm_gather.specs.Queue.{IsOpen, Opens};
 ghost use Rattle.ldm_pqact_command.specs.Closing.{ClosesOutputs};
+ghost use Rattle.ldm_pqact_command.specs.Complete.{PqactCompletes};
 ghost use Rattle.ldm_pqact_command.specs.Handling.{ActBegins, standing_in};
 ghost use Rattle.ldm_pqact_command.specs.Statuses.{IfStopped, IsEndOf};
 ghost use Rattle.ldm_pqact_command.specs.PqactRuns.{KeepsPqactCounts, PqactEnds, Pqacts, Ran, acter_at};
@@ -63,6 +64,10 @@ pub fn pqact<
         (usual_order (record { host = host.now; port = port }) class.now count) conf.now
         (pqact_lent (N.tells net.old) store.old launcher.old (E.tells log.old) (C.tells clock.old))
         (pqact_lent (N.tells net.new) store.new launcher.new (E.tells log.new) (C.tells clock.new)) }
+    ensures completes { PqactCompletes F.tells L.tells result
+        (usual_order (record { host = host.now; port = port }) class.now count) conf.now
+        (pqact_lent (N.tells net.old) store.old launcher.old (E.tells log.old) (C.tells clock.old))
+        (pqact_lent (N.tells net.new) store.new launcher.new (E.tells log.new) (C.tells clock.new)) }
     ensures none_out { (N.tells net.new).links.out ≡ false }
     ensures counts_kept { KeepsPqactCounts F.tells L.tells
         (pqact_lent (N.tells net.old) store.old launcher.old (E.tells log.old) (C.tells clock.old))
@@ -88,7 +93,8 @@ pub fn pqact<
 /// count, more products than these may be acted on. A product that was evicted before that is told by the line `gap
 /// pqact COUNT FIRST LAST` of the log. It connects once. At the end it gives the link back, and then shuts all files,
 /// and shuts the input of each program and waits for it. Where no queue has the sizes, nothing is asked. The clause
-/// `ends` gives each status its cause: see `Pqacts`.
+/// `ends` gives each status its cause: see `Pqacts`. The clause `completes` says what is known where neither the net, a
+/// link, the store, the launcher nor the log failed: see `PqactCompletes`.
 ///
 /// Where an action failed, the reason before the status tells the product that was in hand.
 pub fn act_on_products<
@@ -110,6 +116,9 @@ pub fn act_on_products<
 ) -> u8
     requires none_out { (N.tells net.old).links.out ≡ false }
     ensures ends { Pqacts F.tells L.tells result (order_view order.now.order) order.now.conf.now
+        (pqact_lent (N.tells net.old) store.old launcher.old (E.tells log.old) (C.tells clock.old))
+        (pqact_lent (N.tells net.new) store.new launcher.new (E.tells log.new) (C.tells clock.new)) }
+    ensures completes { PqactCompletes F.tells L.tells result (order_view order.now.order) order.now.conf.now
         (pqact_lent (N.tells net.old) store.old launcher.old (E.tells log.old) (C.tells clock.old))
         (pqact_lent (N.tells net.new) store.new launcher.new (E.tells log.new) (C.tells clock.new)) }
     ensures none_out { (N.tells net.new).links.out ≡ false }

@@ -4,10 +4,12 @@
 mod acter;
 mod command;
 mod end;
+mod premises;
 mod stop;
 mod tallying;
 
 pub use acter::Acter;
 pub use command::{ActOrder, act_on_products, pqact};
 pub use end::PqactEnd;
+pub use premises::premises_are_met;
 pub use stop::ActStop;

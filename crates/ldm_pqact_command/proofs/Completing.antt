@@ -1,0 +1,279 @@
+-- Where no count of faults rose, `pqact` acted on all that its cursor gave, or ended by no fault.
+use Rattle.std.proofs.Common.{◌≡◌, ◌∙◌, ◌⊎◌, ℕ, ◌<◌, ◌≤◌, List, [], ◌++◌, Option, Some, None, Ok, Err, inl, inr, refl, sym, ap, subst, arith}
+use Rattle.std.specs.Prelude.{IfSome}
+use Rattle.std.proofs.lemmas.Bool.{cases_lt}
+use Rattle.std.proofs.lemmas.List.{append-nil}
+use Rattle.ldm_outside.specs.Count.{Rose}
+use Rattle.ldm_outside.specs.Dial.{DialRecord}
+use Rattle.ldm_outside.specs.Io.{SinkRecord}
+use Rattle.ldm_outside.specs.Launcher.{LauncherRecord}
+use Rattle.ldm_outside.specs.Lending.{CountsBack}
+use Rattle.ldm_outside.specs.Store.{StoreRecord}
+use Rattle.ldm_outside.proofs.CallerLemmas.{Rose-later}
+use Rattle.ldm_shared.specs.declared.fault.CreateFault.{CreateFault}
+use Rattle.ldm_shared.specs.declared.fault.CreateFault.TheVariants as queue
+use Rattle.ldm_shared.specs.Limits.{IsFaultOf}
+use Rattle.ldm_shared.specs.Passes.{PassView}
+use Rattle.ldm_actions.specs.declared.answers.Done.{Done}
+use Rattle.ldm_actions.specs.declared.answers.Done.TheVariants as done
+use Rattle.ldm_actions.specs.declared.answers.Fault.{Fault}
+use Rattle.ldm_actions.specs.Effects.{closed, effects}
+use Rattle.ldm_actions.specs.Outputs.{Closes, ClosesBy, Standing, no_outputs, standing}
+use Rattle.ldm_actions.specs.World.{World}
+use Rattle.ldm_command_files.specs.declared.pqact_file.EntriesNotTaken.{EntriesNotTaken}
+use Rattle.ldm_command_files.specs.declared.pqact_file.EntriesNotTaken.TheVariants as not_taken
+use Rattle.ldm_command_files.specs.PqactFiles.{TakesEntries, status_of_entries}
+use Rattle.ldm_intake.specs.declared.end.RecvEnd.TheVariants as recv_end
+use Rattle.ldm_gather.specs.declared.end.GatherEnd.{GatherEnd}
+use Rattle.ldm_gather.specs.declared.end.GatherEnd.TheVariants as gather_end
+use Rattle.ldm_gather.specs.declared.end.Handled.{Handled}
+use Rattle.ldm_gather.specs.declared.limits.TheConstants.{PASSES}
+use Rattle.ldm_gather.specs.Orders.{OrderView}
+use Rattle.ldm_gather.specs.Queue.{Opens}
+use Rattle.ldm_gather.specs.Runs.{Connects, Reaches, Situation}
+use Rattle.ldm_gather.specs.Scene.{Scene}
+use Rattle.ldm_status.specs.declared.status.Status.{Status}
+use Rattle.ldm_status.specs.declared.status.Status.TheVariants as status
+use Rattle.ldm_status.specs.Status.{ReportsBecause, code_of}
+use Rattle.ldm_pqact.specs.declared.end.ActEnd.{ActEnd}
+use Rattle.ldm_pqact.specs.declared.end.ActEnd.TheVariants as end
+use Rattle.ldm_pqact.specs.Acting.{IsInHand, Sight}
+use Rattle.ldm_pqact.specs.Carried.{Carries, Stands, world_in}
+use Rattle.ldm_pqact.specs.Turns.{Turn, deeds_of}
+use Rattle.ldm_pqact_conf.specs.Entries.{EntryView}
+use Rattle.ldm_pqact_command.specs.declared.end.PqactEnd.{PqactEnd}
+use Rattle.ldm_pqact_command.specs.declared.end.PqactEnd.TheVariants.{NotTaken, NotMade, Received, Enough, Stopped}
+use Rattle.ldm_pqact_command.specs.declared.stop.ActStop.{ActStop}
+use Rattle.ldm_pqact_command.specs.declared.stop.ActStop.TheVariants as stop
+use Rattle.ldm_pqact_command.specs.Closing.{ClosesOutputs}
+use Rattle.ldm_pqact_command.specs.Complete.{IsComplete, IsWholeEnd, PqactCompletes, Unfailing}
+use Rattle.ldm_pqact_command.specs.Course.{ActsAll, Gives, StopCause}
+use Rattle.ldm_pqact_command.specs.Handling.{ActHandles}
+use Rattle.ldm_pqact_command.specs.PqactRuns.{ActEnds, Closes as ClosesRun, ClosesIf, Here, MakesNone, PqactEnds, PqactLent, TakesNone, acter_at, here_of, sight_at, standing_at, within}
+use Rattle.ldm_pqact_command.specs.Statuses.{ReportsIf, after_closing, status_of}
+use Rattle.ldm_pqact_command.proofs.Kept.{closes_count}
+
+-- ---- counts
+
+-- a count that rose earlier
+rose_before : (old mid new : ℕ) → Rose old mid → mid ≤ new → Rose old new
+rose_before old mid new (inl rose) later = inl (omega arith)
+rose_before old mid new (inr still) later = elim (cases_lt mid new) [
+  | inl lt ↦ inl (omega (arith, still.0, still.1))
+  | inr ge ↦ inr (still.0, omega (arith, still.1))
+]
+
+-- a count that rose from 0 is above it
+above : (n : ℕ) → Rose 0 n → 0 < n
+above n (inl some) = some
+above n (inr still) = absurd (omega (arith, still.0))
+
+counted : (came left lent old new : ℕ) → came ≡ 0 → lent ≡ old → CountsBack left lent new → Rose came left → Rose old new
+counted came left lent old new none same counts rose =
+    let P : ℕ → Type 0 = λ n. Rose n left in
+    let Q : ℕ → Type 0 = λ n. Rose n new in
+    subst Q same (counts.rose (above left (subst P none rose)))
+
+-- where a gathering ended as its link failed, the link that was given back counts as failed
+link_failed : {W A B : Type 0} (handles : Handled → Scene W A B → Scene W A B → Type 0) (order : OrderView) (old new : Situation W A B)
+    → Reaches handles (gather_end.Received recv_end.LinkFault) order old new → Rose old.net.links.failed new.net.links.failed
+link_failed handles order old new reaches =
+    let holds = reaches.holds in
+    counted reaches.came.faults holds.left.faults reaches.lent.links.failed old.net.links.failed new.net.links.failed reaches.dialled.0.no_faults
+    (ap (λ (d : DialRecord). d.links.failed) reaches.dialled.1) holds.given_back.0.failed holds.gathered.cause
+
+closed_of : (answer : Done) (mid new : Standing) → mid.outputs.spent ≡ None → Closes answer mid new → ClosesBy None answer mid new
+closed_of answer mid new none closes = subst (λ (spent : Option Fault). ClosesBy spent answer mid new) none closes
+
+-- a status that is reported has its number
+reported : (it : Status) (code : ℕ) (old new : SinkRecord) → ¬ (Rose old.faults new.faults) → ReportsBecause it code old new → code ≡ code_of it
+reported it code old new works (reason, is_reason, inl told) = told.0
+reported it code old new works (reason, is_reason, inr failed) = absurd (works failed.1)
+
+module _ {F L : Type 0} (store_tells : F → StoreRecord) (launcher_tells : L → LauncherRecord) (order : OrderView) (conf : List ℕ) (old ended : PqactLent F L) (log : SinkRecord)
+    (free : Unfailing store_tells launcher_tells old (record ended { log = log })) (earlier : old.log.faults ≤ ended.log.faults) (later : ended.log.faults ≤ log.faults) where
+  -- it ends with a status, and what that needs is there
+  abbrev Finishes : PqactEnd → Type 0
+  Finishes ending = (it : Status) × (status_of ending ≡ Some it) × IsComplete store_tells launcher_tells it order conf old (record ended { log = log })
+
+  -- the log did not fail before its last lines, nor by them
+  log_works : ¬ (Rose old.log.faults ended.log.faults)
+  log_works = λ rose. free.log (rose_before old.log.faults ended.log.faults log.faults rose later)
+
+  line_works : ¬ (Rose ended.log.faults log.faults)
+  line_works = λ rose. free.log (Rose-later old.log.faults ended.log.faults log.faults earlier rose)
+
+  none_taken : (ending : PqactEnd) → TakesNone store_tells launcher_tells ending conf old ended → Finishes ending
+  none_taken ending none = subst (λ (e : PqactEnd). Finishes e) (sym none.is) (by_why none.why none.takes)
+    where
+      by_why : (why : EntriesNotTaken) → TakesEntries (Err why) conf (store_tells old.store) (store_tells ended.store) → Finishes (NotTaken why)
+      by_why (not_taken.Bad fault) takes = (status_of_entries (not_taken.Bad fault), refl, (not_taken.Bad fault, refl, takes))
+      by_why not_taken.TooLong takes = (status_of_entries not_taken.TooLong, refl, (not_taken.TooLong, refl, takes))
+      by_why not_taken.Store takes = absurd (free.store takes.0)
+      by_why not_taken.OutOfMemory takes = (status.NoMemory, refl, tt)
+
+  none_made : (ending : PqactEnd) (lent : PqactLent F L) → MakesNone ending order lent ended → Finishes ending
+  none_made ending lent none = subst (λ (e : PqactEnd). Finishes e) (sym none.is) (by_fault none.fault none.cause)
+    where
+      by_fault : (fault : CreateFault) → (fault ≡ queue.OutOfMemory) ⊎ IsFaultOf order.arena order.slots PASSES fault → Finishes (NotMade fault)
+      by_fault (queue.BadArena arena) (inl is) = absurd (cc is)
+      by_fault (queue.BadArena arena) (inr bad) = (status.RefusedArena arena, refl, bad)
+      by_fault (queue.BadSlots slots) (inl is) = absurd (cc is)
+      by_fault (queue.BadSlots slots) (inr bad) = (status.RefusedSlots slots, refl, bad)
+      by_fault (queue.BadPasses passes) (inl is) = absurd (cc is)
+      by_fault (queue.BadPasses passes) (inr bad) = (status.RefusedPasses passes, refl, bad)
+      by_fault queue.OutOfMemory cause = (status.NoMemory, refl, tt)
+
+  -- ---- a queue was made, and a gathering left that
+
+  module _ (entries : List EntryView) (read : F) (takes : TakesEntries (Ok entries) conf (store_tells old.store) (store_tells read)) (k : ℕ) (pass : PassView) (opened : Opens order k pass)
+      (mid : Here F L) where
+    abbrev first : Here F L
+    first = here_of (acter_at k order.count entries) pass (record old { store = read })
+
+    abbrev before : Standing
+    before = standing_at store_tells launcher_tells first
+
+    abbrev behind : Standing
+    behind = standing_at store_tells launcher_tells mid
+
+    abbrev seen : Here F L → Sight
+    seen here = sight_at store_tells launcher_tells here
+
+    abbrev Gathered : GatherEnd → Type 0
+    Gathered gathered = Connects (ActHandles store_tells launcher_tells) (Some gathered) order (within first) (within mid)
+
+    abbrev Acted : GatherEnd → Type 0
+    Acted gathered = ActsAll gathered mid.acter.why first.acter (seen first) (seen mid)
+
+    abbrev Shuts : Done → Type 0
+    Shuts answer = ClosesOutputs answer behind (store_tells ended.store) (launcher_tells ended.launcher)
+
+    store_works : ¬ (Rose before.store.faults (store_tells ended.store).faults)
+    store_works = λ rose. free.store (subst (λ (s : StoreRecord). Rose s.faults (store_tells ended.store).faults) takes.1 rose)
+
+    launcher_works : ¬ (Rose before.launcher.faults (launcher_tells ended.launcher).faults)
+    launcher_works = λ rose. free.launcher rose
+
+    stood : (gathered : GatherEnd) → (acts : Acted gathered) → acts.ended ≡ end.Stopped → Stands (deeds_of entries acts.turns) before behind
+    stood gathered acts is =
+        subst (λ (e : ActEnd). Carries e (deeds_of entries acts.turns) (deeds_of entries acts.in_hand) before behind) is acts.carried
+
+    gave : (gathered : GatherEnd) → (acts : Acted gathered) → acts.ended ≡ end.Stopped → Gives k acts.turns pass mid.pass
+    gave gathered acts is =
+        let none : acts.in_hand ≡ [] = subst (λ (e : ActEnd). IsInHand e acts.in_hand) is acts.is_in_hand in
+        subst (λ (ts : List Turn). Gives k ts pass mid.pass) (ap (λ (ts : List Turn). acts.turns ++ ts) none ∙ append-nil acts.turns) acts.gives
+
+    -- all was acted on, and the outputs were closed
+    closed_by : (gathered : GatherEnd) (well : PqactEnd) (answer : Done) → status_of well ≡ Some status.Done → IsWholeEnd gathered → Gathered gathered
+        → (acts : Acted gathered) → acts.ended ≡ end.Stopped → Shuts answer → Finishes (after_closing well answer)
+    closed_by gathered well done.Ok is_done is_end connects acts is shuts =
+        let stands = stood gathered acts is in
+        let shut = closed_of done.Ok behind (standing shuts.left (store_tells ended.store) (launcher_tells ended.launcher)) stands.as_before shuts.closes in
+        let unpiped : World → World = λ w. record { outside = w.outside; piped = [] } in (
+          status.Done,
+          is_done,
+          record {
+            entries = entries;
+            read = read;
+            takes = takes;
+            k = k;
+            first = pass;
+            opened = opened;
+            gathered = gathered;
+            is_end = is_end;
+            mid = mid;
+            connects = connects;
+            turns = acts.turns;
+            gives = gave gathered acts is;
+            stands =
+                ap unpiped shut.0.0.world_now ∙ (ap closed stands.world
+                ∙ ap (λ (s : StoreRecord). closed (effects (deeds_of entries acts.turns) (world_in (standing no_outputs s (launcher_tells old.launcher))))) takes.1);
+          },
+        )
+    closed_by gathered well done.StoreFault is_done is_end connects acts is shuts =
+        let stands = stood gathered acts is in
+        let shut = closed_of done.StoreFault behind (standing shuts.left (store_tells ended.store) (launcher_tells ended.launcher)) stands.as_before shuts.closes in
+        absurd (store_works (Rose-later before.store.faults behind.store.faults (store_tells ended.store).faults (omega (arith, stands.store_faults)) shut.0.rose))
+    closed_by gathered well done.LaunchFault is_done is_end connects acts is shuts =
+        let stands = stood gathered acts is in
+        let shut = closed_of done.LaunchFault behind (standing shuts.left (store_tells ended.store) (launcher_tells ended.launcher)) stands.as_before shuts.closes in
+        absurd (launcher_works (Rose-later before.launcher.faults behind.launcher.faults (launcher_tells ended.launcher).faults (omega (arith, stands.launcher_faults)) shut.0.rose))
+
+    abbrev ClosesBehind : PqactEnd → GatherEnd → Type 0
+    ClosesBehind ending gathered = ClosesRun store_tells launcher_tells ending gathered first mid ended
+
+    -- nothing but the outputs is touched behind it
+    same_net : (ending : PqactEnd) (gathered : GatherEnd) → ClosesBehind ending gathered → ended.net ≡ mid.lent.net
+    same_net ending gathered closes = ap (λ (lent : PqactLent F L). lent.net) closes.others
+
+    log_worked : (ending : PqactEnd) (gathered : GatherEnd) → ClosesBehind ending gathered → ¬ (Rose old.log.faults mid.lent.log.faults)
+    log_worked ending gathered closes =
+        let same : ended.log ≡ mid.lent.log = ap (λ (lent : PqactLent F L). lent.log) closes.others in
+        λ rose. log_works (subst (λ (s : SinkRecord). Rose old.log.faults s.faults) (sym same) rose)
+
+    -- by what the handler stopped for
+    by_cause : (cause : ActStop) (ending : PqactEnd) (gathered : GatherEnd) → ClosesBehind ending gathered → StopCause cause (seen first) (seen mid) → Finishes (Stopped cause)
+    by_cause stop.StoreFault ending gathered closes rose =
+        let counts = closes_count closes.answer behind (standing closes.closes.left (store_tells ended.store) (launcher_tells ended.launcher)) closes.closes.closes in
+        absurd (store_works (rose_before before.store.faults behind.store.faults (store_tells ended.store).faults rose counts.store))
+    by_cause stop.LaunchFault ending gathered closes rose =
+        let counts = closes_count closes.answer behind (standing closes.closes.left (store_tells ended.store) (launcher_tells ended.launcher)) closes.closes.closes in
+        absurd (launcher_works (rose_before before.launcher.faults behind.launcher.faults (launcher_tells ended.launcher).faults rose counts.launcher))
+    by_cause stop.LogFault ending gathered closes rose = absurd (log_worked ending gathered closes rose)
+    by_cause stop.Worn ending gathered closes worn = (status.Worn, refl, tt)
+    by_cause stop.OutOfMemory ending gathered closes none = (status.NoMemory, refl, tt)
+
+    by_end : (gathered : GatherEnd) (ending : PqactEnd) → Gathered gathered → ClosesBehind ending gathered → Finishes ending
+    by_end (gather_end.Received recv_end.Ended) ending connects closes =
+        subst (λ (e : PqactEnd). Finishes e) (sym closes.is_end)
+        (closed_by (gather_end.Received recv_end.Ended) (Received recv_end.Ended) closes.answer refl (inl refl) connects closes.acts closes.acts.is_ended closes.closes)
+    by_end (gather_end.Received (recv_end.Truncated at)) ending connects closes = subst (λ (e : PqactEnd). Finishes e) (sym closes.is_end) (status.BadFrame at, refl, tt)
+    by_end (gather_end.Received (recv_end.BadFrame at)) ending connects closes = subst (λ (e : PqactEnd). Finishes e) (sym closes.is_end) (status.BadFrame at, refl, tt)
+    by_end (gather_end.Received (recv_end.Refused answer)) ending connects closes = subst (λ (e : PqactEnd). Finishes e) (sym closes.is_end) (status.Denied, refl, tt)
+    by_end (gather_end.Received recv_end.LinkFault) ending connects closes =
+        absurd (free.links (subst (λ (net : DialRecord). Rose old.net.links.failed net.links.failed) (sym (same_net ending (gather_end.Received recv_end.LinkFault) closes))
+        (link_failed (ActHandles store_tells launcher_tells) order (within first) (within mid) connects)))
+    by_end (gather_end.Received recv_end.LogFault) ending connects closes =
+        absurd (log_worked ending (gather_end.Received recv_end.LogFault) closes connects.holds.gathered.cause)
+    by_end (gather_end.Received recv_end.StreamLimit) ending connects closes = subst (λ (e : PqactEnd). Finishes e) (sym closes.is_end) (status.StreamLimit, refl, tt)
+    by_end (gather_end.Received recv_end.Worn) ending connects closes = subst (λ (e : PqactEnd). Finishes e) (sym closes.is_end) (status.Worn, refl, tt)
+    by_end (gather_end.Received recv_end.OutOfMemory) ending connects closes = subst (λ (e : PqactEnd). Finishes e) (sym closes.is_end) (status.NoMemory, refl, tt)
+    by_end gather_end.Enough ending connects closes =
+        subst (λ (e : PqactEnd). Finishes e) (sym closes.is_end)
+        (closed_by gather_end.Enough Enough closes.answer refl (inr refl) connects closes.acts closes.acts.is_ended closes.closes)
+    by_end gather_end.Stopped ending connects closes =
+        let at = closes.is_end in
+        let cause : StopCause at.0 (seen first) (seen mid) =
+        subst (λ (why : Option ActStop). IfSome why (λ (it : ActStop). StopCause it (seen first) (seen mid))) at.1 (closes.acts.cause refl) in
+        subst (λ (e : PqactEnd). Finishes e) (sym at.2) (by_cause at.0 ending gather_end.Stopped closes cause)
+
+    by_gathered : (gathered : Option GatherEnd) (ending : PqactEnd) → Connects (ActHandles store_tells launcher_tells) gathered order (within first) (within mid)
+        → ClosesIf store_tells launcher_tells ending gathered first mid ended → Finishes ending
+    by_gathered (Some gathered) ending connects closes = by_end gathered ending connects closes
+    by_gathered None ending connects closes =
+        absurd (free.net (subst (λ (lent : PqactLent F L). Rose old.net.faults lent.net.faults) (sym closes.1) connects.dialled.0))
+
+  -- ---- all of it
+
+  finishes : (ending : PqactEnd) → PqactEnds store_tells launcher_tells ending order conf old ended → Finishes ending
+  finishes ending (inl none) = none_taken ending none
+  finishes ending (inr some) = by_made some.acts
+    where
+      by_made : ActEnds store_tells launcher_tells ending order some.entries (record old { store = some.read }) ended → Finishes ending
+      by_made (inl none) = none_made ending (record old { store = some.read }) none
+      by_made (inr makes) =
+          by_gathered some.entries some.read some.takes makes.k makes.first makes.opened makes.ran.mid makes.ran.gathered ending makes.ran.connects makes.ran.closes
+
+  numbered : (ending : PqactEnd) (code : ℕ) → ReportsIf (status_of ending) code ended.log log → Finishes ending
+      → (it : Status) × (code ≡ code_of it) × IsComplete store_tells launcher_tells it order conf old (record ended { log = log })
+  numbered ending code reports at =
+      (at.0, reported at.0 code ended.log log line_works (subst (λ (o : Option Status). ReportsIf o code ended.log log) at.1 reports), at.2)
+
+pub pqact_completes : {F L : Type 0} (store_tells : F → StoreRecord) (launcher_tells : L → LauncherRecord) (order : OrderView) (conf : List ℕ) (old ended : PqactLent F L) (log : SinkRecord)
+    → old.log.faults ≤ ended.log.faults → ended.log.faults ≤ log.faults → (ending : PqactEnd) (code : ℕ)
+    → PqactEnds store_tells launcher_tells ending order conf old ended → ReportsIf (status_of ending) code ended.log log
+    → PqactCompletes store_tells launcher_tells code order conf old (record ended { log = log })
+pqact_completes store_tells launcher_tells order conf old ended log earlier later ending code ends reports free =
+    numbered store_tells launcher_tells order conf old ended log free earlier later ending code reports
+    (finishes store_tells launcher_tells order conf old ended log free earlier later ending ends)
