@@ -13,10 +13,9 @@ use Rattle.ldm_node.specs.declared.stop.NodeStop.TheVariants.{Done, NetFault, Lo
 use Rattle.ldm_node.specs.SessionEnds.{end_of_receiving}
 use Rattle.ldm_node.specs.Lines.{session_line}
 use Rattle.ldm_node.specs.RequestMoments.{RequestMoment}
-use Rattle.ldm_node.specs.Tries.{Try, Unreached, Session, TriesOnce, asking, peer_of}
+use Rattle.ldm_node.specs.Tries.{Try, Unreached, Session, TriesOnce, peer_of}
 use Rattle.ldm_node.specs.RequestWorks.{AreTries, EndsBy, TriesAndAsks, Works}
-use Rattle.ldm_node.specs.Noted.{IsNoted}
-use Rattle.ldm_node.specs.TriesTold.{AreAllOwn, AreOwn, Follow, all_tries, asked_by, line_of, log_of}
+use Rattle.ldm_node.specs.TriesTold.{Follow, all_tries, asked_by, line_of, lines_of, lines_of_each, log_of, own_lines}
 
 -- the last try, and the moment at which its line was written; behind it the dial was not asked
 record LastTry (request : RequestView) (try : Try) (old new : RequestMoment) : Type 0 where
@@ -81,75 +80,39 @@ works-ask stop request old new works =
 
 -- ---- what the log took
 
--- one try: the lines of its own, and its line
-record LogsOne (request : RequestView) (try : Try) (old new : SinkRecord) : Type 0 where
-  pub lines : List ℕ
-  pub are : AreOwn request try lines
-  pub taken : Takes old (lines ++ line_of request try) new
-
--- The lines of tries, each behind those of its own.
-record LogsAll (request : RequestView) (tries : List Try) (old new : SinkRecord) : Type 0 where
-  pub own : List (List ℕ)
-  pub are : AreAllOwn request tries own
-  pub taken : Takes old (log_of request tries own) new
-
-logs-once : (request : RequestView) (try : Try) (old new : RequestMoment) → TriesOnce true request try old new
-    → LogsOne request try old.station.log new.station.log
-logs-once request Unreached old new tries = record { lines = []; are = refl; taken = tries.logged }
+logs-once : (request : RequestView) (try : Try) (old new : RequestMoment) (tries : TriesOnce true request try old new)
+    → Takes old.station.log (lines_of request try old new tries ++ line_of request try) new.station.log
+logs-once request Unreached old new tries = tries.logged
 logs-once request (Session end before behind) old new tries =
     let holds = tries.0.holds in
     let receives = holds.receives.receives in
-    let noted : IsNoted end (asking request old.last) behind receives.lines = record {
-      pass = old.pass;
-      pieces = receives.pieces;
-      at_end = holds.receives.at_end;
-      comes = receives.comes;
-      last_is = tries.2 ∙ holds.receives.last_is;
-      lines_are = receives.lines_are;
-    } in
-    let P : Option (List ℕ) → Type 0 = λ last. IsNoted end (asking request last) behind receives.lines in
-    record {
-      lines = receives.lines;
-      are = subst P (sym tries.1) noted;
-      taken = Takes-then old.station.log holds.log new.station.log receives.lines
-          (session_line request.host (end_of_receiving end)) receives.passed.logged holds.logged;
-    }
+    Takes-then old.station.log holds.log new.station.log receives.lines (session_line request.host (end_of_receiving end)) receives.passed.logged holds.logged
 
-logs-asked : (go : Go) (request : RequestView) (try : Try) (old new : RequestMoment) → TriesAndAsks go request try old new
-    → LogsOne request try old.station.log new.station.log
+logs-asked : (go : Go) (request : RequestView) (try : Try) (old new : RequestMoment) (tries : TriesAndAsks go request try old new)
+    → Takes old.station.log (lines_of request try old tries.between tries.tries ++ line_of request try) new.station.log
 logs-asked go request try old new tries =
     let same : new.station.log ≡ tries.between.station.log = ap (λ (m : RequestMoment). m.station.log) tries.asks.same in
-    let Q : SinkRecord → Type 0 = λ log. LogsOne request try old.station.log log in
+    let Q : SinkRecord → Type 0 = λ log. Takes old.station.log (lines_of request try old tries.between tries.tries ++ line_of request try) log in
     subst Q (sym same) (logs-once request try old tries.between tries.tries)
 
-tries-log : (request : RequestView) (tries : List Try) (last : Try) (old mid new : RequestMoment)
-    → AreTries request tries old mid → TriesAndAsks Stop request last mid new
-    → LogsAll request (tries ++ last ∷ []) old.station.log new.station.log
+tries-log : (request : RequestView) (tries : List Try) (last : Try) (old mid new : RequestMoment) (each : AreTries request tries old mid)
+    (ends : TriesAndAsks Stop request last mid new)
+    → Takes old.station.log
+    (log_of request (tries ++ last ∷ []) (lines_of_each request tries old mid each ++ lines_of request last mid ends.between ends.tries ∷ []))
+    new.station.log
 tries-log request [] last old mid new each ends =
-    let once = logs-asked Stop request last mid new ends in
-    let P : RequestMoment → Type 0 = λ m. LogsAll request (last ∷ []) m.station.log new.station.log in
-    subst P each (record {
-      own = once.lines ∷ [];
-      are = (once.are, tt);
-      taken = Takes-then mid.station.log new.station.log new.station.log (once.lines ++ line_of request last) [] once.taken
-          (Takes-nothing new.station.log new.station.log refl);
-    })
+    let lines = lines_of request last mid ends.between ends.tries in
+    let P : RequestMoment → Type 0 = λ m. Takes m.station.log ((lines ++ line_of request last) ++ []) new.station.log in
+    subst P each (Takes-then mid.station.log new.station.log new.station.log (lines ++ line_of request last) [] (logs-asked Stop request last mid new ends)
+    (Takes-nothing new.station.log new.station.log refl))
 tries-log request (try ∷ tries) last old mid new each ends =
-    let once = logs-asked On request try old each.0 each.1 in
-    let rest = tries-log request tries last each.0 mid new each.2 ends in
-    record {
-      own = once.lines ∷ rest.own;
-      are = (once.are, rest.are);
-      taken = Takes-then old.station.log each.0.station.log new.station.log (once.lines ++ line_of request try)
-          (log_of request (tries ++ last ∷ []) rest.own) once.taken rest.taken;
-    }
+    Takes-then old.station.log each.0.station.log new.station.log (lines_of request try old each.1.between each.1.tries ++ line_of request try)
+    (log_of request (tries ++ last ∷ []) (lines_of_each request tries each.0 mid each.2 ++ lines_of request last mid ends.between ends.tries ∷ []))
+    (logs-asked On request try old each.0 each.1) (tries-log request tries last each.0 mid new each.2 ends)
 
 pub works-log : (request : RequestView) (old new : RequestMoment) (works : Works Done request old new)
-    → (own : List (List ℕ)) × AreAllOwn request (all_tries works) own
-    × Takes old.station.log (log_of request (all_tries works) own) new.station.log
-works-log request old new works =
-    let logs = tries-log request works.tries works.last old works.before_last new works.each works.ends in
-    (logs.own, logs.are, logs.taken)
+    → Takes old.station.log (log_of request (all_tries works) (own_lines works)) new.station.log
+works-log request old new works = tries-log request works.tries works.last old works.before_last new works.each works.ends
 
 -- ---- how sessions follow one another
 

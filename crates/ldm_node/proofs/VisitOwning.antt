@@ -1,62 +1,79 @@
 -- The log lines that a session writes itself.
-use Rattle.std.proofs.Common.{◌≡◌, ◌⊎◌, ℕ, List, [], ◌++◌, inl, inr, refl, sym, ap, ◌∙◌, subst}
+use Rattle.std.proofs.Common.{◌≡◌, ◌⊎◌, ℕ, List, ◌++◌, inl, inr, ap, ◌∙◌}
 use Rattle.std.specs.Option.{option_map}
 use Rattle.ldm_outside.specs.Io.{SinkRecord, Takes}
 use Rattle.ldm_outside.proofs.CallerLemmas.{Takes-nothing}
-use Rattle.ldm_model.specs.declared.event.Entry.{Entry}
+use Rattle.ldm_session.specs.Gaps.{gap_log}
 use Rattle.ldm_sender.specs.declared.end.SendEnd.{SendEnd}
 use Rattle.ldm_sender.specs.declared.end.SendEnd.TheVariants as sending
 use Rattle.ldm_sender.specs.Acts.{Logged}
-use Rattle.ldm_session.specs.Part.{IsPart}
+use Rattle.ldm_notify.specs.declared.end.NotifyEnd.{NotifyEnd}
 use Rattle.ldm_notify.specs.Notifies.{send_end}
+use Rattle.ldm_intake.specs.declared.end.RecvEnd.{RecvEnd}
 use Rattle.ldm_serve.specs.declared.responded.Responded.{Responded}
 use Rattle.ldm_serve.specs.declared.responded.Responded.TheVariants as responded
 use Rattle.ldm_serve.specs.Responds.{goes_on}
 use Rattle.ldm_serve.specs.declared.end.ServeEnd.{ServeEnd}
 use Rattle.ldm_serve.specs.declared.end.ServeEnd.TheVariants as serving
-use Rattle.ldm_serve.specs.Becoming.{IsDenied, IsRefused}
+use Rattle.ldm_serve.specs.Becoming.{IsDenied, IsFed, IsNotified, IsReceived, IsRefused}
 use Rattle.ldm_serve.specs.Connection.{ServingMoment}
 use Rattle.ldm_serve.specs.Serve.{EndsByLength, EndsByRecord, ServesAll}
 use Rattle.ldm_serve.specs.Client.{Client}
 use Rattle.ldm_serve.specs.Steps.{response_of}
-use Rattle.ldm_session.specs.Gaps.{gap_log}
-use Rattle.ldm_node.specs.VisitsTold.{AreLosses, AreOwn, is_logged}
-use Rattle.ldm_node.proofs.VisitServing.{was-fed, was-notified, was-received}
-
--- Lines that a log took, of which this is known.
-pub record Wrote (What : List ℕ → Type 0) (old new : SinkRecord) : Type 0 where
-  pub lines : List ℕ
-  pub are : What lines
-  pub taken : Takes old lines new
-
--- the lines of losses, or a front of them
-losses : (why : SendEnd) (old new : SinkRecord) (all : List ℕ) → Logged why old all new → Wrote (λ lines. IsPart (is_logged why) lines all) old new
-losses sending.Stopped old new all logged = record { lines = all; are = refl; taken = logged }
-losses sending.Reclassed old new all logged = record { lines = all; are = refl; taken = logged }
-losses (sending.Denied rule) old new all logged = record { lines = all; are = refl; taken = logged }
-losses (sending.PeerEnd at) old new all logged = record { lines = all; are = refl; taken = logged }
-losses sending.LinkFault old new all logged = record { lines = all; are = refl; taken = logged }
-losses sending.LogFault old new all logged = record { lines = logged.0; are = (logged.1, logged.2); taken = logged.3 }
-losses (sending.BadReply at) old new all logged = record { lines = all; are = refl; taken = logged }
-losses sending.AllBusy old new all logged = record { lines = all; are = refl; taken = logged }
-losses sending.Worn old new all logged = record { lines = logged.0; are = (logged.1, logged.2); taken = logged.3 }
-losses sending.OutOfMemory old new all logged = record { lines = all; are = refl; taken = logged }
-
--- the same of a host
-losses-of : (why : SendEnd) (asked host : List ℕ) (calls : List Entry) (old new : SinkRecord) → asked ≡ host → Logged why old (gap_log asked calls) new
-    → Wrote (AreLosses why host) old new
-losses-of why asked host calls old new same logged =
-    let P : List ℕ → Type 0 = λ name. Logged why old (gap_log name calls) new in
-    let wrote = losses why old new (gap_log host calls) (subst P same logged) in
-    record { lines = wrote.lines; are = (calls, wrote.are); taken = wrote.taken }
+use Rattle.ldm_node.specs.OwnLines.{Becoming, becoming_of, lines_fed, lines_notified, lines_received, lines_served, logged_of}
 
 -- the log was not written before
-written-then : (What : List ℕ → Type 0) (old mid new : SinkRecord) → mid.written ≡ old.written → Wrote What mid new → Wrote What old new
-written-then What old mid new same wrote =
-    record { lines = wrote.lines; are = wrote.are; taken = wrote.taken ∙ ap (option_map (λ (before : List ℕ). before ++ wrote.lines)) same }
+takes-then : (old mid new : SinkRecord) (lines : List ℕ) → mid.written ≡ old.written → Takes mid lines new → Takes old lines new
+takes-then old mid new lines same taken = taken ∙ ap (option_map (λ (before : List ℕ). before ++ lines)) same
 
-wrote-nothing : (old new : SinkRecord) → new.written ≡ old.written → Wrote (λ lines. lines ≡ []) old new
-wrote-nothing old new same = record { lines = []; are = refl; taken = Takes-nothing old new same }
+-- ---- what a feeding, a notifying or a receiving wrote
+
+logged-taken : (why : SendEnd) (old : SinkRecord) (lines : List ℕ) (new : SinkRecord) (logged : Logged why old lines new)
+    → Takes old (logged_of why old lines new logged) new
+logged-taken sending.Stopped old lines new logged = logged
+logged-taken sending.Reclassed old lines new logged = logged
+logged-taken (sending.Denied rule) old lines new logged = logged
+logged-taken (sending.PeerEnd at) old lines new logged = logged
+logged-taken sending.LinkFault old lines new logged = logged
+logged-taken sending.LogFault old lines new logged = logged.3
+logged-taken (sending.BadReply at) old lines new logged = logged
+logged-taken sending.AllBusy old lines new logged = logged
+logged-taken sending.Worn old lines new logged = logged.3
+logged-taken sending.OutOfMemory old lines new logged = logged
+
+fed-taken : (why : SendEnd) (next : Responded) (becoming : Becoming)
+    (fed : IsFed why next becoming.client becoming.ahead becoming.old becoming.new)
+    → Takes becoming.old.outside.log (lines_fed why next becoming fed) becoming.new.outside.log
+fed-taken why responded.GoesOn becoming fed = absurd fed
+fed-taken why (responded.Feeds ask) becoming fed =
+    logged-taken why becoming.old.outside.log (gap_log becoming.client.host fed.0.called) becoming.new.outside.log fed.0.logged
+fed-taken why (responded.Receives class) becoming fed = absurd fed
+fed-taken why (responded.Notifies ask) becoming fed = absurd fed
+fed-taken why responded.Refused becoming fed = absurd fed
+fed-taken why (responded.Denied rule) becoming fed = absurd fed
+
+notified-taken : (why : NotifyEnd) (next : Responded) (becoming : Becoming)
+    (notified : IsNotified why next becoming.client becoming.old becoming.new)
+    → Takes becoming.old.outside.log (lines_notified why next becoming notified) becoming.new.outside.log
+notified-taken why responded.GoesOn becoming notified = absurd notified
+notified-taken why (responded.Feeds ask) becoming notified = absurd notified
+notified-taken why (responded.Receives class) becoming notified = absurd notified
+notified-taken why (responded.Notifies ask) becoming notified =
+    logged-taken (send_end why) becoming.old.outside.log (gap_log becoming.client.host notified.0.called) becoming.new.outside.log notified.0.logged
+notified-taken why responded.Refused becoming notified = absurd notified
+notified-taken why (responded.Denied rule) becoming notified = absurd notified
+
+received-taken : (why : RecvEnd) (next : Responded) (becoming : Becoming)
+    (received : IsReceived why next becoming.client becoming.ahead becoming.old becoming.new)
+    → Takes becoming.old.outside.log (lines_received why next becoming received) becoming.new.outside.log
+received-taken why responded.GoesOn becoming received = absurd received
+received-taken why (responded.Feeds ask) becoming received = absurd received
+received-taken why (responded.Receives class) becoming received = received.0.1.receives.passed.logged
+received-taken why (responded.Notifies ask) becoming received = absurd received
+received-taken why responded.Refused becoming received = absurd received
+received-taken why (responded.Denied rule) becoming received = absurd received
+
+-- ---- ends that write nothing
 
 refused-same : (place : ℕ) (next : Responded) (at : ℕ) (old new : ServingMoment) → IsRefused place next at old new → new ≡ old
 refused-same place responded.GoesOn at old new is = absurd is
@@ -77,24 +94,26 @@ denied-same rule (responded.Denied first) old new is = is.1
 written-of : (old new : ServingMoment) → new ≡ old → new.outside.log.written ≡ old.outside.log.written
 written-of old new same = ap (λ (m : ServingMoment). m.outside.log.written) same
 
--- the lines that a session wrote itself
-pub serves-own : (end : ServeEnd) (client : Client) (old new : ServingMoment) → ServesAll end client old new → Wrote (AreOwn client.rules end client.host) old.outside.log new.outside.log
-serves-own (serving.Feed why) client old new serves =
-    let fed = was-fed why (goes_on (response_of client serves.ends.last)) client serves.ahead serves.between new serves.ends.becomes in
-    written-then (AreLosses why client.host) old.outside.log serves.between.outside.log new.outside.log serves.reaches.log
-    (losses-of why fed.asked.host client.host fed.feeds.called serves.between.outside.log new.outside.log fed.host_is fed.feeds.logged)
-serves-own (serving.Notify why) client old new serves =
-    let notified = was-notified why (goes_on (response_of client serves.ends.last)) client serves.between new serves.ends.becomes in
-    written-then (AreLosses (send_end why) client.host) old.outside.log serves.between.outside.log new.outside.log serves.reaches.log
-    (losses-of (send_end why) notified.asked.host client.host notified.notifies.called serves.between.outside.log new.outside.log notified.host_is notified.notifies.logged)
-serves-own (serving.Receive why) client old new serves =
-    let received = was-received why (goes_on (response_of client serves.ends.last)) client serves.ahead serves.between new serves.ends.becomes in
-    let from = ap (λ (log : SinkRecord). log.written) received.log_before in
-    let to = ap (λ (log : SinkRecord). log.written) received.log_after in
-    let more = λ (before : List ℕ). before ++ received.lines in
-    record { lines = received.lines; are = received.pushed; taken = sym to ∙ received.logged ∙ ap (option_map more) (from ∙ serves.reaches.log) }
-serves-own (serving.BadFrame at) client old new serves =
-    wrote-nothing old.outside.log new.outside.log (written-of serves.between new same ∙ serves.reaches.log)
+-- a session wrote these lines, and nothing else
+pub served-taken : (end : ServeEnd) (client : Client) (old new : ServingMoment) (serves : ServesAll end client old new)
+    → Takes old.outside.log (lines_served end client old new serves) new.outside.log
+served-taken (serving.Feed why) client old new serves =
+    let next = goes_on (response_of client serves.ends.last) in
+    let becoming = becoming_of client serves.ahead serves.between new in
+    takes-then old.outside.log serves.between.outside.log new.outside.log (lines_fed why next becoming serves.ends.becomes) serves.reaches.log
+    (fed-taken why next becoming serves.ends.becomes)
+served-taken (serving.Notify why) client old new serves =
+    let next = goes_on (response_of client serves.ends.last) in
+    let becoming = becoming_of client serves.ahead serves.between new in
+    takes-then old.outside.log serves.between.outside.log new.outside.log (lines_notified why next becoming serves.ends.becomes) serves.reaches.log
+    (notified-taken why next becoming serves.ends.becomes)
+served-taken (serving.Receive why) client old new serves =
+    let next = goes_on (response_of client serves.ends.last) in
+    let becoming = becoming_of client serves.ahead serves.between new in
+    takes-then old.outside.log serves.between.outside.log new.outside.log (lines_received why next becoming serves.ends.becomes) serves.reaches.log
+    (received-taken why next becoming serves.ends.becomes)
+served-taken (serving.BadFrame at) client old new serves =
+    Takes-nothing old.outside.log new.outside.log (written-of serves.between new same ∙ serves.reaches.log)
   where
     same-by : EndsByRecord (serving.BadFrame at) client serves.answers serves.taken serves.ahead serves.between new
         ⊎ EndsByLength at serves.answers serves.taken serves.ahead serves.between new → new ≡ serves.between
@@ -103,18 +122,18 @@ serves-own (serving.BadFrame at) client old new serves =
 
     same : new ≡ serves.between
     same = same-by serves.ends
-serves-own (serving.Denied rule) client old new serves =
+served-taken (serving.Denied rule) client old new serves =
     let same = denied-same rule (goes_on (response_of client serves.ends.last)) serves.between new serves.ends.becomes in
-    wrote-nothing old.outside.log new.outside.log (written-of serves.between new same ∙ serves.reaches.log)
-serves-own serving.Ended client old new serves =
-    wrote-nothing old.outside.log new.outside.log (written-of serves.between new serves.ends.0.same ∙ serves.reaches.log)
-serves-own (serving.Truncated at) client old new serves =
-    wrote-nothing old.outside.log new.outside.log (written-of serves.between new serves.ends.0.same ∙ serves.reaches.log)
-serves-own serving.StreamLimit client old new serves =
-    wrote-nothing old.outside.log new.outside.log (written-of serves.between new serves.ends.0.same ∙ serves.reaches.log)
-serves-own serving.LinkFault client old new serves =
-    wrote-nothing old.outside.log new.outside.log (written-of serves.between new serves.ends.1 ∙ serves.reaches.log)
-serves-own serving.OutOfMemory client old new serves =
-    wrote-nothing old.outside.log new.outside.log (written-of serves.between new serves.ends.1 ∙ serves.reaches.log)
-serves-own serving.Worn client old new serves =
-    wrote-nothing old.outside.log new.outside.log (ap (λ (m : ServingMoment). m.outside.log.written) serves.ends.same ∙ serves.reaches.log)
+    Takes-nothing old.outside.log new.outside.log (written-of serves.between new same ∙ serves.reaches.log)
+served-taken serving.Ended client old new serves =
+    Takes-nothing old.outside.log new.outside.log (written-of serves.between new serves.ends.0.same ∙ serves.reaches.log)
+served-taken (serving.Truncated at) client old new serves =
+    Takes-nothing old.outside.log new.outside.log (written-of serves.between new serves.ends.0.same ∙ serves.reaches.log)
+served-taken serving.StreamLimit client old new serves =
+    Takes-nothing old.outside.log new.outside.log (written-of serves.between new serves.ends.0.same ∙ serves.reaches.log)
+served-taken serving.LinkFault client old new serves =
+    Takes-nothing old.outside.log new.outside.log (written-of serves.between new serves.ends.1 ∙ serves.reaches.log)
+served-taken serving.OutOfMemory client old new serves =
+    Takes-nothing old.outside.log new.outside.log (written-of serves.between new serves.ends.1 ∙ serves.reaches.log)
+served-taken serving.Worn client old new serves =
+    Takes-nothing old.outside.log new.outside.log (ap (λ (m : ServingMoment). m.outside.log.written) serves.ends.same ∙ serves.reaches.log)

@@ -1,6 +1,5 @@
 -- What stands besides where a session that was served stops the worker.
-use Rattle.std.proofs.Common.{◌≡◌, ℕ, List, ◌++◌, Some, length, refl, subst}
-use Rattle.std.specs.Option.{option_map}
+use Rattle.std.proofs.Common.{◌≡◌, ℕ, List, Some, length, refl, subst}
 use Rattle.ldm_outside.specs.Count.{Rose}
 use Rattle.ldm_outside.specs.Gate.{GateRecord}
 use Rattle.ldm_outside.specs.Io.{SinkRecord}
@@ -33,21 +32,19 @@ use Rattle.ldm_serve.specs.Steps.{response_of}
 use Rattle.ldm_node.specs.declared.stop.NodeStop.TheVariants.{Done, LogFault, Worn}
 use Rattle.ldm_node.specs.ServingEnds.{stop_by, stop_of_sending}
 use Rattle.ldm_node.specs.SessionEnds.{stop_of_receiving}
-use Rattle.ldm_node.specs.VisitsTold.{ArePushed}
 
 -- ---- what a connection became
 
 -- A feeding of what was asked by the host.
 pub record WasFed (why : SendEnd) (client : Client) (ahead : List ℕ) (old new : ServingMoment) : Type 0 where
   pub asked : Asked
-  pub host_is : asked.host ≡ client.host
   pub feeds : Feeds why asked ahead old.pass new.pass old.outside new.outside
 
 pub was-fed : (why : SendEnd) (next : Responded) (client : Client) (ahead : List ℕ) (old new : ServingMoment) → IsFed why next client ahead old new
     → WasFed why client ahead old new
 was-fed why responded.GoesOn client ahead old new is = absurd is
 was-fed why (responded.Feeds ask) client ahead old new is =
-    record { asked = asked_of client.host client.rules ask; host_is = refl; feeds = is.0 }
+    record { asked = asked_of client.host client.rules ask; feeds = is.0 }
 was-fed why (responded.Receives class) client ahead old new is = absurd is
 was-fed why (responded.Notifies ask) client ahead old new is = absurd is
 was-fed why responded.Refused client ahead old new is = absurd is
@@ -56,7 +53,6 @@ was-fed why (responded.Denied rule) client ahead old new is = absurd is
 -- A session of notices of what was asked by the host.
 pub record WasNotified (why : NotifyEnd) (client : Client) (old new : ServingMoment) : Type 0 where
   pub asked : Asked
-  pub host_is : asked.host ≡ client.host
   pub notifies : NotifiesTo (send_end why) asked old.pass new.pass old.outside new.outside
 
 pub was-notified : (why : NotifyEnd) (next : Responded) (client : Client) (old new : ServingMoment) → IsNotified why next client old new → WasNotified why client old new
@@ -64,19 +60,16 @@ was-notified why responded.GoesOn client old new is = absurd is
 was-notified why (responded.Feeds ask) client old new is = absurd is
 was-notified why (responded.Receives class) client old new is = absurd is
 was-notified why (responded.Notifies ask) client old new is =
-    record { asked = notifying.asked_of client.host client.rules ask; host_is = refl; notifies = is.0 }
+    record { asked = notifying.asked_of client.host client.rules ask; notifies = is.0 }
 was-notified why responded.Refused client old new is = absurd is
 was-notified why (responded.Denied rule) client old new is = absurd is
 
--- What a receiving that was pushed leaves: its log lines, and why it ended.
+-- Why a receiving that was pushed ended.
 pub record WasReceived (why : RecvEnd) (client : Client) (old new : ServingMoment) : Type 0 where
   pub before : SessionRecord
   pub after : SessionRecord
   pub log_before : before.log ≡ old.outside.log
   pub log_after : after.log ≡ new.outside.log
-  pub lines : List ℕ
-  pub logged : after.log.written ≡ option_map (λ taken. taken ++ lines) before.log.written
-  pub pushed : ArePushed why client.rules client.host lines
   pub cause : Cause why new.pass before after
 
 pub was-received : (why : RecvEnd) (next : Responded) (client : Client) (ahead : List ℕ) (old new : ServingMoment) → IsReceived why next client ahead old new
@@ -91,20 +84,6 @@ was-received why (responded.Receives class) client ahead old new is =
       after = ungated new.outside;
       log_before = refl;
       log_after = refl;
-      lines = receives.receives.lines;
-      logged = receives.receives.passed.logged;
-      pushed = record {
-        class = class;
-        behind = is.0.0;
-        noted = record {
-          pass = old.pass;
-          pieces = receives.receives.pieces;
-          at_end = receives.at_end;
-          comes = receives.receives.comes;
-          last_is = receives.last_is;
-          lines_are = receives.receives.lines_are;
-        };
-      };
       cause = subst P receives.pass_is receives.receives.cause;
     }
 was-received why (responded.Notifies ask) client ahead old new is = absurd is

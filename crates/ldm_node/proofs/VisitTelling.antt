@@ -27,8 +27,8 @@ use Rattle.ldm_node.specs.ServingEnds.{end_of_sending, end_of_serving, stop_by, 
 use Rattle.ldm_node.specs.DoorMoments.{DoorMoment}
 use Rattle.ldm_node.specs.Visits.{Visit, Admits, client_of, line_of, outside}
 use Rattle.ldm_node.specs.DoorWorks.{AreVisits, ClosedDoor, Declines, Ending, EndsBy, FailedDoor, LastVisit, Works}
-use Rattle.ldm_node.specs.VisitsTold.{AreAllOwn, AreOwn, all_visits, hosts_of, last_visit, log_of}
-use Rattle.ldm_node.proofs.VisitOwning.{serves-own}
+use Rattle.ldm_node.specs.VisitsTold.{all_visits, hosts_of, last_visit, lines_of, lines_of_each, lines_of_last, log_of, own_lines}
+use Rattle.ldm_node.proofs.VisitOwning.{served-taken}
 use Rattle.ldm_node.proofs.VisitServing.{receiving-not_done}
 
 -- how a worker ended, without why it stopped
@@ -119,68 +119,43 @@ works-hosts stop rules sessions old new works =
 
 -- ---- what the log took
 
--- The lines of visits, each behind those of its own.
-record LogsAll (rules : Rules) (visits : List Visit) (old new : SinkRecord) : Type 0 where
-  pub own : List (List ℕ)
-  pub are : AreAllOwn rules visits own
-  pub taken : Takes old (log_of visits own) new
-
-logs-none : (rules : Rules) (old new : SinkRecord) → new.written ≡ old.written → LogsAll rules [] old new
-logs-none rules old new same = record { own = []; are = tt; taken = Takes-nothing old new same }
-
-logs-more : (rules : Rules) (visit : Visit) (visits : List Visit) (lines : List ℕ) (old mid new : SinkRecord)
-    → AreOwn rules visit.end visit.host lines → Takes old (lines ++ line_of visit) mid → LogsAll rules visits mid new
-    → LogsAll rules (visit ∷ visits) old new
-logs-more rules visit visits lines old mid new are taken rest = record {
-  own = lines ∷ rest.own;
-  are = (are, rest.are);
-  taken = Takes-then old mid new (lines ++ line_of visit) (log_of visits rest.own) taken rest.taken;
-}
-
--- one visit: the lines of its own, and its line
-record LogsOne (rules : Rules) (visit : Visit) (old new : SinkRecord) : Type 0 where
-  pub lines : List ℕ
-  pub are : AreOwn rules visit.end visit.host lines
-  pub taken : Takes old (lines ++ line_of visit) new
-
-admits-log : (rules : Rules) (visit : Visit) (old new : DoorMoment) → Admits true rules visit old new → LogsOne rules visit old.station.log new.station.log
+admits-log : (rules : Rules) (visit : Visit) (old new : DoorMoment) (admits : Admits true rules visit old new)
+    → Takes old.station.log (lines_of rules visit old new admits ++ line_of visit) new.station.log
 admits-log rules visit old new admits =
     let holds = admits.holds in
-    let own = serves-own visit.end (client_of rules visit.host old.pass) (moment_of old.pass (outside admits.came old.station.log old.station))
-    (moment_of new.pass (outside holds.left holds.log new.station)) holds.serves in
-    record {
-      lines = own.lines;
-      are = own.are;
-      taken = Takes-then old.station.log holds.log new.station.log own.lines (line_of visit) own.taken holds.logged;
-    }
+    Takes-then old.station.log holds.log new.station.log (lines_of rules visit old new admits) (line_of visit)
+    (served-taken visit.end (client_of rules visit.host old.pass) (moment_of old.pass (outside admits.came old.station.log old.station))
+    (moment_of new.pass (outside holds.left holds.log new.station)) holds.serves) holds.logged
 
-logs-all : (rules : Rules) (visits others : List Visit) (old mid : DoorMoment) (new : SinkRecord) → AreVisits rules visits old mid → LogsAll rules others mid.station.log new
-    → LogsAll rules (visits ++ others) old.station.log new
-logs-all rules [] others old mid new each rest =
-    let P : DoorMoment → Type 0 = λ m. LogsAll rules others m.station.log new in
+visits-log : (rules : Rules) (visits others : List Visit) (own : List (List ℕ)) (old mid : DoorMoment) (new : SinkRecord)
+    (each : AreVisits rules visits old mid) → Takes mid.station.log (log_of others own) new
+    → Takes old.station.log (log_of (visits ++ others) (lines_of_each rules visits old mid each ++ own)) new
+visits-log rules [] others own old mid new each rest =
+    let P : DoorMoment → Type 0 = λ m. Takes m.station.log (log_of others own) new in
     subst P each rest
-logs-all rules (visit ∷ visits) others old mid new each rest =
-    let one = admits-log rules visit old each.0 each.1 in
-    logs-more rules visit (visits ++ others) one.lines old.station.log each.0.station.log new one.are one.taken (logs-all rules visits others each.0 mid new each.3 rest)
+visits-log rules (visit ∷ visits) others own old mid new each rest =
+    Takes-then old.station.log each.0.station.log new (lines_of rules visit old each.0 each.1 ++ line_of visit)
+    (log_of (visits ++ others) (lines_of_each rules visits each.0 mid each.3 ++ own)) (admits-log rules visit old each.0 each.1)
+    (visits-log rules visits others own each.0 mid new each.3 rest)
 
 log-of : (old new : DoorMoment) → new ≡ old → new.station.log.written ≡ old.station.log.written
 log-of old new same = ap (λ (m : DoorMoment). m.station.log.written) same
 
-done-log : (rules : Rules) (ending : Option Ending) (old new : DoorMoment) → EndsBy Done rules ending old new → LogsAll rules (last_visit ending) old.station.log new.station.log
-done-log rules None old new ends = logs-none rules old.station.log new.station.log (log-of old new ends)
+done-log : (rules : Rules) (ending : Option Ending) (old new : DoorMoment) (ends : EndsBy Done rules ending old new)
+    → Takes old.station.log (log_of (last_visit ending) (lines_of_last rules ending old new ends)) new.station.log
+done-log rules None old new ends = Takes-nothing old.station.log new.station.log (log-of old new ends)
 done-log rules (Some ClosedDoor) old new ends =
-    logs-none rules old.station.log new.station.log (ap (λ (m : DoorMoment). m.station.log.written) ends.same)
+    Takes-nothing old.station.log new.station.log (ap (λ (m : DoorMoment). m.station.log.written) ends.same)
 done-log rules (Some FailedDoor) old new ends = absurd ends
 done-log rules (Some (LastVisit visit)) old new ends =
-    let one = admits-log rules visit old new ends.0 in
-    logs-more rules visit [] one.lines old.station.log new.station.log new.station.log one.are one.taken
-    (logs-none rules new.station.log new.station.log refl)
+    Takes-then old.station.log new.station.log new.station.log (lines_of rules visit old new ends.0 ++ line_of visit) []
+    (admits-log rules visit old new ends.0) (Takes-nothing new.station.log new.station.log refl)
 
 pub works-log : (rules : Rules) (sessions : ℕ) (old new : DoorMoment) (works : Works Done rules sessions old new)
-    → (own : List (List ℕ)) × AreAllOwn rules (all_visits works) own × Takes old.station.log (log_of (all_visits works) own) new.station.log
+    → Takes old.station.log (log_of (all_visits works) (own_lines works)) new.station.log
 works-log rules sessions old new works =
-    let logs = logs-all rules works.visits (last_visit works.ending) old works.at_end new.station.log works.each (done-log rules works.ending works.at_end new works.ends) in
-    (logs.own, logs.are, logs.taken)
+    visits-log rules works.visits (last_visit works.ending) (lines_of_last rules works.ending works.at_end new works.ends) old works.at_end
+    new.station.log works.each (done-log rules works.ending works.at_end new works.ends)
 
 -- ---- the last line
 
@@ -209,19 +184,26 @@ serving-stopped serving.StreamLimit is = cc
 serving-stopped serving.Worn is = cc
 serving-stopped serving.OutOfMemory is = cc
 
+-- the line of a visit that the gate stopped
+stopped-log : (rules : Rules) (visit : Visit) (old new : DoorMoment) (admits : Admits true rules visit old new) → stop_by visit.end ≡ Some Done
+    → Takes old.station.log (lines_of rules visit old new admits ++ session_line visit.host Stopped) new.station.log
+stopped-log rules visit old new admits is =
+    let P : SessionEnd → Type 0 = λ end. Takes old.station.log (lines_of rules visit old new admits ++ session_line visit.host end) new.station.log in
+    subst P (serving-stopped visit.end is) (admits-log rules visit old new admits)
+
 pub works-stopped : (rules : Rules) (sessions : ℕ) (old new : DoorMoment) (visit : Visit) (works : Works Done rules sessions old new)
     → works.ending ≡ Some (LastVisit visit) → (before : List ℕ) × Takes old.station.log (before ++ session_line visit.host Stopped) new.station.log
 works-stopped rules sessions old new visit works is =
     let P : Option Ending → Type 0 = λ ending. EndsBy Done rules ending works.at_end new in
     let ends : EndsBy Done rules (Some (LastVisit visit)) works.at_end new = subst P is works.ends in
-    let one = admits-log rules visit works.at_end new ends.0 in
-    let front = logs-all rules works.visits [] old works.at_end works.at_end.station.log works.each (logs-none rules works.at_end.station.log works.at_end.station.log refl) in
-    let before = log_of (works.visits ++ []) front.own in
-    let Q : SessionEnd → Type 0 = λ end. Takes works.at_end.station.log (one.lines ++ session_line visit.host end) new.station.log in
-    let last : Takes works.at_end.station.log (one.lines ++ session_line visit.host Stopped) new.station.log = subst Q (serving-stopped visit.end ends.1) one.taken in
-    let all = Takes-then old.station.log works.at_end.station.log new.station.log before (one.lines ++ session_line visit.host Stopped) front.taken last in
+    let at_end = works.at_end.station.log in
+    let front = log_of (works.visits ++ []) (lines_of_each rules works.visits old works.at_end works.each ++ []) in
+    let own = lines_of rules visit works.at_end new ends.0 in
+    let visited = visits-log rules works.visits [] [] old works.at_end at_end works.each (Takes-nothing at_end at_end refl) in
+    let all = Takes-then old.station.log at_end new.station.log front (own ++ session_line visit.host Stopped) visited
+    (stopped-log rules visit works.at_end new ends.0 ends.1) in
     let R : List ℕ → Type 0 = λ bytes. Takes old.station.log bytes new.station.log in
-    (before ++ one.lines, subst R (sym (append_assoc before one.lines (session_line visit.host Stopped))) all)
+    (front ++ own, subst R (sym (append_assoc front own (session_line visit.host Stopped))) all)
 
 -- ---- the links that were given back
 

@@ -1,6 +1,6 @@
 pub mod SessionEnds
 pub mod Lines
-pub mod Noted
+pub mod OwnLines
 pub mod ServingEnds
 pub mod DoorMoments
 pub mod Visits

@@ -10,7 +10,7 @@ ghost use Rattle.ldm_node.specs.declared.stop.NodeStop.{NodeStop};
 ghost use Rattle.ldm_node.specs.declared.stop.NodeStop.TheVariants.{Done};
 ghost use Rattle.ldm_node.specs.Lines.{session_line};
 ghost use Rattle.ldm_node.specs.DoorMoments.{DoorMoment};
-ghost use Rattle.ldm_node.specs.VisitsTold.{AreAllOwn, all_visits, hosts_of, log_of};
+ghost use Rattle.ldm_node.specs.VisitsTold.{all_visits, hosts_of, log_of, own_lines};
 ghost use Rattle.ldm_node.specs.Visits.{Visit};
 ghost use Rattle.ldm_node.specs.DoorWorks.{LastVisit, Works};
 
@@ -20,10 +20,10 @@ pub fn what_is_told_of_visits()
     ensures came { (stop : NodeStop) (rules : Rules) (sessions : ℕ) (old new : DoorMoment)
         (works : Works stop rules sessions old new) →
         new.station.door.hosts ≡ option_map (λ before. before ++ hosts_of (all_visits works)) old.station.door.hosts }
-    // Where the worker is done, its log took one line of each, in order, each behind what its session wrote itself.
+    // Where the worker is done, its log took for each visit, in order, the lines that its session wrote itself and then
+    // its own line, and nothing else.
     ensures logged { (rules : Rules) (sessions : ℕ) (old new : DoorMoment) (works : Works Done rules sessions old new) →
-        (own : List (List ℕ)) × AreAllOwn rules (all_visits works) own
-        × Takes old.station.log (log_of (all_visits works) own) new.station.log }
+        Takes old.station.log (log_of (all_visits works) (own_lines works)) new.station.log }
     // Where the gate stopped the last one, the last line says so.
     ensures stopped { (rules : Rules) (sessions : ℕ) (old new : DoorMoment) (visit : Visit)
         (works : Works Done rules sessions old new) →
