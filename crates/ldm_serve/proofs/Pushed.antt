@@ -22,6 +22,7 @@ use Rattle.ldm_downstream.specs.Pieces.{Piece, arrivals, beginning, hand}
 use Rattle.ldm_downstream.specs.Taking.{Takes, BeginsNext, BreaksOff, GivesUp}
 use Rattle.ldm_downstream.specs.Received.{received, with_hand}
 use Rattle.ldm_downstream.specs.Receives as receives
+use Rattle.ldm_session.specs.Part.{IsPart}
 use Rattle.ldm_serve.specs.Client.{Client}
 use Rattle.ldm_serve.specs.Kept.{AllPutIn}
 use Rattle.ldm_serve.proofs.MayGo.{AllMayGo}
@@ -130,7 +131,7 @@ module _ (client : Client) where
     comes-hands Worn comes = breaks-hands before (arrivals p pieces) old new by keeps comes.breaks
 
   -- bytes that are others or a front of them
-  front_of : (whole : Bool) (part all : List ℕ) → receives.IsPart whole part all → (rest : List ℕ) × (part ++ rest ≡ all)
+  front_of : (whole : Bool) (part all : List ℕ) → IsPart whole part all → (rest : List ℕ) × (part ++ rest ≡ all)
   front_of true part all is = ([], append-nil part ∙ is)
   front_of false part all is = is
 
