@@ -1,0 +1,9 @@
+pub mod Working
+pub mod Turning
+pub mod Keeping
+pub mod Numbering
+pub mod PuttingBack
+pub mod Telling
+pub mod Coursing
+pub mod Products
+pub mod Stepping

@@ -1,0 +1,99 @@
+use Rattle.ldm_recorder.specs.Recording.{sight_of, who_of}
+use Rattle.ldm_recorder.specs.Course.{gated_of}
+use Rattle.ldm_recorder.proofs.Coursing.{course_begins, course_broken, course_caught, course_given, course_stopped, course_unsaved, recorder_none, recorder_then}
+use Rattle.ldm_recorder.proofs.PuttingBack.{of_same, same_none, same_then}
+use Rattle.ldm_recorder.proofs.recorder.Recorder.record.Goals as goal
+
+pub loop-init : goal.loop-init
+loop-init g c = (
+  same_none c.args.pass.now,
+  recorder_none c.args.self.now,
+  c.requires.ready,
+  course_begins (who_of c.args.pass.now c.args.self.now)
+      (gated_of (sight_of c.args.pass.now c.args.self.now (g.D.Disk.tells c.args.disk.now) (g.E.Sink.tells c.args.log.now)) (g.G.Gate.tells c.args.gate.now))
+      (g.met.D.Disk.consistent c.args.disk.now),
+)
+
+pub turn-requires-clause-of : goal.turn-requires-clause-of
+turn-requires-clause-of g c = of_same c.args.shared.now c.args.pass.now c.loop.pass c.requires.of c.loop.invariant.0
+
+pub turn-requires-clause-ready : goal.turn-requires-clause-ready
+turn-requires-clause-ready g c = c.loop.invariant.2
+
+pub loop-preserved-in-On : goal.loop-preserved-in-On
+loop-preserved-in-On g c =
+    let tells = g.D.Disk.tells in
+    let lines = g.E.Sink.tells in
+    let gates = g.G.Gate.tells in
+    let so_far = c.loop.invariant in
+    let began = gated_of (sight_of c.args.pass.now c.args.self.now (tells c.args.disk.now) (lines c.args.log.now)) (gates c.args.gate.now) in
+    let here = gated_of (sight_of c.loop.pass c.loop.self (tells c.loop.disk) (lines c.loop.log)) (gates c.loop.gate) in
+    let e = c.in-Ok-true.ensures in
+    let turned = rw c.in-Ok-true.field-0-test at e.turned in (
+      same_then c.args.pass.now c.loop.pass c.turn.new.pass so_far.0 e.kept,
+      recorder_then c.args.self.now c.loop.self c.turn.new.self so_far.1 e.same,
+      e.ready,
+      course_caught c.args.pass.now c.loop.pass c.args.self.now c.loop.self so_far.0 so_far.1 began here so_far.3
+          (gated_of (sight_of c.turn.new.pass c.turn.new.self (tells c.turn.new.disk) (lines c.turn.new.log)) (gates c.idle.new.self)) turned c.in-On.ensures.answered,
+    )
+
+pub loop-preserved : goal.loop-preserved
+loop-preserved g c =
+    let tells = g.D.Disk.tells in
+    let lines = g.E.Sink.tells in
+    let gates = g.G.Gate.tells in
+    let so_far = c.loop.invariant in
+    let began = gated_of (sight_of c.args.pass.now c.args.self.now (tells c.args.disk.now) (lines c.args.log.now)) (gates c.args.gate.now) in
+    let here = gated_of (sight_of c.loop.pass c.loop.self (tells c.loop.disk) (lines c.loop.log)) (gates c.loop.gate) in
+    let e = c.in-Ok-false.ensures in
+    let s = c.in-Ok.ensures in
+    let turned = rw c.in-Ok-false.field-0-test at e.turned in
+    let of = same_then c.args.pass.now c.loop.pass c.turn.new.pass so_far.0 e.kept in
+    let same = recorder_then c.args.self.now c.loop.self c.turn.new.self so_far.1 e.same in (
+      of,
+      recorder_then c.args.self.now c.turn.new.self c.save_late.new.self same s.same,
+      s.ready c.turn.new.pass e.ready,
+      course_given c.args.pass.now c.loop.pass c.args.self.now c.loop.self so_far.0 so_far.1 began here so_far.3
+          (sight_of c.turn.new.pass c.turn.new.self (tells c.turn.new.disk) (lines c.turn.new.log)) turned c.turn.new.pass c.turn.new.self of same
+          (sight_of c.turn.new.pass c.save_late.new.self (tells c.save_late.new.disk) (lines c.turn.new.log)) (s.saved c.turn.new.pass (lines c.turn.new.log)),
+    )
+
+pub returns-in-Stop-clause-recorded : goal.returns-in-Stop-clause-recorded
+returns-in-Stop-clause-recorded g c =
+    let tells = g.D.Disk.tells in
+    let lines = g.E.Sink.tells in
+    let gates = g.G.Gate.tells in
+    let so_far = c.loop.invariant in
+    let began = gated_of (sight_of c.args.pass.now c.args.self.now (tells c.args.disk.now) (lines c.args.log.now)) (gates c.args.gate.now) in
+    let here = gated_of (sight_of c.loop.pass c.loop.self (tells c.loop.disk) (lines c.loop.log)) (gates c.loop.gate) in
+    let turned = rw c.in-Ok-true.field-0-test at c.in-Ok-true.ensures.turned in
+    course_stopped c.args.pass.now c.loop.pass c.args.self.now c.loop.self so_far.0 so_far.1 began here so_far.3
+    (gated_of (sight_of c.turn.new.pass c.turn.new.self (tells c.turn.new.disk) (lines c.turn.new.log)) (gates c.idle.new.self)) turned c.in-Stop.ensures.answered
+
+pub returns-in-Err-clause-recorded : goal.returns-in-Err-clause-recorded
+returns-in-Err-clause-recorded g c =
+    let tells = g.D.Disk.tells in
+    let lines = g.E.Sink.tells in
+    let gates = g.G.Gate.tells in
+    let so_far = c.loop.invariant in
+    let began = gated_of (sight_of c.args.pass.now c.args.self.now (tells c.args.disk.now) (lines c.args.log.now)) (gates c.args.gate.now) in
+    let here = gated_of (sight_of c.loop.pass c.loop.self (tells c.loop.disk) (lines c.loop.log)) (gates c.loop.gate) in
+    course_broken c.args.pass.now c.loop.pass c.args.self.now c.loop.self so_far.0 so_far.1 began here so_far.3
+    c.in-Err.why (sight_of c.turn.new.pass c.turn.new.self (tells c.turn.new.disk) (lines c.turn.new.log)) c.in-Err.ensures.turned
+
+pub returns-in-Err-save_late-clause-recorded : goal.returns-in-Err-save_late-clause-recorded
+returns-in-Err-save_late-clause-recorded g c =
+    let tells = g.D.Disk.tells in
+    let lines = g.E.Sink.tells in
+    let gates = g.G.Gate.tells in
+    let so_far = c.loop.invariant in
+    let began = gated_of (sight_of c.args.pass.now c.args.self.now (tells c.args.disk.now) (lines c.args.log.now)) (gates c.args.gate.now) in
+    let here = gated_of (sight_of c.loop.pass c.loop.self (tells c.loop.disk) (lines c.loop.log)) (gates c.loop.gate) in
+    let e = c.in-Ok-false.ensures in
+    let s = c.in-Err-save_late.ensures in
+    let turned = rw c.in-Ok-false.field-0-test at e.turned in
+    let of = same_then c.args.pass.now c.loop.pass c.turn.new.pass so_far.0 e.kept in
+    let same = recorder_then c.args.self.now c.loop.self c.turn.new.self so_far.1 e.same in
+    course_unsaved c.args.pass.now c.loop.pass c.args.self.now c.loop.self so_far.0 so_far.1 began here so_far.3
+    (sight_of c.turn.new.pass c.turn.new.self (tells c.turn.new.disk) (lines c.turn.new.log)) turned c.turn.new.pass c.turn.new.self of same
+    c.in-Err-save_late.why (sight_of c.turn.new.pass c.save_late.new.self (tells c.save_late.new.disk) (lines c.turn.new.log)) (s.saved c.turn.new.pass (lines c.turn.new.log))

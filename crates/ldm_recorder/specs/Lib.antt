@@ -1,0 +1,9 @@
+pub mod Restoring
+pub mod Turns
+pub mod Saving
+pub mod Recording
+pub mod Numbers
+pub mod Opening
+pub mod Taking
+pub mod Course
+pub mod Told

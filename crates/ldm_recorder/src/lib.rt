@@ -1,0 +1,19 @@
+//! What a node does with the journal of its queue.
+//!
+//! [`restore`] puts back what a [`Journal`](ldm_journal::Journal) keeps, before the node listens. A [`Recorder`] then
+//! follows the queue and writes what is inserted into the journal.
+#![tactic(auto)]
+
+mod end;
+mod laws;
+mod record;
+mod recorder;
+mod restoring;
+mod save;
+mod take;
+mod turn;
+
+pub use end::{RecordEnd, RestoreEnd};
+pub use laws::{all_is_committed_where_the_gate_is_asked, what_was_given_stands};
+pub use recorder::{Opened, Recorder};
+pub use restoring::restore;

@@ -1,0 +1,71 @@
+//! Recorders, which follow a queue.
+
+use ldm_journal::Journal;
+use ldm_model::Start;
+use ldm_reader::{Opening, Reader};
+use ldm_shared::{Pass, Shared, Turn};
+use ldm_types::Feed;
+use std::alloc::Global;
+use std::sync::Wait;
+
+/// All feedtypes.
+pub const EVERY_FEEDTYPE: u32 = u32::MAX;
+
+/// Writes what is inserted into a queue into a journal.
+///
+/// Each call has to be lent the pass with which it was opened, and the disk of the journal.
+#[derive(Drop)]
+pub struct Recorder {
+    pub(crate) journal: Journal,
+    pub(crate) reader: Reader,
+    // A product has the number of the queue and this one.
+    pub(crate) base: u64,
+    // A body, as it was read.
+    pub(crate) buffer: Vec<u8>,
+}
+
+/// What opening a recorder led to.
+#[derive(Drop)]
+pub enum Opened {
+    Ready(Recorder),
+    /// All 64 cursor places are taken.
+    AllBusy,
+    /// The queue has had all the calls that it can have.
+    Worn,
+}
+
+impl Recorder {
+    ghost use Rattle.ldm_shared.specs.Passes.{IsPassOf, IsSamePass};
+    ghost use Rattle.ldm_recorder.specs.Opening.{OpensBy};
+
+    /// Follows the queue from its end on: what is inserted from now on will be written.
+    ///
+    /// The numbers of a queue begin at 0 again. What is written has that number and the least that the journal may have
+    /// next, so that the journal's numbers go on to rise.
+    pub fn open<H: Wait>(
+        rt: &H,
+        alloc: Global,
+        shared: &Shared,
+        pass: &mut Pass,
+        journal: Journal,
+    ) -> Opened
+        requires { IsPassOf shared.now pass.old }
+        ensures kept { IsSamePass pass.old pass.new }
+        ensures opened { OpensBy result journal pass.old pass.new }
+    {
+        match Reader::open(shared, rt, pass, Feed(EVERY_FEEDTYPE), Start::Next) {
+            Turn::Done(Opening::Opened(reader)) => {
+                let base = journal.next_number();
+                Opened::Ready(Recorder {
+                    journal,
+                    reader,
+                    base,
+                    buffer: Vec::new(alloc),
+                })
+            }
+            Turn::Done(Opening::AllBusy) => Opened::AllBusy,
+            Turn::Done(Opening::NotQueued) => unreachable!(),
+            Turn::Worn { .. } => Opened::Worn,
+        }
+    }
+}

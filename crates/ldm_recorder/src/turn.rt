@@ -1,0 +1,63 @@
+//! One step of the reader, and what follows it.
+ghost use Rattle.std.specs.Prelude.{◌≡◌, OnOk};
+ghost use Rattle.ldm_shared.specs.Passes.{IsPassOf, IsSamePass};
+ghost use Rattle.ldm_recorder.specs.Numbers.{IsReady};
+ghost use Rattle.ldm_recorder.specs.Recording.{TurnsBy, sight_of, who_of};
+ghost use Rattle.ldm_recorder.specs.Taking.{IsSameRecorder};
+
+use crate::end::RecordEnd;
+use crate::recorder::Recorder;
+use crate::save::save;
+use ldm_disk::Disk;
+use ldm_outside::Sink;
+use ldm_reader::Came;
+use ldm_session::write_gap;
+use ldm_shared::{Pass, Shared, Turn, own_readers};
+use std::sync::Wait;
+
+impl Recorder {
+    /// One step of the cursor: what comes is written into the journal, and where nothing is left, that is committed. It
+    /// answers whether nothing was left.
+    ///
+    /// What was evicted before it was given is the log line `gap journal COUNT FIRST LAST`, and a product whose record
+    /// is larger than the ring the line `gap ring 1 N N`.
+    pub fn turn<H: Wait, D: Disk, E: Sink>(
+        &mut self,
+        rt: &H,
+        shared: &Shared,
+        pass: &mut Pass,
+        disk: &mut D,
+        log: &mut E,
+    ) -> Result<bool, RecordEnd>
+        requires of { IsPassOf shared.now pass.old }
+        requires ready { IsReady pass.old self.old }
+        ensures kept { IsSamePass pass.old pass.new }
+        ensures same { IsSameRecorder self.old self.new }
+        ensures ready { OnOk result (IsReady pass.new self.new) }
+        ensures turned { TurnsBy result (who_of pass.old self.old)
+            (sight_of pass.old self.old (D.tells disk.old) (E.tells log.old))
+            (sight_of pass.new self.new (D.tells disk.new) (E.tells log.new)) }
+    {
+        own_readers();
+        match self.reader.step(shared, rt, pass) {
+            Turn::Done(Came::Gap { count, first, last }) => {
+                match write_gap(log, b"journal", count, first, last) {
+                    Ok(()) => Ok(false),
+                    Err(_) => Err(RecordEnd::LogFault),
+                }
+            }
+            Turn::Done(Came::Product(held)) => match self.number_of(held.n) {
+                Some(number) => match self.take(rt, shared, pass, number, held, disk, log) {
+                    Ok(()) => Ok(false),
+                    Err(why) => Err(why),
+                },
+                None => Err(RecordEnd::Worn),
+            },
+            Turn::Done(Came::End { .. }) => match save(&mut self.journal, disk, 0) {
+                Ok(()) => Ok(true),
+                Err(why) => Err(why),
+            },
+            Turn::Worn { .. } => Err(RecordEnd::Worn),
+        }
+    }
+}
