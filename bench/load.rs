@@ -15,15 +15,18 @@
 //! load redis|nats|mqtt ADDRESS SIZE COUNT    publishes such bodies to a broker, and subscribes them
 //! ```
 //!
+//! `load gathered BYTES ..` does one of these, and each that sends products gathers up to BYTES before it writes, as clients of brokers
+//! do; else it writes each product by itself.
+//!
 //! Each prints how many seconds it took, from the first byte that was sent to the last one that came; `delay` prints the least, the
 //! middle, that of 99% and the greatest time, in milliseconds.
 
 use std::collections::HashMap;
 use std::fs::{self, File, OpenOptions};
-use std::io::{self, BufRead, BufReader, Error, ErrorKind, Read, Write};
+use std::io::{self, BufRead, BufReader, BufWriter, Error, ErrorKind, Read, Write};
 use std::net::{Shutdown, TcpListener, TcpStream};
 use std::path::Path;
-use std::sync::atomic::{AtomicU64, Ordering};
+use std::sync::atomic::{AtomicU64, AtomicUsize, Ordering};
 use std::sync::mpsc;
 use std::thread;
 use std::time::{Duration, Instant, SystemTime, UNIX_EPOCH};
@@ -197,17 +200,33 @@ fn signature(run: u128, i: u64) -> u128 {
     (run << 40) + u128::from(i)
 }
 
+/// How many bytes a publisher gathers before it writes them. With 0 it writes each product by itself.
+static GATHERED: AtomicUsize = AtomicUsize::new(0);
+
+// What a publisher writes to. Before it waits for anything it is to be flushed.
+fn gathering(stream: TcpStream) -> BufWriter<TcpStream> {
+    BufWriter::with_capacity(GATHERED.load(Ordering::Relaxed), stream)
+}
+
 /// How much came of what was sent.
 #[derive(Default)]
 struct Passed(AtomicU64);
 
 impl Passed {
-    // Waits until so many of the products of this size came that another one may be sent.
-    fn wait_for_room(&self, sent: u64, size: usize) {
+    fn is_full(&self, sent: u64, size: usize) -> bool {
         let most = (WINDOW / size as u64).clamp(4, 4_096);
-        while sent - self.0.load(Ordering::Relaxed) >= most {
+        sent - self.0.load(Ordering::Relaxed) >= most
+    }
+
+    // Waits until so many of the products of this size came that another one may be sent.
+    fn wait_for_room(&self, sent: u64, size: usize, out: &mut impl Write) -> io::Result<()> {
+        if self.is_full(sent, size) {
+            out.flush()?;
+        }
+        while self.is_full(sent, size) {
             thread::sleep(Duration::from_micros(20));
         }
+        Ok(())
     }
 
     fn add(&self) {
@@ -226,8 +245,9 @@ struct Load<'a> {
 /// Puts products in on one connection. Does not wait for a reply before it sends the next one, but for room: by what passed where
 /// that is looked at, else by the replies.
 fn put(address: &str, load: &Load, passed: &[Passed]) -> io::Result<()> {
-    let mut stream = connect(address)?;
+    let stream = connect(address)?;
     let mut replies = Records::new(stream.try_clone()?);
+    let mut stream = gathering(stream);
     let answered = [Passed::default()];
     let passed = if passed.is_empty() { &answered } else { passed };
     thread::scope(|scope| {
@@ -244,11 +264,14 @@ fn put(address: &str, load: &Load, passed: &[Passed]) -> io::Result<()> {
         let mut bodies = Bodies::new(load.size);
         let mut record = Vec::new();
         for i in 0..load.count {
-            passed.iter().for_each(|it| it.wait_for_room(i, load.size));
+            for it in passed {
+                it.wait_for_room(i, load.size, &mut stream)?;
+            }
             let ident = (load.ident)(i);
             put_call(&mut record, i as u32, signature(load.run, i), ident.as_bytes(), bodies.numbered(i));
             stream.write_all(&record)?;
         }
+        stream.flush()?;
         hearing.join().unwrap()
     })
 }
@@ -363,7 +386,7 @@ fn far(port: u16, address: &str, late: Duration) -> io::Result<()> {
 
 fn stream(size: usize, count: u64) -> io::Result<Duration> {
     let listener = TcpListener::bind("127.0.0.1:0")?;
-    let mut sending = connect(&listener.local_addr()?.to_string())?;
+    let mut sending = gathering(connect(&listener.local_addr()?.to_string())?);
     let mut records = Records::new(listener.accept()?.0);
     let begun = Instant::now();
     thread::scope(|scope| {
@@ -379,6 +402,7 @@ fn stream(size: usize, count: u64) -> io::Result<Duration> {
             put_call(&mut record, i as u32, u128::from(i), b"0", bodies.numbered(i));
             sending.write_all(&record)?;
         }
+        sending.flush()?;
         taking.join().unwrap()
     })?;
     Ok(begun.elapsed())
@@ -548,10 +572,12 @@ fn through_broker(broker: Broker, address: &str, size: usize, count: u64) -> io:
     thread::scope(|scope| {
         let taking = scope.spawn(|| take_all(|i| check(&broker.next(&mut coming)?, size, i), count, &passed));
         let mut bodies = Bodies::new(size);
+        let mut publisher = gathering(publisher);
         for i in 0..count {
-            passed.wait_for_room(i, size);
+            passed.wait_for_room(i, size, &mut publisher)?;
             publisher.write_all(&broker.message(bodies.numbered(i)))?;
         }
+        publisher.flush()?;
         taking.join().unwrap()
     })?;
     Ok(begun.elapsed())
@@ -561,6 +587,10 @@ fn run(words: &[&str]) -> io::Result<String> {
     let size = |text: &str| text.parse().expect("a number");
     let count = |text: &str| text.parse().expect("a number");
     let took = match words {
+        ["gathered", bytes, rest @ ..] => {
+            GATHERED.store(size(bytes), Ordering::Relaxed);
+            return run(rest);
+        }
         ["put", address, bytes, number, names] => {
             let names = count(names);
             let load = Load { size: size(bytes), count: count(number), run: run_number(), ident: &|i| (i % names).to_string() };
