@@ -2,7 +2,7 @@
 
 use arrayvec::ArrayVec;
 use ldm_drive::Trial;
-use ldm_drive_outside::{copied, numbers, push, text_copied};
+use ldm_drive::{copied, numbers, push, text_copied};
 use ldm_drive_sessions::Case;
 use ldm_outside::{LinkScript, MemFile, MemPeer, StationScript};
 use ldm_types::Micros;

@@ -6,7 +6,7 @@ use crate::telling::{MemWorld, tell_run};
 use ldm_commands::{World, run_ldm};
 use ldm_disk::MemDisk;
 use ldm_drive::Trial;
-use ldm_drive_outside::{copied, numbers, push, text_copied};
+use ldm_drive::{copied, numbers, push, text_copied};
 use ldm_drive_sessions::Case;
 use ldm_outside::{MemClock, MemDial, MemLauncher, MemNet, MemSink, MemSource, MemStore};
 use ldm_status::Streams;

@@ -1,8 +1,7 @@
 //! Files of the system, in a folder of their own.
 
 use ldm_adapters::RealStore;
-use ldm_drive::Trial;
-use ldm_drive_outside::{append, bytes_in, read, rewrite, tell_count, turns};
+use ldm_drive::{Trial, append, bytes_in, read, rewrite, tell_count, turns};
 use std::rt::HostRuntime;
 use std::{env, fs, io, process};
 

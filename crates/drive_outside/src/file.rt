@@ -3,8 +3,7 @@
 use crate::disk::next_path;
 use ldm_adapters::RealDisk;
 use ldm_disk::Disk;
-use ldm_drive::Trial;
-use ldm_drive_outside::{tell_bytes, tell_count, tell_got, tell_word};
+use ldm_drive::{Trial, tell_bytes, tell_count, tell_got, tell_word};
 use ldm_outside::{Failed, Got};
 use std::rt::HostRuntime;
 

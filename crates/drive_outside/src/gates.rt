@@ -1,8 +1,7 @@
 //! The clock and the gate of the system.
 
 use ldm_adapters::{RealClock, RealGate};
-use ldm_drive::Trial;
-use ldm_drive_outside::{ask, idle, tell_go, tell_word};
+use ldm_drive::{Trial, ask, idle, tell_go, tell_word};
 use ldm_outside::Rests;
 use std::rt::HostRuntime;
 

@@ -2,8 +2,15 @@
 #![tactic(auto)]
 
 mod disk;
+mod doors;
 mod file;
+mod files;
 mod gates;
+mod links;
+mod memory_gates;
+mod memory_streams;
+mod nets;
+mod programs;
 mod streams;
 mod system;
 mod tcp;

@@ -2,8 +2,7 @@
 ghost use Rattle.std.specs.Prelude.{◌≤◌, IfOk};
 
 use ldm_adapters::{RealSink, RealSource};
-use ldm_drive::Trial;
-use ldm_drive_outside::{push, reads, tell_bytes, tell_count, tell_word, writes};
+use ldm_drive::{Trial, push, reads, tell_bytes, tell_count, tell_word, writes};
 use ldm_outside::{Sink, write_all};
 use std::io::{self, ErrorKind, Read, Write};
 use std::slice;

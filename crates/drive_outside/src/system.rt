@@ -3,9 +3,8 @@ ghost use Rattle.std.specs.Prelude.{◌<◌, ◌≢◌, length};
 ghost use Rattle.ldm_outside.specs.Launcher.{IsTaking};
 
 use ldm_adapters::{RealGate, RealLauncher};
-use ldm_drive::Trial;
-use ldm_drive_outside::{
-    detach, idle, push, shut, start, start_beside, tell_count, tell_word, text_copied, write,
+use ldm_drive::{
+    Trial, detach, idle, push, shut, start, start_beside, tell_count, tell_word, text_copied, write,
 };
 use ldm_outside::{ChildNo, Failed, Launcher, Put};
 use std::rt::HostRuntime;

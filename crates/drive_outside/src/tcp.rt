@@ -4,9 +4,9 @@ ghost use Rattle.ldm_outside.specs.Link.{IsNotClosed};
 ghost use Rattle.ldm_adapters.specs.Told.{told_by_door, told_by_dial, told_by_link};
 
 use ldm_adapters::{RealClock, RealDial, RealDoor, RealLink, RealNet, RealStation, Timeouts};
-use ldm_drive::Trial;
-use ldm_drive_outside::{
-    ask, idle, listen, tell_bytes, tell_count, tell_go, tell_got, tell_number, tell_put, tell_word,
+use ldm_drive::{
+    Trial, ask, idle, listen, tell_bytes, tell_count, tell_go, tell_got, tell_number, tell_put,
+    tell_word,
 };
 use ldm_outside::{Came, Dial, Dialled, Door, Gate, Got, Link, Manned, Net, Put};
 use std::net::{Ipv4Addr, Shutdown, TcpListener, TcpStream};

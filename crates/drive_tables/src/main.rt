@@ -1,10 +1,13 @@
 //! The tables of the queue: a driver, whose cases are in `stdin`. The first word of a case names the table.
 #![tactic(auto)]
 
+mod answers;
 mod cursors;
 mod draws;
+mod files;
 mod gaps;
 mod regions;
+mod savings;
 mod signatures;
 mod times;
 

@@ -6,8 +6,7 @@ ghost use Rattle.ldm_adapters.specs.Front.{TakesSome};
 
 use crate::streams::write_some;
 use crate::telling::tell;
-use ldm_outside::{Failed, FileNo, FileRead, Put, Reasons, Store};
-use ldm_reason::Reason;
+use ldm_outside::{Failed, FileNo, FileRead, Put, Reason, Reasons, Store};
 use std::alloc::{AllocError, Global};
 use std::collections::BTreeMap;
 use std::fs::{self, File, Metadata, OpenOptions};

@@ -1,7 +1,7 @@
 //! What the system said of a call that failed, as a reason.
 
 use arrayvec::ArrayString;
-use ldm_reason::Reason;
+use ldm_outside::Reason;
 use std::fmt::Write;
 use std::io;
 

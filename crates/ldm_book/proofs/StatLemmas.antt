@@ -2,6 +2,7 @@
 use Rattle.std.proofs.Common.{◌≡◌, ℕ, List, length, ap, ◌∙◌}
 use Rattle.std.proofs.lemmas.List.{length-map}
 use Rattle.ldm_types.specs.Arena.{Region, gaps, longest}
+use Rattle.ldm_types.specs.Figures.{figures}
 use Rattle.ldm_model.specs.declared.event.Reply.TheVariants as reply
 use Rattle.ldm_model.specs.State.{State, queued, end_of, occupied}
 use Rattle.ldm_model.specs.Evict.{count_held}
@@ -15,7 +16,7 @@ use Rattle.ldm_book.proofs.UnheldLemmas.{occupied-stands}
 -- numbers that count what is kept count what the state has
 pub stat-stands : (book : BookView) (s : State) → StandsFor book s → (admitted count held used free : ℕ)
     → admitted ≡ book.admitted → count ≡ length book.rows → held ≡ count_held s → used ≡ extents (occupied_in (products book)) → free ≡ longest (gaps (occupied_in (products book)) book.arena)
-    → reply.Stat admitted count held used free ≡ stat_reply s
+    → reply.Stat (figures admitted count held used free) ≡ stat_reply s
 stat-stands book s stands admitted count held used free admitted-is count-is held-is used-is free-is =
     let regions : occupied_in (products book) ≡ occupied s = occupied-stands book s stands in
     let number : admitted ≡ end_of s = admitted-is ∙ stands.admitted in
@@ -23,4 +24,4 @@ stat-stands book s stands admitted count held used free admitted-is count-is hel
     let sum : used ≡ extents (occupied s) = used-is ∙ ap extents regions in
     let gap : free ≡ longest (gaps (occupied s) s.arena) =
     free-is ∙ ap (λ (rs : List Region). longest (gaps rs book.arena)) regions ∙ ap (λ (a : ℕ). longest (gaps (occupied s) a)) stands.arena in
-    λ i. reply.Stat (number i) (length_same i) (held-is i) (sum i) (gap i)
+    λ i. reply.Stat (figures (number i) (length_same i) (held-is i) (sum i) (gap i))

@@ -11,7 +11,7 @@ use Rattle.ldm_model.specs.State.{State, Row, Queued, queued}
 use Rattle.ldm_book.specs.View.{BookView}
 use Rattle.ldm_types.specs.Info.{Metadata}
 use Rattle.ldm_model.specs.declared.event.Reply.TheVariants as reply
-use Rattle.ldm_model.specs.declared.replies.Stat.{Stat}
+use Rattle.ldm_types.specs.declared.stat.Stat.{Stat}
 use Rattle.ldm_model.specs.Answers.{stat_answer}
 use Rattle.ldm_model.specs.Stat.{stat, stat_reply}
 use Rattle.ldm_book.specs.Answers.{Follows}
@@ -127,7 +127,7 @@ stat-is r s book follows = follows.reply
 
 pub count-is : (r : Stat) (s : State) → stat_answer r ≡ stat_reply s → r.queued ≡ length (queued s)
 count-is r s is =
-    let e : reply.Stat r.admitted r.queued r.held r.used r.largest_free ≡ stat_reply s = is in
+    let e : reply.Stat r ≡ stat_reply s = is in
     cc
 
 -- the text of a node, part by part

@@ -1,6 +1,6 @@
 -- The lines that `check` writes of faults.
 use Rattle.std.specs.Prelude.{ℕ, ◌++◌, ◌==◌, if◌then◌else◌, List, [], ◌∷◌, codes, decimal, length, map, take}
-use Rattle.ldm_reason.specs.Putting.{shown}
+use Rattle.ldm_outside.specs.Putting.{shown}
 use Rattle.ldm_check.specs.declared.lines.TheConstants.{LONGEST_SHOWN}
 
 -- what stands in the file, behind what is wrong: the front of the line, if it is not empty

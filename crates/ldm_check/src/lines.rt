@@ -1,6 +1,6 @@
 //! The lines that are written.
 ghost use Rattle.std.specs.Prelude.{◌≡◌, ◌++◌, OnOk, codes, decimal, map, take};
-ghost use Rattle.ldm_reason.specs.Putting.{shown};
+ghost use Rattle.ldm_outside.specs.Putting.{shown};
 ghost use Rattle.ldm_check.specs.declared.lines.TheConstants.{LONGEST_SHOWN};
 ghost use Rattle.ldm_check.specs.Lines.{fault_line, file_line, text_behind, unread_line};
 

@@ -4,9 +4,8 @@ ghost use Rattle.ldm_command_files.specs.PqactFiles.{CompletesEntries, TakesEntr
 ghost use Rattle.ldm_command_files.specs.Texts.{ReadsEntries};
 
 use crate::telling::{tell_long, tell_pqact};
-use ldm_outside::{FileRead, Store};
+use ldm_outside::{FileRead, Reason, Store};
 use ldm_pqact_conf::{Entries, PqactFault, PqactKind, read_pqact};
-use ldm_reason::Reason;
 use ldm_status::Status;
 use ldm_text::LONGEST_CONFIGURATION;
 use std::alloc::Global;

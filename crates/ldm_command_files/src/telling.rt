@@ -4,8 +4,8 @@ ghost use Rattle.ldm_command_files.specs.Words.{conf_words, pqact_words};
 
 use crate::included::IncludedFiles;
 use ldm_conf::{ConfFault, ConfKind};
+use ldm_outside::Reason;
 use ldm_pqact_conf::{PqactFault, PqactKind};
-use ldm_reason::Reason;
 use ldm_text::first_line;
 
 // The most bytes of a path in a reason, so that there is room for what is wrong and for a part of the line.

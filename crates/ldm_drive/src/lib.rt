@@ -5,8 +5,22 @@
 #![tactic(auto)]
 
 mod bytes;
+mod files;
 mod lines;
+mod links;
+mod programs;
+mod streams;
 mod trial;
+mod waits;
+mod words;
 
+pub use files::{append, read, rewrite, turns};
 pub use lines::drive;
+pub use links::{listen, tell_got, tell_put};
+pub use programs::{detach, shut, start, start_beside, write};
+pub use streams::{reads, wholes, writes};
 pub use trial::Trial;
+pub use waits::{ask, idle, tell_go};
+pub use words::{
+    bytes_in, copied, numbers, push, tell_bytes, tell_count, tell_number, tell_word, text_copied,
+};

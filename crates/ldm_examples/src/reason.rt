@@ -1,7 +1,6 @@
 //! The example of ldm_reason.
 
-use ldm_outside::Sink;
-use ldm_reason::Reason;
+use ldm_outside::{Reason, Sink};
 use ldm_status::Status;
 
 /// Reports that a file has a fault at a line.

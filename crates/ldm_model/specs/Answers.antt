@@ -8,7 +8,7 @@ use Rattle.ldm_model.specs.declared.replies.LookReply.{LookReply}
 use Rattle.ldm_model.specs.declared.replies.LookReply.TheVariants as look
 use Rattle.ldm_model.specs.declared.replies.ExpireReply.{ExpireReply}
 use Rattle.ldm_model.specs.declared.replies.ExpireReply.TheVariants as expire
-use Rattle.ldm_model.specs.declared.replies.Stat.{Stat}
+use Rattle.ldm_types.specs.declared.stat.Stat.{Stat}
 use Rattle.ldm_model.specs.declared.replies.OpenReply.{OpenReply}
 use Rattle.ldm_model.specs.declared.replies.OpenReply.TheVariants as opening
 use Rattle.ldm_model.specs.declared.replies.StepReply.{StepReply}
@@ -46,7 +46,7 @@ expire_answer (expire.Expired n) = reply.Expired n
 expire_answer expire.Nothing = reply.Nothing
 
 abbrev pub stat_answer : Stat → Reply
-stat_answer stat = reply.Stat stat.admitted stat.queued stat.held stat.used stat.largest_free
+stat_answer stat = reply.Stat stat
 
 abbrev pub open_answer : OpenReply → Reply
 open_answer (opening.Opened k) = reply.Opened k

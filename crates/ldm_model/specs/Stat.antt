@@ -15,7 +15,13 @@ extents (region ∷ regions) = region.extent + extents regions
 -- how many products were admitted and are queued, how many regions are held, the bytes that products and reservations take,
 -- and the extent of the longest gap
 abbrev pub stat_reply : State → Reply
-stat_reply s = reply.Stat (end_of s) (length (queued s)) (count_held s) (extents (occupied s)) (longest (gaps (occupied s) s.arena))
+stat_reply s = reply.Stat (record {
+  admitted = end_of s;
+  queued = length (queued s);
+  held = count_held s;
+  used = extents (occupied s);
+  largest_free = longest (gaps (occupied s) s.arena);
+})
 
 unfoldable pub stat : State → Outcome
 stat s = unchanged s (stat_reply s)

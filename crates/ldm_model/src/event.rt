@@ -2,7 +2,7 @@
 
 use crate::bytes::Bytes;
 use crate::numbers::ReserveNo;
-use ldm_types::{Actor, CursorNo, Feed, Info, Micros, Signature};
+use ldm_types::{Actor, CursorNo, Feed, Info, Micros, Signature, Stat};
 
 /// Where a cursor begins.
 #[derive(Clone, Copy, Debug)]
@@ -85,129 +85,69 @@ pub enum Event {
 #[derive(Drop)]
 pub enum Reply {
     /// The product is number `n` and got that insertion time; `evicted` products made room for it.
-    Admitted {
-        n: u64,
-        time: Micros,
-        evicted: u64,
-    },
+    Admitted { n: u64, time: Micros, evicted: u64 },
     /// The product's extent is larger than the arena. Both in bytes.
-    TooBig {
-        need: u64,
-        arena: u64,
-    },
+    TooBig { need: u64, arena: u64 },
     /// Queued product `n` has the signature.
-    Duplicate {
-        n: u64,
-    },
+    Duplicate { n: u64 },
     /// The last insertion time is the greatest instant.
     TimeEnd,
     /// Evicting every product that no cursor holds would not make room. `held` regions are held: those of the products
     /// that cursors hold, and the reserved ones.
-    Locked {
-        held: u64,
-    },
+    Locked { held: u64 },
     /// The cursor has place `k`.
-    Opened {
-        k: CursorNo,
-    },
+    Opened { k: CursorNo },
     /// All 64 cursor places are taken.
     AllBusy,
     /// No queued product has the signature that the cursor was to begin behind.
     NotQueued,
     /// The cursor is given product `n`, which was inserted at that time, and holds it.
-    Product {
-        n: u64,
-        time: Micros,
-        info: Info,
-    },
+    Product { n: u64, time: Micros, info: Info },
     /// `count` products of the cursor's feedtypes were evicted before they were given to it, and it was not told yet:
     /// the least of their numbers and the greatest.
-    Gap {
-        count: u64,
-        first: u64,
-        last: u64,
-    },
+    Gap { count: u64, first: u64, last: u64 },
     /// No product of the cursor's feedtypes is left. `at` is the number that the next admitted product will have.
-    End {
-        at: u64,
-    },
+    End { at: u64 },
     /// The place has no cursor of this actor.
     NoCursor,
     /// The cursor holds product `n`, so it is given no other one.
-    Holding {
-        n: u64,
-    },
+    Holding { n: u64 },
     /// The bytes that were read.
-    Bytes {
-        bytes: Bytes,
-    },
+    Bytes { bytes: Bytes },
     /// The cursor holds nothing.
     NotHeld,
     /// The offset lies behind the body, which has `size` bytes.
-    BadOffset {
-        size: u32,
-    },
+    BadOffset { size: u32 },
     /// The cursor let product `n` go.
-    Released {
-        n: u64,
-    },
+    Released { n: u64 },
     /// The cursor is closed.
     Closed,
     /// Queued product `n` has the signature, and was inserted at that time.
-    Queued {
-        n: u64,
-        time: Micros,
-    },
+    Queued { n: u64, time: Micros },
     /// No queued product has the signature.
     Absent,
     /// Product `n` was evicted.
-    Expired {
-        n: u64,
-    },
+    Expired { n: u64 },
     /// No product is queued that no cursor holds.
     Nothing,
     /// How many products the cursor was given, how many it lost, told or not, and how many queued ones are left for it.
-    Tally {
-        given: u64,
-        lost: u64,
-        left: u64,
-    },
-    /// How many products were admitted and are queued, and how many regions are held; the sum of the extents of the
-    /// queued products and the open reservations, and the extent of the longest gap, 0 where there is none. Both in
-    /// bytes.
-    Stat {
-        admitted: u64,
-        queued: u64,
-        held: u64,
-        used: u64,
-        largest_free: u64,
-    },
+    Tally { given: u64, lost: u64, left: u64 },
+    /// How full the queue is.
+    Stat(Stat),
     /// The reservation has place `r`; `evicted` products made room for it.
-    Reserved {
-        r: ReserveNo,
-        evicted: u64,
-    },
+    Reserved { r: ReserveNo, evicted: u64 },
     /// All 64 reservation places are taken.
     AllReserved,
     /// The place has no reservation of this actor.
     NoReservation,
     /// The bytes were filled in. So many of the body are left.
-    Filled {
-        left: u32,
-    },
+    Filled { left: u32 },
     /// More bytes were given than are left of the body. So many are left.
-    Overfill {
-        left: u32,
-    },
+    Overfill { left: u32 },
     /// The body is not whole. So many bytes are left.
-    Unfilled {
-        left: u32,
-    },
+    Unfilled { left: u32 },
     /// The product is number `n` and got that insertion time.
-    Committed {
-        n: u64,
-        time: Micros,
-    },
+    Committed { n: u64, time: Micros },
     /// The reservation is given up.
     Discarded,
 }

@@ -1,6 +1,7 @@
 //! A check of the definitions: worked examples that compute.
 ghost use Rattle.std.specs.Prelude.{◌≡◌, [], ◌∷◌, Some, None, ◌++◌};
 ghost use Rattle.ldm_types.specs.Arena.{gaps};
+ghost use Rattle.ldm_types.specs.Figures.{figures};
 ghost use Rattle.ldm_model.specs.State.{occupied};
 ghost use Rattle.ldm_model.specs.Room.{fit_in};
 ghost use Rattle.ldm_model.specs.Evict.{held, unheld, evict, evict_all};
@@ -50,10 +51,10 @@ pub fn worked_examples()
         (holding_second (state_after 168 10 (insert_of 100 1 4 ∷ insert_of 100 2 4 ∷ Expire ∷ []))) ≡ Nothing }
     ensures counts { answers 240 10
         (StatCall ∷ insert_of 100 1 68 ∷ insert_of 100 2 4 ∷ Expire ∷ insert_of 100 3 4 ∷ StatCall ∷ [])
-        ≡ Stat 0 0 0 0 240 ∷ Admitted 0 100 0 ∷ Admitted 1 101 0 ∷ Expired 0 ∷ Admitted 2 102 0 ∷ Stat 3 2 0 112 120
+        ≡ Stat (figures 0 0 0 0 240) ∷ Admitted 0 100 0 ∷ Admitted 1 101 0 ∷ Expired 0 ∷ Admitted 2 102 0 ∷ Stat (figures 3 2 0 112 120)
         ∷ [] }
     ensures counts_the_held { stat_reply
-        (holding_second (state_after 168 10 (insert_of 100 1 4 ∷ insert_of 100 2 4 ∷ []))) ≡ Stat 2 2 1 112 56 }
+        (holding_second (state_after 168 10 (insert_of 100 1 4 ∷ insert_of 100 2 4 ∷ []))) ≡ Stat (figures 2 2 1 112 56) }
 
     // Two gaps, of 64 and of 56 bytes: the shorter one that is long enough is taken, though the other comes first.
     ensures gaps_between { gaps

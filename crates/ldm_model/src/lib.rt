@@ -25,6 +25,7 @@ pub use laws::{
     histories_append, products_were_admitted, regions_lie_apart, reservations_are_filled,
     signatures_differ, times_rise,
 };
+pub use ldm_types::Stat;
 pub use numbers::ReserveNo;
 pub use possible::{
     actor_is_possible, bytes_are_possible, commit_is_possible, feed_is_possible, fill_is_possible,
@@ -34,6 +35,6 @@ pub use possible::{
 pub use premises::premises_are_met;
 pub use replies::{
     CloseReply, CommitReply, DiscardReply, ExpireReply, FillReply, InsertReply, LookReply,
-    OpenReply, ReadReply, ReleaseReply, ReserveReply, Stat, StepReply, TallyReply,
+    OpenReply, ReadReply, ReleaseReply, ReserveReply, StepReply, TallyReply,
 };
 pub use reserving::worked_examples_of_reservations;

@@ -1,6 +1,7 @@
 //! A check of the definitions of reservations: worked examples that compute.
 ghost use Rattle.std.specs.Prelude.{◌≡◌, [], ◌∷◌, ◌++◌, replicate, Some};
 ghost use Rattle.ldm_types.specs.Arena.{gaps};
+ghost use Rattle.ldm_types.specs.Figures.{figures};
 ghost use Rattle.ldm_model.specs.State.{occupied};
 ghost use Rattle.ldm_model.specs.Examples.{answers, answers_to, by, insert_of, open_from, sample_info};
 ghost use Rattle.ldm_model.specs.Examples.{reserve_of, fill_of, state_after, reserved_first, region};
@@ -30,7 +31,7 @@ pub fn worked_examples_of_reservations()
     ensures duplicate_at_commit { answers 168 10
         (reserve_of 1 4 ∷ insert_of 100 1 4 ∷ Commit 0 200 ∷ StatCall ∷ fill_of 0 (replicate 4 65) ∷ Commit 0 200
         ∷ StatCall ∷ Commit 0 200 ∷ [])
-        ≡ Reserved 0 0 ∷ Admitted 0 100 0 ∷ Unfilled 4 ∷ Stat 1 1 1 112 56 ∷ Filled 0 ∷ Duplicate 0 ∷ Stat 1 1 0 56 56
+        ≡ Reserved 0 0 ∷ Admitted 0 100 0 ∷ Unfilled 4 ∷ Stat (figures 1 1 1 112 56) ∷ Filled 0 ∷ Duplicate 0 ∷ Stat (figures 1 1 0 56 56)
         ∷ NoReservation ∷ [] }
     ensures duplicate_before_time_end { answers 168 10
         (reserve_of 1 0 ∷ insert_of GREATEST_INSTANT 1 4 ∷ Commit 0 200 ∷ [])
@@ -64,5 +65,5 @@ pub fn worked_examples_of_reservations()
     ensures locked_before_times { answers 56 10 (reserve_of 1 4 ∷ reserve_of 2 4 ∷ []) ≡ Reserved 0 0 ∷ Locked 1 ∷ [] }
     ensures evicts { answers 168 10
         (insert_of 100 1 4 ∷ insert_of 100 2 4 ∷ insert_of 100 3 4 ∷ reserve_of 4 12 ∷ StatCall ∷ [])
-        ≡ Admitted 0 100 0 ∷ Admitted 1 101 0 ∷ Admitted 2 102 0 ∷ Reserved 0 2 ∷ Stat 3 1 1 120 48 ∷ [] }
+        ≡ Admitted 0 100 0 ∷ Admitted 1 101 0 ∷ Admitted 2 102 0 ∷ Reserved 0 2 ∷ Stat (figures 3 1 1 120 48) ∷ [] }
 {}

@@ -6,8 +6,7 @@ ghost use Rattle.ldm_node_command.specs.Steps.{before};
 
 use ldm_command_files::{ConfNotTaken, take_conf_because};
 use ldm_conf::Conf;
-use ldm_outside::Store;
-use ldm_reason::Reason;
+use ldm_outside::{Reason, Store};
 use std::alloc::Global;
 use std::marker::Model;
 

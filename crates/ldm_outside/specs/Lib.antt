@@ -25,3 +25,4 @@ pub mod Launcher
 pub mod MemStore
 pub mod MemLauncher
 pub mod Reason
+pub mod Putting

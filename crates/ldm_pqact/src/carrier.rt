@@ -1,8 +1,8 @@
 //! What carries out what the entries of a pqact.conf choose.
 
 use crate::writer::Writer;
+use ldm_outside::Reason;
 use ldm_pqact_conf::Entries;
-use ldm_reason::Reason;
 use std::alloc::Global;
 
 // The entries of a pqact.conf, and all that their actions are carried out with.

@@ -9,8 +9,7 @@ use ldm_actions::Done;
 use ldm_command_files::{EntriesNotTaken, status_of_entries};
 use ldm_gather::{GatherEnd, status_of_queue, status_of_receiving};
 use ldm_intake::RecvEnd;
-use ldm_outside::Sink;
-use ldm_reason::Reason;
+use ldm_outside::{Reason, Sink};
 use ldm_shared::CreateFault;
 use ldm_status::{LOG_FAULT, Status};
 

@@ -34,11 +34,12 @@ pub use laws::{
     a_refusal_is_no_result, credentials_are_passed_over, long_records_carry,
     what_is_read_is_written, what_is_written_is_read,
 };
+pub use ldm_types::Stat;
 pub use message::{
     Blkdata, ClassAnswer, Comingsoon, ComingsoonReply, Feedme, FeedmeReply, Hereis, Hiya,
     HiyaReply, Isalive, LARGEST_BLOCK, LARGEST_CONTENT, LARGEST_RECORD, LARGEST_REPLY, Message,
     Notification, Notifyme, NotifymeReply, Put, PutAnswer, PutReply, Qstat, QstatReply, Refusal,
-    Refused, SoonAnswer, Stat,
+    Refused, SoonAnswer,
 };
 pub use procedure::{PROGRAM, Procedure, VERSION};
 pub use put::read_put;

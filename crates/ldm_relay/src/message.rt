@@ -1,6 +1,6 @@
 //! The messages.
 
-use ldm_types::{ClassSpec, Info, Signature};
+use ldm_types::{ClassSpec, Info, Signature, Stat};
 
 /// The most bytes of a block.
 pub const LARGEST_BLOCK: usize = 16_384;
@@ -153,21 +153,6 @@ pub struct QstatReply {
     pub xid: u32,
     /// `None` where the caller may not know.
     pub stat: Option<Stat>,
-}
-
-/// The figures of a queue.
-#[derive(Clone, Copy, Debug, PartialEq, Eq)]
-pub struct Stat {
-    /// How many products were admitted since the queue was made.
-    pub admitted: u64,
-    /// How many are queued.
-    pub queued: u64,
-    /// How many regions are held: those of products that cursors hold, and the reserved ones.
-    pub held: u64,
-    /// The bytes in use.
-    pub used: u64,
-    /// The bytes of the longest gap.
-    pub largest_free: u64,
 }
 
 /// A product to be inserted into the queue of the other side.

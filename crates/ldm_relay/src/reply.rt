@@ -14,9 +14,10 @@ use crate::fault::RelayFault;
 use crate::header::{SUCCESS, read_reply_header};
 use crate::message::{
     ComingsoonReply, FeedmeReply, HiyaReply, Message, NotifymeReply, PutAnswer, PutReply,
-    QstatReply, SoonAnswer, Stat,
+    QstatReply, SoonAnswer,
 };
 use crate::procedure::Answered;
+use ldm_types::Stat;
 use ldm_xdr::Fields;
 
 /// The reply that is the whole content of a record, to a call of that procedure. It takes no memory.

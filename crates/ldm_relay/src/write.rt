@@ -17,10 +17,10 @@ ghost use Rattle.ldm_relay.specs.declared.message.TheConstants.{LARGEST_BLOCK};
 
 use crate::body::CallWithBody;
 use crate::header::{ACCEPTED, CALL, NO_AUTHENTICATION, REPLY, RPC_VERSION, SUCCESS};
-use crate::message::{ClassAnswer, Message, PutAnswer, Refusal, SoonAnswer, Stat};
+use crate::message::{ClassAnswer, Message, PutAnswer, Refusal, SoonAnswer};
 use crate::procedure::{PROGRAM, Procedure, VERSION};
 use byteorder::{BigEndian, ByteOrder};
-use ldm_types::{ClassSpec, Info, Micros, Signature, Spec};
+use ldm_types::{ClassSpec, Info, Micros, Signature, Spec, Stat};
 use ldm_xdr::{LONGEST_METADATA, info_len, write_info};
 
 // Each of these appends what there is room for.

@@ -13,9 +13,9 @@ use crate::texts::{put, spell};
 use arrayvec::ArrayVec;
 use ldm_model::{
     CloseReply, CommitReply, DiscardReply, ExpireReply, FillReply, InsertReply, LookReply,
-    OpenReply, ReadReply, ReleaseReply, ReserveNo, ReserveReply, Stat, StepReply, TallyReply,
+    OpenReply, ReadReply, ReleaseReply, ReserveNo, ReserveReply, StepReply, TallyReply,
 };
-use ldm_types::{CursorNo, Info, Micros};
+use ldm_types::{CursorNo, Info, Micros, Stat};
 
 /// The most bytes of an answer, without its newline.
 pub const LONGEST_ANSWER: usize = 16_384;
@@ -27,125 +27,67 @@ pub type Text = ArrayVec<u8, LONGEST_ANSWER>;
 #[derive(Drop)]
 pub enum Answer<'a> {
     /// `admitted N TIME EVICTED`
-    Admitted {
-        n: u64,
-        time: Micros,
-        evicted: u64,
-    },
+    Admitted { n: u64, time: Micros, evicted: u64 },
     /// `toobig NEED ARENA`, both in bytes
-    TooBig {
-        need: u64,
-        arena: u64,
-    },
+    TooBig { need: u64, arena: u64 },
     /// `duplicate N`
-    Duplicate {
-        n: u64,
-    },
+    Duplicate { n: u64 },
     /// `timeend`
     TimeEnd,
     /// `locked HELD`
-    Locked {
-        held: u64,
-    },
+    Locked { held: u64 },
     /// `opened K`
-    Opened {
-        k: CursorNo,
-    },
+    Opened { k: CursorNo },
     /// `allbusy`
     AllBusy,
     /// `notqueued`
     NotQueued,
     /// `product N TIME ARRIVAL SIG FEED SEQNO ORIGIN IDENT SIZE`
-    Product {
-        n: u64,
-        time: Micros,
-        info: Info,
-    },
+    Product { n: u64, time: Micros, info: Info },
     /// `gap COUNT FIRST LAST`
-    Gap {
-        count: u64,
-        first: u64,
-        last: u64,
-    },
+    Gap { count: u64, first: u64, last: u64 },
     /// `end AT`
-    End {
-        at: u64,
-    },
+    End { at: u64 },
     /// `nocursor`
     NoCursor,
     /// `holding N`
-    Holding {
-        n: u64,
-    },
+    Holding { n: u64 },
     /// `bytes BODY`: digits, or `-` for none
-    Bytes {
-        bytes: &'a [u8],
-    },
+    Bytes { bytes: &'a [u8] },
     /// `notheld`
     NotHeld,
     /// `badoffset SIZE`
-    BadOffset {
-        size: u32,
-    },
+    BadOffset { size: u32 },
     /// `released N`
-    Released {
-        n: u64,
-    },
+    Released { n: u64 },
     /// `closed`
     Closed,
     /// `queued N TIME`
-    Queued {
-        n: u64,
-        time: Micros,
-    },
+    Queued { n: u64, time: Micros },
     /// `absent`
     Absent,
     /// `expired N`
-    Expired {
-        n: u64,
-    },
+    Expired { n: u64 },
     /// `nothing`
     Nothing,
     /// `tally GIVEN LOST LEFT`
-    Tally {
-        given: u64,
-        lost: u64,
-        left: u64,
-    },
+    Tally { given: u64, lost: u64, left: u64 },
     /// `stat ADMITTED QUEUED HELD USED LARGEST`, the last two in bytes
-    Stat {
-        admitted: u64,
-        queued: u64,
-        held: u64,
-        used: u64,
-        largest_free: u64,
-    },
+    Stat(Stat),
     /// `reserved R EVICTED`
-    Reserved {
-        r: ReserveNo,
-        evicted: u64,
-    },
+    Reserved { r: ReserveNo, evicted: u64 },
     /// `allreserved`
     AllReserved,
     /// `noreservation`
     NoReservation,
     /// `filled LEFT`, in bytes
-    Filled {
-        left: u32,
-    },
+    Filled { left: u32 },
     /// `overfill LEFT`, in bytes
-    Overfill {
-        left: u32,
-    },
+    Overfill { left: u32 },
     /// `unfilled LEFT`, in bytes
-    Unfilled {
-        left: u32,
-    },
+    Unfilled { left: u32 },
     /// `committed N TIME`
-    Committed {
-        n: u64,
-        time: Micros,
-    },
+    Committed { n: u64, time: Micros },
     /// `discarded`
     Discarded,
 }
@@ -286,13 +228,7 @@ impl<'a> From<Stat> for Answer<'a> {
     ghost from_gives = { λ reply made. reply_of made ≡ stat_answer reply };
 
     fn from(stat: Stat) -> Answer<'a> {
-        Answer::Stat {
-            admitted: stat.admitted,
-            queued: stat.queued,
-            held: stat.held,
-            used: stat.used,
-            largest_free: stat.largest_free,
-        }
+        Answer::Stat(stat)
     }
 }
 
@@ -418,13 +354,7 @@ pub fn write_reply(answer: &Answer, out: &mut Text)
         Answer::Expired { n } => put_one(out, b"expired", *n),
         Answer::Nothing => put_word(out, b"nothing"),
         Answer::Tally { given, lost, left } => put_three(out, b"tally", *given, *lost, *left),
-        Answer::Stat {
-            admitted,
-            queued,
-            held,
-            used,
-            largest_free,
-        } => put_stat(out, *admitted, *queued, *held, *used, *largest_free),
+        Answer::Stat(stat) => put_stat(out, *stat),
         Answer::Reserved { r, evicted } => put_two(out, b"reserved", u64::from(r.get()), *evicted),
         Answer::AllReserved => put_word(out, b"allreserved"),
         Answer::NoReservation => put_word(out, b"noreservation"),
@@ -513,17 +443,17 @@ fn put_three(out: &mut Text, word: &[u8], a: u64, b: u64, c: u64)
 }
 
 #[tactic(auto, unfolding(crate::specs::Answer::reply_text))]
-fn put_stat(out: &mut Text, admitted: u64, queued: u64, held: u64, used: u64, largest_free: u64)
+fn put_stat(out: &mut Text, stat: Stat)
     requires { out.old.items ≡ [] }
-    ensures text { out.new.items ≡ reply_text (reply.Stat admitted queued held used largest_free) }
+    ensures text { out.new.items ≡ reply_text (reply.Stat stat) }
     ensures room { array_vec_len out.new < LONGEST_ANSWER }
 {
     put(out, b"stat");
-    put_blank_number(out, admitted);
-    put_blank_number(out, queued);
-    put_blank_number(out, held);
-    put_blank_number(out, used);
-    put_blank_number(out, largest_free);
+    put_blank_number(out, stat.admitted);
+    put_blank_number(out, stat.queued);
+    put_blank_number(out, stat.held);
+    put_blank_number(out, stat.used);
+    put_blank_number(out, stat.largest_free);
 }
 
 #[tactic(auto, unfolding(crate::specs::Answer::reply_text))]

@@ -82,7 +82,7 @@ module _ (client : Client) where
   put-goes xid _ = tt
 
   stat-goes : (xid : ℕ) (answer : Reply) → MayAsk client → AllMayGo client (stat_replies xid answer)
-  stat-goes xid (reply.Stat admitted queued held used largest_free) may = (may, tt)
+  stat-goes xid (reply.Stat stat) may = (may, tt)
   stat-goes xid _ may = tt
 
   -- what is owed at once

@@ -22,8 +22,7 @@ put_replies xid _ = []
 
 -- the figures that the queue answers; it has no other answer
 abbrev pub stat_replies : ℕ → Reply → List Sent
-stat_replies xid (reply.Stat admitted queued held used largest_free) = sent.QstatReply xid
-    (Some (record { admitted = admitted; queued = queued; held = held; used = used; largest_free = largest_free })) ∷ []
+stat_replies xid (reply.Stat stat) = sent.QstatReply xid (Some stat) ∷ []
 stat_replies xid _ = []
 
 -- The course of a response, where the clock says that it is now: what is asked of the queue, and the messages that are owed.

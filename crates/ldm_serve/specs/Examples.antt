@@ -1,5 +1,6 @@
 -- Worked examples, worked out by hand from the rules: what a server responds, and what is asked of its queue.
 use Rattle.std.specs.Prelude.{◌≡◌, ℕ, List, [], ◌∷◌, length, codes, replicate, Some, None, Err}
+use Rattle.ldm_types.specs.Figures.{figures}
 use Rattle.ldm_types.specs.Info.{Metadata}
 use Rattle.ldm_types.specs.declared.class.ClassSpec.{ClassSpec}
 use Rattle.ldm_types.specs.declared.class.Spec.{Spec}
@@ -61,8 +62,8 @@ NoRules =
 abbrev pub Known : Type 0
 Known =
     (to_call (with_allow no_rules open_rule) (codes "h") (sent.Qstat 7) ≡ Figures 7)
-    × Leads 0 (answering (Figures 7) 500) (entry_by 0 Stat (reply.Stat 5 4 3 2 1) ∷ [])
-    (sent.QstatReply 7 (Some (record { admitted = 5; queued = 4; held = 3; used = 2; largest_free = 1 })) ∷ [])
+    × Leads 0 (answering (Figures 7) 500) (entry_by 0 Stat (reply.Stat (figures 5 4 3 2 1)) ∷ [])
+    (sent.QstatReply 7 (Some (figures 5 4 3 2 1)) ∷ [])
 
 -- a product is inserted at the clock's time, and what the queue answers is told
 abbrev pub Inserted : Type 0

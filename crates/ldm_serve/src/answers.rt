@@ -1,13 +1,14 @@
 //! Answers of the queue, as the peer is told them.
 ghost use Rattle.std.specs.Prelude.{◌≡◌, ℕ, ◌++◌, ◌∷◌, [], Some};
-ghost use Rattle.ldm_model.specs.Answers.{insert_answer, stat_answer};
+ghost use Rattle.ldm_model.specs.Answers.{insert_answer};
 ghost use Rattle.ldm_relay.specs.Sent as sent;
 ghost use Rattle.ldm_intake.specs.Room.{records_of};
 ghost use Rattle.ldm_serve.specs.Answering.{put_replies, stat_replies};
 ghost use Rattle.ldm_serve.specs.Responds.{HasAnswerRoom};
 
 use ldm_model::InsertReply;
-use ldm_relay::{Message, PutAnswer, QstatReply, Stat, write_message, write_put_reply};
+use ldm_relay::{Message, PutAnswer, QstatReply, write_message, write_put_reply};
+use ldm_types::Stat;
 
 // Appends the answer to the PUT of that number.
 pub(crate) fn put_answer(out: &mut Vec<u8>, xid: u32, answer: PutAnswer)
@@ -44,18 +45,5 @@ pub(crate) fn answer_of(reply: InsertReply) -> PutAnswer
         InsertReply::Duplicate { n } => PutAnswer::Duplicate { n },
         InsertReply::TimeEnd => PutAnswer::TimeEnd,
         InsertReply::Locked { held } => PutAnswer::Locked { held },
-    }
-}
-
-// What the peer is told of the queue's figures.
-pub(crate) fn figures_of(stat: ldm_model::Stat) -> Stat
-    ensures { (xid : ℕ) → stat_replies xid (stat_answer stat) ≡ sent.QstatReply xid (Some result) ∷ [] }
-{
-    Stat {
-        admitted: stat.admitted,
-        queued: stat.queued,
-        held: stat.held,
-        used: stat.used,
-        largest_free: stat.largest_free,
     }
 }

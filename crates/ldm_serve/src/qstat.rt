@@ -7,7 +7,7 @@ ghost use Rattle.ldm_serve.specs.Respond.{to_qstat};
 ghost use Rattle.ldm_serve.specs.Response.{Figures};
 ghost use Rattle.ldm_serve.specs.Responds.{HasAnswerRoom, Responds, stands};
 
-use crate::answers::{figures_of, put_stat};
+use crate::answers::put_stat;
 use crate::client::Client;
 use crate::responded::{RespondFault, Responded};
 use crate::saying::answer_room;
@@ -53,7 +53,7 @@ fn figures<H: Wait>(
 {
     match shared.stat(rt, pass) {
         Turn::Done(stat) => {
-            put_stat(out, xid, Some(figures_of(stat)));
+            put_stat(out, xid, Some(stat));
             Ok(Responded::GoesOn)
         }
         Turn::Worn { .. } => Err(RespondFault::Worn),

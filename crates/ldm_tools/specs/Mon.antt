@@ -4,7 +4,7 @@ use Rattle.ldm_model.specs.declared.event.Reply.TheVariants as reply
 use Rattle.ldm_outside.specs.Count.{Rose}
 use Rattle.ldm_outside.specs.Dial.{Asked, DialRecord}
 use Rattle.ldm_outside.specs.Io.{SinkRecord, Takes, WritesFront}
-use Rattle.ldm_relay.specs.declared.message.Stat.{Stat}
+use Rattle.ldm_types.specs.declared.stat.Stat.{Stat}
 use Rattle.ldm_relay.specs.Sent as sent
 use Rattle.ldm_relay.specs.Spelling.{record_of, written}
 use Rattle.ldm_script.specs.Answer.{answer_line}
@@ -41,7 +41,7 @@ stat_call = record_of (written (sent.Qstat 1))
 
 -- `stat ADMITTED QUEUED HELD USED LARGEST` and a newline
 abbrev pub stat_line : Stat → List ℕ
-stat_line stat = answer_line (reply.Stat stat.admitted stat.queued stat.held stat.used stat.largest_free)
+stat_line stat = answer_line (reply.Stat stat)
 
 -- the figures came, and their line was written
 pub record WritesStat (asked : Result (Option Stat) NoReply) (old new : SinkRecord) : Type 0 where

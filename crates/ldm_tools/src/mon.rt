@@ -12,9 +12,9 @@ use crate::reader::LinkReader;
 use crate::replies::hear_stat;
 use crate::statuses::status_of_mon;
 use ldm_outside::{Dial, Dialled, Link, Reasons, Sink, SinkFailed, send_all, write_all};
-use ldm_relay::{Message, Qstat, Stat, write_message};
+use ldm_relay::{Message, Qstat, write_message};
 use ldm_script::{Answer, Text, write_answer};
-use ldm_types::OutOfMemory;
+use ldm_types::{OutOfMemory, Stat};
 use std::alloc::Global;
 
 /// Why the figures of a node were not written, all of them.
@@ -157,14 +157,7 @@ fn write_stat<K: Sink>(stat: Stat, sink: &mut K) -> Result<(), MonFault>
     ensures sink_kept { (K.tells sink.old).faults ≤ (K.tells sink.new).faults }
 {
     let mut line = Text::new();
-    let answer = Answer::Stat {
-        admitted: stat.admitted,
-        queued: stat.queued,
-        held: stat.held,
-        used: stat.used,
-        largest_free: stat.largest_free,
-    };
-    write_answer(&answer, &mut line);
+    write_answer(&Answer::Stat(stat), &mut line);
     match write_all(sink, line.as_slice()) {
         Ok(()) => Ok(()),
         Err(SinkFailed) => Err(MonFault::SinkFault),

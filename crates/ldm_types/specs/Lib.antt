@@ -3,3 +3,4 @@ pub mod Feed
 pub mod Info
 pub mod InfoView
 pub mod Cursors
+pub mod Figures

@@ -12,6 +12,7 @@ mod memory;
 mod micros;
 mod numbers;
 mod signature;
+mod stat;
 mod texts;
 
 pub use class::{ClassSpec, Spec};
@@ -25,3 +26,4 @@ pub use memory::OutOfMemory;
 pub use micros::Micros;
 pub use numbers::{Actor, CursorNo};
 pub use signature::Signature;
+pub use stat::Stat;

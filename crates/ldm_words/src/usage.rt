@@ -6,7 +6,7 @@ use crate::values::{is_name, read_class, read_peer};
 use arrayvec::ArrayVec;
 use ldm_conf::read_port;
 use ldm_feedtype::read_feed;
-use ldm_reason::Reason;
+use ldm_outside::Reason;
 use ldm_script::read_number;
 use std::alloc::Global;
 

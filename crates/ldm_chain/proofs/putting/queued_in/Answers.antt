@@ -8,5 +8,5 @@ unfolding stat
 returns-clause-count c = λ s stands.
     let r = c.stat.result in
     let follows = c.stat.ensures.answers s stands in
-    let e : reply.Stat r.admitted r.queued r.held r.used r.largest_free ≡ stat_reply s = follows.reply in
+    let e : reply.Stat r ≡ stat_reply s = follows.reply in
     cc

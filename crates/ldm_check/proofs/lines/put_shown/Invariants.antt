@@ -1,5 +1,5 @@
 use Rattle.std.proofs.Common.{◌≡◌, ◌++◌, map, take}
-use Rattle.ldm_reason.specs.Putting.{shown}
+use Rattle.ldm_outside.specs.Putting.{shown}
 use Rattle.ldm_check.proofs.lines.put_shown.Given as goal
 
 abbrev pub invariant-loop-byte : goal.invariant-loop-byte

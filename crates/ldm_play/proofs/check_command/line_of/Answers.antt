@@ -10,7 +10,7 @@ unfolding stat
 returns c = λ s stands.
     let r = c.stat-stat.result in
     let follows = c.stat-stat.ensures.answers s stands in
-    let e : reply.Stat r.admitted r.queued r.held r.used r.largest_free ≡ stat_reply s = follows.reply in
+    let e : reply.Stat r ≡ stat_reply s = follows.reply in
     let admitted : r.admitted ≡ end_of s = cc in
     let kept : r.queued ≡ length (queued s) = cc in
     let used : r.used ≡ extents (occupied s) = cc in

@@ -7,6 +7,6 @@ use Rattle.ldm_serve.proofs.qstat.figures.Goals as goal
 pub returns-in-Done : goal.returns-in-Done
 returns-in-Done g c = λ clock. (
   refl,
-  figures_given c.args.pass.now c.stat.new.pass clock c.args.xid (stat_answer c.in-Done.stat) (sent.QstatReply c.args.xid (Some c.figures_of.result) ∷ [])
-      c.args.out.now.items c.put_stat.new.out.items c.in-Done.ensures.done (c.figures_of.ensures c.args.xid) c.put_stat.ensures,
+  figures_given c.args.pass.now c.stat.new.pass clock c.args.xid (stat_answer c.in-Done.stat) (sent.QstatReply c.args.xid (Some c.in-Done.stat) ∷ [])
+      c.args.out.now.items c.put_stat.new.out.items c.in-Done.ensures.done refl c.put_stat.ensures,
 )

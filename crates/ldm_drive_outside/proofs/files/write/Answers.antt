@@ -1,5 +1,0 @@
-use Rattle.ldm_drive_outside.proofs.Kept.{open_after_write}
-use Rattle.ldm_drive_outside.proofs.files.write.Goals as goal
-
-pub returns : goal.returns
-returns g c = open_after_write c.write.result c.args.file c.args.piece.now (g.F.Store.tells c.args.store.now) (g.F.Store.tells c.write.new.self) c.write.ensures.written c.requires
