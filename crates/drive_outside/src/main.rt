@@ -1,4 +1,5 @@
-//! Cases of the forms of the system: streams, files, programs, the clock, the gate and links over TCP.
+//! Cases of the outside. The forms of the system: streams, files, programs, the clock, the gate and links over TCP; and,
+//! behind the word `memory`, those in memory.
 #![tactic(auto)]
 
 mod disk;
@@ -37,6 +38,36 @@ fn answer(rt: HostRuntime, trial: &mut Trial) {
         "tcp" => tcp::tcp(rt, trial),
         "time" => gates::time(rt, trial),
         "rest" => gates::rest(rt, trial),
+        "memory" => in_memory(trial),
+        _ => trial.refuse("no such word"),
+    }
+}
+
+// What the form in memory that a case names answers.
+fn in_memory(trial: &mut Trial) {
+    match trial.word() {
+        "source" => memory_streams::source(trial),
+        "sure_source" => memory_streams::sure_source(trial),
+        "sink" => memory_streams::sink(trial),
+        "write_all" => memory_streams::write_wholes(trial),
+        "sure_sink" => memory_streams::sure_sink(trial),
+        "recv" => links::recv(trial),
+        "send" => links::send(trial),
+        "close" => links::close(trial),
+        "rewrite" => files::rewrite_file(trial),
+        "read" => files::read_files(trial),
+        "append" => files::append_piece(trial),
+        "turns" => files::turn_file(trial),
+        "run" => programs::run(trial),
+        "unpiped" => programs::unpiped(trial),
+        "detached" => programs::detached(trial),
+        "clock" => memory_gates::clock(trial),
+        "gate" => memory_gates::gate(trial),
+        "open_gate" => memory_gates::open_gate(trial),
+        "door" => doors::door(trial),
+        "dial" => doors::dial(trial),
+        "net" => nets::net(trial),
+        "net_dial" => nets::net_dial(trial),
         _ => trial.refuse("no such word"),
     }
 }

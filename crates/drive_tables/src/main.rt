@@ -1,4 +1,5 @@
-//! The tables of the queue: a driver, whose cases are in `stdin`. The first word of a case names the table.
+//! The tables of the queue, and images of queues: a driver, whose cases are in `stdin`. The first word of a case names
+//! the table.
 #![tactic(auto)]
 
 mod answers;
@@ -12,8 +13,12 @@ mod signatures;
 mod times;
 
 use crate::cursors::Seats;
+use crate::files::{
+    bytes_of_case, changed_at, cut_at_each, each_byte, each_gate, open_case, with_surplus,
+};
 use crate::gaps::Gaps;
 use crate::regions::Owners;
+use crate::savings::{each_fault, each_stop};
 use crate::signatures::Signatures;
 use crate::times::Times;
 use ldm_drive::{Trial, drive};
@@ -48,8 +53,25 @@ impl Tables {
             "signatures" => self.signatures.answer(trial),
             "times" => self.times.answer(trial),
             "cursors" => self.cursors.answer(trial),
+            "image" => image(trial),
             _ => trial.refuse("no such table"),
         }
+    }
+}
+
+// What is answered of the file of a queue that a case names.
+fn image(trial: &mut Trial) {
+    match trial.word() {
+        "open" => open_case(trial),
+        "bytes" => bytes_of_case(trial),
+        "cuts" => cut_at_each(trial),
+        "gates" => each_gate(trial),
+        "changes" => each_byte(trial),
+        "surplus" => with_surplus(trial),
+        "at" => changed_at(trial),
+        "stops" => each_stop(trial),
+        "faults" => each_fault(trial),
+        _ => trial.refuse("no such word"),
     }
 }
 

@@ -10,7 +10,7 @@ use Rattle.ldm_model.specs.State.{State, empty}
 use Rattle.ldm_model.specs.History.{after, IsLegal, IsLegalFrom}
 use Rattle.ldm_model.proofs.Appended.{IsLegalFrom-append}
 use Rattle.ldm_shared.specs.Passes.{Makes, PassView}
-use Rattle.ldm_reader.specs.Staying.{HasRow}
+use Rattle.ldm_shared.specs.Staying.{HasRow}
 use Rattle.ldm_outside.specs.Session.{SessionRecord}
 use Rattle.ldm_sender.specs.declared.end.SendEnd.{SendEnd}
 use Rattle.ldm_sender.specs.Acts.{is_whole}

@@ -12,7 +12,7 @@ use Rattle.ldm_model.specs.Product.{Product}
 use Rattle.ldm_model.specs.State.{State, Row, place_of_row}
 use Rattle.ldm_model.specs.History.{after, IsLegal}
 use Rattle.ldm_model.specs.Law.{opening, state_before}
-use Rattle.ldm_reader.specs.Staying.{HasRow}
+use Rattle.ldm_shared.specs.Staying.{HasRow}
 use Rattle.ldm_class.specs.Classes.{resumed}
 use Rattle.ldm_intake.specs.Asking.{asked_class}
 use Rattle.ldm_upstream.specs.Turn.{Given}

@@ -5,7 +5,7 @@ use Rattle.std.proofs.lemmas.Bool.{false≢true}
 use Rattle.std.proofs.lemmas.List.{map-append, take-append-drop}
 use Rattle.std.proofs.lemmas.List.Elements.{All-head, All-tail, filter-append}
 use mathlib.Core.List.{IsPrefix}
-use Rattle.ldm_reader.specs.Staying.{HasRow}
+use Rattle.ldm_shared.specs.Staying.{HasRow}
 use Rattle.ldm_model.specs.Law.{given}
 use Rattle.ldm_sender.specs.declared.standing.Standing.{Standing}
 use Rattle.ldm_sender.specs.Asked.{Asked}

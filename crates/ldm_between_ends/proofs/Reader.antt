@@ -11,7 +11,7 @@ use Rattle.ldm_model.specs.History.{after, IsLegal}
 use Rattle.ldm_model.specs.Law.{Point, IsPointOf, ObeysLaw, at_entries, history_of, state_before, state_at, feed_of_row, is_present, due, given}
 use Rattle.ldm_model.proofs.Ascending.{IsAmong, Contains-from_among}
 use Rattle.ldm_model.proofs.TiedPoints.{IsLegalAt-point}
-use Rattle.ldm_reader.specs.Staying.{HasRow}
+use Rattle.ldm_shared.specs.Staying.{HasRow}
 use Rattle.ldm_between_ends.proofs.Giving.{Gives, given-still, earlier-point}
 use Rattle.ldm_between_ends.proofs.Position.{behind_signature, opened-position, due-above, above-due, given-before}
 

@@ -9,7 +9,7 @@ use Rattle.ldm_model.specs.Product.{Product, extent_of}
 use Rattle.ldm_model.specs.State.{Row, empty}
 use Rattle.ldm_model.specs.History.{after, after_entries, IsAdmitted, IsAnswered, IsLegal, IsLegalFrom}
 use Rattle.ldm_model.proofs.Appended.{IsLegalFrom-append}
-use Rattle.ldm_reader.specs.Staying.{HasRow}
+use Rattle.ldm_shared.specs.Staying.{HasRow}
 use Rattle.ldm_shared.specs.Passes.{PassView, HasSeen}
 use Rattle.ldm_upstream.specs.Course.{AreRows}
 use Rattle.ldm_upstream.specs.Turn.{Given}

@@ -10,7 +10,7 @@ use Rattle.ldm_model.specs.Step.{after_give}
 use Rattle.ldm_model.specs.History.{after_entries, IsLegalFrom}
 use Rattle.ldm_model.proofs.Appended.{after_entries-append, IsLegalFrom-append}
 use Rattle.ldm_model.proofs.Coming.{IsRowOf, IsRowOf-found}
-use Rattle.ldm_reader.specs.Staying.{HasRow}
+use Rattle.ldm_shared.specs.Staying.{HasRow}
 use Rattle.ldm_upstream.specs.Blocks.{blocks, reads}
 use Rattle.ldm_upstream.specs.Turn.{Given, Handling, Passed, Whole, Declined, InBlocks, Turn, Lost, Gave, Quiet, Alive, let_go, handling_entries, turn_entries}
 use Rattle.ldm_sender.specs.Calls.{stepped}

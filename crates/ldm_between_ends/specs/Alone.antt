@@ -3,7 +3,7 @@ use Rattle.std.specs.Prelude.{ℕ, Bool, true, false, List, [], ◌∷◌, ◌++
 use Rattle.std.specs.List.{flat_map}
 use Rattle.ldm_model.specs.declared.event.Entry.{Entry}
 use Rattle.ldm_model.specs.State.{State, Queued, queued}
-use Rattle.ldm_reader.specs.Staying.{HasRow}
+use Rattle.ldm_shared.specs.Staying.{HasRow}
 use Rattle.ldm_sender.specs.Asked.{Asked}
 use Rattle.ldm_sender.specs.Due.{is_due}
 use Rattle.ldm_upstream.specs.Turn.{Given, Handling, Passed, Turn, Lost, Gave}

@@ -8,7 +8,7 @@ ghost use Rattle.ldm_sender.specs.Opening.{Opened, closing_entries};
 ghost use Rattle.ldm_upstream.specs.Feeding.{Feeding, Stopped, IsFeeding, given_of};
 ghost use Rattle.ldm_between_ends.specs.Alone.{AreRowsOf, due_of, due_rows, is_lost, offered_of, with_feeding};
 
-use ldm_reader::products_stay;
+use ldm_shared::products_stay;
 
 /// A feeding of a queue that nobody else calls meanwhile gives just the products that are queued when it begins, those
 /// that are due, in order; and then the queue is as it was.

@@ -20,7 +20,7 @@ ghost use Rattle.ldm_between_ends.specs.Counts.{most_fed};
 ghost use Rattle.ldm_between_ends.specs.OnePass.{IsOnlyPass};
 
 use ldm_model::regions_lie_apart;
-use ldm_reader::products_stay;
+use ldm_shared::products_stay;
 use ldm_shared::one_pass;
 
 /// How many calls of their queues a feeder and a receiver make.

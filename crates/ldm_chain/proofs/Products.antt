@@ -10,7 +10,7 @@ use Rattle.ldm_model.specs.Product.{Product}
 use Rattle.ldm_model.specs.State.{empty}
 use Rattle.ldm_model.specs.History.{after, after_entries, IsAdmitted, IsAnswered, IsLegal, IsLegalFrom}
 use Rattle.ldm_model.proofs.Appended.{IsLegalFrom-append}
-use Rattle.ldm_reader.specs.Staying.{HasRow}
+use Rattle.ldm_shared.specs.Staying.{HasRow}
 use Rattle.ldm_shared.specs.Passes.{PassView, HasSeen}
 use Rattle.ldm_upstream.specs.Turn.{Given, Turn, Lost, Gave, Quiet, Alive}
 use Rattle.ldm_upstream.specs.Turn as turn

@@ -13,7 +13,7 @@ use crate::command_laws::cursors_have_actors;
 use crate::listing::{Listed, begin, let_go, next, read_body};
 use ldm_book::Book;
 use ldm_model::regions_lie_apart;
-use ldm_reader::products_stay;
+use ldm_shared::products_stay;
 use ldm_shared::{Pass, Shared, Turn, one_pass};
 use ldm_types::{Actor, CursorNo, OutOfMemory};
 use std::alloc::Global;

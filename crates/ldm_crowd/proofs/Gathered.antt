@@ -13,7 +13,7 @@ use Rattle.ldm_script.specs.Resolve.{no_places}
 use Rattle.ldm_model.specs.History.{IsLegal}
 use Rattle.ldm_shared.specs.Own.{own, AreBelow}
 use Rattle.ldm_shared.specs.Passes.{SharedView, PassView, IsLast, HasAllOf, new_pass}
-use Rattle.ldm_workers.specs.Work.{AllWorked}
+use Rattle.ldm_shared.proofs.Gathered.{AllWorkedAnew}
 use Rattle.ldm_crowd.specs.declared.outcome.CrowdEnd.{CrowdEnd}
 use Rattle.ldm_crowd.specs.declared.outcome.CrowdEnd.TheVariants as crowd_end
 use Rattle.ldm_crowd.specs.declared.player.Worker.{Worker}
@@ -117,7 +117,7 @@ text_at workers answers is i d e less =
 -- the workers of a crowd that played, before and after
 module _ {G : Type 0} (tells : G → GateRecord) (shared : SharedView) (script : List (List Asked)) (olds news : List (Worker G)) (last : PassView)
     (is_last : IsLast shared last) (actors : length script ≡ shared.passes) (size : length olds ≡ shared.passes) (count : length news ≡ length olds)
-    (worked : AllWorked (plays_lines tells script) shared last olds news)
+    (worked : AllWorkedAnew (plays_lines tells script) shared last olds news)
     (old_gates new_gates : List G) (old_is : old_gates ≡ map player_gate olds) (new_is : new_gates ≡ map player_gate news)
     (answers : List (Vec ℕ Global)) (answers_are : answers ≡ map answers_of news) where
   abbrev outcome : Outcome
@@ -290,7 +290,7 @@ stops_same gates = record { count = refl; kept = λ i less. omega arith }
 pub hired_ends : {G E : Type 0} (tells : G → GateRecord) (shared : SharedView) (script : List (List Asked)) (olds news : List (Worker G)) (last : PassView)
     → IsLast shared last → length script ≡ shared.passes → length olds ≡ shared.passes → length news ≡ length olds → All IsNew olds
     → (old_gates new_gates : List G) → old_gates ≡ map player_gate olds → new_gates ≡ map player_gate news → (answers : List (Vec ℕ Global)) → answers ≡ map answers_of news
-    → (done : Result (Unit {0}) E) → OnOk done (AllWorked (plays_lines tells script) shared last olds news) → OnErr done (news ≡ olds) → OnErr done (last.seen ≡ [])
+    → (done : Result (Unit {0}) E) → OnOk done (AllWorkedAnew (plays_lines tells script) shared last olds news) → OnErr done (news ≡ olds) → OnErr done (last.seen ≡ [])
     → (end ended : CrowdEnd) → ended ≡ first_end (map end_of news) → OnOk done (end ≡ ended) → OnErr done (end ≡ crowd_end.OutOfMemory)
     → CrowdEnds end script (record { history = last.seen; answers = map (λ text. text.items) answers; gates_before = map tells old_gates; gates = map tells new_gates })
 hired_ends tells shared script olds news last is_last actors size count new old_gates new_gates old_is new_is answers answers_are (Ok done) worked untouched unseen end ended ended_is played none_began_is =
@@ -305,7 +305,7 @@ hired_ends tells shared script olds news last is_last actors size count new old_
 pub hired_stops : {G E : Type 0} (tells : G → GateRecord) (shared : SharedView) (script : List (List Asked)) (olds news : List (Worker G)) (last : PassView)
     → IsLast shared last → length script ≡ shared.passes → length olds ≡ shared.passes → length news ≡ length olds
     → (old_gates new_gates : List G) → old_gates ≡ map player_gate olds → new_gates ≡ map player_gate news → (answers : List (Vec ℕ Global)) → answers ≡ map answers_of news
-    → (done : Result (Unit {0}) E) → OnOk done (AllWorked (plays_lines tells script) shared last olds news) → OnErr done (news ≡ olds) → StopsKept (map tells old_gates) (map tells new_gates)
+    → (done : Result (Unit {0}) E) → OnOk done (AllWorkedAnew (plays_lines tells script) shared last olds news) → OnErr done (news ≡ olds) → StopsKept (map tells old_gates) (map tells new_gates)
 hired_stops tells shared script olds news last is_last actors size count old_gates new_gates old_is new_is answers answers_are (Ok done) worked untouched =
     stops_kept tells shared script olds news last is_last actors size count worked old_gates new_gates old_is new_is answers answers_are
 hired_stops tells shared script olds news last is_last actors size count old_gates new_gates old_is new_is answers answers_are (Err error) worked untouched =

@@ -20,9 +20,8 @@ use itoa::Buffer;
 use ldm_calls::Room;
 use ldm_outside::{Gate, Go};
 use ldm_script::{LONGEST_ANSWER, LastPlaces, LentAct, blank_info};
-use ldm_shared::{Pass, Shared};
+use ldm_shared::{Pass, Shared, Work};
 use ldm_types::{Actor, Info};
-use ldm_workers::Work;
 use std::alloc::Global;
 use std::sync::Wait;
 

@@ -2,7 +2,7 @@
 
 use ldm_shared::{Pass, Shared, Turn};
 use ldm_types::Actor;
-use ldm_workers::{Work, run_workers};
+use ldm_shared::{Work, run_workers};
 use std::alloc::Global;
 use std::sync::Wait;
 use std::thread::Threads;

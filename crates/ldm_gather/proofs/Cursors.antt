@@ -19,7 +19,7 @@ use Rattle.ldm_shared.specs.OwnReaders.{is_about, over_own}
 use Rattle.ldm_shared.specs.Passes.{PassView, Calls, HasSeen}
 use Rattle.ldm_shared.proofs.Made.{calls_trans}
 use Rattle.ldm_gather.specs.Quiet.{IsQuiet, AreQuiet, CallsQuietly}
-use Rattle.ldm_reader.specs.Reader.{HasCursor}
+use Rattle.ldm_shared.specs.Reader.{HasCursor}
 use Rattle.ldm_intake.specs.declared.end.RecvEnd.{RecvEnd}
 use Rattle.ldm_intake.specs.declared.end.RecvEnd.TheVariants.{Ended, Truncated, BadFrame, Refused, LinkFault, LogFault, StreamLimit, Worn, OutOfMemory}
 use Rattle.ldm_intake.specs.declared.phase.Pending.{Pending}

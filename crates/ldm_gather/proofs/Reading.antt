@@ -6,8 +6,8 @@ use Rattle.std.proofs.lemmas.List.{take-append-drop, take_all}
 use Rattle.ldm_outside.specs.Io.{SinkRecord, WritesFront}
 use Rattle.ldm_outside.proofs.CallerLemmas.{Rose-later, Takes-nothing, Takes-then, WritesFront-behind}
 use Rattle.ldm_shared.specs.Passes.{FindsWorn, IsSamePass, PassView}
-use Rattle.ldm_reader.specs.declared.reader.Held.{Held}
-use Rattle.ldm_reader.specs.Reader.{Holds}
+use Rattle.ldm_shared.specs.declared.reader.Held.{Held}
+use Rattle.ldm_shared.specs.Reader.{Holds}
 use Rattle.ldm_gather.proofs.Using.{same-then, uses_none, uses_then, uses_worn}
 use Rattle.ldm_gather.specs.declared.body.WriteStop.{WriteStop}
 use Rattle.ldm_gather.specs.declared.body.WriteStop.TheVariants.{SinkFault, Worn}

@@ -12,7 +12,7 @@ use Rattle.ldm_outside.proofs.CallerLemmas.{Rose-later, Takes-nothing, Takes-the
 use Rattle.ldm_session.specs.declared.gaps.TheConstants.{LONGEST_NAME}
 use Rattle.ldm_shared.specs.declared.steps.TheConstants.{MOST_TURNS}
 use Rattle.ldm_shared.specs.Passes.{PassView, FindsWorn, Grows, IsSamePass}
-use Rattle.ldm_reader.specs.Reader.{HasCursor}
+use Rattle.ldm_shared.specs.Reader.{HasCursor}
 use Rattle.ldm_gather.specs.declared.taker.Taken.{Taken}
 use Rattle.ldm_gather.specs.declared.taker.Taken.TheVariants as taken
 use Rattle.ldm_gather.specs.declared.taker.EachStop.{EachStop}

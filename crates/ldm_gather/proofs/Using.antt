@@ -8,7 +8,7 @@ use Rattle.ldm_model.specs.History.{after, IsLegal}
 use Rattle.ldm_model.specs.Product.{Product}
 use Rattle.ldm_shared.specs.Passes.{PassView, Calls, FindsWorn, Grows, HasSeen, IsSamePass}
 use Rattle.ldm_shared.proofs.Made.{calls_none, calls_some, calls_trans}
-use Rattle.ldm_reader.specs.Staying.{HasRow}
+use Rattle.ldm_shared.specs.Staying.{HasRow}
 use Rattle.ldm_gather.specs.Givens.{Given, Turn, products_of, turn_product}
 use Rattle.ldm_gather.specs.Uses.{AreRows, AreUses, Uses, answer_by, step_answers}
 

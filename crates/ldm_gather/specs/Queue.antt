@@ -6,7 +6,7 @@ use Rattle.ldm_model.specs.declared.event.Event.TheVariants as event
 use Rattle.ldm_model.specs.declared.event.Start.TheVariants as start
 use Rattle.ldm_model.specs.declared.event.Reply.TheVariants as reply
 use Rattle.ldm_shared.specs.Passes.{IsPassOf, Makes, PassView, SharedView, entry_of, new_pass}
-use Rattle.ldm_reader.specs.Reader.{HasCursor}
+use Rattle.ldm_shared.specs.Reader.{HasCursor}
 use Rattle.ldm_intake.specs.Opening.{request_of}
 use Rattle.ldm_intake.specs.Room.{records_of}
 use Rattle.ldm_downstream.specs.ReceiverView.{before_stream}

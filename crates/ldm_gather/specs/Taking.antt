@@ -2,7 +2,7 @@
 use Rattle.std.specs.Prelude.{◌≡◌, ◌⊎◌, ℕ, List, [], ◌∷◌, length}
 use Rattle.ldm_shared.specs.declared.steps.TheConstants.{MOST_TURNS}
 use Rattle.ldm_shared.specs.Passes.{PassView}
-use Rattle.ldm_reader.specs.declared.reader.Held.{Held}
+use Rattle.ldm_shared.specs.declared.reader.Held.{Held}
 use Rattle.ldm_gather.specs.declared.taker.Taken.{Taken}
 use Rattle.ldm_gather.specs.declared.taker.Taken.TheVariants as taken
 use Rattle.ldm_gather.specs.declared.taker.EachStop.{EachStop}

@@ -7,7 +7,7 @@ use Rattle.ldm_model.specs.declared.event.Reply.{Reply}
 use Rattle.ldm_model.specs.declared.event.Entry.{Entry}
 use Rattle.ldm_model.specs.History.{after}
 use Rattle.ldm_shared.specs.Passes.{PassView, Calls}
-use Rattle.ldm_reader.specs.Staying.{HasRow}
+use Rattle.ldm_shared.specs.Staying.{HasRow}
 use Rattle.ldm_gather.specs.Givens.{Given}
 
 -- a step, a read or a release of the cursor at that place

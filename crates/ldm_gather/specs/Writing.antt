@@ -4,8 +4,8 @@ use Rattle.ldm_outside.specs.Count.{Rose}
 use Rattle.ldm_outside.specs.Io.{SinkRecord, Takes, WritesFront}
 use Rattle.ldm_shared.specs.declared.steps.TheConstants.{MOST_TURNS}
 use Rattle.ldm_shared.specs.Passes.{PassView}
-use Rattle.ldm_reader.specs.declared.reader.Held.{Held}
-use Rattle.ldm_reader.specs.Reader.{Holds}
+use Rattle.ldm_shared.specs.declared.reader.Held.{Held}
+use Rattle.ldm_shared.specs.Reader.{Holds}
 use Rattle.ldm_gather.specs.Uses.{Uses}
 use Rattle.ldm_gather.specs.declared.body.WriteStop.{WriteStop}
 use Rattle.ldm_gather.specs.declared.body.WriteStop.TheVariants.{SinkFault, Worn}

@@ -1,11 +1,11 @@
 //! The body of a product that is held, which is read from the queue and written as it is read.
 ghost use Rattle.std.specs.Prelude.{◌≡◌, ◌+◌, ◌<◌, ◌≤◌, ℕ, List, length, take, drop};
 ghost use Rattle.ldm_shared.specs.Passes.{IsPassOf, IsSamePass};
-ghost use Rattle.ldm_reader.specs.Reader.{Holds};
+ghost use Rattle.ldm_shared.specs.Reader.{Holds};
 ghost use Rattle.ldm_gather.specs.Writing.{Reads, part_of, sight_of};
 
 use ldm_outside::{Sink, write_all};
-use ldm_reader::{Held, Reader};
+use ldm_shared::{Held, Reader};
 use ldm_shared::{Pass, Shared, Turn};
 use std::sync::Wait;
 

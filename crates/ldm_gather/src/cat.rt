@@ -6,7 +6,7 @@ use crate::body::{WriteStop, write_body};
 use crate::cat_limits::LARGEST_PIECE;
 use crate::{Taken, Taker};
 use ldm_outside::Sink;
-use ldm_reader::{Held, Reader};
+use ldm_shared::{Held, Reader};
 use ldm_shared::{Pass, Shared};
 use ldm_types::OutOfMemory;
 use std::alloc::Global;

@@ -13,7 +13,7 @@ use crate::gatherer::Gatherer;
 use crate::order::Asking;
 use crate::taker::Taker;
 use ldm_outside::{Clock, Dial, Sink};
-use ldm_reader::products_stay;
+use ldm_shared::products_stay;
 use std::alloc::Global;
 use std::sync::Wait;
 

@@ -2,7 +2,7 @@
 ghost use Rattle.std.specs.Prelude.{◌<◌, ◌≤◌, None};
 ghost use Rattle.std.specs.Option.{ForSome};
 ghost use Rattle.ldm_shared.specs.Passes.{IsPassOf, IsSamePass};
-ghost use Rattle.ldm_reader.specs.Reader.{HasCursor};
+ghost use Rattle.ldm_shared.specs.Reader.{HasCursor};
 ghost use Rattle.ldm_gather.specs.EachHandling.{IsGoing, IsSameEach, tap_in};
 ghost use Rattle.ldm_gather.specs.Stepping.{CountsOne, IfStepsOn, IsEnd, Steps, sight_of};
 ghost use Rattle.ldm_gather.specs.Taking.{hands_of};
@@ -12,7 +12,7 @@ use crate::handler::Handler;
 use crate::order::Asking;
 use crate::taker::{EachStop, Taken, Taker};
 use ldm_outside::Sink;
-use ldm_reader::{Came, Reader, products_stay};
+use ldm_shared::{Came, Reader, products_stay};
 use ldm_session::write_gap;
 use ldm_shared::{Pass, Shared, Turn};
 use std::sync::Wait;

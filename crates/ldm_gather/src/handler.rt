@@ -1,7 +1,7 @@
 //! What handles the products that are queued.
 ghost use Rattle.std.specs.Prelude.{◌≤◌, ℕ, None};
 ghost use Rattle.ldm_shared.specs.Passes.{IsPassOf, IsSamePass};
-ghost use Rattle.ldm_reader.specs.Reader.{HasCursor};
+ghost use Rattle.ldm_shared.specs.Reader.{HasCursor};
 
 use crate::end::Handled;
 use ldm_outside::Sink;

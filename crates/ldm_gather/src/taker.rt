@@ -1,9 +1,9 @@
 //! What takes products, one at a time.
 ghost use Rattle.std.specs.Prelude.{◌≡◌, ℕ, List, []};
 ghost use Rattle.ldm_shared.specs.Passes.{IsPassOf, IsSamePass};
-ghost use Rattle.ldm_reader.specs.Reader.{Holds};
+ghost use Rattle.ldm_shared.specs.Reader.{Holds};
 
-use ldm_reader::{Held, Reader};
+use ldm_shared::{Held, Reader};
 use ldm_shared::{Pass, Shared};
 use std::sync::Wait;
 

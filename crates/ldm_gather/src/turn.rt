@@ -5,7 +5,7 @@ ghost use Rattle.std.specs.Vec.{vec_len};
 ghost use Rattle.ldm_outside.specs.Link.{IsNotClosed};
 ghost use Rattle.ldm_shared.specs.Passes.{IsPassOf, IsSamePass};
 ghost use Rattle.ldm_downstream.specs.Pushing.{answer_of};
-ghost use Rattle.ldm_reader.specs.Reader.{HasCursor};
+ghost use Rattle.ldm_shared.specs.Reader.{HasCursor};
 ghost use Rattle.ldm_gather.specs.Scene.{KeepsGatherCounts, lent_of, moment_of, scene_of};
 ghost use Rattle.ldm_gather.specs.Turning.{IfGoesOn, IsReady, SameButCourse, TellsBy, Turns, turned};
 

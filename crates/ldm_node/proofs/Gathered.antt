@@ -6,7 +6,8 @@ use Rattle.ldm_outside.specs.Station.{StationRecord}
 use Rattle.ldm_shared.specs.Passes.{SharedView, PassView, HasAllOf, new_pass}
 use Rattle.ldm_node.specs.declared.stop.NodeStop.{NodeStop}
 use Rattle.ldm_node.specs.declared.stop.NodeStop.TheVariants.{Done, OutOfMemory}
-use Rattle.ldm_workers.specs.Work.{AllWorked, Worked}
+use Rattle.ldm_shared.specs.Work.{Worked}
+use Rattle.ldm_shared.proofs.Gathered.{AllWorkedAnew}
 use Rattle.ldm_node.specs.declared.post.Post.{Post}
 use Rattle.ldm_node.specs.Node.{Staffs}
 use Rattle.ldm_node.specs.Posts.{PostWorks, StationWorks, post_of, posts_of, rest, stations_of, stop_of}
@@ -106,7 +107,7 @@ module _ {S : Type 0} (tells : S → StationRecord) (plan : Plan) (shared : Shar
       subst (λ (n : ℕ). Did n (get_or (posts_of given) i d) (get_or news i d)) (omega arith) (each (suc i) d (omega arith))))
 
   -- all of them
-  all_gathered : (given : List S) (news : List (Post S)) → length news ≡ length given + 1 → AllWorked (PostWorks tells plan) shared last (posts_of given) news
+  all_gathered : (given : List S) (news : List (Post S)) → length news ≡ length given + 1 → AllWorkedAnew (PostWorks tells plan) shared last (posts_of given) news
       → Gathered 0 given news
   all_gathered given news count worked =
       gathered given news 0 count (λ i d less.
@@ -114,7 +115,7 @@ module _ {S : Type 0} (tells : S → StationRecord) (plan : Plan) (shared : Shar
 
   -- so many stations come back
   pub come_back : (given : List S) (news : List (Post S)) → length news ≡ length given + 1 → {E : Type 0} (done : Result (Unit {0}) E)
-      → OnOk done (AllWorked (PostWorks tells plan) shared last (posts_of given) news) → OnErr done (news ≡ posts_of given)
+      → OnOk done (AllWorkedAnew (PostWorks tells plan) shared last (posts_of given) news) → OnErr done (news ≡ posts_of given)
       → length (stations_of news) ≡ length given
   come_back given news count (Ok done) worked untouched =
       let all = all_gathered given news count worked in
@@ -123,7 +124,7 @@ module _ {S : Type 0} (tells : S → StationRecord) (plan : Plan) (shared : Shar
 
   -- what came of the stations
   pub staffed : (given left : List S) (news : List (Post S)) (end first : NodeStop) → length news ≡ length given + 1 → {E : Type 0} (done : Result (Unit {0}) E)
-      → OnOk done (AllWorked (PostWorks tells plan) shared last (posts_of given) news) → OnErr done (news ≡ posts_of given) → OnErr done (last.seen ≡ [])
+      → OnOk done (AllWorkedAnew (PostWorks tells plan) shared last (posts_of given) news) → OnErr done (news ≡ posts_of given) → OnErr done (last.seen ≡ [])
       → left ≡ stations_of news → first ≡ first_stop (map stop_of news) → OnOk done (end ≡ first) → OnErr done (end ≡ OutOfMemory)
       → Staffs tells plan shared given (record { pass = last; stations = left; end = end })
   staffed given left news end first count (Ok done) worked untouched unseen left_is first_is ended none_began =

@@ -12,8 +12,7 @@ use crate::request_worker::work_request;
 use crate::stop::NodeStop;
 use ldm_conf::Conf;
 use ldm_outside::{Clock, Dial, Door, Gate, Sink, Station};
-use ldm_shared::{Pass, Shared};
-use ldm_workers::Work;
+use ldm_shared::{Pass, Shared, Work};
 use std::alloc::Global;
 use std::sync::Wait;
 

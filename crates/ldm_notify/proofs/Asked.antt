@@ -6,8 +6,8 @@ use Rattle.ldm_class.specs.Rules.{Rules, rules_for}
 use Rattle.ldm_relay.specs.declared.message.Notifyme.{Notifyme}
 use Rattle.ldm_outside.specs.Session.{SessionRecord}
 use Rattle.ldm_shared.specs.Passes.{PassView}
-use Rattle.ldm_reader.specs.declared.reader.Reader.{Reader}
-use Rattle.ldm_reader.specs.Reader.{HasCursor}
+use Rattle.ldm_shared.specs.declared.reader.Reader.{Reader}
+use Rattle.ldm_shared.specs.Reader.{HasCursor}
 use Rattle.ldm_sender.specs.declared.end.SendEnd.{SendEnd}
 use Rattle.ldm_sender.specs.Asked.{Asked, IsAskedOf}
 use Rattle.ldm_notify.specs.declared.asking.Asking.{Asking}

@@ -8,7 +8,7 @@ use Rattle.ldm_relay.specs.Sent as sent
 use Rattle.ldm_relay.specs.Spelling.{written, record_of}
 use Rattle.ldm_shared.specs.Passes.{PassView, Makes, FindsWorn}
 use Rattle.ldm_shared.proofs.Made.{calls_some}
-use Rattle.ldm_reader.specs.Reader.{HasCursor}
+use Rattle.ldm_shared.specs.Reader.{HasCursor}
 use Rattle.ldm_session.specs.Gathering as gathering
 use Rattle.ldm_sender.specs.declared.end.SendEnd.TheVariants as end
 use Rattle.ldm_sender.specs.declared.standing.Standing.{Standing}

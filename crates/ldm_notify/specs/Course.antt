@@ -2,8 +2,8 @@
 use Rattle.std.specs.Prelude.{◌≡◌, ℕ, List, [], All, None, Result, Ok, Err}
 use Rattle.ldm_model.specs.History.{after}
 use Rattle.ldm_shared.specs.Passes.{PassView}
-use Rattle.ldm_reader.specs.Staying.{HasRow}
-use Rattle.ldm_reader.specs.Reader.{HasCursor}
+use Rattle.ldm_shared.specs.Staying.{HasRow}
+use Rattle.ldm_shared.specs.Reader.{HasCursor}
 use Rattle.ldm_sender.specs.declared.end.SendEnd.{SendEnd}
 use Rattle.ldm_sender.specs.declared.end.SendEnd.TheVariants as end
 use Rattle.ldm_sender.specs.declared.standing.Standing.{Standing}

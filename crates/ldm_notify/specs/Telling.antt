@@ -1,8 +1,8 @@
 -- What it comes to that the cursor is given a product: a notice of it is gathered where it is due, and it is let go.
 use Rattle.std.specs.Prelude.{◌≡◌, ℕ, [], true, None, Result, Ok, Err}
 use Rattle.ldm_types.specs.declared.memory.OutOfMemory.{OutOfMemory}
-use Rattle.ldm_reader.specs.declared.reader.Held.{Held}
-use Rattle.ldm_reader.specs.Reader.{HasCursor}
+use Rattle.ldm_shared.specs.declared.reader.Held.{Held}
+use Rattle.ldm_shared.specs.Reader.{HasCursor}
 use Rattle.ldm_sender.specs.declared.end.SendEnd.{SendEnd}
 use Rattle.ldm_sender.specs.declared.standing.Standing.{Standing}
 use Rattle.ldm_sender.specs.Asked.{Asked}

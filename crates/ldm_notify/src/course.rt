@@ -8,7 +8,7 @@ ghost use Rattle.ldm_notify.specs.Notifier.{CanTurn, IsSameNotifier, asked_by};
 
 use crate::notifier::Notifier;
 use ldm_outside::{Clock, Gate, Link, Sink};
-use ldm_reader::products_stay;
+use ldm_shared::products_stay;
 use ldm_sender::SendEnd;
 use ldm_shared::{Pass, Shared};
 use std::sync::Wait;

@@ -2,14 +2,14 @@
 ghost use Rattle.std.specs.Prelude.{◌≡◌, Some};
 ghost use Rattle.ldm_outside.specs.Link.{IsNotClosed};
 ghost use Rattle.ldm_shared.specs.Passes.{IsPassOf, IsSamePass};
-ghost use Rattle.ldm_reader.specs.Reader.{HasCursor};
+ghost use Rattle.ldm_shared.specs.Reader.{HasCursor};
 ghost use Rattle.ldm_sender.specs.Does.{moment_of};
 ghost use Rattle.ldm_notify.specs.Notifier.{IsSameNotifier, asked_by};
 ghost use Rattle.ldm_notify.specs.Telling.{Handles, row_of};
 
 use crate::notifier::Notifier;
 use ldm_outside::{Clock, Link};
-use ldm_reader::Held;
+use ldm_shared::Held;
 use ldm_sender::SendEnd;
 use ldm_session::send_where_full;
 use ldm_shared::{Pass, Shared, Turn};

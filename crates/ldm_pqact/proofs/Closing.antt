@@ -16,7 +16,7 @@ use Rattle.ldm_outside.proofs.CallerLemmas.{Rose-later}
 use Rattle.ldm_shared.specs.declared.steps.TheConstants.{MOST_TURNS}
 use Rattle.ldm_shared.specs.Passes.{PassView, Calls, Grows}
 use Rattle.ldm_shared.proofs.Made.{calls_some, calls_trans}
-use Rattle.ldm_reader.specs.Reader.{HasCursor}
+use Rattle.ldm_shared.specs.Reader.{HasCursor}
 use Rattle.ldm_session.specs.Exchange.{IdledAll}
 use Rattle.ldm_sender.proofs.Steps.{RowsStay}
 use Rattle.ldm_pqact_conf.specs.Entries.{EntryView}

@@ -11,7 +11,7 @@ use Rattle.ldm_outside.specs.Count.{Rose}
 use Rattle.ldm_outside.specs.Io.{SinkRecord, Takes, WritesFront}
 use Rattle.ldm_outside.proofs.CallerLemmas.{Takes-nothing}
 use Rattle.ldm_shared.specs.Passes.{PassView, Calls, FindsWorn, Grows, IsSamePass}
-use Rattle.ldm_reader.specs.Reader.{HasCursor}
+use Rattle.ldm_shared.specs.Reader.{HasCursor}
 use Rattle.ldm_sender.proofs.Steps.{HasRowIn, HasRowIn-stays, RowsStay, same_then}
 use Rattle.ldm_pqact_conf.specs.Entries.{EntryView}
 use Rattle.ldm_actions.specs.Outputs.{KeepsUnlessSpent, Standing}

@@ -4,7 +4,7 @@ use Rattle.std.specs.Option.{IsSome}
 use Rattle.ldm_outside.specs.Io.{SinkRecord}
 use Rattle.ldm_outside.proofs.CallerLemmas.{Takes-nothing}
 use Rattle.ldm_shared.specs.Passes.{PassView, IsSamePass}
-use Rattle.ldm_reader.specs.Reader.{HasCursor}
+use Rattle.ldm_shared.specs.Reader.{HasCursor}
 use Rattle.ldm_sender.proofs.Steps.{same_then}
 use Rattle.ldm_pqact_match.specs.declared.chosen.Chosen.{Chosen}
 use Rattle.ldm_actions.specs.declared.answers.Begun.{Begun}

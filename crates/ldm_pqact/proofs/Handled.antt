@@ -5,7 +5,7 @@ use Rattle.ldm_model.specs.declared.event.Reply.TheVariants as reply
 use Rattle.ldm_outside.specs.Io.{SinkRecord}
 use Rattle.ldm_outside.proofs.CallerLemmas.{Takes-nothing}
 use Rattle.ldm_shared.specs.Passes.{PassView, FindsWorn, Grows}
-use Rattle.ldm_reader.specs.Reader.{HasCursor}
+use Rattle.ldm_shared.specs.Reader.{HasCursor}
 use Rattle.ldm_pqact_conf.specs.Entries.{EntryView}
 use Rattle.ldm_pqact_match.specs.declared.chosen.Chosen.{Chosen}
 use Rattle.ldm_pqact.specs.declared.end.ActEnd.{ActEnd}

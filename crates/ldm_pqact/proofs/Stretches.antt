@@ -6,7 +6,7 @@ use Rattle.std.specs.List.{flat_map}
 use Rattle.ldm_outside.specs.declared.gate.Go.TheVariants as go
 use Rattle.ldm_outside.specs.Gate.{GateRecord, Idles}
 use Rattle.ldm_shared.specs.Passes.{IsSamePass, PassView}
-use Rattle.ldm_reader.specs.Reader.{HasCursor}
+use Rattle.ldm_shared.specs.Reader.{HasCursor}
 use Rattle.ldm_session.specs.Exchange.{IdledAll}
 use Rattle.ldm_session.proofs.CallerLemmas.{IdledAll-one, IdledAll-then}
 use Rattle.ldm_sender.proofs.Steps.{RowsStay, same_then}

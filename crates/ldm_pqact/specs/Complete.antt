@@ -6,7 +6,7 @@ use Rattle.ldm_outside.specs.declared.gate.Go.TheVariants as go
 use Rattle.ldm_outside.specs.Count.{Rose}
 use Rattle.ldm_outside.specs.Io.{Takes}
 use Rattle.ldm_shared.specs.declared.steps.TheConstants.{MOST_TURNS}
-use Rattle.ldm_reader.specs.Reader.{HasCursor}
+use Rattle.ldm_shared.specs.Reader.{HasCursor}
 use Rattle.ldm_session.specs.Exchange.{IdledAll}
 use Rattle.ldm_pqact_conf.specs.Entries.{EntryView}
 use Rattle.ldm_actions.specs.Effects.{closed, effects}

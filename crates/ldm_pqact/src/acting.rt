@@ -2,7 +2,7 @@
 ghost use Rattle.std.specs.Prelude.{◌≡◌, None};
 ghost use Rattle.ldm_model.specs.declared.event.Reply.TheVariants as reply;
 ghost use Rattle.ldm_shared.specs.Passes.{Grows, IsPassOf, IsSamePass, PassView};
-ghost use Rattle.ldm_reader.specs.Reader.{HasCursor};
+ghost use Rattle.ldm_shared.specs.Reader.{HasCursor};
 ghost use Rattle.ldm_actions.specs.Outputs.{KeepsUnlessSpent, no_outputs, standing};
 ghost use Rattle.ldm_pqact.specs.Acted.{Acts, ActsOpened, KeepsActCounts, end_after, opening, situation_of};
 ghost use Rattle.ldm_pqact.specs.Acting.{sight_of};
@@ -16,7 +16,7 @@ use ldm_actions::Done;
 use ldm_model::Start;
 use ldm_outside::{Gate, Go, Launcher, Sink, Store};
 use ldm_pqact_conf::Entries;
-use ldm_reader::{Opening, Reader, products_stay};
+use ldm_shared::{Opening, Reader, products_stay};
 use ldm_shared::{Pass, Shared, Turn};
 use ldm_types::Feed;
 use std::alloc::Global;

@@ -1,6 +1,6 @@
 //! A product that a cursor holds.
 
-use ldm_reader::{Held, Reader};
+use ldm_shared::{Held, Reader};
 
 // A product that a cursor gave, and holds.
 #[derive(Drop)]

@@ -2,7 +2,7 @@
 ghost use Rattle.std.specs.Prelude.{◌≡◌, ◌≤◌, None};
 ghost use Rattle.std.specs.Vec.{vec_capacity};
 ghost use Rattle.ldm_shared.specs.Passes.{IsPassOf, IsSamePass};
-ghost use Rattle.ldm_reader.specs.Reader.{HasCursor};
+ghost use Rattle.ldm_shared.specs.Reader.{HasCursor};
 ghost use Rattle.ldm_actions.specs.Outputs.{KeepsUnlessSpent, standing};
 ghost use Rattle.ldm_pqact.specs.declared.limits.TheConstants.{LARGEST_PIECE};
 ghost use Rattle.ldm_pqact.specs.Acting.{ActsOn, sight_of};
@@ -10,7 +10,7 @@ ghost use Rattle.ldm_pqact.specs.Acting.{ActsOn, sight_of};
 use crate::carrier::Carrier;
 use crate::end::ActEnd;
 use ldm_outside::{Launcher, Sink, Store};
-use ldm_reader::{Reader, products_stay};
+use ldm_shared::{Reader, products_stay};
 use ldm_shared::{Pass, Shared};
 use std::sync::Wait;
 

@@ -2,7 +2,7 @@
 ghost use Rattle.std.specs.Prelude.{◌≡◌, IfOk, None};
 ghost use Rattle.ldm_outside.specs.Reason.{IsReason};
 ghost use Rattle.ldm_shared.specs.Passes.{IsPassOf, IsSamePass};
-ghost use Rattle.ldm_reader.specs.Reader.{HasCursor};
+ghost use Rattle.ldm_shared.specs.Reader.{HasCursor};
 ghost use Rattle.ldm_actions.specs.Outputs.{Closes, KeepsOfAny, KeepsUnlessSpent, no_outputs, standing};
 ghost use Rattle.ldm_pqact.specs.Acting.{ActsOn, sight_of};
 ghost use Rattle.ldm_pqact.specs.Complete.{Completes};
@@ -14,7 +14,7 @@ use crate::writer::Writer;
 use ldm_actions::{Done, Outputs};
 use ldm_outside::{Launcher, Reason, Sink, Store};
 use ldm_pqact_conf::Entries;
-use ldm_reader::Reader;
+use ldm_shared::Reader;
 use ldm_shared::{Pass, Shared};
 use ldm_types::OutOfMemory;
 use std::alloc::Global;

@@ -2,7 +2,7 @@
 ghost use Rattle.std.specs.Prelude.{◌≡◌, ◌≤◌, None};
 ghost use Rattle.std.specs.Vec.{vec_capacity};
 ghost use Rattle.ldm_shared.specs.Passes.{IsPassOf, IsSamePass};
-ghost use Rattle.ldm_reader.specs.Reader.{HasCursor};
+ghost use Rattle.ldm_shared.specs.Reader.{HasCursor};
 ghost use Rattle.ldm_actions.specs.Outputs.{KeepsUnlessSpent, standing};
 ghost use Rattle.ldm_pqact.specs.declared.limits.TheConstants.{LARGEST_PIECE};
 ghost use Rattle.ldm_pqact.specs.Acting.{TurnsBy, sight_of};
@@ -12,7 +12,7 @@ use crate::end::ActEnd;
 use crate::holding::Holding;
 use crate::limits::LONGEST_SHOWN;
 use ldm_outside::{Launcher, Reason, Sink, Store};
-use ldm_reader::{Came, Reader, products_stay};
+use ldm_shared::{Came, Reader, products_stay};
 use ldm_session::write_gap;
 use ldm_shared::{Pass, Shared, Turn};
 use std::sync::Wait;

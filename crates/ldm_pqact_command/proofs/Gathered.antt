@@ -19,7 +19,7 @@ use Rattle.ldm_outside.proofs.CallerLemmas.{Rose-later}
 use Rattle.ldm_shared.specs.declared.steps.TheConstants.{MOST_TURNS}
 use Rattle.ldm_shared.specs.Passes.{PassView}
 use Rattle.ldm_shared.proofs.Made.{calls_none, calls_some, calls_trans}
-use Rattle.ldm_reader.specs.Staying.{HasRow}
+use Rattle.ldm_shared.specs.Staying.{HasRow}
 use Rattle.ldm_actions.specs.declared.answers.Fault.{Fault}
 use Rattle.ldm_actions.specs.declared.answers.Fault.TheVariants as fault
 use Rattle.ldm_actions.specs.Effects.{Action}

@@ -11,7 +11,7 @@ use Rattle.ldm_model.specs.Law.{IsAnsweredAt, Point, is_close}
 use Rattle.ldm_shared.specs.Own.{own}
 use Rattle.ldm_shared.specs.OwnReaders.{AtEveryOwnCall, IsCalledAt, IsOwnPointOf, OwnPoint, is_about, opening_by, over_own, with_held}
 use Rattle.ldm_shared.specs.Passes.{Grows, HasSeen, PassView, entry_of}
-use Rattle.ldm_reader.specs.Reader.{HasCursor}
+use Rattle.ldm_shared.specs.Reader.{HasCursor}
 
 -- what the law of readers says of each call
 abbrev pub AreAnswered : Type 0

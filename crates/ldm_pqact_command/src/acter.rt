@@ -8,7 +8,7 @@ use ldm_actions::Done;
 use ldm_gather::{Handled, Handler};
 use ldm_outside::{Launcher, Sink, Store};
 use ldm_pqact::Pqact;
-use ldm_reader::Reader;
+use ldm_shared::Reader;
 use ldm_shared::{Pass, Shared};
 use std::marker::Model;
 use std::sync::Wait;

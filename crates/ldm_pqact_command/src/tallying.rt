@@ -1,13 +1,13 @@
 //! How many products a cursor was given.
 ghost use Rattle.std.specs.Prelude.{None};
 ghost use Rattle.ldm_gather.specs.Scene.{IfOn};
-ghost use Rattle.ldm_reader.specs.Reader.{HasCursor};
+ghost use Rattle.ldm_shared.specs.Reader.{HasCursor};
 ghost use Rattle.ldm_shared.specs.Passes.{IsPassOf, IsSamePass};
 ghost use Rattle.ldm_pqact_command.specs.Handling.{Counts};
 
 use ldm_gather::Handled;
 use ldm_model::TallyReply;
-use ldm_reader::Reader;
+use ldm_shared::Reader;
 use ldm_shared::{Pass, Shared, Turn, own_readers};
 use std::sync::Wait;
 

@@ -15,7 +15,7 @@ use Rattle.ldm_recorder.specs.declared.end.RecordEnd.{RecordEnd}
 use Rattle.ldm_recorder.specs.declared.end.RecordEnd.TheVariants as end
 use Rattle.ldm_recorder.specs.Turns.{AreNumbered, CaughtUp, Given, Lost, Saved, Turn, Who, turn_work, work_of, work_then}
 use Rattle.ldm_shared.specs.Passes.{IsSamePass, PassView}
-use Rattle.ldm_reader.specs.declared.reader.Reader as reading
+use Rattle.ldm_shared.specs.declared.reader.Reader as reading
 use Rattle.ldm_recorder.specs.declared.recorder.Recorder.{Recorder}
 use Rattle.ldm_recorder.specs.Taking.{IsSameRecorder}
 use Rattle.ldm_recorder.specs.Recording.{Does, IsAtEnd, Sight, Stops, TurnsBy, who_of}

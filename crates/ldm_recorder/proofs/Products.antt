@@ -9,8 +9,8 @@ use Rattle.ldm_session.specs.Gaps.{gap_line}
 use Rattle.ldm_model.specs.declared.event.Event.TheVariants as event
 use Rattle.ldm_model.specs.declared.event.Reply.TheVariants as reply
 use Rattle.ldm_shared.specs.Passes.{PassView, FindsWorn, Grows, IsSamePass}
-use Rattle.ldm_reader.specs.declared.reader.Reader as reading
-use Rattle.ldm_reader.specs.declared.reader.Held.{Held}
+use Rattle.ldm_shared.specs.declared.reader.Reader as reading
+use Rattle.ldm_shared.specs.declared.reader.Held.{Held}
 use Rattle.ldm_journal.specs.declared.journal.Journal.{Journal}
 use Rattle.ldm_journal.specs.Records.{Kept}
 use Rattle.ldm_journal.specs.Standing.{Stands}

@@ -12,9 +12,9 @@ use Rattle.ldm_model.specs.declared.event.Reply.TheVariants as reply
 use Rattle.ldm_model.specs.Law.{with_given}
 use Rattle.ldm_shared.specs.Passes.{PassView, FindsWorn, Grows, IsSamePass}
 use Rattle.ldm_shared.proofs.Made.{calls_none}
-use Rattle.ldm_reader.specs.declared.reader.Reader as reading
-use Rattle.ldm_reader.specs.declared.reader.Held.{Held}
-use Rattle.ldm_reader.specs.Reader.{HasCursor}
+use Rattle.ldm_shared.specs.declared.reader.Reader as reading
+use Rattle.ldm_shared.specs.declared.reader.Held.{Held}
+use Rattle.ldm_shared.specs.Reader.{HasCursor}
 use Rattle.ldm_journal.specs.Runs.{Commit}
 use Rattle.ldm_recorder.specs.declared.end.RecordEnd.{RecordEnd}
 use Rattle.ldm_recorder.specs.declared.end.RecordEnd.TheVariants as end

@@ -6,7 +6,7 @@ use Rattle.ldm_model.specs.Law.{is_close}
 use Rattle.ldm_shared.specs.Own.{own}
 use Rattle.ldm_shared.specs.Passes.{PassView}
 use Rattle.ldm_shared.specs.OwnReaders.{OwnPoint, is_about, numbers_given, opening_by}
-use Rattle.ldm_reader.specs.Reader.{HasCursor}
+use Rattle.ldm_shared.specs.Reader.{HasCursor}
 use Rattle.ldm_recorder.specs.declared.recorder.Recorder.{Recorder}
 
 -- Of a cursor of the pass: numbers that rise behind those that it was given are not below a least one.

@@ -3,8 +3,8 @@ use Rattle.std.specs.Prelude.{◌≡◌, ℕ, ◌+◌, ◌-◌, ◌^◌, ◌<◌
 use Rattle.ldm_model.specs.declared.event.Event.TheVariants as event
 use Rattle.ldm_model.specs.declared.event.Reply.TheVariants as reply
 use Rattle.ldm_shared.specs.Passes.{PassView, FindsWorn, Grows}
-use Rattle.ldm_reader.specs.declared.reader.Held.{Held}
-use Rattle.ldm_reader.specs.Reader.{Holds}
+use Rattle.ldm_shared.specs.declared.reader.Held.{Held}
+use Rattle.ldm_shared.specs.Reader.{Holds}
 use Rattle.ldm_journal.specs.Records.{Kept}
 use Rattle.ldm_recorder.specs.declared.end.RecordEnd.{RecordEnd}
 use Rattle.ldm_recorder.specs.declared.end.RecordEnd.TheVariants as end

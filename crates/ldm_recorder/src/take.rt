@@ -3,7 +3,7 @@ ghost use Rattle.std.specs.Prelude.{◌≡◌, ◌+◌, ◌<◌, ◌≤◌, ◌^
 ghost use Rattle.ldm_disk.specs.Calls.{KeepsDisk};
 ghost use Rattle.ldm_journal.specs.Records.{Kept};
 ghost use Rattle.ldm_shared.specs.Passes.{IsPassOf, IsSamePass, PassView};
-ghost use Rattle.ldm_reader.specs.Reader.{HasCursor, Holds};
+ghost use Rattle.ldm_shared.specs.Reader.{HasCursor, Holds};
 ghost use Rattle.ldm_recorder.specs.Recording.{sight_of, who_of};
 ghost use Rattle.ldm_recorder.specs.Taking.{IsSameButBuffer, IsSameRecorder, Numbers, ReadsBody, WorksBy};
 ghost use Rattle.ldm_recorder.specs.Taking.{kept_as, taking, writing};
@@ -14,7 +14,7 @@ use crate::recorder::Recorder;
 use crate::save::keep;
 use ldm_disk::Disk;
 use ldm_outside::Sink;
-use ldm_reader::Held;
+use ldm_shared::Held;
 use ldm_session::write_gap;
 use ldm_shared::{Pass, Shared, Turn};
 use std::sync::Wait;

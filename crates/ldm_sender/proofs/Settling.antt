@@ -12,7 +12,7 @@ use Rattle.ldm_outside.specs.Link.{LinkRecord, IsNotClosed}
 use Rattle.ldm_outside.specs.Session.{SessionRecord, KeepsFaults}
 use Rattle.ldm_shared.specs.Passes.{PassView, Calls, Grows}
 use Rattle.ldm_shared.proofs.Made.{calls_some, calls_trans}
-use Rattle.ldm_reader.specs.Reader.{HasCursor}
+use Rattle.ldm_shared.specs.Reader.{HasCursor}
 use Rattle.ldm_session.proofs.CallerLemmas.{Exchanged-still}
 use Rattle.ldm_session.specs.Exchange.{Exchanged, AnsweredAll, IdledAll}
 use Rattle.ldm_session.specs.Gaps.{gap_log}

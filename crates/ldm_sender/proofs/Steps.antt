@@ -17,7 +17,7 @@ use Rattle.ldm_relay.specs.Sent.{Sent}
 use Rattle.ldm_relay.specs.Spelling.{written, record_of}
 use Rattle.ldm_shared.specs.Passes.{SharedView, PassView, IsPassOf, IsSamePass, Makes, Calls, HasSeen}
 use Rattle.ldm_shared.proofs.Made.{calls_none, calls_some}
-use Rattle.ldm_reader.specs.Staying.{HasRow}
+use Rattle.ldm_shared.specs.Staying.{HasRow}
 use Rattle.ldm_session.specs.Gaps.{gap_log, gap_line}
 use Rattle.ldm_session.proofs.CallerLemmas.{AnsweredAll-nothing, gap_log-append}
 use Rattle.ldm_sender.specs.declared.end.SendEnd.{SendEnd}

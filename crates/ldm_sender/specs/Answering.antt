@@ -9,8 +9,8 @@ use Rattle.ldm_shared.specs.Passes.{PassView, Makes}
 use Rattle.ldm_shared.specs.declared.steps.TheConstants.{MOST_TURNS}
 use Rattle.ldm_shared.specs.declared.turn.Turn.{Turn}
 use Rattle.ldm_shared.specs.declared.turn.Turn.TheVariants.{Done, Worn}
-use Rattle.ldm_reader.specs.declared.reader.Reader.{Reader}
-use Rattle.ldm_reader.specs.Reader.{HasCursor}
+use Rattle.ldm_shared.specs.declared.reader.Reader.{Reader}
+use Rattle.ldm_shared.specs.Reader.{HasCursor}
 use Rattle.ldm_sender.specs.declared.end.SendEnd.{SendEnd}
 use Rattle.ldm_sender.specs.Asked.{Asked}
 use Rattle.ldm_sender.specs.Opening.{Opened, Busy, MayMiss, opening_entries}

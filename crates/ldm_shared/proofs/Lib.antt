@@ -9,7 +9,14 @@ pub mod Adding
 pub mod Joining
 pub mod Taking
 pub mod Growing
-pub mod Opening
+pub mod OpeningPlaces
 pub mod Gathering
 pub mod Finishing
 pub mod CallerLemmas
+pub mod Turned
+pub mod Unseen
+pub mod Gathered
+mod Answered
+mod Cursors
+mod Readers
+mod RowsStay

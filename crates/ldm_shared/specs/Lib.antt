@@ -9,3 +9,7 @@ pub mod Joining
 pub mod Seats
 pub mod Inside
 pub mod InsideShared
+pub mod Work
+pub mod Workers
+pub mod Staying
+pub mod Reader

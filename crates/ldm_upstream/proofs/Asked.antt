@@ -9,8 +9,8 @@ use Rattle.ldm_relay.specs.declared.message.Feedme.{Feedme}
 use Rattle.ldm_model.specs.declared.event.Entry.{Entry}
 use Rattle.ldm_shared.specs.Passes.{PassView, Calls}
 use Rattle.ldm_shared.proofs.Made.{calls_some}
-use Rattle.ldm_reader.specs.declared.reader.Reader.{Reader}
-use Rattle.ldm_reader.specs.Reader.{HasCursor}
+use Rattle.ldm_shared.specs.declared.reader.Reader.{Reader}
+use Rattle.ldm_shared.specs.Reader.{HasCursor}
 use Rattle.ldm_session.specs.Hearing.{Heard}
 use Rattle.ldm_sender.specs.Answering.{FindsBusy}
 use Rattle.ldm_sender.specs.Opening.{Busy, opening_entries}

@@ -3,8 +3,8 @@ use Rattle.std.proofs.Common.{◌≡◌, ℕ, [], None, refl, subst}
 use Rattle.ldm_outside.specs.Link.{IsNotClosed}
 use Rattle.ldm_outside.proofs.CallerLemmas.{Takes-nothing}
 use Rattle.ldm_shared.specs.Passes.{IsSamePass}
-use Rattle.ldm_reader.specs.declared.reader.Reader.{Reader}
-use Rattle.ldm_reader.specs.Reader.{HasCursor}
+use Rattle.ldm_shared.specs.declared.reader.Reader.{Reader}
+use Rattle.ldm_shared.specs.Reader.{HasCursor}
 use Rattle.ldm_session.specs.declared.replies.Replies.{Replies}
 use Rattle.ldm_sender.specs.declared.end.SendEnd.{SendEnd}
 use Rattle.ldm_sender.specs.declared.standing.Standing.{Standing}

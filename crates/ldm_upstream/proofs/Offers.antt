@@ -9,7 +9,7 @@ use Rattle.ldm_rpc.specs.Streams.{Placed}
 use Rattle.ldm_relay.specs.declared.message.SoonAnswer.TheVariants as soon
 use Rattle.ldm_relay.specs.Spelling.{written, record_of}
 use Rattle.ldm_shared.specs.Passes.{PassView}
-use Rattle.ldm_reader.specs.Reader.{HasCursor}
+use Rattle.ldm_shared.specs.Reader.{HasCursor}
 use Rattle.ldm_session.specs.declared.replies.Replies.{Replies}
 use Rattle.ldm_session.specs.Owed.{Code}
 use Rattle.ldm_session.proofs.CallerLemmas.{Heard-said}

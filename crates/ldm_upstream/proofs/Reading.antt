@@ -9,7 +9,7 @@ use Rattle.ldm_outside.specs.Clock.{ClockRecord}
 use Rattle.ldm_outside.specs.Link.{LinkRecord, IsNotClosed}
 use Rattle.ldm_shared.specs.Passes.{PassView, Makes, Calls, Grows}
 use Rattle.ldm_shared.proofs.Made.{calls_none, calls_some}
-use Rattle.ldm_reader.specs.Reader.{HasCursor}
+use Rattle.ldm_shared.specs.Reader.{HasCursor}
 use Rattle.ldm_session.specs.Gathering as gathering
 use Rattle.ldm_session.proofs.CallerLemmas.{AnsweredAll-nothing}
 use Rattle.ldm_sender.specs.declared.end.SendEnd.{SendEnd}

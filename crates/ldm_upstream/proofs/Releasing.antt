@@ -5,7 +5,7 @@ use Rattle.ldm_outside.specs.Clock.{ClockRecord}
 use Rattle.ldm_outside.specs.Link.{LinkRecord, IsNotClosed}
 use Rattle.ldm_shared.specs.Passes.{PassView, Makes, FindsWorn}
 use Rattle.ldm_shared.proofs.Made.{calls_some}
-use Rattle.ldm_reader.specs.Reader.{HasCursor}
+use Rattle.ldm_shared.specs.Reader.{HasCursor}
 use Rattle.ldm_session.specs.declared.replies.Replies.{Replies}
 use Rattle.ldm_sender.proofs.Steps.{one_call}
 use Rattle.ldm_sender.specs.declared.end.SendEnd.{SendEnd}

@@ -13,8 +13,8 @@ use Rattle.ldm_outside.specs.Count.{Rose}
 use Rattle.ldm_outside.proofs.CallerLemmas.{Takes-nothing}
 use Rattle.ldm_shared.specs.Passes.{PassView, Makes, FindsWorn}
 use Rattle.ldm_shared.proofs.Made.{calls_some}
-use Rattle.ldm_reader.specs.Staying.{HasRow}
-use Rattle.ldm_reader.specs.Reader.{HasCursor}
+use Rattle.ldm_shared.specs.Staying.{HasRow}
+use Rattle.ldm_shared.specs.Reader.{HasCursor}
 use Rattle.ldm_session.specs.declared.replies.Replies.{Replies}
 use Rattle.ldm_session.specs.Gaps.{gap_log, gap_line}
 use Rattle.ldm_session.specs.Owed.{Code}

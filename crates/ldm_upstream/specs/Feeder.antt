@@ -1,7 +1,7 @@
 -- One who feeds: who asked it, and what it needs for a turn.
 use Rattle.std.specs.Prelude.{◌≡◌, ◌≤◌, [], length, None}
 use Rattle.ldm_shared.specs.Passes.{PassView}
-use Rattle.ldm_reader.specs.Reader.{HasCursor}
+use Rattle.ldm_shared.specs.Reader.{HasCursor}
 use Rattle.ldm_session.specs.declared.gaps.TheConstants.{LONGEST_NAME}
 use Rattle.ldm_sender.specs.Asked.{Asked}
 use Rattle.ldm_upstream.specs.declared.feeder.Feeder.{Feeder}

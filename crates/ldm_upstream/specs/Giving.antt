@@ -2,8 +2,8 @@
 use Rattle.std.specs.Prelude.{◌≡◌, ℕ, List, [], ◌∷◌, ◌++◌, length, Result, Ok, Err}
 use Rattle.ldm_shared.specs.Passes.{PassView, Makes}
 use Rattle.ldm_shared.specs.declared.steps.TheConstants.{MOST_TURNS}
-use Rattle.ldm_reader.specs.declared.reader.Held.{Held}
-use Rattle.ldm_reader.specs.Reader.{HoldsProduct}
+use Rattle.ldm_shared.specs.declared.reader.Held.{Held}
+use Rattle.ldm_shared.specs.Reader.{HoldsProduct}
 use Rattle.ldm_sender.specs.declared.end.SendEnd.{SendEnd}
 use Rattle.ldm_sender.specs.declared.end.SendEnd.TheVariants as end
 use Rattle.ldm_sender.specs.declared.standing.Standing.{Standing}

@@ -3,7 +3,7 @@ ghost use Rattle.std.specs.Prelude.{◌≡◌, ◌+◌, ◌≤◌, ◌++◌, ℕ
 ghost use Rattle.ldm_outside.specs.Clock.{ClockRecord};
 ghost use Rattle.ldm_outside.specs.Link.{IsNotClosed};
 ghost use Rattle.ldm_shared.specs.Passes.{IsPassOf, IsSamePass};
-ghost use Rattle.ldm_reader.specs.Reader.{Holds};
+ghost use Rattle.ldm_shared.specs.Reader.{Holds};
 ghost use Rattle.ldm_upstream.specs.ProductDeeds.{part_of};
 ghost use Rattle.ldm_sender.specs.Does.{moment_of};
 ghost use Rattle.ldm_upstream.specs.Giving.{given_of, ReadsPart, ReadsAll};

@@ -9,7 +9,7 @@ ghost use Rattle.ldm_upstream.specs.Feeder.{CanTurn, IsSameFeeder, asked_by};
 
 use crate::feeder::Feeder;
 use ldm_outside::{Clock, Gate, Link, Sink};
-use ldm_reader::products_stay;
+use ldm_shared::products_stay;
 use ldm_sender::SendEnd;
 use ldm_shared::{Pass, Shared};
 use std::sync::Wait;

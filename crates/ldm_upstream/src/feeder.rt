@@ -1,6 +1,6 @@
 //! One who feeds a connection.
 use ldm_class::{ClassMatcher, HostPolicy};
-use ldm_reader::Reader;
+use ldm_shared::Reader;
 use ldm_sender::Standing;
 use ldm_session::Replies;
 use ldm_types::Micros;

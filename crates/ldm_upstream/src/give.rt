@@ -2,7 +2,7 @@
 ghost use Rattle.std.specs.Prelude.{◌+◌, ◌≤◌, ℕ, List};
 ghost use Rattle.ldm_outside.specs.Link.{IsNotClosed};
 ghost use Rattle.ldm_shared.specs.Passes.{IsPassOf, IsSamePass};
-ghost use Rattle.ldm_reader.specs.Reader.{Holds};
+ghost use Rattle.ldm_shared.specs.Reader.{Holds};
 ghost use Rattle.ldm_relay.specs.Writable.{IsShortProduct};
 ghost use Rattle.ldm_relay.specs.declared.message.TheConstants.{LARGEST_BLOCK};
 ghost use Rattle.ldm_sender.specs.Does.{moment_of};

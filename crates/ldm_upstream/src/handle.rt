@@ -3,7 +3,7 @@ ghost use Rattle.std.specs.Prelude.{◌≡◌, ℕ, List};
 ghost use Rattle.ldm_outside.specs.Link.{IsNotClosed};
 ghost use Rattle.ldm_relay.specs.Writable.{IsShortProduct};
 ghost use Rattle.ldm_shared.specs.Passes.{IsPassOf, IsSamePass};
-ghost use Rattle.ldm_reader.specs.Reader.{Holds};
+ghost use Rattle.ldm_shared.specs.Reader.{Holds};
 ghost use Rattle.ldm_sender.specs.Does.{moment_of};
 ghost use Rattle.ldm_upstream.specs.Feeder.{IsSameFeeder, asked_by};
 ghost use Rattle.ldm_upstream.specs.Giving.{given_of};
@@ -11,7 +11,7 @@ ghost use Rattle.ldm_upstream.specs.Offering.{Handles, Offers};
 
 use crate::feeder::Feeder;
 use ldm_outside::{Clock, Link};
-use ldm_reader::Held;
+use ldm_shared::Held;
 use ldm_sender::{SendEnd, is_due};
 use ldm_shared::{Pass, Shared, Turn};
 use std::sync::Wait;

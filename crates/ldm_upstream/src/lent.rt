@@ -1,5 +1,5 @@
 //! A product that a cursor holds.
-use ldm_reader::{Held, Reader};
+use ldm_shared::{Held, Reader};
 
 // A product, and the cursor that holds it.
 #[derive(Drop)]

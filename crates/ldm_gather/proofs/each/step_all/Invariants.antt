@@ -1,5 +1,5 @@
 use Rattle.std.proofs.Common.{None}
-use Rattle.ldm_reader.specs.Reader.{HasCursor}
+use Rattle.ldm_shared.specs.Reader.{HasCursor}
 use Rattle.ldm_gather.specs.EachHandling.{IsGoing, IsSameEach, tap_in}
 use Rattle.ldm_gather.specs.Stepping.{sight_of}
 use Rattle.ldm_gather.specs.Taking.{hands_of}

@@ -1,7 +1,7 @@
 use Rattle.std.proofs.Common.{sym, subst}
 use Rattle.ldm_shared.specs.Passes.{AreAllOf}
 use Rattle.ldm_shared.proofs.CallerLemmas.{new_are_all}
-use Rattle.ldm_workers.proofs.Unseen.{unseen_by_all}
+use Rattle.ldm_shared.proofs.Unseen.{unseen_by_all}
 use Rattle.ldm_node.proofs.run.close.Goals as goal
 
 pub finish-book-requires : goal.finish-book-requires

@@ -2,7 +2,7 @@ use Rattle.std.proofs.Common.{◌∙◌, ℕ, List, ◌+◌, arith, ap, refl, []
 use Rattle.std.proofs.lemmas.Result.{err_from_is_err_and}
 use Rattle.ldm_outside.specs.Clock.{ClockRecord}
 use Rattle.ldm_shared.specs.Passes.{PassView}
-use Rattle.ldm_reader.specs.Reader.{Holds}
+use Rattle.ldm_shared.specs.Reader.{Holds}
 use Rattle.ldm_upstream.specs.ProductDeeds.{reading_all}
 use Rattle.ldm_sender.specs.Does.{moment_of}
 use Rattle.ldm_upstream.specs.Giving.{given_of}

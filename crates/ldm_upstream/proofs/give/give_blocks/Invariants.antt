@@ -1,7 +1,7 @@
 use Rattle.std.proofs.Common.{◌≡◌, ◌≤◌, ◌-◌, ℕ, List}
 use Rattle.ldm_outside.specs.Link.{IsNotClosed}
 use Rattle.ldm_shared.specs.Passes.{IsSamePass}
-use Rattle.ldm_reader.specs.Reader.{Holds}
+use Rattle.ldm_shared.specs.Reader.{Holds}
 use Rattle.ldm_sender.specs.Does.{moment_of}
 use Rattle.ldm_upstream.specs.Giving.{given_of}
 use Rattle.ldm_upstream.proofs.Sending.{HasGiven}

@@ -3,7 +3,7 @@ use Rattle.std.specs.Vec.{vec_len}
 use Rattle.ldm_outside.specs.Link.{IsNotClosed}
 use Rattle.ldm_shared.specs.Passes.{IsSamePass}
 use Rattle.ldm_downstream.specs.Pieces.{Piece}
-use Rattle.ldm_reader.specs.Reader.{HasCursor}
+use Rattle.ldm_shared.specs.Reader.{HasCursor}
 use Rattle.ldm_gather.specs.Gathering.{GoesOn}
 use Rattle.ldm_gather.specs.Scene.{KeepsGatherCounts, lent_of, moment_of, scene_of}
 use Rattle.ldm_gather.specs.Turning.{IsReady, SameButCourse}

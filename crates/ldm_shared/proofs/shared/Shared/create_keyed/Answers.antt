@@ -7,7 +7,7 @@ use Rattle.ldm_shared.specs.declared.sizes.Sizes.{Sizes}
 use Rattle.ldm_shared.specs.declared.view.View.{View}
 use Rattle.ldm_shared.specs.Passes.{PassView, new_pass}
 use Rattle.ldm_shared.specs.Joining.{without_pass}
-use Rattle.ldm_shared.proofs.Opening.{dealt-actors, dealt-more, items_more}
+use Rattle.ldm_shared.proofs.OpeningPlaces.{dealt-actors, dealt-more, items_more}
 use Rattle.ldm_shared.proofs.shared.Shared.create_keyed.Goals as goal
 
 pub deal-requires-clause-first : goal.deal-requires-clause-first

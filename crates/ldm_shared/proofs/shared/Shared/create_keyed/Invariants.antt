@@ -1,5 +1,5 @@
 use Rattle.std.proofs.Common.{◌≡◌, vec_len, vec_capacity}
-use Rattle.ldm_shared.proofs.Opening.{IsDealt}
+use Rattle.ldm_shared.proofs.OpeningPlaces.{IsDealt}
 use Rattle.ldm_shared.proofs.shared.Shared.create_keyed.Given as goal
 
 abbrev pub invariant-loop-i : goal.invariant-loop-i

@@ -3,7 +3,7 @@ use Rattle.std.specs.Prelude.{Option}
 use Rattle.atomic_table.specs.Table as table
 use Rattle.ldm_book.specs.View.{BookView}
 use Rattle.ldm_shared.specs.Rule.{IsKept, opening}
-use Rattle.ldm_shared.proofs.Opening.{opened}
+use Rattle.ldm_shared.proofs.OpeningPlaces.{opened}
 use Rattle.ldm_shared.proofs.shared.Shared.open.Goals as goal
 
 pub new-requires : goal.new-requires

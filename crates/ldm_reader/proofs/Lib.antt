@@ -1,4 +1,0 @@
-mod RowsStay
-mod Cursors
-mod Answered
-mod Readers

@@ -1,3 +1,0 @@
-pub mod Turned
-pub mod Unseen
-pub mod Gathered
