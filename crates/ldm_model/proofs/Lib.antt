@@ -31,7 +31,7 @@ pub mod Admitted
 pub mod FillingPoints
 pub mod FillingAnswered
 pub mod Numbered
-mod Fitting
+pub mod Fitting
 mod Changing
 mod Times
 mod Signatures
