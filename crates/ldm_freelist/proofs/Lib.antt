@@ -2,10 +2,10 @@ pub mod Sorted
 pub mod Best
 pub mod Order
 pub mod Spelled
+pub mod Built
 pub mod RaiseLeft
-pub mod RaiseLeftInner
 pub mod RaiseRight
-pub mod RaiseRightInner
+pub mod RaiseInner
 pub mod Lean
 pub mod Level
 pub mod Insert

@@ -128,10 +128,16 @@ apart_below nodes t i s below has = not_less (pair_at nodes i) (pair_of_node nod
 pub apart_above : (nodes : List Node) (t : Tree) (i : ℕ) → Spells nodes t → AllByRecursion (λ x. pair_cmp (pair_at nodes i) x ≡ Less) (pairs_of t) → ¬ Has i t
 apart_above nodes t i s above has = not_less (pair_at nodes i) (pair_of_node nodes (λ x. pair_cmp (pair_at nodes i) x ≡ Less) t i s above has)
 
+-- of two tables with the same pairs each may spell one of the trees
+pub apart_tables : (a b : List Node) (l r : Tree) (p : ℕ × ℕ) (i : ℕ) → pair_at a i ≡ pair_at b i → Spells a l → Spells b r → AllByRecursion (λ x. pair_cmp x p ≡ Less) (pairs_of l) →
+    AllByRecursion (λ x. pair_cmp p x ≡ Less) (pairs_of r) → Has i l → ¬ Has i r
+apart_tables a b l r p i same sl sr below above in_l in_r =
+    not_less (pair_at a i)
+    (pairs_total.trans (pair_at a i) p (pair_at a i) (pair_of_node a (λ x. pair_cmp x p ≡ Less) l i sl below in_l)
+    (subst (λ x. pair_cmp p x ≡ Less) (sym same) (pair_of_node b (λ x. pair_cmp p x ≡ Less) r i sr above in_r)))
+
 pub apart_sides : (nodes : List Node) (l r : Tree) (p : ℕ × ℕ) (i : ℕ) → Spells nodes l → Spells nodes r → IsCut (pairs_of l) p (pairs_of r) → Has i l → ¬ Has i r
-apart_sides nodes l r p i sl sr c in_l in_r =
-    not_less (pair_at nodes i)
-    (pairs_total.trans (pair_at nodes i) p (pair_at nodes i) (pair_of_node nodes (λ x. pair_cmp x p ≡ Less) l i sl c.below in_l) (pair_of_node nodes (λ x. pair_cmp p x ≡ Less) r i sr c.above in_r))
+apart_sides nodes l r p i sl sr c = apart_tables nodes nodes l r p i refl sl sr c.below c.above
 
 -- a change at some nodes is one at more, and after another it is one at both
 pub kept_more : {old new : List Node} {P Q : ℕ → Type 0} → ((i : ℕ) → P i → Q i) → IsKept old new P → IsKept old new Q
@@ -151,3 +157,14 @@ spells_outside old new P t k out s = spells_kept old new t k.as_long (λ i has. 
 pub opened : (nodes : List Node) (t : Tree) → Spells nodes t → 0 < height t → (sides : Tree × Tree) × (t ≡ Fork (root_of t) (pair_at nodes (root_of t)) sides.0 sides.1)
 opened nodes Leaf s h = absurd (omega (arith, h))
 opened nodes (Fork k p l r) s h = ((l, r), ap (λ q. Fork k q l r) (sym (pair_at-root nodes k p l r s)))
+
+-- the same, by the name that the code has of its root
+pub opened_side : (nodes : List Node) (root : ℕ) (t : Tree) → Spells nodes t → root ≡ root_of t → 0 < height t → (sides : Tree × Tree) × (t ≡ Fork root (pair_at nodes root) sides.0 sides.1)
+opened_side nodes root t s is h = subst (λ i. (sides : Tree × Tree) × (t ≡ Fork i (pair_at nodes i) sides.0 sides.1)) (sym is) (opened nodes t s h)
+
+-- what the table tells of the sides of a fork
+pub left_told : (nodes : List Node) (i : ℕ) (p : ℕ × ℕ) (l r : Tree) → Spells nodes (Fork i p l r) → (left : ℕ) → left ≡ (node_at nodes i).left → left ≡ root_of l
+left_told nodes i p l r s left is = is ∙ ap (λ (n : Node). n.left) s.1
+
+pub right_told : (nodes : List Node) (i : ℕ) (p : ℕ × ℕ) (l r : Tree) → Spells nodes (Fork i p l r) → (right : ℕ) → right ≡ (node_at nodes i).right → right ≡ root_of r
+right_told nodes i p l r s right is = is ∙ ap (λ (n : Node). n.right) s.1

@@ -108,8 +108,8 @@ fn raise_right_inner(table: &mut NodeTable, node: u32, left: u32, right: u32) ->
 {
     let (inner, outer) = table.sides(right);
     let (inner_left, inner_right) = table.sides(inner);
-    table.join(right, inner_right, outer);
     table.join(node, left, inner_left);
+    table.join(right, inner_right, outer);
     table.join(inner, node, right);
     inner
 }

@@ -34,10 +34,10 @@ lean_right-requires-clause-higher c =
     omega (arith, l, r, c.requires.1.near)
 
 pub join-requires : goal.join-requires
-join-requires c = can_level c.args.table.now c.args.node c.args.left c.args.right c.requires.0.0 c.requires.0.1 c.requires.1
+join-requires c = can_level c.requires.1
 
 pub returns-else-right_height-left_height : goal.returns-else-right_height-left_height
 returns-else-right_height-left_height c less more loose =
     let l = tree_height c.args.table.now c.args.left less loose.left_tree in
     let r = tree_height c.args.table.now c.args.right more loose.right_tree in
-    level c.args.table.now c.args.node c.args.left c.args.right less more loose c.join.new.self c.join.ensures (omega (arith, l, r), omega (arith, l, r))
+    level loose c.join.ensures (omega (arith, l, r), omega (arith, l, r))

@@ -1,46 +1,31 @@
-use Rattle.ldm_freelist.proofs.RaiseLeftInner.{IsReadLeft, inner_within, join_first, join_second, join_third, raise}
+use Rattle.ldm_freelist.proofs.RaiseInner.{spread_left, read_left, raise_left, join_first, join_second, join_third, third}
 use Rattle.ldm_freelist.proofs.tree.raise_left_inner.Goals as goal
 
 pub sides-outer-requires : goal.sides-outer-requires
 sides-outer-requires c = c.requires.1.loose.left_tree.spelled.0.within
 
 pub sides-inner_left-requires : goal.sides-inner_left-requires
-sides-inner_left-requires c =
-    let t = c.requires.0 in
-    inner_within c.args.table.now c.args.node c.args.left c.args.right t.0 t.1 t.2 c.requires.1 c.requires.2 c.sides-outer.result.1 c.sides-outer.ensures.right
+sides-inner_left-requires c = (spread_left c.requires.1 c.requires.2 c.sides-outer.ensures.left c.sides-outer.ensures.right).inner.0.within
 
 pub join-requires : goal.join-requires
 join-requires c =
-    let t = c.requires.0 in
-    let sides = c.sides-outer.result in
-    let inner = c.sides-inner_left.result in
-    let told : IsReadLeft c.args.table.now c.args.left sides.0 sides.1 inner.0 inner.1 = record
-    { o_is = c.sides-outer.ensures.left; i_is = c.sides-outer.ensures.right; a_is = c.sides-inner_left.ensures.left; b_is = c.sides-inner_left.ensures.right } in
-    join_first c.args.table.now c.args.node c.args.left c.args.right t.0 t.1 t.2 c.requires.1 c.requires.2 sides.0 sides.1 inner.0 inner.1 told
+    let spread = spread_left c.requires.1 c.requires.2 c.sides-outer.ensures.left c.sides-outer.ensures.right in
+    join_first spread (read_left c.requires.1 c.requires.2 c.sides-outer.ensures.left c.sides-outer.ensures.right c.sides-inner_left.ensures.left c.sides-inner_left.ensures.right)
 
 pub join-requires-2 : goal.join-requires-2
 join-requires-2 c =
-    let t = c.requires.0 in
-    let sides = c.sides-outer.result in
-    let inner = c.sides-inner_left.result in
-    let told : IsReadLeft c.args.table.now c.args.left sides.0 sides.1 inner.0 inner.1 = record
-    { o_is = c.sides-outer.ensures.left; i_is = c.sides-outer.ensures.right; a_is = c.sides-inner_left.ensures.left; b_is = c.sides-inner_left.ensures.right } in
-    join_second c.args.table.now c.args.node c.args.left c.args.right t.0 t.1 t.2 c.requires.1 c.requires.2 sides.0 sides.1 inner.0 inner.1 told c.join.new.self c.join.ensures
+    let spread = spread_left c.requires.1 c.requires.2 c.sides-outer.ensures.left c.sides-outer.ensures.right in
+    join_second spread (read_left c.requires.1 c.requires.2 c.sides-outer.ensures.left c.sides-outer.ensures.right c.sides-inner_left.ensures.left c.sides-inner_left.ensures.right) c.join.ensures
 
 pub join-requires-3 : goal.join-requires-3
 join-requires-3 c =
-    let t = c.requires.0 in
-    let sides = c.sides-outer.result in
-    let inner = c.sides-inner_left.result in
-    let told : IsReadLeft c.args.table.now c.args.left sides.0 sides.1 inner.0 inner.1 = record
-    { o_is = c.sides-outer.ensures.left; i_is = c.sides-outer.ensures.right; a_is = c.sides-inner_left.ensures.left; b_is = c.sides-inner_left.ensures.right } in
-    join_third c.args.table.now c.args.node c.args.left c.args.right t.0 t.1 t.2 c.requires.1 c.requires.2 sides.0 sides.1 inner.0 inner.1 told c.join.new.self c.join-2.new.self
+    let spread = spread_left c.requires.1 c.requires.2 c.sides-outer.ensures.left c.sides-outer.ensures.right in
+    join_third spread (read_left c.requires.1 c.requires.2 c.sides-outer.ensures.left c.sides-outer.ensures.right c.sides-inner_left.ensures.left c.sides-inner_left.ensures.right)
     c.join.ensures c.join-2.ensures
 
 pub returns : goal.returns
 returns c outer inner more lean high =
-    let sides = c.sides-outer.result in
-    let inner_sides = c.sides-inner_left.result in
-    raise c.args.table.now c.args.node c.args.left c.args.right outer inner more lean high sides.0 sides.1 inner_sides.0 inner_sides.1
-    (record { o_is = c.sides-outer.ensures.left; i_is = c.sides-outer.ensures.right; a_is = c.sides-inner_left.ensures.left; b_is = c.sides-inner_left.ensures.right })
-    c.join.new.self c.join-2.new.self c.join-3.new.self c.join.ensures c.join-2.ensures c.join-3.ensures
+    let spread = spread_left lean high c.sides-outer.ensures.left c.sides-outer.ensures.right in
+    raise_left lean high c.sides-outer.ensures.left c.sides-outer.ensures.right
+    (third spread (read_left lean high c.sides-outer.ensures.left c.sides-outer.ensures.right c.sides-inner_left.ensures.left c.sides-inner_left.ensures.right)
+    c.join.ensures c.join-2.ensures c.join-3.ensures)
