@@ -2,12 +2,13 @@
 use Rattle.std.proofs.Common.{◌≡◌, ℕ, ◌+◌, ◌<◌, ◌≤◌, true, false, cond, ltb, get_or, List, [], ◌∷◌, ◌++◌, length, Some, None, sym, ap, subst, ◌∙◌, arith}
 use Rattle.std.specs.FinMap as fin
 use Rattle.std.specs.FinSet as set
+use Rattle.std.proofs.lemmas.Bool.{le-ltb}
 use Rattle.std.proofs.lemmas.List.{get_or_read}
 use Rattle.ldm_freelist.specs.Pairs.{Pairs, IsLastTo}
 use Rattle.ldm_regions.specs.Layout.{IsFree}
 use Rattle.ldm_regions.specs.Order.{Used, Lie}
 use Rattle.ldm_regions.specs.Links.{node_at, in_order, IsRingOf, linked}
-use Rattle.ldm_regions.specs.Gaps.{if_any, gaps_between, with_gap, without_gap}
+use Rattle.ldm_regions.specs.Gaps.{if_any, gaps_between, with_gap, without_gap, IsFound}
 use Rattle.ldm_regions.specs.Kept.{IsKept}
 use Rattle.ldm_regions.specs.declared.links.Node.{Node}
 use Rattle.ldm_regions.specs.declared.gaps.Gap.{Gap}
@@ -17,6 +18,7 @@ use Rattle.ldm_regions.proofs.Laid.{no_more}
 use Rattle.ldm_regions.proofs.Sets.{Rise, Rise-without, pairs_of, TellsStart, Has, has_gap, lacks_gap, has_room, without_it, with_it}
 use Rattle.ldm_regions.proofs.Seams.{gaps_in_front, gaps_behind, gap_at, gaps_around, gaps_rise, gaps_length, last_owner, Spot}
 use Rattle.ldm_regions.proofs.Rings.{spelled, ring_end, ring_more, ring_seam}
+use Rattle.ldm_regions.proofs.Arenas.{spot_kept}
 use Rattle.ldm_regions.proofs.Inside.{Begun, gap_begun, spot_begun, too_early}
 
 -- the region, and what is left of the gap
@@ -137,7 +139,22 @@ module _ (nodes : List Node) (arena slots : ℕ) (extents fronts : Pairs) (kept 
           subst (λ g. Amid nodes arena slots g offset need owner) (sym spot.at ∙ is)
           (amid_at nodes arena slots spot.front spot.behind offset need owner kept.ring spot.whole none below some (omega (arith, starts, found.start_is, last.0.1)) (omega (arith, ends, end_read, high)))
 
-module _ (nodes : List Node) (arena slots : ℕ) (gap : Gap) (offset need owner : ℕ) (amid : Amid nodes arena slots gap offset need owner) where
+-- where the region comes to the start of the gap that the sets tell as the best, nothing is left in front of it
+pub amid_found : {nodes : List Node} {arena slots need owner : ℕ} {extents fronts : Pairs} {gap : Gap} → IsKept nodes arena slots extents fronts → 0 < need → owner < slots →
+    region_at owner (in_order nodes slots) ≡ None → IsFound need extents.members fronts.members (Some gap) → Amid nodes arena slots gap gap.start need owner
+amid_found {nodes} {arena} {slots} {need} {owner} {extents} {fronts} {gap} kept some below none is =
+    let spot = spot_kept nodes arena slots extents fronts kept need gap is in
+    let long = is.0.0.1 in
+    let starts = ap (λ (g : Gap). g.start) spot.at in
+    let ends = ap (λ (g : Gap). g.end) spot.at in
+    subst (λ g. Amid nodes arena slots g g.start need owner) (sym spot.at)
+    (amid_at nodes arena slots spot.front spot.behind (last_end 0 spot.front) need owner kept.ring spot.whole none below some (omega arith) (omega arith))
+
+pub without_front : (key : Gap → ℕ × ℕ) (pairs : Pairs) (gap : Gap) → gap.end ≤ gap.start → pairs ≡ record pairs { members = with_gap key pairs.members gap }
+without_front key pairs gap empty =
+    ap (λ b. record pairs { members = cond b (set.insert pairs.members (key gap)) pairs.members }) (sym (le-ltb gap.start gap.end empty))
+
+module _ {nodes : List Node} {arena slots offset need owner : ℕ} {gap : Gap} (amid : Amid nodes arena slots gap offset need owner) where
   abbrev u : Used
   u = region_amid offset need owner
 
@@ -154,14 +171,14 @@ module _ (nodes : List Node) (arena slots : ℕ) (gap : Gap) (offset need owner 
       ∙ ap (λ us. fin.insert (owned_by us) owner (record { start = offset; extent = need })) (sym amid.whole)
 
   -- the set of the gaps by a key, as it gives one up and takes two
-  module _ (key : Gap → ℕ × ℕ) (tells : TellsStart key) (pairs : Pairs) (has : Has key tells (slots + 1) (gaps_between slots 0 (in_order nodes slots) arena) pairs) where
+  module _ (key : Gap → ℕ × ℕ) (tells : TellsStart key) {pairs : Pairs} (has : Has key tells (slots + 1) (gaps_between slots 0 (in_order nodes slots) arena) pairs) where
     old : Has key tells (slots + 1) (amid.before ++ (if_any gap ++ amid.after)) pairs
     old = has ∙ ap (λ gaps. record { room = slots + 1; members = pairs_of key gaps }) amid.gaps_old
 
     pub gap_there : gap.start < gap.end → set.contains pairs.members (key gap) ≡ true
     gap_there = has_gap key tells (slots + 1) amid.before gap amid.after pairs old
 
-    module _ (less : Pairs) (first : less ≡ record pairs { members = without_gap key pairs.members gap }) where
+    module _ {less : Pairs} (first : less ≡ record pairs { members = without_gap key pairs.members gap }) where
       gap_out : Has key tells (slots + 1) (amid.before ++ amid.after) less
       gap_out = without_it key tells (slots + 1) amid.before gap amid.after pairs less amid.rise_old old first
 
@@ -173,7 +190,7 @@ module _ (nodes : List Node) (arena slots : ℕ) (gap : Gap) (offset need owner 
             has_room key tells (slots + 1) amid.before beyond amid.after less (omega (arith, fewer, fits)) gap_out any,
           )
 
-      module _ (more : Pairs) (second : more ≡ record less { members = with_gap key less.members beyond }) where
+      module _ {more : Pairs} (second : more ≡ record less { members = with_gap key less.members beyond }) where
         behind_in : Has key tells (slots + 1) (amid.before ++ (if_any beyond ++ amid.after)) more
         behind_in = with_it key tells (slots + 1) amid.before beyond amid.after less more gap_out second
 
@@ -183,7 +200,7 @@ module _ (nodes : List Node) (arena slots : ℕ) (gap : Gap) (offset need owner 
           has_room key tells (slots + 1) amid.before ahead (if_any beyond ++ amid.after) more amid.fits behind_in any,
         )
 
-        pub front_in : (most : Pairs) → most ≡ record more { members = with_gap key more.members ahead } → Has key tells (slots + 1) (gaps_between slots 0 (amid.front ++ u ∷ amid.behind) arena) most
-        front_in most third =
+        pub front_in : {most : Pairs} → most ≡ record more { members = with_gap key more.members ahead } → Has key tells (slots + 1) (gaps_between slots 0 (amid.front ++ u ∷ amid.behind) arena) most
+        front_in {most} third =
             with_it key tells (slots + 1) amid.before ahead (if_any beyond ++ amid.after) more most behind_in third
             ∙ ap (λ gaps. record { room = slots + 1; members = pairs_of key gaps }) (sym amid.gaps_new)

@@ -111,31 +111,31 @@ module _ (nodes : List Node) (arena slots owner : ℕ) (ring : IsRingOf nodes sl
           (subst (λ g. Joint nodes arena slots owner (front_gap nodes owner) g (record { start = from.end; end = to.start; front = node.front })) (sym two)
           (subst (λ g. Joint nodes arena slots owner (front_gap nodes owner) (behind_gap nodes owner) g) (sym both) in_table))
 
-module _ (nodes : List Node) (arena slots owner : ℕ) (one two both : Gap) (joint : Joint nodes arena slots owner one two both) where
+module _ {nodes : List Node} {arena slots owner : ℕ} {one two both : Gap} (joint : Joint nodes arena slots owner one two both) where
   pub joint_owned : owned_by (in_order (unlinked nodes owner) slots) ≡ fin.remove (owned_by (in_order nodes slots)) owner
   joint_owned = ap owned_by (spelled (unlinked nodes owner) slots arena joint.left joint.ring) ∙ joint.owned
 
   -- the set of the gaps by a key, as it gives two up and takes one
-  module _ (key : Gap → ℕ × ℕ) (tells : TellsStart key) (pairs : Pairs) (has : Has key tells (slots + 1) (gaps_between slots 0 (in_order nodes slots) arena) pairs) where
+  module _ (key : Gap → ℕ × ℕ) (tells : TellsStart key) {pairs : Pairs} (has : Has key tells (slots + 1) (gaps_between slots 0 (in_order nodes slots) arena) pairs) where
     old : Has key tells (slots + 1) (joint.before ++ (if_any one ++ (if_any two ++ joint.after))) pairs
     old = has ∙ ap (λ gaps. record { room = slots + 1; members = pairs_of key gaps }) joint.gaps_old
 
     pub one_there : one.start < one.end → set.contains pairs.members (key one) ≡ true
     one_there = has_gap key tells (slots + 1) joint.before one (if_any two ++ joint.after) pairs old
 
-    module _ (less : Pairs) (first : less ≡ record pairs { members = without_gap key pairs.members one }) where
+    module _ {less : Pairs} (first : less ≡ record pairs { members = without_gap key pairs.members one }) where
       one_out : Has key tells (slots + 1) (joint.before ++ (if_any two ++ joint.after)) less
       one_out = without_it key tells (slots + 1) joint.before one (if_any two ++ joint.after) pairs less joint.rise_old old first
 
       pub two_there : two.start < two.end → set.contains less.members (key two) ≡ true
       two_there = has_gap key tells (slots + 1) joint.before two joint.after less one_out
 
-      module _ (least : Pairs) (second : least ≡ record less { members = without_gap key less.members two }) where
+      module _ {least : Pairs} (second : least ≡ record less { members = without_gap key less.members two }) where
         two_out : Has key tells (slots + 1) (joint.before ++ joint.after) least
         two_out = without_it key tells (slots + 1) joint.before two joint.after less least (Rise-without joint.before one (if_any two ++ joint.after) joint.rise_old) one_out second
 
         pub both_new : both.start < both.end → (set.contains least.members (key both) ≡ false) × (set.len least.members < least.room)
         both_new any = (lacks_gap key tells (slots + 1) joint.before both joint.after least joint.rise_new two_out any, has_room key tells (slots + 1) joint.before both joint.after least joint.fits two_out any)
 
-        pub both_in : (more : Pairs) → more ≡ record least { members = with_gap key least.members both } → Has key tells (slots + 1) (gaps_between slots 0 joint.left arena) more
-        both_in more third = with_it key tells (slots + 1) joint.before both joint.after least more two_out third ∙ ap (λ gaps. record { room = slots + 1; members = pairs_of key gaps }) (sym joint.gaps_new)
+        pub both_in : {more : Pairs} → more ≡ record least { members = with_gap key least.members both } → Has key tells (slots + 1) (gaps_between slots 0 joint.left arena) more
+        both_in {more} third = with_it key tells (slots + 1) joint.before both joint.after least more two_out third ∙ ap (λ gaps. record { room = slots + 1; members = pairs_of key gaps }) (sym joint.gaps_new)

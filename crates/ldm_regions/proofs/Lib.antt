@@ -8,7 +8,6 @@ pub mod Seams
 pub mod Found
 pub mod Rings
 pub mod Arenas
-pub mod Cut
 pub mod Joint
 pub mod Ways
 pub mod Whole

@@ -55,43 +55,27 @@ joint c =
 
 pub remove-requires-clause-extents : goal.remove-requires-clause-extents
 remove-requires-clause-extents c =
-    let inside = c.self.inside in
-    let at = (goal.at.remove-requires-clause-extents c).After-index-2 in
-    one_there inside.nodes.items inside.arena inside.slots c.args.owner (one_of at) (two_of at) (both_of at) (joint at) by_extent extent_tells inside.gaps.extents c.self.invariant.by_extents
+    one_there (joint (goal.at.remove-requires-clause-extents c).After-index-2) by_extent extent_tells c.self.invariant.by_extents
 
 pub remove-requires-2-clause-extents : goal.remove-requires-2-clause-extents
 remove-requires-2-clause-extents c =
-    let inside = c.self.inside in
-    let at = (goal.at.remove-requires-2-clause-extents c).After-index-2 in
-    two_there inside.nodes.items inside.arena inside.slots c.args.owner (one_of at) (two_of at) (both_of at) (joint at) by_extent extent_tells inside.gaps.extents c.self.invariant.by_extents
-    c.remove.new.self.extents c.remove.ensures.extents
+    two_there (joint (goal.at.remove-requires-2-clause-extents c).After-index-2) by_extent extent_tells c.self.invariant.by_extents c.remove.ensures.extents
 
 pub add-requires-clause-extents : goal.add-requires-clause-extents
 add-requires-clause-extents c =
-    let inside = c.self.inside in
-    let at = (goal.at.add-requires-clause-extents c).After-index-2 in
-    both_new inside.nodes.items inside.arena inside.slots c.args.owner (one_of at) (two_of at) (both_of at) (joint at) by_extent extent_tells inside.gaps.extents c.self.invariant.by_extents
-    c.remove.new.self.extents c.remove.ensures.extents c.remove-2.new.self.extents c.remove-2.ensures.extents
+    both_new (joint (goal.at.add-requires-clause-extents c).After-index-2) by_extent extent_tells c.self.invariant.by_extents c.remove.ensures.extents c.remove-2.ensures.extents
 
 pub remove-requires-clause-fronts : goal.remove-requires-clause-fronts
 remove-requires-clause-fronts c =
-    let inside = c.self.inside in
-    let at = (goal.at.remove-requires-clause-fronts c).After-index-2 in
-    one_there inside.nodes.items inside.arena inside.slots c.args.owner (one_of at) (two_of at) (both_of at) (joint at) by_front front_tells inside.gaps.fronts c.self.invariant.by_fronts
+    one_there (joint (goal.at.remove-requires-clause-fronts c).After-index-2) by_front front_tells c.self.invariant.by_fronts
 
 pub remove-requires-2-clause-fronts : goal.remove-requires-2-clause-fronts
 remove-requires-2-clause-fronts c =
-    let inside = c.self.inside in
-    let at = (goal.at.remove-requires-2-clause-fronts c).After-index-2 in
-    two_there inside.nodes.items inside.arena inside.slots c.args.owner (one_of at) (two_of at) (both_of at) (joint at) by_front front_tells inside.gaps.fronts c.self.invariant.by_fronts
-    c.remove.new.self.fronts c.remove.ensures.fronts
+    two_there (joint (goal.at.remove-requires-2-clause-fronts c).After-index-2) by_front front_tells c.self.invariant.by_fronts c.remove.ensures.fronts
 
 pub add-requires-clause-fronts : goal.add-requires-clause-fronts
 add-requires-clause-fronts c =
-    let inside = c.self.inside in
-    let at = (goal.at.add-requires-clause-fronts c).After-index-2 in
-    both_new inside.nodes.items inside.arena inside.slots c.args.owner (one_of at) (two_of at) (both_of at) (joint at) by_front front_tells inside.gaps.fronts c.self.invariant.by_fronts
-    c.remove.new.self.fronts c.remove.ensures.fronts c.remove-2.new.self.fronts c.remove-2.ensures.fronts
+    both_new (joint (goal.at.add-requires-clause-fronts c).After-index-2) by_front front_tells c.self.invariant.by_fronts c.remove.ensures.fronts c.remove-2.ensures.fronts
 
 pub unlink-requires-clause-owner : goal.unlink-requires-clause-owner
 unlink-requires-clause-owner c =
@@ -121,17 +105,17 @@ invariant_of-self c =
     let left = joint at in
     subst (λ (nodes : List Node). IsKept nodes inside.arena inside.slots c.add.new.self.extents c.add.new.self.fronts) (sym (table c))
     (kept_from (unlinked inside.nodes.items c.args.owner) inside.arena inside.slots c.add.new.self.extents c.add.new.self.fronts left.left left.ring
-    (both_in inside.nodes.items inside.arena inside.slots c.args.owner (one_of at) (two_of at) (both_of at) left by_extent extent_tells inside.gaps.extents c.self.invariant.by_extents
-    c.remove.new.self.extents c.remove.ensures.extents c.remove-2.new.self.extents c.remove-2.ensures.extents c.add.new.self.extents c.add.ensures.extents)
-    (both_in inside.nodes.items inside.arena inside.slots c.args.owner (one_of at) (two_of at) (both_of at) left by_front front_tells inside.gaps.fronts c.self.invariant.by_fronts
-    c.remove.new.self.fronts c.remove.ensures.fronts c.remove-2.new.self.fronts c.remove-2.ensures.fronts c.add.new.self.fronts c.add.ensures.fronts))
+    (both_in left by_extent extent_tells c.self.invariant.by_extents
+    c.remove.ensures.extents c.remove-2.ensures.extents c.add.ensures.extents)
+    (both_in left by_front front_tells c.self.invariant.by_fronts
+    c.remove.ensures.fronts c.remove-2.ensures.fronts c.add.ensures.fronts))
 
 pub returns-clause-owned : goal.returns-clause-owned
 returns-clause-owned c =
     let inside = c.self.inside in
     let at = (goal.at.returns-clause-owned c).After-index-2 in
     ap (λ (owned : Owned). record { arena = inside.arena; slots = inside.slots; owned = owned })
-    (ap (λ (nodes : List Node). owned_by (in_order nodes inside.slots)) (table c) ∙ joint_owned inside.nodes.items inside.arena inside.slots c.args.owner (one_of at) (two_of at) (both_of at) (joint at))
+    (ap (λ (nodes : List Node). owned_by (in_order nodes inside.slots)) (table c) ∙ joint_owned (joint at))
     ∙ ap (λ (layout : Layout). without_owner layout c.args.owner) c.self.view_is
 
 pub returns-clause-tiles : goal.returns-clause-tiles

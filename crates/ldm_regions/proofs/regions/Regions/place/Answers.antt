@@ -85,15 +85,13 @@ amid c room =
 
 pub remove-requires-clause-extents : goal.remove-requires-clause-extents
 remove-requires-clause-extents c =
-    let inside = c.self.inside in
     let at = (goal.at.remove-requires-clause-extents c).After-index-2 in
-    gap_there inside.nodes.items inside.arena inside.slots (gap_of at) c.args.offset c.args.need c.args.owner (amid at (omega (arith, c.if-room-need.false, c.saturating_sub-room.ensures, c.requires.need))) by_extent extent_tells inside.gaps.extents c.self.invariant.by_extents
+    gap_there (amid at (omega (arith, c.if-room-need.false, c.saturating_sub-room.ensures, c.requires.need))) by_extent extent_tells c.self.invariant.by_extents
 
 pub remove-requires-clause-fronts : goal.remove-requires-clause-fronts
 remove-requires-clause-fronts c =
-    let inside = c.self.inside in
     let at = (goal.at.remove-requires-clause-fronts c).After-index-2 in
-    gap_there inside.nodes.items inside.arena inside.slots (gap_of at) c.args.offset c.args.need c.args.owner (amid at (omega (arith, c.if-room-need.false, c.saturating_sub-room.ensures, c.requires.need))) by_front front_tells inside.gaps.fronts c.self.invariant.by_fronts
+    gap_there (amid at (omega (arith, c.if-room-need.false, c.saturating_sub-room.ensures, c.requires.need))) by_front front_tells c.self.invariant.by_fronts
 
 pub link-requires-clause-front : goal.link-requires-clause-front
 link-requires-clause-front c =
@@ -107,31 +105,27 @@ link-requires-clause-behind c =
 
 pub add-requires-clause-extents : goal.add-requires-clause-extents
 add-requires-clause-extents c =
-    let inside = c.self.inside in
     let at = (goal.at.add-requires-clause-extents c).After-index-2 in
-    behind_new inside.nodes.items inside.arena inside.slots (gap_of at) c.args.offset c.args.need c.args.owner (amid at (omega (arith, c.if-room-need.false, c.saturating_sub-room.ensures, c.requires.need))) by_extent extent_tells inside.gaps.extents c.self.invariant.by_extents
-    c.remove.new.self.extents c.remove.ensures.extents
+    behind_new (amid at (omega (arith, c.if-room-need.false, c.saturating_sub-room.ensures, c.requires.need))) by_extent extent_tells c.self.invariant.by_extents
+    c.remove.ensures.extents
 
 pub add-requires-clause-fronts : goal.add-requires-clause-fronts
 add-requires-clause-fronts c =
-    let inside = c.self.inside in
     let at = (goal.at.add-requires-clause-fronts c).After-index-2 in
-    behind_new inside.nodes.items inside.arena inside.slots (gap_of at) c.args.offset c.args.need c.args.owner (amid at (omega (arith, c.if-room-need.false, c.saturating_sub-room.ensures, c.requires.need))) by_front front_tells inside.gaps.fronts c.self.invariant.by_fronts
-    c.remove.new.self.fronts c.remove.ensures.fronts
+    behind_new (amid at (omega (arith, c.if-room-need.false, c.saturating_sub-room.ensures, c.requires.need))) by_front front_tells c.self.invariant.by_fronts
+    c.remove.ensures.fronts
 
 pub add-requires-2-clause-extents : goal.add-requires-2-clause-extents
 add-requires-2-clause-extents c =
-    let inside = c.self.inside in
     let at = (goal.at.add-requires-2-clause-extents c).After-index-2 in
-    front_new inside.nodes.items inside.arena inside.slots (gap_of at) c.args.offset c.args.need c.args.owner (amid at (omega (arith, c.if-room-need.false, c.saturating_sub-room.ensures, c.requires.need))) by_extent extent_tells inside.gaps.extents c.self.invariant.by_extents
-    c.remove.new.self.extents c.remove.ensures.extents c.add.new.self.extents c.add.ensures.extents
+    front_new (amid at (omega (arith, c.if-room-need.false, c.saturating_sub-room.ensures, c.requires.need))) by_extent extent_tells c.self.invariant.by_extents
+    c.remove.ensures.extents c.add.ensures.extents
 
 pub add-requires-2-clause-fronts : goal.add-requires-2-clause-fronts
 add-requires-2-clause-fronts c =
-    let inside = c.self.inside in
     let at = (goal.at.add-requires-2-clause-fronts c).After-index-2 in
-    front_new inside.nodes.items inside.arena inside.slots (gap_of at) c.args.offset c.args.need c.args.owner (amid at (omega (arith, c.if-room-need.false, c.saturating_sub-room.ensures, c.requires.need))) by_front front_tells inside.gaps.fronts c.self.invariant.by_fronts
-    c.remove.new.self.fronts c.remove.ensures.fronts c.add.new.self.fronts c.add.ensures.fronts
+    front_new (amid at (omega (arith, c.if-room-need.false, c.saturating_sub-room.ensures, c.requires.need))) by_front front_tells c.self.invariant.by_fronts
+    c.remove.ensures.fronts c.add.ensures.fronts
 
 -- the table as it is written back
 table : (c : After-add-2) → (with_items c.self.inside.nodes c.link.new.nodes).items ≡ linked c.self.inside.nodes.items c.args.owner c.args.offset (c.args.offset + c.args.need) c.in-Some.front
@@ -143,15 +137,14 @@ pub invariant_of-self : goal.invariant_of-self
 invariant_of-self c =
     let inside = c.self.inside in
     let at = (goal.at.invariant_of-self c).After-index-2 in
-    let gap = gap_of at in
     let in_gap = amid at (omega (arith, c.if-room-need.false, c.saturating_sub-room.ensures, c.requires.need)) in
     let used = in_gap.front ++ region_amid c.args.offset c.args.need c.args.owner ∷ in_gap.behind in
     subst (λ (nodes : List Node). IsKept nodes inside.arena inside.slots c.add-2.new.self.extents c.add-2.new.self.fronts) (sym (table c))
     (kept_from (linked inside.nodes.items c.args.owner c.args.offset (c.args.offset + c.args.need) c.in-Some.front) inside.arena inside.slots c.add-2.new.self.extents c.add-2.new.self.fronts used in_gap.ring
-    (front_in inside.nodes.items inside.arena inside.slots gap c.args.offset c.args.need c.args.owner in_gap by_extent extent_tells inside.gaps.extents c.self.invariant.by_extents
-    c.remove.new.self.extents c.remove.ensures.extents c.add.new.self.extents c.add.ensures.extents c.add-2.new.self.extents c.add-2.ensures.extents)
-    (front_in inside.nodes.items inside.arena inside.slots gap c.args.offset c.args.need c.args.owner in_gap by_front front_tells inside.gaps.fronts c.self.invariant.by_fronts
-    c.remove.new.self.fronts c.remove.ensures.fronts c.add.new.self.fronts c.add.ensures.fronts c.add-2.new.self.fronts c.add-2.ensures.fronts))
+    (front_in in_gap by_extent extent_tells c.self.invariant.by_extents
+    c.remove.ensures.extents c.add.ensures.extents c.add-2.ensures.extents)
+    (front_in in_gap by_front front_tells c.self.invariant.by_fronts
+    c.remove.ensures.fronts c.add.ensures.fronts c.add-2.ensures.fronts))
 
 pub returns-clause-owned : goal.returns-clause-owned
 returns-clause-owned c =
@@ -160,7 +153,7 @@ returns-clause-owned c =
     let in_gap = amid at (omega (arith, c.if-room-need.false, c.saturating_sub-room.ensures, c.requires.need)) in
     ap (λ (owned : Owned). record { arena = inside.arena; slots = inside.slots; owned = owned })
     (ap (λ (nodes : List Node). owned_by (in_order nodes inside.slots)) (table c)
-    ∙ amid_owned inside.nodes.items inside.arena inside.slots (gap_of at) c.args.offset c.args.need c.args.owner in_gap)
+    ∙ amid_owned in_gap)
     ∙ ap (λ (layout : Layout). with_region layout c.args.owner (record { start = c.args.offset; extent = c.args.need })) c.self.view_is
 
 pub returns-clause-tiles : goal.returns-clause-tiles
