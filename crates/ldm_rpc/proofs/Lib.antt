@@ -12,3 +12,4 @@ pub mod Found
 pub mod Split
 pub mod Pending
 pub mod CallerLemmas
+pub mod LookingLemmas

@@ -1,14 +1,17 @@
 -- A record of one fragment at the front of a piece.
-use Rattle.std.proofs.Common.{◌≡◌, ℕ, ◌+◌, ◌-◌, ◌<◌, ◌≤◌, List, ◌++◌, length, get_or, inl, inr, ◌*◌, ◌^◌, take, drop, Some, sym, ap, subst, ◌∙◌, append_assoc, arith}
+use Rattle.std.proofs.Common.{◌≡◌, ℕ, ◌+◌, ◌-◌, ◌<◌, ◌≤◌, List, ◌++◌, length, get_or, inl, inr, ◌*◌, ◌^◌, take, drop, Option, Some, None, sym, ap, subst, ◌∙◌, append_assoc, arith}
+use Rattle.std.specs.Prelude.{IfSome, IfNone}
 use Rattle.std.specs.Int.{w32, to_be_bytes}
 use Rattle.std.proofs.lemmas.Nat.{be_bytes_4}
 use Rattle.std.proofs.lemmas.Bool.{cases_lt}
 use Rattle.std.proofs.lemmas.List.{get_or-take, get_or_past, take-append-drop, length-take, length-append}
 use Rattle.std.proofs.lemmas.List.Elements.{All-nil}
+use Rattle.ldm_rpc.specs.declared.in_place.InPlace.{InPlace}
 use Rattle.ldm_rpc.specs.declared.stage.Stage.TheVariants.{Whole}
 use Rattle.ldm_rpc.specs.declared.stage.TheConstants.{LAST_FRAGMENT}
 use Rattle.ldm_rpc.specs.Reading.{Reading, after, begun, bytes_taken, next_of, place, whole_of}
 use Rattle.ldm_rpc.specs.Spelling.{BeginsSingle, IsShort, single, spelling}
+use Rattle.ldm_rpc.specs.Taking.{IsSingle}
 use Rattle.ldm_rpc.proofs.Spelled.{taken_record, whole_record}
 use Rattle.ldm_rpc.proofs.Steps.{at_stage}
 
@@ -40,25 +43,40 @@ begins-single limit piece front behind number small parts front_is four is top f
     }
 
 -- what such a record makes of a reader before its first byte
-pub record Completes (s : Reading) (piece content : List ℕ) : Type 0 where
-  pub whole : whole_of (after s piece) ≡ Some content
-  pub taken : 4 + length content ≡ bytes_taken s piece
-  pub within : 4 + length content ≤ length piece
-  pub stays : next_of (after s piece) ≡ s
-
-pub completes : (s : Reading) (piece content : List ℕ) → s ≡ begun s.limit → BeginsSingle s.limit piece content → Completes s piece content
-completes s piece content is begins =
+pub is_single : (limit : ℕ) (piece : List ℕ) (found : InPlace) → found.taken ≡ 4 + length found.content.now → BeginsSingle limit piece found.content.now
+    → IsSingle (begun limit) piece found
+is_single limit piece found taken_is begins =
+    let content = found.content.now in
     let r = single content in
     let parts = begins.spelled in
-    let end : after s piece ≡ at_stage s.limit content (place (length (spelling r))) Whole =
-    ap (λ (t : Reading). after t piece) is ∙ ap (after (begun s.limit)) parts ∙ whole_record s.limit r begins.rest begins.fits in
-    let count : bytes_taken s piece ≡ length (spelling r) =
-    ap (λ (t : Reading). bytes_taken t piece) is ∙ ap (bytes_taken (begun s.limit)) parts ∙ taken_record s.limit r begins.rest begins.fits in
+    let end : after (begun limit) piece ≡ at_stage limit content (place (length (spelling r))) Whole =
+    ap (after (begun limit)) parts ∙ whole_record limit r begins.rest begins.fits in
+    let count : bytes_taken (begun limit) piece ≡ length (spelling r) = ap (bytes_taken (begun limit)) parts ∙ taken_record limit r begins.rest begins.fits in
     let len : length (spelling r) ≡ 4 + length content = omega arith in
     let all : length piece ≡ length (spelling r) + length begins.rest = ap length parts ∙ length-append (spelling r) begins.rest in
     record {
-      whole = ap whole_of end;
-      taken = omega arith;
-      within = omega arith;
-      stays = ap next_of end ∙ sym is;
+      content = ap whole_of end;
+      taken = (omega arith, omega arith, omega arith);
+      stays = ap next_of end;
+      within = begins.fits.within;
+      begins = begins;
     }
+
+-- what is found is told of any reader that stands so
+pub record Shows (s : Reading) (piece : List ℕ) (result : Option InPlace) : Type 0 where
+  pub content : IfSome result (λ found. whole_of (after s piece) ≡ Some found.content.now)
+  pub taken : IfSome result (λ found. (found.taken ≡ bytes_taken s piece) × (found.taken ≤ length piece) × (0 < found.taken))
+  pub stays : IfSome result (λ _. next_of (after s piece) ≡ s)
+  pub within : IfSome result (λ found. length found.content.now ≤ s.limit)
+  pub begins : IfSome result (λ found. BeginsSingle s.limit piece found.content.now)
+  pub none : IfNone result (s ≡ begun s.limit → (content : List ℕ) → ¬ BeginsSingle s.limit piece content)
+
+shows_begun : (limit : ℕ) (piece : List ℕ) (result : Option InPlace) → IfSome result (IsSingle (begun limit) piece)
+    → IfNone result ((content : List ℕ) → ¬ BeginsSingle limit piece content) → Shows (begun limit) piece result
+shows_begun limit piece None single none = record { content = tt; taken = tt; stays = tt; within = tt; begins = tt; none = λ _. none }
+shows_begun limit piece (Some found) single none =
+    record { content = single.content; taken = single.taken; stays = single.stays; within = single.within; begins = single.begins; none = tt }
+
+pub shows : (limit : ℕ) (s : Reading) (piece : List ℕ) (result : Option InPlace) → begun limit ≡ s → IfSome result (IsSingle (begun limit) piece)
+    → IfNone result ((content : List ℕ) → ¬ BeginsSingle limit piece content) → Shows s piece result
+shows limit s piece result is single none = subst (λ (t : Reading). Shows t piece result) is (shows_begun limit piece result single none)

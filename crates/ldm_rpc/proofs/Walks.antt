@@ -1,4 +1,4 @@
--- A step that the walks of `src/came.rt` share. Assumes `Logic`.
+-- What the walks of bodies that make a value of ghost fields alone share. Assumes `Logic`.
 use Rattle.std.proofs.Common.{List, [], ◌∷◌, refl}
 use seplogic.Ra.Ura.{Ura}
 use mir.Val.{Val, vstruct, vnil}
@@ -7,6 +7,33 @@ use types.Kit.{Goal, Step, step, Item, ‵, ◌$◌, fjoin, fpack, feq_i}
 use denote.RattleType.{RattleType, Valss}
 use denote.Steps.{nothing}
 use denote.Struct.Struct.{Struct, within}
+-- their words
+pub use Rattle.std.proofs.Common.{List, [], ◌∷◌, ◌++◌, refl}
+pub use seplogic.Ra.Ura.{Ura}
+pub use mir.Syntax.{Fn}
+pub use mir.Val.{Val, vptr}
+pub use base.Logic.{SProp, ent}
+pub use prog.Memory.{Memory}
+pub use prog.Routine.{Routine}
+pub use prog.Wp.{Calls, Loops, WpFn, Tables}
+pub use contract.Monad.{Fun}
+unfoldable pub use contract.Running.{tables, tables_of}
+pub use sound.WpLaws.{WpFn-mono}
+pub use types.Logic.{Logic}
+pub use types.Kit.{‵, raw, ◌⊛◌, prop, ◌$◌, ◌∵◌, !, qed, move, keep, drop, split, fsplit, fjoin, feq_l, regoal, suffices, done}
+pub use types.Part.{agg}
+pub use types.Run.{enter, returns, no_more}
+pub use types.ByLocal.{alloc_all, pass_all, free_all, look_at, sets}
+pub use denote.Exit.{yes}
+pub use denote.RattleType.{owns}
+pub use denote.Builtin.{RefOf}
+pub use denote.Signature.{plain, types_at, named_lft}
+pub use denote.Steps.{nothing}
+pub use denote.Triple.Clauses.{Clauses, Ended, closing}
+pub use denote.Triple.Entry.{alive}
+pub use denote.Triple.Spec.{Meets, triple_of}
+pub use denote.Triple.Table.{entered}
+pub use denote.Triple.Walked.{says, Stays, stay_dropped, walk_of, ends_at, walk_Meets, Goes-dropped}
 
 abbrev pub none : Val
 none = vstruct vnil

@@ -1,10 +1,12 @@
 -- What a call that takes bytes leaves.
-use Rattle.std.specs.Prelude.{◌≡◌, ℕ, ◌+◌, ◌<◌, ◌≤◌, List, length, drop, Result, Ok, Err}
+use Rattle.std.specs.Prelude.{◌≡◌, ℕ, ◌+◌, ◌<◌, ◌≤◌, List, length, drop, Some, Result, Ok, Err}
 use Rattle.ldm_rpc.specs.declared.fault.RpcFault.{RpcFault}
 use Rattle.ldm_rpc.specs.declared.fault.RpcFault.TheVariants.{TooLong, OutOfMemory}
 use Rattle.ldm_rpc.specs.declared.stage.Stage.{Stage}
 use Rattle.ldm_rpc.specs.declared.stage.Stage.TheVariants.{Header, Fragment, Whole, Faulty}
-use Rattle.ldm_rpc.specs.Reading.{Reading, after, bytes_taken}
+use Rattle.ldm_rpc.specs.declared.in_place.InPlace.{InPlace}
+use Rattle.ldm_rpc.specs.Reading.{Reading, after, bytes_taken, next_of, whole_of}
+use Rattle.ldm_rpc.specs.Spelling.{BeginsSingle}
 
 -- The cause of a fault, and what stands after it. `TooLong` comes where the bytes of the piece make it so. Of
 -- `OutOfMemory` it is said only that it stays.
@@ -25,3 +27,11 @@ pub record TakesFront (old : Reading) (piece : List ℕ) (n : ℕ) (new : Readin
   pub within : n ≤ length piece
   pub rest : after old piece ≡ after new (drop n piece)
   pub count : bytes_taken old piece ≡ n + bytes_taken new (drop n piece)
+
+-- A record of one fragment lies at the front of a piece: what such a reader would take and show, and stand again as before.
+pub record IsSingle (s : Reading) (piece : List ℕ) (found : InPlace) : Type 0 where
+  pub content : whole_of (after s piece) ≡ Some found.content.now
+  pub taken : (found.taken ≡ bytes_taken s piece) × (found.taken ≤ length piece) × (0 < found.taken)
+  pub stays : next_of (after s piece) ≡ s
+  pub within : length found.content.now ≤ s.limit
+  pub begins : BeginsSingle s.limit piece found.content.now

@@ -12,7 +12,7 @@ ghost use Rattle.ldm_rpc.specs.Filling.{IsFilled, filled};
 
 use crate::fault::RpcFault;
 use crate::filler::Filler;
-use crate::in_place::{HEADER, InPlace, single_in};
+use crate::in_place::{InPlace, single_in};
 use crate::kept::{Kept, LEAST_FRONT};
 use crate::marks::Marks;
 use crate::stage::{Stage, stage_before};
@@ -232,11 +232,7 @@ impl FrontRecords {
         if !self.is_begun() {
             return None;
         }
-        let content = single_in(piece, self.marks.limit)?;
-        Some(InPlace {
-            content,
-            taken: HEADER + content.len(),
-        })
+        single_in(piece, self.marks.limit)
     }
 
     /// Whether a record or a fragment header was begun and is not complete. After a fault it is so.

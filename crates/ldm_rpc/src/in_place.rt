@@ -1,12 +1,14 @@
 //! A record that lies whole in a piece.
 ghost use Rattle.std.specs.Prelude.{ℕ, IfNone, IfSome, List};
+ghost use Rattle.ldm_rpc.specs.Reading.{begun};
 ghost use Rattle.ldm_rpc.specs.Spelling.{BeginsSingle};
+ghost use Rattle.ldm_rpc.specs.Taking.{IsSingle};
 
 use crate::stage::LAST_FRAGMENT;
 use byteorder::{BigEndian, ByteOrder};
 
 // The bytes of a fragment header.
-pub(crate) const HEADER: usize = 4;
+const HEADER: usize = 4;
 
 /// A record of one fragment that lies whole at the front of a piece.
 #[derive(Clone, Copy, Debug)]
@@ -17,8 +19,20 @@ pub struct InPlace<'a> {
     pub taken: usize,
 }
 
-/// The content of the record of one fragment that a piece begins with, where that is within the limit.
-pub(crate) fn single_in(piece: &[u8], limit: u32) -> Option<&[u8]>
+/// The record of one fragment that a piece begins with, where that is within the limit.
+pub(crate) fn single_in(piece: &[u8], limit: u32) -> Option<InPlace<'_>>
+    ensures single { IfSome result (IsSingle (begun limit) piece.now) }
+    ensures none { IfNone result ((content : List ℕ) → ¬ BeginsSingle limit piece.now content) }
+{
+    let content = content_in(piece, limit)?;
+    Some(InPlace {
+        content,
+        taken: HEADER + content.len(),
+    })
+}
+
+// Its content.
+fn content_in(piece: &[u8], limit: u32) -> Option<&[u8]>
     ensures begins { IfSome result (λ content. BeginsSingle limit piece.now content.now) }
     ensures none { IfNone result ((content : List ℕ) → ¬ BeginsSingle limit piece.now content) }
 {

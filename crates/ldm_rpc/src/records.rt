@@ -12,7 +12,7 @@ ghost use Rattle.ldm_rpc.specs.Spelling.{BeginsSingle};
 ghost use Rattle.ldm_rpc.specs.Taking.{IsFaultOf, TakesFront};
 
 use crate::fault::RpcFault;
-use crate::in_place::{HEADER, InPlace, single_in};
+use crate::in_place::{InPlace, single_in};
 use crate::marks::Marks;
 use crate::stage::{Stage, stage_before};
 use std::alloc::{AllocError, Global};
@@ -125,11 +125,7 @@ impl Records {
         if !self.is_begun() {
             return None;
         }
-        let content = single_in(piece, self.marks.limit)?;
-        Some(InPlace {
-            content,
-            taken: HEADER + content.len(),
-        })
+        single_in(piece, self.marks.limit)
     }
 
     /// Whether a record or a fragment header was begun and is not complete. After a fault it is so.
