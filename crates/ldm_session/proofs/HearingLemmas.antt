@@ -21,7 +21,7 @@ use Rattle.ldm_session.specs.Hearing.{Heard, Hears, IsCaused}
 use Rattle.ldm_session.specs.Looking.{IsOwn, Looks, Reads, Receives}
 use Rattle.ldm_session.specs.Owed.{Code, AreReplies, IsNoReply, IsReplyTo, Said, hand_given, place_told, records_given}
 use Rattle.ldm_session.proofs.CallerLemmas.{Exchanged-nothing, Exchanged-then_given, Exchanged-same, Heard-said}
-use Rattle.ldm_session.proofs.LookingLemmas.{came-in_hand, completes, continues}
+use Rattle.ldm_rpc.proofs.LookingLemmas.{came-in_hand, completes, continues}
 
 AreReplies-push : (codes : List Code) (records : List Placed) (code : Code) (placed : Placed) → AreReplies codes records → IsReplyTo code.xid code.answer placed.content
     → AreReplies (codes ++ code ∷ []) (records ++ placed ∷ [])

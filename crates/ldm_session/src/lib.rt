@@ -15,3 +15,4 @@ pub use gathering::{GATHERED, room_to_gather, send_before_rest, send_gathered, s
 pub use idle::{LONGEST_SILENCE, is_silent_since};
 pub use limits::LONGEST_STREAM;
 pub use replies::{NoReply, Replies};
+pub use waiting::Waiting;

@@ -127,7 +127,7 @@ impl Replies {
         ensures still_open { IsNotClosed (K.tells link.new) }
     {
         let awaited = Awaited::Reply.or_rest(self.records.pending());
-        match self.waiting.fill(link, awaited) {
+        match self.waiting.fill(link, u64::MAX, awaited) {
             Got::Bytes(_) => Ok(()),
             Got::End => Err(NoReply::PeerEnd { at: self.came }),
             Got::Failed => Err(NoReply::LinkFault),

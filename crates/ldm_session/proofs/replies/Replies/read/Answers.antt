@@ -1,6 +1,6 @@
 use Rattle.ldm_session.proofs.CallerLemmas.{Heard-said}
 use Rattle.ldm_session.proofs.HearingLemmas.{looks_at_long, looks_at_other, looks_at_reply, looks_on}
-use Rattle.ldm_session.proofs.LookingLemmas.{shows_none, shows_some}
+use Rattle.ldm_rpc.proofs.LookingLemmas.{shows_none, shows_some}
 use Rattle.std.proofs.Common.{ℕ, List, sym, subst}
 use Rattle.ldm_relay.specs.declared.message.SoonAnswer.{SoonAnswer}
 use Rattle.ldm_session.specs.Owed.{IsReplyTo}
