@@ -311,9 +311,13 @@ hired_stops tells shared script olds news last is_last actors size count old_gat
 hired_stops tells shared script olds news last is_last actors size count old_gates new_gates old_is new_is answers answers_are (Err error) worked untouched =
     subst (λ gs. StopsKept (map tells old_gates) (map tells gs)) (old_is ∙ ap (map player_gate) (sym untouched) ∙ sym new_is) (stops_same (map tells old_gates))
 
+-- what a worker begins with
+abbrev pub may_play : {G : Type 0} → List (List Asked) → PassView → Worker G → Type 0
+may_play script pass worker = Begins script pass worker.player
+
 -- new workers may begin with new passes
 pub all_may_begin : {G : Type 0} (script : List (List Asked)) (shared : SharedView) (workers : List (Worker G)) → length script ≡ shared.passes → length workers ≡ shared.passes → All IsNew workers
-    → (i : ℕ) (d : Worker G) → i < length workers → Begins script (new_pass shared i) (get_or workers i d).player
+    → (i : ℕ) (d : Worker G) → i < length workers → may_play script (new_pass shared i) (get_or workers i d)
 all_may_begin script shared workers actors size new i d less = record {
   unseen = refl;
   actor = omega (arith, actors, size);

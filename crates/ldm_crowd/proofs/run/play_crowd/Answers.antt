@@ -6,7 +6,7 @@ use Rattle.ldm_shared.proofs.CallerLemmas.{new_are_all}
 use Rattle.ldm_shared.proofs.Gathered.{begin_anew, unseen_anew, worked_anew}
 use Rattle.ldm_crowd.specs.Crowd.{HasCome}
 use Rattle.ldm_crowd.specs.OrdersView.{script_in}
-use Rattle.ldm_crowd.proofs.Gathered.{all_may_begin, hired_ends, hired_stops, last_legal, none_made, player_gate, plays_lines, stops_same}
+use Rattle.ldm_crowd.proofs.Gathered.{all_may_begin, hired_ends, hired_stops, last_legal, may_play, none_made, player_gate, plays_lines, stops_same}
 use Rattle.ldm_crowd.proofs.run.play_crowd.Goals as goal
 
 pub finish-book-requires : goal.finish-book-requires
@@ -27,7 +27,7 @@ pub returns-in_default-clause-stops_kept : goal.returns-in_default-clause-stops_
 returns-in_default-clause-stops_kept g c = stops_same (map g.G.Gate.tells c.args.gates.items)
 
 pub run_workers-book-requires-clause-passes : goal.run_workers-book-requires-clause-passes
-run_workers-book-requires-clause-passes g c = subst (AreAllOf c.args.shared) (sym c.requires.passes) (new_are_all c.args.shared)
+run_workers-book-requires-clause-passes g c κs within = subst (AreAllOf c.args.shared) (sym c.requires.passes) (new_are_all c.args.shared)
 
 pub run_workers-book-requires-clause-count : goal.run_workers-book-requires-clause-count
 run_workers-book-requires-clause-count g c =
@@ -48,7 +48,7 @@ run_workers-book-requires-clause-begins g c κs within =
     let workers = c.equip.new.workers.items in
     let gates = c.equip.ensures.gates in
     let size : length workers ≡ c.args.shared.passes = sym (length-map workers player_gate) ∙ ap length (sym gates) ∙ omega (arith, c.requires.gates, c.args.gates.ok) in
-    begin_anew _ c.args.shared c.args.passes.items workers c.requires.passes size
+    begin_anew (may_play (script_in c.args.orders.now)) c.args.shared c.args.passes.items workers c.requires.passes size
     (all_may_begin (script_in c.args.orders.now) c.args.shared workers c.requires.actors
     size c.equip.ensures.new)
 

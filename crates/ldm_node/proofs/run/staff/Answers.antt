@@ -23,7 +23,7 @@ hand_out-requires-clause-room g c =
     omega (arith, c.in-Ok.ensures.capacity, c.len.ensures, c.requires.count, c.args.passes.ok, count_passes c.args.shared c.args.passes.items c.requires.passes)
 
 pub run_workers-book-requires-clause-passes : goal.run_workers-book-requires-clause-passes
-run_workers-book-requires-clause-passes g c = subst (AreAllOf c.args.shared) (sym c.requires.passes) (new_are_all c.args.shared)
+run_workers-book-requires-clause-passes g c κs within = subst (AreAllOf c.args.shared) (sym c.requires.passes) (new_are_all c.args.shared)
 
 pub run_workers-book-requires-clause-count : goal.run_workers-book-requires-clause-count
 run_workers-book-requires-clause-count g c =
