@@ -8,11 +8,14 @@ use Rattle.ldm_outside.specs.Store.{File, StoreRecord, path_of, with_changed, wi
 use Rattle.ldm_outside.proofs.StoreLemmas.{IsTaking-before, IsTaking-detached, IsTaking-fed, IsTaking-waited}
 use Rattle.ldm_actions.specs.declared.answers.Begun.{Begun}
 use Rattle.ldm_actions.specs.declared.answers.Begun.TheVariants as answer
+use Rattle.ldm_actions.specs.declared.answers.Done.{Done}
 use Rattle.ldm_actions.specs.declared.answers.Done.TheVariants as done
+use Rattle.ldm_actions.specs.declared.hand.Hand.{Hand}
+use Rattle.ldm_actions.specs.declared.hand.Place.{Place}
 use Rattle.ldm_actions.specs.declared.options.FileOptions.{FileOptions}
 use Rattle.ldm_actions.specs.declared.options.PipeOptions.{PipeOptions}
 use Rattle.ldm_actions.specs.Effects.{ToFile, ToProgram, Start, Nothing, Nowhere, File as FileTarget, Child, begun, closed, executed, fed_to, finished, finished_by, given, opened}
-use Rattle.ldm_actions.specs.Hands.{newest_path}
+use Rattle.ldm_actions.specs.Hands.{newest_path, seen_with}
 use Rattle.ldm_actions.specs.Kept.{Each, IsNewest}
 use Rattle.ldm_actions.specs.OpenFiles.{BeginsFile, FileSide, FilesBecome, FilesFail, IsOpenUnder, all_shut, file_no, file_side, files_begun, store_finished}
 use Rattle.ldm_actions.specs.Outputs.{Becomes, BeginsKept, ClosesKept, FinishesKept, GivesKept, Kept, Keeps, files_after_finish, kept_in, world_of}
@@ -73,20 +76,21 @@ module _ (files files' piped : List Entry) (store store' : StoreRecord) (launche
   file_begun answer.OutOfMemory path options keeps same =
       ap (λ (side : FileSide). kept_in side.kept piped side.store launcher) same
 
-  file_finished : (path : List ℕ) (close : Bool) → cond close (drop 1 files) files ≡ files_after_finish (FileTarget path) close files
-  file_finished path true = refl
-  file_finished path false = refl
+file_finished : (files : List Entry) (path : List ℕ) (close : Bool) → cond close (drop 1 files) files ≡ files_after_finish (FileTarget path) close files
+file_finished files path true = refl
+file_finished files path false = refl
 
+module _ {files files' piped : List Entry} {store store' : StoreRecord} {launcher : LauncherRecord} where
   -- it was finished
-  pub file_is_finished : (path : List ℕ) (strip close flush : Bool) → Keeps old_files →
+  pub file_is_finished : (path : List ℕ) (strip close flush : Bool) → Keeps (kept_in files piped store launcher) →
       FilesBecome (cond close (drop 1 files) files) store.files (store_finished flush close files store) (file_side files store) (file_side files' store')
       × (store'.next ≡ store.next) →
-      FinishesKept done.Ok (record { target = FileTarget path; strip = strip; close = close; flush = flush }) old_files new_files
+      FinishesKept done.Ok (record { target = FileTarget path; strip = strip; close = close; flush = flush }) (kept_in files piped store launcher) (kept_in files' piped store' launcher)
   unfolding finished
   file_is_finished path strip close flush keeps both = (
     record {
       world_now = ap (λ (all : Option (List File)). world_with all (program_side piped launcher)) both.0.files_now;
-      files_now = both.0.kept_now ∙ file_finished path close;
+      files_now = both.0.kept_now ∙ file_finished files path close;
       only_kept = both.0.no_more;
       keeps = record { files = both.0.keeps; programs = keeps.programs };
       store_faults = both.0.faults;
@@ -97,7 +101,7 @@ module _ (files files' piped : List Entry) (store store' : StoreRecord) (launche
   )
 
   pub file_not_finished : (path : List ℕ) (strip close flush : Bool) → FilesFail store.files (file_side files store) (file_side files' store') →
-      FinishesKept done.StoreFault (record { target = FileTarget path; strip = strip; close = close; flush = flush }) old_files new_files
+      FinishesKept done.StoreFault (record { target = FileTarget path; strip = strip; close = close; flush = flush }) (kept_in files piped store launcher) (kept_in files' piped store' launcher)
   unfolding finish_parts
   file_not_finished path strip close flush fails = record {
     rose = fails.rose;
@@ -142,10 +146,11 @@ module _ (files piped piped' : List Entry) (store : StoreRecord) (launcher launc
   program_begun answer.OutOfMemory words options keeps same =
       ap (λ (side : ProgramSide). kept_in files side.kept store side.launcher) same
 
+module _ {files piped piped' : List Entry} {store : StoreRecord} {launcher launcher' : LauncherRecord} where
   -- it was finished
-  pub program_finished : (strip close flush : Bool) → Keeps old_programs →
+  pub program_finished : (strip close flush : Bool) → Keeps (kept_in files piped store launcher) →
       ProgramsBecome (finished_by Child close) (program_side piped launcher) (program_side piped' launcher') →
-      FinishesKept done.Ok (record { target = Child; strip = strip; close = close; flush = flush }) old_programs new_programs
+      FinishesKept done.Ok (record { target = Child; strip = strip; close = close; flush = flush }) (kept_in files piped store launcher) (kept_in files piped' store launcher')
   unfolding finished
   program_finished strip close flush keeps becomes = (
     record {
@@ -162,7 +167,7 @@ module _ (files piped piped' : List Entry) (store : StoreRecord) (launcher launc
 
   pub program_not_finished : (strip close flush : Bool) →
       ProgramsFail (finish_parts_by Child close) (program_side piped launcher) (program_side piped' launcher') →
-      FinishesKept done.LaunchFault (record { target = Child; strip = strip; close = close; flush = flush }) old_programs new_programs
+      FinishesKept done.LaunchFault (record { target = Child; strip = strip; close = close; flush = flush }) (kept_in files piped store launcher) (kept_in files piped' store launcher')
   unfolding finish_parts
   program_not_finished strip close flush fails = record {
     store_now = refl;
@@ -278,7 +283,7 @@ unfolding finished
 nothing_finished strip close flush now keeps = (becomes_same now keeps, (refl, refl))
 
 -- a piece was written to the file that was used last
-module _ (files piped : List Entry) (store store' : StoreRecord) (launcher : LauncherRecord) (it : Entry) (newest : IsNewest it files)
+module _ {files piped : List Entry} {store : StoreRecord} {launcher : LauncherRecord} {it : Entry} (newest : IsNewest it files)
     (keeps : Keeps (kept_in files piped store launcher)) where
   is_under : path_of (file_no it.1) store ≡ Some (newest_path files)
   is_under =
@@ -289,11 +294,11 @@ module _ (files piped : List Entry) (store store' : StoreRecord) (launcher : Lau
       (with_appended (file_no it.1) bytes store).files ≡ option_map (with_changed (newest_path files) (λ before. before ++ bytes)) store.files
   appended_files bytes = ap (λ (of : Option (List ℕ)). option_map (with_file of (λ before. before ++ bytes)) store.files) is_under
 
-  pub file_given : (strip close flush : Bool) (bytes : List ℕ) → store' ≡ with_appended (file_no it.1) (kept strip bytes) store →
+  pub file_given : {store' : StoreRecord} (strip close flush : Bool) (bytes : List ℕ) → store' ≡ with_appended (file_no it.1) (kept strip bytes) store →
       GivesKept done.Ok (record { target = FileTarget (newest_path files); strip = strip; close = close; flush = flush }) bytes
       (kept_in files piped store launcher) (kept_in files piped store' launcher)
   unfolding given
-  file_given strip close flush bytes is = (
+  file_given {store'} strip close flush bytes is = (
     record {
       world_now = ap (λ (all : Option (List File)). world_with all (program_side piped launcher))
           (ap (λ (s : StoreRecord). s.files) is ∙ appended_files (kept strip bytes));
@@ -313,10 +318,10 @@ module _ (files piped : List Entry) (store store' : StoreRecord) (launcher : Lau
       store_is : store' ≡ record store { files = store'.files }
       store_is = is ∙ ap (λ (all : Option (List File)). record store { files = all }) (sym (ap (λ (s : StoreRecord). s.files) is))
 
-  pub file_not_given : (strip close flush : Bool) (bytes : List ℕ) (failed : Failed) → AppendsAll (Err failed) (file_no it.1) (kept strip bytes) store store' →
+  pub file_not_given : {store' : StoreRecord} (strip close flush : Bool) (bytes : List ℕ) (failed : Failed) → AppendsAll (Err failed) (file_no it.1) (kept strip bytes) store store' →
       GivesKept done.StoreFault (record { target = FileTarget (newest_path files); strip = strip; close = close; flush = flush }) bytes
       (kept_in files piped store launcher) (kept_in files piped store' launcher)
-  file_not_given strip close flush bytes failed front = record {
+  file_not_given {store'} strip close flush bytes failed front = record {
     rose = front.fails.0;
     few_open = λ only. omega (arith, only, keeps.files.few, ap (λ (s : StoreRecord). length s.paths) front.fails.1);
     stands = record {
@@ -331,17 +336,17 @@ module _ (files piped : List Entry) (store store' : StoreRecord) (launcher : Lau
   }
 
 -- a piece was given to the program that was written last
-module _ (files piped : List Entry) (store : StoreRecord) (launcher launcher' : LauncherRecord) (it : Entry) (newest : IsNewest it piped)
+module _ {files piped : List Entry} {store : StoreRecord} {launcher : LauncherRecord} {it : Entry} (newest : IsNewest it piped)
     (keeps : Keeps (kept_in files piped store launcher)) where
   fed_is : (bytes : List ℕ) →
       outside_with store.files (with_given (child_no it.1) bytes launcher) ≡ fed_to (slice_get piped 0) bytes (outside_with store.files launcher)
   fed_is bytes = ap (λ (all : List Entry). fed_to (slice_get all 0) bytes (outside_with store.files launcher)) (sym newest.is)
 
-  pub child_given : (strip close flush : Bool) (bytes : List ℕ) → launcher' ≡ with_given (child_no it.1) (kept strip bytes) launcher →
+  pub child_given : {launcher' : LauncherRecord} (strip close flush : Bool) (bytes : List ℕ) → launcher' ≡ with_given (child_no it.1) (kept strip bytes) launcher →
       GivesKept done.Ok (record { target = Child; strip = strip; close = close; flush = flush }) bytes (kept_in files piped store launcher)
       (kept_in files piped store launcher')
   unfolding given
-  child_given strip close flush bytes is = (
+  child_given {launcher'} strip close flush bytes is = (
     record {
       world_now = ap (λ (outside : Outside). record { outside = outside; piped = piped })
           (ap (outside_with store.files) is ∙ fed_is (kept strip bytes));
@@ -366,10 +371,10 @@ module _ (files piped : List Entry) (store : StoreRecord) (launcher launcher' : 
       launcher_is : launcher' ≡ record launcher { children = launcher'.children }
       launcher_is = is ∙ ap (λ (all : Option (List ChildRecord)). record launcher { children = all }) (sym (ap (λ (l : LauncherRecord). l.children) is))
 
-  pub child_not_given : (strip close flush : Bool) (bytes : List ℕ) (failed : Failed) → FeedsAll (Err failed) (child_no it.1) (kept strip bytes) launcher launcher' →
+  pub child_not_given : {launcher' : LauncherRecord} (strip close flush : Bool) (bytes : List ℕ) (failed : Failed) → FeedsAll (Err failed) (child_no it.1) (kept strip bytes) launcher launcher' →
       GivesKept done.LaunchFault (record { target = Child; strip = strip; close = close; flush = flush }) bytes (kept_in files piped store launcher)
       (kept_in files piped store launcher')
-  child_not_given strip close flush bytes failed front = record {
+  child_not_given {launcher'} strip close flush bytes failed front = record {
     store_now = refl;
     rose = front.fails.0;
     stands = record {
@@ -422,3 +427,14 @@ module _ (files files' piped piped' : List Entry) (store store' : StoreRecord) (
     store_faults = shut.0.faults;
     long = shut.0.long;
   }
+
+-- what holds of the action in hand at its place holds of it
+pub finishes_at : (result : Done) (hand : Hand) (files : List Entry) (place : Place) (old new : Kept) → hand.place ≡ place →
+    FinishesKept result (seen_with files (record hand { place = place })) old new → FinishesKept result (seen_with files hand) old new
+finishes_at result hand files place old new is =
+    subst (λ (at : Place). FinishesKept result (seen_with files (record hand { place = at })) old new) (sym is)
+
+pub gives_at : (result : Done) (hand : Hand) (files : List Entry) (place : Place) (bytes : List ℕ) (old new : Kept) → hand.place ≡ place →
+    GivesKept result (seen_with files (record hand { place = place })) bytes old new → GivesKept result (seen_with files hand) bytes old new
+gives_at result hand files place bytes old new is =
+    subst (λ (at : Place). GivesKept result (seen_with files (record hand { place = at })) bytes old new) (sym is)
