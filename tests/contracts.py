@@ -178,6 +178,7 @@ class SpecFile:
             self.text = it.read().splitlines()
         self.purpose = self.first_sentence()
         self.uses, self.definitions, self.owners = [], {}, {}
+        self.passed = {}  # what the file passes on by `pub use`: where that is, and what it is called there
         self.split()
 
     def first_sentence(self):
@@ -206,10 +207,15 @@ class SpecFile:
                 if comment is None:
                     comment = number
                 continue
-            if use or code.startswith("use "):
+            if use or code.startswith(("use ", "pub use ")):
                 use += " " + code.strip()
                 if "{" not in use or "}" in use:
-                    self.uses.append(use.strip())
+                    use = use.strip()
+                    if use.startswith("pub "):
+                        use = use[len("pub "):]
+                        path, names, _ = parts_of_use(use)
+                        self.passed.update({new: (path, old) for old, new in names})
+                    self.uses.append(use)
                     use = ""
                 comment = None
                 continue
@@ -303,6 +309,8 @@ class Specs:
                 parts.pop()
             return Code(crate, parts[:-1], parts[-1])
         file = self.files.get(f"{crate}.specs.{rest}")
+        if file and name in file.passed:
+            return self.lookup(*file.passed[name])
         return file.owners.get(name) if file else None
 
     def bring(self, scope, use):

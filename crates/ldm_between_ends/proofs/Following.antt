@@ -19,10 +19,10 @@ use Rattle.ldm_intake.specs.Taken.{Arrival, Taken, taken}
 use Rattle.ldm_sender.specs.declared.standing.Standing.{Standing}
 use Rattle.ldm_sender.specs.Asked.{Asked}
 use Rattle.ldm_upstream.specs.Blocks.{blocks}
-use Rattle.ldm_upstream.specs.Turn.{Given, Turn, Lost, Gave, Quiet, Alive, announcement, block_messages, after_turn}
+use Rattle.ldm_upstream.specs.Turn.{Given, Turn, Lost, Gave, Quiet, Alive, announcement, block_messages, after_turn, IsDue}
 use Rattle.ldm_sender.specs.Calls.{later_call}
 use Rattle.ldm_upstream.specs.Turn as turn
-use Rattle.ldm_upstream.specs.Turns.{IsDue, AreTurns, after_turns, messages_of_turns, codes_of_turns, given_in_turns}
+use Rattle.ldm_upstream.specs.Turns.{AreTurns, after_turns, messages_of_turns, codes_of_turns, given_in_turns}
 use Rattle.ldm_upstream.specs.Feeding.{Last, GoesOn, Stopped, Unanswered, IsLast, last_messages, last_given}
 use Rattle.ldm_between_ends.specs.Codes.{Agree, soon_codes}
 use Rattle.ldm_between_ends.specs.Handed.{Handed, handed_in, handed_last}

@@ -10,9 +10,9 @@ use Rattle.ldm_model.specs.Law.{given}
 use Rattle.ldm_sender.specs.declared.standing.Standing.{Standing}
 use Rattle.ldm_sender.specs.Asked.{Asked}
 use Rattle.ldm_sender.specs.Due.{is_due}
-use Rattle.ldm_upstream.specs.Turn.{Given, Handling, Turn, Lost, Gave, Quiet, Alive, after_turn}
+use Rattle.ldm_upstream.specs.Turn.{Given, Handling, Turn, Lost, Gave, Quiet, Alive, after_turn, IsHandled}
 use Rattle.ldm_upstream.specs.Turn as turn
-use Rattle.ldm_upstream.specs.Turns.{IsHandled, IsTurn, AreTurns, given_in, given_in_turns}
+use Rattle.ldm_upstream.specs.Turns.{IsTurn, AreTurns, given_in, given_in_turns}
 use Rattle.ldm_upstream.specs.Feeding.{Last, GoesOn, Stopped, Unanswered, Feeding, IsFeeding, IsLast, begun, last_given, given_of}
 use Rattle.ldm_between_ends.specs.Handed.{Handed, handed, handed_by, handed_in, handed_last}
 use Rattle.ldm_between_ends.specs.Session.{Session, IsSession}

@@ -70,32 +70,34 @@ cut-feeding = record {
   before = before_fault;
   after = after_fault;
   feeds = record {
-    feeding = record (feeding_of [] GoesOn) { answered = Opened false 0 };
-    is_feeding = record { answered = (refl, tt); turns = tt; last = tt; opened = tt };
-    called = opening_calls_made;
-    called_part = ([], refl, tt);
-    made = record {
-      same = refl;
-      adds = record { begins = (calls_made, refl); own = refl };
-      has_seen = inr (record { legal = are-legal; below = (omega arith, (omega arith, tt)); few = omega arith });
-    };
-    rows = λ k d within. absurd (omega arith);
-    sent = [];
-    sent_part = (_, refl);
     given = [];
-    exchanged = record { passed = tt; left = refl };
+    sends = record {
+      sending = record (feeding_of [] GoesOn) { answered = Opened false 0 };
+      is_sending = record { answered = (refl, tt); turns = tt; last = tt; opened = tt };
+      called = opening_calls_made;
+      called_part = ([], refl, tt);
+      made = record {
+        same = refl;
+        adds = record { begins = (calls_made, refl); own = refl };
+        has_seen = inr (record { legal = are-legal; below = (omega arith, (omega arith, tt)); few = omega arith });
+      };
+      rows = λ k d within. absurd (omega arith);
+      sent = [];
+      sent_part = (_, refl);
+      exchanged = record { passed = tt; left = refl };
+      left = refl;
+      instants = [];
+      instants_part = (_, refl);
+      answered = inr refl;
+      goes = [];
+      goes_part = ([], refl, tt);
+      idled = refl;
+      logged = refl;
+      last = tt;
+      cause = inl (omega arith);
+    };
     unheard = tt;
-    left = refl;
     says = record { behind = records_given []; said = record { replies = []; records_are = refl; each = tt }; is_behind = tt };
-    instants = [];
-    instants_part = (_, refl);
-    answered = inr refl;
-    goes = [];
-    goes_part = ([], refl, tt);
-    idled = refl;
-    logged = refl;
-    last = tt;
-    cause = inl (omega arith);
   };
 }
 

@@ -5,8 +5,8 @@ use Rattle.std.specs.List.{flat_map}
 use Rattle.ldm_sender.specs.declared.standing.Standing.{Standing}
 use Rattle.ldm_sender.specs.Asked.{Asked}
 use Rattle.ldm_sender.specs.Due.{is_due}
-use Rattle.ldm_upstream.specs.Turn.{Given, Handling, Passed, Whole, Declined, InBlocks, Turn, Lost, Gave, Quiet, Alive, after_turn}
-use Rattle.ldm_upstream.specs.Turns.{IsDue, IsHandled, IsTurn, AreTurns, given_in, given_in_turns}
+use Rattle.ldm_upstream.specs.Turn.{Given, Handling, Passed, Whole, Declined, InBlocks, Turn, Lost, Gave, Quiet, Alive, after_turn, IsDue, IsHandled}
+use Rattle.ldm_upstream.specs.Turns.{IsTurn, AreTurns, given_in, given_in_turns}
 use Rattle.ldm_upstream.specs.Feeding.{Last, GoesOn, Stopped, Unanswered, Feeding, IsFeeding, IsLast, begun, last_given, given_of}
 use Rattle.ldm_between_ends.specs.Alone.{due_of, offered, offered_in, offered_of}
 

@@ -1,22 +1,19 @@
 -- The loop over turns: what it keeps.
-use Rattle.std.proofs.Common.{◌≡◌, ◌∙◌, ℕ, [], None, refl, sym, ap, subst}
+use Rattle.std.proofs.Common.{[], ◌++◌, refl, subst}
 use Rattle.ldm_outside.specs.Link.{IsNotClosed}
-use Rattle.ldm_outside.proofs.CallerLemmas.{Takes-nothing}
 use Rattle.ldm_shared.specs.Passes.{IsSamePass}
 use Rattle.ldm_shared.specs.declared.reader.Reader.{Reader}
-use Rattle.ldm_shared.specs.Reader.{HasCursor}
 use Rattle.ldm_sender.specs.declared.end.SendEnd.{SendEnd}
-use Rattle.ldm_sender.specs.declared.standing.Standing.{Standing}
 use Rattle.ldm_sender.specs.Asked.{Asked}
 use Rattle.ldm_sender.specs.Acts.{Situation}
-use Rattle.ldm_sender.proofs.Acting.{beside_same}
-use Rattle.ldm_sender.proofs.Steps.{RowsStay, does_nothing, same_then}
+use Rattle.ldm_sender.proofs.Steps.{RowsStay, same_then}
+use Rattle.ldm_sender.proofs.Turning.{behind, no_turns, turns_then, turns_end}
 use Rattle.ldm_notify.specs.declared.notifier.Notifier.{Notifier}
 use Rattle.ldm_notify.specs.Notifier.{IsSameNotifier, CanTurn, asked_by}
+use Rattle.ldm_notify.specs.Turn.{notice_kind}
 use Rattle.ldm_notify.specs.Course.{MakesTurns, EndsTurns}
 use Rattle.ldm_notify.proofs.Asked.{same_notifier, same_notifier_then}
-use Rattle.ldm_notify.proofs.Stepping.{no_rows}
-use Rattle.ldm_notify.proofs.Turning.{turns_then, turns_end}
+use Rattle.ldm_notify.proofs.Turning.{notice_lawful}
 
 -- What the loop keeps: turns were made since it began.
 pub record KeepsCourse (old new : Notifier) (a b : Situation) : Type 0 where
@@ -25,29 +22,13 @@ pub record KeepsCourse (old new : Notifier) (a b : Situation) : Type 0 where
   pub same_notifier : IsSameNotifier old new
   pub turns : MakesTurns (asked_by old) old.reader.k old.standing new.standing a b
 
-no_turns : (asked : Asked) (k : ℕ) (s : Standing) (now : Situation) → IsNotClosed now.moment.link
-    → HasCursor now.moment.pass k None → MakesTurns asked k s s now now
-no_turns asked k s now unclosed cursor = record {
-  turns = [];
-  are_turns = tt;
-  acts = record {
-    does = does_nothing now.moment unclosed;
-    logged = Takes-nothing now.log now.log refl;
-    idled = refl;
-    beside = beside_same now;
-  };
-  stands = refl;
-  cursor = cursor;
-  rows = no_rows now.moment.pass;
-}
-
 pub course_begins : (now : Notifier) (a : Situation) → IsNotClosed a.moment.link → CanTurn now a.moment.pass
     → KeepsCourse now now a a
 course_begins now a unclosed ready = record {
   same = refl;
   unclosed = unclosed;
   same_notifier = same_notifier now;
-  turns = no_turns (asked_by now) now.reader.k now.standing a unclosed ready.cursor;
+  turns = ([], no_turns notice_kind (asked_by now) now.reader.k now.standing a unclosed ready.cursor);
 }
 
 pub course_goes_on : (law : RowsStay) (old mid new : Notifier) (a b c : Situation) → KeepsCourse old mid a b
@@ -61,8 +42,11 @@ course_goes_on law old mid new a b c keeps same unclosed same_new turns =
       same = same_then a.moment.pass b.moment.pass c.moment.pass keeps.same same;
       unclosed = unclosed;
       same_notifier = same_notifier_then old mid new keeps.same_notifier same_new;
-      turns =
-          turns_then law (asked_by old) old.reader.k old.standing mid.standing new.standing a b c keeps.turns here;
+      turns = (
+        keeps.turns.0 ++ here.0,
+        turns_then notice_kind notice_lawful law (asked_by old) old.reader.k old.standing mid.standing new.standing
+            keeps.turns.0 here.0 [] [] a b c keeps.turns.1 here.1,
+      );
     }
 
 pub course_ends : (law : RowsStay) (why : SendEnd) (old mid : Notifier) (a b c : Situation) → KeepsCourse old mid a b
@@ -71,5 +55,8 @@ pub course_ends : (law : RowsStay) (why : SendEnd) (old mid : Notifier) (a b c :
 course_ends law why old mid a b c keeps ends =
     let here : EndsTurns why (asked_by old) old.reader.k mid.standing b c =
     subst (λ (r : Reader). EndsTurns why (asked_by old) r.k mid.standing b c) keeps.same_notifier.reader
-    (subst (λ (x : Asked). EndsTurns why x mid.reader.k mid.standing b c) keeps.same_notifier.asked ends) in
-    turns_end law why (asked_by old) old.reader.k old.standing mid.standing a b c keeps.turns here
+    (subst (λ (x : Asked). EndsTurns why x mid.reader.k mid.standing b c) keeps.same_notifier.asked ends) in (
+      behind keeps.turns.0 here.0,
+      turns_end notice_kind notice_lawful law why (asked_by old) old.reader.k old.standing mid.standing keeps.turns.0
+          here.0 [] [] a b c keeps.turns.1 here.1,
+    )

@@ -21,7 +21,8 @@ use Rattle.ldm_sender.proofs.Doing.{Toward, all_done, breaks_before, breaks_then
 use Rattle.ldm_sender.proofs.Doing.{some_sent, toward_then}
 use Rattle.ldm_sender.proofs.Messaging.{gathers}
 use Rattle.ldm_sender.proofs.Steps.{does_nothing, one_call}
-use Rattle.ldm_notify.specs.Turn.{Row, Passed, Told, let_go}
+use Rattle.ldm_sender.specs.Turn.{let_go}
+use Rattle.ldm_notify.specs.Turn.{Row, Passed, Told}
 use Rattle.ldm_notify.specs.Telling.{notice_deed, product_deed, HasTold, LacksRoom, Handled, EndsHandling}
 
 -- ---- the notice

@@ -7,11 +7,11 @@ use Rattle.ldm_sender.specs.declared.end.SendEnd.{SendEnd}
 use Rattle.ldm_sender.specs.declared.standing.Standing.{Standing}
 use Rattle.ldm_sender.specs.Asked.{Asked}
 use Rattle.ldm_sender.specs.Due.{is_due}
-use Rattle.ldm_sender.specs.Deeds.{Deed, and_then, calling, records_of}
+use Rattle.ldm_sender.specs.Deeds.{Deed}
 use Rattle.ldm_sender.specs.Does.{SendingMoment, Does, Breaks}
 use Rattle.ldm_sender.specs.Stopping.{KeepsCursor, StopsSending}
-use Rattle.ldm_notify.specs.Turn.{Row, Handling, Told, handling_messages, handling_instants, let_go, after_handling}
-use Rattle.ldm_notify.specs.Turns.{IsHandled}
+use Rattle.ldm_sender.specs.Handling as sender
+use Rattle.ldm_notify.specs.Turn.{Row, Handling, Told, IsHandled, after_handling, notice_kind}
 
 -- what the cursor was given
 abbrev pub row_of : Held → Row
@@ -19,13 +19,7 @@ row_of held = record { n = held.n; time = held.time; info = held.info }
 
 -- a notice, or none
 abbrev pub notice_deed : ℕ → Row → Handling → Deed
-notice_deed next row handling =
-    record {
-      entries = [];
-      bytes = records_of (handling_messages next row handling);
-      instants =
-          handling_instants handling;
-    }
+notice_deed next row handling = sender.handling_deed notice_kind 0 0 next row handling
 
 -- A notice was gathered where it is due.
 pub record HasTold (asked : Asked) (row : Row) (standing standing' : Standing) (old new : SendingMoment) : Type 0 where
@@ -47,7 +41,7 @@ Tells (Err short) asked row standing standing' old new = LacksRoom asked row sta
 -- ---- and its release
 
 abbrev pub product_deed : ℕ → ℕ → ℕ → Row → Handling → Deed
-product_deed actor k next row handling = and_then (notice_deed next row handling) (calling (let_go actor k row))
+product_deed actor k next row handling = sender.product_deed notice_kind actor k next row handling
 
 -- It was handled, and let go.
 pub record Handled (asked : Asked) (k : ℕ) (row : Row) (standing standing' : Standing) (old new : SendingMoment) : Type 0 where

@@ -8,9 +8,8 @@ ghost use Rattle.ldm_notify.specs.Notifier.{CanTurn, IsSameNotifier, asked_by};
 
 use crate::notifier::Notifier;
 use ldm_outside::{Clock, Gate, Link, Sink};
-use ldm_shared::products_stay;
 use ldm_sender::SendEnd;
-use ldm_shared::{Pass, Shared};
+use ldm_shared::{Pass, Shared, products_stay};
 use std::sync::Wait;
 
 impl Notifier<'_> {

@@ -1,6 +1,7 @@
 //! How a session of notices ends.
 ghost use Rattle.std.specs.Prelude.{◌≡◌};
-ghost use Rattle.ldm_notify.specs.Notifies.{AwaitsNone, send_end};
+ghost use Rattle.ldm_sender.specs.Ending.{AwaitsNone};
+ghost use Rattle.ldm_notify.specs.Notifies.{send_end};
 
 use ldm_sender::SendEnd;
 

@@ -9,10 +9,9 @@ ghost use Rattle.ldm_notify.specs.Telling.{Handles, row_of};
 
 use crate::notifier::Notifier;
 use ldm_outside::{Clock, Link};
-use ldm_shared::Held;
 use ldm_sender::SendEnd;
 use ldm_session::send_where_full;
-use ldm_shared::{Pass, Shared, Turn};
+use ldm_shared::{Held, Pass, Shared, Turn};
 use std::sync::Wait;
 
 impl Notifier<'_> {

@@ -8,9 +8,9 @@ ghost use Rattle.ldm_notify.specs.Telling.{Tells, row_of};
 
 use crate::notifier::Notifier;
 use ldm_outside::Clock;
-use ldm_shared::Held;
 use ldm_relay::{Message, Notification, write_message};
 use ldm_sender::{count_call, is_due};
+use ldm_shared::Held;
 use ldm_types::OutOfMemory;
 
 impl Notifier<'_> {

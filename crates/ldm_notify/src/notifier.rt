@@ -1,7 +1,7 @@
 //! One who tells of products.
 use ldm_class::{ClassMatcher, HostPolicy};
-use ldm_shared::Reader;
 use ldm_sender::Standing;
+use ldm_shared::Reader;
 use ldm_types::Micros;
 
 // One who tells of products by a cursor that was opened: who asked and for what, where the session stands, and what is

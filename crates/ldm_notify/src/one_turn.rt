@@ -8,10 +8,9 @@ ghost use Rattle.ldm_notify.specs.Notifier.{CanTurn, IsSameNotifier, asked_by};
 
 use crate::notifier::Notifier;
 use ldm_outside::{Clock, Gate, Link, Sink};
-use ldm_shared::{Came, products_stay};
 use ldm_sender::{SendEnd, wait_idle};
 use ldm_session::write_gap;
-use ldm_shared::{Pass, Shared, Turn};
+use ldm_shared::{Came, Pass, Shared, Turn, products_stay};
 use std::sync::Wait;
 
 impl Notifier<'_> {

@@ -12,10 +12,9 @@ ghost use Rattle.ldm_notify.specs.Notifies.{HasNotified, NotifiesTo};
 
 use crate::notifier::Notifier;
 use ldm_outside::{Clock, Gate, Link, Sink};
-use ldm_shared::products_stay;
 use ldm_relay::ClassAnswer;
 use ldm_sender::{SendEnd, answer_class};
-use ldm_shared::{Pass, Shared, Turn};
+use ldm_shared::{Pass, Shared, Turn, products_stay};
 use std::sync::Wait;
 
 impl Notifier<'_> {

@@ -7,6 +7,9 @@ pub mod Messaging
 mod Waiting
 pub mod Emptied
 pub mod Steps
+pub mod Turning
+pub mod Stepping
 pub mod Opened
 pub mod Settling
 pub mod Unturned
+pub mod Sent

@@ -2,8 +2,6 @@
 use Rattle.std.proofs.Common.{◌≡◌, ◌∙◌, ℕ, List, [], ◌∷◌, ◌++◌, Bool, true, false, inl, inr, ◌⊎◌, refl, sym, ap, subst}
 use Rattle.std.proofs.Common.{append_assoc, append-nil}
 use Rattle.std.proofs.lemmas.List.Concat.{flat_map-append}
-use Rattle.ldm_types.specs.declared.class.ClassSpec.{ClassSpec}
-use Rattle.ldm_class.specs.HostRules.{HostRules}
 use Rattle.ldm_model.specs.declared.event.Entry.{Entry}
 use Rattle.ldm_model.specs.declared.event.Reply.{Reply}
 use Rattle.ldm_model.specs.History.{after, IsLegal}
@@ -22,7 +20,7 @@ use Rattle.ldm_session.specs.Gaps.{gap_log, gap_line}
 use Rattle.ldm_session.proofs.CallerLemmas.{AnsweredAll-nothing, gap_log-append}
 use Rattle.ldm_sender.specs.declared.end.SendEnd.{SendEnd}
 use Rattle.ldm_sender.specs.declared.end.SendEnd.TheVariants as end
-use Rattle.ldm_sender.specs.Asked.{Asked, IsAskedOf}
+use Rattle.ldm_sender.specs.Asked.{Asked}
 use Rattle.ldm_sender.specs.Calls.{stepped}
 use Rattle.ldm_sender.specs.Deeds.{no_deed, calling, records_of}
 use Rattle.ldm_sender.specs.Does.{SendingMoment, moment_of, Does}
@@ -86,7 +84,7 @@ HasRowIn-stays law old new made n product time calls row = by_seen calls.has_see
         (law new.arena new.slots old.seen begins.0 (subst (IsLegal new.arena new.slots)
         (sym begins.1) has.legal) n product time here)
 
--- ---- the pass, and who asks
+-- ---- the pass
 
 -- a pass of a queue stays one
 pub of_same : (shared : SharedView) (old new : PassView) → IsPassOf shared old → IsSamePass old new
@@ -104,22 +102,6 @@ same_then a b c one two = two ∙ ap (λ (p : PassView). record p { seen = c.see
 pub same_actor : (host came : List ℕ) (old new : Situation) (act : Act) → Acts host came old new act
     → new.moment.pass.actor ≡ old.moment.pass.actor
 same_actor host came old new act acts = ap (λ (p : PassView). p.actor) acts.does.calls.same
-
--- who asks, put by the class and the rules alone
-abbrev pub any_asked : ℕ → ClassSpec → HostRules → Asked
-any_asked max class rules = record { host = rules.host; rules = rules.rules; xid = 0; class = class; max_hereis = max }
-
-pub is_any_asked : (max : ℕ) (class : ClassSpec) (rules : HostRules) → IsAskedOf (any_asked max class rules) class rules
-is_any_asked max class rules = record { class_is = refl; rules_are = refl; host_is = refl }
-
--- class and rules are the same still
-pub asked_still : (asked : Asked) (class class' : ClassSpec) (rules rules' : HostRules) → class' ≡ class
-    → rules' ≡ rules → IsAskedOf asked class rules → IsAskedOf asked class' rules'
-asked_still asked class class' rules rules' one two is = record {
-  class_is = is.class_is ∙ sym one;
-  rules_are = is.rules_are ∙ ap (λ (x : HostRules). x.rules) (sym two);
-  host_is = is.host_is ∙ ap (λ (x : HostRules). x.host) (sym two);
-}
 
 -- ---- a step
 

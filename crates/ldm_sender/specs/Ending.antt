@@ -35,6 +35,12 @@ IsEndOf end.AllBusy answered new before after = (missed : Bool) × (answered ≡
 IsEndOf end.Worn answered new before after = length new.seen ≡ MOST_TURNS
 IsEndOf end.OutOfMemory answered new before after = Unit {0}
 
+-- ends that await no reply
+abbrev pub AwaitsNone : SendEnd → Type 0
+AwaitsNone (end.PeerEnd at) = ⊥
+AwaitsNone (end.BadReply at) = ⊥
+AwaitsNone _ = Unit {0}
+
 -- what the outside of the session tells in a situation
 abbrev pub session_of : Situation → SessionRecord
 session_of situation =

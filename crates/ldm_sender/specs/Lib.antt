@@ -10,3 +10,9 @@ pub mod Stopping
 pub mod Answering
 pub mod Idling
 pub mod Ending
+pub mod Turn
+pub mod Handling
+pub mod Turns
+pub mod Sending
+pub mod Course
+pub mod Sends

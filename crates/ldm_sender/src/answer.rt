@@ -11,10 +11,9 @@ use crate::opening::{feeds_of, start_at};
 use ldm_class::Class;
 use ldm_model::Start;
 use ldm_outside::{Clock, Link};
-use ldm_shared::{Opening, Reader};
 use ldm_relay::{ClassAnswer, FeedmeReply, Message, write_message};
 use ldm_session::send_gathered;
-use ldm_shared::{Pass, Shared, Turn};
+use ldm_shared::{Opening, Pass, Reader, Shared, Turn};
 use ldm_types::Micros;
 use std::sync::Wait;
 

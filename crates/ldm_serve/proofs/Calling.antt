@@ -150,6 +150,7 @@ notices-none actor k (turn ∷ turns) = puts-append (notice.turn_entries actor k
 last_notice-none : (actor k : ℕ) (last : notifying.Last) → AllPutNone (notifying.last_entries actor k last)
 last_notice-none actor k notifying.GoesOn = tt
 last_notice-none actor k (notifying.Stopped end) = (tt, tt)
+last_notice-none actor k (notifying.Unanswered row at) = (tt, tt)
 
 pub notifying-puts_none : (actor : ℕ) (asked : Asked) (told : notifying.Notifying) → AllPutNone (notifying.entries_of actor asked told)
 notifying-puts_none actor asked told =

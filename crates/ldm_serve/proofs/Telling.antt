@@ -178,7 +178,7 @@ module _ (client : Client) where
       rw (← rules, ← host) yes
 
   module _ (asked : Asked) (rules : asked.rules ≡ client.rules.allow) (host : asked.host ≡ client.host) where
-    announced-tells : (before : List Sent) (next : ℕ) (given : feed.Given) → feed_turns.IsDue asked given → WasAnnounced client (before ++ feed.announcement next given ∷ []) given.product.info.signature
+    announced-tells : (before : List Sent) (next : ℕ) (given : feed.Given) → feed.IsDue asked given → WasAnnounced client (before ++ feed.announcement next given ∷ []) given.product.info.signature
     announced-tells before next given due = record {
       xid = next;
       info = given.product.info;
@@ -188,7 +188,7 @@ module _ (client : Client) where
       may = due-may asked given.time given.product.info rules host due;
     }
 
-    handling-tells : (before : List Sent) (next : ℕ) (given : feed.Given) (handling : feed.Handling) → feed_turns.IsHandled asked given handling
+    handling-tells : (before : List Sent) (next : ℕ) (given : feed.Given) (handling : feed.Handling) → feed.IsHandled asked given handling
         → AllTell client before (feed.handling_messages next given handling)
     handling-tells before next given feed.Passed is = tt
     handling-tells before next given (feed.Whole at) is = (due-may asked given.time given.product.info rules host is.0, tt)
@@ -227,7 +227,7 @@ module _ (client : Client) where
 
     -- ---- sessions of notices
 
-    noticed-tells : (before : List Sent) (next : ℕ) (row : notice.Row) (handling : notice.Handling) → notice_turns.IsHandled asked row handling
+    noticed-tells : (before : List Sent) (next : ℕ) (row : notice.Row) (handling : notice.Handling) → notice.IsHandled asked row handling
         → AllTell client before (notice.handling_messages next row handling)
     noticed-tells before next row notice.Passed is = tt
     noticed-tells before next row (notice.Told at) is = (due-may asked row.time row.info rules host is, tt)
@@ -246,6 +246,16 @@ module _ (client : Client) where
         (notice-tells before standing turn are.0)
         (notices-tell (before ++ notice.turn_messages standing.next turn) (notice.after_turn standing turn) turns are.1)
 
+    last_notice-tells : (before : List Sent) (next : ℕ) (last : notifying.Last) → AllTell client before (notifying.last_messages next last)
+    last_notice-tells before next notifying.GoesOn = tt
+    last_notice-tells before next (notifying.Stopped end) = tt
+    last_notice-tells before next (notifying.Unanswered row at) = tt
+
     pub notifying-tells : (before : List Sent) (told : notifying.Notifying) → notifying.IsNotifying asked told → AllTell client before (notifying.messages_of asked told)
     notifying-tells before told is =
-        (tt, notices-tell (before ++ sent.NotifymeReply asked.xid (class_answer_of told.answered) ∷ []) (notifying.begun told) told.turns is.turns)
+        let first = before ++ sent.NotifymeReply asked.xid (class_answer_of told.answered) ∷ [] in
+        let turns = notice_turns.messages_of_turns (notifying.begun told) told.turns in (
+          tt,
+          tell-append first turns (notifying.last_messages (notifying.stands told).next told.last) (notices-tell first (notifying.begun told) told.turns is.turns)
+              (last_notice-tells (first ++ turns) (notifying.stands told).next told.last),
+        )

@@ -1,22 +1,18 @@
 -- The loop over turns: what it keeps.
-use Rattle.std.proofs.Common.{◌≡◌, ℕ, [], None, refl, subst}
+use Rattle.std.proofs.Common.{[], refl, subst}
 use Rattle.ldm_outside.specs.Link.{IsNotClosed}
-use Rattle.ldm_outside.proofs.CallerLemmas.{Takes-nothing}
 use Rattle.ldm_shared.specs.Passes.{IsSamePass}
 use Rattle.ldm_shared.specs.declared.reader.Reader.{Reader}
-use Rattle.ldm_shared.specs.Reader.{HasCursor}
-use Rattle.ldm_session.specs.declared.replies.Replies.{Replies}
 use Rattle.ldm_sender.specs.declared.end.SendEnd.{SendEnd}
-use Rattle.ldm_sender.specs.declared.standing.Standing.{Standing}
 use Rattle.ldm_sender.specs.Asked.{Asked}
 use Rattle.ldm_sender.specs.Acts.{Situation}
-use Rattle.ldm_sender.proofs.Acting.{beside_same}
-use Rattle.ldm_sender.proofs.Steps.{RowsStay, does_nothing, same_then}
+use Rattle.ldm_sender.proofs.Steps.{RowsStay, same_then}
+use Rattle.ldm_sender.proofs.Turning.{no_turns}
 use Rattle.ldm_upstream.specs.declared.feeder.Feeder.{Feeder}
 use Rattle.ldm_upstream.specs.Feeder.{IsSameFeeder, CanTurn, asked_by}
+use Rattle.ldm_upstream.specs.Turn.{feeding_kind}
 use Rattle.ldm_upstream.specs.Course.{MakesTurns, EndsTurns}
 use Rattle.ldm_upstream.proofs.Asked.{same_feeder, same_feeder_then}
-use Rattle.ldm_upstream.proofs.Stepping.{no_rows}
 use Rattle.ldm_upstream.proofs.Turning.{turns_then, turns_end, hears_nothing}
 
 -- What the loop keeps: turns were made since it began.
@@ -26,31 +22,18 @@ pub record KeepsCourse (old new : Feeder) (a b : Situation) : Type 0 where
   pub same_feeder : IsSameFeeder old new
   pub turns : MakesTurns (asked_by old) old.reader.k old.standing new.standing a b old.replies new.replies
 
-no_turns : (asked : Asked) (k : ℕ) (s : Standing) (now : Situation) (r : Replies) → IsNotClosed now.moment.link
-    → HasCursor now.moment.pass k None → MakesTurns asked k s s now now r r
-no_turns asked k s now r unclosed cursor = record {
-  turns = [];
-  are_turns = tt;
-  came = [];
-  acts = record {
-    does = does_nothing now.moment unclosed;
-    logged = Takes-nothing now.log now.log refl;
-    idled = refl;
-    beside = beside_same now;
-  };
-  stands = refl;
-  heard = hears_nothing r;
-  cursor = cursor;
-  rows = no_rows now.moment.pass;
-}
-
 pub course_begins : (now : Feeder) (a : Situation) → IsNotClosed a.moment.link → CanTurn now a.moment.pass
     → KeepsCourse now now a a
 course_begins now a unclosed ready = record {
   same = refl;
   unclosed = unclosed;
   same_feeder = same_feeder now;
-  turns = no_turns (asked_by now) now.reader.k now.standing a now.replies unclosed ready.cursor;
+  turns = record {
+    turns = [];
+    came = [];
+    makes = no_turns feeding_kind (asked_by now) now.reader.k now.standing a unclosed ready.cursor;
+    heard = hears_nothing now.replies;
+  };
 }
 
 pub course_goes_on : (law : RowsStay) (old mid new : Feeder) (a b c : Situation) → KeepsCourse old mid a b

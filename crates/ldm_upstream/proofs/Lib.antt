@@ -1,6 +1,7 @@
 mod Blocks
 mod Reading
 mod Sending
+mod Carrying
 mod Turning
 mod Offers
 mod Releasing
@@ -8,7 +9,5 @@ mod Stepping
 mod Coursing
 mod Announced
 mod Fed
-mod Closing
-mod Unfed
 mod Complete
 mod Asked

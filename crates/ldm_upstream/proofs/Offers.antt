@@ -21,7 +21,7 @@ use Rattle.ldm_upstream.specs.Blocks.{blocks}
 use Rattle.ldm_upstream.specs.Turn.{Given, Handling, Passed, Whole, Declined, InBlocks, after_handling, handling_codes}
 use Rattle.ldm_upstream.specs.Turn.{announcement, block_messages}
 use Rattle.ldm_sender.specs.Calls.{later_call}
-use Rattle.ldm_upstream.specs.Turns.{IsDue, IsHandled, size_of}
+use Rattle.ldm_upstream.specs.Turn.{IsDue, IsHandled, size_of}
 use Rattle.ldm_sender.specs.Deeds.{Deed, and_then, records_of}
 use Rattle.ldm_upstream.specs.ProductDeeds.{handling_deed, blocks_deed}
 use Rattle.ldm_sender.specs.Does.{SendingMoment, moment_of, Does, Breaks}

@@ -9,11 +9,10 @@ use Rattle.ldm_sender.specs.declared.end.SendEnd.{SendEnd}
 use Rattle.ldm_sender.specs.declared.end.SendEnd.TheVariants as end
 use Rattle.ldm_sender.specs.declared.standing.Standing.{Standing}
 use Rattle.ldm_sender.specs.Asked.{Asked}
-use Rattle.ldm_upstream.specs.Turn.{Given, Handling, Declined, let_go, after_handling, handling_codes}
-use Rattle.ldm_upstream.specs.Turns.{IsHandled}
+use Rattle.ldm_upstream.specs.Turn.{Given, Handling, Declined, IsHandled, after_handling, handling_codes}
 use Rattle.ldm_upstream.specs.Feeding.{Unanswered, IsLast}
-use Rattle.ldm_sender.specs.Deeds.{Deed, and_then, calling}
-use Rattle.ldm_upstream.specs.ProductDeeds.{handling_deed}
+use Rattle.ldm_sender.specs.Deeds.{Deed}
+use Rattle.ldm_upstream.specs.ProductDeeds.{handling_deed, product_deed}
 use Rattle.ldm_sender.specs.Does.{SendingMoment, Does, Breaks}
 use Rattle.ldm_upstream.specs.Giving.{HoldsGiven}
 use Rattle.ldm_sender.specs.Stopping.{KeepsCursor}
@@ -117,11 +116,6 @@ Offers (Err why) asked k given standing standing' old new replies replies' =
     EndsOffer why asked k given standing old new replies
 
 -- ---- a product that the cursor gave
-
--- what is done with it, and its release
-abbrev pub product_deed : ℕ → ℕ → ℕ → Given → Handling → Deed
-product_deed actor k next given handling = and_then (handling_deed actor k next given handling)
-    (calling (let_go actor k given))
 
 -- It was handled, and let go.
 pub record Handled (asked : Asked) (k : ℕ) (given : Given) (standing standing' : Standing) (old new : SendingMoment)

@@ -7,8 +7,8 @@ use Rattle.ldm_relay.specs.Sent as sent
 use Rattle.ldm_relay.specs.Spelling.{written, record_of}
 use Rattle.ldm_sender.specs.Deeds.{Deed, records_of}
 use Rattle.ldm_upstream.specs.Blocks.{blocks, reads}
-use Rattle.ldm_upstream.specs.Turn.{Given, Handling, handling_entries, handling_messages, handling_instants}
-use Rattle.ldm_upstream.specs.Turn.{block_messages}
+use Rattle.ldm_sender.specs.Handling as sender
+use Rattle.ldm_upstream.specs.Turn.{Given, Handling, block_messages, feeding_kind}
 
 -- a part of a body
 abbrev pub part_of : ℕ → ℕ → List ℕ → List ℕ
@@ -28,11 +28,11 @@ reading_all actor k body = record { entries = reads actor k 0 (blocks body); byt
 
 -- what is done with a product, between the step that gives it and its release
 abbrev pub handling_deed : ℕ → ℕ → ℕ → Given → Handling → Deed
-handling_deed actor k next given handling = record {
-  entries = handling_entries actor k given handling;
-  bytes = records_of (handling_messages next given handling);
-  instants = handling_instants handling;
-}
+handling_deed actor k next given handling = sender.handling_deed feeding_kind actor k next given handling
+
+-- and its release
+abbrev pub product_deed : ℕ → ℕ → ℕ → Given → Handling → Deed
+product_deed actor k next given handling = sender.product_deed feeding_kind actor k next given handling
 
 -- one block is read and sent
 abbrev pub block_deed : ℕ → ℕ → ℕ → List ℕ → ℕ → ℕ → List ℕ → ℕ → Deed

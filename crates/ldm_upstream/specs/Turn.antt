@@ -1,19 +1,23 @@
--- One step of the cursor, and what follows it: the calls on the queue, and the messages.
-use Rattle.std.specs.Prelude.{ℕ, ◌+◌, List, [], ◌∷◌, ◌++◌, length}
-use Rattle.ldm_model.specs.declared.event.Event.TheVariants.{Release}
+-- What is done with a product that the cursor of a feeder gives: the calls on the queue, the messages, and the replies
+-- that come. What the turns of a feeding come to follows from these.
+use Rattle.std.specs.Prelude.{◌≡◌, ℕ, ◌+◌, ◌<◌, ◌≤◌, true, false, List, [], ◌∷◌, length}
 use Rattle.ldm_model.specs.declared.event.Reply.{Reply}
-use Rattle.ldm_model.specs.declared.event.Reply.TheVariants as reply
 use Rattle.ldm_model.specs.declared.event.Entry.{Entry}
 use Rattle.ldm_model.specs.Product.{Product}
-use Rattle.ldm_outside.specs.declared.gate.Go.{Go}
-use Rattle.ldm_outside.specs.declared.gate.Go.TheVariants as go
+use Rattle.ldm_model.specs.State.{State}
+use Rattle.ldm_shared.specs.Staying.{HasRow}
 use Rattle.ldm_relay.specs.declared.message.SoonAnswer.TheVariants as soon
 use Rattle.ldm_relay.specs.declared.message.TheConstants.{LARGEST_BLOCK}
 use Rattle.ldm_relay.specs.Sent.{Sent}
 use Rattle.ldm_relay.specs.Sent as sent
 use Rattle.ldm_session.specs.Owed.{Code}
 use Rattle.ldm_sender.specs.declared.standing.Standing.{Standing}
-use Rattle.ldm_sender.specs.Calls.{later_call, stepped}
+use Rattle.ldm_sender.specs.Asked.{Asked}
+use Rattle.ldm_sender.specs.Calls.{later_call}
+use Rattle.ldm_sender.specs.Due.{is_due}
+use Rattle.ldm_sender.specs.Turn as sender
+use Rattle.ldm_sender.specs.Turn.{Kind, Row}
+pub use Rattle.ldm_sender.specs.Turn.{Lost, Gave, Quiet, Alive, turn_goes}
 use Rattle.ldm_upstream.specs.Blocks.{blocks, reads}
 
 -- A product that the cursor was given: its number, its insertion time, its metadata and its body.
@@ -33,35 +37,49 @@ pub data Handling : Type 0 where
   -- it was announced, the peer wanted it, and it went in blocks, after each of which the clock answered one of these
   InBlocks : (at : ℕ) → (blocks_at : List ℕ) → Handling
 
-pub data Turn : Type 0 where
-  -- the cursor was told losses
-  Lost : (count first last : ℕ) → Turn
-  -- it was given a product, which it let go in the end
-  Gave : (given : Given) → (handling : Handling) → Turn
-  -- It came to the end, and the gate said to go on; then the clock said `now`. An IS_ALIVE went or not.
-  Quiet : (end now : ℕ) → Turn
-  Alive : (end now at : ℕ) → Turn
+-- what the step of the cursor tells of it
+abbrev pub row_of : Given → Row
+row_of given = record { n = given.n; time = given.time; info = given.product.info }
+
+-- whether a state has it so
+abbrev pub IsIn : State → Given → Type 0
+IsIn state given = HasRow given.n given.product given.time state
+
+-- ---- what is to be done
+
+abbrev pub size_of : Given → ℕ
+size_of given = given.product.info.size
+
+abbrev pub IsDue : Asked → Given → Type 0
+IsDue asked given = is_due asked given.time given.product.info ≡ true
+
+-- it is larger than the peer asked for
+abbrev pub IsAnnounced : Asked → Given → Type 0
+IsAnnounced asked given = IsDue asked given × (asked.max_hereis < size_of given)
+
+-- What is done with a product: nothing where it is not due. It goes whole where it is no larger than the peer asked
+-- for, and
+-- else it is announced.
+abbrev pub IsHandled : Asked → Given → Handling → Type 0
+IsHandled asked given Passed = is_due asked given.time given.product.info ≡ false
+IsHandled asked given (Whole at) = IsDue asked given × (size_of given ≤ asked.max_hereis)
+IsHandled asked given (Declined at) = IsDue asked given × (asked.max_hereis < size_of given)
+IsHandled asked given (InBlocks at blocks_at) =
+    IsDue asked given × (asked.max_hereis < size_of given) × (length blocks_at ≡ length (blocks given.product.body))
 
 -- ---- calls on the queue
 
 abbrev pub given_reply : Given → Reply
-given_reply given = reply.Product given.n given.time given.product.info
+given_reply given = sender.given_reply (row_of given)
 
 abbrev pub let_go : ℕ → ℕ → Given → Entry
-let_go actor k given = record { actor = actor; event = Release k; reply = reply.Released given.n }
+let_go actor k given = sender.let_go actor k (row_of given)
 
 abbrev pub handling_entries : ℕ → ℕ → Given → Handling → List Entry
 handling_entries actor k given Passed = []
 handling_entries actor k given (Whole at) = reads actor k 0 (blocks given.product.body)
 handling_entries actor k given (Declined at) = []
 handling_entries actor k given (InBlocks at blocks_at) = reads actor k 0 (blocks given.product.body)
-
-abbrev pub turn_entries : ℕ → ℕ → Turn → List Entry
-turn_entries actor k (Lost count first last) = stepped actor k (reply.Gap count first last) ∷ []
-turn_entries actor k (Gave given handling) =
-    stepped actor k (given_reply given) ∷ (handling_entries actor k given handling ++ let_go actor k given ∷ [])
-turn_entries actor k (Quiet end now) = stepped actor k (reply.End end) ∷ []
-turn_entries actor k (Alive end now at) = stepped actor k (reply.End end) ∷ []
 
 -- ---- messages, by the number of the next call
 
@@ -82,46 +100,21 @@ handling_messages next given (InBlocks at blocks_at) =
     announcement next given ∷ block_messages (later_call next 1) given.product.info.signature 0
     (blocks given.product.body)
 
-abbrev pub turn_messages : ℕ → Turn → List Sent
-turn_messages next (Lost count first last) = []
-turn_messages next (Gave given handling) = handling_messages next given handling
-turn_messages next (Quiet end now) = []
-turn_messages next (Alive end now at) = sent.Isalive next ∷ []
-
 -- ---- what was asked of others
 
+-- what the clock answered
 abbrev pub handling_instants : Handling → List ℕ
 handling_instants Passed = []
 handling_instants (Whole at) = at ∷ []
 handling_instants (Declined at) = at ∷ []
 handling_instants (InBlocks at blocks_at) = at ∷ blocks_at
 
--- what the clock answered
-abbrev pub turn_instants : Turn → List ℕ
-turn_instants (Lost count first last) = []
-turn_instants (Gave given handling) = handling_instants handling
-turn_instants (Quiet end now) = now ∷ []
-turn_instants (Alive end now at) = now ∷ at ∷ []
-
--- what the gate answered
-abbrev pub turn_goes : Turn → List Go
-turn_goes (Lost count first last) = []
-turn_goes (Gave given handling) = []
-turn_goes (Quiet end now) = go.On ∷ []
-turn_goes (Alive end now at) = go.On ∷ []
-
+-- what the peer replied
 abbrev pub handling_codes : ℕ → Handling → List Code
 handling_codes next Passed = []
 handling_codes next (Whole at) = []
 handling_codes next (Declined at) = record { xid = next; answer = soon.DontSend } ∷ []
 handling_codes next (InBlocks at blocks_at) = record { xid = next; answer = soon.Ok } ∷ []
-
--- what the peer replied
-abbrev pub turn_codes : ℕ → Turn → List Code
-turn_codes next (Lost count first last) = []
-turn_codes next (Gave given handling) = handling_codes next handling
-turn_codes next (Quiet end now) = []
-turn_codes next (Alive end now at) = []
 
 -- ---- where the feeding stands then
 
@@ -137,8 +130,39 @@ after_handling standing given (Declined at) = record { next = later_call standin
 after_handling standing given (InBlocks at blocks_at) =
     record { next = later_call standing.next (1 + length (blocks given.product.body)); sent_at = last_of at blocks_at }
 
+-- ---- a feeding, as a kind of sending
+
+abbrev pub feeding_kind : Kind Given Handling
+feeding_kind = record {
+  answer = λ xid answer. sent.FeedmeReply xid answer;
+  row = row_of;
+  IsIn = IsIn;
+  IsHandled = IsHandled;
+  entries = handling_entries;
+  messages = handling_messages;
+  instants = handling_instants;
+  after = after_handling;
+  IsAnnounced = IsAnnounced;
+  announcement = λ next given. announcement next given ∷ [];
+}
+
+-- ---- its turns
+
+abbrev pub Turn : Type 0
+Turn = sender.Turn Given Handling
+
+abbrev pub turn_entries : ℕ → ℕ → Turn → List Entry
+turn_entries actor k turn = sender.turn_entries feeding_kind actor k turn
+
+abbrev pub turn_messages : ℕ → Turn → List Sent
+turn_messages next turn = sender.turn_messages feeding_kind next turn
+
 abbrev pub after_turn : Standing → Turn → Standing
-after_turn standing (Lost count first last) = standing
-after_turn standing (Gave given handling) = after_handling standing given handling
-after_turn standing (Quiet end now) = standing
-after_turn standing (Alive end now at) = record { next = later_call standing.next 1; sent_at = at }
+after_turn standing turn = sender.after_turn feeding_kind standing turn
+
+-- what the peer replied
+abbrev pub turn_codes : ℕ → Turn → List Code
+turn_codes next (Lost count first last) = []
+turn_codes next (Gave given handling) = handling_codes next handling
+turn_codes next (Quiet end now) = []
+turn_codes next (Alive end now at) = []

@@ -7,10 +7,10 @@ ghost use Rattle.ldm_upstream.specs.Giving.{given_of};
 ghost use Rattle.ldm_upstream.specs.Offering.{Announces};
 
 use ldm_outside::{Clock, Link};
-use ldm_shared::Held;
 use ldm_relay::{Comingsoon, LARGEST_BLOCK, Message, SoonAnswer, write_message};
 use ldm_sender::{SendEnd, Standing, count_call};
 use ldm_session::{Replies, send_gathered};
+use ldm_shared::Held;
 use std::sync::Wait;
 
 // Announces a product, sends all that is gathered, and hears the reply.

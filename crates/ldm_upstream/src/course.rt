@@ -9,9 +9,8 @@ ghost use Rattle.ldm_upstream.specs.Feeder.{CanTurn, IsSameFeeder, asked_by};
 
 use crate::feeder::Feeder;
 use ldm_outside::{Clock, Gate, Link, Sink};
-use ldm_shared::products_stay;
 use ldm_sender::SendEnd;
-use ldm_shared::{Pass, Shared};
+use ldm_shared::{Pass, Shared, products_stay};
 use std::sync::Wait;
 
 impl Feeder<'_> {

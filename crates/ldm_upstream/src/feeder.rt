@@ -1,8 +1,8 @@
 //! One who feeds a connection.
 use ldm_class::{ClassMatcher, HostPolicy};
-use ldm_shared::Reader;
 use ldm_sender::Standing;
 use ldm_session::Replies;
+use ldm_shared::Reader;
 use ldm_types::Micros;
 
 // One who feeds by a cursor that was opened: who asked and for what, where the session stands, what is gathered for the

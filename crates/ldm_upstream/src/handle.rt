@@ -11,9 +11,8 @@ ghost use Rattle.ldm_upstream.specs.Offering.{Handles, Offers};
 
 use crate::feeder::Feeder;
 use ldm_outside::{Clock, Link};
-use ldm_shared::Held;
 use ldm_sender::{SendEnd, is_due};
-use ldm_shared::{Pass, Shared, Turn};
+use ldm_shared::{Held, Pass, Shared, Turn};
 use std::sync::Wait;
 
 impl Feeder<'_> {

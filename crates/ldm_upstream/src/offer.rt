@@ -8,7 +8,7 @@ ghost use Rattle.ldm_sender.specs.Asked.{Asked};
 ghost use Rattle.ldm_sender.specs.Does.{moment_of};
 ghost use Rattle.ldm_upstream.specs.Feeder.{IsSameFeeder};
 ghost use Rattle.ldm_upstream.specs.Giving.{given_of};
-ghost use Rattle.ldm_upstream.specs.Turns.{IsDue};
+ghost use Rattle.ldm_upstream.specs.Turn.{IsDue};
 ghost use Rattle.ldm_upstream.specs.Offering.{Offers};
 
 use crate::announcing::announce;
@@ -16,10 +16,9 @@ use crate::feeder::Feeder;
 use crate::give::{give_blocks, give_whole};
 use crate::lent::Lent;
 use ldm_outside::{Clock, Link};
-use ldm_shared::Held;
 use ldm_relay::SoonAnswer;
 use ldm_sender::SendEnd;
-use ldm_shared::{Pass, Shared};
+use ldm_shared::{Held, Pass, Shared};
 use std::sync::Wait;
 
 impl Feeder<'_> {

@@ -9,10 +9,9 @@ ghost use Rattle.ldm_upstream.specs.Feeder.{CanTurn, IsSameFeeder, asked_by};
 
 use crate::feeder::Feeder;
 use ldm_outside::{Clock, Gate, Link, Sink};
-use ldm_shared::{Came, products_stay};
 use ldm_sender::{SendEnd, wait_idle};
 use ldm_session::write_gap;
-use ldm_shared::{Pass, Shared, Turn};
+use ldm_shared::{Came, Pass, Shared, Turn, products_stay};
 use std::sync::Wait;
 
 impl Feeder<'_> {

@@ -14,10 +14,9 @@ ghost use Rattle.ldm_upstream.specs.Feeds.{Feeds, HasFed};
 
 use crate::feeder::Feeder;
 use ldm_outside::{Clock, Gate, Link, Sink};
-use ldm_shared::products_stay;
 use ldm_relay::ClassAnswer;
 use ldm_sender::{SendEnd, answer_class};
-use ldm_shared::{Pass, Shared, Turn};
+use ldm_shared::{Pass, Shared, Turn, products_stay};
 use std::sync::Wait;
 
 impl Feeder<'_> {

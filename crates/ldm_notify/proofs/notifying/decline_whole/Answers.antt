@@ -3,7 +3,7 @@ use Rattle.ldm_shared.proofs.Made.{calls_none}
 use Rattle.ldm_notify.specs.Notifying.{asked_of}
 use Rattle.ldm_sender.specs.Opening.{Denied, Reclassed}
 use Rattle.ldm_sender.proofs.Unturned.{denied, reclassed, answer_breaks}
-use Rattle.ldm_notify.proofs.Unnoted.{unnoted}
+use Rattle.ldm_notify.proofs.Closing.{unnoted}
 use Rattle.ldm_notify.proofs.notifying.decline_whole.Goals as goal
 
 pub returns-in-Ok : goal.returns-in-Ok

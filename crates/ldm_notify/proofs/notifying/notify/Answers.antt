@@ -2,7 +2,7 @@ use Rattle.std.proofs.Common.{refl, sym}
 use Rattle.ldm_sender.proofs.Unturned.{short}
 use Rattle.ldm_notify.specs.Notifying.{asked_of}
 use Rattle.ldm_notify.proofs.Asked.{told_of}
-use Rattle.ldm_notify.proofs.Unnoted.{awaits_none, unnoted}
+use Rattle.ldm_notify.proofs.Closing.{awaits_none, unnoted}
 use Rattle.ldm_notify.proofs.notifying.notify.Goals as goal
 
 pub returns-in-Err-create-clause-notified : goal.returns-in-Err-create-clause-notified

@@ -3,7 +3,7 @@ use Rattle.ldm_shared.proofs.Made.{calls_none}
 use Rattle.ldm_sender.specs.Asked.{asked_of}
 use Rattle.ldm_sender.specs.Opening.{Denied, Reclassed}
 use Rattle.ldm_sender.proofs.Unturned.{denied, reclassed, answer_breaks}
-use Rattle.ldm_upstream.proofs.Unfed.{unfed}
+use Rattle.ldm_upstream.proofs.Fed.{unfed}
 use Rattle.ldm_upstream.proofs.feeding.decline_whole.Goals as goal
 
 pub returns-in-Ok-clause-fed : goal.returns-in-Ok-clause-fed

@@ -1,7 +1,7 @@
 use Rattle.std.proofs.Common.{inr, refl, sym}
 use Rattle.ldm_sender.specs.Asked.{asked_of}
 use Rattle.ldm_sender.proofs.Unturned.{short}
-use Rattle.ldm_upstream.proofs.Unfed.{unfed}
+use Rattle.ldm_upstream.proofs.Fed.{unfed}
 use Rattle.ldm_upstream.proofs.feeding.feed_behind.Goals as goal
 
 pub returns-in-Ok-build-clause-fed : goal.returns-in-Ok-build-clause-fed

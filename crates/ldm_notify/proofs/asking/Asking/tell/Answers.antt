@@ -7,7 +7,7 @@ use Rattle.ldm_sender.specs.Opening.{Busy}
 use Rattle.ldm_sender.proofs.Unturned.{busy, answer_breaks, worn_first}
 use Rattle.ldm_sender.proofs.Emptied.{does_from_empty, breaks_from_empty}
 use Rattle.ldm_notify.specs.Asking.{asked_as}
-use Rattle.ldm_notify.proofs.Unnoted.{unnoted}
+use Rattle.ldm_notify.proofs.Closing.{unnoted}
 use Rattle.ldm_notify.proofs.asking.Asking.tell.Goals as goal
 
 pub tell-requires-clause-begins : goal.tell-requires-clause-begins

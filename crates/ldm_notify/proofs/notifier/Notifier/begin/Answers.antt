@@ -10,7 +10,9 @@ use Rattle.ldm_sender.specs.Opening.{Opened}
 use Rattle.ldm_notify.specs.Notifier.{asked_by}
 use Rattle.ldm_notify.specs.Course.{EndsTurns}
 use Rattle.ldm_notify.proofs.Asked.{can_turn_still}
-use Rattle.ldm_notify.proofs.Noted.{turns_notified, answer_broke_notified}
+use Rattle.ldm_sender.proofs.Sent.{answer_broke_sent, turns_sent}
+use Rattle.ldm_notify.specs.Turn.{notice_kind}
+use Rattle.ldm_notify.proofs.Turning.{notice_lawful}
 use Rattle.ldm_notify.proofs.notifier.Notifier.begin.Goals as goal
 
 pub turns-requires-clause-ready : goal.turns-requires-clause-ready
@@ -45,11 +47,11 @@ returns-clause-notified g c = λ missed first answer makes.
     let turned = subst (λ (n : ℕ). let s : Standing = record { next = n; sent_at = at }
     in EndsTurns c.turns.result asked k s (situation_of mid log gate) last)
     c.requires.begins.first c.turns.ensures.turns in
-    turns_notified c.turns.result asked missed k at first pass link mid_link clock mid_clock mid_out log gate last
-    c.requires.not_closed answer makes answers turned
+    turns_sent notice_kind notice_lawful asked c.turns.result missed k at first pass link mid_link clock mid_clock mid_out
+    log gate last turned.0 [] c.requires.not_closed answer makes answers turned.1
 
 pub returns-clause-cursor : goal.returns-clause-cursor
-returns-clause-cursor g c = c.turns.ensures.turns.cursor
+returns-clause-cursor g c = c.turns.ensures.turns.1.cursor
 
 pub returns-in-Err-clause-notified : goal.returns-in-Err-clause-notified
 returns-in-Err-clause-notified g c = λ missed first answer makes.
@@ -68,7 +70,7 @@ returns-in-Err-clause-notified g c = λ missed first answer makes.
     subst (λ (o : List ℕ). Breaks [] (moment_of pass link clock o) new
     (answer_deed notifier.xid class_answer.Ok answers.0)) none answers.1 in
     let stops = subst (λ (o : List ℕ). StopsSending c.in-Err.end (moment_of pass link clock o) new) none answers.2 in
-    answer_broke_notified c.in-Err.end asked (Opened missed notifier.reader.k) answers.0 first pass link
+    answer_broke_sent notice_kind notice_lawful asked c.in-Err.end (Opened missed notifier.reader.k) answers.0 first pass link
     (tells c.answer_class.new.link) clock
     (clock_tells c.answer_class.new.clock) c.answer_class.new.out.items (g.E.Sink.tells c.args.log.now)
     (g.G.Gate.tells c.args.gate.now)

@@ -11,7 +11,7 @@ turn-requires-clause-of g c = of_same _ _ _ c.requires.of c.loop.invariant.same
 
 pub turn-requires-clause-ready : goal.turn-requires-clause-ready
 turn-requires-clause-ready g c =
-    can_turn_still c.args.self.now _ _ _ c.loop.invariant.same_notifier c.loop.invariant.turns.cursor c.requires.ready
+    can_turn_still c.args.self.now _ _ _ c.loop.invariant.same_notifier c.loop.invariant.turns.1.cursor c.requires.ready
 
 pub turn-requires-clause-not_closed : goal.turn-requires-clause-not_closed
 turn-requires-clause-not_closed g c = c.loop.invariant.unclosed

@@ -8,7 +8,7 @@ use Rattle.ldm_sender.proofs.Unturned.{busy, answer_breaks, worn_first}
 use Rattle.ldm_sender.proofs.Emptied.{does_from_empty, breaks_from_empty}
 use Rattle.ldm_upstream.specs.Asking.{asked_as}
 use Rattle.ldm_upstream.proofs.Asked.{decides_busy}
-use Rattle.ldm_upstream.proofs.Unfed.{unfed}
+use Rattle.ldm_upstream.proofs.Fed.{unfed}
 use Rattle.ldm_upstream.proofs.asking.Asking.feed.Goals as goal
 
 pub feed-requires-clause-begins : goal.feed-requires-clause-begins

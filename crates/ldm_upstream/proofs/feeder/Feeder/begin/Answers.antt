@@ -10,7 +10,7 @@ use Rattle.ldm_sender.specs.Opening.{Opened}
 use Rattle.ldm_upstream.specs.Feeder.{asked_by}
 use Rattle.ldm_upstream.specs.Course.{EndsTurns}
 use Rattle.ldm_upstream.proofs.Asked.{can_turn_still}
-use Rattle.ldm_upstream.proofs.Closing.{ends-calls}
+use Rattle.ldm_sender.proofs.Steps.{calls_at_end}
 use Rattle.ldm_upstream.proofs.Fed.{turns_fed, answer_broke_fed}
 use Rattle.ldm_upstream.proofs.feeder.Feeder.begin.Goals as goal
 
@@ -51,7 +51,7 @@ returns-clause-fed g c = λ missed first ahead answer makes heard.
     answer makes answers turned heard
 
 pub returns-clause-cursor : goal.returns-clause-cursor
-returns-clause-cursor g c = c.turns.ensures.turns.cursor
+returns-clause-cursor g c = c.turns.ensures.turns.ends.cursor
 
 pub returns-in-Err-clause-fed : goal.returns-in-Err-clause-fed
 returns-in-Err-clause-fed g c = λ missed first ahead answer makes heard.
@@ -79,7 +79,8 @@ returns-in-Err-clause-fed g c = λ missed first ahead answer makes heard.
 pub returns-clause-called : goal.returns-clause-called
 returns-clause-called g c =
     let turns = c.turns.ensures.turns in
-    ends-calls (is_whole c.turns.result) c.turns.result (asked_by c.args.self.now).host turns.came _ _ _ turns.ends
+    calls_at_end (is_whole c.turns.result) c.turns.result (asked_by c.args.self.now).host turns.came _ _ _
+    turns.ends.ends
 
 pub returns-in-Err-clause-called : goal.returns-in-Err-clause-called
 returns-in-Err-clause-called g c = ([], calls_none c.args.pass.now)
