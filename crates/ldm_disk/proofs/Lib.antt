@@ -3,3 +3,5 @@ mod Pieces
 mod MemMoments
 mod Torn
 mod MemFiles
+pub mod Told
+pub mod Filled

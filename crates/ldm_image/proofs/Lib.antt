@@ -1,4 +1,3 @@
-mod Told
 mod GateLemmas
 mod BodyLemmas
 mod SaveLemmas

@@ -20,7 +20,7 @@ use Rattle.ldm_image.specs.Stages.{AreBytesUpTo, IsHeaded, IsListed}
 use Rattle.ldm_image.specs.declared.open.ImageFault.{ImageFault}
 use Rattle.ldm_image.specs.declared.open.ImageFault.TheVariants.{Unclean, BadImage, DiskFault, OutOfMemory}
 use Rattle.ldm_image.specs.declared.sizes.Sizes.{Sizes}
-use Rattle.ldm_image.proofs.OpenLemmas.{keeps_file}
+use Rattle.ldm_disk.proofs.Filled.{keeps_file}
 
 -- a file that no call was made on
 pub keeps_itself : (f : FileRecord) → KeepsFile f f

@@ -14,7 +14,7 @@ use Rattle.ldm_image.specs.Image.{GATE, image, image_with}
 use Rattle.ldm_image.specs.Saving.{MayBeLeft, SavesFile, Before as AsBefore, After, Unclean as AsUnclean, NoImage as AsNoImage}
 use Rattle.ldm_image.specs.Gates.{HasGate, IsTorn, WritesGate, LeftOfShutting, Before, Unclean, NoImage, Shuts, WritesUnclean, WritesImage}
 use Rattle.ldm_image.specs.Bodies.{gate_of, IsShut, WritesBody}
-use Rattle.ldm_image.proofs.Told.{mapped, always}
+use Rattle.ldm_disk.proofs.Told.{mapped, always}
 
 -- what was made unclean can be written
 pub is_shut : (done : Unit {0}) (old new : FileRecord) → Shuts (Ok done) old new → IsShut new

@@ -1,5 +1,5 @@
 -- Calls of an open journal, one after another.
-use Rattle.std.proofs.Common.{◌≡◌, ◌⊎◌, inl, inr, ⊎_elim, ℕ, ◌+◌, ◌-◌, List, [], ◌∷◌, ◌++◌, length, take, refl, sym, ◌∙◌, ap, subst, arith}
+use Rattle.std.proofs.Common.{◌≡◌, inl, inr, ⊎_elim, ℕ, ◌+◌, ◌-◌, List, [], ◌∷◌, ◌++◌, length, refl, sym, ◌∙◌, ap, subst, arith}
 use Rattle.std.proofs.lemmas.List.{append_assoc}
 use Rattle.ldm_disk.specs.Told.{FileRecord, IsConsistent}
 use Rattle.ldm_disk.specs.Moments.{LeavesOnly}
@@ -8,9 +8,9 @@ use Rattle.ldm_journal.specs.declared.marks.Marks.{Marks}
 use Rattle.ldm_journal.specs.declared.append.AppendEnd.TheVariants as append
 use Rattle.ldm_journal.specs.declared.commit.CommitEnd.TheVariants as commit
 use Rattle.ldm_journal.specs.declared.reader.Reader.{Reader}
-use Rattle.ldm_journal.specs.Records.{Kept, records_of, size_of}
-use Rattle.ldm_journal.specs.Format.{Holds, around, front_at, place_of, used_at, selected}
-use Rattle.ldm_journal.specs.Standing.{Keeps, Stands}
+use Rattle.ldm_journal.specs.Records.{Kept, size_of}
+use Rattle.ldm_journal.specs.Format.{Holds, front_at, place_of, used_at, selected}
+use Rattle.ldm_journal.specs.Standing.{Stands}
 use Rattle.ldm_journal.specs.Appending.{Appends}
 use Rattle.ldm_journal.specs.Committing.{Commits, HoldsEither, kept_after}
 use Rattle.ldm_journal.specs.Reading.{IsBefore}

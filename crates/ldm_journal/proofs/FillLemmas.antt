@@ -1,46 +1,15 @@
 -- Reading bytes of a file, and of its ring.
-use Rattle.std.proofs.Common.{◌≡◌, ℕ, ◌+◌, ◌-◌, ◌%◌, ◌<◌, ◌≤◌, List, length, take, drop, ◌++◌, subst, sym, ap, ◌∙◌, arith}
-use Rattle.std.specs.Prelude.{IfSome, Option, Some, None, Result, Ok, Err}
+use Rattle.std.proofs.Common.{◌≡◌, ℕ, ◌+◌, ◌%◌, ◌<◌, ◌≤◌, List, length, ◌++◌, subst, sym, ap, ◌∙◌, arith}
+use Rattle.std.specs.Prelude.{Result, Ok, Err}
 use Rattle.std.specs.List.{between}
-use Rattle.std.proofs.lemmas.List.{take-take, length-take-le, length-append, drop-drop}
-use Rattle.std.proofs.lemmas.Slice.{take-put_mid}
-use Rattle.std.proofs.Math.Seq.{take-add, take-append-add}
+use Rattle.std.proofs.lemmas.List.{length-append}
 use Rattle.std.proofs.Math.Nat.{mod_self, mod-add-mod}
-use borrow.Rule.Slice.PartMut.{put_mid}
-use Rattle.ldm_disk.specs.Told.{FileRecord}
-use Rattle.ldm_disk.specs.Calls.{FileChanges, KeepsFile}
 use Rattle.ldm_journal.specs.declared.places.TheConstants.{RING}
 use Rattle.ldm_journal.specs.declared.fault.JournalFault.{JournalFault}
 use Rattle.ldm_journal.specs.declared.fault.JournalFault.TheVariants.{NotAJournal, OtherRing, OtherLength, BadHead, BadRecord, DiskFault, OutOfMemory}
 use Rattle.ldm_journal.specs.Reading.{Fills, FillsAround}
 use Rattle.ldm_journal.specs.Format.{around}
 use Rattle.ldm_journal.proofs.Around.{around-add, part_read}
-
--- bytes came at the front of what was not read yet
-pub fill_more : (into rest source : List ℕ) (done n : ℕ) → done ≤ length into → length rest ≡ length into - done → take done into ≡ take done source → n ≤ length rest
-    → take n rest ≡ take n (drop done source) → take (done + n) (put_mid done (length into - done) into rest) ≡ take (done + n) source
-fill_more into rest source done n le long so_far most more =
-    let now = put_mid done (length into - done) into rest in
-    let whole : take (length into) now ≡ take done into ++ rest = take-put_mid done (length into - done) into rest (length into) (omega (arith, le, long)) le in
-    let front : length (take done into) ≡ done = length-take-le done into le in
-    sym (take-take (done + n) (length into) now (omega (arith, le, long, most)))
-    ∙ ap (λ (l : List ℕ). take (done + n) l) whole
-    ∙ ap (λ (k : ℕ). take (k + n) (take done into ++ rest)) (sym front)
-    ∙ take-append-add (take done into) rest n
-    ∙ ap (λ (l : List ℕ). l ++ take n rest) so_far
-    ∙ ap (λ (l : List ℕ). take done source ++ l) more
-    ∙ sym (take-add done n source)
-
--- so it is for the file of a disk, which stays
-pub filled_more : (into rest : List ℕ) (at done n : ℕ) → done ≤ length into → length rest ≡ length into - done → n ≤ length rest → (old now : Option FileRecord)
-    → IfSome old (λ file. take done into ≡ take done (drop at file.bytes)) → FileChanges KeepsFile old now
-    → IfSome now (λ file. take n rest ≡ take n (drop (at + done) file.bytes))
-    → IfSome old (λ file. take (done + n) (put_mid done (length into - done) into rest) ≡ take (done + n) (drop at file.bytes))
-filled_more into rest at done n le long most None now so_far keeps more = so_far
-filled_more into rest at done n le long most (Some old) None so_far keeps more = absurd keeps
-filled_more into rest at done n le long most (Some old) (Some now) so_far keeps more =
-    fill_more into rest (drop at old.bytes) done n le long so_far most
-    (more ∙ ap (λ (bytes : List ℕ). take n (drop (at + done) bytes)) keeps.bytes ∙ ap (λ (l : List ℕ). take n l) (sym (drop-drop done at old.bytes)))
 
 -- a part of the ring that does not go round its end
 pub part_filled : (result : Result (Unit {0}) JournalFault) (ring from : ℕ) (into file : List ℕ) → 0 < ring → from % ring + length into ≤ ring

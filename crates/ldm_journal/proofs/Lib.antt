@@ -1,4 +1,3 @@
-pub mod Told
 pub mod Stays
 pub mod Around
 pub mod KeepLemmas

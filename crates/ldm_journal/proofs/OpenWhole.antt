@@ -15,7 +15,7 @@ use Rattle.ldm_journal.specs.Format.{Holds, around}
 use Rattle.ldm_journal.specs.Standing.{Keeps, Stands}
 use Rattle.ldm_journal.specs.Making.{first_marks, LeftOfMaking, Makes}
 use Rattle.ldm_journal.specs.Opening.{IsFound, IsMade, IsRefused, JudgesFile, Opens}
-use Rattle.ldm_journal.proofs.Stays.{keeps_file}
+use Rattle.ldm_disk.proofs.Filled.{keeps_file}
 
 around_none : (ring from : ℕ) (file : List ℕ) → around ring from 0 file ≡ []
 unfolding around

@@ -16,7 +16,7 @@ use Rattle.ldm_journal.specs.Appending.{Appends, record_len}
 use Rattle.ldm_journal.specs.Committing.{Commits}
 use Rattle.ldm_journal.specs.Runs.{Append, Commit, Content, Event}
 use Rattle.ldm_journal.specs.Joining.{BreaksOffAmid, MakesEvents, then_events}
-use Rattle.ldm_journal.proofs.Told.{chained, mapped, one_call}
+use Rattle.ldm_disk.proofs.Told.{chained, mapped, one_call}
 use Rattle.ldm_journal.proofs.EventLemmas.{all_bytes, append_breaks, append_event, commit_breaks, commit_event, same_events, same_breaks}
 use Rattle.ldm_recorder.specs.declared.end.RecordEnd.{RecordEnd}
 use Rattle.ldm_recorder.specs.declared.end.RecordEnd.TheVariants as end

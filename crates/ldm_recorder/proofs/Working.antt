@@ -12,7 +12,7 @@ use Rattle.ldm_shared.proofs.Made.{calls_none, calls_trans}
 use Rattle.ldm_journal.specs.declared.marks.Marks.{Marks}
 use Rattle.ldm_journal.specs.Runs.{Content, Event}
 use Rattle.ldm_journal.specs.Joining.{BreaksOffAmid, MakesEvents, then_events}
-use Rattle.ldm_journal.proofs.Told.{one_call, two_calls}
+use Rattle.ldm_disk.proofs.Told.{one_call, two_calls}
 use Rattle.ldm_journal.proofs.EventLemmas.{breaks_early, events_break, events_leave, events_then, no_event, same_breaks, same_events}
 use Rattle.ldm_recorder.specs.Turns.{Turn, Who, Work, no_work, turn_work, work_of, work_then}
 use Rattle.ldm_recorder.specs.Recording.{DoesAll, DoesPart, Sight}

@@ -2,7 +2,7 @@ use Rattle.std.specs.Prelude.{Ok}
 use Rattle.ldm_disk.specs.Told.{IsConsistent}
 use Rattle.ldm_disk.specs.Calls.{CutsFile, SyncsFile}
 use Rattle.ldm_image.specs.Bodies.{IsBeing, Finishes}
-use Rattle.ldm_image.proofs.Told.{both, chained}
+use Rattle.ldm_disk.proofs.Told.{both, chained}
 use Rattle.ldm_image.proofs.BodyLemmas.{finished}
 use Rattle.ldm_image.proofs.body.finish.Goals as goal
 

@@ -2,7 +2,7 @@ use Rattle.std.specs.Prelude.{Ok, ◌+◌, length}
 use Rattle.ldm_disk.specs.Told.{IsConsistent}
 use Rattle.ldm_disk.specs.Calls.{WritesFile}
 use Rattle.ldm_image.specs.Bodies.{IsBeing, Finishes, Ends}
-use Rattle.ldm_image.proofs.Told.{both, chained, after_both}
+use Rattle.ldm_disk.proofs.Told.{both, chained, after_both}
 use Rattle.ldm_image.proofs.BodyLemmas.{ended, written_is_being}
 use Rattle.ldm_image.proofs.body.write_arena.Goals as goal
 

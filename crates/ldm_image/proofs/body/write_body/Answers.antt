@@ -2,7 +2,7 @@ use Rattle.std.proofs.Common.{◌<◌, arith}
 use Rattle.std.specs.Prelude.{Ok}
 use Rattle.ldm_disk.specs.Told.{IsConsistent}
 use Rattle.ldm_image.specs.Bodies.{IsBeing, IsShut, WritesHead, Ends, WritesBody}
-use Rattle.ldm_image.proofs.Told.{chained, after_it}
+use Rattle.ldm_disk.proofs.Told.{chained, after_it}
 use Rattle.ldm_image.proofs.BodyLemmas.{whole, head_is_being}
 use Rattle.ldm_image.proofs.body.write_body.Goals as goal
 

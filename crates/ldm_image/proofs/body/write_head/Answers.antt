@@ -2,7 +2,7 @@ use Rattle.std.proofs.Common.{◌≡◌, ℕ, List, [], ◌++◌, length, arith,
 use Rattle.std.specs.Prelude.{Ok, Err}
 use Rattle.ldm_disk.specs.Told.{IsConsistent}
 use Rattle.ldm_image.specs.Bodies.{Begins, IsBeing, IsWriting, WritesHead, WritesMore, sizes_of, between_rows}
-use Rattle.ldm_image.proofs.Told.{mapped, chained, after_it, always}
+use Rattle.ldm_disk.proofs.Told.{mapped, chained, after_it, always}
 use Rattle.ldm_image.proofs.BodyLemmas.{writing_begins, writing_gathers, writing_goes_on, head_fails, last_piece, writing_is_being}
 use Rattle.ldm_image.proofs.body.write_head.Goals as goal
 

@@ -2,7 +2,7 @@ use Rattle.std.proofs.Common.{[], ◌∷◌}
 use Rattle.ldm_disk.specs.Told.{IsConsistent}
 use Rattle.ldm_disk.specs.Calls.{WritesFile}
 use Rattle.ldm_image.specs.Bodies.{IsShut, Begins}
-use Rattle.ldm_image.proofs.Told.{both, mapped}
+use Rattle.ldm_disk.proofs.Told.{both, mapped}
 use Rattle.ldm_image.proofs.BodyLemmas.{begun}
 use Rattle.ldm_image.proofs.body.write_opening.Goals as goal
 

@@ -3,7 +3,7 @@ use Rattle.std.specs.Prelude.{Ok, ◌+◌, length}
 use Rattle.ldm_disk.specs.Told.{IsConsistent}
 use Rattle.ldm_disk.specs.Calls.{WritesFile}
 use Rattle.ldm_image.specs.Bodies.{IsBeing, WritesMore}
-use Rattle.ldm_image.proofs.Told.{both, mapped}
+use Rattle.ldm_disk.proofs.Told.{both, mapped}
 use Rattle.ldm_image.proofs.BodyLemmas.{more}
 use Rattle.ldm_image.proofs.body.write_piece.Goals as goal
 

@@ -3,7 +3,7 @@ use Rattle.std.specs.Prelude.{Some}
 use Rattle.ldm_disk.specs.Told.{FileRecord, IsConsistent, IsSettled}
 use Rattle.ldm_disk.specs.Calls.{KeepsFile}
 use Rattle.ldm_image.specs.Gates.{HasGate, Shuts, WritesGate}
-use Rattle.ldm_image.proofs.Told.{three, chained}
+use Rattle.ldm_disk.proofs.Told.{three, chained}
 use Rattle.ldm_image.proofs.GateLemmas.{shut_by_writing}
 use Rattle.ldm_image.proofs.gate.shut_gate.Goals as goal
 use Rattle.ldm_image.proofs.gate.shut_gate.Goals.{in-Some+else-gate-ne-CLEAN, in_default}

@@ -4,7 +4,7 @@ use Rattle.ldm_disk.specs.Calls.{WritesFile, SyncsFile}
 use Rattle.std.specs.Prelude.{Ok}
 use Rattle.ldm_image.specs.Gates.{WritesGate}
 use Rattle.ldm_image.specs.Image.{GATE}
-use Rattle.ldm_image.proofs.Told.{both, chained}
+use Rattle.ldm_disk.proofs.Told.{both, chained}
 use Rattle.ldm_image.proofs.GateLemmas.{written}
 use Rattle.ldm_image.proofs.gate.write_gate.Goals as goal
 

@@ -1,8 +1,5 @@
 use Rattle.std.proofs.Common.{◌≡◌, ◌-◌, length, ◌∙◌, arith}
-use Rattle.ldm_disk.specs.Told.{IsConsistent}
-use Rattle.ldm_disk.specs.Calls.{KeepsFile}
-use Rattle.ldm_image.proofs.Told.{chained}
-use Rattle.ldm_image.proofs.OpenLemmas.{keeps_file, filled_more}
+use Rattle.ldm_disk.proofs.Filled.{both_keep, filled_more}
 use Rattle.ldm_image.proofs.reading.fill.Goals as goal
 
 pub loop-done-preserved : goal.loop-done-preserved
@@ -17,8 +14,8 @@ loop-done-preserved g c =
       omega (arith, i.0, given.0, long),
       omega (arith, i.1),
       filled_more l.into rest c.args.at l.done n i.0 long given.0 (tells c.args.disk.now).file (tells l.disk).file i.2 i.3 given.2,
-      chained IsConsistent IsConsistent KeepsFile KeepsFile KeepsFile (λ old mid new s t p q. keeps_file old mid new s p q) (tells c.args.disk.now).file (tells l.disk).file
-          (tells c.read.new.self).file (g.met.D.Disk.consistent c.args.disk.now) (g.met.D.Disk.consistent l.disk) i.3 c.read.ensures.file,
+      both_keep (tells c.args.disk.now).file (tells l.disk).file (tells c.read.new.self).file (g.met.D.Disk.consistent c.args.disk.now) (g.met.D.Disk.consistent l.disk) i.3
+          c.read.ensures.file,
       record { faults = omega (arith, i.4.faults, c.read.ensures.kept.faults); attached = c.read.ensures.kept.attached ∙ i.4.attached },
       λ k. omega (arith, c.type_inv.into k),
     )

@@ -2,7 +2,7 @@ use Rattle.std.proofs.Common.{◌∙◌}
 use Rattle.std.specs.Prelude.{Ok}
 use Rattle.ldm_disk.specs.Told.{IsConsistent, IsSettled}
 use Rattle.ldm_image.specs.Gates.{WritesGate, WritesUnclean, WritesImage}
-use Rattle.ldm_image.proofs.Told.{chained, after}
+use Rattle.ldm_disk.proofs.Told.{chained, after}
 use Rattle.ldm_image.proofs.SaveLemmas.{marked}
 use Rattle.ldm_image.proofs.save.write_image.Goals as goal
 

@@ -2,7 +2,7 @@ use Rattle.std.specs.Prelude.{Ok}
 use Rattle.ldm_disk.specs.Told.{IsConsistent, IsSettled}
 use Rattle.ldm_image.specs.Gates.{Shuts, WritesUnclean}
 use Rattle.ldm_image.specs.Bodies.{IsShut, WritesBody}
-use Rattle.ldm_image.proofs.Told.{chained, after}
+use Rattle.ldm_disk.proofs.Told.{chained, after}
 use Rattle.ldm_image.proofs.SaveLemmas.{is_shut, unclean}
 use Rattle.ldm_image.proofs.save.write_unclean.Goals as goal
 

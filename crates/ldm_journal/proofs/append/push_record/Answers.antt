@@ -4,7 +4,7 @@ use Rattle.ldm_disk.specs.Calls.{FileChanges}
 use Rattle.md5.specs.Md5.{md5}
 use Rattle.ldm_journal.specs.declared.marks.Marks.{Marks}
 use Rattle.ldm_journal.specs.Pushing.{Pushes, grown}
-use Rattle.ldm_journal.proofs.Told.{two_calls}
+use Rattle.ldm_disk.proofs.Told.{two_calls}
 use Rattle.ldm_journal.proofs.PushLemmas.{both_pushed}
 use Rattle.ldm_journal.proofs.append.push_record.Goals as goal
 

@@ -1,5 +1,5 @@
 use Rattle.std.proofs.Common.{◌<◌, ◌+◌, ◌-◌, ◌∙◌, refl, arith}
-use Rattle.ldm_journal.proofs.Stays.{both_keep, none_keeps}
+use Rattle.ldm_disk.proofs.Filled.{both_keep, none_keeps}
 use Rattle.ldm_journal.proofs.DropLemmas as dropping
 use Rattle.ldm_journal.proofs.commit.dropped_for.Goals as goal
 

@@ -4,7 +4,7 @@ use Rattle.ldm_disk.specs.Told.{IsConsistent}
 use Rattle.ldm_disk.specs.Calls.{WritesFile, SyncsFile}
 use Rattle.ldm_journal.specs.declared.places.TheConstants.{SELECT}
 use Rattle.ldm_journal.specs.Committing.{Selects, select_byte}
-use Rattle.ldm_journal.proofs.Told.{mapped, chained}
+use Rattle.ldm_disk.proofs.Told.{mapped, chained}
 use Rattle.ldm_journal.proofs.CommitLemmas.{selected_now, select_failed}
 use Rattle.ldm_journal.proofs.commit.select.Goals as goal
 

@@ -4,7 +4,7 @@ use Rattle.ldm_disk.specs.Told.{IsConsistent}
 use Rattle.ldm_disk.specs.Calls.{FileChanges}
 use Rattle.ldm_journal.specs.declared.marks.Marks.{Marks}
 use Rattle.ldm_journal.specs.Committing.{Turns, WritesHead, Selects, turned}
-use Rattle.ldm_journal.proofs.Told.{mapped, chained}
+use Rattle.ldm_disk.proofs.Told.{mapped, chained}
 use Rattle.ldm_journal.proofs.TurnLemmas.{turns, turns_not_selected, turns_not_written}
 use Rattle.ldm_journal.proofs.commit.turn.Goals as goal
 

@@ -3,7 +3,7 @@ use Rattle.ldm_disk.specs.Told.{IsConsistent}
 use Rattle.ldm_disk.specs.Calls.{WritesFile, SyncsFile}
 use Rattle.ldm_journal.specs.Format.{place_of}
 use Rattle.ldm_journal.specs.Committing.{WritesHead, head_bytes_of}
-use Rattle.ldm_journal.proofs.Told.{mapped, chained}
+use Rattle.ldm_disk.proofs.Told.{mapped, chained}
 use Rattle.ldm_journal.proofs.CommitLemmas.{head_written, head_failed}
 use Rattle.ldm_journal.proofs.commit.write_head.Goals as goal
 

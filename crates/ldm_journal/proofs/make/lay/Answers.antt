@@ -2,7 +2,7 @@ use Rattle.std.specs.Prelude.{Ok, Err}
 use Rattle.ldm_disk.specs.Told.{IsConsistent}
 use Rattle.ldm_disk.specs.Calls.{WritesFile, SyncsFile}
 use Rattle.ldm_journal.specs.Making.{Lays, first_front}
-use Rattle.ldm_journal.proofs.Told.{mapped, chained}
+use Rattle.ldm_disk.proofs.Told.{mapped, chained}
 use Rattle.ldm_journal.proofs.MakeLemmas.{laid, not_laid}
 use Rattle.ldm_journal.proofs.make.lay.Goals as goal
 

@@ -1,6 +1,6 @@
 use Rattle.std.specs.Prelude.{Ok, Err}
 use Rattle.ldm_journal.specs.Making.{Lays, Widens, Makes}
-use Rattle.ldm_journal.proofs.Told.{one_call, two_calls}
+use Rattle.ldm_disk.proofs.Told.{one_call, two_calls}
 use Rattle.ldm_journal.proofs.MakeLemmas.{makes, not_made}
 use Rattle.ldm_journal.proofs.make.make.Goals as goal
 

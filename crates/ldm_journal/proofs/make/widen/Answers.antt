@@ -3,7 +3,7 @@ use Rattle.ldm_disk.specs.Told.{IsConsistent}
 use Rattle.ldm_disk.specs.Calls.{CutsFile, SyncsFile}
 use Rattle.ldm_journal.specs.declared.places.TheConstants.{RING}
 use Rattle.ldm_journal.specs.Making.{Widens}
-use Rattle.ldm_journal.proofs.Told.{mapped, chained}
+use Rattle.ldm_disk.proofs.Told.{mapped, chained}
 use Rattle.ldm_journal.proofs.MakeLemmas.{widened, not_widened}
 use Rattle.ldm_journal.proofs.make.widen.Goals as goal
 

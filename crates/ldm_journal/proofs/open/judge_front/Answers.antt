@@ -2,7 +2,7 @@ use Rattle.std.proofs.Common.{◌≡◌, ◌≢◌, List, ℕ, length, take, sub
 use Rattle.std.specs.Prelude.{IsTrue}
 use Rattle.ldm_journal.specs.Format.{opening}
 use Rattle.ldm_journal.proofs.OpenLemmas.{not_opened}
-use Rattle.ldm_journal.proofs.Told.{not_both}
+use Rattle.std.proofs.lemmas.Bool.{both_ways}
 use Rattle.ldm_journal.proofs.open.judge_front.Goals as goal
 
 pub judge_head-requires-clause-opened : goal.judge_head-requires-clause-opened
@@ -15,5 +15,5 @@ pub returns-else-begins-clause-judged : goal.returns-else-begins-clause-judged
 returns-else-begins-clause-judged c = λ file is long.
     let front = c.args.front.now in
     let other : take 24 front ≢ opening c.args.ring = λ same.
-    not_both c.begins.result c.if-begins.false (c.begins.ensures.1 (subst (λ (l : List ℕ). take (length l) front ≡ l) (sym c.opening.ensures) same)) in
+    both_ways c.begins.result c.if-begins.false (c.begins.ensures.1 (subst (λ (l : List ℕ). take (length l) front ≡ l) (sym c.opening.ensures) same)) in
     not_opened c.args.ring front file is other

@@ -1,6 +1,6 @@
 use Rattle.std.proofs.Common.{◌≡◌, ◌<◌, ◌≤◌, ◌∙◌, length, refl, arith}
 use Rattle.ldm_journal.specs.declared.places.TheConstants.{LARGEST_RING}
-use Rattle.ldm_journal.proofs.Stays.{both_keep, none_keeps}
+use Rattle.ldm_disk.proofs.Filled.{both_keep, none_keeps}
 use Rattle.ldm_journal.proofs.OpenLemmas as opening
 use Rattle.ldm_journal.proofs.open.judge_records.Goals as goal
 

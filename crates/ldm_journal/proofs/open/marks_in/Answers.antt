@@ -3,7 +3,7 @@ use Rattle.ldm_disk.specs.Told.{IsConsistent, IsSettled}
 use Rattle.ldm_disk.specs.Calls.{KeepsFile}
 use Rattle.ldm_journal.specs.declared.fault.JournalFault.TheVariants.{DiskFault}
 use Rattle.ldm_journal.specs.Opening.{Opens}
-use Rattle.ldm_journal.proofs.Told.{both, mapped, chained}
+use Rattle.ldm_disk.proofs.Told.{both, mapped, chained}
 use Rattle.ldm_journal.proofs.OpenWhole.{opens_later, not_measured}
 use Rattle.ldm_journal.proofs.open.marks_in.Goals as goal
 

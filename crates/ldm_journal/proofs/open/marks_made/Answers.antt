@@ -4,7 +4,7 @@ use Rattle.ldm_disk.specs.Told.{FileRecord, IsSettled}
 use Rattle.ldm_journal.specs.declared.fault.JournalFault.TheVariants.{DiskFault}
 use Rattle.ldm_journal.specs.Making.{Makes, first_marks}
 use Rattle.ldm_journal.specs.Opening.{Opens}
-use Rattle.ldm_journal.proofs.Told.{both, mapped}
+use Rattle.ldm_disk.proofs.Told.{both, mapped}
 use Rattle.ldm_journal.proofs.OpenWhole.{opened_made, opened_not_made}
 use Rattle.ldm_journal.proofs.open.marks_made.Goals as goal
 

@@ -4,7 +4,7 @@ use Rattle.std.proofs.lemmas.Bool.{cases_lt}
 use Rattle.ldm_journal.specs.Opening.{HasNumbers}
 use Rattle.ldm_journal.specs.Format.{selected}
 use Rattle.ldm_journal.proofs.OpenLemmas.{bad_head, front_judged}
-use Rattle.ldm_journal.proofs.Told.{not_both}
+use Rattle.std.proofs.lemmas.Bool.{both_ways}
 use Rattle.ldm_journal.proofs.open.ordered_marks.Goals as goal
 
 pub returns-then-is_ordered-clause-judged : goal.returns-then-is_ordered-clause-judged
@@ -30,7 +30,7 @@ returns-else-is_ordered-clause-judged c = λ file is long.
     elim (cases_lt marks.front ring) [
       | inl low ↦ elim (cases_lt ring marks.used) [
         | inl over ↦ inr over
-        | inr fits ↦ absurd (not_both c.is_ordered.result c.if-is_ordered.false (c.is_ordered.ensures.1 (omega (arith, low, numbers.ring), omega (arith, fits, numbers.ring))))
+        | inr fits ↦ absurd (both_ways c.is_ordered.result c.if-is_ordered.false (c.is_ordered.ensures.1 (omega (arith, low, numbers.ring), omega (arith, fits, numbers.ring))))
       ]
       | inr over ↦ inl over
     ] in

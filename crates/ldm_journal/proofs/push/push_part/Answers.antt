@@ -3,7 +3,7 @@ use Rattle.ldm_disk.specs.Told.{IsConsistent}
 use Rattle.ldm_disk.specs.Calls.{WritesFile}
 use Rattle.ldm_journal.specs.declared.places.TheConstants.{RING}
 use Rattle.ldm_journal.specs.Pushing.{Pushes, place_behind}
-use Rattle.ldm_journal.proofs.Told.{mapped}
+use Rattle.ldm_disk.proofs.Told.{mapped}
 use Rattle.ldm_journal.proofs.PushLemmas.{Fits, part_pushed, part_failed}
 use Rattle.ldm_journal.proofs.push.push_part.Goals as goal
 

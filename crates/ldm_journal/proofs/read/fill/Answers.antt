@@ -1,6 +1,6 @@
 use Rattle.std.proofs.Common.{◌≡◌, ◌-◌, length, ◌∙◌, arith}
-use Rattle.ldm_journal.proofs.Stays.{both_keep}
-use Rattle.ldm_journal.proofs.FillLemmas.{filled_more}
+use Rattle.ldm_disk.proofs.Filled.{both_keep}
+use Rattle.ldm_disk.proofs.Filled.{filled_more}
 use Rattle.ldm_journal.proofs.read.fill.Goals as goal
 
 pub loop-done-preserved : goal.loop-done-preserved

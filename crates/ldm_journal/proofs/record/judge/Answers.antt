@@ -3,7 +3,7 @@ use Rattle.std.specs.Prelude.{IsTrue}
 use Rattle.md5.specs.Md5.{md5}
 use Rattle.ldm_journal.proofs.RecordLemmas.{length-record}
 use Rattle.ldm_journal.proofs.JudgeLemmas.{cut_sum, judged_whole}
-use Rattle.ldm_journal.proofs.Told.{not_both}
+use Rattle.std.proofs.lemmas.Bool.{both_ways}
 use Rattle.ldm_journal.proofs.record.judge.Goals as goal
 
 pub returns-then-bytes-lt-SUM-clause-judged : goal.returns-then-bytes-lt-SUM-clause-judged
@@ -32,4 +32,4 @@ returns-else-is_sum-clause-judged c = λ k lawful is.
     let cut = cut_sum k front sum long (sym c.split_at.ensures.by_index.0 ∙ is) in
     let summed : sum ≡ md5 front = cut.1 ∙ ap (λ (l : List ℕ). md5 l) (sym cut.0) in
     let held : IsTrue c.is_sum.result = c.is_sum.ensures.1 summed in
-    not_both c.is_sum.result c.if-is_sum.false held
+    both_ways c.is_sum.result c.if-is_sum.false held

@@ -1,5 +1,5 @@
 use Rattle.std.proofs.Common.{arith}
-use Rattle.ldm_journal.proofs.Stays.{both_keep, none_keeps}
+use Rattle.ldm_disk.proofs.Filled.{both_keep, none_keeps}
 use Rattle.ldm_recorder.proofs.PuttingBack.{fault_later, keeps_disk, no_call, of_same, parts_entry, puts_entry, restores_all, restores_front, restores_more, restores_none, restores_worn, same_none, same_then, slice_is}
 use Rattle.ldm_recorder.proofs.restoring.restore.Goals as goal
 

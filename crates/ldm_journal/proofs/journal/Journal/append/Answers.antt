@@ -5,7 +5,7 @@ use Rattle.ldm_journal.specs.declared.append.AppendEnd.TheVariants.{Appended, Di
 use Rattle.ldm_journal.specs.Records.{Kept, IsLawful}
 use Rattle.ldm_journal.specs.Pushing.{Pushes}
 use Rattle.ldm_journal.specs.Appending.{Appends}
-use Rattle.ldm_journal.proofs.Told.{one_call}
+use Rattle.ldm_disk.proofs.Told.{one_call}
 use Rattle.ldm_journal.proofs.AppendLemmas.{numbered, appended_parts, append_failed}
 use Rattle.ldm_journal.proofs.journal.Journal.append.Goals as goal
 

@@ -5,7 +5,7 @@ use Rattle.ldm_disk.specs.Calls.{FileChanges, KeepsFile}
 use Rattle.ldm_journal.specs.declared.commit.CommitEnd.{CommitEnd}
 use Rattle.ldm_journal.specs.declared.commit.CommitEnd.TheVariants.{Committed, DiskFault}
 use Rattle.ldm_journal.specs.Committing.{Commits, DropsFor, EndsCommitting, Turns, end_of}
-use Rattle.ldm_journal.proofs.Told.{mapped, chained}
+use Rattle.ldm_disk.proofs.Told.{mapped, chained}
 use Rattle.ldm_journal.proofs.CommitWhole.{commits, commit_fails, not_dropped, ends_so, with_drops}
 use Rattle.ldm_journal.proofs.journal.Journal.commit.Goals as goal
 
