@@ -1,5 +1,6 @@
 pub mod Carrying
 pub mod Using
+pub mod Counting
 pub mod Acts
 pub mod Giving
 pub mod Reading

@@ -3,6 +3,7 @@ pub mod Notes
 pub mod Turns
 pub mod Work
 pub mod Uses
+pub mod Counting
 pub mod Carried
 pub mod Acting
 pub mod Handling

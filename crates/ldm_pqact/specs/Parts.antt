@@ -1,5 +1,5 @@
 -- What contracts see of a `Pqact`.
-use Rattle.std.specs.Prelude.{◌≤◌, List}
+use Rattle.std.specs.Prelude.{◌≤◌, ℕ, List, Option}
 use Rattle.std.specs.Vec.{vec_capacity}
 use Rattle.ldm_pqact_conf.specs.Entries.{EntryView}
 use Rattle.ldm_actions.specs.Outputs.{OutputsView}
@@ -8,10 +8,12 @@ use Rattle.ldm_pqact.specs.declared.limits.TheConstants.{LARGEST_PIECE}
 
 pub record PqactView : Type 0 where
   pub entries : List EntryView
+  -- how many products are left to be given, where there is a count
+  pub left : Option ℕ
   pub outputs : OutputsView
 
 abbrev pub pqact_view : Inside → PqactView
-pqact_view it = record { entries = it.carrier.entries; outputs = it.carrier.writer.outputs }
+pqact_view it = record { entries = it.carrier.entries; left = it.carrier.left; outputs = it.carrier.writer.outputs }
 
 -- a piece of a body finds room
 abbrev pub HasRoom : Inside → Type 0

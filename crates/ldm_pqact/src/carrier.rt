@@ -11,6 +11,8 @@ pub(crate) struct Carrier {
     pub(crate) alloc: Global,
     pub(crate) entries: Entries,
     pub(crate) writer: Writer,
+    // How many products are left to be given, where there is a count.
+    pub(crate) left: Option<u64>,
     // The front of the ident of the product in hand.
     pub(crate) in_hand: Reason,
 }

@@ -50,6 +50,7 @@ impl Carrier {
             (standing self.old.writer.outputs (F.tells store.old) (L.tells launcher.old)) }
         ensures kept { IsSamePass pass.old pass.new }
         ensures entries { self.new.entries ≡ self.old.entries }
+        ensures left { self.new.left ≡ self.old.left }
         ensures room { LARGEST_PIECE ≤ vec_capacity self.new.writer.buffer }
         ensures keeps { KeepsUnlessSpent
             (standing self.new.writer.outputs (F.tells store.new) (L.tells launcher.new)) }

@@ -6,6 +6,7 @@ ghost use Rattle.ldm_shared.specs.Reader.{HasCursor};
 ghost use Rattle.ldm_actions.specs.Outputs.{KeepsUnlessSpent, standing};
 ghost use Rattle.ldm_pqact.specs.declared.limits.TheConstants.{LARGEST_PIECE};
 ghost use Rattle.ldm_pqact.specs.Acting.{ActsOn, sight_of};
+ghost use Rattle.ldm_pqact.specs.Counting.{CountsGiven};
 
 use crate::carrier::Carrier;
 use crate::end::ActEnd;
@@ -37,6 +38,7 @@ impl Carrier {
         ensures room { LARGEST_PIECE ≤ vec_capacity self.new.writer.buffer }
         ensures keeps { KeepsUnlessSpent
             (standing self.new.writer.outputs (F.tells store.new) (L.tells launcher.new)) }
+        ensures counts { CountsGiven pass.old pass.new self.old.left self.new.left }
         ensures acts { ActsOn result self.old.entries reader.now.k
             (sight_of pass.old (standing self.old.writer.outputs (F.tells store.old) (L.tells launcher.old))
             (E.tells log.old))

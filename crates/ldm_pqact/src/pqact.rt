@@ -6,6 +6,7 @@ ghost use Rattle.ldm_shared.specs.Reader.{HasCursor};
 ghost use Rattle.ldm_actions.specs.Outputs.{Closes, KeepsOfAny, KeepsUnlessSpent, no_outputs, standing};
 ghost use Rattle.ldm_pqact.specs.Acting.{ActsOn, sight_of};
 ghost use Rattle.ldm_pqact.specs.Complete.{Completes};
+ghost use Rattle.ldm_pqact.specs.Counting.{CountsGiven};
 
 use crate::carrier::Carrier;
 use crate::end::ActEnd;
@@ -42,10 +43,11 @@ impl Model for Pqact {
 }
 
 impl Pqact {
-    /// Acts by these entries. Nothing is open or running yet.
+    /// Acts by these entries. Nothing is open or running yet, and there is no count.
     pub fn create(alloc: Global, entries: Entries) -> Result<Pqact, OutOfMemory>
         ensures entries { IfOk result (λ made. made.entries ≡ entries) }
         ensures outputs { IfOk result (λ made. made.outputs ≡ no_outputs) }
+        ensures uncounted { IfOk result (λ made. made.left ≡ None) }
         ensures keeps { IfOk result (λ made. KeepsOfAny made.outputs) }
     {
         let buffer = Vec::with_capacity(alloc, LARGEST_PIECE)?;
@@ -57,9 +59,26 @@ impl Pqact {
             alloc,
             entries,
             writer,
+            left: None,
             in_hand: Reason::new(),
         };
         Ok(Pqact { carrier })
+    }
+
+    /// The same, which counts off how many products are left to be given, where there is a count.
+    pub fn counting(self, count: Option<u64>) -> Pqact
+        ensures { result ≡ record self { left = count } }
+    {
+        let mut carrier = self.carrier;
+        carrier.left = count;
+        Pqact { carrier }
+    }
+
+    /// How many products are left to be given, where there is a count: 0 once the cursors gave as many, or more.
+    pub fn left(&self) -> Option<u64>
+        ensures { result ≡ self.now.left }
+    {
+        self.carrier.left
     }
 
     /// Acts on every product of the cursor up to the end of the queue, and then answers [`ActEnd::Stopped`]. The cursor
@@ -84,6 +103,8 @@ impl Pqact {
         ensures kept { IsSamePass pass.old pass.new }
         ensures entries { self.new.entries ≡ self.old.entries }
         ensures keeps { KeepsUnlessSpent (standing self.new.outputs (F.tells store.new) (L.tells launcher.new)) }
+        // Each product that the cursor gave was counted off.
+        ensures counts { CountsGiven pass.old pass.new self.old.left self.new.left }
         ensures acts { ActsOn result self.old.entries reader.now.k
             (sight_of pass.old (standing self.old.outputs (F.tells store.old) (L.tells launcher.old)) (E.tells log.old))
             (sight_of pass.new (standing self.new.outputs (F.tells store.new) (L.tells launcher.new))
@@ -110,6 +131,7 @@ impl Pqact {
     pub fn close<F: Store, L: Launcher>(&mut self, store: &mut F, launcher: &mut L) -> Done
         requires { KeepsUnlessSpent (standing self.old.outputs (F.tells store.old) (L.tells launcher.old)) }
         ensures entries { self.new.entries ≡ self.old.entries }
+        ensures left { self.new.left ≡ self.old.left }
         ensures closed { Closes result
             (standing self.old.outputs (F.tells store.old) (L.tells launcher.old))
             (standing self.new.outputs (F.tells store.new) (L.tells launcher.new)) }

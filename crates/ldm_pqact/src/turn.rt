@@ -6,6 +6,7 @@ ghost use Rattle.ldm_shared.specs.Reader.{HasCursor};
 ghost use Rattle.ldm_actions.specs.Outputs.{KeepsUnlessSpent, standing};
 ghost use Rattle.ldm_pqact.specs.declared.limits.TheConstants.{LARGEST_PIECE};
 ghost use Rattle.ldm_pqact.specs.Acting.{TurnsBy, sight_of};
+ghost use Rattle.ldm_pqact.specs.Counting.{CountsGiven, left_behind};
 
 use crate::carrier::Carrier;
 use crate::end::ActEnd;
@@ -40,6 +41,7 @@ impl Carrier {
         ensures room { LARGEST_PIECE ≤ vec_capacity self.new.writer.buffer }
         ensures keeps { KeepsUnlessSpent
             (standing self.new.writer.outputs (F.tells store.new) (L.tells launcher.new)) }
+        ensures counts { CountsGiven pass.old pass.new self.old.left self.new.left }
         ensures turns { TurnsBy result self.old.entries reader.now.k
             (sight_of pass.old (standing self.old.writer.outputs (F.tells store.old) (L.tells launcher.old))
             (E.tells log.old))
@@ -53,6 +55,7 @@ impl Carrier {
                 Ok(())
             }
             Turn::Done(Came::Product(held)) => {
+                count_off(&mut self.left);
                 put_front(&mut self.in_hand, held.info.ident());
                 let holding = Holding {
                     reader: *reader,
@@ -66,6 +69,15 @@ impl Carrier {
             }
             Turn::Worn { .. } => Err(ActEnd::Worn),
         }
+    }
+}
+
+// Counts a product off.
+fn count_off(left: &mut Option<u64>)
+    ensures { left.new ≡ left_behind left.old 1 }
+{
+    if let Some(n) = left {
+        *n = n.saturating_sub(1);
     }
 }
 

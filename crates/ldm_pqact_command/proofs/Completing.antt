@@ -47,7 +47,7 @@ use Rattle.ldm_pqact_command.specs.declared.stop.ActStop.{ActStop}
 use Rattle.ldm_pqact_command.specs.declared.stop.ActStop.TheVariants as stop
 use Rattle.ldm_pqact_command.specs.Closing.{ClosesOutputs}
 use Rattle.ldm_pqact_command.specs.Complete.{IsComplete, IsWholeEnd, PqactCompletes, Unfailing}
-use Rattle.ldm_pqact_command.specs.Course.{ActsAll, Gives, StopCause}
+use Rattle.ldm_pqact_command.specs.Course.{ActsAll, Gives, IsCounted, StopCause, count_of}
 use Rattle.ldm_pqact_command.specs.Handling.{ActHandles}
 use Rattle.ldm_pqact_command.specs.PqactRuns.{ActEnds, Closes as ClosesRun, ClosesIf, Here, MakesNone, PqactEnds, PqactLent, TakesNone, acter_at, here_of, sight_at, standing_at, within}
 use Rattle.ldm_pqact_command.specs.Statuses.{ReportsIf, after_closing, status_of}
@@ -164,6 +164,12 @@ module _ {F L : Type 0} (store_tells : F → StoreRecord) (launcher_tells : L �
         let none : acts.in_hand ≡ [] = subst (λ (e : ActEnd). IsInHand e acts.in_hand) is acts.is_in_hand in
         subst (λ (ts : List Turn). Gives k ts pass mid.pass) (ap (λ (ts : List Turn). acts.turns ++ ts) none ∙ append-nil acts.turns) acts.gives
 
+    counts : (gathered : GatherEnd) → (acts : Acted gathered) → acts.ended ≡ end.Stopped → IsCounted gathered order.count (count_of acts.turns)
+    counts gathered acts is =
+        let none : acts.in_hand ≡ [] = subst (λ (e : ActEnd). IsInHand e acts.in_hand) is acts.is_in_hand in
+        subst (λ (ts : List Turn). IsCounted gathered order.count (count_of ts)) (ap (λ (ts : List Turn). acts.turns ++ ts) none ∙ append-nil acts.turns)
+        acts.counted
+
     -- all was acted on, and the outputs were closed
     closed_by : (gathered : GatherEnd) (well : PqactEnd) (answer : Done) → status_of well ≡ Some status.Done → IsWholeEnd gathered → Gathered gathered
         → (acts : Acted gathered) → acts.ended ≡ end.Stopped → Shuts answer → Finishes (after_closing well answer)
@@ -186,6 +192,7 @@ module _ {F L : Type 0} (store_tells : F → StoreRecord) (launcher_tells : L �
             connects = connects;
             turns = acts.turns;
             gives = gave gathered acts is;
+            counted = counts gathered acts is;
             stands =
                 ap unpiped shut.0.0.world_now ∙ (ap closed stands.world
                 ∙ ap (λ (s : StoreRecord). closed (effects (deeds_of entries acts.turns) (world_in (standing no_outputs s (launcher_tells old.launcher))))) takes.1);

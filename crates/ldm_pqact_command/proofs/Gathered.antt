@@ -1,8 +1,9 @@
 -- What a whole gathering came to: piece by piece.
-use Rattle.std.proofs.Common.{◌≡◌, ◌∙◌, ℕ, ◌≤◌, false, List, [], ◌∷◌, ◌++◌, length, map, Option, Some, None, inl, inr, ◌⊎◌, refl, sym, ap, subst, append_assoc, arith}
-use Rattle.std.specs.Prelude.{IfSome}
+use Rattle.std.proofs.Common.{◌≡◌, ◌∙◌, ℕ, ◌-◌, ◌≤◌, false, List, [], ◌∷◌, ◌++◌, length, map, Option, Some, None, inl, inr, ◌⊎◌, refl, sym, ap, subst, append_assoc, arith}
+use Rattle.std.specs.Prelude.{IfSome, ◌+◌, ◌<◌}
 use Rattle.std.specs.List.{flat_map}
-use Rattle.std.proofs.lemmas.List.{append-nil, map-append}
+use Rattle.std.specs.Option.{ForSome}
+use Rattle.std.proofs.lemmas.List.{append-nil, length-append, map-append}
 use Rattle.std.proofs.lemmas.List.Concat.{flat_map-append}
 use Rattle.ldm_model.specs.declared.event.Event.{Event}
 use Rattle.ldm_model.specs.declared.event.Event.TheVariants as event
@@ -18,7 +19,7 @@ use Rattle.ldm_outside.specs.Store.{StoreRecord}
 use Rattle.ldm_outside.proofs.CallerLemmas.{Rose-later}
 use Rattle.ldm_shared.specs.declared.steps.TheConstants.{MOST_TURNS}
 use Rattle.ldm_shared.specs.Passes.{PassView}
-use Rattle.ldm_shared.proofs.Made.{calls_none, calls_some, calls_trans}
+use Rattle.ldm_shared.proofs.Made.{calls_none, calls_trans}
 use Rattle.ldm_shared.specs.Staying.{HasRow}
 use Rattle.ldm_actions.specs.declared.answers.Fault.{Fault}
 use Rattle.ldm_actions.specs.declared.answers.Fault.TheVariants as fault
@@ -44,17 +45,19 @@ use Rattle.ldm_pqact.specs.declared.end.ActEnd.{ActEnd}
 use Rattle.ldm_pqact.specs.declared.end.ActEnd.TheVariants as end
 use Rattle.ldm_pqact.specs.Acting.{Breaks, EndsSo, IsInHand, LogCount, Run, Sight, last_answer, parted_of, sight_of}
 use Rattle.ldm_pqact.specs.Carried.{Carries, Faulted, Stands}
-use Rattle.ldm_pqact.specs.Turns.{Gave, Lost, Turn, deeds_of, products_in, turn_deeds, turn_reply}
+use Rattle.ldm_pqact.specs.Counting.{count_given, left_behind}
+use Rattle.ldm_pqact.specs.Turns.{Gave, Given, Lost, Turn, deeds_of, products_in, turn_deeds, turn_reply}
 use Rattle.ldm_pqact.specs.Uses.{AreRows, AreUses, Uses, answer_by, step_answers}
 use Rattle.ldm_pqact.specs.Work.{Parted, replies_of}
 use Rattle.ldm_pqact.proofs.Carrying.{breaks_off_then, stands_none, stands_then}
+use Rattle.ldm_pqact.proofs.Counting.{count_given-append, counted_by, left_behind-more, left_behind-none}
 use Rattle.ldm_pqact.proofs.Coursing.{called_at, rows_then}
 use Rattle.ldm_pqact_conf.specs.Entries.{EntryView}
 use Rattle.ldm_pqact_command.specs.declared.stop.ActStop.{ActStop}
 use Rattle.ldm_pqact_command.specs.declared.stop.ActStop.TheVariants as stop
 use Rattle.ldm_pqact_command.specs.ActerView.{ActerView}
-use Rattle.ldm_pqact_command.specs.Course.{ActsAll, AreCallsOf, Gives, HasStopCause, IsEndedBy, StopCause, told, told_by}
-use Rattle.ldm_pqact_command.specs.Handling.{ActHandles, Counts, Follows, Tallies, standing_in}
+use Rattle.ldm_pqact_command.specs.Course.{ActsAll, AreCallsOf, Gives, HasStopCause, IsCounted, IsEndedBy, StopCause, count_of, told, told_by}
+use Rattle.ldm_pqact_command.specs.Handling.{ActHandles, EndsFor, Leaves, standing_in}
 use Rattle.ldm_pqact_command.specs.Statuses.{IfStopped}
 use Rattle.ldm_pqact_command.specs.Stops.{end_of}
 use Rattle.ldm_pqact_command.proofs.Carried.{Parts, parts_of}
@@ -74,7 +77,7 @@ calls-append k (entry ∷ first) second one two = (one.0, calls-append k first s
 
 uses-calls : (k : ℕ) (called : List Entry) → AreUses k called → AreCallsOf k called
 uses-calls k [] uses = tt
-uses-calls k (entry ∷ called) uses = (inr (inl uses.0), uses-calls k called uses.1)
+uses-calls k (entry ∷ called) uses = (inr uses.0, uses-calls k called uses.1)
 
 quiet-calls : (k : ℕ) (made : List Entry) → AreQuiet made → AreCallsOf k made
 quiet-calls k [] quiet = tt
@@ -151,26 +154,80 @@ gives-uses k turns answers old new uses is rows = record {
   rows = rows;
 }
 
--- it was asked how many products it was given
-gives-tally : (k given : ℕ) (old new : PassView) → Tallies k given old new → Gives k [] old new
-gives-tally k given old new tallies = record {
-  called = _;
-  calls = calls_some old new _ tallies.grows.makes;
-  are_calls = (inr (inr refl), tt);
-  answered = refl;
-  rows = tt;
-}
+-- ---- how many products were given
 
-gives-after : (answer : Handled) (ended : ActEnd) (k : ℕ) (count : Option ℕ) (why : Option ActStop) (old new : PassView) → Follows answer ended k count why old new
-    → Gives k [] old new
-gives-after handled.On ended k None why old new follows = gives-quiet k old new (quiet-none old new follows.2)
-gives-after handled.On ended k (Some count) why old new follows = gives-tally k follows.2.0 old new follows.2.2
-gives-after handled.Enough ended k None why old new follows = absurd follows.2
-gives-after handled.Enough ended k (Some count) why old new follows = gives-tally k follows.2.0 old new follows.2.2
-gives-after handled.Stopped ended k None why old new (inl worn) = absurd worn.2
-gives-after handled.Stopped ended k (Some count) why old new (inl worn) =
-    gives-quiet k old new (record { made = []; calls = calls_some old new [] worn.2.1.makes; quiet = tt })
-gives-after handled.Stopped ended k count why old new (inr stopped) = gives-quiet k old new (quiet-none old new stopped.3)
+count_of-append : (first second : List Turn) → count_of (first ++ second) ≡ count_of first + count_of second
+count_of-append first second =
+    ap (λ (gs : List Given). length gs) (flat_map-append products_in first second) ∙ length-append (flat_map products_in first) (flat_map products_in second)
+
+-- the answers give as many products as the turns
+turn-given : (turn : Turn) → count_given (turn_reply turn ∷ []) ≡ length (products_in turn)
+turn-given (Lost count first last) = refl
+turn-given (Gave given) = refl
+
+turns-given : (turns : List Turn) → count_given (map turn_reply turns) ≡ count_of turns
+turns-given [] = refl
+turns-given (turn ∷ turns) =
+    count_given-append (turn_reply turn ∷ []) (map turn_reply turns)
+    ∙ (ap (λ (n : ℕ). n + count_given (map turn_reply turns)) (turn-given turn)
+    ∙ (ap (λ (n : ℕ). length (products_in turn) + n) (turns-given turns) ∙ sym (length-append (products_in turn) (flat_map products_in turns))))
+
+-- what is not told gives no product
+told-by-given : (answer : Reply) → count_given (answer ∷ []) ≡ count_given (told_by answer)
+told-by-given (reply.End at) = refl
+told-by-given answer = refl
+
+told-given : (answers : List Reply) → count_given answers ≡ count_given (told answers)
+told-given [] = refl
+told-given (answer ∷ answers) =
+    count_given-append (answer ∷ []) answers
+    ∙ (ap (λ (n : ℕ). n + count_given answers) (told-by-given answer)
+    ∙ (ap (λ (n : ℕ). count_given (told_by answer) + n) (told-given answers) ∙ sym (count_given-append (told_by answer) (told answers))))
+
+run-given : (why : ActEnd) (run : Run) (entries : List EntryView) → count_given (replies_of (parted_of why entries run)) ≡ count_of (run.turns ++ run.in_hand)
+run-given why run entries =
+    told-given (replies_of (parted_of why entries run)) ∙ (ap count_given (told-run why run entries) ∙ turns-given (run.turns ++ run.in_hand))
+
+-- some products are left of a count, if some were before
+abbrev StaysSome : Option ℕ → Option ℕ → Type 0
+StaysSome left after = ForSome left (λ n. 0 < n) → ForSome after (λ n. 0 < n)
+
+-- by what a handler answered last
+abbrev LeavesBy : Handled → Option ℕ → Option ℕ → Type 0
+LeavesBy handled.On left after = StaysSome left after
+LeavesBy handled.Enough left after = after ≡ Some 0
+LeavesBy handled.Stopped left after = Unit {0}
+
+leaves_by : (answer : Handled) (left after : Option ℕ) → Leaves answer after → LeavesBy answer left after
+leaves_by handled.On left after leaves = λ some. leaves
+leaves_by handled.Enough left after leaves = leaves
+leaves_by handled.Stopped left after leaves = tt
+
+leaves_then : (answer : Handled) (left mid after : Option ℕ) → StaysSome left mid → LeavesBy answer mid after → LeavesBy answer left after
+leaves_then handled.On left mid after one two = λ some. two (one some)
+leaves_then handled.Enough left mid after one two = two
+leaves_then handled.Stopped left mid after one two = tt
+
+-- what the handler answered last, where a gathering ended so
+abbrev answer_at : GatherEnd → Handled
+answer_at (gather_end.Received received) = handled.On
+answer_at gather_end.Enough = handled.Enough
+answer_at gather_end.Stopped = handled.Stopped
+
+counted_at : (e : GatherEnd) (left after : Option ℕ) (n : ℕ) → after ≡ left_behind left n → LeavesBy (answer_at e) left after → IsCounted e left n
+counted_at (gather_end.Received received) left after n is leaves = λ most is_most some.
+    let behind : after ≡ Some (most - n) = is ∙ ap (λ (l : Option ℕ). left_behind l n) is_most in
+    let first : ForSome left (λ m. 0 < m) = λ m is_m. (
+      let one : Some most ≡ Some m = sym is_most ∙ is_m in
+      let same : most ≡ m = cc one in
+      subst (λ (x : ℕ). 0 < x) same some) in
+    let left_some : 0 < most - n = leaves first (most - n) behind in
+    omega (arith, left_some)
+counted_at gather_end.Enough None after n is leaves = absurd (let no : None ≡ Some 0 = sym is ∙ leaves in cc no)
+counted_at gather_end.Enough (Some most) after n is leaves =
+    let one : Some (most - n) ≡ Some 0 = sym is ∙ leaves in
+    let none : most - n ≡ 0 = cc one in (most, refl, omega (arith, none))
+counted_at gather_end.Stopped left after n is leaves = tt
 
 -- ---- what was done, one after another
 
@@ -198,12 +255,7 @@ carries_then why first second in_hand a b c one two = breaks_off_then why first 
 
 -- ---- what the handler stopped for
 
--- the queue has had all its calls where the cursor was not told how many products it was given
-counts_worn : (k : ℕ) (count : Option ℕ) (old new : PassView) → Counts handled.Stopped k count old new → length new.seen ≡ MOST_TURNS
-counts_worn k None old new counts = absurd counts
-counts_worn k (Some count) old new counts = counts.1.long ∙ counts.1.turns_are
-
--- it has had them too where acting on products ended for that
+-- the queue has had all its calls where acting on products ended for that
 ends_worn : (ended : ActEnd) (k : ℕ) (work : Parted) (old new : Sight) → ended ≡ end.Worn → EndsSo ended k work old new → length new.pass.seen ≡ MOST_TURNS
 ends_worn ended k work old new is ends =
     let broke : Breaks end.Worn k work old new = subst (λ (e : ActEnd). EndsSo e k work old new) is ends in
@@ -213,22 +265,16 @@ ends_worn ended k work old new is ends =
 record Stops (why : Option ActStop) (ended : ActEnd) (pass : PassView) : Type 0 where
   cause : ActStop
   is_why : why ≡ Some cause
-  is_end : (ended ≡ end_of cause) ⊎ ((cause ≡ stop.Worn) × (ended ≡ end.Stopped))
+  is_end : ended ≡ end_of cause
   worn : cause ≡ stop.Worn → length pass.seen ≡ MOST_TURNS
 
-stops_by : (ended : ActEnd) (k : ℕ) (count : Option ℕ) (why : Option ActStop) (work : Parted) (old acted : Sight) (pass : PassView) → EndsSo ended k work old acted
-    → Follows handled.Stopped ended k count why acted.pass pass → Stops why ended pass
-stops_by ended k count why work old acted pass ends (inl worn) = record {
-  cause = stop.Worn;
-  is_why = worn.1;
-  is_end = inr (refl, worn.0);
-  worn = λ is. counts_worn k count acted.pass pass worn.2;
-}
-stops_by ended k count why work old acted pass ends (inr stopped) = record {
+stops_by : (ended : ActEnd) (k : ℕ) (why : Option ActStop) (work : Parted) (old new : Sight) → EndsSo ended k work old new → EndsFor handled.Stopped why ended
+    → Stops why ended new.pass
+stops_by ended k why work old new ends stopped = record {
   cause = stopped.0;
-  is_why = stopped.2;
-  is_end = inl stopped.1;
-  worn = λ is. ap (λ (p : PassView). length p.seen) stopped.3 ∙ ends_worn ended k work old acted (stopped.1 ∙ ap end_of is) ends;
+  is_why = stopped.1;
+  is_end = stopped.2;
+  worn = λ is. ends_worn ended k work old new (stopped.2 ∙ ap end_of is) ends;
 }
 
 -- outputs that were not spent before have no earlier fault to answer again
@@ -260,12 +306,14 @@ module _ {F L : Type 0} (store_tells : F → StoreRecord) (launcher_tells : L �
   abbrev in_hand : Parts ActerView F L → Standing
   in_hand side = standing_in store_tells launcher_tells side.handler side.first side.second
 
-  -- Entries acted on the products of the cursor, up to such an end.
-  record Acted (why : ActEnd) (old new : Here) : Type 0 where
+  -- Entries acted on the products of the cursor, up to such an end, and the handler answered so.
+  record Acted (why : ActEnd) (answer : Handled) (old new : Here) : Type 0 where
     turns : List Turn
     held : List Turn
     is_held : IsInHand why held
     gives : Gives old.handler.k (turns ++ held) old.pass new.pass
+    counted : new.handler.left ≡ left_behind old.handler.left (count_of (turns ++ held))
+    leaves : LeavesBy answer old.handler.left new.handler.left
     carried : Carries why (deeds_of old.handler.entries turns) (deeds_of old.handler.entries held) (in_hand (parts_of old)) (in_hand (parts_of new))
     log_count : LogCount why old.log new.log
     same_k : new.handler.k ≡ old.handler.k
@@ -275,20 +323,22 @@ module _ {F L : Type 0} (store_tells : F → StoreRecord) (launcher_tells : L �
   log_kept : (old new : Here) → new.log ≡ old.log → old.log.faults ≤ new.log.faults
   log_kept old new same = let is : new.log.faults ≡ old.log.faults = ap (λ (log : SinkRecord). log.faults) same in omega (arith, is)
 
-  acted_quiet : (old new : Here) → parts_of new ≡ parts_of old → CallsQuietly old.pass new.pass → old.log.faults ≤ new.log.faults → Acted end.Stopped old new
+  acted_quiet : (old new : Here) → parts_of new ≡ parts_of old → CallsQuietly old.pass new.pass → old.log.faults ≤ new.log.faults → Acted end.Stopped handled.On old new
   acted_quiet old new same quietly kept = record {
     turns = [];
     held = [];
     is_held = refl;
     gives = gives-quiet old.handler.k old.pass new.pass quietly;
+    counted = ap (λ (p : Parts ActerView F L). p.handler.left) same ∙ left_behind-none old.handler.left;
+    leaves = subst (λ (p : Parts ActerView F L). StaysSome old.handler.left p.handler.left) (sym same) (λ some. some);
     carried = subst (λ (p : Parts ActerView F L). Stands [] (in_hand (parts_of old)) (in_hand p)) (sym same) (stands_none (in_hand (parts_of old)));
     log_count = kept;
     same_k = ap (λ (p : Parts ActerView F L). p.handler.k) same;
     same_entries = ap (λ (p : Parts ActerView F L). p.handler.entries) same;
   }
 
-  acted_then : (law : RowsStay) (why : ActEnd) (a b c : Here) → Acted end.Stopped a b → Acted why b c → Acted why a c
-  acted_then law why a b c one two =
+  acted_then : (law : RowsStay) (why : ActEnd) (answer : Handled) (a b c : Here) → Acted end.Stopped handled.On a b → Acted why answer b c → Acted why answer a c
+  acted_then law why answer a b c one two =
       let k = a.handler.k in
       let entries = a.handler.entries in
       let first : Gives k one.turns a.pass b.pass =
@@ -303,6 +353,17 @@ module _ {F L : Type 0} (store_tells : F → StoreRecord) (launcher_tells : L �
         gives =
             subst (λ (ts : List Turn). Gives k ts a.pass c.pass) (sym (append_assoc one.turns two.turns two.held))
             (gives-then law k one.turns (two.turns ++ two.held) a.pass b.pass c.pass first second);
+        counted =
+            let all : List Turn = two.turns ++ two.held in
+            let whole : b.handler.left ≡ left_behind a.handler.left (count_of one.turns) =
+            subst (λ (ts : List Turn). b.handler.left ≡ left_behind a.handler.left (count_of ts))
+            (ap (λ (ts : List Turn). one.turns ++ ts) one.is_held ∙ append-nil one.turns) one.counted in
+            two.counted
+            ∙ (ap (λ (l : Option ℕ). left_behind l (count_of all)) whole
+            ∙ (left_behind-more a.handler.left (count_of one.turns) (count_of all)
+            ∙ ap (λ (n : ℕ). left_behind a.handler.left n)
+            (sym (count_of-append one.turns all) ∙ ap count_of (sym (append_assoc one.turns two.turns two.held)))));
+        leaves = leaves_then answer a.handler.left b.handler.left c.handler.left one.leaves two.leaves;
         carried =
             subst (λ (ds : List (Action × List ℕ)). Carries why ds (deeds_of entries two.held) (in_hand (parts_of a)) (in_hand (parts_of c)))
             (sym (flat_map-append (turn_deeds entries) one.turns two.turns))
@@ -313,21 +374,20 @@ module _ {F L : Type 0} (store_tells : F → StoreRecord) (launcher_tells : L �
         same_entries = two.same_entries ∙ one.same_entries;
       }
 
-  acted_handled : (law : RowsStay) (answer : Handled) (old new : Here) (does : Does answer old new) → Acted does.ended old new
-  acted_handled law answer old new does =
+  acted_handled : (answer : Handled) (old new : Here) (does : Does answer old new) → Acted does.ended answer old new
+  acted_handled answer old new does =
       let k = old.handler.k in
-      let entries = old.handler.entries in
       let run = does.acts.run in
-      let turns = run.turns ++ run.in_hand in
       let uses = called_at does.ended k _ _ _ does.acts.ends in
-      let acted : Gives k turns old.pass does.acted = gives-uses k turns _ old.pass does.acted uses (told-run does.ended run entries) does.acts.rows in
-      let asked : Gives k [] does.acted new.pass = gives-after answer does.ended k old.handler.count new.handler.why does.acted new.pass does.follows in
       record {
         turns = run.turns;
         held = run.in_hand;
         is_held = does.acts.is_in_hand;
-        gives =
-            subst (λ (ts : List Turn). Gives k ts old.pass new.pass) (append-nil turns) (gives-then law k turns [] old.pass does.acted new.pass acted asked);
+        gives = gives-uses k (run.turns ++ run.in_hand) _ old.pass new.pass uses (told-run does.ended run old.handler.entries) does.acts.rows;
+        counted =
+            counted_by k old.pass new.pass _ old.handler.left new.handler.left uses does.counts
+            ∙ ap (λ (n : ℕ). left_behind old.handler.left n) (run-given does.ended run old.handler.entries);
+        leaves = leaves_by answer old.handler.left new.handler.left does.leaves;
         carried = carried_at does.ended k _ _ _ does.acts.ends;
         log_count = log_count_at does.ended k _ _ _ does.acts.ends;
         same_k = ap (λ (acter : ActerView). acter.k) does.others;
@@ -345,38 +405,38 @@ module _ {F L : Type 0} (store_tells : F → StoreRecord) (launcher_tells : L �
       subst (λ (e : Option RecvEnd). PushesAt e piece old.receiver pushed.receiver before after) live comes.pushes in
       pushes-quiet pushed.receiver.end piece old.receiver.hand pushed.receiver.hand before after at.0
 
-  acted_come : (piece : Piece) (out notes : List ℕ) (old pushed : At) → old.receiver.end ≡ None → Comes piece out notes old pushed → Acted end.Stopped old.scene pushed.scene
+  acted_come : (piece : Piece) (out notes : List ℕ) (old pushed : At) → old.receiver.end ≡ None → Comes piece out notes old pushed → Acted end.Stopped handled.On old.scene pushed.scene
   acted_come piece out notes old pushed live comes =
       acted_quiet old.scene pushed.scene (ap parts_of comes.others) (comes-quiet piece out notes old pushed live comes)
       (log_kept old.scene pushed.scene (ap (λ (s : Here). s.log) comes.others))
 
   acted_piece : (law : RowsStay) (piece : Piece) (answer : Handled) (old new : At) → old.receiver.end ≡ None → (takes : TakesPiece Does piece answer old new)
-      → Acted takes.handles_it.handled.ended old.scene new.scene
+      → Acted takes.handles_it.handled.ended answer old.scene new.scene
   acted_piece law piece answer old new live takes =
       let does = takes.handles_it.handled in
       let told_is = ap (λ (m : At). m.scene) takes.tells.others in
-      let told : Acted end.Stopped takes.pushed.scene takes.told.scene =
+      let told : Acted end.Stopped handled.On takes.pushed.scene takes.told.scene =
       acted_quiet takes.pushed.scene takes.told.scene (ap parts_of told_is)
       (quiet-none takes.pushed.scene.pass takes.told.scene.pass (ap (λ (s : Here). s.pass) told_is)) takes.tells.log_kept in
-      acted_then law does.ended old.scene takes.pushed.scene new.scene (acted_come piece takes.out takes.notes old takes.pushed live takes.comes)
-      (acted_then law does.ended takes.pushed.scene takes.told.scene new.scene told (acted_handled law answer takes.told.scene new.scene does))
+      acted_then law does.ended answer old.scene takes.pushed.scene new.scene (acted_come piece takes.out takes.notes old takes.pushed live takes.comes)
+      (acted_then law does.ended answer takes.pushed.scene takes.told.scene new.scene told (acted_handled answer takes.told.scene new.scene does))
 
   -- a piece behind which all was acted on
   acted_on : (law : RowsStay) (piece : Piece) (answer : Handled) (old new : At) → old.receiver.end ≡ None → (takes : TakesPiece Does piece answer old new)
-      → takes.handles_it.handled.ended ≡ end.Stopped → Acted end.Stopped old.scene new.scene
-  acted_on law piece answer old new live takes is = subst (λ (why : ActEnd). Acted why old.scene new.scene) is (acted_piece law piece answer old new live takes)
+      → takes.handles_it.handled.ended ≡ end.Stopped → Acted end.Stopped answer old.scene new.scene
+  acted_on law piece answer old new live takes is = subst (λ (why : ActEnd). Acted why answer old.scene new.scene) is (acted_piece law piece answer old new live takes)
 
   live-at : (pieces : List Piece) (old new : At) → old.receiver.end ≡ None → GoesOn Does pieces old new → new.receiver.end ≡ None
   live-at [] old new live goes = ap (λ (m : At). m.receiver.end) goes ∙ live
   live-at (piece ∷ pieces) old new live goes = live-at pieces goes.0 new goes.1.live goes.2
 
-  went : (law : RowsStay) (pieces : List Piece) (old new : At) → old.receiver.end ≡ None → GoesOn Does pieces old new → Acted end.Stopped old.scene new.scene
+  went : (law : RowsStay) (pieces : List Piece) (old new : At) → old.receiver.end ≡ None → GoesOn Does pieces old new → Acted end.Stopped handled.On old.scene new.scene
   went law [] old new live goes =
       acted_quiet old.scene new.scene (ap (λ (m : At). parts_of m.scene) goes) (quiet-none old.scene.pass new.scene.pass (ap (λ (m : At). m.scene.pass) goes))
       (log_kept old.scene new.scene (ap (λ (m : At). m.scene.log) goes))
   went law (piece ∷ pieces) old new live goes =
       let takes = goes.1.takes in
-      acted_then law end.Stopped old.scene goes.0.scene new.scene (acted_on law piece handled.On old goes.0 live takes takes.handles_it.handled.follows.0)
+      acted_then law end.Stopped handled.On old.scene goes.0.scene new.scene (acted_on law piece handled.On old goes.0 live takes takes.handles_it.handled.ends.0)
       (went law pieces goes.0 new goes.1.live goes.2)
 
   -- ---- the end
@@ -388,22 +448,21 @@ module _ {F L : Type 0} (store_tells : F → StoreRecord) (launcher_tells : L �
   -- why the handler stopped
   stops_in : (old new : Here) → (does : Does handled.Stopped old new) → Stops new.handler.why does.ended new.pass
   stops_in old new does =
-      stops_by does.ended old.handler.k old.handler.count new.handler.why (parted_of does.ended old.handler.entries does.acts.run) (sight_in old)
-      (sight_of does.acted (in_hand (parts_of new)) new.log) new.pass does.acts.ends does.follows
+      stops_by does.ended old.handler.k new.handler.why (parted_of does.ended old.handler.entries does.acts.run) (sight_in old) (sight_in new) does.acts.ends does.ends
 
   -- how it ended
   record EndedBy (e : GatherEnd) (old new : Here) : Type 0 where
     ended : ActEnd
     is_ended : IsEndedBy e new.handler.why ended
     stops : IfStopped e (Stops new.handler.why ended new.pass)
-    acted : Acted ended old new
+    acted : Acted ended (answer_at e) old new
 
-  received : (e : RecvEnd) (old new : Here) → Acted end.Stopped old new → EndedBy (gather_end.Received e) old new
+  received : (e : RecvEnd) (old new : Here) → Acted end.Stopped handled.On old new → EndedBy (gather_end.Received e) old new
   received e old new acted = record { ended = end.Stopped; is_ended = refl; stops = tt; acted = acted }
 
   over : (law : RowsStay) (e : RecvEnd) (piece : Piece) (old new : At) → old.receiver.end ≡ None → TakesPiece Does piece handled.On old new
       → EndedBy (gather_end.Received e) old.scene new.scene
-  over law e piece old new live takes = received e old.scene new.scene (acted_on law piece handled.On old new live takes takes.handles_it.handled.follows.0)
+  over law e piece old new live takes = received e old.scene new.scene (acted_on law piece handled.On old new live takes takes.handles_it.handled.ends.0)
 
   closes-none : (e : RecvEnd) (receiver : ReceiverView) (pass after : PassView) → receiver.end ≡ None → EndsAt receiver.end e receiver pass after → CallsQuietly pass after
   closes-none e receiver pass after live ends = by_close at_end.1
@@ -441,18 +500,18 @@ module _ {F L : Type 0} (store_tells : F → StoreRecord) (launcher_tells : L �
   ends_by law (gather_end.Received LinkFault) old new live (inr fails) =
       let scene_is = ap (λ (m : At). m.scene) fails.sends.others in
       received LinkFault old.scene new.scene
-      (subst (λ (s : Here). Acted end.Stopped old.scene s) (sym scene_is) (acted_come fails.piece fails.out fails.notes old fails.pushed live fails.comes))
+      (subst (λ (s : Here). Acted end.Stopped handled.On old.scene s) (sym scene_is) (acted_come fails.piece fails.out fails.notes old fails.pushed live fails.comes))
   ends_by law (gather_end.Received LogFault) old new live fails =
       let scene_is = ap (λ (m : At). m.scene) fails.logs.others in
       received LogFault old.scene new.scene
-      (acted_then law end.Stopped old.scene fails.pushed.scene new.scene (acted_come fails.piece fails.out fails.notes old fails.pushed live fails.comes)
+      (acted_then law end.Stopped handled.On old.scene fails.pushed.scene new.scene (acted_come fails.piece fails.out fails.notes old fails.pushed live fails.comes)
       (acted_quiet fails.pushed.scene new.scene (ap parts_of scene_is) (quiet-none fails.pushed.scene.pass new.scene.pass (ap (λ (s : Here). s.pass) scene_is))
       (rose_le fails.pushed.scene.log.faults new.scene.log.faults fails.logs.rose)))
   ends_by law gather_end.Enough old new live ends = record {
     ended = end.Stopped;
     is_ended = refl;
     stops = tt;
-    acted = acted_on law ends.piece handled.Enough old new live ends.takes ends.takes.handles_it.handled.follows.0;
+    acted = acted_on law ends.piece handled.Enough old new live ends.takes ends.takes.handles_it.handled.ends.0;
   }
   ends_by law gather_end.Stopped old new live ends =
       let does = ends.takes.handles_it.handled in
@@ -468,9 +527,9 @@ module _ {F L : Type 0} (store_tells : F → StoreRecord) (launcher_tells : L �
   begins_not (gather_end.Received LinkFault) old new begins = same_scene LinkFault old new (ap (λ (m : At). m.scene) begins.others)
   begins_not _ old new begins = absurd begins
 
-  stop_cause : (ended : ActEnd) (old new : Here) → Acted ended old new → Stops new.handler.why ended new.pass
+  stop_cause : (ended : ActEnd) (answer : Handled) (old new : Here) → Acted ended answer old new → Stops new.handler.why ended new.pass
       → HasStopCause new.handler.why (sight_in old) (sight_in new)
-  stop_cause ended old new acted stops none =
+  stop_cause ended answer old new acted stops none =
       subst (λ (why : Option ActStop). IfSome why (λ (cause : ActStop). StopCause cause (sight_in old) (sight_in new))) (sym stops.is_why) (by_end stops.is_end)
     where
       whole : List (Action × List ℕ)
@@ -479,17 +538,16 @@ module _ {F L : Type 0} (store_tells : F → StoreRecord) (launcher_tells : L �
       held : List (Action × List ℕ)
       held = deeds_of old.handler.entries acted.held
 
-      by_end : (ended ≡ end_of stops.cause) ⊎ ((stops.cause ≡ stop.Worn) × (ended ≡ end.Stopped)) → StopCause stops.cause (sight_in old) (sight_in new)
-      by_end (inl is) =
+      by_end : ended ≡ end_of stops.cause → StopCause stops.cause (sight_in old) (sight_in new)
+      by_end is =
           cause_at stops.cause whole held (sight_in old) (sight_in new) none
           (subst (λ (why : ActEnd). Carries why whole held (in_hand (parts_of old)) (in_hand (parts_of new))) is acted.carried)
           (subst (λ (why : ActEnd). LogCount why old.log new.log) is acted.log_count) stops.worn
-      by_end (inr worn) = subst (λ (cause : ActStop). StopCause cause (sight_in old) (sight_in new)) (sym worn.0) (stops.worn worn.0)
 
   cause_of : (e : GatherEnd) (old new : Here) → EndedBy e old new → IfStopped e (HasStopCause new.handler.why (sight_in old) (sight_in new))
   cause_of (gather_end.Received e) old new by = tt
   cause_of gather_end.Enough old new by = tt
-  cause_of gather_end.Stopped old new by = stop_cause by.ended old new by.acted by.stops
+  cause_of gather_end.Stopped old new by = stop_cause by.ended handled.Stopped old new by.acted by.stops
 
   all_of : (e : GatherEnd) (old new : Here) → EndedBy e old new → ActsAll e new.handler.why old.handler (sight_in old) (sight_in new)
   all_of e old new by = record {
@@ -500,6 +558,7 @@ module _ {F L : Type 0} (store_tells : F → StoreRecord) (launcher_tells : L �
     in_hand = by.acted.held;
     is_in_hand = by.acted.is_held;
     gives = by.acted.gives;
+    counted = counted_at e old.handler.left new.handler.left (count_of (by.acted.turns ++ by.acted.held)) by.acted.counted by.acted.leaves;
     carried = by.acted.carried;
   }
 
@@ -524,6 +583,6 @@ module _ {F L : Type 0} (store_tells : F → StoreRecord) (launcher_tells : L �
             ended = ends.ended;
             is_ended = ends.is_ended;
             stops = ends.stops;
-            acted = acted_then law ends.ended at.scene gathers.last.scene last.scene (went law gathers.pieces at gathers.last refl gathers.goes_on) ends.acted;
+            acted = acted_then law ends.ended (answer_at e) at.scene gathers.last.scene last.scene (went law gathers.pieces at gathers.last refl gathers.goes_on) ends.acted;
           })
       by_begin (inr not) = all_of e old.scene new.scene (begins_not e first last not)

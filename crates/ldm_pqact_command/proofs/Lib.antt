@@ -1,4 +1,3 @@
-mod Tallied
 mod Carried
 mod Kept
 mod Gathered

@@ -8,12 +8,12 @@ use Rattle.ldm_pqact_command.specs.declared.stop.ActStop.{ActStop}
 pub record ActerView : Type 0 where
   -- the place of its cursor
   pub k : ℕ
-  -- how many products are to be acted on, where there is a count
-  pub count : Option ℕ
+  -- how many products are left to be given, where there is a count
+  pub left : Option ℕ
   pub entries : List EntryView
   pub outputs : OutputsView
   -- why it stopped
   pub why : Option ActStop
 
 abbrev pub acter_view : Inside → ActerView
-acter_view it = record { k = it.reader.k; count = it.count; entries = it.pqact.entries; outputs = it.pqact.outputs; why = it.why }
+acter_view it = record { k = it.reader.k; left = it.pqact.left; entries = it.pqact.entries; outputs = it.pqact.outputs; why = it.why }

@@ -24,7 +24,7 @@ use Rattle.ldm_pqact_conf.specs.Entries.{EntryView}
 use Rattle.ldm_status.specs.declared.status.Status.{Status}
 use Rattle.ldm_status.specs.declared.status.Status.TheVariants as status
 use Rattle.ldm_status.specs.Status.{code_of}
-use Rattle.ldm_pqact_command.specs.Course.{Gives}
+use Rattle.ldm_pqact_command.specs.Course.{Gives, IsCounted, count_of}
 use Rattle.ldm_pqact_command.specs.Handling.{ActHandles}
 use Rattle.ldm_pqact_command.specs.PqactRuns.{Here, PqactLent, acter_at, here_of, within}
 
@@ -65,6 +65,7 @@ module _ {F L : Type 0} (store_tells : F → StoreRecord) (launcher_tells : L �
     -- what the cursor gave, and what stands
     pub turns : List Turn
     pub gives : Gives k turns first mid.pass
+    pub counted : IsCounted gathered order.count (count_of turns)
     pub stands : world_at new ≡ closed (effects (deeds_of entries turns) (world_at old))
 
   -- what is known at each status of a run in which nothing failed

@@ -1,8 +1,7 @@
 -- What a whole gathering came to, over all its pieces: which products, of which calls on the queue, and what was done with them.
-use Rattle.std.specs.Prelude.{◌≡◌, ◌⊎◌, ℕ, List, [], ◌∷◌, ◌++◌, length, map, Option, Some, None, IfSome}
+use Rattle.std.specs.Prelude.{◌≡◌, ◌⊎◌, ℕ, ◌<◌, ◌≤◌, List, [], ◌∷◌, ◌++◌, length, map, Option, Some, None, IfSome}
 use Rattle.std.specs.List.{flat_map}
-use Rattle.ldm_model.specs.declared.event.Event.{Event}
-use Rattle.ldm_model.specs.declared.event.Event.TheVariants as event
+use Rattle.std.specs.Option.{ForSome}
 use Rattle.ldm_model.specs.declared.event.Reply.{Reply}
 use Rattle.ldm_model.specs.declared.event.Reply.TheVariants as reply
 use Rattle.ldm_model.specs.declared.event.Entry.{Entry}
@@ -24,13 +23,10 @@ use Rattle.ldm_pqact_command.specs.ActerView.{ActerView}
 use Rattle.ldm_pqact_command.specs.Statuses.{IfStopped}
 use Rattle.ldm_pqact_command.specs.Stops.{end_of}
 
--- a call of the receiving, which is about no cursor; a use of the cursor at that place; or it was asked how many products it was given
-abbrev pub IsCallOf : ℕ → Event → Type 0
-IsCallOf k e = IsQuiet e ⊎ (IsUse k e ⊎ (e ≡ event.Tally k))
-
+-- calls of the receiving, which are about no cursor, and uses of the cursor at that place
 abbrev pub AreCallsOf : ℕ → List Entry → Type 0
 AreCallsOf k [] = Unit {0}
-AreCallsOf k (entry ∷ called) = IsCallOf k entry.event × AreCallsOf k called
+AreCallsOf k (entry ∷ called) = (IsQuiet entry.event ⊎ IsUse k entry.event) × AreCallsOf k called
 
 -- an answer that gives a product or tells a loss: not that the cursor is at the end
 abbrev pub told_by : Reply → List Reply
@@ -49,15 +45,23 @@ pub record Gives (k : ℕ) (turns : List Turn) (old new : PassView) : Type 0 whe
   pub answered : told (step_answers called) ≡ map turn_reply turns
   pub rows : AreRows new (flat_map products_in turns)
 
+-- how many products the cursor gave
+abbrev pub count_of : List Turn → ℕ
+count_of turns = length (flat_map products_in turns)
+
 -- ---- how it ended
 
--- Why the handler stopped, and how acting on products then ended: only there it may have been broken off. It comes to the end of the queue
--- where the queue had all its calls before the cursor was asked how many products it was given.
+-- As many products were given as were to be acted on, or more, as all of a piece are acted on; or fewer, where there is a count above 0.
+abbrev pub IsCounted : GatherEnd → Option ℕ → ℕ → Type 0
+IsCounted (Received received) count n = ForSome count (λ most. 0 < most → n < most)
+IsCounted Enough count n = (most : ℕ) × (count ≡ Some most) × (most ≤ n)
+IsCounted Stopped count n = Unit {0}
+
+-- Why the handler stopped, and how acting on products then ended: only there it may have been broken off.
 abbrev pub IsEndedBy : GatherEnd → Option ActStop → ActEnd → Type 0
 IsEndedBy (Received received) why ended = ended ≡ end.Stopped
 IsEndedBy Enough why ended = ended ≡ end.Stopped
-IsEndedBy Stopped why ended =
-    (cause : ActStop) × (why ≡ Some cause) × ((ended ≡ end_of cause) ⊎ ((cause ≡ stop.Worn) × (ended ≡ end.Stopped)))
+IsEndedBy Stopped why ended = (cause : ActStop) × (why ≡ Some cause) × (ended ≡ end_of cause)
 
 -- What it stopped for: a count that rose from the beginning of the gathering to its end, or the queue has had all its calls. Want of memory
 -- may come at any time.
@@ -74,8 +78,8 @@ HasStopCause why old new = old.standing.outputs.spent ≡ None → IfSome why (�
 
 -- ---- all of it
 
--- The cursor gave these products, and files and programs are what the chosen actions make of what stood before, product by product and
--- entry by entry. Where that broke off, at most one turn was in hand: of its actions some stand whole and of the next a part, and all of
+-- The cursor gave these products, as many as a count asks for, and files and programs are what the chosen actions make of what stood before,
+-- product by product and entry by entry. Where that broke off, at most one turn was in hand: of its actions some stand whole and of the next a part, and all of
 -- the earlier ones stand whole. `why` is what the handler stopped for, if it did.
 pub record ActsAll (gathered : GatherEnd) (why : Option ActStop) (acter : ActerView) (old new : Sight) : Type 0 where
   pub ended : ActEnd
@@ -85,4 +89,5 @@ pub record ActsAll (gathered : GatherEnd) (why : Option ActStop) (acter : ActerV
   pub in_hand : List Turn
   pub is_in_hand : IsInHand ended in_hand
   pub gives : Gives acter.k (turns ++ in_hand) old.pass new.pass
+  pub counted : IsCounted gathered acter.left (count_of (turns ++ in_hand))
   pub carried : Carries ended (deeds_of acter.entries turns) (deeds_of acter.entries in_hand) old.standing new.standing

@@ -42,7 +42,7 @@ pqact_lent net store launcher log clock = record { net = net; store = store; lau
 
 -- the handler before the first product
 abbrev pub acter_at : ℕ → Option ℕ → List EntryView → ActerView
-acter_at k count entries = record { k = k; count = count; entries = entries; outputs = no_outputs; why = None }
+acter_at k count entries = record { k = k; left = count; entries = entries; outputs = no_outputs; why = None }
 
 -- The handler and the pass, with what is used of the outside.
 pub record Here (F L : Type 0) : Type 0 where

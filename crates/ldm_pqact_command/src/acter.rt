@@ -3,7 +3,6 @@ ghost use Rattle.std.specs.Prelude.{◌≡◌, None};
 ghost use Rattle.ldm_outside.specs.Reason.{IsReason};
 
 use crate::stop::{ActStop, stop_of};
-use crate::tallying::tally;
 use ldm_actions::Done;
 use ldm_gather::{Handled, Handler};
 use ldm_outside::{Launcher, Sink, Store};
@@ -14,14 +13,13 @@ use std::marker::Model;
 use std::sync::Wait;
 
 /// Does with each product of a cursor what the entries of a pqact.conf choose. Where it has a count, it has enough once
-/// the cursor was given so many products.
+/// the cursor was given so many products: it acts on all that is queued, and then looks at what is left of the count.
 ///
 /// It is lent the store and the launcher of its outputs: the same ones at each call, and nobody else may shut what is
 /// kept there.
 #[derive(Drop)]
 pub struct Acter {
     reader: Reader,
-    count: Option<u64>,
     pqact: Pqact,
     why: Option<ActStop>,
 }
@@ -42,7 +40,7 @@ impl Acter {
     pub fn create(reader: Reader, count: Option<u64>, pqact: Pqact) -> Acter
         ensures { result ≡ record {
           k = reader.k;
-          count = count;
+          left = count;
           entries = pqact.entries;
           outputs = pqact.outputs;
           why
@@ -51,8 +49,7 @@ impl Acter {
     {
         Acter {
             reader,
-            count,
-            pqact,
+            pqact: pqact.counting(count),
             why: None,
         }
     }
@@ -110,10 +107,9 @@ impl<F: Store, L: Launcher> Handler<F, L> for Acter {
             self.why = Some(why);
             return Handled::Stopped;
         }
-        let handled = tally(rt, shared, pass, &reader, self.count);
-        if let Handled::Stopped = handled {
-            self.why = Some(ActStop::Worn);
+        match self.pqact.left() {
+            Some(0) => Handled::Enough,
+            Some(_) | None => Handled::On,
         }
-        handled
     }
 }

@@ -6,7 +6,6 @@ mod command;
 mod end;
 mod premises;
 mod stop;
-mod tallying;
 
 pub use acter::Acter;
 pub use command::{ActOrder, act_on_products, pqact};

@@ -1,5 +1,7 @@
+use Rattle.std.proofs.Common.{◌∙◌, refl}
 use Rattle.std.proofs.lemmas.Result.{err_from_is_err_and}
 use Rattle.ldm_pqact.specs.Handling.{given_of}
+use Rattle.ldm_pqact.proofs.Counting.{counts_no_product, counts_product, counts_worn}
 use Rattle.ldm_pqact.proofs.Coursing.{ended, gave, lost, unlogged, unstepped}
 use Rattle.ldm_pqact.proofs.carrier.Carrier.turn.Goals as goal
 
@@ -35,3 +37,28 @@ returns-in-Done-End-clause-turns g c =
 
 pub returns-in-Worn-clause-turns : goal.returns-in-Worn-clause-turns
 returns-in-Worn-clause-turns g c = unstepped c.args.self.now.entries c.args.reader.now.k _ c.args.pass.now c.step.new.pass _ _ c.in-Worn.ensures.worn
+
+pub returns-in_err-write_gap-in-Done-Gap-clause-counts : goal.returns-in_err-write_gap-in-Done-Gap-clause-counts
+returns-in_err-write_gap-in-Done-Gap-clause-counts g c =
+    let at = rw c.in-Done-Gap.field-0-is at c.in-Done-Gap.ensures in
+    counts_no_product c.args.reader.now.k c.args.pass.now c.step.new.pass _ c.args.self.now.left refl at.done
+
+pub returns-in_ok-write_gap-in-Done-Gap-clause-counts : goal.returns-in_ok-write_gap-in-Done-Gap-clause-counts
+returns-in_ok-write_gap-in-Done-Gap-clause-counts g c =
+    let at = rw c.in-Done-Gap.field-0-is at c.in-Done-Gap.ensures in
+    counts_no_product c.args.reader.now.k c.args.pass.now c.step.new.pass _ c.args.self.now.left refl at.done
+
+pub returns-in-Done-Product-clause-counts : goal.returns-in-Done-Product-clause-counts
+returns-in-Done-Product-clause-counts g c =
+    let at = rw c.in-Done-Product.field-0-is at c.in-Done-Product.ensures in
+    let body = at.cursor.0 in
+    counts_product c.handle.result c.args.reader.now.k (given_of c.in-Done-Product.held body) _ _ c.args.pass.now _ _ c.args.self.now.left c.handle.new.self.left at.done
+    (c.handle.ensures.handles body at.cursor.1) (c.handle.ensures.left ∙ c.count_off.ensures)
+
+pub returns-in-Done-End-clause-counts : goal.returns-in-Done-End-clause-counts
+returns-in-Done-End-clause-counts g c =
+    let at = rw c.in-Done-End.field-0-is at c.in-Done-End.ensures in
+    counts_no_product c.args.reader.now.k c.args.pass.now c.step.new.pass _ c.args.self.now.left refl at.done
+
+pub returns-in-Worn-clause-counts : goal.returns-in-Worn-clause-counts
+returns-in-Worn-clause-counts g c = counts_worn c.args.reader.now.k _ c.args.pass.now c.step.new.pass c.args.self.now.left c.in-Worn.ensures.worn

@@ -1,10 +1,11 @@
 use Rattle.std.proofs.Common.{◌∙◌, refl}
 use Rattle.ldm_sender.proofs.Steps.{of_same, same_then}
+use Rattle.ldm_pqact.proofs.Counting.{counts_none, counts_then}
 use Rattle.ldm_pqact.proofs.Coursing.{course_begins, course_ends, course_goes_on}
 use Rattle.ldm_pqact.proofs.carrier.Carrier.turns.Goals as goal
 
 pub loop-init : goal.loop-init
-loop-init g c = (course_begins _ _ _ c.requires.cursor c.requires.keeps, refl, c.requires.room)
+loop-init g c = (course_begins _ _ _ c.requires.cursor c.requires.keeps, refl, c.requires.room, counts_none c.args.pass.now c.args.self.now.left)
 
 pub turn-requires-clause-of : goal.turn-requires-clause-of
 turn-requires-clause-of g c = of_same _ _ _ c.requires.of c.loop.invariant.0.same
@@ -21,6 +22,7 @@ loop-preserved g c = (
       (rw c.loop.invariant.1 at c.in-Ok.ensures.turns),
   c.in-Ok.ensures.entries ∙ c.loop.invariant.1,
   c.in-Ok.ensures.room,
+  counts_then _ _ _ _ _ _ c.loop.invariant.3 c.in-Ok.ensures.counts,
 )
 
 pub returns-in-Err-clause-kept : goal.returns-in-Err-clause-kept
@@ -29,3 +31,6 @@ returns-in-Err-clause-kept g c = same_then c.args.pass.now c.loop.pass c.turn.ne
 pub returns-in-Err-clause-acts : goal.returns-in-Err-clause-acts
 returns-in-Err-clause-acts g c =
     course_ends c.products_stay.ensures.stays _ _ _ _ _ _ c.loop.invariant.0 (rw c.loop.invariant.1 at c.in-Err.ensures.turns)
+
+pub returns-in-Err-clause-counts : goal.returns-in-Err-clause-counts
+returns-in-Err-clause-counts g c = counts_then _ _ _ _ _ _ c.loop.invariant.3 c.in-Err.ensures.counts

@@ -3,6 +3,7 @@ use Rattle.std.specs.Vec.{vec_capacity}
 use Rattle.ldm_actions.specs.Outputs.{standing}
 use Rattle.ldm_pqact.specs.declared.limits.TheConstants.{LARGEST_PIECE}
 use Rattle.ldm_pqact.specs.Acting.{sight_of}
+use Rattle.ldm_pqact.specs.Counting.{CountsGiven}
 use Rattle.ldm_pqact.proofs.Coursing.{KeepsCourse}
 use Rattle.ldm_pqact.proofs.carrier.Carrier.turns.Given as goal
 
@@ -13,3 +14,4 @@ invariant-loop g l =
     (sight_of l.pass (standing l.self.writer.outputs (g.F.Store.tells l.store) (g.L.Launcher.tells l.launcher)) (g.E.Sink.tells l.log))
     × (l.self.entries ≡ l.initial.self.entries)
     × (LARGEST_PIECE ≤ vec_capacity l.self.writer.buffer)
+    × CountsGiven l.initial.pass l.pass l.initial.self.left l.self.left
