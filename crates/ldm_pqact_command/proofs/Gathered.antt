@@ -218,9 +218,9 @@ counted_at : (e : GatherEnd) (left after : Option ℕ) (n : ℕ) → after ≡ l
 counted_at (gather_end.Received received) left after n is leaves = λ most is_most some.
     let behind : after ≡ Some (most - n) = is ∙ ap (λ (l : Option ℕ). left_behind l n) is_most in
     let first : ForSome left (λ m. 0 < m) = λ m is_m. (
-      let one : Some most ≡ Some m = sym is_most ∙ is_m in
-      let same : most ≡ m = cc one in
-      subst (λ (x : ℕ). 0 < x) same some) in
+    let one : Some most ≡ Some m = sym is_most ∙ is_m in
+    let same : most ≡ m = cc one in
+    subst (λ (x : ℕ). 0 < x) same some) in
     let left_some : 0 < most - n = leaves first (most - n) behind in
     omega (arith, left_some)
 counted_at gather_end.Enough None after n is leaves = absurd (let no : None ≡ Some 0 = sym is ∙ leaves in cc no)
