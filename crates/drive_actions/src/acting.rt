@@ -3,8 +3,7 @@ ghost use Rattle.ldm_shared.specs.Passes.{IsPassOf, IsSamePass};
 
 use crate::entries::entries_of;
 use crate::outputs::{tell_children, tell_files};
-use ldm_drive::Trial;
-use ldm_drive::{copied, numbers, push};
+use ldm_drive::{Trial, copied, numbers, push};
 use ldm_drive_sessions::{
     BusyGate, Case, insert_all, log_of, open_all, queue_of, tell_cursor, tell_log,
 };

@@ -5,8 +5,7 @@ ghost use Rattle.ldm_actions.specs.Outputs.{BeginsHand, HasHand, KeepsUnlessSpen
 
 use crate::steps::{Step, step_in};
 use ldm_actions::{Action, Begun, Done, Outputs};
-use ldm_drive::Trial;
-use ldm_drive::{numbers, push};
+use ldm_drive::{Trial, numbers, push};
 use ldm_outside::{Launcher, MemFile, MemLauncher, MemStore, Store};
 use md5::{Digest, Md5};
 

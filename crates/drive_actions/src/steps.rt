@@ -1,8 +1,7 @@
 //! A step of a case: an action and its body.
 
 use ldm_actions::{Action, FileOptions, PipeOptions, Program};
-use ldm_drive::Trial;
-use ldm_drive::{push, text_copied};
+use ldm_drive::{Trial, push, text_copied};
 
 /// An action, the pieces of its body with a comma between two, and whether it is left unfinished.
 #[derive(Drop)]

@@ -1,8 +1,7 @@
 //! The parts of a world, as cases say them.
 
 use arrayvec::ArrayVec;
-use ldm_drive::Trial;
-use ldm_drive::{copied, numbers, push, text_copied};
+use ldm_drive::{Trial, copied, numbers, push, text_copied};
 use ldm_drive_sessions::Case;
 use ldm_outside::{LinkScript, MemFile, MemPeer, StationScript};
 use ldm_types::Micros;

@@ -5,8 +5,7 @@ use crate::parts::{Page, Place, files_of, instants_in, scripts_of, stations_of, 
 use crate::telling::{MemWorld, tell_run};
 use ldm_commands::{World, run_ldm};
 use ldm_disk::MemDisk;
-use ldm_drive::Trial;
-use ldm_drive::{copied, numbers, push, text_copied};
+use ldm_drive::{Trial, copied, numbers, push, text_copied};
 use ldm_drive_sessions::Case;
 use ldm_outside::{MemClock, MemDial, MemLauncher, MemNet, MemSink, MemSource, MemStore};
 use ldm_status::Streams;

@@ -2,8 +2,7 @@
 ghost use Rattle.ldm_shared.specs.Passes.{IsPassOf};
 
 use ldm_class::{Class, Policy};
-use ldm_drive::Trial;
-use ldm_drive::copied;
+use ldm_drive::{Trial, copied};
 use ldm_drive_sessions::{
     BusyGate, Case, clock_of, insert_all, link_of, log_of, open_all, policy_of, queue_of,
     tell_cursor, tell_log, tell_sent,

@@ -2,8 +2,7 @@
 ghost use Rattle.ldm_shared.specs.Passes.{IsPassOf};
 
 use ldm_conf::Conf;
-use ldm_drive::Trial;
-use ldm_drive::copied;
+use ldm_drive::{Trial, copied};
 use ldm_drive_sessions::{
     BusyGate, Case, clock_of, conf_of, insert_all, link_of, log_of, queue_of, tell_answer,
     tell_log, tell_place, tell_queue, tell_sent,

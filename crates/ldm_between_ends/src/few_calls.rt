@@ -20,8 +20,7 @@ ghost use Rattle.ldm_between_ends.specs.Counts.{most_fed};
 ghost use Rattle.ldm_between_ends.specs.OnePass.{IsOnlyPass};
 
 use ldm_model::regions_lie_apart;
-use ldm_shared::products_stay;
-use ldm_shared::one_pass;
+use ldm_shared::{one_pass, products_stay};
 
 /// How many calls of their queues a feeder and a receiver make.
 pub fn few_calls_are_made()

@@ -11,8 +11,7 @@ ghost use Rattle.ldm_between_ends.specs.Session.{Session};
 
 use crate::passing_laws::{products_are_passed_on, the_setting_is_met};
 use ldm_model::products_were_admitted;
-use ldm_shared::products_stay;
-use ldm_shared::own_readers;
+use ldm_shared::{own_readers, products_stay};
 
 /// What a call that feeds and a call that receives come to, of which the one was asked what the other asks, and where
 /// of what either sent the first bytes came to the other, perhaps all. Each of the two may have come to any of its

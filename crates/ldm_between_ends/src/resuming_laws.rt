@@ -23,8 +23,7 @@ ghost use Rattle.ldm_between_ends.specs.Blocks.{CameOrDeclined};
 
 use crate::passing_laws::products_are_passed_on;
 use ldm_model::{every_reader_is_served, signatures_differ};
-use ldm_shared::products_stay;
-use ldm_shared::own_readers;
+use ldm_shared::{own_readers, products_stay};
 use ldm_signature::reads_what_is_written;
 
 /// What a feeder offers a receiver in sessions that are cut, and resumed behind the last product that was offered.

@@ -1,4 +1,3 @@
-pub mod Walks
 pub mod Reframing
 pub mod Pushed
 pub mod Mirroring
@@ -18,16 +17,13 @@ pub mod FedFew
 pub mod Causing
 pub mod KeepingFeeder
 pub mod NodeCauses
-pub mod Actors
-pub mod Rising
-pub mod Moves
 pub mod PlayedLemmas
+pub mod ListedLemmas
 pub mod PutLemmas
 pub mod ChainLawLemmas
 pub mod ChainCompletesLemmas
 pub mod NodeLemmas
 pub mod UnfedLemmas
 pub mod TextLemmas
-pub mod FeedLemmas
 pub mod RanLemmas
 pub mod ChainHistoryLemmas

@@ -226,11 +226,10 @@ new-only seen arena slots max_hereis class node new = record {
   has_seen = subst HasSeen (sym new.pass) (seen node.shared 0);
 }
 
-pub played-stands : (arena slots : ℕ) (script : List ℕ) (book : BookView) → IsGoodSlots slots → HasPlayed arena slots script book → StandsAfter book
-played-stands arena slots script book good played = record {
+pub played-stands : (arena slots : ℕ) (script : List ℕ) (book : BookView) → HasPlayed arena slots script book → StandsAfter book
+played-stands arena slots script book played = record {
   arena = arena;
   slots = slots;
-  good = good;
   history = (script_played arena slots script).playing.history;
   legal = played.legal.legal;
   stands = subst (StandsFor book) played.legal.state played.stands;
@@ -238,8 +237,7 @@ played-stands arena slots script book good played = record {
 
 -- what `put_products` says
 abbrev pub Puts : BookView → PassView → PassView → Type 0
-Puts book old new = (arena slots : ℕ) (history : List Entry) → IsLegal arena slots history → StandsFor book (after arena slots history)
-    → state_of new ≡ inserted_all (listed (after arena slots history)) (state_of old)
+Puts book old new = (s : State) → StandsFor book s → state_of new ≡ inserted_all (listed s) (state_of old)
 
 pub first-is : (arena slots max_hereis : ℕ) (script : List ℕ) (class : ClassSpec) (book : BookView) (node : ChainNode) (later : PassView) → Always HasSlots
     → HasPlayed arena slots script book
@@ -266,9 +264,6 @@ first-is arena slots max_hereis script class book node later has_slots played ne
         actor = ap (λ (p : PassView). p.actor) same ∙ only.actor;
         has_seen = seen;
       };
-      state =
-          puts arena slots p.history played.legal.legal stands
-          ∙ ap (λ (s : State). inserted_all (listed s) (state_of node.pass)) (sym played.legal.state)
-          ∙ ap (inserted_all (listed p.state)) old_state;
+      state = puts p.state played.stands ∙ ap (inserted_all (listed p.state)) old_state;
       few = omega (arith, few (after arena slots p.history) stands, few-queued has_slots arena slots p.history played.legal.legal);
     }

@@ -1,93 +1,26 @@
 -- Lines played one after another.
-use Rattle.std.proofs.Common.{◌≡◌, ◌∙◌, ℕ, ◌+◌, ◌<◌, cond, List, [], ◌∷◌, ◌++◌, length, Option, Result, Some, None, refl, sym, ap, subst, arith}
+use Rattle.std.proofs.Common.{◌≡◌, ◌∙◌, ℕ, ◌+◌, ◌<◌, cond, List, [], ◌∷◌, ◌++◌, length, Option, Some, None, refl, sym, ap, subst, arith}
 use Rattle.std.specs.Prelude.{set, slice_index_or, is_some}
-use Rattle.std.proofs.lemmas.List.{set-get_or}
-use Rattle.ldm_model.specs.declared.event.Event.{Event}
-use Rattle.ldm_model.specs.declared.event.Entry.{Entry}
-use Rattle.ldm_model.specs.declared.event.Reply.{Reply}
-use Rattle.ldm_model.specs.State.{State, empty}
-use Rattle.ldm_model.specs.Next.{next}
-use Rattle.ldm_model.specs.History.{IsPossible}
-use Rattle.ldm_model.proofs.Appended.{after_entries-append, IsLegalFrom-append}
-use Rattle.ldm_book.specs.View.{BookView}
-use Rattle.ldm_book.specs.Stands.{StandsFor}
-use Rattle.ldm_calls.specs.Lines.{AnswersLine, IsMadeBy}
+use Rattle.ldm_calls.specs.Lines.{AnswersLine}
 use Rattle.ldm_calls.specs.OnBook.{BookAnswers}
 use Rattle.ldm_script.specs.declared.order.LastPlaces.{LastPlaces}
-use Rattle.ldm_script.specs.Order.{Order, Asked, Plain, OnCursor, OnReservation}
-use Rattle.ldm_script.specs.Grammar.{read_line}
+use Rattle.ldm_script.specs.Order.{Order}
 use Rattle.ldm_script.specs.Lines.{Cut, last_line, lines_of}
-use Rattle.ldm_script.specs.Resolve.{Playing, no_places, resolved, unresolved, last_after, after_reply, answer_event, answer_order}
+use Rattle.ldm_script.specs.Resolve.{Playing, no_places, answer_order}
 use Rattle.ldm_script.proofs.SplitLemmas.{Lacks}
 use Rattle.ldm_script.proofs.CutLemmas.{cut-line, cut-plain}
-use Rattle.ldm_play.specs.Play.{BadLine, Played, play_reading, play_line, followed, play}
-use Rattle.ldm_play.specs.Legal.{StaysLegal}
+use Rattle.ldm_play.specs.Play.{BadLine, Played, play_line, followed, play}
 use Rattle.ldm_play.specs.PlayerView.{PlayerView, StandsForPlay}
+use Rattle.ldm_play.proofs.PlayLineLemmas.{answers_order as order_answers}
 use Rattle.ldm_chain.specs.Steps.{Follows}
-
--- ---- an order that is answered
-
--- one call more that can be made
-stays_legal : (p : Playing) (actor : ℕ) (event : Event) → actor < 64 → IsPossible event → (without : Reply) → StaysLegal p (answer_event p actor without (Some event)).playing
-stays_legal p actor event actor_is possible without arena slots legal =
-    let entry : Entry = record { actor = actor; event = event; reply = (next p.state actor event).reply } in
-    record {
-      legal = (IsLegalFrom-append p.history (entry ∷ []) (empty arena slots)).1 (
-        legal.legal,
-        (record { actor = actor_is; possible = possible; reply = ap (λ (s : State). (next s actor event).reply) legal.state }, tt),
-      );
-      state = ap (λ (s : State). (next s actor event).state) legal.state ∙ sym (after_entries-append p.history (entry ∷ []) (empty arena slots));
-    }
-
--- what follows in a play, by the call that was made
-record Following (p : Playing) (actor : ℕ) (without : Reply) (o : Option Event) (answer : Reply) (new : BookView) : Type 0 where
-  reply : answer ≡ (answer_event p actor without o).reply
-  state : StandsFor new (answer_event p actor without o).playing.state
-  last : after_reply p.last actor answer ≡ (answer_event p actor without o).playing.last
-  legal : StaysLegal p (answer_event p actor without o).playing
-
--- what is answered without a call names no place
-unresolved_last : (asked : Asked) (last : LastPlaces) → last_after last (unresolved asked) ≡ last
-unresolved_last (Plain event) last = refl
-unresolved_last (OnCursor place event) last = refl
-unresolved_last (OnReservation place event) last = refl
-
-follows_in : (p : Playing) (actor : ℕ) (asked : Asked) (o : Option Event) (answer : Reply) (old new : BookView) → StandsFor old p.state → IsMadeBy (BookAnswers actor) (unresolved asked) o answer old new → Following p actor (unresolved asked) o answer new
-follows_in p actor asked None answer old new stands made = record {
-  reply = made.0;
-  state = subst (λ (b : BookView). StandsFor b p.state) (sym made.1) stands;
-  last = ap (after_reply p.last actor) made.0 ∙ ap (set p.last actor) (unresolved_last asked (slice_index_or p.last actor no_places)) ∙ set-get_or p.last actor no_places;
-  legal = λ arena slots legal. legal;
-}
-follows_in p actor asked (Some event) answer old new stands made =
-    let follows = made.answers p.state stands in
-    record {
-      reply = follows.reply;
-      state = follows.state;
-      last = ap (after_reply p.last actor) follows.reply;
-      legal = stays_legal p actor event made.actor made.possible (unresolved asked);
-    }
 
 -- the order of an actor was answered
 pub answers_order : (p : Playing) (order : Order) (old new : PlayerView) (last : LastPlaces) (text : List ℕ)
     → AnswersLine (BookAnswers order.actor) order.asked old.book (slice_index_or old.last order.actor no_places) new.book last text
     → new.last ≡ set old.last order.actor last → StandsForPlay old p → Follows p (answer_order p order).playing new
 answers_order p order old new last text line noted stands =
-    let known = follows_in p order.actor order.asked (resolved (slice_index_or p.last order.actor no_places) order.asked) line.reply old.book new.book stands.state
-    (subst (λ (ls : List LastPlaces). IsMadeBy (BookAnswers order.actor) (unresolved order.asked) (resolved (slice_index_or ls order.actor no_places) order.asked) line.reply old.book new.book) stands.last line.call) in
-    record {
-      stands = record {
-        state = known.state;
-        last = noted ∙ ap (set old.last order.actor) line.last ∙ ap (λ (ls : List LastPlaces). after_reply ls order.actor line.reply) stands.last ∙ known.last;
-      };
-      legal = known.legal;
-    }
-
--- ---- a line
-
-pub line-read : (number : ℕ) (p : Playing) (line : List ℕ) (r : Result (Option Order) ℕ) → read_line 64 line ≡ r → play_line number p line ≡ play_reading number p r
-unfolding play_line
-line-read number p line r is = ap (play_reading number p) is
+    let answers = order_answers p order old new last text line noted stands in
+    record { stands = answers.stands; legal = answers.legal }
 
 -- ---- lines
 

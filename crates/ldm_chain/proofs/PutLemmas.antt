@@ -1,20 +1,18 @@
 -- Products that are put one after another.
-use Rattle.std.proofs.Common.{◌≡◌, ◌∙◌, ℕ, suc, ◌+◌, ◌≤◌, Bool, true, false, cond, List, [], ◌∷◌, ◌++◌, length, filter, refl, sym, ap, arith}
+use Rattle.std.proofs.Common.{◌≡◌, ◌∙◌, ℕ, ◌+◌, Bool, true, false, cond, List, [], ◌∷◌, ◌++◌, drop, filter, Some, refl, sym, ap}
+use Rattle.std.specs.Prelude.{slice_get}
 use Rattle.ldm_model.specs.declared.event.Event.TheVariants.{Insert}
 use Rattle.ldm_model.specs.declared.event.Reply.{Reply}
 use Rattle.ldm_types.specs.Info.{Metadata}
-use Rattle.ldm_model.specs.State.{State, Row, Queued, empty}
+use Rattle.ldm_model.specs.State.{State, Queued, empty}
 use Rattle.ldm_model.specs.Insert.{insert}
 use Rattle.ldm_model.specs.History.{after}
 use Rattle.ldm_model.proofs.Appended.{after_entries-append}
-use Rattle.ldm_book.specs.View.{BookView}
 use Rattle.ldm_shared.specs.Passes.{PassView, IsSamePass}
-use Rattle.ldm_chain.specs.Listing.{IsReading}
-use Rattle.ldm_chain.specs.Putting.{PutsOne, inserted_all}
-
--- the state of a pass
-abbrev pub state_of : PassView → State
-state_of pass = after pass.arena pass.slots pass.seen
+use Rattle.ldm_between_ends.specs.OnePass.{state_of}
+use Rattle.ldm_chain.specs.Listing.{has_feed}
+use Rattle.ldm_chain.specs.Putting.{inserted_all}
+use Rattle.ldm_chain.proofs.ListedLemmas.{left-some}
 
 -- one insertion more
 pub inserted-one : (old new : PassView) (actor now : ℕ) (info : Metadata) (body : List ℕ) (reply : Reply) → IsSamePass old new
@@ -24,50 +22,34 @@ inserted-one old new actor now info body reply same goes_on =
     ap (λ (p : PassView). after p.arena p.slots new.seen) same ∙ ap (after old.arena old.slots) goes_on
     ∙ after_entries-append old.seen (record { actor = actor; event = Insert now info body; reply = reply } ∷ []) (empty old.arena old.slots)
 
--- it is that of a queued product
-pub put-one : (old new : PassView) (actor now : ℕ) (info : Metadata) (body : List ℕ) (reply : Reply) (q : Queued) → IsSamePass old new
-    → new.seen ≡ old.seen ++ record { actor = actor; event = Insert now info body; reply = reply } ∷ []
-    → now ≡ q.time → info ≡ q.product.info → body ≡ q.product.body → state_of new ≡ (insert (state_of old) q.time q.product).state
-put-one old new actor now info body reply q same goes_on time_is info_is body_is =
-    inserted-one old new actor now info body reply same goes_on
-    ∙ ap (λ (t : ℕ). (insert (state_of old) t (record { info = info; body = body })).state) time_is
-    ∙ ap (λ (i : Metadata). (insert (state_of old) q.time (record { info = i; body = body })).state) info_is
-    ∙ ap (λ (b : List ℕ). (insert (state_of old) q.time (record { info = q.product.info; body = b })).state) body_is
+-- a product that has a feedtype, and one that has none
+pub with_feed : (q : Queued) (s : State) → has_feed q ≡ true → inserted_all (filter has_feed (q ∷ [])) s ≡ (insert s q.time q.product).state
+with_feed q s has = ap (λ (b : Bool). inserted_all (cond b (q ∷ []) []) s) has
 
-pub filter-short : (test : Queued → Bool) (qs : List Queued) → length (filter test qs) ≤ length qs
-filter-short test [] = omega arith
-filter-short test (q ∷ qs) = by_test (test q) (filter-short test qs)
+pub without_feed : (q : Queued) (s : State) → has_feed q ≡ false → inserted_all (filter has_feed (q ∷ [])) s ≡ s
+without_feed q s has_not = ap (λ (b : Bool). inserted_all (cond b (q ∷ []) []) s) has_not
+
+-- the first one, and then the others
+first-then : (q : Queued) (behind : List Queued) (s : State)
+    → inserted_all (filter has_feed (q ∷ behind)) s ≡ inserted_all (filter has_feed behind) (inserted_all (filter has_feed (q ∷ [])) s)
+first-then q behind s = by_test (has_feed q)
   where
-    by_test : (b : Bool) → length (filter test qs) ≤ length qs → length (cond b (q ∷ filter test qs) (filter test qs)) ≤ suc (length qs)
-    by_test true less = omega (arith, less)
-    by_test false less = omega (arith, less)
+    by_test : (b : Bool)
+        → inserted_all (cond b (q ∷ filter has_feed behind) (filter has_feed behind)) s ≡ inserted_all (filter has_feed behind) (inserted_all (cond b (q ∷ []) []) s)
+    by_test true = refl
+    by_test false = refl
 
--- Some products were put, and these are left.
-pub record PutSoFar (book : BookView) (rows : List Row) (k : ℕ) (all : List Queued) (from : State) (left : ℕ) (pass : PassView) : Type 0 where
-  pub rest : List Queued
-  pub reading : IsReading book rows k rest
-  pub few : length rest ≤ left
-  pub state : inserted_all rest (state_of pass) ≡ inserted_all all from
-
--- one more was put
-pub put-more : (book new_book : BookView) (rows : List Row) (k : ℕ) (all : List Queued) (from : State) (left less : ℕ) (old new : PassView)
-    → (so_far : PutSoFar book rows k all from left old) → (q : Queued) (behind : List Queued) → so_far.rest ≡ q ∷ behind → less + 1 ≡ left
-    → PutsOne new_book rows k q behind old new → PutSoFar new_book rows k all from less new
-put-more book new_book rows k all from left less old new so_far q behind is one puts = record {
-  rest = behind;
-  reading = puts.reading;
-  few = omega (arith, so_far.few, ap length is, one);
-  state = ap (inserted_all behind) puts.state ∙ sym (ap (λ (qs : List Queued). inserted_all qs (state_of old)) is) ∙ so_far.state;
-}
+-- one more of these was put
+pub put-more : (qs : List Queued) (i : ℕ) (q : Queued) (old new all : State) → slice_get qs i ≡ Some q → new ≡ inserted_all (filter has_feed (q ∷ [])) old
+    → inserted_all (filter has_feed (drop i qs)) old ≡ all → inserted_all (filter has_feed (drop (i + 1) qs)) new ≡ all
+put-more qs i q old new all at is so_far =
+    let behind = drop (i + 1) qs in
+    ap (inserted_all (filter has_feed behind)) is ∙ sym (first-then q behind old)
+    ∙ sym (ap (λ (left : List Queued). inserted_all (filter has_feed left) old) (left-some qs i q at)) ∙ so_far
 
 -- none is left
-pub put-all : (book : BookView) (rows : List Row) (k : ℕ) (all : List Queued) (from : State) (left : ℕ) (pass : PassView) (so_far : PutSoFar book rows k all from left pass)
-    → so_far.rest ≡ [] → state_of pass ≡ inserted_all all from
-put-all book rows k all from left pass so_far none = sym (ap (λ (qs : List Queued). inserted_all qs (state_of pass)) none) ∙ so_far.state
-
-pub none-left : (rest : List Queued) → length rest ≤ 0 → rest ≡ []
-none-left [] few = refl
-none-left (q ∷ rest) few = absurd (omega arith)
+pub put-all : (left : List Queued) (s all : State) → left ≡ [] → inserted_all (filter has_feed left) s ≡ all → s ≡ all
+put-all left s all none so_far = sym (ap (λ (qs : List Queued). inserted_all (filter has_feed qs) s) none) ∙ so_far
 
 pub same-then : (first second third : PassView) → IsSamePass first second → IsSamePass second third → IsSamePass first third
 same-then first second third one two = two ∙ ap (λ (p : PassView). record p { seen = third.seen }) one

@@ -1,10 +1,7 @@
 -- What a chain that was fed leaves: for `ChainEnds`.
-use Rattle.std.proofs.Common.{◌≡◌, ◌∙◌, ℕ, ◌+◌, List, [], ◌∷◌, ◌++◌, map, refl, sym, ap, subst}
-use Rattle.std.specs.List.{AllByRecursion, flat_map}
-use Rattle.ldm_model.specs.State.{State, Queued}
-use Rattle.ldm_model.specs.Stat.{stat_reply}
+use Rattle.std.proofs.Common.{◌≡◌, ◌∙◌, ℕ, List, [], ◌∷◌, map, sym, ap, subst}
+use Rattle.std.specs.List.{AllByRecursion}
 use Rattle.ldm_model.specs.History.{after, IsLegal}
-use Rattle.ldm_script.specs.Answer.{answer_line}
 use Rattle.ldm_class.specs.Rules.{Rules}
 use Rattle.ldm_status.specs.WholeScript.{TakesWhole}
 use Rattle.ldm_chain.specs.declared.node.ChainNode.{ChainNode}
@@ -13,11 +10,8 @@ use Rattle.ldm_chain.specs.declared.fault.ChainFault.{ChainFault}
 use Rattle.ldm_chain.specs.declared.fault.ChainFault.TheVariants as stop
 use Rattle.ldm_chain.specs.Work.{ChainOutside, ChainWork, IsGoodSize}
 use Rattle.ldm_chain.specs.Policy.{TakesRules}
-use Rattle.ldm_chain.specs.CommandQueues.{node_line, node_text, nodes_text, product_line}
-use Rattle.ldm_chain.specs.Texts.{listed_texts}
 use Rattle.ldm_chain.specs.CommandEnding.{ChainStops, Chains, IsLegalQueue}
 use Rattle.ldm_chain.specs.CommandNodes.{AreFed, AreFedUpTo, AreNotFed, AreSole, HasLegal, queue_of}
-use Rattle.ldm_chain.proofs.FeedLemmas.{IsListedWhole, chain-listed}
 
 legal-queues : (work : ChainWork) (nodes : List ChainNode) → AllByRecursion HasLegal nodes → AreSole work.arena work.slots nodes
     → AllByRecursion (IsLegalQueue work) (map queue_of nodes)
@@ -85,17 +79,3 @@ stops-unfed (stop.BadSlots slots) work old new given script is rules good taken_
 stops-unfed (stop.ConfNotTaken why) work old new given script is rules good taken_rules taken sink unfed = absurd unfed
 stops-unfed (stop.ScriptFault why) work old new given script is rules good taken_rules taken sink unfed = absurd unfed
 stops-unfed stop.SinkFault work old new given script is rules good taken_rules taken sink unfed = absurd unfed
-
--- all products of the nodes are listed
-whole-texts : (i : ℕ) (queues : List State) → AllByRecursion IsListedWhole queues → listed_texts i queues ≡ nodes_text i queues
-whole-texts i [] whole = refl
-whole-texts i (s ∷ behind) whole =
-    ap (λ (qs : List Queued). (node_line i ++ flat_map product_line qs ++ answer_line (stat_reply s)) ++ listed_texts (i + 1) behind) whole.0
-    ∙ ap (λ (t : List ℕ). node_text i s ++ t) (whole-texts (i + 1) behind whole.1)
-
--- what is written is the text of their queues
-pub text-is : (work : ChainWork) (old new : ChainOutside) (nodes : List ChainNode) → Chains work (map queue_of nodes) old new
-    → listed_texts 1 (map queue_of nodes) ≡ nodes_text 1 (map queue_of nodes)
-text-is work old new nodes chains =
-    whole-texts 1 (map queue_of nodes)
-    (subst (λ (queues : List State). AllByRecursion IsListedWhole queues) (sym chains.queues_are) (chain-listed chains.taken.rules work chains.script chains.instants))

@@ -25,4 +25,3 @@ pub mod Run
 pub mod Law
 pub mod Complete
 pub mod CommandNodes
-pub mod Texts

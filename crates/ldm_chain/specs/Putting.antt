@@ -1,14 +1,11 @@
 -- Products that are put into a queue, one after another.
-use Rattle.std.specs.Prelude.{◌≡◌, ℕ, List, [], ◌∷◌}
+use Rattle.std.specs.Prelude.{ℕ, List, [], ◌∷◌}
 use Rattle.ldm_model.specs.declared.event.Entry.{Entry}
-use Rattle.ldm_model.specs.State.{State, Row, Queued}
+use Rattle.ldm_model.specs.State.{State, Queued}
 use Rattle.ldm_model.specs.Insert.{insert}
 use Rattle.ldm_model.specs.History.{after, IsLegal}
-use Rattle.ldm_book.specs.Limits.{IsGoodSlots}
 use Rattle.ldm_book.specs.View.{BookView}
 use Rattle.ldm_book.specs.Stands.{StandsFor}
-use Rattle.ldm_shared.specs.Passes.{PassView}
-use Rattle.ldm_chain.specs.Listing.{IsReading}
 
 -- the state after these products were inserted, each at its own insertion time
 abbrev pub inserted_all : List Queued → State → State
@@ -19,12 +16,6 @@ inserted_all (q ∷ behind) s = inserted_all behind (insert s q.time q.product).
 pub record StandsAfter (book : BookView) : Type 0 where
   pub arena : ℕ
   pub slots : ℕ
-  pub good : IsGoodSlots slots
   pub history : List Entry
   pub legal : IsLegal arena slots history
   pub stands : StandsFor book (after arena slots history)
-
--- One product was put, and the book is to be listed on. No caller needs it.
-pub record PutsOne (book : BookView) (rows : List Row) (k : ℕ) (q : Queued) (behind : List Queued) (old new : PassView) : Type 0 where
-  pub reading : IsReading book rows k behind
-  pub state : after new.arena new.slots new.seen ≡ (insert (after old.arena old.slots old.seen) q.time q.product).state

@@ -1,23 +1,16 @@
-//! What is always true of cursor places, and what the number that a chain ends with says of its queues.
+//! What the number that a chain ends with says of its queues.
 ghost use Rattle.std.specs.Prelude.{◌≡◌, ◌⊎◌, ℕ, List};
 ghost use Rattle.std.specs.List.{AllByRecursion};
 ghost use Rattle.ldm_outside.specs.Io.{WritesFront};
 ghost use Rattle.ldm_model.specs.declared.event.Entry.{Entry};
 ghost use Rattle.ldm_model.specs.State.{State};
-ghost use Rattle.ldm_model.specs.History.{after, IsLegal};
+ghost use Rattle.ldm_model.specs.History.{after};
 ghost use Rattle.ldm_calls.specs.Lawful.{IsLawful};
-ghost use Rattle.ldm_chain.specs.Listing.{HasPlaces};
 ghost use Rattle.ldm_chain.specs.Script.{script_played};
 ghost use Rattle.ldm_chain.specs.Work.{ChainOutside, ChainWork};
 ghost use Rattle.ldm_chain.specs.CommandQueues.{nodes_text};
 ghost use Rattle.ldm_chain.specs.CommandEnding.{Chains};
 ghost use Rattle.ldm_chain.specs.Law.{ObeysChainLaw};
-
-/// After every legal history there are 64 cursor places, and each open one is of an actor.
-pub fn cursors_have_actors()
-    ensures { (arena slots : ℕ) (history : List Entry) → IsLegal arena slots history
-        → HasPlaces (after arena slots history) }
-{}
 
 /// A chain that ends with 0, or with 75 since the sink failed, has fed each node: the calls of the script obey the law
 /// of the queue, and each queue is what stands after a history that does; and the text of the queues is what the sink

@@ -18,8 +18,7 @@ use ldm_between_ends::{
     products_are_passed_on, readers_keep_products, the_setting_is_met,
 };
 use ldm_model::products_were_admitted;
-use ldm_shared::products_stay;
-use ldm_shared::one_pass;
+use ldm_shared::{one_pass, products_stay};
 
 /// What a node leaves that was fed from the one before it, whole, where each of the two queues has one pass.
 pub fn a_link_passes_on()

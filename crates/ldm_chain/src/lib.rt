@@ -6,7 +6,7 @@
 //!
 //! [`run_chain`] plays a script on a book (`playing`), puts what is queued then into the queue of the first node of a
 //! chain (`putting`), has `chain` feed the others, and writes what stands in their queues (`texts`). Its contract says
-//! how that ends. `listing` goes over what is queued in a book.
+//! how that ends.
 #![tactic(auto)]
 
 mod chain_command;
@@ -15,7 +15,6 @@ mod command_laws;
 mod fault;
 mod feeding;
 mod laws;
-mod listing;
 mod mirror;
 mod node;
 mod nodes;
@@ -31,7 +30,7 @@ mod writable;
 
 pub use chain_command::run_chain;
 pub use chaining::chain;
-pub use command_laws::{cursors_have_actors, queues_are_of_histories};
+pub use command_laws::queues_are_of_histories;
 pub use laws::{a_break_has_a_cause, a_link_passes_on};
 pub use mirror::{Begun, Lent, Mirror, Returned};
 pub use node::{ChainEnd, ChainNode};

@@ -98,10 +98,10 @@ fn first_node<H: Wait>(
 {
     calls_made();
     regions_lie_apart();
-    let mut book = play_script(alloc, arena, slots, script)?;
+    let book = play_script(alloc, arena, slots, script)?;
     let class = no_class(alloc)?;
     let mut node = new_node(alloc, arena, slots, class, 0)?;
-    put_products(rt, alloc, &mut book, &node.shared, &mut node.pass)?;
+    put_products(rt, &book, &node.shared, &mut node.pass);
     Ok(node)
 }
 

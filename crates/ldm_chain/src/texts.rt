@@ -3,13 +3,9 @@ ghost use Rattle.std.specs.Prelude.{◌≡◌, ◌≤◌, ◌++◌, ℕ, length,
 ghost use Rattle.std.specs.List.{AllByRecursion, flat_map};
 ghost use Rattle.ldm_model.specs.State.{State, queued};
 ghost use Rattle.ldm_book.specs.Stands.{StandsFor};
-ghost use Rattle.ldm_chain.specs.Listing.{HasPlaces, listed};
-ghost use Rattle.ldm_chain.specs.CommandQueues.{node_line, product_line};
-ghost use Rattle.ldm_chain.specs.Texts.{listed_text, listed_texts};
+ghost use Rattle.ldm_chain.specs.CommandQueues.{node_line, node_text, nodes_text, product_line};
 ghost use Rattle.ldm_chain.specs.CommandNodes.{AreSole, HasLegal, IsSole, queue_of};
 
-use crate::command_laws::cursors_have_actors;
-use crate::listing::{begin, let_go, next};
 use crate::node::ChainNode;
 use ldm_book::Book;
 use ldm_script::{Answer, Text, put, put_number, write_answer};
@@ -17,11 +13,11 @@ use ldm_shared::{calls_made, one_pass};
 use ldm_types::{Actor, OutOfMemory};
 use std::alloc::Global;
 
-/// The text of nodes, one behind the other. The first of them has number 1. Products without a feedtype are left out.
+/// The text of nodes, one behind the other. The first of them has number 1.
 pub fn text_of(alloc: Global, mut nodes: Vec<ChainNode>) -> Result<Vec<u8>, OutOfMemory>
     requires sole { (arena slots : ℕ) × AreSole arena slots nodes.items }
     requires few { length nodes.items ≤ 7 }
-    ensures text { IfOk result (λ text. text.items ≡ listed_texts 1 (map queue_of nodes.items)) }
+    ensures text { IfOk result (λ text. text.items ≡ nodes_text 1 (map queue_of nodes.items)) }
     ensures legal { OnOk result (AllByRecursion HasLegal nodes.items) }
 {
     let mut text = Vec::new(alloc);
@@ -37,11 +33,10 @@ pub fn text_of(alloc: Global, mut nodes: Vec<ChainNode>) -> Result<Vec<u8>, OutO
 // Adds the text of the node of that number.
 fn add_node(alloc: Global, text: &mut Vec<u8>, i: u8, node: ChainNode) -> Result<(), OutOfMemory>
     requires { (arena slots : ℕ) × IsSole arena slots node }
-    ensures text { OnOk result (text.new.items ≡ text.old.items ++ listed_text i (queue_of node)) }
+    ensures text { OnOk result (text.new.items ≡ text.old.items ++ node_text i (queue_of node)) }
     ensures legal { OnOk result (HasLegal node) }
 {
     let mut book = book_of(alloc, node)?;
-    cursors_have_actors();
     add_book(text, i, &mut book)
 }
 
@@ -60,11 +55,10 @@ fn book_of(alloc: Global, node: ChainNode) -> Result<Book, OutOfMemory>
     Ok(book)
 }
 
-// Adds the line that names a node, a line for each queued product that has a feedtype, and how full the queue is.
+// Adds the line that names a node, a line for each queued product, and how full the queue is.
 fn add_book(text: &mut Vec<u8>, i: u8, book: &mut Book) -> Result<(), OutOfMemory>
-    requires { (s : State) × HasPlaces s × StandsFor book.old s }
     ensures { OnOk result
-        ((s : State) → HasPlaces s → StandsFor book.old s → text.new.items ≡ text.old.items ++ listed_text i s) }
+        ((s : State) → StandsFor book.old s → text.new.items ≡ text.old.items ++ node_text i s) }
 {
     let Some(actor) = Actor::new(0) else {
         unreachable!()
@@ -73,7 +67,7 @@ fn add_book(text: &mut Vec<u8>, i: u8, book: &mut Book) -> Result<(), OutOfMemor
     let mut line = Text::new();
     write_node(i, &mut line);
     text.extend_from_slice(line.as_slice())?;
-    add_products(text, stat.queued, book)?;
+    add_products(text, book)?;
     write_answer(&Answer::from(stat), &mut line);
     text.extend_from_slice(line.as_slice())?;
     Ok(())
@@ -89,31 +83,26 @@ fn write_node(i: u8, line: &mut Text)
     put(line, b"\n");
 }
 
-// Adds a line for each queued product that has a feedtype. So many are queued.
-fn add_products(text: &mut Vec<u8>, mut left: u64, book: &mut Book) -> Result<(), OutOfMemory>
-    requires stands { (s : State) × HasPlaces s × StandsFor book.old s }
-    requires count { (s : State) → StandsFor book.old s → left ≡ length (queued s) }
+// Adds a line for each queued product.
+fn add_products(text: &mut Vec<u8>, book: &Book) -> Result<(), OutOfMemory>
     ensures { OnOk result
-        ((s : State) → HasPlaces s → StandsFor book.old s
-        → text.new.items ≡ text.old.items ++ flat_map product_line (listed s)) }
+        ((s : State) → StandsFor book.now s
+        → text.new.items ≡ text.old.items ++ flat_map product_line (queued s)) }
 {
-    let k = begin(book);
     let mut line = Text::new();
-    while left > 0 {
-        let Some(product) = next(book, k) else {
+    for i in 0..book.slots() {
+        let Some(product) = book.product_at(i) else {
             return Ok(());
         };
-        let_go(book, k);
         write_answer(
             &Answer::Product {
-                n: product.n,
-                time: product.time,
+                n: product.note.n,
+                time: product.note.time,
                 info: product.info,
             },
             &mut line,
         );
         text.extend_from_slice(line.as_slice())?;
-        left -= 1;
     }
     Ok(())
 }

@@ -5,8 +5,7 @@ ghost use Rattle.ldm_shared.specs.Reader.{Holds};
 ghost use Rattle.ldm_gather.specs.Writing.{Reads, part_of, sight_of};
 
 use ldm_outside::{Sink, write_all};
-use ldm_shared::{Held, Reader};
-use ldm_shared::{Pass, Shared, Turn};
+use ldm_shared::{Held, Pass, Reader, Shared, Turn};
 use std::sync::Wait;
 
 // Why a body was not written, all of it.

@@ -12,9 +12,8 @@ use crate::handler::Handler;
 use crate::order::Asking;
 use crate::taker::{EachStop, Taken, Taker};
 use ldm_outside::Sink;
-use ldm_shared::{Came, Reader, products_stay};
 use ldm_session::write_gap;
-use ldm_shared::{Pass, Shared, Turn};
+use ldm_shared::{Came, Pass, Reader, Shared, Turn, products_stay};
 use std::sync::Wait;
 
 // What a step of the cursor came to, and what followed it.

@@ -3,8 +3,7 @@ ghost use Rattle.std.specs.Prelude.{◌≡◌, ℕ, List, []};
 ghost use Rattle.ldm_shared.specs.Passes.{IsPassOf, IsSamePass};
 ghost use Rattle.ldm_shared.specs.Reader.{Holds};
 
-use ldm_shared::{Held, Reader};
-use ldm_shared::{Pass, Shared};
+use ldm_shared::{Held, Pass, Reader, Shared};
 use std::sync::Wait;
 
 /// What a taker answers.

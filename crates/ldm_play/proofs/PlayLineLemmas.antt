@@ -35,7 +35,7 @@ unfolding read_line
 read_line-long line long =
     ap (λ (b : Bool). cond b (Err (LONGEST_LINE + 1)) (cond (is_comment line) (Ok None) (at_column (length line) (read_order 64 (Some line))))) (lt-ltb LONGEST_LINE (length line) long)
 
-play_line-reading : (number : ℕ) (p : Playing) (line : List ℕ) (r : Result (Option Order) ℕ) → read_line 64 line ≡ r → play_line number p line ≡ play_reading number p r
+pub play_line-reading : (number : ℕ) (p : Playing) (line : List ℕ) (r : Result (Option Order) ℕ) → read_line 64 line ≡ r → play_line number p line ≡ play_reading number p r
 unfolding play_line
 play_line-reading number p line r is = ap (play_reading number p) is
 

@@ -11,8 +11,7 @@ ghost use Rattle.ldm_pqact.specs.Counting.{CountsGiven};
 use crate::carrier::Carrier;
 use crate::end::ActEnd;
 use ldm_outside::{Launcher, Sink, Store};
-use ldm_shared::{Reader, products_stay};
-use ldm_shared::{Pass, Shared};
+use ldm_shared::{Pass, Reader, Shared, products_stay};
 use std::sync::Wait;
 
 impl Carrier {

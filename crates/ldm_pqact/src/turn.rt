@@ -13,9 +13,8 @@ use crate::end::ActEnd;
 use crate::holding::Holding;
 use crate::limits::LONGEST_SHOWN;
 use ldm_outside::{Launcher, Reason, Sink, Store};
-use ldm_shared::{Came, Reader, products_stay};
 use ldm_session::write_gap;
-use ldm_shared::{Pass, Shared, Turn};
+use ldm_shared::{Came, Pass, Reader, Shared, Turn, products_stay};
 use std::sync::Wait;
 
 impl Carrier {

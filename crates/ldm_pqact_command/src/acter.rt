@@ -7,8 +7,7 @@ use ldm_actions::Done;
 use ldm_gather::{Handled, Handler};
 use ldm_outside::{Launcher, Sink, Store};
 use ldm_pqact::Pqact;
-use ldm_shared::Reader;
-use ldm_shared::{Pass, Shared};
+use ldm_shared::{Pass, Reader, Shared};
 use std::marker::Model;
 use std::sync::Wait;
 

@@ -22,8 +22,7 @@ use ldm_gather::{ARENA, GatherEnd, Gatherer, Order, SLOTS};
 use ldm_outside::{Clock, Dial, Launcher, Reason, Reasons, Sink, Store};
 use ldm_pqact::Pqact;
 use ldm_pqact_conf::Entries;
-use ldm_shared::products_stay;
-use ldm_shared::CreateFault;
+use ldm_shared::{CreateFault, products_stay};
 use std::alloc::Global;
 use std::sync::Wait;
 

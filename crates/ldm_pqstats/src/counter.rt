@@ -3,8 +3,7 @@ ghost use Rattle.std.specs.Prelude.{◌≡◌, None};
 
 use crate::limits::MOST_PRODUCTS;
 use ldm_gather::{Taken, Taker};
-use ldm_shared::{Held, Reader};
-use ldm_shared::{Pass, Shared};
+use ldm_shared::{Held, Pass, Reader, Shared};
 use ldm_stats::Stats;
 use ldm_types::OutOfMemory;
 use std::sync::Wait;

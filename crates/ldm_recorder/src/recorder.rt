@@ -2,8 +2,7 @@
 
 use ldm_journal::Journal;
 use ldm_model::Start;
-use ldm_shared::{Opening, Reader};
-use ldm_shared::{Pass, Shared, Turn};
+use ldm_shared::{Opening, Pass, Reader, Shared, Turn};
 use ldm_types::Feed;
 use std::alloc::Global;
 use std::sync::Wait;

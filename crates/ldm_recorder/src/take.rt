@@ -14,9 +14,8 @@ use crate::recorder::Recorder;
 use crate::save::keep;
 use ldm_disk::Disk;
 use ldm_outside::Sink;
-use ldm_shared::Held;
 use ldm_session::write_gap;
-use ldm_shared::{Pass, Shared, Turn};
+use ldm_shared::{Held, Pass, Shared, Turn};
 use std::sync::Wait;
 
 impl Recorder {

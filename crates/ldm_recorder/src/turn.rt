@@ -10,9 +10,8 @@ use crate::recorder::Recorder;
 use crate::save::save;
 use ldm_disk::Disk;
 use ldm_outside::Sink;
-use ldm_shared::Came;
 use ldm_session::write_gap;
-use ldm_shared::{Pass, Shared, Turn, own_readers};
+use ldm_shared::{Came, Pass, Shared, Turn, own_readers};
 use std::sync::Wait;
 
 impl Recorder {

@@ -21,7 +21,7 @@ use Rattle.ldm_tools.specs.declared.reader.NoRecord.{NoRecord}
 use Rattle.ldm_tools.specs.declared.reader.NoRecord.TheVariants.{Ended, TooLong, StreamLimit, LinkFault, OutOfMemory}
 use Rattle.ldm_tools.specs.Hearing.{Heard, HeardOne, HeardSome, Hears, IsTooLong}
 use Rattle.ldm_tools.specs.Looking.{Forgets, Gets, IsOwn, Looks, Receives, Shows, WaitsOn}
-use Rattle.ldm_tools.proofs.Looked.{completes, continues}
+use Rattle.ldm_rpc.proofs.LookingLemmas.{completes, continues}
 
 forgets_whole : (begins came : ℕ) (s : Reading) → is_whole s ≡ true → forgets begins came s ≡ position came came (next_of s)
 forgets_whole begins came s whole = rw whole refl

@@ -1,5 +1,4 @@
 mod Heard
-mod Looked
 mod Replied
 mod Completed
 pub mod Linked

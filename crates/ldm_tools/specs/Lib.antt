@@ -1,4 +1,3 @@
-pub mod Filling
 pub mod Hearing
 pub mod Looking
 pub mod Replies

@@ -20,7 +20,6 @@ mod replies;
 mod statuses;
 mod taking;
 mod telling;
-mod waiting;
 
 pub use every::pqmon_every;
 pub use examples::worked_examples;

@@ -4,11 +4,10 @@ ghost use Rattle.ldm_outside.specs.Link.{IsNotClosed};
 ghost use Rattle.ldm_rpc.specs.Reading.{is_whole};
 ghost use Rattle.ldm_rpc.specs.Streams.{Placed};
 
-use crate::waiting::Waiting;
 use ldm_outside::{Awaited, Got, Link};
 use ldm_relay::LARGEST_REPLY;
 use ldm_rpc::{Records, RpcFault};
-use ldm_session::LONGEST_STREAM;
+use ldm_session::{LONGEST_STREAM, Waiting};
 use ldm_types::OutOfMemory;
 use std::alloc::Global;
 
@@ -52,7 +51,7 @@ impl LinkReader {
             records: Records::create(alloc, LARGEST_REPLY),
             begins: 0,
             came: 0,
-            waiting: Waiting::create(alloc)?,
+            waiting: Waiting::create(alloc, &[])?,
         })
     }
 

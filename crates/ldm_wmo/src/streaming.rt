@@ -3,7 +3,7 @@ ghost use Rattle.std.specs.Prelude.{◌≡◌, ◌<◌, ◌≤◌, IfOk, [], fal
 ghost use Rattle.ldm_outside.specs.Io.{ReadGives};
 ghost use Rattle.ldm_outside.specs.Link.{IsNotClosed};
 ghost use Rattle.ldm_status.specs.declared.streams.TheConstants.{PIECE};
-ghost use Rattle.ldm_tools.specs.Filling.{GotMost};
+ghost use Rattle.ldm_session.specs.Filling.{GotMost};
 ghost use Rattle.ldm_tools.specs.Puts.{HasPut};
 ghost use Rattle.ldm_wmo.specs.Scanning.{begun, cut_of, is_complete};
 ghost use Rattle.ldm_wmo.specs.Ingesting.{IsNamed, ingesting};

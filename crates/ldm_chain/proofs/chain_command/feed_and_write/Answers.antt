@@ -3,7 +3,7 @@ use Rattle.std.proofs.lemmas.Result.{err_from_is_err_and}
 use Rattle.ldm_outside.specs.Io.{Takes, WritesFront}
 use Rattle.ldm_chain.specs.Work.{chain_outside, IsGoodSize, work_of}
 use Rattle.ldm_chain.specs.CommandNodes.{queue_of}
-use Rattle.ldm_chain.proofs.RanLemmas.{chains-of, stops-unfed, text-is}
+use Rattle.ldm_chain.proofs.RanLemmas.{chains-of, stops-unfed}
 use Rattle.ldm_chain.proofs.chain_command.feed_and_write.Goals as goal
 
 pub returns-in_err-write_all-clause-ends : goal.returns-in_err-write_all-clause-ends
@@ -24,7 +24,7 @@ returns-in_err-write_all-clause-ends g c = λ log_before log_after.
       map queue_of nodes,
       chains,
       failed.0,
-      subst (λ (t : List ℕ). WritesFront old.streams.sink t new.streams.sink) (c.as_slice-2.ensures.value ∙ c.in_ok-text.ensures.text ∙ text-is work old new nodes chains) failed.1,
+      subst (λ (t : List ℕ). WritesFront old.streams.sink t new.streams.sink) (c.as_slice-2.ensures.value ∙ c.in_ok-text.ensures.text) failed.1,
     )
 
 pub returns-clause-ends : goal.returns-clause-ends
@@ -41,7 +41,7 @@ returns-clause-ends g c = λ log_before log_after.
     c.in_ok-script.ensures.whole nodes c.in_ok-nodes.ensures.fed c.in_ok-text.ensures.legal in (
       map queue_of nodes,
       chains,
-      subst (λ (t : List ℕ). Takes old.streams.sink t new.streams.sink) (c.as_slice-2.ensures.value ∙ c.in_ok-text.ensures.text ∙ text-is work old new nodes chains)
+      subst (λ (t : List ℕ). Takes old.streams.sink t new.streams.sink) (c.as_slice-2.ensures.value ∙ c.in_ok-text.ensures.text)
           c.in_ok-write_all.ensures.written,
     )
 

@@ -1,21 +1,17 @@
-use Rattle.std.proofs.Common.{ℕ, ◌+◌, ◌≤◌, List, length}
-use Rattle.ldm_model.specs.declared.event.Entry.{Entry}
+use Rattle.std.proofs.Common.{◌≡◌, ◌≤◌, drop, filter, length}
 use Rattle.ldm_model.specs.State.{State, queued}
-use Rattle.ldm_model.specs.History.{after, IsLegal}
 use Rattle.ldm_book.specs.Stands.{StandsFor}
 use Rattle.ldm_shared.specs.Passes.{HasSeen, IsSamePass}
-use Rattle.ldm_chain.specs.Listing.{listed}
-use Rattle.ldm_chain.proofs.PutLemmas.{PutSoFar, state_of}
+use Rattle.ldm_between_ends.specs.OnePass.{state_of}
+use Rattle.ldm_chain.specs.Listing.{has_feed, listed}
+use Rattle.ldm_chain.specs.Putting.{inserted_all}
 use Rattle.ldm_chain.proofs.putting.put_products.Given as goal
 
-abbrev pub invariant-loop-left : goal.invariant-loop-left
-invariant-loop-left g l = record {
+abbrev pub invariant-loop-i : goal.invariant-loop-i
+invariant-loop-i g l = record {
   same : IsSamePass l.fn.pass l.pass;
   seen : HasSeen l.pass;
-  few : (s : State) → StandsFor l.fn.book s → length l.pass.seen + l.left ≤ length (queued s);
-  put : (arena slots : ℕ) (history : List Entry) → IsLegal arena slots history → StandsFor l.fn.book (after arena slots history)
-      → PutSoFar l.book (after arena slots history).rows l.k (listed (after arena slots history)) (state_of l.fn.pass) l.left l.pass;
+  few : length l.pass.seen ≤ l.i;
+  inside : (s : State) → StandsFor l.book s → length l.pass.seen ≤ length (queued s);
+  put : (s : State) → StandsFor l.book s → inserted_all (filter has_feed (drop l.i (queued s))) (state_of l.pass) ≡ inserted_all (listed s) (state_of l.fn.pass);
 }
-
-abbrev pub decreases-loop-left : goal.decreases-loop-left
-decreases-loop-left g l = l.left

@@ -1,11 +1,10 @@
-use Rattle.ldm_model.specs.State.{State}
+use Rattle.std.proofs.Common.{◌≡◌, ◌++◌, drop}
+use Rattle.std.specs.List.{flat_map}
+use Rattle.ldm_model.specs.State.{State, queued}
 use Rattle.ldm_book.specs.Stands.{StandsFor}
-use Rattle.ldm_chain.specs.Listing.{HasPlaces, listed}
-use Rattle.ldm_chain.proofs.TextLemmas.{ListedTo}
+use Rattle.ldm_chain.specs.CommandQueues.{product_line}
 use Rattle.ldm_chain.proofs.texts.add_products.Given as goal
 
-abbrev pub invariant-loop-left : goal.invariant-loop-left
-invariant-loop-left l = (s : State) → HasPlaces s → StandsFor l.fn.book s → ListedTo l.book s.rows l.k (listed s) l.fn.text.items l.text.items l.left
-
-abbrev pub decreases-loop-left : goal.decreases-loop-left
-decreases-loop-left l = l.left
+abbrev pub invariant-loop-i : goal.invariant-loop-i
+invariant-loop-i l = (s : State) → StandsFor l.book s
+    → l.text.items ++ flat_map product_line (drop l.i (queued s)) ≡ l.fn.text.items ++ flat_map product_line (queued s)

@@ -1,14 +1,14 @@
 use Rattle.std.proofs.Common.{◌≡◌, ◌∙◌, ◌<◌, ℕ, List, ◌∷◌, ◌++◌, length, map, sym, ap, subst, arith}
 use Rattle.std.proofs.lemmas.Bool.{eqb-true}
 use Rattle.ldm_chain.specs.declared.node.ChainNode.{ChainNode}
-use Rattle.ldm_chain.specs.Texts.{listed_texts}
+use Rattle.ldm_chain.specs.CommandQueues.{nodes_text}
 use Rattle.ldm_chain.specs.CommandNodes.{AreSole, queue_of}
 use Rattle.ldm_chain.proofs.TextLemmas.{WrittenTo, first-taken, written-all, written-more}
 use Rattle.ldm_chain.proofs.texts.text_of.Goals as goal
 
 pub loop-alloc-init : goal.loop-alloc-init
 loop-alloc-init c = record {
-  written = record { text_is = ap (λ (t : List ℕ). t ++ listed_texts 1 (map queue_of c.args.nodes.items)) c.new-text.ensures.items; legal = λ legal. legal };
+  written = record { text_is = ap (λ (t : List ℕ). t ++ nodes_text 1 (map queue_of c.args.nodes.items)) c.new-text.ensures.items; legal = λ legal. legal };
   sole = c.requires.sole;
   few = omega (arith, c.requires.few);
 }
