@@ -36,8 +36,8 @@ use std::thread::Threads;
 ///
 /// The clause `ends` gives each status its cause, and what was read, written, sent, started and kept then: see
 /// `RunEnds`. The clause `law` says that what a command writes of its own queue are answers of a history that obeys the
-/// law of the queue, or for what cause a crowd or a chain writes nothing: see `RunObeysLaw`. The clause `completes` says
-/// when all is read and answered: see `RunCompletes`.
+/// law of the queue, or for what cause a crowd or a chain writes nothing: see `RunObeysLaw`. The clause `completes`
+/// says when all is read and answered: see `RunCompletes`.
 pub fn run_ldm<
     H: Threads + Wait + Sync,
     S: Source,

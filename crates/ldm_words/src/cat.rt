@@ -14,9 +14,9 @@ use crate::values::{long_number, short_number};
 use clap::{ArgMatches, Command};
 use std::alloc::{AllocError, Global};
 
-/// What words ask `pqcat` to write: `[-f FEED] [-p PATTERN] [-c COUNT] [-a ARENA] [-S SLOTS] [-q HOST:PORT]`, by default
-/// `ANY`, `.*`, all products, 67108864, 16384 and `127.0.0.1:388`. PATTERN has at most 255 bytes, COUNT is at least 1
-/// and HOST has 1 to 255 bytes.
+/// What words ask `pqcat` to write: `[-f FEED] [-p PATTERN] [-c COUNT] [-a ARENA] [-S SLOTS] [-q HOST:PORT]`, by
+/// default `ANY`, `.*`, all products, 67108864, 16384 and `127.0.0.1:388`. PATTERN has at most 255 bytes, COUNT is at
+/// least 1 and HOST has 1 to 255 bytes.
 ///
 /// `Usage` comes exactly where the words are no form.
 pub fn read_pqcat(alloc: Global, words: &[String]) -> Result<CatWords, WordsFault>

@@ -167,8 +167,11 @@ pub fn worked_examples_of_chain()
 
 /// Worked examples of the words of `wmo`. It does nothing.
 pub fn worked_examples_of_wmo()
-    ensures by_default { wmo_form []
-        ≡ Some (record { feed = 8; origin = codes "localhost"; peer = record { host = codes "127.0.0.1"; port = 388 } }) }
+    ensures by_default { wmo_form [] ≡ Some (record {
+      feed = 8;
+      origin = codes "localhost";
+      peer = record { host = codes "127.0.0.1"; port = 388 };
+    }) }
     ensures given { wmo_form (codes "-fDDS" ∷ codes "-o" ∷ codes "h" ∷ codes "-qa:1" ∷ [])
         ≡ Some (record { feed = 2; origin = codes "h"; peer = record { host = codes "a"; port = 1 } }) }
     ensures zero_byte { wmo_form (codes "-oa\0" ∷ []) ≡ None }

@@ -10,9 +10,9 @@ ghost use Rattle.ldm_types.specs.declared.limits.TheConstants.{GREATEST_INSTANT}
 ghost use Rattle.ldm_types.specs.Info.{texts_fault};
 ghost use Rattle.ldm_words.specs.declared.limits.TheConstants.{MOST_HOURS};
 ghost use Rattle.ldm_words.specs.Faults.{IsFaultOf};
-ghost use Rattle.ldm_words.specs.Values.{IsName, class_in, class_of, count_of, files_of, hours_of, is_used, long_number};
-ghost use Rattle.ldm_words.specs.Values.{optional, origin_of, pattern_of, peer_of, said, seconds_of, short_number};
-ghost use Rattle.ldm_words.specs.Values.{texts_of};
+ghost use Rattle.ldm_words.specs.Values.{IsName, class_in, class_of, count_of, files_of, hours_of, is_used};
+ghost use Rattle.ldm_words.specs.Values.{long_number, optional, origin_of, pattern_of, peer_of, said, seconds_of};
+ghost use Rattle.ldm_words.specs.Values.{short_number, texts_of};
 ghost use Rattle.ldm_words.specs.Views.{rows_in};
 
 use crate::fault::WordsFault;
