@@ -7,7 +7,7 @@ use Rattle.ldm_session.specs.Gaps.{gap_log}
 use Rattle.ldm_sender.specs.declared.end.SendEnd.{SendEnd}
 use Rattle.ldm_sender.specs.declared.end.SendEnd.TheVariants as sending
 use Rattle.ldm_sender.specs.Acts.{Logged}
-use Rattle.ldm_notify.specs.declared.end.NotifyEnd.{NotifyEnd}
+use Rattle.ldm_notify.specs.declared.end.NoteEnd.{NoteEnd}
 use Rattle.ldm_notify.specs.Notifies.{send_end}
 use Rattle.ldm_intake.specs.declared.end.RecvEnd.{RecvEnd}
 use Rattle.ldm_serve.specs.declared.responded.Responded.{Responded}
@@ -52,7 +52,7 @@ fed-taken why (responded.Notifies ask) becoming fed = absurd fed
 fed-taken why responded.Refused becoming fed = absurd fed
 fed-taken why (responded.Denied rule) becoming fed = absurd fed
 
-notified-taken : (why : NotifyEnd) (next : Responded) (becoming : Becoming)
+notified-taken : (why : NoteEnd) (next : Responded) (becoming : Becoming)
     (notified : IsNotified why next becoming.client becoming.old becoming.new)
     → Takes becoming.old.outside.log (lines_notified why next becoming notified) becoming.new.outside.log
 notified-taken why responded.GoesOn becoming notified = absurd notified

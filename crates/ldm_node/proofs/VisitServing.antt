@@ -16,7 +16,7 @@ use Rattle.ldm_sender.specs.Asked.{Asked, asked_of}
 use Rattle.ldm_sender.specs.Ending.{IsEndOf}
 use Rattle.ldm_sender.specs.Opening.{Answered}
 use Rattle.ldm_upstream.specs.Feeds.{Feeds}
-use Rattle.ldm_notify.specs.declared.end.NotifyEnd.{NotifyEnd}
+use Rattle.ldm_notify.specs.declared.end.NoteEnd.{NoteEnd}
 use Rattle.ldm_notify.specs.Notifying as notifying
 use Rattle.ldm_notify.specs.Notifies.{NotifiesTo, send_end}
 use Rattle.ldm_serve.specs.declared.responded.Responded.{Responded}
@@ -51,11 +51,11 @@ was-fed why responded.Refused client ahead old new is = absurd is
 was-fed why (responded.Denied rule) client ahead old new is = absurd is
 
 -- A session of notices of what was asked by the host.
-pub record WasNotified (why : NotifyEnd) (client : Client) (old new : ServingMoment) : Type 0 where
+pub record WasNotified (why : NoteEnd) (client : Client) (old new : ServingMoment) : Type 0 where
   pub asked : Asked
   pub notifies : NotifiesTo (send_end why) asked old.pass new.pass old.outside new.outside
 
-pub was-notified : (why : NotifyEnd) (next : Responded) (client : Client) (old new : ServingMoment) → IsNotified why next client old new → WasNotified why client old new
+pub was-notified : (why : NoteEnd) (next : Responded) (client : Client) (old new : ServingMoment) → IsNotified why next client old new → WasNotified why client old new
 was-notified why responded.GoesOn client old new is = absurd is
 was-notified why (responded.Feeds ask) client old new is = absurd is
 was-notified why (responded.Receives class) client old new is = absurd is

@@ -5,7 +5,7 @@ use Rattle.ldm_session.specs.Gaps.{gap_log}
 use Rattle.ldm_sender.specs.declared.end.SendEnd.{SendEnd}
 use Rattle.ldm_sender.specs.declared.end.SendEnd.TheVariants as sending
 use Rattle.ldm_sender.specs.Acts.{Logged}
-use Rattle.ldm_notify.specs.declared.end.NotifyEnd.{NotifyEnd}
+use Rattle.ldm_notify.specs.declared.end.NoteEnd.{NoteEnd}
 use Rattle.ldm_notify.specs.Notifies.{send_end}
 use Rattle.ldm_intake.specs.declared.end.RecvEnd.{RecvEnd}
 use Rattle.ldm_serve.specs.declared.responded.Responded.{Responded}
@@ -42,7 +42,7 @@ lines_fed why (responded.Feeds ask) becoming fed =
 lines_fed why _ becoming fed = []
 
 -- those of a notifying: of the losses that its calls were told
-abbrev pub lines_notified : (why : NotifyEnd) (next : Responded) (becoming : Becoming) → IsNotified why next becoming.client becoming.old becoming.new → List ℕ
+abbrev pub lines_notified : (why : NoteEnd) (next : Responded) (becoming : Becoming) → IsNotified why next becoming.client becoming.old becoming.new → List ℕ
 lines_notified why (responded.Notifies ask) becoming notified =
     logged_of (send_end why) becoming.old.outside.log (gap_log becoming.client.host notified.0.called) becoming.new.outside.log notified.0.logged
 lines_notified why _ becoming notified = []

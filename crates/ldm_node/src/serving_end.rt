@@ -5,7 +5,7 @@ ghost use Rattle.ldm_node.specs.ServingEnds.{end_of_sending, end_of_serving, sto
 
 use crate::session_end::SessionEnd;
 use crate::stop::{NodeStop, stop_of_receiving};
-use ldm_notify::NotifyEnd;
+use ldm_notify::NoteEnd;
 use ldm_sender::SendEnd;
 use ldm_serve::ServeEnd;
 
@@ -46,18 +46,18 @@ fn end_of_feeding(end: SendEnd) -> SessionEnd
     }
 }
 
-fn end_of_notifying(end: NotifyEnd) -> SessionEnd
+fn end_of_notifying(end: NoteEnd) -> SessionEnd
     ensures { result ≡ end_of_sending (send_end end) }
 {
     match end {
-        NotifyEnd::Stopped => SessionEnd::Stopped,
-        NotifyEnd::Reclassed => SessionEnd::Reclassed,
-        NotifyEnd::Denied { .. } => SessionEnd::Denied,
-        NotifyEnd::LinkFault => SessionEnd::LinkFault,
-        NotifyEnd::LogFault => SessionEnd::LogFault,
-        NotifyEnd::AllBusy => SessionEnd::AllBusy,
-        NotifyEnd::Worn => SessionEnd::Worn,
-        NotifyEnd::OutOfMemory => SessionEnd::OutOfMemory,
+        NoteEnd::Stopped => SessionEnd::Stopped,
+        NoteEnd::Reclassed => SessionEnd::Reclassed,
+        NoteEnd::Denied { .. } => SessionEnd::Denied,
+        NoteEnd::LinkFault => SessionEnd::LinkFault,
+        NoteEnd::LogFault => SessionEnd::LogFault,
+        NoteEnd::AllBusy => SessionEnd::AllBusy,
+        NoteEnd::Worn => SessionEnd::Worn,
+        NoteEnd::OutOfMemory => SessionEnd::OutOfMemory,
     }
 }
 
@@ -85,13 +85,13 @@ fn stop_of_feeding(end: SendEnd) -> Option<NodeStop>
     }
 }
 
-fn stop_of_notifying(end: NotifyEnd) -> Option<NodeStop>
+fn stop_of_notifying(end: NoteEnd) -> Option<NodeStop>
     ensures { result ≡ stop_of_sending (send_end end) }
 {
     match end {
-        NotifyEnd::Stopped => Some(NodeStop::Done),
-        NotifyEnd::LogFault => Some(NodeStop::LogFault),
-        NotifyEnd::Worn => Some(NodeStop::Worn),
+        NoteEnd::Stopped => Some(NodeStop::Done),
+        NoteEnd::LogFault => Some(NodeStop::LogFault),
+        NoteEnd::Worn => Some(NodeStop::Worn),
         _ => None,
     }
 }

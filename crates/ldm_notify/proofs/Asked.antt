@@ -11,7 +11,7 @@ use Rattle.ldm_shared.specs.Reader.{HasCursor}
 use Rattle.ldm_sender.specs.declared.end.SendEnd.{SendEnd}
 use Rattle.ldm_sender.specs.Asked.{Asked, IsAskedOf}
 use Rattle.ldm_notify.specs.declared.asking.Asking.{Asking}
-use Rattle.ldm_notify.specs.declared.end.NotifyEnd.{NotifyEnd}
+use Rattle.ldm_notify.specs.declared.end.NoteEnd.{NoteEnd}
 use Rattle.ldm_notify.specs.declared.notifier.Notifier.{Notifier}
 use Rattle.ldm_notify.specs.Asking.{IsAskingOf}
 use Rattle.ldm_notify.specs.Notifies.{Notifies, NotifiesTo, send_end}
@@ -63,7 +63,7 @@ asking_is asking host rules ask by_rules by_class by_xid class none =
     }
 
 -- what it came to is told of the request
-pub told_of : (end : NotifyEnd) (why : SendEnd) (asked asked' : Asked) (old new : PassView)
+pub told_of : (end : NoteEnd) (why : SendEnd) (asked asked' : Asked) (old new : PassView)
     (before after : SessionRecord)
     → send_end end ≡ why → asked ≡ asked' → NotifiesTo why asked old new before after
     → Notifies end asked' old new before after

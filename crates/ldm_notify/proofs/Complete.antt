@@ -4,8 +4,8 @@ use Rattle.ldm_outside.specs.Session.{SessionRecord}
 use Rattle.ldm_shared.specs.Passes.{PassView}
 use Rattle.ldm_sender.specs.Asked.{Asked}
 use Rattle.ldm_sender.specs.Opening.{Answered, Denied, Reclassed, Busy, Opened}
-use Rattle.ldm_notify.specs.declared.end.NotifyEnd.{NotifyEnd}
-use Rattle.ldm_notify.specs.declared.end.NotifyEnd.TheVariants as note
+use Rattle.ldm_notify.specs.declared.end.NoteEnd.{NoteEnd}
+use Rattle.ldm_notify.specs.declared.end.NoteEnd.TheVariants as note
 use Rattle.ldm_notify.specs.Turn.{Turn}
 use Rattle.ldm_notify.specs.Notifying.{Last, GoesOn, Stopped, MayTurn}
 use Rattle.ldm_notify.specs.Notifies.{Notifies}
@@ -24,7 +24,7 @@ memory-end (Denied rule) = inr refl
 memory-end (Reclassed class) = inr refl
 memory-end (Busy missed) = inr refl
 
-pub completes : (why : NotifyEnd) (asked : Asked) (old new : PassView) (before after : SessionRecord)
+pub completes : (why : NoteEnd) (asked : Asked) (old new : PassView) (before after : SessionRecord)
     → (notified : Notifies why asked old new before after) → NoneFailed before after → HasCallsLeft new
     → IsEndFor notified.notifying.answered why
 completes note.Stopped asked old new before after notified none few =

@@ -5,8 +5,8 @@ use Rattle.ldm_outside.specs.Session.{SessionRecord}
 use Rattle.ldm_shared.specs.Passes.{PassView}
 use Rattle.ldm_shared.specs.declared.steps.TheConstants.{MOST_TURNS}
 use Rattle.ldm_sender.specs.Opening.{Answered, Denied, Reclassed, Busy, Opened}
-use Rattle.ldm_notify.specs.declared.end.NotifyEnd.{NotifyEnd}
-use Rattle.ldm_notify.specs.declared.end.NotifyEnd.TheVariants as note
+use Rattle.ldm_notify.specs.declared.end.NoteEnd.{NoteEnd}
+use Rattle.ldm_notify.specs.declared.end.NoteEnd.TheVariants as note
 
 -- No count of faults rose: neither link nor log failed.
 pub record NoneFailed (before after : SessionRecord) : Type 0 where
@@ -20,7 +20,7 @@ HasCallsLeft pass = length pass.seen < MOST_TURNS
 -- The answer to the request decides the end: a cursor that was opened is stepped until the gate says to stop. Or there
 -- is
 -- no memory.
-abbrev pub IsEndFor : Answered → NotifyEnd → Type 0
+abbrev pub IsEndFor : Answered → NoteEnd → Type 0
 IsEndFor (Denied rule) why = (why ≡ note.Denied rule) ⊎ (why ≡ note.OutOfMemory)
 IsEndFor (Reclassed class) why = (why ≡ note.Reclassed) ⊎ (why ≡ note.OutOfMemory)
 IsEndFor (Busy missed) why = (why ≡ note.AllBusy) ⊎ (why ≡ note.OutOfMemory)

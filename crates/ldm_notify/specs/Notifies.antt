@@ -9,12 +9,12 @@ use Rattle.ldm_sender.specs.Asked.{Asked}
 use Rattle.ldm_sender.specs.Opening.{Answered}
 use Rattle.ldm_sender.specs.Acts.{Situation}
 use Rattle.ldm_sender.specs.Sends.{Sends, HasSent}
-use Rattle.ldm_notify.specs.declared.end.NotifyEnd.{NotifyEnd}
-use Rattle.ldm_notify.specs.declared.end.NotifyEnd.TheVariants as note
+use Rattle.ldm_notify.specs.declared.end.NoteEnd.{NoteEnd}
+use Rattle.ldm_notify.specs.declared.end.NoteEnd.TheVariants as note
 use Rattle.ldm_notify.specs.Turn.{notice_kind}
 
 -- the same end, as one of any sending end
-abbrev pub send_end : NotifyEnd → SendEnd
+abbrev pub send_end : NoteEnd → SendEnd
 send_end note.Stopped = end.Stopped
 send_end note.Reclassed = end.Reclassed
 send_end (note.Denied rule) = end.Denied rule
@@ -49,7 +49,7 @@ pub record NotifiesTo (why : SendEnd) (asked : Asked) (old new : PassView) (befo
     cause,
   }
 
-abbrev pub Notifies : NotifyEnd → Asked → (old new : PassView) → (before after : SessionRecord) → Type 0
+abbrev pub Notifies : NoteEnd → Asked → (old new : PassView) → (before after : SessionRecord) → Type 0
 Notifies why asked old new before after = NotifiesTo (send_end why) asked old new before after
 
 -- A session of notices was made up to an end, and its cursor is not closed yet.

@@ -7,7 +7,7 @@ use ldm_sender::SendEnd;
 
 /// How a session of notices ends.
 #[derive(Clone, Copy, Debug, PartialEq, Eq)]
-pub enum NotifyEnd {
+pub enum NoteEnd {
     /// The cursor came to the end of the queue, and the gate said to stop. The link is closed.
     Stopped,
     /// A part of the class is left to the host, and it was told which.
@@ -30,19 +30,19 @@ pub enum NotifyEnd {
 }
 
 // The end of a session that awaits no reply.
-pub(crate) fn notify_end(end: SendEnd) -> NotifyEnd
+pub(crate) fn notify_end(end: SendEnd) -> NoteEnd
     requires { AwaitsNone end }
     ensures { send_end result ≡ end }
 {
     match end {
-        SendEnd::Stopped => NotifyEnd::Stopped,
-        SendEnd::Reclassed => NotifyEnd::Reclassed,
-        SendEnd::Denied { rule } => NotifyEnd::Denied { rule },
-        SendEnd::LinkFault => NotifyEnd::LinkFault,
-        SendEnd::LogFault => NotifyEnd::LogFault,
-        SendEnd::AllBusy => NotifyEnd::AllBusy,
-        SendEnd::Worn => NotifyEnd::Worn,
-        SendEnd::OutOfMemory => NotifyEnd::OutOfMemory,
+        SendEnd::Stopped => NoteEnd::Stopped,
+        SendEnd::Reclassed => NoteEnd::Reclassed,
+        SendEnd::Denied { rule } => NoteEnd::Denied { rule },
+        SendEnd::LinkFault => NoteEnd::LinkFault,
+        SendEnd::LogFault => NoteEnd::LogFault,
+        SendEnd::AllBusy => NoteEnd::AllBusy,
+        SendEnd::Worn => NoteEnd::Worn,
+        SendEnd::OutOfMemory => NoteEnd::OutOfMemory,
         SendEnd::PeerEnd { .. } | SendEnd::BadReply { .. } => unreachable!(),
     }
 }

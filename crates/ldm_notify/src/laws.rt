@@ -2,7 +2,7 @@
 ghost use Rattle.ldm_outside.specs.Session.{SessionRecord};
 ghost use Rattle.ldm_shared.specs.Passes.{PassView};
 ghost use Rattle.ldm_sender.specs.Asked.{Asked};
-ghost use Rattle.ldm_notify.specs.declared.end.NotifyEnd.{NotifyEnd};
+ghost use Rattle.ldm_notify.specs.declared.end.NoteEnd.{NoteEnd};
 ghost use Rattle.ldm_notify.specs.Notifies.{Notifies};
 ghost use Rattle.ldm_notify.specs.Complete.{HasCallsLeft, IsEndFor, NoneFailed};
 
@@ -10,7 +10,7 @@ ghost use Rattle.ldm_notify.specs.Complete.{HasCallsLeft, IsEndFor, NoneFailed};
 /// request decides the end, or there is no memory. So a session whose cursor was opened goes on until the gate says to
 /// stop.
 pub fn notices_are_completed()
-    ensures { (why : NotifyEnd) (asked : Asked) (old new : PassView) (before after : SessionRecord)
+    ensures { (why : NoteEnd) (asked : Asked) (old new : PassView) (before after : SessionRecord)
         → (notified : Notifies why asked old new before after) → NoneFailed before after → HasCallsLeft new
         → IsEndFor notified.notifying.answered why }
 {}

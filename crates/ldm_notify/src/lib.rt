@@ -18,7 +18,7 @@ mod notifying;
 mod one_turn;
 mod telling;
 
-pub use end::NotifyEnd;
+pub use end::NoteEnd;
 pub use examples::worked_examples;
 pub use laws::notices_are_completed;
 pub use notifying::{notify, notify_asked};

@@ -14,7 +14,7 @@ ghost use Rattle.ldm_notify.specs.Notifying.{asked_of};
 ghost use Rattle.ldm_notify.specs.Notifies.{Notifies, NotifiesTo};
 
 use crate::asking::Asking;
-use crate::end::{NotifyEnd, notify_end};
+use crate::end::{NoteEnd, notify_end};
 use ldm_class::{Class, ClassFault, Policy, Reduced};
 use ldm_outside::{Clock, Gate, Link, Sink};
 use ldm_relay::{ClassAnswer, Notifyme};
@@ -62,9 +62,9 @@ fn decline_whole<K: Link, C: Clock>(
 /// the queue, until the gate says to stop or something ends it. Losses are log lines.
 ///
 /// The rules are asked first. The class is built only where all of it is left to the host; one that cannot be built
-/// then is [`NotifyEnd::OutOfMemory`].
+/// then is [`NoteEnd::OutOfMemory`].
 ///
-/// The cursor that was opened is closed at every end but [`NotifyEnd::Worn`], and the link at [`NotifyEnd::Stopped`]
+/// The cursor that was opened is closed at every end but [`NoteEnd::Worn`], and the link at [`NoteEnd::Stopped`]
 /// alone.
 pub fn notify_asked<H: Wait, K: Link, E: Sink, G: Gate, C: Clock>(
     rt: &H,
@@ -78,7 +78,7 @@ pub fn notify_asked<H: Wait, K: Link, E: Sink, G: Gate, C: Clock>(
     host: &[u8],
     ask: &Notifyme,
     policy: &Policy,
-) -> NotifyEnd
+) -> NoteEnd
     requires of { IsPassOf shared.now pass.old }
     requires means { bad_place ask.now.class.specs.items ≡ None }
     requires name { length host.now ≤ LONGEST_NAME }
@@ -94,13 +94,13 @@ pub fn notify_asked<H: Wait, K: Link, E: Sink, G: Gate, C: Clock>(
         Ok(Reduced::Same) => match Class::build(alloc, &ask.class) {
             Ok(class) => match Asking::create(alloc, host, ask, &class, policy) {
                 Ok(asking) => notify_end(asking.tell(rt, shared, pass, link, log, gate, clock)),
-                Err(_) => NotifyEnd::OutOfMemory,
+                Err(_) => NoteEnd::OutOfMemory,
             },
             Err(ClassFault::BadPattern { .. }) => unreachable!(),
-            Err(ClassFault::OutOfMemory) => NotifyEnd::OutOfMemory,
+            Err(ClassFault::OutOfMemory) => NoteEnd::OutOfMemory,
         },
         Ok(left) => notify_end(decline_whole(alloc, link, clock, ask, left)),
-        Err(_) => NotifyEnd::OutOfMemory,
+        Err(_) => NoteEnd::OutOfMemory,
     }
 }
 
@@ -118,7 +118,7 @@ pub fn notify<H: Wait, K: Link, E: Sink, G: Gate, C: Clock>(
     ask: &Notifyme,
     class: &Class,
     policy: &Policy,
-) -> NotifyEnd
+) -> NoteEnd
     requires of { IsPassOf shared.now pass.old }
     requires built { class.now ≡ ask.now.class }
     requires name { length host.now ≤ LONGEST_NAME }
@@ -133,9 +133,9 @@ pub fn notify<H: Wait, K: Link, E: Sink, G: Gate, C: Clock>(
     match policy.reduce(alloc, host, &ask.class, false) {
         Ok(Reduced::Same) => match Asking::create(alloc, host, ask, class, policy) {
             Ok(asking) => notify_end(asking.tell(rt, shared, pass, link, log, gate, clock)),
-            Err(_) => NotifyEnd::OutOfMemory,
+            Err(_) => NoteEnd::OutOfMemory,
         },
         Ok(left) => notify_end(decline_whole(alloc, link, clock, ask, left)),
-        Err(_) => NotifyEnd::OutOfMemory,
+        Err(_) => NoteEnd::OutOfMemory,
     }
 }

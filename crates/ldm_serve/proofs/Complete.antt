@@ -26,8 +26,8 @@ use Rattle.ldm_sender.specs.Opening as opening
 use Rattle.ldm_upstream.specs.Turn.{Turn}
 use Rattle.ldm_upstream.specs.Feeding as fed
 use Rattle.ldm_upstream.specs.Feeds.{Feeds as IsFedSo}
-use Rattle.ldm_notify.specs.declared.end.NotifyEnd.{NotifyEnd}
-use Rattle.ldm_notify.specs.declared.end.NotifyEnd.TheVariants as notified
+use Rattle.ldm_notify.specs.declared.end.NoteEnd.{NoteEnd}
+use Rattle.ldm_notify.specs.declared.end.NoteEnd.TheVariants as notified
 use Rattle.ldm_notify.specs.Turn as told_turn
 use Rattle.ldm_notify.specs.Notifying as told
 use Rattle.ldm_notify.specs.Notifies.{Notifies as IsNotifiedSo}
@@ -274,14 +274,14 @@ module _ (asked : Asked) (old new : PassView) (start before after : SessionRecor
 
   -- ---- and of a session of notices
 
-  module _ (why : NotifyEnd) (tells : IsNotifiedSo why asked old new before after) (answered : Answered)
+  module _ (why : NoteEnd) (tells : IsNotifiedSo why asked old new before after) (answered : Answered)
       (is : tells.notifying.answered ≡ answered) (unopened : IsUnopened answered) where
     told-goes_on : tells.notifying.last ≡ told.GoesOn
     told-goes_on =
         told-none tells.notifying.answered tells.notifying.turns tells.notifying.last (subst (λ (a : Answered). IsUnopened a) (sym is) unopened)
         tells.is_notifying.opened
 
-  same-told : reduce asked.rules asked.host asked.class ≡ Same → (why : NotifyEnd) → IsNotifiedSo why asked old new before after
+  same-told : reduce asked.rules asked.host asked.class ≡ Same → (why : NoteEnd) → IsNotifiedSo why asked old new before after
       → (why ≡ notified.Reclassed → ⊥) → NotifiesOn why start after ⊎ LacksMemory (end.Notify why)
   same-told left notified.Stopped tells not = inl (stops-later tells.cause)
   same-told left notified.Reclassed tells not = absurd (not refl)
@@ -295,7 +295,7 @@ module _ (asked : Asked) (old new : PassView) (start before after : SessionRecor
   same-told left notified.Worn tells not = absurd (worn-none tells.cause)
   same-told left notified.OutOfMemory tells not = inr refl
 
-  none-told : (rule : ℕ) → reduce asked.rules asked.host asked.class ≡ Nothing rule → (why : NotifyEnd) → IsNotifiedSo why asked old new before after
+  none-told : (rule : ℕ) → reduce asked.rules asked.host asked.class ≡ Nothing rule → (why : NoteEnd) → IsNotifiedSo why asked old new before after
       → (why ≡ notified.Reclassed → ⊥) → (why ≡ notified.Denied rule) ⊎ LacksMemory (end.Notify why)
   none-told rule left notified.Stopped tells not =
       let is = denied asked rule tells.notifying.answered left tells.is_notifying.answered in
@@ -316,7 +316,7 @@ module _ (asked : Asked) (old new : PassView) (start before after : SessionRecor
   none-told rule left notified.Worn tells not = absurd (worn-none tells.cause)
   none-told rule left notified.OutOfMemory tells not = inr refl
 
-  fewer-told : (fewer : ClassSpec) → reduce asked.rules asked.host asked.class ≡ Fewer fewer → (why : NotifyEnd) → IsNotifiedSo why asked old new before after
+  fewer-told : (fewer : ClassSpec) → reduce asked.rules asked.host asked.class ≡ Fewer fewer → (why : NoteEnd) → IsNotifiedSo why asked old new before after
       → (why ≡ notified.Reclassed → ⊥) → LacksMemory (end.Notify why)
   fewer-told fewer left notified.Stopped tells not =
       let is = reclassed asked fewer tells.notifying.answered left tells.is_notifying.answered in
@@ -336,7 +336,7 @@ module _ (asked : Asked) (old new : PassView) (start before after : SessionRecor
   fewer-told fewer left notified.Worn tells not = absurd (worn-none tells.cause)
   fewer-told fewer left notified.OutOfMemory tells not = refl
 
-  told-to : (left : Reduced) → reduce asked.rules asked.host asked.class ≡ left → (why : NotifyEnd) → IsNotifiedSo why asked old new before after
+  told-to : (left : Reduced) → reduce asked.rules asked.host asked.class ≡ left → (why : NoteEnd) → IsNotifiedSo why asked old new before after
       → (why ≡ notified.Reclassed → ⊥) → NotifiesTo left why start after ⊎ LacksMemory (end.Notify why)
   told-to Same is why tells not = same-told is why tells not
   told-to (Nothing rule) is why tells not = none-told rule is why tells not
@@ -382,7 +382,7 @@ module _ (client : Client) (others : List Placed) (start after : SessionRecord) 
   fed-by xid class max_hereis (Fewer fewer) is why (inl fed) = absurd fed
 
   told-by : (xid : ℕ) (class : ClassSpec) (left : Reduced) → reduce (rules_for false client.rules) client.host class ≡ left
-      → (why : NotifyEnd) → NotifiesTo left why start after ⊎ LacksMemory (end.Notify why)
+      → (why : NoteEnd) → NotifiesTo left why start after ⊎ LacksMemory (end.Notify why)
       → BecomesBy client (decided client (Notifies xid class) others) (end.Notify why) start after ⊎ LacksMemory (end.Notify why)
   told-by xid class left is why (inr lacks) = inr lacks
   told-by xid class Same is why (inl tells) =

@@ -34,7 +34,7 @@ use Rattle.ldm_serve.specs.Respond.{respond}
 use Rattle.ldm_serve.specs.Response.{Response, Says, Puts, Figures, Feeds, Receives, Notifies, Refuses, Denies}
 use Rattle.ldm_serve.specs.Responds.{goes_on}
 use Rattle.ldm_upstream.specs.Feeding as feeding
-use Rattle.ldm_notify.specs.declared.end.NotifyEnd.{NotifyEnd}
+use Rattle.ldm_notify.specs.declared.end.NoteEnd.{NoteEnd}
 use Rattle.ldm_notify.specs.Notifying as notifying
 use Rattle.ldm_notify.specs.Notifies.{send_end}
 use Rattle.ldm_serve.specs.declared.end.ServeEnd.{ServeEnd}
@@ -174,7 +174,7 @@ module _ (client : Client) where
         }
     fed why _ ahead is = absurd is
 
-    told : (why : NotifyEnd) (next : Responded) → IsNotified why next client old new → Behind before owed old new
+    told : (why : NoteEnd) (next : Responded) → IsNotified why next client old new → Behind before owed old new
     told why (responded.Notifies ask) is =
         let notifies = is.0 in
         let asked = notifying.asked_of client.host client.rules ask in

@@ -24,7 +24,7 @@ use Rattle.ldm_intake.specs.Room.{records_of}
 use Rattle.ldm_upstream.specs.Feeding as feeding
 use Rattle.ldm_upstream.specs.Feeds.{Feeds}
 use Rattle.ldm_upstream.specs.Turn as feed_turn
-use Rattle.ldm_notify.specs.declared.end.NotifyEnd.TheVariants as notified
+use Rattle.ldm_notify.specs.declared.end.NoteEnd.TheVariants as notified
 use Rattle.ldm_notify.specs.Notifying as notifying
 use Rattle.ldm_notify.specs.Notifies.{Notifies}
 use Rattle.ldm_notify.specs.Turn as notify_turn

@@ -15,8 +15,8 @@ use Rattle.ldm_sender.specs.declared.end.SendEnd.{SendEnd}
 use Rattle.ldm_sender.specs.declared.end.SendEnd.TheVariants as send
 use Rattle.ldm_sender.specs.Asked.{asked_of}
 use Rattle.ldm_upstream.specs.Feeds.{Feeds}
-use Rattle.ldm_notify.specs.declared.end.NotifyEnd.{NotifyEnd}
-use Rattle.ldm_notify.specs.declared.end.NotifyEnd.TheVariants as notified
+use Rattle.ldm_notify.specs.declared.end.NoteEnd.{NoteEnd}
+use Rattle.ldm_notify.specs.declared.end.NoteEnd.TheVariants as notified
 use Rattle.ldm_notify.specs.Notifying as notifying
 use Rattle.ldm_notify.specs.Notifies.{Notifies}
 use Rattle.ldm_intake.specs.declared.end.RecvEnd.{RecvEnd}
@@ -41,7 +41,7 @@ IsFed why (responded.Feeds ask) client ahead old new =
 IsFed why _ client ahead old new = ⊥
 
 -- from now on a notifying, which hears nothing of the peer
-abbrev pub IsNotified : NotifyEnd → Responded → Client → (old new : ServingMoment) → Type 0
+abbrev pub IsNotified : NoteEnd → Responded → Client → (old new : ServingMoment) → Type 0
 IsNotified why (responded.Notifies ask) client old new =
     Notifies why (notifying.asked_of client.host client.rules ask) old.pass new.pass old.outside new.outside × (why ≡ notified.Reclassed → ⊥)
 IsNotified why _ client old new = ⊥

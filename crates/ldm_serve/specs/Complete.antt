@@ -18,8 +18,8 @@ use Rattle.ldm_shared.specs.declared.steps.TheConstants.{MOST_TURNS}
 use Rattle.ldm_session.specs.declared.limits.TheConstants.{LONGEST_STREAM}
 use Rattle.ldm_sender.specs.declared.end.SendEnd.{SendEnd}
 use Rattle.ldm_sender.specs.declared.end.SendEnd.TheVariants as send
-use Rattle.ldm_notify.specs.declared.end.NotifyEnd.{NotifyEnd}
-use Rattle.ldm_notify.specs.declared.end.NotifyEnd.TheVariants as notified
+use Rattle.ldm_notify.specs.declared.end.NoteEnd.{NoteEnd}
+use Rattle.ldm_notify.specs.declared.end.NoteEnd.TheVariants as notified
 use Rattle.ldm_intake.specs.declared.end.RecvEnd.{RecvEnd}
 use Rattle.ldm_intake.specs.declared.end.RecvEnd.TheVariants as received
 use Rattle.ldm_serve.specs.declared.end.ServeEnd.{ServeEnd}
@@ -98,7 +98,7 @@ FeedsOn send.Worn before after = ⊥
 FeedsOn send.OutOfMemory before after = ⊥
 
 -- the same of a session of notices, which hears nothing of the peer
-abbrev pub NotifiesOn : NotifyEnd → (before after : SessionRecord) → Type 0
+abbrev pub NotifiesOn : NoteEnd → (before after : SessionRecord) → Type 0
 NotifiesOn notified.Stopped before after = Rose before.gate.stops after.gate.stops
 NotifiesOn notified.AllBusy before after = Unit {0}
 NotifiesOn notified.Reclassed before after = ⊥
@@ -127,7 +127,7 @@ FeedsTo (Nothing rule) why before after = why ≡ send.Denied rule
 FeedsTo (Fewer fewer) why before after = ⊥
 
 -- and a session of notices
-abbrev pub NotifiesTo : Reduced → NotifyEnd → (before after : SessionRecord) → Type 0
+abbrev pub NotifiesTo : Reduced → NoteEnd → (before after : SessionRecord) → Type 0
 NotifiesTo Same why before after = NotifiesOn why before after
 NotifiesTo (Nothing rule) why before after = why ≡ notified.Denied rule
 NotifiesTo (Fewer fewer) why before after = ⊥
@@ -139,7 +139,7 @@ BecomesBy client None how before after = (how ≡ end.Ended) × ServingHasEnded 
 BecomesBy client (Some (Feeds xid class max_hereis)) how before after =
     (why : SendEnd) × (how ≡ end.Feed why) × FeedsTo (reduce (rules_for false client.rules) client.host class) why before after
 BecomesBy client (Some (Notifies xid class)) how before after =
-    (why : NotifyEnd) × (how ≡ end.Notify why) × NotifiesTo (reduce (rules_for false client.rules) client.host class) why before after
+    (why : NoteEnd) × (how ≡ end.Notify why) × NotifiesTo (reduce (rules_for false client.rules) client.host class) why before after
 BecomesBy client (Some (Receives class messages)) how before after = (why : RecvEnd) × (how ≡ end.Receive why) × ReceivesOn why before after
 BecomesBy client (Some (Denies rule messages)) how before after = how ≡ end.Denied rule
 BecomesBy client (Some (Says messages)) how before after = ⊥

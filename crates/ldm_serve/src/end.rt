@@ -1,7 +1,7 @@
 //! How a connection ends.
 
 use ldm_intake::RecvEnd;
-use ldm_notify::NotifyEnd;
+use ldm_notify::NoteEnd;
 use ldm_outside::LinkFailed;
 use ldm_sender::SendEnd;
 
@@ -13,7 +13,7 @@ pub enum ServeEnd {
     /// It became a receiving of what the peer pushed, which ended so.
     Receive(RecvEnd),
     /// It became a session of notices, which ended so.
-    Notify(NotifyEnd),
+    Notify(NoteEnd),
     /// The peer ended the stream behind a record.
     Ended,
     /// The peer ended the stream within a record.

@@ -18,7 +18,7 @@ use crate::end::ServeEnd;
 use crate::responded::Responded;
 use crate::taking::Connection;
 use ldm_downstream::receive_pushed;
-use ldm_notify::{NotifyEnd, notify_asked};
+use ldm_notify::{NoteEnd, notify_asked};
 use ldm_outside::{Clock, Gate, Link, Sink};
 use ldm_relay::{Feedme, Notifyme};
 use ldm_sender::SendEnd;
@@ -112,7 +112,7 @@ fn go_on_notifying<H: Wait, K: Link, E: Sink, G: Gate, C: Clock>(
         ask,
         client.policy(),
     ) {
-        NotifyEnd::Reclassed => None,
+        NoteEnd::Reclassed => None,
         why => Some(ServeEnd::Notify(why)),
     }
 }
