@@ -220,8 +220,16 @@ fn answer_call<H: Wait, C: Clock>(
         (to_short (client_by client.old pass.old.actor) content.now (call_of content.now))
         (stands pass.old (C.tells clock.old) out.old.items) (stands pass.new (C.tells clock.new) out.new.items) }
 {
-    let responded = respond_to_call(rt, shared, pass, clock, client, content, out);
-    write_next(responded, next)
+    match read_asked(content) {
+        Asked::Unread(fault) => {
+            let front = read_call_front(content);
+            write_next(answer_unread(client, fault, front, out), next)
+        }
+        asked => {
+            let responded = answer_asked(rt, shared, pass, clock, client, asked, out);
+            write_next(responded, next)
+        }
+    }
 }
 
 // Answers a longer record that is no PUT, all of which is read.
@@ -271,7 +279,10 @@ fn answer_cut(front: &[u8], out: &mut Vec<u8>, next: &mut Responded) -> Result<(
         → Responds (with_next result next.new) (to_cut (call_of front.now))
         (stands pass clock out.old.items) (stands pass clock out.new.items) }
 {
-    write_next(respond_to_cut(front, out), next)
+    match read_asked(front) {
+        Asked::Unread(fault) => write_next(refuse(fault, out), next),
+        _ => write_next(Ok(Responded::Refused), next),
+    }
 }
 
 // Writes how the connection goes on.
@@ -287,43 +298,6 @@ fn write_next(
             Ok(())
         }
         Err(why) => Err(why),
-    }
-}
-
-// Responds to a record of no more bytes than the longest call has.
-fn respond_to_call<H: Wait, C: Clock>(
-    rt: &H,
-    shared: &Shared,
-    pass: &mut Pass,
-    clock: &mut C,
-    client: &mut Client<'_>,
-    content: &[u8],
-    out: &mut Vec<u8>,
-) -> Result<Responded, RespondFault>
-    requires { IsPassOf shared.now pass.old }
-    ensures kept { IsSamePass pass.old pass.new }
-    ensures same { client.new ≡ client.old }
-    ensures responds { Responds result
-        (to_short (client_by client.old pass.old.actor) content.now (call_of content.now))
-        (stands pass.old (C.tells clock.old) out.old.items) (stands pass.new (C.tells clock.new) out.new.items) }
-{
-    match read_asked(content) {
-        Asked::Unread(fault) => {
-            let front = read_call_front(content);
-            answer_unread(client, fault, front, out)
-        }
-        asked => answer_asked(rt, shared, pass, clock, client, asked, out),
-    }
-}
-
-// Responds to a longer record that begins so, and carries no product.
-fn respond_to_cut(front: &[u8], out: &mut Vec<u8>) -> Result<Responded, RespondFault>
-    ensures { (pass : PassView) (clock : ClockRecord) → Responds result (to_cut (call_of front.now))
-        (stands pass clock out.old.items) (stands pass clock out.new.items) }
-{
-    match read_asked(front) {
-        Asked::Unread(fault) => refuse(fault, out),
-        _ => Ok(Responded::Refused),
     }
 }
 
