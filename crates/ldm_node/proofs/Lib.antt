@@ -1,4 +1,5 @@
 mod SamePass
+mod Stopping
 mod VisitServing
 mod VisitOwning
 mod VisitHolding

@@ -17,21 +17,9 @@ use Rattle.ldm_downstream.specs.Receives.{Cause, ReceivesAll}
 use Rattle.ldm_node.specs.declared.stop.NodeStop.{NodeStop}
 use Rattle.ldm_node.specs.declared.stop.NodeStop.TheVariants.{Done, NetFault, LogFault, Worn, OutOfMemory}
 use Rattle.ldm_node.specs.RequestMoments.{RequestMoment, with_dial}
-use Rattle.ldm_node.specs.SessionEnds.{stop_of_receiving}
 use Rattle.ldm_node.specs.Tries.{Session, asking, outside, peer_of}
 use Rattle.ldm_node.specs.TrySteps.{Finishes, HoldsOne, TriesOne}
-
--- a session that ended since the queue has had all its calls
-worn-seen : (end : RecvEnd) (pass : PassView) (old new : SessionRecord) → stop_of_receiving end ≡ Some Worn → Cause end pass old new → length pass.seen ≡ MOST_TURNS
-worn-seen receiving.Ended pass old new is cause = cc
-worn-seen (receiving.Truncated at) pass old new is cause = cc
-worn-seen (receiving.BadFrame at) pass old new is cause = cc
-worn-seen (receiving.Refused answer) pass old new is cause = cc
-worn-seen receiving.LinkFault pass old new is cause = cc
-worn-seen receiving.LogFault pass old new is cause = cc
-worn-seen receiving.StreamLimit pass old new is cause = cc
-worn-seen receiving.Worn pass old new is cause = cause
-worn-seen receiving.OutOfMemory pass old new is cause = cc
+use Rattle.ldm_node.proofs.Stopping.{receiving-stop}
 
 -- the log failed, within the session or behind it
 log-rose : (end : RecvEnd) (pass : PassView) (before after : SessionRecord) (log : SinkRecord) → Cause end pass before after → before.log.faults ≤ after.log.faults
@@ -64,7 +52,7 @@ holds-one (Some Worn) end request came left log old new receives completes kept 
   end,
   record { left = left; log = log; receives = receives; completes = completes; given_back = given_back; logged = finishes.0; same = same },
   finishes.1,
-  (let seen = worn-seen end receives.at_end.pass (outside came old.station.log old.station.clock) (outside left log new.station.clock) finishes.1 receives.receives.cause in
+  (let seen = receiving-stop end Worn receives.at_end.pass (outside came old.station.log old.station.clock) (outside left log new.station.clock) finishes.1 receives.receives.cause in
       let P : PassView → Type 0 = λ pass. length pass.seen ≡ MOST_TURNS in
       subst P receives.pass_is seen),
 )

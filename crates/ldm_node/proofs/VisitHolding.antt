@@ -17,7 +17,7 @@ use Rattle.ldm_node.specs.DoorMoments.{DoorMoment, with_door}
 use Rattle.ldm_node.specs.Visits.{client_of, outside, peer_of, visit_of}
 use Rattle.ldm_node.specs.DoorWorks.{FailsAt, LastVisit}
 use Rattle.ldm_node.specs.VisitSteps.{AdmitsOne, Finishes, HoldsOne}
-use Rattle.ldm_node.proofs.VisitServing.{serves-log_failed, serves-stopped, serves-worn}
+use Rattle.ldm_node.proofs.VisitServing.{serves-stop}
 
 -- the pass that serves tells the arena, since it is of the queue
 pub served-by : (end : ServeEnd) (rules : Rules) (host : List ℕ) (shared : SharedView) (pass : PassView) (before after : Situation) → IsPassOf shared pass
@@ -32,7 +32,7 @@ log-rose : (end : ServeEnd) (client : Client) (before after : Situation) (log : 
     → before.outside.log.faults ≤ after.outside.log.faults → FailsAt end after.outside.log log → Rose before.outside.log.faults log.faults
 log-rose end client before after log serves kept (inl within) =
     let P : SinkRecord → Type 0 = λ sink. Rose before.outside.log.faults sink.faults in
-    subst P (sym within.1) (serves-log_failed end client before after within.0 serves)
+    subst P (sym within.1) (serves-stop end LogFault client before after within.0 serves)
 log-rose end client before after log serves kept (inr rose) =
     Rose-later before.outside.log.faults after.outside.log.faults log.faults kept rose
 
@@ -49,7 +49,7 @@ holds-one (Some Done) end rules host came left log old new serves kept given_bac
   end,
   record { left = left; log = log; serves = serves; given_back = given_back; logged = finishes.0; same = same },
   finishes.1,
-  serves-stopped end (client_of rules host old.pass) (moment_of old.pass (outside came old.station.log old.station))
+  serves-stop end Done (client_of rules host old.pass) (moment_of old.pass (outside came old.station.log old.station))
       (moment_of new.pass (outside left log new.station)) finishes.1 serves,
 )
 holds-one (Some LogFault) end rules host came left log old new serves kept given_back finishes same = (
@@ -62,7 +62,7 @@ holds-one (Some Worn) end rules host came left log old new serves kept given_bac
   end,
   record { left = left; log = log; serves = serves; given_back = given_back; logged = finishes.0; same = same },
   finishes.1,
-  serves-worn end (client_of rules host old.pass) (moment_of old.pass (outside came old.station.log old.station))
+  serves-stop end Worn (client_of rules host old.pass) (moment_of old.pass (outside came old.station.log old.station))
       (moment_of new.pass (outside left log new.station)) finishes.1 serves,
 )
 holds-one (Some NetFault) end rules host came left log old new serves kept given_back finishes same = absurd finishes

@@ -29,7 +29,7 @@ use Rattle.ldm_node.specs.Visits.{Visit, Admits, client_of, line_of, outside}
 use Rattle.ldm_node.specs.DoorWorks.{AreVisits, ClosedDoor, Declines, Ending, EndsBy, FailedDoor, LastVisit, Works}
 use Rattle.ldm_node.specs.VisitsTold.{all_visits, hosts_of, last_visit, lines_of, lines_of_each, lines_of_last, log_of, own_lines}
 use Rattle.ldm_node.proofs.VisitOwning.{served-taken}
-use Rattle.ldm_node.proofs.VisitServing.{receiving-not_done}
+use Rattle.ldm_node.proofs.Stopping.{receiving-not_done}
 
 -- how a worker ended, without why it stopped
 abbrev EndsSo : Rules → Option Ending → DoorMoment → DoorMoment → Type 0
