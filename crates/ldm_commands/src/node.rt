@@ -47,7 +47,7 @@ where
             sessions: words.sessions,
             idles: words.idles,
         },
-        secret: world.secret,
+        key: world.secret,
         conf: words.conf,
     };
     run_node(

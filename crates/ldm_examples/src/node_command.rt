@@ -37,7 +37,7 @@ where
             sessions: u32::MAX,
             idles: None,
         },
-        secret: 0,
+        key: 0,
         conf: "ldmd.conf",
     };
     run_node(rt, alloc, &setup, sink, log, store, launcher, net)

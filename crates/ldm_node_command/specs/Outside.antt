@@ -19,6 +19,11 @@ pub record Outside (S : Type 0) : Type 0 where
   -- the port that the net was asked for last
   pub port : Option ℕ
 
+-- what it uses, by what its parts tell, and of the net also the stations that it keeps and the port
+abbrev pub outside_of : {S : Type 0} → SinkRecord → SinkRecord → StoreRecord → LauncherRecord → DialRecord → List S → Option ℕ → Outside S
+outside_of sink log store launcher net kept port =
+    record { sink = sink; log = log; store = store; launcher = launcher; net = net; kept = kept; port = port }
+
 -- No count fell.
 pub record KeepsFaults {S : Type 0} (old new : Outside S) : Type 0 where
   pub sink : old.sink.faults ≤ new.sink.faults

@@ -14,7 +14,7 @@ ghost use Rattle.ldm_node_command.specs.Complete.{NodeCompletes};
 ghost use Rattle.ldm_node_command.specs.Ending.{NodeEnds};
 ghost use Rattle.ldm_node_command.specs.Law.{ObeysNodeLaw};
 ghost use Rattle.ldm_node_command.specs.Node.{IsMade, Works};
-ghost use Rattle.ldm_node_command.specs.Outside.{KeepsFaults};
+ghost use Rattle.ldm_node_command.specs.Outside.{KeepsFaults, outside_of};
 ghost use Rattle.ldm_node_command.specs.Run.{NodeRuns};
 ghost use Rattle.ldm_node_command.specs.Setup.{IsGoodSize, passes_for, setup_of};
 ghost use Rattle.ldm_node_command.specs.Told.{TellsCommands};
@@ -69,119 +69,39 @@ where
         (station_tells N.StationDoor.tells N.StationDial.tells N.StationLog.tells N.StationClock.tells
         N.StationGate.tells)
         (setup_of setup.now) result
-        (record {
-          sink = K.tells sink.old;
-          log = E.tells log.old;
-          store = F.tells store.old;
-          launcher = L.tells
-              launcher.old;
-          net = N.tells net.old;
-          kept = N.kept net.old;
-          port = N.port_asked net.old;
-        })
-        (record {
-          sink = K.tells sink.new;
-          log = E.tells log.new;
-          store = F.tells store.new;
-          launcher = L.tells
-              launcher.new;
-          net = N.tells net.new;
-          kept = N.kept net.new;
-          port = N.port_asked net.new;
-        }) }
+        (outside_of (K.tells sink.old) (E.tells log.old) (F.tells store.old) (L.tells launcher.old) (N.tells net.old)
+        (N.kept net.old) (N.port_asked net.old))
+        (outside_of (K.tells sink.new) (E.tells log.new) (F.tells store.new) (L.tells launcher.new) (N.tells net.new)
+        (N.kept net.new) (N.port_asked net.new)) }
     ensures law { ObeysNodeLaw
         (station_tells N.StationDoor.tells N.StationDial.tells N.StationLog.tells N.StationClock.tells
         N.StationGate.tells)
         (setup_of setup.now) result
-        (record {
-          sink = K.tells sink.old;
-          log = E.tells log.old;
-          store = F.tells store.old;
-          launcher = L.tells
-              launcher.old;
-          net = N.tells net.old;
-          kept = N.kept net.old;
-          port = N.port_asked net.old;
-        })
-        (record {
-          sink = K.tells sink.new;
-          log = E.tells log.new;
-          store = F.tells store.new;
-          launcher = L.tells
-              launcher.new;
-          net = N.tells net.new;
-          kept = N.kept net.new;
-          port = N.port_asked net.new;
-        }) }
+        (outside_of (K.tells sink.old) (E.tells log.old) (F.tells store.old) (L.tells launcher.old) (N.tells net.old)
+        (N.kept net.old) (N.port_asked net.old))
+        (outside_of (K.tells sink.new) (E.tells log.new) (F.tells store.new) (L.tells launcher.new) (N.tells net.new)
+        (N.kept net.new) (N.port_asked net.new)) }
     ensures completes { NodeCompletes
         (station_tells N.StationDoor.tells N.StationDial.tells N.StationLog.tells N.StationClock.tells
         N.StationGate.tells)
         (setup_of setup.now) result
-        (record {
-          sink = K.tells sink.old;
-          log = E.tells log.old;
-          store = F.tells store.old;
-          launcher = L.tells
-              launcher.old;
-          net = N.tells net.old;
-          kept = N.kept net.old;
-          port = N.port_asked net.old;
-        })
-        (record {
-          sink = K.tells sink.new;
-          log = E.tells log.new;
-          store = F.tells store.new;
-          launcher = L.tells
-              launcher.new;
-          net = N.tells net.new;
-          kept = N.kept net.new;
-          port = N.port_asked net.new;
-        }) }
+        (outside_of (K.tells sink.old) (E.tells log.old) (F.tells store.old) (L.tells launcher.old) (N.tells net.old)
+        (N.kept net.old) (N.port_asked net.old))
+        (outside_of (K.tells sink.new) (E.tells log.new) (F.tells store.new) (L.tells launcher.new) (N.tells net.new)
+        (N.kept net.new) (N.port_asked net.new)) }
     ensures commands { TellsCommands
         (station_tells N.StationDoor.tells N.StationDial.tells N.StationLog.tells N.StationClock.tells
         N.StationGate.tells)
         (setup_of setup.now) result
-        (record {
-          sink = K.tells sink.old;
-          log = E.tells log.old;
-          store = F.tells store.old;
-          launcher = L.tells
-              launcher.old;
-          net = N.tells net.old;
-          kept = N.kept net.old;
-          port = N.port_asked net.old;
-        })
-        (record {
-          sink = K.tells sink.new;
-          log = E.tells log.new;
-          store = F.tells store.new;
-          launcher = L.tells
-              launcher.new;
-          net = N.tells net.new;
-          kept = N.kept net.new;
-          port = N.port_asked net.new;
-        }) }
+        (outside_of (K.tells sink.old) (E.tells log.old) (F.tells store.old) (L.tells launcher.old) (N.tells net.old)
+        (N.kept net.old) (N.port_asked net.old))
+        (outside_of (K.tells sink.new) (E.tells log.new) (F.tells store.new) (L.tells launcher.new) (N.tells net.new)
+        (N.kept net.new) (N.port_asked net.new)) }
     ensures faults_kept { KeepsFaults
-        (record {
-          sink = K.tells sink.old;
-          log = E.tells log.old;
-          store = F.tells store.old;
-          launcher = L.tells
-              launcher.old;
-          net = N.tells net.old;
-          kept = N.kept net.old;
-          port = N.port_asked net.old;
-        })
-        (record {
-          sink = K.tells sink.new;
-          log = E.tells log.new;
-          store = F.tells store.new;
-          launcher = L.tells
-              launcher.new;
-          net = N.tells net.new;
-          kept = N.kept net.new;
-          port = N.port_asked net.new;
-        }) }
+        (outside_of (K.tells sink.old) (E.tells log.old) (F.tells store.old) (L.tells launcher.old) (N.tells net.old)
+        (N.kept net.old) (N.port_asked net.old))
+        (outside_of (K.tells sink.new) (E.tells log.new) (F.tells store.new) (L.tells launcher.new) (N.tells net.new)
+        (N.kept net.new) (N.port_asked net.new)) }
 {
     let mut steps = Steps::new();
     let ending = run_steps(rt, alloc, setup, sink, store, launcher, net, &mut steps);
@@ -195,8 +115,8 @@ where
     )
 }
 
-/// Makes the steps of a node, from its configuration to the line of its queue. A node that was run has made all of them,
-/// in the order of [`Step`] and each once.
+/// Makes the steps of a node, from its configuration to the line of its queue. A node that was run has made all of
+/// them, in the order of [`Step`] and each once.
 pub fn run_steps<H: Threads + Wait + Sync, K: Sink, F: Store, L: Launcher, N: Net>(
     rt: &H,
     alloc: Global,
@@ -215,24 +135,10 @@ where
         NodeEnds (station_tells N.StationDoor.tells N.StationDial.tells N.StationLog.tells N.StationClock.tells
         N.StationGate.tells) result
         (setup_of setup.now)
-        (record {
-          sink = K.tells sink.old;
-          log = log_before;
-          store = F.tells store.old;
-          launcher = L.tells launcher.old;
-          net = N.tells net.old;
-          kept = N.kept net.old;
-          port = N.port_asked net.old;
-        })
-        (record {
-          sink = K.tells sink.new;
-          log = log_after;
-          store = F.tells store.new;
-          launcher = L.tells launcher.new;
-          net = N.tells net.new;
-          kept = N.kept net.new;
-          port = N.port_asked net.new;
-        }) }
+        (outside_of (K.tells sink.old) log_before (F.tells store.old) (L.tells launcher.old) (N.tells net.old)
+        (N.kept net.old) (N.port_asked net.old))
+        (outside_of (K.tells sink.new) log_after (F.tells store.new) (L.tells launcher.new) (N.tells net.new)
+        (N.kept net.new) (N.port_asked net.new)) }
     ensures order { OnOk result (steps.new ≡ Some step.Line) }
     ensures sink_kept { (K.tells sink.old).faults ≤ (K.tells sink.new).faults }
     ensures store_kept { (F.tells store.old).faults ≤ (F.tells store.new).faults }
@@ -284,7 +190,7 @@ fn make_queue(
         (IsFaultOf setup.now.arena setup.now.slots (passes_for (setup_of setup.now) (conf_view conf.now))) }
 {
     let passes = count_passes(setup.options.workers, conf.requests.len());
-    Shared::create_keyed(alloc, setup.arena, setup.slots, passes, setup.secret)
+    Shared::create_keyed(alloc, setup.arena, setup.slots, passes, setup.key)
 }
 
 // Has the workers of the node work at their stations until all have stopped.

@@ -12,7 +12,7 @@ pub struct NodeSetup<'a> {
     /// What the node is told besides its configuration.
     pub options: NodeOptions,
     /// A number that no stranger knows, for the tables of the queue. No clause speaks of it.
-    pub secret: u64,
+    pub key: u64,
     /// The path of its configuration.
     pub conf: &'a str,
 }
