@@ -22,6 +22,7 @@ mod text;
 mod words;
 
 pub use fault::FeedFault;
+pub use names::NAMES;
 pub use reader::MOST_OPEN;
 pub use text::feed_text;
 

@@ -88,6 +88,33 @@ Completes r = (tail : List ℕ) × EndsField tail × Reads r tail
 abbrev pub Sound : {B : Type 0} → (Left → Result B ℕ) → Type 0
 Sound r = Explains r × Completes r
 
+-- ---- two readers that read the same tails stop alike
+
+module _ {A B : Type 0} (r : Left → Result A ℕ) (s : Left → Result B ℕ) (on : (tail : List ℕ) → Reads r tail → Reads s tail) (back : (tail : List ℕ) → Reads s tail → Reads r tail) where
+  stops_alike : (tail : List ℕ) (n : ℕ) → Stops r tail n → Stops s tail n
+  stops_alike tail n (inl w) = inl (record {
+    front = w.front;
+    wrong = w.wrong;
+    behind = w.behind;
+    split = w.split;
+    before = w.before;
+    solid = w.solid;
+    ends = w.ends;
+    left = w.left;
+    goes_on = (w.goes_on.0, on (w.front ++ 32 ∷ w.goes_on.0) w.goes_on.1);
+    stops = λ more ends h. w.stops more ends (back (w.front ++ 32 ∷ (w.wrong ++ more)) h);
+  })
+  stops_alike tail n (inr (inl l)) = inr (inl (record { left = l.left; goes_on = (l.goes_on.0, on (tail ++ 32 ∷ l.goes_on.0) l.goes_on.1) }))
+  stops_alike tail n (inr (inr m)) = inr (inr (record {
+    front = m.front;
+    surplus = m.surplus;
+    split = m.split;
+    before = m.before;
+    left = m.left;
+    whole = on m.front m.whole;
+    stops = λ more h. m.stops more (back (m.front ++ 32 ∷ more) h);
+  }))
+
 -- ---- readers that answer the same
 
 module _ {B : Type 0} (r s : Left → Result B ℕ) (same : (left : Left) → r left ≡ s left) where
@@ -98,28 +125,7 @@ module _ {B : Type 0} (r s : Left → Result B ℕ) (same : (left : Left) → r 
   reads_other tail h = (h.0, sym (same (left_of tail)) ∙ h.1)
 
   stops_same : (tail : List ℕ) (n : ℕ) → Stops s tail n → Stops r tail n
-  stops_same tail n (inl w) = inl (record {
-    front = w.front;
-    wrong = w.wrong;
-    behind = w.behind;
-    split = w.split;
-    before = w.before;
-    solid = w.solid;
-    ends = w.ends;
-    left = w.left;
-    goes_on = (w.goes_on.0, reads_same (w.front ++ 32 ∷ w.goes_on.0) w.goes_on.1);
-    stops = λ more ends h. w.stops more ends (reads_other (w.front ++ 32 ∷ (w.wrong ++ more)) h);
-  })
-  stops_same tail n (inr (inl l)) = inr (inl (record { left = l.left; goes_on = (l.goes_on.0, reads_same (tail ++ 32 ∷ l.goes_on.0) l.goes_on.1) }))
-  stops_same tail n (inr (inr m)) = inr (inr (record {
-    front = m.front;
-    surplus = m.surplus;
-    split = m.split;
-    before = m.before;
-    left = m.left;
-    whole = reads_same m.front m.whole;
-    stops = λ more h. m.stops more (reads_other (m.front ++ 32 ∷ more) h);
-  }))
+  stops_same = stops_alike s r reads_same reads_other
 
   pub sound_same : Sound s → Sound r
   sound_same sound = (
@@ -160,28 +166,7 @@ module _ {A B : Type 0} (g : A → B) (r : Left → Result A ℕ) where
   reads_unmade tail h = made_ok g (r (left_of tail)) h.0 h.1
 
   stops_made : (tail : List ℕ) (n : ℕ) → Stops r tail n → Stops (λ left. made g (r left)) tail n
-  stops_made tail n (inl w) = inl (record {
-    front = w.front;
-    wrong = w.wrong;
-    behind = w.behind;
-    split = w.split;
-    before = w.before;
-    solid = w.solid;
-    ends = w.ends;
-    left = w.left;
-    goes_on = (w.goes_on.0, reads_made (w.front ++ 32 ∷ w.goes_on.0) w.goes_on.1);
-    stops = λ more ends h. w.stops more ends (reads_unmade (w.front ++ 32 ∷ (w.wrong ++ more)) h);
-  })
-  stops_made tail n (inr (inl l)) = inr (inl (record { left = l.left; goes_on = (l.goes_on.0, reads_made (tail ++ 32 ∷ l.goes_on.0) l.goes_on.1) }))
-  stops_made tail n (inr (inr m)) = inr (inr (record {
-    front = m.front;
-    surplus = m.surplus;
-    split = m.split;
-    before = m.before;
-    left = m.left;
-    whole = reads_made m.front m.whole;
-    stops = λ more h. m.stops more (reads_unmade (m.front ++ 32 ∷ more) h);
-  }))
+  stops_made = stops_alike r (λ left. made g (r left)) reads_made reads_unmade
 
   pub sound_made : Sound r → Sound (λ left. made g (r left))
   sound_made sound = (

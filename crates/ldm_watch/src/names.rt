@@ -6,6 +6,7 @@ ghost use Rattle.ldm_feedtype.specs.Names.{feed_names as names_of_feeds};
 ghost use Rattle.ldm_watch.specs.FeedNames.{feeds_text, first_named, listed, member_name, members_text};
 
 use arrayvec::ArrayVec;
+use ldm_feedtype::NAMES;
 use ldm_script::put;
 use ldm_types::Feed;
 
@@ -72,55 +73,3 @@ fn first_named(mut rows: &[(&'static [u8], u32)], set: u32) -> Option<&'static [
     }
     None
 }
-
-// The names that `ldm_feedtype` reads.
-const NAMES: [(&'static [u8], u32); 48] = [
-    (b"NONE", 0),
-    (b"PPS", 1),
-    (b"DDS", 2),
-    (b"DOMESTIC", 2),
-    (b"DDPLUS", 3),
-    (b"HDS", 4),
-    (b"HRS", 4),
-    (b"IDS", 8),
-    (b"INTNL", 8),
-    (b"WMO", 15),
-    (b"SPARE", 16),
-    (b"UNIWISC", 32),
-    (b"MCIDAS", 32),
-    (b"UNIDATA", 47),
-    (b"EXP", 0x4000_0000),
-    (b"ANY", 0xffff_ffff),
-    (b"FT0", 0x1),
-    (b"FT1", 0x2),
-    (b"FT2", 0x4),
-    (b"FT3", 0x8),
-    (b"FT4", 0x10),
-    (b"FT5", 0x20),
-    (b"FT6", 0x40),
-    (b"FT7", 0x80),
-    (b"FT8", 0x100),
-    (b"FT9", 0x200),
-    (b"FT10", 0x400),
-    (b"FT11", 0x800),
-    (b"FT12", 0x1000),
-    (b"FT13", 0x2000),
-    (b"FT14", 0x4000),
-    (b"FT15", 0x8000),
-    (b"FT16", 0x0001_0000),
-    (b"FT17", 0x0002_0000),
-    (b"FT18", 0x0004_0000),
-    (b"FT19", 0x0008_0000),
-    (b"FT20", 0x0010_0000),
-    (b"FT21", 0x0020_0000),
-    (b"FT22", 0x0040_0000),
-    (b"FT23", 0x0080_0000),
-    (b"FT24", 0x0100_0000),
-    (b"FT25", 0x0200_0000),
-    (b"FT26", 0x0400_0000),
-    (b"FT27", 0x0800_0000),
-    (b"FT28", 0x1000_0000),
-    (b"FT29", 0x2000_0000),
-    (b"FT30", 0x4000_0000),
-    (b"FT31", 0x8000_0000),
-];

@@ -1,8 +1,7 @@
 -- The look-up in the program's table is the one in the definitions.
-use Rattle.std.proofs.Common.{◌≡◌, ◌∙◌, ℕ, List, Option, map, ap, refl}
-use Rattle.std.specs.Option.{option_copied}
+use Rattle.std.proofs.Common.{◌≡◌, ◌∙◌, ℕ, List, map, ap, refl}
 use Rattle.ldm_feedtype.specs.Names.{feed_names}
-use Rattle.ldm_watch.specs.declared.names.TheConstants.{NAMES}
+use Rattle.ldm_feedtype.specs.declared.names.TheConstants.{NAMES}
 use Rattle.ldm_watch.specs.FeedNames.{first_named}
 use Rattle.ldm_watch.proofs.Members.{short-name}
 use Rattle.ldm_watch.proofs.names.name_of.Goals as goal
