@@ -11,12 +11,12 @@ use Rattle.ldm_gather.specs.EachCourse.{Stage}
 use Rattle.ldm_gather.specs.EachEnds.{IfStopped}
 use Rattle.ldm_gather.specs.EachHandling.{EachHandles}
 use Rattle.ldm_gather.specs.EachRuns.{Situation, TakesIf, stage_in, within}
-use Rattle.ldm_gather.specs.Givens.{Given}
+use Rattle.ldm_shared.specs.Givens.{Given}
 use Rattle.ldm_gather.specs.Orders.{OrderView, asks_for}
 use Rattle.ldm_gather.specs.Runs.{Connects, lends}
 use Rattle.ldm_gather.specs.Taking.{Hands}
 use Rattle.ldm_gather.proofs.EachGathered.{gathered-all}
-use Rattle.ldm_gather.proofs.Using.{RowsStay}
+use Rattle.ldm_shared.proofs.Using.{RowsStay}
 
 module _ {T A : Type 0} (takes : Taken → Given → Hands T A → Hands T A → Type 0) where
   pub took-if : (law : RowsStay) (gathered : Option GatherEnd) (order : OrderView) (each left : Each T) (first last : PassView) (old new : Situation T A)

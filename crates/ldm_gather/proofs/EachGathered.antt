@@ -1,115 +1,32 @@
 -- What was taken over a whole gathering: piece by piece.
-use Rattle.std.proofs.Common.{◌≡◌, ◌∙◌, ℕ, ◌<◌, false, List, [], ◌∷◌, ◌++◌, map, Option, Some, None, inl, inr, ◌⊎◌, refl, sym, ap, subst, append_assoc}
+use Rattle.std.proofs.Common.{◌≡◌, ◌∙◌, ℕ, ◌<◌, false, List, [], ◌∷◌, ◌++◌, Option, Some, None, inl, inr, ◌⊎◌, refl, sym, ap, subst, append_assoc}
 use Rattle.std.specs.Option.{ForSome}
-use Rattle.std.proofs.lemmas.List.{append-nil, map-append}
-use Rattle.std.proofs.lemmas.List.Concat.{flat_map-append}
-use Rattle.ldm_model.specs.declared.event.Event.{Event}
-use Rattle.ldm_model.specs.declared.event.Event.TheVariants as event
-use Rattle.ldm_model.specs.declared.event.Reply.{Reply}
-use Rattle.ldm_model.specs.declared.event.Reply.TheVariants as reply
-use Rattle.ldm_model.specs.declared.event.Entry.{Entry}
+use Rattle.std.proofs.lemmas.List.{append-nil}
 use Rattle.ldm_shared.specs.Passes.{PassView}
-use Rattle.ldm_shared.proofs.Made.{calls_none, calls_trans}
 use Rattle.ldm_intake.specs.declared.end.RecvEnd.{RecvEnd}
 use Rattle.ldm_intake.specs.declared.end.RecvEnd.TheVariants.{Ended, Truncated, BadFrame, Refused, LinkFault, LogFault, StreamLimit, Worn, OutOfMemory}
 use Rattle.ldm_intake.specs.Receiving.{Receiving}
-use Rattle.ldm_intake.specs.TakesRecord.{stands}
 use Rattle.ldm_downstream.specs.Pieces.{Piece}
-use Rattle.ldm_downstream.specs.Pushing.{ClosesIf, EndsAt, PushesAt}
-use Rattle.ldm_downstream.specs.Received.{at_stream_end}
-use Rattle.ldm_downstream.specs.ReceiverView.{ReceiverView, before_stream}
+use Rattle.ldm_downstream.specs.ReceiverView.{before_stream}
 use Rattle.ldm_gather.specs.declared.end.GatherEnd.{GatherEnd}
 use Rattle.ldm_gather.specs.declared.end.GatherEnd.TheVariants as end
 use Rattle.ldm_gather.specs.declared.end.Handled.{Handled}
 use Rattle.ldm_gather.specs.declared.end.Handled.TheVariants as handled
-use Rattle.ldm_gather.specs.Gathering.{Asks, BeginsNot, Comes, EndsBy, EndsStream, GathersAll, Gathers, GoesOn, TakesPiece}
-use Rattle.ldm_gather.specs.Quiet.{AreQuiet, CallsQuietly, IsQuiet}
+use Rattle.ldm_gather.specs.Gathering.{Asks, BeginsNot, EndsBy, EndsStream, GathersAll, Gathers, GoesOn, TakesPiece}
+use Rattle.ldm_gather.specs.Quiet.{CallsQuietly}
 use Rattle.ldm_gather.specs.Scene.{Lent, GatherMoment, Scene, moment_of}
-use Rattle.ldm_gather.proofs.Cursors.{closes-quiet, pushes-quiet}
 use Rattle.ldm_gather.specs.declared.each.Each.{Each}
 use Rattle.ldm_gather.specs.declared.each.Stepped.TheVariants as stepped
 use Rattle.ldm_gather.specs.declared.taker.EachStop.{EachStop}
 use Rattle.ldm_gather.specs.declared.taker.Taken.{Taken}
-use Rattle.ldm_gather.specs.EachCourse.{AreCallsOf, Gives, Stage, TakesEach, stage_of, told, told_by}
+use Rattle.ldm_gather.specs.EachCourse.{Gives, Stage, TakesEach, stage_of}
 use Rattle.ldm_gather.specs.EachHandling.{EachHandles, tap_in}
-use Rattle.ldm_gather.specs.Givens.{Gave, Given, Lost, Turn, count_of, products_of, turn_reply}
+use Rattle.ldm_shared.specs.Givens.{Given, Turn, count_of, products_of}
 use Rattle.ldm_gather.specs.Stepping.{CountsOff, Sight, StepsBy, Tap, sight_of}
 use Rattle.ldm_gather.specs.Taking.{Hands, TakesAll, TakesLast, hands_of}
-use Rattle.ldm_gather.specs.Uses.{AreRows, AreUses, Uses, answer_by, step_answers}
-use Rattle.ldm_gather.proofs.StepTurns.{count_of-append, counts-enough, counts-none, counts-some, counts-then, took_then}
-use Rattle.ldm_gather.proofs.Using.{RowsStay, rows_then}
-
--- ---- calls and answers
-
-calls-append : (k : ℕ) (first second : List Entry) → AreCallsOf k first → AreCallsOf k second → AreCallsOf k (first ++ second)
-calls-append k [] second one two = two
-calls-append k (entry ∷ first) second one two = (one.0, calls-append k first second one.1 two)
-
-uses-calls : (k : ℕ) (called : List Entry) → AreUses k called → AreCallsOf k called
-uses-calls k [] uses = tt
-uses-calls k (entry ∷ called) uses = (inr uses.0, uses-calls k called uses.1)
-
-quiet-calls : (k : ℕ) (made : List Entry) → AreQuiet made → AreCallsOf k made
-quiet-calls k [] quiet = tt
-quiet-calls k (entry ∷ made) quiet = (inl quiet.0, quiet-calls k made quiet.1)
-
-quiet-answer : (e : Event) (answer : Reply) → IsQuiet e → answer_by e answer ≡ []
-quiet-answer (event.Step at) answer quiet = absurd (cc quiet)
-quiet-answer _ answer quiet = refl
-
-quiet-answers : (made : List Entry) → AreQuiet made → step_answers made ≡ []
-quiet-answers [] quiet = refl
-quiet-answers (entry ∷ made) quiet =
-    ap (λ (xs : List Reply). xs ++ step_answers made) (quiet-answer entry.event entry.reply quiet.0) ∙ quiet-answers made quiet.1
-
-told-turn : (turn : Turn) → told_by (turn_reply turn) ≡ turn_reply turn ∷ []
-told-turn (Lost count first last) = refl
-told-turn (Gave given) = refl
-
-told-turns : (turns : List Turn) → told (map turn_reply turns) ≡ map turn_reply turns
-told-turns [] = refl
-told-turns (turn ∷ turns) =
-    ap (λ (xs : List Reply). xs ++ told (map turn_reply turns)) (told-turn turn) ∙ ap (λ (xs : List Reply). turn_reply turn ∷ xs) (told-turns turns)
-
-told-end : (turns : List Turn) (at : ℕ) → told (map turn_reply turns ++ reply.End at ∷ []) ≡ map turn_reply turns
-told-end turns at = flat_map-append told_by (map turn_reply turns) (reply.End at ∷ []) ∙ (append-nil (told (map turn_reply turns)) ∙ told-turns turns)
-
-told-none : (turns : List Turn) → told (map turn_reply turns ++ []) ≡ map turn_reply turns
-told-none turns = ap told (append-nil (map turn_reply turns)) ∙ told-turns turns
-
--- ---- what was given, one after another
-
-gives-none : (k : ℕ) (pass after : PassView) → CallsQuietly pass after → Gives k [] pass after
-gives-none k pass after quietly = record {
-  called = quietly.made;
-  calls = quietly.calls;
-  are_calls = quiet-calls k quietly.made quietly.quiet;
-  answered = ap told (quiet-answers quietly.made quietly.quiet);
-  rows = tt;
-}
-
-gives-then : (law : RowsStay) (k : ℕ) (first second : List Turn) (a b c : PassView) → Gives k first a b → Gives k second b c → Gives k (first ++ second) a c
-gives-then law k first second a b c one two = record {
-  called = one.called ++ two.called;
-  calls = calls_trans a b c one.called two.called one.calls two.calls;
-  are_calls = calls-append k one.called two.called one.are_calls two.are_calls;
-  answered =
-      ap told (flat_map-append (λ (entry : Entry). answer_by entry.event entry.reply) one.called two.called)
-      ∙ (flat_map-append told_by (step_answers one.called) (step_answers two.called)
-      ∙ (ap (λ (xs : List Reply). xs ++ told (step_answers two.called)) one.answered ∙ (ap (λ (xs : List Reply). map turn_reply first ++ xs) two.answered
-      ∙ sym (map-append turn_reply first second))));
-  rows = rows_then law b c two.called first second two.calls one.rows two.rows;
-}
-
-gives-uses : (k : ℕ) (turns : List Turn) (answers : List Reply) (old new : PassView) → Uses k old new answers → told answers ≡ map turn_reply turns → AreRows new (products_of turns)
-    → Gives k turns old new
-gives-uses k turns answers old new uses is rows = record {
-  called = uses.called;
-  calls = uses.calls;
-  are_calls = uses-calls k uses.called uses.are_uses;
-  answered = ap told uses.answered ∙ is;
-  rows = rows;
-}
+use Rattle.ldm_gather.proofs.Giving.{closes-none, comes-quiet, gives-quiet, gives-then, gives-uses, live-at, quiet-none, told-end, told-none, told-turns}
+use Rattle.ldm_gather.proofs.StepTurns.{counts-enough, counts-none, counts-some, counts-then, took_then}
+use Rattle.ldm_shared.proofs.Using.{RowsStay, count_of-append}
 
 module _ {T A : Type 0} (takes : Taken → Given → Hands T A → Hands T A → Type 0) where
   abbrev H : Type 0
@@ -125,7 +42,7 @@ module _ {T A : Type 0} (takes : Taken → Given → Hands T A → Hands T A →
     counted : CountsOff left (count_of turns) after
 
   took-none : (k : ℕ) (left : Option ℕ) (old new : PassView) (h : H) → CallsQuietly old new → ForSome left (λ n. 0 < n) → Took k left left old new h h
-  took-none k left old new h quietly some = record { turns = []; gives = gives-none k old new quietly; taken = refl; counted = counts-none left some }
+  took-none k left old new h quietly some = record { turns = []; gives = gives-quiet k old new quietly; taken = refl; counted = counts-none left some }
 
   took-then : (law : RowsStay) (k : ℕ) (left mid after : Option ℕ) (a b c : PassView) (h i j : H) → Took k left mid a b h i → Took k mid after b c i j → Took k left after a c h j
   took-then law k left mid after a b c h i j one two = record {
@@ -210,15 +127,6 @@ module _ {T A : Type 0} (takes : Taken → Given → Hands T A → Hands T A →
   abbrev k_at : At → ℕ
   k_at at = at.scene.handler.reader.k
 
-  -- what was pushed calls the queue about no cursor
-  comes-quiet : (piece : Piece) (out notes : List ℕ) (old pushed : At) → old.receiver.end ≡ None → Comes piece out notes old pushed → CallsQuietly old.scene.pass pushed.scene.pass
-  comes-quiet piece out notes old pushed live comes =
-      let before = stands old.receiver.receiving old.scene.pass [] [] in
-      let after = stands pushed.receiver.receiving pushed.scene.pass out notes in
-      let at : PushesAt None piece old.receiver pushed.receiver before after =
-      subst (λ (e : Option RecvEnd). PushesAt e piece old.receiver pushed.receiver before after) live comes.pushes in
-      pushes-quiet pushed.receiver.end piece old.receiver.hand pushed.receiver.hand before after at.0
-
   -- the scene in which the handler was called
   told-scene : (piece : Piece) (answer : Handled) (old new : At) (took : TakesPiece (EachHandles takes) piece answer old new)
       → took.told.scene ≡ record old.scene { pass = took.pushed.scene.pass; log = took.told.scene.log }
@@ -263,16 +171,9 @@ module _ {T A : Type 0} (takes : Taken → Given → Hands T A → Hands T A →
         some = two.some;
       }
 
-  quiet-none : (pass : PassView) → CallsQuietly pass pass
-  quiet-none pass = record { made = []; calls = calls_none pass; quiet = tt }
-
   went-none : (old : At) → ForSome old.scene.handler.left (λ n. 0 < n) → Went old old
   went-none old some =
       record { took = took-none (k_at old) old.scene.handler.left old.scene.pass old.scene.pass (hands_at old) (quiet-none old.scene.pass) some; same = refl; some = some }
-
-  live-at : (pieces : List Piece) (old new : At) → old.receiver.end ≡ None → GoesOn (EachHandles takes) pieces old new → new.receiver.end ≡ None
-  live-at [] old new live goes = ap (λ (m : At). m.receiver.end) goes ∙ live
-  live-at (piece ∷ pieces) old new live goes = live-at pieces goes.0 new goes.1.live goes.2
 
   went : (law : RowsStay) (pieces : List Piece) (old new : At) → old.receiver.end ≡ None → ForSome old.scene.handler.left (λ n. 0 < n) → GoesOn (EachHandles takes) pieces old new → Went old new
   went law [] old new live some goes = subst (λ (m : At). Went old m) (sym goes) (went-none old some)
@@ -302,16 +203,6 @@ module _ {T A : Type 0} (takes : Taken → Given → Hands T A → Hands T A →
   over-end law e piece old last new live so_far took =
       let all = went-then law old last new so_far (went-piece law piece last new live so_far.some took) in
       received-all e (k_at old) (stage_at old) (stage_at new) all.took
-
-  closes-none : (e : RecvEnd) (receiver : ReceiverView) (pass after : PassView) → receiver.end ≡ None → EndsAt receiver.end e receiver pass after → CallsQuietly pass after
-  closes-none e receiver pass after live ends = by_close at_end.1
-    where
-      at_end : EndsAt None e receiver pass after
-      at_end = subst (λ (o : Option RecvEnd). EndsAt o e receiver pass after) live ends
-
-      by_close : ClosesIf false (at_stream_end receiver.hand receiver.receiving) e receiver.receiving at_end.0 pass after → CallsQuietly pass after
-      by_close (inl closed) = closes-quiet receiver.receiving at_end.0 pass after closed.1
-      by_close (inr kept) = record { made = []; calls = kept.1.calls; quiet = tt }
 
   stream-end : (law : RowsStay) (e : RecvEnd) (old last new : At) → last.receiver.end ≡ None → Went old last → EndsStream e last new → All (end.Received e) old new
   stream-end law e old last new live so_far ends =
@@ -401,5 +292,5 @@ module _ {T A : Type 0} (takes : Taken → Given → Hands T A → Hands T A →
       by_begin (inl asks) =
           let at : At = record first { link = asks.asked.link } in
           let gathers : Gathers (EachHandles takes) e at last = subst (λ (m : At). Gathers (EachHandles takes) e m last) asks.others asks.gathers in
-          ends-all law e at gathers.last last (live-at gathers.pieces at gathers.last refl gathers.goes_on) (went law gathers.pieces at gathers.last refl some gathers.goes_on) gathers.ends
+          ends-all law e at gathers.last last (live-at (EachHandles takes) gathers.pieces at gathers.last refl gathers.goes_on) (went law gathers.pieces at gathers.last refl some gathers.goes_on) gathers.ends
       by_begin (inr not) = begins-not law e first last some not

@@ -8,8 +8,8 @@ use Rattle.ldm_gather.specs.Gathering.{GoesOn, Steps}
 use Rattle.ldm_gather.specs.Scene.{KeepsGatherCounts, Lent, GatherMoment, Scene}
 use Rattle.ldm_gather.specs.Turning.{SameButCourse}
 
-pub same-then : (old mid new : PassView) → IsSamePass old mid → IsSamePass mid new → IsSamePass old new
-same-then old mid new first second = second ∙ ap (λ (pass : PassView). record pass { seen = new.seen }) first
+pub same_then : (old mid new : PassView) → IsSamePass old mid → IsSamePass mid new → IsSamePass old new
+same_then old mid new first second = second ∙ ap (λ (pass : PassView). record pass { seen = new.seen }) first
 
 pub same-course : (old mid new : Gatherer) → SameButCourse old mid → SameButCourse mid new → SameButCourse old new
 same-course old mid new first second =

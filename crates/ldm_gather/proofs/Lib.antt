@@ -5,8 +5,8 @@ mod Ending
 mod Caused
 mod Lasting
 mod Completing
-pub mod Using
 mod StepTurns
+pub mod Giving
 mod EachGathered
 mod Connected
 mod Opened

@@ -8,7 +8,7 @@ use Rattle.ldm_outside.proofs.CallerLemmas.{Rose-later, Takes-nothing, Takes-the
 use Rattle.ldm_shared.specs.Passes.{FindsWorn, IsSamePass, PassView}
 use Rattle.ldm_shared.specs.declared.reader.Held.{Held}
 use Rattle.ldm_shared.specs.Reader.{Holds}
-use Rattle.ldm_gather.proofs.Using.{same-then, uses_none, uses_then, uses_worn}
+use Rattle.ldm_shared.proofs.Using.{same_then, uses_none, uses_then, uses_worn}
 use Rattle.ldm_gather.specs.declared.body.WriteStop.{WriteStop}
 use Rattle.ldm_gather.specs.declared.body.WriteStop.TheVariants.{SinkFault, Worn}
 use Rattle.ldm_gather.specs.Writing.{Reads, Sight, WriteCause, Writes, WritesPart, part_of, sight_of}
@@ -67,7 +67,7 @@ pub body_goes_on : (k : ℕ) (held : Held) (offset given len : ℕ) (a b c : Sig
     → ((body : List ℕ) → Holds b.pass k held body → Reads (Ok tt) k (part_of held body (take given (drop offset body))) b c)
     → KeepsBody k held (offset + len) a c
 body_goes_on k held offset given len a b c so_far same long inside step = record {
-  same = same-then a.pass b.pass c.pass so_far.same same;
+  same = same_then a.pass b.pass c.pass so_far.same same;
   inside = inside;
   reads = λ body holds.
       let one = so_far.reads body holds in

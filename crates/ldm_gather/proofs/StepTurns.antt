@@ -21,16 +21,14 @@ use Rattle.ldm_gather.specs.declared.each.Each.{Each}
 use Rattle.ldm_gather.specs.declared.each.Stepped.{Stepped}
 use Rattle.ldm_gather.specs.declared.each.Stepped.TheVariants.{On, AtEnd, Enough, Stopped}
 use Rattle.ldm_gather.specs.EachHandling.{IsGoing, IsSameEach, tap_in}
-use Rattle.ldm_gather.specs.Givens.{Gave, Given, Lost, Turn, count_of, lines_of, products_of, turn_lines, turn_product, turn_reply}
+use Rattle.ldm_shared.specs.Givens.{Gave, Given, Lost, Turn, count_of, products_of, turn_product, turn_reply}
+use Rattle.ldm_gather.specs.Losses.{lines_of, turn_lines}
 use Rattle.ldm_gather.specs.Stepping.{Breaks, CountsOff, CountsOne, Does, DoesAll, IsEnd, Sight, Steps, StepsBy, StopCause, Tap, sight_of}
 use Rattle.ldm_gather.specs.Taking.{Hands, TakesAll}
-use Rattle.ldm_gather.specs.Uses.{Uses}
-use Rattle.ldm_gather.proofs.Using.{same-then, HasRowIn, RowsStay, row_stays, rows_then, uses_none, uses_release, uses_step, uses_then, uses_worn}
+use Rattle.ldm_shared.specs.Uses.{Uses}
+use Rattle.ldm_shared.proofs.Using.{HasRowIn, RowsStay, count_of-append, row_stays, rows_then, same_then, uses_none, uses_release, uses_step, uses_then, uses_worn}
 
 -- ---- counts
-
-pub count_of-append : (first second : List Turn) → count_of (first ++ second) ≡ count_of first + count_of second
-count_of-append first second = ap length (flat_map-append turn_product first second) ∙ length-append (products_of first) (products_of second)
 
 pub counts-then : (left mid after : Option ℕ) (n m : ℕ) → CountsOff left n mid → CountsOff mid m after → CountsOff left (n + m) after
 counts-then None None None n m one two = tt
@@ -362,7 +360,7 @@ module _ {T A : Type 0} (takes : Taken → Given → Hands T A → Hands T A →
 
   pub goes_on : (law : RowsStay) (tap : Tap) (a b c : Sight T A) → KeepsOn tap a b → IsSamePass b.pass c.pass → b.log.faults ≤ c.log.faults → Steps takes tap On b c → KeepsOn tap a c
   goes_on law tap a b c so_far same kept step = record {
-    same = same-then a.pass b.pass c.pass so_far.same same;
+    same = same_then a.pass b.pass c.pass so_far.same same;
     log_kept = omega (arith, so_far.log_kept, kept);
     some = counts-some b.left c.left (count_of step.turns) step.steps.1;
     turns = so_far.turns ++ step.turns;

@@ -12,7 +12,7 @@ use Rattle.ldm_gather.specs.declared.taker.EachStop.TheVariants.{ByTaker, LogFau
 use Rattle.ldm_gather.specs.EachCourse.{Stage, TakesEach, EndsInHand}
 use Rattle.ldm_gather.specs.EachHandling.{EachHandles}
 use Rattle.ldm_gather.specs.EachRuns.{GathersEach, Situation, TakesIf, each_at, given_by, given_if, in_hand_by, in_hand_if, stage_in, within}
-use Rattle.ldm_gather.specs.Givens.{Gave, Given, Lost, Turn, products_of}
+use Rattle.ldm_shared.specs.Givens.{Gave, Given, Lost, Turn, products_of}
 use Rattle.ldm_gather.specs.Orders.{OrderView}
 use Rattle.ldm_gather.specs.Runs as runs
 use Rattle.ldm_gather.specs.Scene.{Scene}

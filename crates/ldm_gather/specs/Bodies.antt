@@ -2,7 +2,7 @@
 use Rattle.std.specs.Prelude.{◌≡◌, ◌≤◌, ℕ, List, ◌++◌}
 use Rattle.std.specs.List.{flat_map}
 use Rattle.ldm_outside.specs.Io.{SinkRecord, Takes}
-use Rattle.ldm_gather.specs.Givens.{Given}
+use Rattle.ldm_shared.specs.Givens.{Given}
 use Rattle.ldm_gather.specs.Stepping.{IsFront}
 
 -- the bodies of products, one behind the other, with nothing between them

@@ -5,7 +5,7 @@ use Rattle.ldm_outside.specs.Count.{Rose}
 use Rattle.ldm_outside.specs.Io.{SinkRecord, Takes, WritesFront}
 use Rattle.ldm_gather.specs.declared.taker.Taken.{Taken}
 use Rattle.ldm_gather.specs.declared.taker.Taken.TheVariants.{On, Stopped, Worn}
-use Rattle.ldm_gather.specs.Givens.{Given}
+use Rattle.ldm_shared.specs.Givens.{Given}
 use Rattle.ldm_gather.specs.Taking.{Hands}
 use Rattle.ldm_gather.specs.declared.cat.Cat.{Cat}
 use Rattle.ldm_gather.specs.declared.cat_limits.TheConstants.{LARGEST_PIECE}

@@ -9,11 +9,11 @@ use Rattle.ldm_gather.specs.declared.end.GatherEnd.{GatherEnd}
 use Rattle.ldm_gather.specs.declared.end.GatherEnd.TheVariants.{Received, Enough, Stopped}
 use Rattle.ldm_gather.specs.declared.taker.EachStop.{EachStop}
 use Rattle.ldm_gather.specs.declared.taker.Taken.{Taken}
-use Rattle.ldm_gather.specs.Givens.{Given, Turn, count_of, products_of, turn_reply}
+use Rattle.ldm_shared.specs.Givens.{Given, Turn, count_of, products_of, turn_reply}
 use Rattle.ldm_gather.specs.Quiet.{IsQuiet}
 use Rattle.ldm_gather.specs.Stepping.{CountsOff}
 use Rattle.ldm_gather.specs.Taking.{Hands, TakesAll, TakesLast}
-use Rattle.ldm_gather.specs.Uses.{AreRows, IsUse, step_answers}
+use Rattle.ldm_shared.specs.Uses.{AreRows, IsUse, step_answers}
 
 -- calls of the receiving, which are about no cursor, and uses of the cursor at that place
 abbrev pub AreCallsOf : ℕ → List Entry → Type 0

@@ -9,7 +9,7 @@ use Rattle.ldm_gather.specs.declared.each.Stepped.{Stepped}
 use Rattle.ldm_gather.specs.declared.each.Stepped.TheVariants as stepped
 use Rattle.ldm_gather.specs.declared.taker.EachStop.{EachStop}
 use Rattle.ldm_gather.specs.declared.taker.Taken.{Taken}
-use Rattle.ldm_gather.specs.Givens.{Given}
+use Rattle.ldm_shared.specs.Givens.{Given}
 use Rattle.ldm_gather.specs.Scene.{Scene}
 use Rattle.ldm_gather.specs.Stepping.{Sight, Steps, Tap, sight_of, tap_of}
 use Rattle.ldm_gather.specs.Taking.{Hands, hands_of}

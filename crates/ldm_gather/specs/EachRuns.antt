@@ -17,7 +17,7 @@ use Rattle.ldm_gather.specs.declared.taker.Taken.{Taken}
 use Rattle.ldm_gather.specs.EachCourse.{Stage, TakesEach, stage_of}
 use Rattle.ldm_gather.specs.EachEnds.{IsEndOf}
 use Rattle.ldm_gather.specs.EachHandling.{EachHandles}
-use Rattle.ldm_gather.specs.Givens.{Given, products_of}
+use Rattle.ldm_shared.specs.Givens.{Given, products_of}
 use Rattle.ldm_gather.specs.Orders.{IsAsking, OrderView, order_view}
 use Rattle.ldm_gather.specs.Queue.{Opens}
 use Rattle.ldm_gather.specs.Runs as runs

@@ -7,8 +7,7 @@ pub mod Queue
 pub mod Runs
 pub mod Turning
 pub mod Quiet
-pub mod Givens
-pub mod Uses
+pub mod Losses
 pub mod Taking
 pub mod Stepping
 pub mod EachHandling

@@ -12,9 +12,10 @@ use Rattle.ldm_gather.specs.declared.taker.EachStop.{EachStop}
 use Rattle.ldm_gather.specs.declared.taker.EachStop.TheVariants.{ByTaker, LogFault, Worn}
 use Rattle.ldm_gather.specs.declared.each.Stepped.{Stepped}
 use Rattle.ldm_gather.specs.declared.each.Stepped.TheVariants.{On, AtEnd, Enough, Stopped}
-use Rattle.ldm_gather.specs.Givens.{Given, Turn, count_of, lines_of, products_of, turn_reply}
+use Rattle.ldm_shared.specs.Givens.{Given, Turn, count_of, products_of, turn_reply}
+use Rattle.ldm_gather.specs.Losses.{lines_of}
 use Rattle.ldm_gather.specs.Taking.{Hands, TakesAll, TakesLast}
-use Rattle.ldm_gather.specs.Uses.{AreRows, Uses}
+use Rattle.ldm_shared.specs.Uses.{AreRows, Uses}
 
 -- How many products are left to be given, where there is a count; the taker with what it is lent; the pass; and the log.
 pub record Sight (T A : Type 0) : Type 0 where

@@ -7,7 +7,7 @@ use Rattle.ldm_gather.specs.declared.taker.Taken.{Taken}
 use Rattle.ldm_gather.specs.declared.taker.Taken.TheVariants as taken
 use Rattle.ldm_gather.specs.declared.taker.EachStop.{EachStop}
 use Rattle.ldm_gather.specs.declared.taker.EachStop.TheVariants.{ByTaker, LogFault, Worn}
-use Rattle.ldm_gather.specs.Givens.{Given, Gave, Lost, Turn}
+use Rattle.ldm_shared.specs.Givens.{Gave, Given, Lost, Turn}
 
 -- A taker, and what it is lent.
 pub record Hands (T A : Type 0) : Type 0 where

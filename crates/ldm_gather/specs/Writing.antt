@@ -6,7 +6,7 @@ use Rattle.ldm_shared.specs.declared.steps.TheConstants.{MOST_TURNS}
 use Rattle.ldm_shared.specs.Passes.{PassView}
 use Rattle.ldm_shared.specs.declared.reader.Held.{Held}
 use Rattle.ldm_shared.specs.Reader.{Holds}
-use Rattle.ldm_gather.specs.Uses.{Uses}
+use Rattle.ldm_shared.specs.Uses.{Uses}
 use Rattle.ldm_gather.specs.declared.body.WriteStop.{WriteStop}
 use Rattle.ldm_gather.specs.declared.body.WriteStop.TheVariants.{SinkFault, Worn}
 

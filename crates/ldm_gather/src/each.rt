@@ -13,7 +13,7 @@ use crate::order::Asking;
 use crate::taker::{EachStop, Taken, Taker};
 use ldm_outside::Sink;
 use ldm_session::write_gap;
-use ldm_shared::{Came, Pass, Reader, Shared, Turn, products_stay};
+use ldm_shared::{Came, Pass, Reader, Shared, Turn, count_off, products_stay};
 use std::sync::Wait;
 
 // What a step of the cursor came to, and what followed it.
@@ -45,16 +45,10 @@ fn count_one(left: &mut Option<u64>) -> Stepped
     requires { ForSome left.old (λ n. 0 < n) }
     ensures { CountsOne result left.old left.new }
 {
+    count_off(left);
     match left {
-        None => Stepped::On,
-        Some(n) => {
-            *n -= 1;
-            if *n == 0 {
-                Stepped::Enough
-            } else {
-                Stepped::On
-            }
-        }
+        Some(0) => Stepped::Enough,
+        Some(_) | None => Stepped::On,
     }
 }
 

@@ -31,9 +31,9 @@ pub enum EachStop {
 /// What takes the products that a cursor gives, one at a time. It is lent something of the caller's, such as what it
 /// writes to. One who needs nothing takes `()`.
 pub trait Taker<A> {
-    ghost use Rattle.ldm_gather.specs.Givens.{Given};
+    ghost use Rattle.ldm_shared.specs.Givens.{Given};
     ghost use Rattle.ldm_gather.specs.Taking.{Hands, IfTaken, IsTakenWorn, given_of, hands_of};
-    ghost use Rattle.ldm_gather.specs.Uses.{Uses};
+    ghost use Rattle.ldm_shared.specs.Uses.{Uses};
     ghost use Rattle.ldm_gather.specs.declared.taker.Taken.{Taken};
 
     /// What has to hold before a call, of it and of what it is lent.

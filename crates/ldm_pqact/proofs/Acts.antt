@@ -6,10 +6,10 @@ use Rattle.ldm_outside.proofs.CallerLemmas.{Rose-later, Takes-nothing, Takes-the
 use Rattle.ldm_pqact.specs.declared.end.ActEnd.{ActEnd}
 use Rattle.ldm_pqact.specs.declared.end.ActEnd.TheVariants as end
 use Rattle.ldm_pqact.specs.Acting.{Breaks, Does, EndsSo, LogCount, LogsFront, Sight}
-use Rattle.ldm_pqact.specs.Uses.{Uses}
+use Rattle.ldm_shared.specs.Uses.{Uses}
 use Rattle.ldm_pqact.specs.Work.{Parted, Work, no_work, only_in_hand, product_work, replies_of, work_then}
 use Rattle.ldm_pqact.proofs.Carrying.{Deed, breaks_off_before, breaks_off_behind, breaks_off_then, stands_then, stands_none}
-use Rattle.ldm_pqact.proofs.Using.{uses_then, uses_none}
+use Rattle.ldm_shared.proofs.Using.{uses_none, uses_then}
 
 pub does_none : (k : ℕ) (now : Sight) → Does k no_work now now
 does_none k now = record {

@@ -18,7 +18,7 @@ use Rattle.ldm_shared.specs.Passes.{PassView, Calls, Grows}
 use Rattle.ldm_shared.proofs.Made.{calls_some, calls_trans}
 use Rattle.ldm_shared.specs.Reader.{HasCursor}
 use Rattle.ldm_session.specs.Exchange.{IdledAll}
-use Rattle.ldm_sender.proofs.Steps.{RowsStay}
+use Rattle.ldm_shared.proofs.Using.{RowsStay, rows_stay}
 use Rattle.ldm_pqact_conf.specs.Entries.{EntryView}
 use Rattle.ldm_actions.specs.declared.answers.Done.{Done}
 use Rattle.ldm_actions.specs.declared.answers.Done.TheVariants as done
@@ -33,11 +33,10 @@ use Rattle.ldm_pqact.specs.Acted.{ActCause, ActsOpened, IsEndAfter, KeepsActCoun
 use Rattle.ldm_pqact.specs.Acting.{CauseOf, EndsSo, KeepsCursor, LogCount, Sight, sight_of}
 use Rattle.ldm_pqact.specs.Carried.{Carries, Faulted, LauncherCount, StoreCount}
 use Rattle.ldm_pqact.specs.Course.{Follows, Gated, Stretch, course_work, gated_of, goes_of, turns_of}
-use Rattle.ldm_pqact.specs.Turns.{products_in}
-use Rattle.ldm_pqact.specs.Uses.{Uses}
+use Rattle.ldm_shared.specs.Givens.{products_of}
+use Rattle.ldm_shared.specs.Uses.{Uses}
 use Rattle.ldm_pqact.specs.Work.{Parted, replies_of}
 use Rattle.ldm_pqact.proofs.Carrying.{Deed}
-use Rattle.ldm_pqact.proofs.Coursing.{rows_stay}
 
 -- ---- counts
 
@@ -257,7 +256,7 @@ module _ (law : RowsStay) (entries : List EntryView) (k : ℕ) (old new : Situat
         cause = cause;
         is_in_hand = follows.is_in_hand;
         uses = uses_opened why k old.pass p1 p2 new.pass _ opened ends.uses closing;
-        rows = rows_stay law p2 new.pass (closing_calls why p2.actor k) (flat_map products_in (turns_of follows.course)) closing follows.rows;
+        rows = rows_stay law p2 new.pass (closing_calls why p2.actor k) (products_of (turns_of follows.course)) closing follows.rows;
         carries = record { mid = mid; carried = ends.carried; left = left; closes = closes };
         stands = stands;
         logged = ends.logged;

@@ -20,8 +20,9 @@ use Rattle.ldm_pqact.specs.Acting.{ActsOn, Does, IsInHand, Sight}
 use Rattle.ldm_pqact.specs.Carried.{Faulted}
 use Rattle.ldm_pqact.specs.Complete.{ActCompletes, ActsOnAll, ActsToTheEnd, Completes}
 use Rattle.ldm_pqact.specs.Course.{Stretch, course_work, goes_of, stretch_replies, turns_in}
-use Rattle.ldm_pqact.specs.Turns.{Turn, deeds_of, lines_of, products_in, turn_deeds, turn_lines, turn_reply}
-use Rattle.ldm_pqact.specs.Uses.{AreRows}
+use Rattle.ldm_shared.specs.Givens.{Turn, products_of, turn_reply}
+use Rattle.ldm_pqact.specs.Turns.{deeds_of, lines_of, turn_deeds, turn_lines}
+use Rattle.ldm_shared.specs.Uses.{AreRows}
 use Rattle.ldm_pqact.specs.Work.{replies_of, with_answers, work_of}
 use Rattle.ldm_pqact.proofs.Stretches.{flat_map-one_more, stopped_rows}
 
@@ -92,7 +93,7 @@ to_the_end entries old new acts =
       last = last;
       uses = subst (λ (xs : List Reply). UsesOpened end.Stopped acts.k old.pass new.pass xs) answers uses;
       rows =
-          subst (λ (ts : List Turn). AreRows new.pass (flat_map products_in ts))
+          subst (λ (ts : List Turn). AreRows new.pass (products_of ts))
           (ap (λ (ts : List Turn). turns_in course.stretches ++ (run.turns ++ ts)) none
           ∙ (ap (λ (ts : List Turn). turns_in course.stretches ++ ts) (append-nil run.turns) ∙ sym turns)) acts.rows;
       stands = acts.stands ∙ ap (λ ds. closed (effects ds (world_at old))) deeds;

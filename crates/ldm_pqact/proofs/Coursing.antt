@@ -2,28 +2,26 @@
 use Rattle.std.proofs.Common.{◌≡◌, ◌∙◌, ℕ, ◌≤◌, List, [], ◌∷◌, ◌++◌, None, Result, Ok, Err, refl, sym, ap, subst, append_assoc, append-nil, arith}
 use Rattle.std.proofs.lemmas.List.{map-append}
 use Rattle.std.proofs.lemmas.List.Concat.{flat_map-append}
-use Rattle.std.specs.List.{flat_map}
 use Rattle.ldm_model.specs.declared.event.Event.TheVariants as event
 use Rattle.ldm_model.specs.declared.event.Reply.{Reply}
 use Rattle.ldm_model.specs.declared.event.Reply.TheVariants as reply
-use Rattle.ldm_model.specs.declared.event.Entry.{Entry}
 use Rattle.ldm_outside.specs.Count.{Rose}
 use Rattle.ldm_outside.specs.Io.{SinkRecord, Takes, WritesFront}
 use Rattle.ldm_outside.proofs.CallerLemmas.{Takes-nothing}
-use Rattle.ldm_shared.specs.Passes.{PassView, Calls, FindsWorn, Grows, IsSamePass}
+use Rattle.ldm_shared.specs.Passes.{PassView, FindsWorn, Grows, IsSamePass}
 use Rattle.ldm_shared.specs.Reader.{HasCursor}
-use Rattle.ldm_sender.proofs.Steps.{HasRowIn, HasRowIn-stays, RowsStay, same_then}
+use Rattle.ldm_shared.proofs.Using.{HasRowIn, RowsStay, row_stays, rows_then, same_then, uses_step, uses_worn}
 use Rattle.ldm_pqact_conf.specs.Entries.{EntryView}
 use Rattle.ldm_actions.specs.Outputs.{KeepsUnlessSpent, Standing}
 use Rattle.ldm_pqact.specs.declared.end.ActEnd.{ActEnd}
 use Rattle.ldm_pqact.specs.declared.end.ActEnd.TheVariants as end
 use Rattle.ldm_pqact.specs.Acting.{ActsOn, ActsSome, Breaks, CauseOf, Does, EndsSo, HandlesBy, IsInHand, LogsFront, Sight, TurnsBy, last_answer, parted_of, sight_of}
-use Rattle.ldm_pqact.specs.Turns.{Gave, Given, Lost, Turn, deeds_for, products_in, turn_deeds, turn_lines, turn_reply}
-use Rattle.ldm_pqact.specs.Uses.{AreRows, Uses}
+use Rattle.ldm_shared.specs.Givens.{Gave, Given, Lost, Turn, products_of, turn_reply}
+use Rattle.ldm_pqact.specs.Turns.{deeds_for, turn_deeds, turn_lines}
+use Rattle.ldm_shared.specs.Uses.{AreRows, Uses}
 use Rattle.ldm_pqact.specs.Work.{Parted, Work, no_work, only_in_hand, product_work, replies_of, with_answers, work_of, work_then}
 use Rattle.ldm_pqact.proofs.Acts.{breaks_behind, breaks_then, broken, does_none, does_then, front_none, front_of}
 use Rattle.ldm_pqact.proofs.Carrying.{Deed, breaks_off_here, stands_none}
-use Rattle.ldm_pqact.proofs.Using.{uses_step, uses_worn}
 
 -- ---- the same, put otherwise
 
@@ -39,23 +37,6 @@ work_of-append : (entries : List EntryView) (one two : List Turn) → work_then 
 work_of-append entries one two =
     work_same (work_then (work_of entries one) (work_of entries two)) (work_of entries (one ++ two)) (sym (map-append turn_reply one two))
     (sym (flat_map-append (turn_deeds entries) one two)) (sym (flat_map-append (turn_lines entries) one two))
-
--- ---- rows stay
-
-pub rows_stay : (law : RowsStay) (old new : PassView) (made : List Entry) (givens : List Given) → Calls old new made → AreRows old givens → AreRows new givens
-rows_stay law old new made [] calls are = tt
-rows_stay law old new made (given ∷ givens) calls are =
-    (HasRowIn-stays law old new made given.n given.product given.time calls are.0, rows_stay law old new made givens calls are.1)
-
-rows-append : (pass : PassView) (first second : List Given) → AreRows pass first → AreRows pass second → AreRows pass (first ++ second)
-rows-append pass [] second one two = two
-rows-append pass (given ∷ first) second one two = (one.0, rows-append pass first second one.1 two)
-
-pub rows_then : (law : RowsStay) (old new : PassView) (made : List Entry) (first second : List Turn) → Calls old new made → AreRows old (flat_map products_in first)
-    → AreRows new (flat_map products_in second) → AreRows new (flat_map products_in (first ++ second))
-rows_then law old new made first second calls one two =
-    subst (AreRows new) (sym (flat_map-append products_in first second))
-    (rows-append new (flat_map products_in first) (flat_map products_in second) (rows_stay law old new made (flat_map products_in first) calls one) two)
 
 -- ---- one after another
 
@@ -110,7 +91,7 @@ on_then law why entries k a b c one two =
           subst (λ (w : Work). EndsSo why k (record { whole = w; in_hand = later.in_hand }) a c) (work_of-append entries one.turns run.turns)
           (ends_then k (work_of entries one.turns) later a b c one.does why two.ends);
       rows =
-          subst (λ (ts : List Turn). AreRows c.pass (flat_map products_in ts)) (sym (append_assoc one.turns run.turns run.in_hand))
+          subst (λ (ts : List Turn). AreRows c.pass (products_of ts)) (sym (append_assoc one.turns run.turns run.in_hand))
           (rows_then law b.pass c.pass uses.called one.turns (run.turns ++ run.in_hand) uses.calls one.rows two.rows);
     }
 
@@ -231,7 +212,7 @@ gave law (Ok gone) entries k given old mid new a b log log' grows row handled =
           (sym (append-nil (turn_lines entries turn))))
           (does_then k (with_answers no_work (turn_reply turn ∷ [])) asked (sight_of old a log) (sight_of mid a log) (sight_of new b log')
           (stepped k old mid a log (turn_reply turn) grows) handled.does);
-      rows = (HasRowIn-stays law mid new handled.does.uses.called given.n given.product given.time handled.does.uses.calls row, tt);
+      rows = (row_stays law mid new handled.does.uses.called given.n given.product given.time handled.does.uses.calls row, tt);
       cursor = handled.cursor;
     }
 gave law (Err why) entries k given old mid new a b log log' grows row broke =
@@ -248,7 +229,7 @@ gave law (Err why) entries k given old mid new a b log log' grows row broke =
           (sym (no_more why 0 (turn_reply turn) within)) (sym (append-nil (deeds_for entries given))) (sym (append-nil (turn_lines entries turn))))
           (breaks_behind why k (with_answers no_work (turn_reply turn ∷ [])) asked (sight_of old a log) (sight_of mid a log) (sight_of new b log')
           (stepped k old mid a log (turn_reply turn) grows) broke));
-      rows = (HasRowIn-stays law mid new broke.uses.called given.n given.product given.time broke.uses.calls row, tt);
+      rows = (row_stays law mid new broke.uses.called given.n given.product given.time broke.uses.calls row, tt);
     }
 
 -- ---- the loop

@@ -5,7 +5,6 @@ use Rattle.ldm_outside.specs.Io.{SinkRecord}
 use Rattle.ldm_outside.proofs.CallerLemmas.{Takes-nothing}
 use Rattle.ldm_shared.specs.Passes.{PassView, IsSamePass}
 use Rattle.ldm_shared.specs.Reader.{HasCursor}
-use Rattle.ldm_sender.proofs.Steps.{same_then}
 use Rattle.ldm_pqact_match.specs.declared.chosen.Chosen.{Chosen}
 use Rattle.ldm_actions.specs.declared.answers.Begun.{Begun}
 use Rattle.ldm_actions.specs.declared.answers.Done.{Done}
@@ -19,12 +18,12 @@ use Rattle.ldm_pqact.specs.Acting.{Breaks, Does, LogCount}
 use Rattle.ldm_pqact.specs.Carried.{BreaksOff, Stands}
 use Rattle.ldm_pqact.specs.Handling.{Bodied, DoesAll, DoesHeld, Giving, IsHeld, Lent, ReadsAll, ReadsPart, WritesNoLog, begun_result, bodied, done_result, lent, takes_body, with_log}
 use Rattle.ldm_pqact.specs.Turns.{deed_by, deeds_by}
-use Rattle.ldm_pqact.specs.Uses.{Uses}
+use Rattle.ldm_shared.specs.Uses.{Uses}
 use Rattle.ldm_pqact.specs.Work.{only_in_hand, product_work}
 use Rattle.ldm_pqact.proofs.Acts.{breaks_before, breaks_behind, does_none, does_then, front_none}
 use Rattle.ldm_pqact.proofs.Carrying.{Deed}
 use Rattle.ldm_pqact.proofs.Giving.{BeganResult, Began, IsOfOutputs, Whole, begins, breaks_in_body, finishes, gives_no_body, has_body}
-use Rattle.ldm_pqact.proofs.Using.{uses_none}
+use Rattle.ldm_shared.proofs.Using.{same_then, uses_none}
 
 -- what was done with files and programs, and the log was left alone
 done_so : (k : ℕ) (old new : Lent) (deeds : List Deed) (log : SinkRecord) → Uses k old.pass new.pass [] → Stands deeds old.standing new.standing

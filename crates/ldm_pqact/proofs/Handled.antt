@@ -17,7 +17,7 @@ use Rattle.ldm_pqact.specs.Turns.{deeds_by}
 use Rattle.ldm_pqact.specs.Work.{Work, no_work, only_in_hand, product_work, work_then}
 use Rattle.ldm_pqact.proofs.Acts.{breaks_behind, does_then, front_none, front_of}
 use Rattle.ldm_pqact.proofs.Carrying.{Deed, breaks_off_here, stands_none}
-use Rattle.ldm_pqact.proofs.Using.{uses_none, uses_release, uses_worn}
+use Rattle.ldm_shared.proofs.Using.{uses_none, uses_release, uses_worn}
 
 -- its lines were not logged, or in part; and nothing else was done
 pub handled_unnoted : (why : ActEnd) (entries : List EntryView) (holding : Holding) (body : List ℕ) (now : Lent) (log log' : SinkRecord) → IsHeld now.pass holding body

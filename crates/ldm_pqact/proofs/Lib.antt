@@ -1,5 +1,4 @@
 pub mod Carrying
-pub mod Using
 pub mod Counting
 pub mod Acts
 pub mod Giving

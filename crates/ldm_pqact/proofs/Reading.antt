@@ -3,7 +3,6 @@ use Rattle.std.proofs.Common.{◌≡◌, ℕ, ◌+◌, ◌≤◌, List, [], take
 use Rattle.std.proofs.Math.Seq.{take-add}
 use Rattle.std.proofs.lemmas.List.{take-append-drop, take_all}
 use Rattle.ldm_shared.specs.Passes.{IsSamePass}
-use Rattle.ldm_sender.proofs.Steps.{same_then}
 use Rattle.ldm_actions.specs.declared.answers.Done.{Done}
 use Rattle.ldm_actions.specs.declared.answers.Done.TheVariants as done
 use Rattle.ldm_actions.specs.Effects.{InHand}
@@ -11,9 +10,9 @@ use Rattle.ldm_actions.specs.Outputs.{Gives, HasInHand, KeepsUnlessSpent}
 use Rattle.ldm_pqact.specs.declared.end.ActEnd.{ActEnd}
 use Rattle.ldm_pqact.specs.declared.holding.Holding.{Holding}
 use Rattle.ldm_pqact.specs.Handling.{GivesAll, GivesPart, Giving, IsHeld, Lent, Reads, ReadsAll, ReadsPart, done_result, giving_of}
-use Rattle.ldm_pqact.specs.Uses.{Uses}
+use Rattle.ldm_shared.specs.Uses.{Uses}
 use Rattle.ldm_pqact.proofs.Giving.{gives_nothing, gives_part_before, gives_part_then, gives_piece, gives_then}
-use Rattle.ldm_pqact.proofs.Using.{uses_none, uses_then}
+use Rattle.ldm_shared.proofs.Using.{same_then, uses_none, uses_then}
 
 -- a piece was read, and given or not
 read_piece : (result : Done) (it : Giving) (bytes : List ℕ) (old new : Lent) → Uses it.of.holding.reader.k old.pass new.pass []

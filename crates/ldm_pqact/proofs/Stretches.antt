@@ -9,18 +9,19 @@ use Rattle.ldm_shared.specs.Passes.{IsSamePass, PassView}
 use Rattle.ldm_shared.specs.Reader.{HasCursor}
 use Rattle.ldm_session.specs.Exchange.{IdledAll}
 use Rattle.ldm_session.proofs.CallerLemmas.{IdledAll-one, IdledAll-then}
-use Rattle.ldm_sender.proofs.Steps.{RowsStay, same_then}
+use Rattle.ldm_shared.proofs.Using.{RowsStay, rows_then, same_then}
 use Rattle.ldm_pqact_conf.specs.Entries.{EntryView}
 use Rattle.ldm_actions.specs.Outputs.{KeepsUnlessSpent}
 use Rattle.ldm_pqact.specs.declared.end.ActEnd.{ActEnd}
 use Rattle.ldm_pqact.specs.declared.end.ActEnd.TheVariants as end
 use Rattle.ldm_pqact.specs.Acting.{ActsOn, Does, Run, Sight, last_answer, parted_of}
 use Rattle.ldm_pqact.specs.Course.{Follows, Gated, Stretch, gated_of, last_go, stretch_replies, turns_in, work_in}
-use Rattle.ldm_pqact.specs.Turns.{Turn, deeds_of, lines_of, products_in, turn_deeds, turn_lines, turn_reply}
-use Rattle.ldm_pqact.specs.Uses.{AreRows}
+use Rattle.ldm_shared.specs.Givens.{Turn, products_of, turn_reply}
+use Rattle.ldm_pqact.specs.Turns.{deeds_of, lines_of, turn_deeds, turn_lines}
+use Rattle.ldm_shared.specs.Uses.{AreRows}
 use Rattle.ldm_pqact.specs.Work.{Work, with_answers, work_of, work_then}
 use Rattle.ldm_pqact.proofs.Acts.{does_none, does_then}
-use Rattle.ldm_pqact.proofs.Coursing.{called_at, ends_then, rows_then, work_same}
+use Rattle.ldm_pqact.proofs.Coursing.{called_at, ends_then, work_same}
 
 pub flat_map-one_more : {A B : Type 0} (f : A → List B) (xs : List A) (x : A) → flat_map f (xs ++ x ∷ []) ≡ flat_map f xs ++ f x
 flat_map-one_more {B = B} f xs x = flat_map-append f xs (x ∷ []) ∙ ap (λ (ys : List B). flat_map f xs ++ ys) (append-nil (f x))
@@ -31,7 +32,7 @@ pub record KeepsStretches (entries : List EntryView) (k : ℕ) (old new : Gated)
   pub keeps : KeepsUnlessSpent new.sight.standing
   pub stretches : List Stretch
   pub does : Does k (work_in entries stretches) old.sight new.sight
-  pub rows : AreRows new.sight.pass (flat_map products_in (turns_in stretches))
+  pub rows : AreRows new.sight.pass (products_of (turns_in stretches))
   pub idled : IdledAll (map (λ (stretch : Stretch). go.On) stretches) old.gate new.gate
   pub cursor : HasCursor new.sight.pass k None
 
@@ -48,13 +49,13 @@ stretches_begin entries k now gate cursor keeps = record {
 }
 
 -- at the end of the queue all turns are whole
-pub stopped_rows : (pass : PassView) (run : Run) → run.in_hand ≡ [] → AreRows pass (flat_map products_in (run.turns ++ run.in_hand)) → AreRows pass (flat_map products_in run.turns)
+pub stopped_rows : (pass : PassView) (run : Run) → run.in_hand ≡ [] → AreRows pass (products_of (run.turns ++ run.in_hand)) → AreRows pass (products_of run.turns)
 stopped_rows pass run none rows =
-    subst (λ (ts : List Turn). AreRows pass (flat_map products_in ts)) (ap (λ (ts : List Turn). run.turns ++ ts) none ∙ append-nil run.turns) rows
+    subst (λ (ts : List Turn). AreRows pass (products_of ts)) (ap (λ (ts : List Turn). run.turns ++ ts) none ∙ append-nil run.turns) rows
 
 module _ (law : RowsStay) (entries : List EntryView) (k : ℕ) (a b c : Gated) (so_far : KeepsStretches entries k a b) where
-  rows_behind : (why : ActEnd) (acts : ActsOn why entries k b.sight c.sight) (turns : List Turn) → AreRows c.sight.pass (flat_map products_in turns)
-      → AreRows c.sight.pass (flat_map products_in (turns_in so_far.stretches ++ turns))
+  rows_behind : (why : ActEnd) (acts : ActsOn why entries k b.sight c.sight) (turns : List Turn) → AreRows c.sight.pass (products_of turns)
+      → AreRows c.sight.pass (products_of (turns_in so_far.stretches ++ turns))
   rows_behind why acts turns rows =
       let uses = called_at why k _ b.sight c.sight acts.ends in
       rows_then law b.sight.pass c.sight.pass uses.called (turns_in so_far.stretches) turns uses.calls so_far.rows rows

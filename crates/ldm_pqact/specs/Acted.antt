@@ -27,8 +27,8 @@ use Rattle.ldm_pqact.specs.declared.limits.TheConstants.{EVERY_FEEDTYPE}
 use Rattle.ldm_pqact.specs.Acting.{IsInHand, LogCount, LogsFront}
 use Rattle.ldm_pqact.specs.Carried.{Carries, world_in}
 use Rattle.ldm_pqact.specs.Course.{Course, course_work, goes_of, turns_of}
-use Rattle.ldm_pqact.specs.Turns.{products_in}
-use Rattle.ldm_pqact.specs.Uses.{AreRows, AreUses, step_answers}
+use Rattle.ldm_shared.specs.Givens.{products_of}
+use Rattle.ldm_shared.specs.Uses.{AreRows, AreUses, step_answers}
 use Rattle.ldm_pqact.specs.Work.{Parted, replies_of}
 
 -- The pass, and what all that is lent tells.
@@ -126,7 +126,7 @@ pub record ActsOpened (why : ActEnd) (entries : List EntryView) (old new : Situa
   pub is_in_hand : IsInHand ended course.run.in_hand
   -- the queue
   pub uses : UsesOpened why k old.pass new.pass (replies_of (course_work ended entries course))
-  pub rows : AreRows new.pass (flat_map products_in (turns_of course))
+  pub rows : AreRows new.pass (products_of (turns_of course))
   -- files and programs
   pub carries : CarriesAndCloses ended answer (course_work ended entries course) old new
   pub stands : StandsAt why (course_work ended entries course).whole.deeds old new

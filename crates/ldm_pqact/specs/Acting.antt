@@ -13,8 +13,8 @@ use Rattle.ldm_actions.specs.Outputs.{Standing}
 use Rattle.ldm_pqact.specs.declared.end.ActEnd.{ActEnd}
 use Rattle.ldm_pqact.specs.declared.end.ActEnd.TheVariants as end
 use Rattle.ldm_pqact.specs.Carried.{BreaksOff, Stands}
-use Rattle.ldm_pqact.specs.Turns.{Turn, products_in}
-use Rattle.ldm_pqact.specs.Uses.{AreRows, Uses}
+use Rattle.ldm_shared.specs.Givens.{Turn, products_of}
+use Rattle.ldm_shared.specs.Uses.{AreRows, Uses}
 use Rattle.ldm_pqact.specs.Work.{Parted, Work, only_in_hand, replies_of, with_answers, work_of}
 
 -- The pass, the outputs with the store and the launcher, and the log.
@@ -101,13 +101,13 @@ pub record ActsOn (why : ActEnd) (entries : List EntryView) (k : ℕ) (old new :
   pub run : Run
   pub is_in_hand : IsInHand why run.in_hand
   pub ends : EndsSo why k (parted_of why entries run) old new
-  pub rows : AreRows new.pass (flat_map products_in (run.turns ++ run.in_hand))
+  pub rows : AreRows new.pass (products_of (run.turns ++ run.in_hand))
 
 -- They acted on some, and the cursor can go on.
 pub record ActsSome (entries : List EntryView) (k : ℕ) (old new : Sight) : Type 0 where
   pub turns : List Turn
   pub does : Does k (work_of entries turns) old new
-  pub rows : AreRows new.pass (flat_map products_in turns)
+  pub rows : AreRows new.pass (products_of turns)
   pub cursor : HasCursor new.pass k None
 
 -- by what a turn answered

@@ -16,8 +16,8 @@ use Rattle.ldm_pqact.specs.declared.end.ActEnd.TheVariants as end
 use Rattle.ldm_pqact.specs.Acted.{ActsOnNone, Situation, UsesOpened, world_at}
 use Rattle.ldm_pqact.specs.Acting.{Does, Sight, sight_of}
 use Rattle.ldm_pqact.specs.Course.{Stretch, turns_in, work_in}
-use Rattle.ldm_pqact.specs.Turns.{Turn, products_in}
-use Rattle.ldm_pqact.specs.Uses.{AreRows}
+use Rattle.ldm_shared.specs.Givens.{Turn, products_of}
+use Rattle.ldm_shared.specs.Uses.{AreRows}
 use Rattle.ldm_pqact.specs.Work.{with_answers, work_of}
 
 -- Nothing hindered: outputs were not spent before, neither store nor launcher nor log failed, and the queue can have a
@@ -38,7 +38,7 @@ pub record ActsOnAll (entries : List EntryView) (k : ℕ) (old new : Sight) : Ty
   -- so many products the queue had had there
   pub at : ℕ
   pub does : Does k (with_answers (work_of entries turns) (reply.End at ∷ [])) old new
-  pub rows : AreRows new.pass (flat_map products_in turns)
+  pub rows : AreRows new.pass (products_of turns)
   pub cursor : HasCursor new.pass k None
 
 -- all was done, or there is no memory
@@ -70,7 +70,7 @@ pub record ActsToTheEnd (entries : List EntryView) (old new : Situation) : Type 
   pub earlier : List Stretch
   pub last : Stretch
   pub uses : UsesOpened end.Stopped k old.pass new.pass (work_in entries (earlier ++ last ∷ [])).answers
-  pub rows : AreRows new.pass (flat_map products_in (turns_in (earlier ++ last ∷ [])))
+  pub rows : AreRows new.pass (products_of (turns_in (earlier ++ last ∷ [])))
   pub stands : world_at new ≡ closed (effects (work_in entries (earlier ++ last ∷ [])).deeds (world_at old))
   pub logged : Takes old.log (work_in entries (earlier ++ last ∷ [])).lines new.log
   pub idled : IdledAll (map (λ (stretch : Stretch). go.On) earlier ++ go.Stop ∷ []) old.gate new.gate

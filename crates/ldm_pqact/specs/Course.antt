@@ -11,8 +11,9 @@ use Rattle.ldm_pqact_conf.specs.Entries.{EntryView}
 use Rattle.ldm_pqact.specs.declared.end.ActEnd.{ActEnd}
 use Rattle.ldm_pqact.specs.declared.end.ActEnd.TheVariants as end
 use Rattle.ldm_pqact.specs.Acting.{EndsSo, IsInHand, Run, Sight, parted_of}
-use Rattle.ldm_pqact.specs.Turns.{Turn, deeds_of, lines_of, products_in, turn_reply}
-use Rattle.ldm_pqact.specs.Uses.{AreRows}
+use Rattle.ldm_shared.specs.Givens.{Turn, products_of, turn_reply}
+use Rattle.ldm_pqact.specs.Turns.{deeds_of, lines_of}
+use Rattle.ldm_shared.specs.Uses.{AreRows}
 use Rattle.ldm_pqact.specs.Work.{Parted, Work, work_then}
 
 -- Turns up to the end of the queue, and how many products it had had when the cursor came there.
@@ -73,5 +74,5 @@ pub record Follows (why : ActEnd) (entries : List EntryView) (k : ℕ) (old new 
   pub course : Course
   pub is_in_hand : IsInHand why course.run.in_hand
   pub ends : EndsSo why k (course_work why entries course) old.sight new.sight
-  pub rows : AreRows new.sight.pass (flat_map products_in (turns_of course))
+  pub rows : AreRows new.sight.pass (products_of (turns_of course))
   pub idled : IdledAll (goes_of why course) old.gate new.gate

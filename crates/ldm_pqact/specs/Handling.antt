@@ -21,8 +21,9 @@ use Rattle.ldm_pqact.specs.declared.holding.Holding.{Holding}
 use Rattle.ldm_pqact.specs.Acting.{CauseOf, Does, Breaks, KeepsCursor, Sight, sight_of}
 use Rattle.ldm_pqact.specs.Carried.{LauncherCount, StoreCount, world_in}
 use Rattle.ldm_pqact.specs.Notes.{notes_of}
-use Rattle.ldm_pqact.specs.Turns.{Given, deeds_by}
-use Rattle.ldm_pqact.specs.Uses.{Uses}
+use Rattle.ldm_shared.specs.Givens.{Given}
+use Rattle.ldm_pqact.specs.Turns.{deeds_by}
+use Rattle.ldm_shared.specs.Uses.{Uses}
 use Rattle.ldm_pqact.specs.Work.{Work, only_in_hand, product_work}
 
 -- what the beginning of an action came to

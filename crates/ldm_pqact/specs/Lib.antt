@@ -2,8 +2,6 @@ pub mod Effect
 pub mod Notes
 pub mod Turns
 pub mod Work
-pub mod Uses
-pub mod Counting
 pub mod Carried
 pub mod Acting
 pub mod Handling

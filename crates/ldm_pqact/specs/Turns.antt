@@ -1,9 +1,7 @@
--- What the cursor is given, step by step, as plain data; and what that asks for: actions, each on a body, and log lines.
+-- What the turns of a cursor ask for: actions, each on the body of its product, and log lines.
 use Rattle.std.specs.Prelude.{ℕ, List, [], ◌∷◌, codes}
 use Rattle.std.specs.List.{flat_map}
-use Rattle.ldm_model.specs.declared.event.Reply.{Reply}
-use Rattle.ldm_model.specs.declared.event.Reply.TheVariants as reply
-use Rattle.ldm_model.specs.Product.{Product}
+use Rattle.ldm_shared.specs.Givens.{Gave, Given, Lost, Turn}
 use Rattle.ldm_session.specs.Gaps.{gap_line}
 use Rattle.ldm_pqact_conf.specs.Entries.{EntryView}
 use Rattle.ldm_pqact_match.specs.declared.chosen.Chosen.{Chosen}
@@ -13,30 +11,6 @@ use Rattle.ldm_pqact_match.specs.Choice.{choose_of}
 use Rattle.ldm_actions.specs.Effects.{Action}
 use Rattle.ldm_pqact.specs.Effect.{effect_of}
 use Rattle.ldm_pqact.specs.Notes.{notes_of}
-
--- A product that the cursor was given: its number, its insertion time, and the product that was admitted under that number.
-pub record Given : Type 0 where
-  pub n : ℕ
-  pub time : ℕ
-  pub product : Product
-
-pub data Turn : Type 0 where
-  -- the cursor was told losses
-  Lost : (count first last : ℕ) → Turn
-  -- it was given a product
-  Gave : Given → Turn
-
--- how the step was answered
-abbrev pub turn_reply : Turn → Reply
-turn_reply (Lost count first last) = reply.Gap count first last
-turn_reply (Gave given) = reply.Product given.n given.time given.product.info
-
--- the products that the cursor was given
-abbrev pub products_in : Turn → List Given
-products_in (Lost count first last) = []
-products_in (Gave given) = given ∷ []
-
--- ---- actions, each on the body of its product
 
 abbrev pub deed_by : List ℕ → Decision → List (Action × List ℕ)
 deed_by body (Act action) = (effect_of action, body) ∷ []

@@ -3,7 +3,8 @@ use Rattle.std.specs.Prelude.{ℕ, List, [], ◌++◌, map}
 use Rattle.ldm_model.specs.declared.event.Reply.{Reply}
 use Rattle.ldm_actions.specs.Effects.{Action}
 use Rattle.ldm_pqact_conf.specs.Entries.{EntryView}
-use Rattle.ldm_pqact.specs.Turns.{Turn, deeds_of, lines_of, turn_reply}
+use Rattle.ldm_shared.specs.Givens.{Turn, turn_reply}
+use Rattle.ldm_pqact.specs.Turns.{deeds_of, lines_of}
 
 pub record Work : Type 0 where
   -- how the steps were answered

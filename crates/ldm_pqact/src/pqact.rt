@@ -6,7 +6,7 @@ ghost use Rattle.ldm_shared.specs.Reader.{HasCursor};
 ghost use Rattle.ldm_actions.specs.Outputs.{Closes, KeepsOfAny, KeepsUnlessSpent, no_outputs, standing};
 ghost use Rattle.ldm_pqact.specs.Acting.{ActsOn, sight_of};
 ghost use Rattle.ldm_pqact.specs.Complete.{Completes};
-ghost use Rattle.ldm_pqact.specs.Counting.{CountsGiven};
+ghost use Rattle.ldm_shared.specs.Counting.{CountsGiven};
 
 use crate::carrier::Carrier;
 use crate::end::ActEnd;

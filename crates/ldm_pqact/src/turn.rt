@@ -6,7 +6,7 @@ ghost use Rattle.ldm_shared.specs.Reader.{HasCursor};
 ghost use Rattle.ldm_actions.specs.Outputs.{KeepsUnlessSpent, standing};
 ghost use Rattle.ldm_pqact.specs.declared.limits.TheConstants.{LARGEST_PIECE};
 ghost use Rattle.ldm_pqact.specs.Acting.{TurnsBy, sight_of};
-ghost use Rattle.ldm_pqact.specs.Counting.{CountsGiven, left_behind};
+ghost use Rattle.ldm_shared.specs.Counting.{CountsGiven};
 
 use crate::carrier::Carrier;
 use crate::end::ActEnd;
@@ -14,7 +14,7 @@ use crate::holding::Holding;
 use crate::limits::LONGEST_SHOWN;
 use ldm_outside::{Launcher, Reason, Sink, Store};
 use ldm_session::write_gap;
-use ldm_shared::{Came, Pass, Reader, Shared, Turn, products_stay};
+use ldm_shared::{Came, Pass, Reader, Shared, Turn, count_off, products_stay};
 use std::sync::Wait;
 
 impl Carrier {
@@ -68,15 +68,6 @@ impl Carrier {
             }
             Turn::Worn { .. } => Err(ActEnd::Worn),
         }
-    }
-}
-
-// Counts a product off.
-fn count_off(left: &mut Option<u64>)
-    ensures { left.new ≡ left_behind left.old 1 }
-{
-    if let Some(n) = left {
-        *n = n.saturating_sub(1);
     }
 }
 

@@ -28,6 +28,7 @@ use Rattle.ldm_gather.specs.declared.end.GatherEnd.{GatherEnd}
 use Rattle.ldm_gather.specs.declared.end.GatherEnd.TheVariants as gather_end
 use Rattle.ldm_gather.specs.declared.end.Handled.{Handled}
 use Rattle.ldm_gather.specs.declared.limits.TheConstants.{PASSES}
+use Rattle.ldm_gather.specs.EachCourse.{Gives}
 use Rattle.ldm_gather.specs.Orders.{OrderView}
 use Rattle.ldm_gather.specs.Queue.{Opens}
 use Rattle.ldm_gather.specs.Runs.{Connects, Reaches, Situation}
@@ -39,7 +40,8 @@ use Rattle.ldm_pqact.specs.declared.end.ActEnd.{ActEnd}
 use Rattle.ldm_pqact.specs.declared.end.ActEnd.TheVariants as end
 use Rattle.ldm_pqact.specs.Acting.{IsInHand, Sight}
 use Rattle.ldm_pqact.specs.Carried.{Carries, Stands, world_in}
-use Rattle.ldm_pqact.specs.Turns.{Turn, deeds_of}
+use Rattle.ldm_shared.specs.Givens.{Turn, count_of}
+use Rattle.ldm_pqact.specs.Turns.{deeds_of}
 use Rattle.ldm_pqact_conf.specs.Entries.{EntryView}
 use Rattle.ldm_pqact_command.specs.declared.end.PqactEnd.{PqactEnd}
 use Rattle.ldm_pqact_command.specs.declared.end.PqactEnd.TheVariants.{NotTaken, NotMade, Received, Enough, Stopped}
@@ -47,7 +49,7 @@ use Rattle.ldm_pqact_command.specs.declared.stop.ActStop.{ActStop}
 use Rattle.ldm_pqact_command.specs.declared.stop.ActStop.TheVariants as stop
 use Rattle.ldm_pqact_command.specs.Closing.{ClosesOutputs}
 use Rattle.ldm_pqact_command.specs.Complete.{IsComplete, IsWholeEnd, PqactCompletes, Unfailing}
-use Rattle.ldm_pqact_command.specs.Course.{ActsAll, Gives, IsCounted, StopCause, count_of}
+use Rattle.ldm_pqact_command.specs.Course.{ActsAll, IsCounted, StopCause}
 use Rattle.ldm_pqact_command.specs.Handling.{ActHandles}
 use Rattle.ldm_pqact_command.specs.PqactRuns.{ActEnds, Closes as ClosesRun, ClosesIf, Here, MakesNone, PqactEnds, PqactLent, TakesNone, acter_at, here_of, sight_at, standing_at, within}
 use Rattle.ldm_pqact_command.specs.Statuses.{ReportsIf, after_closing, status_of}

@@ -1,17 +1,11 @@
 -- What a whole gathering came to: piece by piece.
 use Rattle.std.proofs.Common.{◌≡◌, ◌∙◌, ℕ, ◌-◌, ◌≤◌, false, List, [], ◌∷◌, ◌++◌, length, map, Option, Some, None, inl, inr, ◌⊎◌, refl, sym, ap, subst, append_assoc, arith}
 use Rattle.std.specs.Prelude.{IfSome, ◌+◌, ◌<◌}
-use Rattle.std.specs.List.{flat_map}
 use Rattle.std.specs.Option.{ForSome}
 use Rattle.std.proofs.lemmas.List.{append-nil, length-append, map-append}
 use Rattle.std.proofs.lemmas.List.Concat.{flat_map-append}
-use Rattle.ldm_model.specs.declared.event.Event.{Event}
-use Rattle.ldm_model.specs.declared.event.Event.TheVariants as event
 use Rattle.ldm_model.specs.declared.event.Reply.{Reply}
 use Rattle.ldm_model.specs.declared.event.Reply.TheVariants as reply
-use Rattle.ldm_model.specs.declared.event.Entry.{Entry}
-use Rattle.ldm_model.specs.History.{after, IsLegal}
-use Rattle.ldm_model.specs.Product.{Product}
 use Rattle.ldm_outside.specs.Count.{Rose}
 use Rattle.ldm_outside.specs.Io.{SinkRecord}
 use Rattle.ldm_outside.specs.Launcher.{LauncherRecord}
@@ -19,8 +13,6 @@ use Rattle.ldm_outside.specs.Store.{StoreRecord}
 use Rattle.ldm_outside.proofs.CallerLemmas.{Rose-later}
 use Rattle.ldm_shared.specs.declared.steps.TheConstants.{MOST_TURNS}
 use Rattle.ldm_shared.specs.Passes.{PassView}
-use Rattle.ldm_shared.proofs.Made.{calls_none, calls_trans}
-use Rattle.ldm_shared.specs.Staying.{HasRow}
 use Rattle.ldm_actions.specs.declared.answers.Fault.{Fault}
 use Rattle.ldm_actions.specs.declared.answers.Fault.TheVariants as fault
 use Rattle.ldm_actions.specs.Effects.{Action}
@@ -28,84 +20,41 @@ use Rattle.ldm_actions.specs.Outputs.{Standing}
 use Rattle.ldm_intake.specs.declared.end.RecvEnd.{RecvEnd}
 use Rattle.ldm_intake.specs.declared.end.RecvEnd.TheVariants.{Ended, Truncated, BadFrame, Refused, LinkFault, LogFault, StreamLimit, Worn, OutOfMemory}
 use Rattle.ldm_intake.specs.Receiving.{Receiving}
-use Rattle.ldm_intake.specs.TakesRecord.{stands}
 use Rattle.ldm_downstream.specs.Pieces.{Piece}
-use Rattle.ldm_downstream.specs.Pushing.{ClosesIf, EndsAt, PushesAt}
-use Rattle.ldm_downstream.specs.Received.{at_stream_end}
-use Rattle.ldm_downstream.specs.ReceiverView.{ReceiverView, before_stream}
+use Rattle.ldm_downstream.specs.ReceiverView.{before_stream}
 use Rattle.ldm_gather.specs.declared.end.GatherEnd.{GatherEnd}
 use Rattle.ldm_gather.specs.declared.end.GatherEnd.TheVariants as gather_end
 use Rattle.ldm_gather.specs.declared.end.Handled.{Handled}
 use Rattle.ldm_gather.specs.declared.end.Handled.TheVariants as handled
 use Rattle.ldm_gather.specs.Gathering.{Asks, BeginsNot, Comes, EndsBy, EndsStream, GathersAll, Gathers, GoesOn, TakesPiece}
-use Rattle.ldm_gather.specs.Quiet.{AreQuiet, CallsQuietly, IsQuiet}
+use Rattle.ldm_gather.specs.EachCourse.{Gives, told, told_by}
+use Rattle.ldm_gather.specs.Quiet.{CallsQuietly}
 use Rattle.ldm_gather.specs.Scene.{Lent, GatherMoment, Scene, moment_of}
-use Rattle.ldm_gather.proofs.Cursors.{closes-quiet, pushes-quiet}
+use Rattle.ldm_gather.proofs.Giving.{closes-none, comes-quiet, gives-quiet, gives-then, gives-uses, live-at, quiet-none, told-end, told-none, told-turns}
 use Rattle.ldm_pqact.specs.declared.end.ActEnd.{ActEnd}
 use Rattle.ldm_pqact.specs.declared.end.ActEnd.TheVariants as end
 use Rattle.ldm_pqact.specs.Acting.{Breaks, EndsSo, IsInHand, LogCount, Run, Sight, last_answer, parted_of, sight_of}
 use Rattle.ldm_pqact.specs.Carried.{Carries, Faulted, Stands}
-use Rattle.ldm_pqact.specs.Counting.{count_given, left_behind}
-use Rattle.ldm_pqact.specs.Turns.{Gave, Given, Lost, Turn, deeds_of, products_in, turn_deeds, turn_reply}
-use Rattle.ldm_pqact.specs.Uses.{AreRows, AreUses, Uses, answer_by, step_answers}
+use Rattle.ldm_shared.specs.Counting.{count_given, left_behind}
+use Rattle.ldm_shared.specs.Givens.{Gave, Lost, Turn, count_of, products_of, turn_product, turn_reply}
+use Rattle.ldm_pqact.specs.Turns.{deeds_of, turn_deeds}
 use Rattle.ldm_pqact.specs.Work.{Parted, replies_of}
 use Rattle.ldm_pqact.proofs.Carrying.{breaks_off_then, stands_none, stands_then}
-use Rattle.ldm_pqact.proofs.Counting.{count_given-append, counted_by, left_behind-more, left_behind-none}
-use Rattle.ldm_pqact.proofs.Coursing.{called_at, rows_then}
+use Rattle.ldm_shared.proofs.Counting.{count_given-append, counted_by, left_behind-more, left_behind-none, turns-given}
+use Rattle.ldm_pqact.proofs.Coursing.{called_at}
+use Rattle.ldm_shared.proofs.Using.{RowsStay, count_of-append}
 use Rattle.ldm_pqact_conf.specs.Entries.{EntryView}
 use Rattle.ldm_pqact_command.specs.declared.stop.ActStop.{ActStop}
 use Rattle.ldm_pqact_command.specs.declared.stop.ActStop.TheVariants as stop
 use Rattle.ldm_pqact_command.specs.ActerView.{ActerView}
-use Rattle.ldm_pqact_command.specs.Course.{ActsAll, AreCallsOf, Gives, HasStopCause, IsCounted, IsEndedBy, StopCause, count_of, told, told_by}
+use Rattle.ldm_pqact_command.specs.Course.{ActsAll, HasStopCause, IsCounted, IsEndedBy, StopCause}
 use Rattle.ldm_pqact_command.specs.Handling.{ActHandles, EndsFor, Leaves, standing_in}
 use Rattle.ldm_pqact_command.specs.Statuses.{IfStopped}
 use Rattle.ldm_pqact_command.specs.Stops.{end_of}
 use Rattle.ldm_pqact_command.proofs.Carried.{Parts, parts_of}
 use Rattle.ldm_pqact_command.proofs.Kept.{rose_le}
 
--- a product keeps its number, metadata, body and insertion time
-abbrev pub RowsStay : Type 0
-RowsStay =
-    (arena slots : ℕ) (front behind : List Entry) → IsLegal arena slots (front ++ behind) → (n : ℕ) (product : Product) (time : ℕ)
-    → HasRow n product time (after arena slots front) → HasRow n product time (after arena slots (front ++ behind))
-
--- ---- calls and answers
-
-calls-append : (k : ℕ) (first second : List Entry) → AreCallsOf k first → AreCallsOf k second → AreCallsOf k (first ++ second)
-calls-append k [] second one two = two
-calls-append k (entry ∷ first) second one two = (one.0, calls-append k first second one.1 two)
-
-uses-calls : (k : ℕ) (called : List Entry) → AreUses k called → AreCallsOf k called
-uses-calls k [] uses = tt
-uses-calls k (entry ∷ called) uses = (inr uses.0, uses-calls k called uses.1)
-
-quiet-calls : (k : ℕ) (made : List Entry) → AreQuiet made → AreCallsOf k made
-quiet-calls k [] quiet = tt
-quiet-calls k (entry ∷ made) quiet = (inl quiet.0, quiet-calls k made quiet.1)
-
-quiet-answer : (e : Event) (answer : Reply) → IsQuiet e → answer_by e answer ≡ []
-quiet-answer (event.Step at) answer quiet = absurd (cc quiet)
-quiet-answer _ answer quiet = refl
-
-quiet-answers : (made : List Entry) → AreQuiet made → step_answers made ≡ []
-quiet-answers [] quiet = refl
-quiet-answers (entry ∷ made) quiet =
-    ap (λ (xs : List Reply). xs ++ step_answers made) (quiet-answer entry.event entry.reply quiet.0) ∙ quiet-answers made quiet.1
-
-told-turn : (turn : Turn) → told_by (turn_reply turn) ≡ turn_reply turn ∷ []
-told-turn (Lost count first last) = refl
-told-turn (Gave given) = refl
-
-told-turns : (turns : List Turn) → told (map turn_reply turns) ≡ map turn_reply turns
-told-turns [] = refl
-told-turns (turn ∷ turns) =
-    ap (λ (xs : List Reply). xs ++ told (map turn_reply turns)) (told-turn turn) ∙ ap (λ (xs : List Reply). turn_reply turn ∷ xs) (told-turns turns)
-
-told-end : (turns : List Turn) (at : ℕ) → told (map turn_reply turns ++ reply.End at ∷ []) ≡ map turn_reply turns
-told-end turns at = flat_map-append told_by (map turn_reply turns) (reply.End at ∷ []) ∙ (append-nil (told (map turn_reply turns)) ∙ told-turns turns)
-
-told-none : (turns : List Turn) → told (map turn_reply turns ++ []) ≡ map turn_reply turns
-told-none turns = ap told (append-nil (map turn_reply turns)) ∙ told-turns turns
+-- ---- answers
 
 told-last : (why : ActEnd) (turns : List Turn) (at : ℕ) → told (map turn_reply turns ++ last_answer why at) ≡ map turn_reply turns
 told-last end.Stopped turns at = told-end turns at
@@ -117,60 +66,11 @@ told-run why run entries =
     ∙ (ap (λ (xs : List Reply). xs ++ told (map turn_reply run.in_hand ++ last_answer why run.at)) (told-turns run.turns)
     ∙ (ap (λ (xs : List Reply). map turn_reply run.turns ++ xs) (told-last why run.in_hand run.at) ∙ sym (map-append turn_reply run.turns run.in_hand)))
 
--- ---- what was given, one after another
-
-gives-quiet : (k : ℕ) (pass later : PassView) → CallsQuietly pass later → Gives k [] pass later
-gives-quiet k pass later quietly = record {
-  called = quietly.made;
-  calls = quietly.calls;
-  are_calls = quiet-calls k quietly.made quietly.quiet;
-  answered = ap told (quiet-answers quietly.made quietly.quiet);
-  rows = tt;
-}
-
-quiet-none : (pass after : PassView) → after ≡ pass → CallsQuietly pass after
-quiet-none pass after same = subst (λ (p : PassView). CallsQuietly pass p) (sym same) (record { made = []; calls = calls_none pass; quiet = tt })
-
-gives-then : (law : RowsStay) (k : ℕ) (first second : List Turn) (a b c : PassView) → Gives k first a b → Gives k second b c → Gives k (first ++ second) a c
-gives-then law k first second a b c one two = record {
-  called = one.called ++ two.called;
-  calls = calls_trans a b c one.called two.called one.calls two.calls;
-  are_calls = calls-append k one.called two.called one.are_calls two.are_calls;
-  answered =
-      ap told (flat_map-append (λ (entry : Entry). answer_by entry.event entry.reply) one.called two.called)
-      ∙ (flat_map-append told_by (step_answers one.called) (step_answers two.called)
-      ∙ (ap (λ (xs : List Reply). xs ++ told (step_answers two.called)) one.answered ∙ (ap (λ (xs : List Reply). map turn_reply first ++ xs) two.answered
-      ∙ sym (map-append turn_reply first second))));
-  rows = rows_then law b c two.called first second two.calls one.rows two.rows;
-}
-
-gives-uses : (k : ℕ) (turns : List Turn) (answers : List Reply) (old new : PassView) → Uses k old new answers → told answers ≡ map turn_reply turns
-    → AreRows new (flat_map products_in turns) → Gives k turns old new
-gives-uses k turns answers old new uses is rows = record {
-  called = uses.called;
-  calls = uses.calls;
-  are_calls = uses-calls k uses.called uses.are_uses;
-  answered = ap told uses.answered ∙ is;
-  rows = rows;
-}
+-- a pass that is as it was made no calls
+quiet-same : (pass after : PassView) → after ≡ pass → CallsQuietly pass after
+quiet-same pass after same = subst (λ (p : PassView). CallsQuietly pass p) (sym same) (quiet-none pass)
 
 -- ---- how many products were given
-
-count_of-append : (first second : List Turn) → count_of (first ++ second) ≡ count_of first + count_of second
-count_of-append first second =
-    ap (λ (gs : List Given). length gs) (flat_map-append products_in first second) ∙ length-append (flat_map products_in first) (flat_map products_in second)
-
--- the answers give as many products as the turns
-turn-given : (turn : Turn) → count_given (turn_reply turn ∷ []) ≡ length (products_in turn)
-turn-given (Lost count first last) = refl
-turn-given (Gave given) = refl
-
-turns-given : (turns : List Turn) → count_given (map turn_reply turns) ≡ count_of turns
-turns-given [] = refl
-turns-given (turn ∷ turns) =
-    count_given-append (turn_reply turn ∷ []) (map turn_reply turns)
-    ∙ (ap (λ (n : ℕ). n + count_given (map turn_reply turns)) (turn-given turn)
-    ∙ (ap (λ (n : ℕ). length (products_in turn) + n) (turns-given turns) ∙ sym (length-append (products_in turn) (flat_map products_in turns))))
 
 -- what is not told gives no product
 told-by-given : (answer : Reply) → count_given (answer ∷ []) ≡ count_given (told_by answer)
@@ -396,15 +296,6 @@ module _ {F L : Type 0} (store_tells : F → StoreRecord) (launcher_tells : L �
 
   -- ---- pieces
 
-  -- what was pushed calls the queue about no cursor
-  comes-quiet : (piece : Piece) (out notes : List ℕ) (old pushed : At) → old.receiver.end ≡ None → Comes piece out notes old pushed → CallsQuietly old.scene.pass pushed.scene.pass
-  comes-quiet piece out notes old pushed live comes =
-      let before = stands old.receiver.receiving old.scene.pass [] [] in
-      let after = stands pushed.receiver.receiving pushed.scene.pass out notes in
-      let at : PushesAt None piece old.receiver pushed.receiver before after =
-      subst (λ (e : Option RecvEnd). PushesAt e piece old.receiver pushed.receiver before after) live comes.pushes in
-      pushes-quiet pushed.receiver.end piece old.receiver.hand pushed.receiver.hand before after at.0
-
   acted_come : (piece : Piece) (out notes : List ℕ) (old pushed : At) → old.receiver.end ≡ None → Comes piece out notes old pushed → Acted end.Stopped handled.On old.scene pushed.scene
   acted_come piece out notes old pushed live comes =
       acted_quiet old.scene pushed.scene (ap parts_of comes.others) (comes-quiet piece out notes old pushed live comes)
@@ -417,7 +308,7 @@ module _ {F L : Type 0} (store_tells : F → StoreRecord) (launcher_tells : L �
       let told_is = ap (λ (m : At). m.scene) takes.tells.others in
       let told : Acted end.Stopped handled.On takes.pushed.scene takes.told.scene =
       acted_quiet takes.pushed.scene takes.told.scene (ap parts_of told_is)
-      (quiet-none takes.pushed.scene.pass takes.told.scene.pass (ap (λ (s : Here). s.pass) told_is)) takes.tells.log_kept in
+      (quiet-same takes.pushed.scene.pass takes.told.scene.pass (ap (λ (s : Here). s.pass) told_is)) takes.tells.log_kept in
       acted_then law does.ended answer old.scene takes.pushed.scene new.scene (acted_come piece takes.out takes.notes old takes.pushed live takes.comes)
       (acted_then law does.ended answer takes.pushed.scene takes.told.scene new.scene told (acted_handled answer takes.told.scene new.scene does))
 
@@ -426,13 +317,9 @@ module _ {F L : Type 0} (store_tells : F → StoreRecord) (launcher_tells : L �
       → takes.handles_it.handled.ended ≡ end.Stopped → Acted end.Stopped answer old.scene new.scene
   acted_on law piece answer old new live takes is = subst (λ (why : ActEnd). Acted why answer old.scene new.scene) is (acted_piece law piece answer old new live takes)
 
-  live-at : (pieces : List Piece) (old new : At) → old.receiver.end ≡ None → GoesOn Does pieces old new → new.receiver.end ≡ None
-  live-at [] old new live goes = ap (λ (m : At). m.receiver.end) goes ∙ live
-  live-at (piece ∷ pieces) old new live goes = live-at pieces goes.0 new goes.1.live goes.2
-
   went : (law : RowsStay) (pieces : List Piece) (old new : At) → old.receiver.end ≡ None → GoesOn Does pieces old new → Acted end.Stopped handled.On old.scene new.scene
   went law [] old new live goes =
-      acted_quiet old.scene new.scene (ap (λ (m : At). parts_of m.scene) goes) (quiet-none old.scene.pass new.scene.pass (ap (λ (m : At). m.scene.pass) goes))
+      acted_quiet old.scene new.scene (ap (λ (m : At). parts_of m.scene) goes) (quiet-same old.scene.pass new.scene.pass (ap (λ (m : At). m.scene.pass) goes))
       (log_kept old.scene new.scene (ap (λ (m : At). m.scene.log) goes))
   went law (piece ∷ pieces) old new live goes =
       let takes = goes.1.takes in
@@ -464,16 +351,6 @@ module _ {F L : Type 0} (store_tells : F → StoreRecord) (launcher_tells : L �
       → EndedBy (gather_end.Received e) old.scene new.scene
   over law e piece old new live takes = received e old.scene new.scene (acted_on law piece handled.On old new live takes takes.handles_it.handled.ends.0)
 
-  closes-none : (e : RecvEnd) (receiver : ReceiverView) (pass after : PassView) → receiver.end ≡ None → EndsAt receiver.end e receiver pass after → CallsQuietly pass after
-  closes-none e receiver pass after live ends = by_close at_end.1
-    where
-      at_end : EndsAt None e receiver pass after
-      at_end = subst (λ (o : Option RecvEnd). EndsAt o e receiver pass after) live ends
-
-      by_close : ClosesIf false (at_stream_end receiver.hand receiver.receiving) e receiver.receiving at_end.0 pass after → CallsQuietly pass after
-      by_close (inl closed) = closes-quiet receiver.receiving at_end.0 pass after closed.1
-      by_close (inr kept) = record { made = []; calls = kept.1.calls; quiet = tt }
-
   stream : (e : RecvEnd) (old new : At) → old.receiver.end ≡ None → EndsStream e old new → EndedBy (gather_end.Received e) old.scene new.scene
   stream e old new live ends =
       let scene_is = ap (λ (m : At). m.scene) ends.is_at_end.others in
@@ -484,7 +361,7 @@ module _ {F L : Type 0} (store_tells : F → StoreRecord) (launcher_tells : L �
 
   same_scene : (e : RecvEnd) (old new : At) → new.scene ≡ old.scene → EndedBy (gather_end.Received e) old.scene new.scene
   same_scene e old new same =
-      received e old.scene new.scene (acted_quiet old.scene new.scene (ap parts_of same) (quiet-none old.scene.pass new.scene.pass (ap (λ (s : Here). s.pass) same))
+      received e old.scene new.scene (acted_quiet old.scene new.scene (ap parts_of same) (quiet-same old.scene.pass new.scene.pass (ap (λ (s : Here). s.pass) same))
       (log_kept old.scene new.scene (ap (λ (s : Here). s.log) same)))
 
   ends_by : (law : RowsStay) (e : GatherEnd) (old new : At) → old.receiver.end ≡ None → EndsBy Does e old new → EndedBy e old.scene new.scene
@@ -505,7 +382,7 @@ module _ {F L : Type 0} (store_tells : F → StoreRecord) (launcher_tells : L �
       let scene_is = ap (λ (m : At). m.scene) fails.logs.others in
       received LogFault old.scene new.scene
       (acted_then law end.Stopped handled.On old.scene fails.pushed.scene new.scene (acted_come fails.piece fails.out fails.notes old fails.pushed live fails.comes)
-      (acted_quiet fails.pushed.scene new.scene (ap parts_of scene_is) (quiet-none fails.pushed.scene.pass new.scene.pass (ap (λ (s : Here). s.pass) scene_is))
+      (acted_quiet fails.pushed.scene new.scene (ap parts_of scene_is) (quiet-same fails.pushed.scene.pass new.scene.pass (ap (λ (s : Here). s.pass) scene_is))
       (rose_le fails.pushed.scene.log.faults new.scene.log.faults fails.logs.rose)))
   ends_by law gather_end.Enough old new live ends = record {
     ended = end.Stopped;
@@ -578,7 +455,7 @@ module _ {F L : Type 0} (store_tells : F → StoreRecord) (launcher_tells : L �
       by_begin (inl asks) =
           let at : At = record first { link = asks.asked.link } in
           let gathers : Gathers Does e at last = subst (λ (m : At). Gathers Does e m last) asks.others asks.gathers in
-          let ends = ends_by law e gathers.last last (live-at gathers.pieces at gathers.last refl gathers.goes_on) gathers.ends in
+          let ends = ends_by law e gathers.last last (live-at Does gathers.pieces at gathers.last refl gathers.goes_on) gathers.ends in
           all_of e old.scene new.scene (record {
             ended = ends.ended;
             is_ended = ends.is_ended;

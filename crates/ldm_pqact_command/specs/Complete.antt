@@ -15,16 +15,18 @@ use Rattle.ldm_intake.specs.declared.end.RecvEnd.TheVariants as recv_end
 use Rattle.ldm_gather.specs.declared.end.GatherEnd.{GatherEnd}
 use Rattle.ldm_gather.specs.declared.end.GatherEnd.TheVariants as gather_end
 use Rattle.ldm_gather.specs.declared.limits.TheConstants.{PASSES}
+use Rattle.ldm_gather.specs.EachCourse.{Gives}
 use Rattle.ldm_gather.specs.Orders.{OrderView}
 use Rattle.ldm_gather.specs.Queue.{Opens}
 use Rattle.ldm_gather.specs.Runs.{Connects}
 use Rattle.ldm_pqact.specs.Carried.{world_in}
-use Rattle.ldm_pqact.specs.Turns.{Turn, deeds_of}
+use Rattle.ldm_shared.specs.Givens.{Turn, count_of}
+use Rattle.ldm_pqact.specs.Turns.{deeds_of}
 use Rattle.ldm_pqact_conf.specs.Entries.{EntryView}
 use Rattle.ldm_status.specs.declared.status.Status.{Status}
 use Rattle.ldm_status.specs.declared.status.Status.TheVariants as status
 use Rattle.ldm_status.specs.Status.{code_of}
-use Rattle.ldm_pqact_command.specs.Course.{Gives, IsCounted, count_of}
+use Rattle.ldm_pqact_command.specs.Course.{IsCounted}
 use Rattle.ldm_pqact_command.specs.Handling.{ActHandles}
 use Rattle.ldm_pqact_command.specs.PqactRuns.{Here, PqactLent, acter_at, here_of, within}
 

@@ -1,55 +1,22 @@
--- What a whole gathering came to, over all its pieces: which products, of which calls on the queue, and what was done with them.
-use Rattle.std.specs.Prelude.{◌≡◌, ◌⊎◌, ℕ, ◌<◌, ◌≤◌, List, [], ◌∷◌, ◌++◌, length, map, Option, Some, None, IfSome}
-use Rattle.std.specs.List.{flat_map}
+-- What a whole gathering came to, over all its pieces: which products the cursor gave, and what was done with them.
+use Rattle.std.specs.Prelude.{◌≡◌, ℕ, ◌<◌, ◌≤◌, List, ◌++◌, length, Option, Some, None, IfSome}
 use Rattle.std.specs.Option.{ForSome}
-use Rattle.ldm_model.specs.declared.event.Reply.{Reply}
-use Rattle.ldm_model.specs.declared.event.Reply.TheVariants as reply
-use Rattle.ldm_model.specs.declared.event.Entry.{Entry}
 use Rattle.ldm_outside.specs.Count.{Rose}
 use Rattle.ldm_shared.specs.declared.steps.TheConstants.{MOST_TURNS}
-use Rattle.ldm_shared.specs.Passes.{PassView, Calls}
 use Rattle.ldm_gather.specs.declared.end.GatherEnd.{GatherEnd}
 use Rattle.ldm_gather.specs.declared.end.GatherEnd.TheVariants.{Received, Enough, Stopped}
-use Rattle.ldm_gather.specs.Quiet.{IsQuiet}
+use Rattle.ldm_gather.specs.EachCourse.{Gives}
 use Rattle.ldm_pqact.specs.declared.end.ActEnd.{ActEnd}
 use Rattle.ldm_pqact.specs.declared.end.ActEnd.TheVariants as end
 use Rattle.ldm_pqact.specs.Acting.{IsInHand, Sight}
 use Rattle.ldm_pqact.specs.Carried.{Carries}
-use Rattle.ldm_pqact.specs.Turns.{Turn, deeds_of, products_in, turn_reply}
-use Rattle.ldm_pqact.specs.Uses.{AreRows, IsUse, step_answers}
+use Rattle.ldm_shared.specs.Givens.{Turn, count_of}
+use Rattle.ldm_pqact.specs.Turns.{deeds_of}
 use Rattle.ldm_pqact_command.specs.declared.stop.ActStop.{ActStop}
 use Rattle.ldm_pqact_command.specs.declared.stop.ActStop.TheVariants as stop
 use Rattle.ldm_pqact_command.specs.ActerView.{ActerView}
 use Rattle.ldm_pqact_command.specs.Statuses.{IfStopped}
 use Rattle.ldm_pqact_command.specs.Stops.{end_of}
-
--- calls of the receiving, which are about no cursor, and uses of the cursor at that place
-abbrev pub AreCallsOf : ℕ → List Entry → Type 0
-AreCallsOf k [] = Unit {0}
-AreCallsOf k (entry ∷ called) = (IsQuiet entry.event ⊎ IsUse k entry.event) × AreCallsOf k called
-
--- an answer that gives a product or tells a loss: not that the cursor is at the end
-abbrev pub told_by : Reply → List Reply
-told_by (reply.End at) = []
-told_by answer = answer ∷ []
-
-abbrev pub told : List Reply → List Reply
-told answers = flat_map told_by answers
-
--- Just these calls were made with the pass, and the steps of the cursor gave and told just these turns. Each product is the one that was
--- admitted under its number.
-pub record Gives (k : ℕ) (turns : List Turn) (old new : PassView) : Type 0 where
-  pub called : List Entry
-  pub calls : Calls old new called
-  pub are_calls : AreCallsOf k called
-  pub answered : told (step_answers called) ≡ map turn_reply turns
-  pub rows : AreRows new (flat_map products_in turns)
-
--- how many products the cursor gave
-abbrev pub count_of : List Turn → ℕ
-count_of turns = length (flat_map products_in turns)
-
--- ---- how it ended
 
 -- As many products were given as were to be acted on, or more, as all of a piece are acted on; or fewer, where there is a count above 0.
 abbrev pub IsCounted : GatherEnd → Option ℕ → ℕ → Type 0

@@ -10,7 +10,7 @@ use Rattle.ldm_gather.specs.Scene.{Scene}
 use Rattle.ldm_pqact.specs.declared.end.ActEnd.{ActEnd}
 use Rattle.ldm_pqact.specs.declared.end.ActEnd.TheVariants as end
 use Rattle.ldm_pqact.specs.Acting.{ActsOn, sight_of}
-use Rattle.ldm_pqact.specs.Counting.{CountsGiven}
+use Rattle.ldm_shared.specs.Counting.{CountsGiven}
 use Rattle.ldm_pqact_command.specs.declared.stop.ActStop.{ActStop}
 use Rattle.ldm_pqact_command.specs.ActerView.{ActerView}
 use Rattle.ldm_pqact_command.specs.Stops.{end_of}

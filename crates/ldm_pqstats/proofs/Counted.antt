@@ -11,7 +11,7 @@ use Rattle.ldm_gather.specs.declared.taker.EachStop.{EachStop}
 use Rattle.ldm_gather.specs.declared.taker.EachStop.TheVariants.{ByTaker, LogFault, Worn}
 use Rattle.ldm_gather.specs.EachCourse.{Stage, TakesEach}
 use Rattle.ldm_gather.specs.EachRuns.{GathersEach, Makes, Situation, TakesIf, given_by, given_if, situation_of, stage_in}
-use Rattle.ldm_gather.specs.Givens.{Gave, Given, Lost, Turn, products_of}
+use Rattle.ldm_shared.specs.Givens.{Gave, Given, Lost, Turn, products_of}
 use Rattle.ldm_gather.specs.Orders.{OrderView}
 use Rattle.ldm_gather.specs.Taking.{Hands, TakesAll, TakesLast, hands_of}
 use Rattle.ldm_stats.specs.Table.{StandsFor, Table}

@@ -2,7 +2,7 @@
 use Rattle.std.specs.Prelude.{◌≡◌, ◌<◌, ◌≤◌, ◌^◌, List, [], ◌∷◌, ◌++◌, Some}
 use Rattle.ldm_gather.specs.declared.taker.Taken.{Taken}
 use Rattle.ldm_gather.specs.declared.taker.Taken.TheVariants.{On, Stopped, Worn}
-use Rattle.ldm_gather.specs.Givens.{Given}
+use Rattle.ldm_shared.specs.Givens.{Given}
 use Rattle.ldm_gather.specs.Taking.{Hands}
 use Rattle.ldm_stats.specs.Joining.{count_of}
 use Rattle.ldm_stats.specs.Table.{StandsFor, Table}

@@ -20,3 +20,5 @@ mod Answered
 mod Cursors
 mod Readers
 mod RowsStay
+pub mod Using
+pub mod Counting

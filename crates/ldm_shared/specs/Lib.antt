@@ -13,3 +13,6 @@ pub mod Work
 pub mod Workers
 pub mod Staying
 pub mod Reader
+pub mod Givens
+pub mod Uses
+pub mod Counting

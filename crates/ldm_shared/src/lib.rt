@@ -7,6 +7,7 @@
 
 mod asking;
 mod calls;
+mod count;
 mod fault;
 mod laws;
 mod making;
@@ -24,6 +25,7 @@ mod view;
 mod work;
 mod worker;
 
+pub use count::count_off;
 pub use fault::CreateFault;
 pub use laws::{calls_made, one_pass, own_readers};
 pub use pass::Pass;

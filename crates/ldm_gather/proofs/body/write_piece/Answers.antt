@@ -1,6 +1,6 @@
 use Rattle.std.proofs.Common.{ℕ, List, subst}
 use Rattle.ldm_outside.specs.Io.{Takes}
-use Rattle.ldm_gather.proofs.Using.{uses_read}
+use Rattle.ldm_shared.proofs.Using.{uses_read}
 use Rattle.ldm_gather.proofs.body.write_piece.Goals as goal
 
 pub returns-in-Ok-clause-reads : goal.returns-in-Ok-clause-reads

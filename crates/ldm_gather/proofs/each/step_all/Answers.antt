@@ -3,7 +3,7 @@ use Rattle.ldm_gather.specs.EachHandling.{tap_in}
 use Rattle.ldm_gather.specs.Stepping.{sight_of}
 use Rattle.ldm_gather.specs.Taking.{hands_of}
 use Rattle.ldm_gather.proofs.StepTurns.{cursor_after, ends_so, goes_on, is_end, keeps_on, same_each, still_going, tap_before}
-use Rattle.ldm_gather.proofs.Using.{same-then}
+use Rattle.ldm_shared.proofs.Using.{same_then}
 use Rattle.ldm_gather.proofs.each.step_all.Goals as goal
 
 pub loop-init : goal.loop-init
@@ -46,7 +46,7 @@ returns-in_default g c =
     let d = sight_of each.left (hands_of each.taker c.step.new.lent) c.step.new.pass (g.E.Sink.tells c.step.new.log) in
     let so_far = c.loop.invariant.keeps in
     record {
-      kept = same-then c.args.pass.now c.loop.pass c.step.new.pass so_far.same c.step.ensures.kept;
+      kept = same_then c.args.pass.now c.loop.pass c.step.new.pass so_far.same c.step.ensures.kept;
       log_kept = omega (arith, so_far.log_kept, c.step.ensures.log_kept);
       others = same_each init mid each c.loop.invariant.same c.step.ensures.others;
       may_again = c.step.ensures.may_again;

@@ -1,6 +1,6 @@
 use Rattle.std.proofs.Common.{◌∙◌, [], ◌∷◌, ◌++◌, ap}
 use Rattle.ldm_gather.specs.Scene.{GatherMoment, lent_of, moment_of, scene_of}
-use Rattle.ldm_gather.proofs.Gathering.{counts-then, goes_on-then, same-course, same-then}
+use Rattle.ldm_gather.proofs.Gathering.{counts-then, goes_on-then, same-course, same_then}
 use Rattle.ldm_gather.proofs.gatherer.Gatherer.run.Goals as goal
 
 pub loop-preserved : goal.loop-preserved
@@ -17,7 +17,7 @@ loop-preserved g c =
       );
       counts = counts-then lent mid new c.loop.invariant.counts c.in-On.ensures.counts;
       others = same-course c.args.self.now c.loop.self c.turn.new.self c.loop.invariant.others c.in-On.ensures.others;
-      same = same-then c.args.self.now.pass c.loop.self.pass c.turn.new.self.pass c.loop.invariant.same c.in-On.ensures.kept;
+      same = same_then c.args.self.now.pass c.loop.self.pass c.turn.new.self.pass c.loop.invariant.same c.in-On.ensures.kept;
       not_closed = c.in-On.ensures.still_open;
       live = step.1.live;
       ready = c.in-On.ensures.ready;

@@ -1,7 +1,7 @@
 use Rattle.std.proofs.Common.{◌∙◌, refl}
 use Rattle.ldm_outside.specs.declared.gate.Go.TheVariants as go
 use Rattle.ldm_session.proofs.CallerLemmas.{IdledAll-one}
-use Rattle.ldm_sender.proofs.Steps.{same_then}
+use Rattle.ldm_shared.proofs.Using.{same_then}
 use Rattle.ldm_pqact.specs.declared.end.ActEnd.TheVariants as end
 use Rattle.ldm_pqact.proofs.Stretches.{asks_no_gate, of_entries, stretches_begin, stretches_end, stretches_go_on}
 use Rattle.ldm_pqact.proofs.acting.Follower.follow.Goals as goal

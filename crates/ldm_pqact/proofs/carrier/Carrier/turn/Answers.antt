@@ -1,7 +1,8 @@
 use Rattle.std.proofs.Common.{◌∙◌, refl}
 use Rattle.std.proofs.lemmas.Result.{err_from_is_err_and}
 use Rattle.ldm_pqact.specs.Handling.{given_of}
-use Rattle.ldm_pqact.proofs.Counting.{counts_no_product, counts_product, counts_worn}
+use Rattle.ldm_shared.proofs.Counting.{counts_no_product, counts_worn}
+use Rattle.ldm_pqact.proofs.Counting.{counts_product}
 use Rattle.ldm_pqact.proofs.Coursing.{ended, gave, lost, unlogged, unstepped}
 use Rattle.ldm_pqact.proofs.carrier.Carrier.turn.Goals as goal
 

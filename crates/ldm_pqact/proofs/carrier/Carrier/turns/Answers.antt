@@ -1,6 +1,7 @@
 use Rattle.std.proofs.Common.{◌∙◌, refl}
-use Rattle.ldm_sender.proofs.Steps.{of_same, same_then}
-use Rattle.ldm_pqact.proofs.Counting.{counts_none, counts_then}
+use Rattle.ldm_shared.proofs.Using.{same_then}
+use Rattle.ldm_sender.proofs.Steps.{of_same}
+use Rattle.ldm_shared.proofs.Counting.{counts_none, counts_then}
 use Rattle.ldm_pqact.proofs.Coursing.{course_begins, course_ends, course_goes_on}
 use Rattle.ldm_pqact.proofs.carrier.Carrier.turns.Goals as goal
 

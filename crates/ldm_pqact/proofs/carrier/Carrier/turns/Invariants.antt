@@ -3,7 +3,7 @@ use Rattle.std.specs.Vec.{vec_capacity}
 use Rattle.ldm_actions.specs.Outputs.{standing}
 use Rattle.ldm_pqact.specs.declared.limits.TheConstants.{LARGEST_PIECE}
 use Rattle.ldm_pqact.specs.Acting.{sight_of}
-use Rattle.ldm_pqact.specs.Counting.{CountsGiven}
+use Rattle.ldm_shared.specs.Counting.{CountsGiven}
 use Rattle.ldm_pqact.proofs.Coursing.{KeepsCourse}
 use Rattle.ldm_pqact.proofs.carrier.Carrier.turns.Given as goal
 

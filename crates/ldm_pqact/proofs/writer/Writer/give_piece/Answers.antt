@@ -4,7 +4,7 @@ use Rattle.ldm_actions.specs.Outputs.{standing}
 use Rattle.ldm_pqact.specs.Handling.{Reads, ReadsAll, giving_of, lent}
 use Rattle.ldm_pqact.proofs.Giving.{gives_worn}
 use Rattle.ldm_pqact.proofs.Reading.{part_of_rest, piece_read}
-use Rattle.ldm_pqact.proofs.Using.{uses_read, uses_worn}
+use Rattle.ldm_shared.proofs.Using.{uses_read, uses_worn}
 use Rattle.ldm_pqact.proofs.writer.Writer.give_piece.Goals as goal
 
 pub returns-in-Worn-clause-reads : goal.returns-in-Worn-clause-reads

@@ -1,10 +1,9 @@
--- What a cursor is given, step by step, as plain data; and the log lines of losses.
+-- What a cursor is given, step by step, as plain data.
 use Rattle.std.specs.Prelude.{ℕ, List, [], ◌∷◌, length}
 use Rattle.std.specs.List.{flat_map}
 use Rattle.ldm_model.specs.declared.event.Reply.{Reply}
 use Rattle.ldm_model.specs.declared.event.Reply.TheVariants as reply
 use Rattle.ldm_model.specs.Product.{Product}
-use Rattle.ldm_session.specs.Gaps.{gap_line}
 
 -- A product that the cursor was given: its number, its insertion time, and the product that was admitted under that number.
 pub record Given : Type 0 where
@@ -34,11 +33,3 @@ products_of turns = flat_map turn_product turns
 -- how many these are
 abbrev pub count_of : List Turn → ℕ
 count_of turns = length (products_of turns)
-
-abbrev pub turn_lines : List ℕ → Turn → List ℕ
-turn_lines name (Lost count first last) = gap_line name count first last
-turn_lines name (Gave given) = []
-
--- a log line for each loss
-abbrev pub lines_of : List ℕ → List Turn → List ℕ
-lines_of name turns = flat_map (turn_lines name) turns

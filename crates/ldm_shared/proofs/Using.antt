@@ -1,5 +1,5 @@
 -- Calls of a cursor, one after another, and the rows of products.
-use Rattle.std.proofs.Common.{◌≡◌, ◌∙◌, ℕ, List, [], ◌∷◌, ◌++◌, inl, inr, ◌⊎◌, refl, sym, ap, subst}
+use Rattle.std.proofs.Common.{◌≡◌, ◌∙◌, ℕ, ◌+◌, List, [], ◌∷◌, ◌++◌, length, length-append, inl, inr, ◌⊎◌, refl, sym, ap, subst}
 use Rattle.std.proofs.lemmas.List.Concat.{flat_map-append}
 use Rattle.ldm_model.specs.declared.event.Event.TheVariants as event
 use Rattle.ldm_model.specs.declared.event.Reply.{Reply}
@@ -9,8 +9,8 @@ use Rattle.ldm_model.specs.Product.{Product}
 use Rattle.ldm_shared.specs.Passes.{PassView, Calls, FindsWorn, Grows, HasSeen, IsSamePass}
 use Rattle.ldm_shared.proofs.Made.{calls_none, calls_some, calls_trans}
 use Rattle.ldm_shared.specs.Staying.{HasRow}
-use Rattle.ldm_gather.specs.Givens.{Given, Turn, products_of, turn_product}
-use Rattle.ldm_gather.specs.Uses.{AreRows, AreUses, Uses, answer_by, step_answers}
+use Rattle.ldm_shared.specs.Givens.{Given, Turn, count_of, products_of, turn_product}
+use Rattle.ldm_shared.specs.Uses.{AreRows, AreUses, Uses, answer_by, step_answers}
 
 pub uses_none : (k : ℕ) (pass : PassView) → Uses k pass pass []
 uses_none k pass = record { called = []; calls = calls_none pass; are_uses = tt; answered = refl }
@@ -40,6 +40,11 @@ uses_release k old new answer grows = record { called = _; calls = calls_some ol
 
 pub uses_worn : (k turns : ℕ) (old new : PassView) → FindsWorn old new turns → Uses k old new []
 uses_worn k turns old new worn = record { called = []; calls = calls_some old new [] worn.makes; are_uses = tt; answered = refl }
+
+-- ---- how many products
+
+pub count_of-append : (first second : List Turn) → count_of (first ++ second) ≡ count_of first + count_of second
+count_of-append first second = ap length (flat_map-append turn_product first second) ∙ length-append (products_of first) (products_of second)
 
 -- ---- rows stay
 
@@ -85,5 +90,5 @@ rows_then law old new made first second calls one two =
     subst (AreRows new) (sym (flat_map-append turn_product first second))
     (rows-append new (products_of first) (products_of second) (rows_stay law old new made (products_of first) calls one) two)
 
-pub same-then : (old mid new : PassView) → IsSamePass old mid → IsSamePass mid new → IsSamePass old new
-same-then old mid new first second = second ∙ ap (λ (pass : PassView). record pass { seen = new.seen }) first
+pub same_then : (old mid new : PassView) → IsSamePass old mid → IsSamePass mid new → IsSamePass old new
+same_then old mid new first second = second ∙ ap (λ (pass : PassView). record pass { seen = new.seen }) first

@@ -5,7 +5,7 @@ use Rattle.ldm_model.specs.declared.event.Reply.{Reply}
 use Rattle.ldm_model.specs.declared.event.Reply.TheVariants as reply
 use Rattle.ldm_model.specs.declared.event.Entry.{Entry}
 use Rattle.ldm_shared.specs.Passes.{PassView, Calls}
-use Rattle.ldm_pqact.specs.Uses.{step_answers}
+use Rattle.ldm_shared.specs.Uses.{step_answers}
 
 -- what is left behind so many products
 abbrev pub left_behind : Option ℕ → ℕ → Option ℕ

@@ -1,4 +1,4 @@
--- What a cursor was used for: its own calls on the queue, and how its steps were answered.
+-- What a cursor was used for: the calls on the queue, and how its steps were answered.
 use Rattle.std.specs.Prelude.{◌≡◌, ℕ, List, [], ◌∷◌}
 use Rattle.std.specs.List.{flat_map}
 use Rattle.ldm_model.specs.declared.event.Event.{Event}
@@ -8,7 +8,7 @@ use Rattle.ldm_model.specs.declared.event.Entry.{Entry}
 use Rattle.ldm_model.specs.History.{after}
 use Rattle.ldm_shared.specs.Passes.{PassView, Calls}
 use Rattle.ldm_shared.specs.Staying.{HasRow}
-use Rattle.ldm_pqact.specs.Turns.{Given}
+use Rattle.ldm_shared.specs.Givens.{Given}
 
 -- a step, a read or a release of the cursor at that place
 abbrev pub IsUse : ℕ → Event → Type 0
