@@ -13,7 +13,7 @@ use Rattle.ldm_sender.specs.Acts.{Situation, situation_of}
 use Rattle.ldm_sender.specs.Course.{IsRowIn}
 use Rattle.ldm_sender.specs.Ending.{StopsTurns}
 use Rattle.ldm_sender.specs.Stopping.{StopsSending}
-use Rattle.ldm_sender.specs.Turn.{Gave, given_reply}
+use Rattle.ldm_sender.specs.Turn.{given_reply}
 use Rattle.ldm_sender.proofs.Opened.{stops_cut}
 use Rattle.ldm_sender.proofs.Steps.{RowsStay}
 use Rattle.ldm_sender.proofs.Stepping.{StepsBy, gave, gave_ended, with_pass}

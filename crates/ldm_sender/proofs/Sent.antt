@@ -1,5 +1,5 @@
 -- A whole session, put together of its parts: how the request was answered, the turns, the end, and the cursor closed.
-use Rattle.std.proofs.Common.{◌≡◌, ◌∙◌, ℕ, List, [], ◌∷◌, ◌++◌, Bool, refl, sym, ap, subst, arith, append_assoc}
+use Rattle.std.proofs.Common.{◌≡◌, ◌∙◌, ℕ, List, [], ◌++◌, Bool, refl, sym, ap, subst, append_assoc}
 use Rattle.std.proofs.Common.{append-nil}
 use Rattle.ldm_model.specs.declared.event.Event.TheVariants.{Close}
 use Rattle.ldm_model.specs.declared.event.Reply.TheVariants as reply
@@ -24,7 +24,7 @@ use Rattle.ldm_sender.specs.Deeds.{records_of}
 use Rattle.ldm_sender.specs.Does.{moment_of, Does, Breaks}
 use Rattle.ldm_sender.specs.Acts.{Situation, situation_of, Act, then_act, EndsAct, is_whole, IsAllSent}
 use Rattle.ldm_sender.specs.Ending.{session_of, closing_of, IsLeft, IsEndOf}
-use Rattle.ldm_sender.specs.Turn.{Kind, Turn}
+use Rattle.ldm_sender.specs.Turn.{Kind}
 use Rattle.ldm_sender.specs.Turns.{messages_of_turns, entries_of_turns}
 use Rattle.ldm_sender.specs.Sending.{Sending, Last, GoesOn, MayTurn, begun, stands, last_entries, last_messages}
 use Rattle.ldm_sender.specs.Sending.{given_of}

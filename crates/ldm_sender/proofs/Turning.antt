@@ -24,7 +24,7 @@ use Rattle.ldm_sender.specs.Acts.{Situation, Act, then_act, Acts, EndsAct, is_wh
 use Rattle.ldm_sender.specs.Turn.{Kind, Turn, turn_entries, turn_messages, turn_instants, turn_goes, after_turn}
 use Rattle.ldm_sender.specs.Turns.{AreTurns, after_turns, messages_of_turns, given_in, given_in_turns}
 use Rattle.ldm_sender.specs.Sending.{last_given}
-use Rattle.ldm_sender.specs.Course.{Course, turns_act, last_act, course_act, course_given, IsRowIn, AreRows, MakesTurns}
+use Rattle.ldm_sender.specs.Course.{Course, turns_act, last_act, course_act, IsRowIn, AreRows, MakesTurns}
 use Rattle.ldm_sender.specs.Course.{EndsTurns}
 use Rattle.ldm_sender.proofs.Acting.{deed_is, act_is, acts_same, beside_same, ends_same, acts_then, acts_end}
 use Rattle.ldm_sender.proofs.Steps.{RowsStay, calls_at_end, cause_later, does_nothing, records-append, same_actor}

@@ -1,5 +1,5 @@
 -- A whole feeding, put together of its parts, and what was heard of the peer.
-use Rattle.std.proofs.Common.{◌≡◌, ℕ, List, [], ◌++◌, Bool, refl, sym, subst}
+use Rattle.std.proofs.Common.{◌≡◌, ℕ, List, [], ◌++◌, Bool, refl, subst}
 use Rattle.ldm_model.specs.declared.event.Event.TheVariants.{Close}
 use Rattle.ldm_model.specs.declared.event.Reply.TheVariants as reply
 use Rattle.ldm_outside.specs.Io.{SinkRecord}
@@ -20,7 +20,6 @@ use Rattle.ldm_sender.specs.Stopping.{StopsSending}
 use Rattle.ldm_sender.specs.Does.{moment_of, Does, Breaks}
 use Rattle.ldm_sender.specs.Acts.{Situation, situation_of}
 use Rattle.ldm_sender.specs.Ending.{AwaitsNone, IsEndOf, IsLeft, session_of}
-use Rattle.ldm_sender.specs.Sends.{HasSent}
 use Rattle.ldm_sender.proofs.Opened.{IsCut, stops_cut}
 use Rattle.ldm_sender.proofs.Sent.{answer_broke_sent, turns_sent, unsent}
 use Rattle.ldm_sender.proofs.Sent as sender

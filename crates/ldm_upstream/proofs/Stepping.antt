@@ -22,10 +22,10 @@ use Rattle.ldm_sender.proofs.Steps.{RowsStay, none_in_front, silent_part}
 use Rattle.ldm_sender.proofs.Stepping.{StepsBy, StepsOff, StepsOn, cut_last, gave, gave_ended, step_of, with_pass}
 use Rattle.ldm_sender.proofs.Turning.{one_row}
 use Rattle.ldm_upstream.specs.Turn.{Given, Declined, Gave, given_reply, after_handling, handling_codes, feeding_kind}
-use Rattle.ldm_upstream.specs.Feeding.{Last, GoesOn, Unanswered}
+use Rattle.ldm_upstream.specs.Feeding.{GoesOn, Unanswered}
 use Rattle.ldm_upstream.specs.ProductDeeds.{handling_deed}
 use Rattle.ldm_upstream.specs.Heard.{HearsOn, HearsLast, IsBehind}
-use Rattle.ldm_upstream.specs.Offering.{EndsDeed, StopsOffer, Handled, IsUnanswered, BreaksHandling, EndsHandlingBy}
+use Rattle.ldm_upstream.specs.Offering.{EndsDeed, StopsOffer, IsUnanswered, EndsHandlingBy}
 use Rattle.ldm_upstream.specs.Offering.{Handles}
 use Rattle.ldm_upstream.specs.Turns.{after_turns}
 use Rattle.ldm_upstream.specs.Course.{IsLastOf, MakesTurns, EndsTurns, TurnsBy}

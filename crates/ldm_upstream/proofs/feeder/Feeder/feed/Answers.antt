@@ -1,12 +1,9 @@
-use Rattle.std.proofs.Common.{◌∙◌, ap, refl, sym, subst, true}
-use Rattle.ldm_outside.specs.Link.{LinkRecord}
-use Rattle.ldm_outside.specs.Session.{SessionRecord, KeepsFaults}
+use Rattle.std.proofs.Common.{◌∙◌, ap, refl, true}
 use Rattle.ldm_shared.specs.Passes.{PassView}
 use Rattle.ldm_shared.proofs.Made.{calls_some, calls_trans}
 use Rattle.ldm_sender.proofs.Settling.{left_closed, left_open}
 use Rattle.ldm_sender.proofs.Steps.{same_then}
 use Rattle.ldm_upstream.specs.Feeder.{asked_by}
-use Rattle.ldm_upstream.specs.Feeds.{Feeds}
 use Rattle.ldm_upstream.proofs.Fed.{closes, worn, worn_at_close}
 use Rattle.ldm_upstream.proofs.feeder.Feeder.feed.Goals as goal
 
