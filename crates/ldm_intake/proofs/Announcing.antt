@@ -28,6 +28,12 @@ module _ (s : Receiving) (now xid : ℕ) (info : Metadata) where
       let waits : Course Step = Comes (Goes (record s { pending = Some (record { info = info; r = r; blocks = 0 }) }) (sent.ComingsoonReply xid soon_answer.Ok ∷ []) []) in
       ap (λ (none : Bool). if none then commits s now (sent.ComingsoonReply xid soon_answer.Ok ∷ []) info r else waits) (ne_eqb info.size 0 some)
 
+  -- a product that has none
+  pub accepts-empty : (r : ℕ) → info.size ≡ 0 → accepts s now xid info r ≡ commits s now (sent.ComingsoonReply xid soon_answer.Ok ∷ []) info r
+  accepts-empty r none =
+      let waits : Course Step = Comes (Goes (record s { pending = Some (record { info = info; r = r; blocks = 0 }) }) (sent.ComingsoonReply xid soon_answer.Ok ∷ []) []) in
+      ap (λ (empty : Bool). if empty then commits s now (sent.ComingsoonReply xid soon_answer.Ok ∷ []) info r else waits) (eq-eqb info.size 0 none)
+
   -- a product that is not wanted
   pub comingsoon-unwanted : (block_size : ℕ) → is_none s.pending ≡ true → block_size ≡ LARGEST_BLOCK → is_wanted s.wanting info ≡ false
       → comingsoon s now xid info block_size ≡ declines s xid info (Unwanted info.ident ∷ [])

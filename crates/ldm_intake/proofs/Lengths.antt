@@ -1,5 +1,6 @@
--- The length of the reply to a COMINGSOON.
-use Rattle.std.proofs.Common.{◌≡◌, ℕ, ◌+◌, [], ◌∷◌, length, refl, ◌∙◌, arith, true, Result, Ok, Err}
+-- The length of the reply to a COMINGSOON, and bytes that are none.
+use Rattle.std.proofs.Common.{◌≡◌, ℕ, ◌+◌, List, [], ◌∷◌, length, refl, sym, ◌∙◌, arith, true, eqb, Result, Ok, Err}
+use Rattle.std.proofs.lemmas.Bool.{both_ways, ne_eqb}
 use Rattle.std.proofs.lemmas.List.{length-append, append-nil}
 use Rattle.std.specs.Prelude.{IsOk}
 use Rattle.std.specs.Result.{is_err}
@@ -35,3 +36,8 @@ note_one n = append-nil (note_line n)
 pub ok_not_err : {A E : Type 0} (r : Result A E) → IsOk r → is_err r ≡ true → ⊥
 ok_not_err (Ok x) ok e = absurd cc
 ok_not_err (Err e) ok is = absurd cc
+
+-- bytes whose number was tested
+pub is_empty : (bytes : List ℕ) → true ≡ eqb (length bytes) 0 → bytes ≡ []
+is_empty [] e = refl
+is_empty (byte ∷ bytes) e = absurd (both_ways (eqb (length (byte ∷ bytes)) 0) (ne_eqb (length (byte ∷ bytes)) 0 (omega arith)) (sym e))

@@ -88,40 +88,17 @@ impl Intake<'_> {
     {
         calls_made();
         match shared.reserve(rt, pass, &soon.info) {
-            Turn::Done(reply) => self.reserved(shared, rt, pass, soon, reply, now, out, notes),
+            Turn::Done(reply) => match reply {
+                ReserveReply::Reserved { r, .. } => {
+                    self.accept_blocks(shared, rt, pass, soon, r, now, out, notes)
+                }
+                refusal => {
+                    note_reserve(notes, &soon.info, refusal);
+                    self.decline(soon, out);
+                    Turn::Done(())
+                }
+            },
             Turn::Worn { turns } => Turn::Worn { turns },
-        }
-    }
-
-    // Goes on by what the queue answered to a reservation.
-    fn reserved<H: Wait>(
-        &mut self,
-        shared: &Shared,
-        rt: &H,
-        pass: &mut Pass,
-        soon: &Comingsoon,
-        reply: ReserveReply,
-        now: Micros,
-        out: &mut Vec<u8>,
-        notes: &mut Vec<u8>,
-    ) -> Turn<()>
-        requires of { IsPassOf shared.now pass.old }
-        requires reply_room { HasReplyRoom out.old }
-        requires note_room { HasNoteRoom notes.old }
-        ensures { TakesRecord (end_of_turn result)
-            (reserved self.old now soon.now.xid soon.now.info (reserve_answer reply))
-            (stands self.old pass.old out.old.items notes.old.items)
-            (stands self.new pass.new out.new.items notes.new.items) }
-    {
-        match reply {
-            ReserveReply::Reserved { r, .. } => {
-                self.accept_blocks(shared, rt, pass, soon, r, now, out, notes)
-            }
-            refusal => {
-                note_reserve(notes, &soon.info, refusal);
-                self.decline(soon, out);
-                Turn::Done(())
-            }
         }
     }
 
@@ -144,38 +121,15 @@ impl Intake<'_> {
             (stands self.old pass.old out.old.items notes.old.items)
             (stands self.new pass.new out.new.items notes.new.items) }
     {
-        if soon.info.size() == 0 {
-            return self.commit_empty(shared, rt, pass, soon, r, now, out, notes);
+        if soon.info.size() != 0 {
+            put_soon(out, soon.xid, SoonAnswer::Ok);
+            self.wait_for(Some(Pending {
+                info: soon.info.copy(),
+                r,
+                blocks: 0,
+            }));
+            return Turn::Done(());
         }
-        put_soon(out, soon.xid, SoonAnswer::Ok);
-        self.wait_for(Some(Pending {
-            info: soon.info.copy(),
-            r,
-            blocks: 0,
-        }));
-        Turn::Done(())
-    }
-
-    // Commits a product without a body, and answers that its blocks may come.
-    fn commit_empty<H: Wait>(
-        &mut self,
-        shared: &Shared,
-        rt: &H,
-        pass: &mut Pass,
-        soon: &Comingsoon,
-        r: ReserveNo,
-        now: Micros,
-        out: &mut Vec<u8>,
-        notes: &mut Vec<u8>,
-    ) -> Turn<()>
-        requires of { IsPassOf shared.now pass.old }
-        requires reply_room { HasReplyRoom out.old }
-        requires note_room { HasNoteRoom notes.old }
-        ensures { TakesRecord (end_of_turn result)
-            (commits self.old now (sent.ComingsoonReply soon.now.xid soon_answer.Ok ∷ []) soon.now.info r)
-            (stands self.old pass.old out.old.items notes.old.items)
-            (stands self.new pass.new out.new.items notes.new.items) }
-    {
         match shared.commit(rt, pass, r, now) {
             Turn::Done(reply) => {
                 note_commit(notes, &soon.info, reply);
