@@ -1,5 +1,5 @@
-//! Cases of the outside. The forms of the system: streams, files, programs, the clock, the gate and links over TCP; and,
-//! behind the word `memory`, those in memory.
+//! Cases of the outside. The forms of the system: streams, files, programs, the clock, the gate and links over TCP;
+//! and, behind the word `memory`, those in memory.
 #![tactic(auto)]
 
 mod disk;

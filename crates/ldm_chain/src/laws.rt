@@ -51,8 +51,9 @@ pub fn a_link_passes_on()
     products_stay();
 }
 
-/// Why a chain ended while a node was fed from the one before it, and what that leaves, where each of the two queues has
-/// one pass, and the node's was not called before. The pass of the node before stood as `found` when the chain began.
+/// Why a chain ended while a node was fed from the one before it, and what that leaves, where each of the two queues
+/// has one pass, and the node's was not called before. The pass of the node before stood as `found` when the chain
+/// began.
 pub fn a_break_has_a_cause()
     ensures cause { (end : ChainEnd) (asked : Asked) (found old new before after : PassView)
         → BreaksAt end asked old new before after → asked.xid ≡ 1 →

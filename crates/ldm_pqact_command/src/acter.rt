@@ -60,8 +60,8 @@ impl Acter {
         self.why
     }
 
-    /// The product in hand where it stopped by a fault of the store or of the launcher: the first 60 bytes of its ident,
-    /// as a log line can have them. None was in hand where it did not stop.
+    /// The product in hand where it stopped by a fault of the store or of the launcher: the first 60 bytes of its
+    /// ident, as a log line can have them. None was in hand where it did not stop.
     pub fn in_hand(&self) -> &[u8]
         ensures { IsReason result.now }
     {

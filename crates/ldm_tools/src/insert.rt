@@ -67,7 +67,8 @@ fn insert_files<F: Store, N: Dial, K: Sink, C: Clock>(
         (outside_tells F.tells N.tells K.tells C.tells store.old net.old sink.old clock.old)
         (outside_tells F.tells N.tells K.tells C.tells store.new net.new sink.new clock.new) }
     ensures none_out { (N.tells net.new).links.out ≡ false }
-    ensures counts { KeepsInsertCounts (outside_tells F.tells N.tells K.tells C.tells store.old net.old sink.old clock.old)
+    ensures counts { KeepsInsertCounts
+        (outside_tells F.tells N.tells K.tells C.tells store.old net.old sink.old clock.old)
         (outside_tells F.tells N.tells K.tells C.tells store.new net.new sink.new clock.new) }
 {
     match net.connect(insertion.host, insertion.port) {
@@ -94,7 +95,8 @@ fn hold<F: Store, N: Dial, K: Sink, C: Clock>(
         (outside_tells F.tells N.tells K.tells C.tells store.old net.old sink.old clock.old)
         (outside_tells F.tells N.tells K.tells C.tells store.new net.new sink.new clock.new) }
     ensures none_out { (N.tells net.new).links.out ≡ false }
-    ensures counts { KeepsInsertCounts (outside_tells F.tells N.tells K.tells C.tells store.old net.old sink.old clock.old)
+    ensures counts { KeepsInsertCounts
+        (outside_tells F.tells N.tells K.tells C.tells store.old net.old sink.old clock.old)
         (outside_tells F.tells N.tells K.tells C.tells store.new net.new sink.new clock.new) }
 {
     let ending = take_files(alloc, store, &mut link, sink, clock, insertion);
