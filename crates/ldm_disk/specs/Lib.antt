@@ -5,3 +5,5 @@ pub mod Calls
 pub mod MemDisk
 pub mod Pending
 pub mod Consistent
+pub mod Desks
+pub mod MemSite
