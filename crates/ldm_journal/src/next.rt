@@ -39,6 +39,13 @@ impl Journal {
         self.marks.ring
     }
 
+    /// How many bytes the records have that were appended since the last commit.
+    pub fn appended(&self) -> u64
+        ensures { result ≡ self.now.marks.appended }
+    {
+        self.marks.appended
+    }
+
     /// The least number that the next product may have.
     pub fn next_number(&self) -> u64
         ensures { result ≡ self.now.marks.next }

@@ -1,6 +1,6 @@
 -- Turns, one after another.
-use Rattle.std.proofs.Common.{◌≡◌, ℕ, true, false, List, [], ◌∷◌, ◌++◌, refl, sym, ◌∙◌, ap, subst}
-use Rattle.std.specs.Prelude.{IfSome, Ok, Err}
+use Rattle.std.proofs.Common.{◌≡◌, ℕ, List, [], ◌∷◌, ◌++◌, refl, sym, ◌∙◌, ap, subst}
+use Rattle.std.specs.Prelude.{IfSome, None, Some, Ok, Err}
 use Rattle.std.specs.List.{flat_map}
 use Rattle.std.proofs.lemmas.List.{append-nil, append_assoc}
 use Rattle.std.proofs.lemmas.List.Concat.{flat_map-append}
@@ -9,6 +9,7 @@ use Rattle.ldm_model.specs.declared.event.Entry.{Entry}
 use Rattle.ldm_outside.specs.declared.gate.Go.{Go}
 use Rattle.ldm_outside.specs.declared.gate.Go.TheVariants as go
 use Rattle.ldm_outside.specs.Gate.{Idles}
+use Rattle.ldm_outside.specs.Io.{SinkRecord}
 use Rattle.ldm_session.specs.Exchange.{IdledAll}
 use Rattle.ldm_session.proofs.CallerLemmas.{IdledAll-one, IdledAll-then}
 use Rattle.ldm_recorder.specs.declared.end.RecordEnd.{RecordEnd}
@@ -19,11 +20,12 @@ use Rattle.ldm_shared.specs.declared.reader.Reader as reading
 use Rattle.ldm_recorder.specs.declared.recorder.Recorder.{Recorder}
 use Rattle.ldm_recorder.specs.Taking.{IsSameRecorder}
 use Rattle.ldm_recorder.specs.Recording.{Does, IsAtEnd, Sight, Stops, TurnsBy, who_of}
-use Rattle.ldm_recorder.specs.Course.{Gated, RecordsBy, SavesLate, StopsWell, asks}
+use Rattle.ldm_recorder.specs.Course.{BreaksOffThen, Gated, IfStopped, RecordsBy, SavesLate, StopsWell, asks}
+use Rattle.ldm_recorder.specs.Failing.{TellsFault}
 use Rattle.ldm_recorder.proofs.Working.{IsSameWork, does_none, does_same, does_then}
 use Rattle.ldm_recorder.proofs.Telling.{work_events}
 
-numbered-append : (base : ℕ) (first more : List Turn) → AreNumbered base first → AreNumbered base more → AreNumbered base (first ++ more)
+pub numbered-append : (base : ℕ) (first more : List Turn) → AreNumbered base first → AreNumbered base more → AreNumbered base (first ++ more)
 numbered-append base [] more one two = two
 numbered-append base (turn ∷ first) more one two = (one.0, numbered-append base first more one.1 two)
 
@@ -33,7 +35,7 @@ entries-append who (turn ∷ first) more =
     append_assoc (turn_work who turn).entries (work_of who first).entries (work_of who more).entries
     ∙ ap (λ (l : List Entry). (turn_work who turn).entries ++ l) (entries-append who first more)
 
-lines-append : (who : Who) (first more : List Turn) → (work_of who first).lines ++ (work_of who more).lines ≡ (work_of who (first ++ more)).lines
+pub lines-append : (who : Who) (first more : List Turn) → (work_of who first).lines ++ (work_of who more).lines ≡ (work_of who (first ++ more)).lines
 lines-append who [] more = refl
 lines-append who (turn ∷ first) more =
     append_assoc (turn_work who turn).lines (work_of who first).lines (work_of who more).lines
@@ -87,32 +89,51 @@ course_on who a b c at so_far does idles = record {
 }
 
 -- it said to stop
-pub course_stops : (who : Who) (a b c : Gated) (at : ℕ) → CoursesOn who a b → Does who (CaughtUp at ∷ []) b.sight c.sight → Idles go.Stop b.gate c.gate → StopsWell who a c
+pub course_stops : (who : Who) (a b c : Gated) (at : ℕ) → CoursesOn who a b → Does who (CaughtUp at ∷ []) b.sight c.sight → Idles go.Stop b.gate c.gate → StopsWell at who a c
 course_stops who a b c at so_far does idles = record {
   earlier = so_far.turns;
-  at = at;
   does = turns_then who so_far.turns (CaughtUp at ∷ []) a.sight b.sight c.sight so_far.does does;
   idled = IdledAll-then (flat_map asks so_far.turns) (go.Stop ∷ []) a.gate b.gate c.gate so_far.idled (IdledAll-one go.Stop b.gate c.gate idles);
 }
 
--- a turn broke off
-pub course_breaks : (why : RecordEnd) (who : Who) (a b : Gated) (c : Sight) → CoursesOn who a b → Stops why who b.sight c → RecordsBy why who a (record { sight = c; gate = b.gate })
-course_breaks end.Stopped who a b c so_far stops = absurd stops.cause
-course_breaks end.DiskFault who a b c so_far stops = record { whole = so_far.turns; mid = b.sight; does = so_far.does; stops = stops; idled = so_far.idled }
-course_breaks end.NotAJournal who a b c so_far stops = record { whole = so_far.turns; mid = b.sight; does = so_far.does; stops = stops; idled = so_far.idled }
-course_breaks end.LogFault who a b c so_far stops = record { whole = so_far.turns; mid = b.sight; does = so_far.does; stops = stops; idled = so_far.idled }
-course_breaks end.Worn who a b c so_far stops = record { whole = so_far.turns; mid = b.sight; does = so_far.does; stops = stops; idled = so_far.idled }
-course_breaks end.OutOfMemory who a b c so_far stops = record { whole = so_far.turns; mid = b.sight; does = so_far.does; stops = stops; idled = so_far.idled }
+-- a turn broke off, and the log was told where the journal failed
+abbrev pub told_behind : Sight → SinkRecord → Gated → Gated
+told_behind c log b = record { sight = record c { log = log }; gate = b.gate }
+
+breaks_then : (why : RecordEnd) (who : Who) (a b : Gated) (c : Sight) (log : SinkRecord) → CoursesOn who a b → Stops why who b.sight c → TellsFault why c.log log
+    → BreaksOffThen why who a (told_behind c log b)
+breaks_then why who a b c log so_far stops told =
+    record { whole = so_far.turns; mid = b.sight; does = so_far.does; log = c.log; stops = stops; told = told; idled = so_far.idled }
+
+pub course_breaks : (why : RecordEnd) (who : Who) (a b : Gated) (c : Sight) (log : SinkRecord) → CoursesOn who a b → Stops why who b.sight c → TellsFault why c.log log
+    → RecordsBy why who a (told_behind c log b)
+course_breaks (end.Stopped n) who a b c log so_far stops told = absurd stops.cause
+course_breaks end.DiskFault who a b c log so_far stops told = breaks_then end.DiskFault who a b c log so_far stops told
+course_breaks end.NotAJournal who a b c log so_far stops told = breaks_then end.NotAJournal who a b c log so_far stops told
+course_breaks end.LogFault who a b c log so_far stops told = breaks_then end.LogFault who a b c log so_far stops told
+course_breaks end.Worn who a b c log so_far stops told = breaks_then end.Worn who a b c log so_far stops told
+course_breaks end.NoNumbers who a b c log so_far stops told = breaks_then end.NoNumbers who a b c log so_far stops told
+course_breaks end.OutOfMemory who a b c log so_far stops told = breaks_then end.OutOfMemory who a b c log so_far stops told
+
+-- where work broke off the gate had not stopped it
+pub not_stopped : (why : RecordEnd) (who : Who) (a b : Sight) (P : ℕ → Type 0) → Stops why who a b → IfStopped why P
+not_stopped (end.Stopped n) who a b P stops = absurd stops.cause
+not_stopped end.DiskFault who a b P stops = tt
+not_stopped end.NotAJournal who a b P stops = tt
+not_stopped end.LogFault who a b P stops = tt
+not_stopped end.Worn who a b P stops = tt
+not_stopped end.NoNumbers who a b P stops = tt
+not_stopped end.OutOfMemory who a b P stops = tt
 
 -- ---- what a turn came to
 
-pub caught_of : (who : Who) (turn : Turn) (b c : Sight) → IsAtEnd true turn → Does who (turn ∷ []) b c → (at : ℕ) × Does who (CaughtUp at ∷ []) b c
-caught_of who (CaughtUp at) b c is does = (at, does)
-caught_of who (Lost count first last) b c is does = absurd (cc is)
-caught_of who (Given n product) b c is does = absurd (cc is)
-caught_of who Saved b c is does = absurd (cc is)
+pub caught_of : (who : Who) (at : ℕ) (turn : Turn) (b c : Sight) → IsAtEnd (Some at) turn → Does who (turn ∷ []) b c → Does who (CaughtUp at ∷ []) b c
+caught_of who at (CaughtUp there) b c is does = (let same : at ≡ there = cc is in subst (λ (n : ℕ). Does who (CaughtUp n ∷ []) b c) (sym same) does)
+caught_of who at (Lost count first last) b c is does = absurd (cc is)
+caught_of who at (Given n product) b c is does = absurd (cc is)
+caught_of who at Saved b c is does = absurd (cc is)
 
-pub quiet_of : (turn : Turn) → IsAtEnd false turn → flat_map asks (turn ∷ []) ≡ []
+pub quiet_of : (turn : Turn) → IsAtEnd None turn → flat_map asks (turn ∷ []) ≡ []
 quiet_of (CaughtUp at) is = absurd (cc is)
 quiet_of (Lost count first last) is = refl
 quiet_of (Given n product) is = refl
@@ -142,24 +163,23 @@ module _ (p q : PassView) (r s : Recorder) (of : IsSamePass p q) (same : IsSameR
   who_is : who_of q s ≡ who_of p r
   who_is = who_same p q r s of same
 
-  caught_here : (c : Sight) → TurnsBy (Ok true) (who_of q s) b.sight c → (at : ℕ) × Does (who_of p r) (CaughtUp at ∷ []) b.sight c
-  caught_here c turned =
-      let caught = caught_of (who_of q s) turned.0 b.sight c turned.1 turned.2 in
-      (caught.0, subst (λ (w : Who). Does w (CaughtUp caught.0 ∷ []) b.sight c) who_is caught.1)
+  caught_here : (at : ℕ) (c : Sight) → TurnsBy (Ok (Some at)) (who_of q s) b.sight c → Does (who_of p r) (CaughtUp at ∷ []) b.sight c
+  caught_here at c turned =
+      subst (λ (w : Who). Does w (CaughtUp at ∷ []) b.sight c) who_is (caught_of (who_of q s) at turned.0 b.sight c turned.1 turned.2)
 
-  pub course_caught : (c : Gated) → TurnsBy (Ok true) (who_of q s) b.sight c.sight → Idles go.On b.gate c.gate → CoursesOn (who_of p r) a c
-  course_caught c turned idles =
-      let caught = caught_here c.sight turned in course_on (who_of p r) a b c caught.0 so_far caught.1 idles
+  pub course_caught : (at : ℕ) (c : Gated) → TurnsBy (Ok (Some at)) (who_of q s) b.sight c.sight → Idles go.On b.gate c.gate → CoursesOn (who_of p r) a c
+  course_caught at c turned idles = course_on (who_of p r) a b c at so_far (caught_here at c.sight turned) idles
 
-  pub course_stopped : (c : Gated) → TurnsBy (Ok true) (who_of q s) b.sight c.sight → Idles go.Stop b.gate c.gate → StopsWell (who_of p r) a c
-  course_stopped c turned idles =
-      let caught = caught_here c.sight turned in course_stops (who_of p r) a b c caught.0 so_far caught.1 idles
+  pub course_stopped : (at : ℕ) (c : Gated) → TurnsBy (Ok (Some at)) (who_of q s) b.sight c.sight → Idles go.Stop b.gate c.gate → StopsWell at (who_of p r) a c
+  course_stopped at c turned idles = course_stops (who_of p r) a b c at so_far (caught_here at c.sight turned) idles
 
-  pub course_broken : (why : RecordEnd) (c : Sight) → Stops why (who_of q s) b.sight c → RecordsBy why (who_of p r) a (record { sight = c; gate = b.gate })
-  course_broken why c stops = course_breaks why (who_of p r) a b c so_far (subst (λ (w : Who). Stops why w b.sight c) who_is stops)
+  pub course_broken : (why : RecordEnd) (c : Sight) (log : SinkRecord) → Stops why (who_of q s) b.sight c → TellsFault why c.log log
+      → RecordsBy why (who_of p r) a (told_behind c log b)
+  course_broken why c log stops told =
+      course_breaks why (who_of p r) a b c log so_far (subst (λ (w : Who). Stops why w b.sight c) who_is stops) told
 
   -- something was given, and then perhaps committed
-  module _ (c : Sight) (turned : TurnsBy (Ok false) (who_of q s) b.sight c) (u : PassView) (t : Recorder) (of' : IsSamePass p u) (same' : IsSameRecorder r t) where
+  module _ (c : Sight) (turned : TurnsBy (Ok None) (who_of q s) b.sight c) (u : PassView) (t : Recorder) (of' : IsSamePass p u) (same' : IsSameRecorder r t) where
     given : CoursesOn (who_of p r) a (record { sight = c; gate = b.gate })
     given =
         course_quiet (who_of p r) a b c (turned.0 ∷ []) (quiet_of turned.0 turned.1) so_far
@@ -172,6 +192,7 @@ module _ (p q : PassView) (r s : Recorder) (of : IsSamePass p q) (same : IsSameR
     course_given d saved =
         course_quiet (who_of p r) a (record { sight = c; gate = b.gate }) d saved.0 saved.1 given (subst (λ (w : Who). Does w saved.0 c d) who_still saved.2)
 
-    pub course_unsaved : (why : RecordEnd) (d : Sight) → SavesLate (Err why) (who_of u t) c d → RecordsBy why (who_of p r) a (record { sight = d; gate = b.gate })
-    course_unsaved why d stops =
-        course_breaks why (who_of p r) a (record { sight = c; gate = b.gate }) d given (subst (λ (w : Who). Stops why w c d) who_still stops)
+    pub course_unsaved : (why : RecordEnd) (d : Sight) (log : SinkRecord) → SavesLate (Err why) (who_of u t) c d → TellsFault why d.log log
+        → RecordsBy why (who_of p r) a (told_behind d log b)
+    course_unsaved why d log stops told =
+        course_breaks why (who_of p r) a (record { sight = c; gate = b.gate }) d log given (subst (λ (w : Who). Stops why w c d) who_still stops) told

@@ -1,6 +1,7 @@
 -- What is done to the journal.
-use Rattle.std.proofs.Common.{◌≡◌, inl, inr, ℕ, ◌+◌, ◌-◌, ◌<◌, ◌≤◌, Bool, true, false, cond, List, [], ◌∷◌, ◌++◌, refl, sym, ◌∙◌, ap, subst, arith}
+use Rattle.std.proofs.Common.{◌≡◌, inl, inr, ℕ, ◌+◌, ◌-◌, ◌<◌, ◌≤◌, Bool, true, false, cond, List, [], ◌∷◌, ◌++◌, length, refl, sym, ◌∙◌, ap, subst, arith}
 use Rattle.std.specs.Prelude.{Option, Some, None, IfSome, Result, Ok, Err, nat_le}
+use Rattle.std.proofs.lemmas.List.{append-nil, length-append}
 use Rattle.std.proofs.lemmas.Bool.{le-leb}
 use Rattle.std.proofs.lemmas.Bool.Decides.{leb_tells}
 use Rattle.ldm_disk.specs.Told.{FileRecord, DiskRecord, IsConsistent}
@@ -10,14 +11,16 @@ use Rattle.ldm_outside.proofs.CallerLemmas.{Rose-later}
 use Rattle.ldm_journal.specs.declared.marks.Marks.{Marks}
 use Rattle.ldm_journal.specs.declared.append.AppendEnd.TheVariants as append
 use Rattle.ldm_journal.specs.declared.commit.CommitEnd.TheVariants as commit
-use Rattle.ldm_journal.specs.Records.{Kept, size_of}
+use Rattle.ldm_journal.specs.Records.{Kept, fitting, record_bytes, records_of, size_of}
 use Rattle.ldm_journal.specs.Standing.{Stands}
 use Rattle.ldm_journal.specs.Appending.{Appends, record_len}
 use Rattle.ldm_journal.specs.Committing.{Commits}
 use Rattle.ldm_journal.specs.Runs.{Append, Commit, Content, Event}
 use Rattle.ldm_journal.specs.Joining.{BreaksOffAmid, MakesEvents, then_events}
 use Rattle.ldm_disk.proofs.Told.{chained, mapped, one_call}
-use Rattle.ldm_journal.proofs.EventLemmas.{all_bytes, append_breaks, append_event, commit_breaks, commit_event, same_events, same_breaks}
+use Rattle.ldm_journal.proofs.EventLemmas.{all_bytes, append_breaks, append_event, breaks_early, commit_breaks, commit_event, events_leave, no_event, same_events, same_breaks}
+use Rattle.ldm_journal.proofs.Around.{length-around}
+use Rattle.ldm_journal.proofs.RecordLemmas.{length-record}
 use Rattle.ldm_recorder.specs.declared.end.RecordEnd.{RecordEnd}
 use Rattle.ldm_recorder.specs.declared.end.RecordEnd.TheVariants as end
 use Rattle.ldm_recorder.specs.Saving.{AppendsBy, BreaksOff, DiskCause, KeepsBy, Kit, Makes, ReplacesBy, replacing}
@@ -26,7 +29,7 @@ use Rattle.ldm_recorder.proofs.Working.{broken_early, broken_same, made_same, no
 
 -- ---- the events of a product
 
-too_long : (a b : ℕ) → b < a → nat_le a b ≡ false
+pub too_long : (a b : ℕ) → b < a → nat_le a b ≡ false
 too_long a b less = elim (leb_tells a b) [ inl within ↦ absurd (omega (arith, within.1, less)) | inr over ↦ over.0 ]
 
 pub keep_large : (ring : ℕ) (k : Kept) (start : Content) → ring < record_len k → keep_events ring k start ≡ []
@@ -125,6 +128,39 @@ pub no_journal : (events : Content → List Event) (gap : ℕ) (before after : M
 no_journal events gap before after old new commits =
     one_call (Commits commit.NotAJournal gap before after) (BreaksOffAmid events before) (λ a b p start stands. absurd (p start.kept start.appended stands)) old new commits
 
+none_appended : (marks : Marks) (kept appended : List Kept) (file : FileRecord) → marks.appended ≡ 0 → Stands marks kept appended file → appended ≡ []
+none_appended marks kept [] file none stands = refl
+none_appended marks kept (k ∷ appended) file none stands =
+    absurd
+    (omega (
+      arith,
+      none,
+      ap (λ (l : List ℕ). length l) stands.behind,
+      length-around marks.ring (marks.front + marks.used) marks.appended file.bytes,
+      length-append (record_bytes k) (records_of appended),
+      length-record k stands.lawful.0,
+    ))
+
+fitting_all : (most : ℕ) (all : List Kept) → size_of all ≤ most → fitting most all ≡ all
+fitting_all most [] fits = refl
+fitting_all most (k ∷ all) fits = ap (λ (b : Bool). cond b (k ∷ all) (fitting most all)) (le-leb (size_of (k ∷ all)) most fits)
+
+-- where nothing was appended, all is committed without a call
+pub nothing_to_commit : (before : Marks) (file : Option FileRecord) → before.used + before.appended ≤ before.ring → before.appended ≡ 0 → IfSome file IsConsistent
+    → FileChanges (MakesEvents (λ start. Commit (before.ring - 0) ∷ []) before before) file file
+nothing_to_commit before None sound none consistent = tt
+nothing_to_commit before (Some file) sound none consistent = λ start stands.
+    let empty : start.appended ≡ [] = none_appended before start.kept start.appended file none stands in
+    let all : start.kept ++ start.appended ≡ start.kept = ap (λ (l : List Kept). start.kept ++ l) empty ∙ append-nil start.kept in
+    let bytes = all_bytes before start.kept start.appended file consistent stands in
+    let fits : fitting (before.ring - 0) (start.kept ++ start.appended) ≡ start.kept =
+    ap (λ (l : List Kept). fitting (before.ring - 0) l) all
+    ∙ fitting_all (before.ring - 0) start.kept (omega (arith, bytes, ap (λ (l : List Kept). size_of l) all, sound)) in
+    let here : Stands before start.kept [] file = subst (λ (l : List Kept). Stands before start.kept l file) empty stands in (
+      subst (λ (l : List Kept). Stands before l [] file) (sym fits) here,
+      breaks_early (λ begun. []) (λ begun. Commit (before.ring - 0) ∷ []) before file file (events_leave (λ begun. []) before before file file (no_event before file consistent)) start stands,
+    )
+
 pub stood_for_nothing : (gap : ℕ) (before after : Marks) (old new : Option FileRecord) → FileChanges (Commits commit.NotAJournal gap before after) old new
     → IfSome old (λ f. (kept appended : List Kept) → ¬ (Stands before kept appended f))
 stood_for_nothing gap before after None new commits = tt
@@ -143,9 +179,10 @@ cause_later end.NotAJournal k before mid after old m new le full cause = (omega 
     nothing (Some a) None full none = absurd full
     nothing (Some a) (Some b) full none = λ kept appended stands.
         none kept appended (subst (λ (f : FileRecord). Stands mid kept appended f) (sym full.0) (subst (λ (x : Marks). Stands x kept appended a) (sym full.1) stands))
-cause_later end.Stopped k before mid after old m new le full cause = cause
+cause_later (end.Stopped n) k before mid after old m new le full cause = cause
 cause_later end.LogFault k before mid after old m new le full cause = cause
 cause_later end.Worn k before mid after old m new le full cause = cause
+cause_later end.NoNumbers k before mid after old m new le full cause = cause
 cause_later end.OutOfMemory k before mid after old m new le full cause = cause
 
 -- ---- the functions
@@ -162,9 +199,10 @@ cause_behind : (why : RecordEnd) (events : Content → List Event) (old mid new 
 cause_behind end.DiskFault events old mid new makes cause = Rose-later old.disk.faults mid.disk.faults new.disk.faults makes.faults cause
 cause_behind end.NotAJournal events old mid new makes cause =
     (omega (arith, makes.faults, cause.0), nothing_before events old.marks mid.marks old.disk.file mid.disk.file makes.made cause.1)
-cause_behind end.Stopped events old mid new makes cause = cause
+cause_behind (end.Stopped n) events old mid new makes cause = cause
 cause_behind end.LogFault events old mid new makes cause = cause
 cause_behind end.Worn events old mid new makes cause = cause
+cause_behind end.NoNumbers events old mid new makes cause = cause
 cause_behind end.OutOfMemory events old mid new makes cause = cause
 
 module _ (k : Kept) (gap : ℕ) (is : gap ≡ record_len k) (old : Kit) where

@@ -7,3 +7,7 @@ pub mod Telling
 pub mod Coursing
 pub mod Products
 pub mod Stepping
+pub mod Listed
+pub mod Finishing
+pub mod Leaving
+pub mod Failing

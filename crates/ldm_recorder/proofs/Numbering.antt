@@ -1,9 +1,11 @@
 -- The numbers that a reader may still be given.
-use Rattle.std.proofs.Common.{◌≡◌, ◌∙◌, ℕ, ◌+◌, ◌<◌, ◌≤◌, true, false, List, [], ◌∷◌, ◌++◌, length, get_or, refl, sym, ap, subst, arith, rules}
+use Rattle.std.proofs.Common.{◌≡◌, ◌∙◌, inl, inr, ℕ, zero, suc, ◌+◌, ◌<◌, ◌≤◌, true, false, List, [], ◌∷◌, ◌++◌, length, get_or, refl, sym, ap, subst, arith, rules}
 use Rattle.std.specs.Prelude.{◌&&◌, All, if◌then◌else◌, Bool, Some}
+use Rattle.std.specs.List.{Contains, range_with_len}
 use Rattle.std.specs.List.Sorted.{IsStrictlyIncreasing}
 use Rattle.std.proofs.lemmas.List.{append_assoc, append-nil, length-append, get_or_append_left}
-use Rattle.std.proofs.lemmas.List.Elements.{All-nil, All-push}
+use Rattle.std.proofs.lemmas.List.Elements.{All-cons, All-contains, All-filter, All-nil, All-push, All-weaker}
+use Rattle.std.proofs.lemmas.Bool.Decides.{leb_tells}
 use Rattle.ldm_types.specs.Info.{Metadata}
 use Rattle.ldm_types.specs.Cursors.{is_number}
 use Rattle.ldm_model.specs.declared.event.Event.{Event}
@@ -12,10 +14,11 @@ use Rattle.ldm_model.specs.declared.event.Reply.{Reply}
 use Rattle.ldm_model.specs.declared.event.Reply.TheVariants as reply
 use Rattle.ldm_model.specs.declared.event.Start.{Start}
 use Rattle.ldm_model.specs.declared.event.Entry.{Entry}
-use Rattle.ldm_model.specs.Law.{is_close, place_of_event, with_given}
+use Rattle.ldm_model.specs.State.{end_of}
+use Rattle.ldm_model.specs.Law.{IsAnsweredAt, IsServed, Point, due, given, is_close, is_due, place_of_event, state_at, with_given}
 use Rattle.ldm_shared.specs.Own.{own}
 use Rattle.ldm_shared.specs.Passes.{PassView, Calls, Grows, entry_of}
-use Rattle.ldm_shared.specs.OwnReaders.{AtEveryOwnPoint, IsOwnPointOf, OwnPoint, is_about, numbers_given, opening_by, over_own}
+use Rattle.ldm_shared.specs.OwnReaders.{Agrees, AtEveryOwnCall, AtEveryOwnPoint, IsCalledAt, IsOwnPointOf, IsSeenAt, OwnPoint, is_about, numbers_given, opening_by, over_own}
 use Rattle.ldm_recorder.specs.Numbers.{IsAhead}
 
 -- the numbers that a cursor was given rise
@@ -43,6 +46,10 @@ self_same n = search rules
 abbrev pub further : OwnPoint → Entry → OwnPoint
 further q entry = record { earlier = q.earlier; feed = q.feed; start = q.start; k = q.k; since = q.since ++ entry ∷ [] }
 
+at_last : (xs : List ℕ) (x : ℕ) → get_or (xs ++ x ∷ []) (length xs) 0 ≡ x
+at_last [] x = refl
+at_last (y ∷ xs) x = at_last xs x
+
 -- the last two of numbers that rise
 last_rise : (ns : List ℕ) (n m : ℕ) → IsStrictlyIncreasing ((ns ++ n ∷ []) ++ m ∷ []) → n < m
 last_rise ns n m rise =
@@ -54,10 +61,6 @@ last_rise ns n m rise =
     let second : get_or (xs ++ m ∷ []) (count + 1) 0 ≡ m =
     ap (λ (i : ℕ). get_or (xs ++ m ∷ []) i 0) (sym long) ∙ at_last xs m in
     omega (arith, rise count (omega (arith, all)), first, second)
-  where
-    at_last : (xs : List ℕ) (x : ℕ) → get_or (xs ++ x ∷ []) (length xs) 0 ≡ x
-    at_last [] x = refl
-    at_last (y ∷ xs) x = at_last xs x
 
 module _ (old new : PassView) (k least : ℕ) (asked : Event) (answer : Reply) (is : IsAhead old k least) (grows : Grows old new asked answer) where
   abbrev entry : Entry
@@ -118,6 +121,67 @@ module _ (old new : PassView) (k least : ℕ) (asked : Event) (answer : Reply) (
               (let less = last_rise ns n m (subst (λ (l : List ℕ). IsStrictlyIncreasing (l ++ m ∷ [])) same more) in omega (arith, less));
         },
       )
+
+-- ---- where nothing was left
+
+-- what a pass may conclude of its cursor
+abbrev pub OwnLaws : Type 0
+OwnLaws =
+    NumbersRise × AtEveryOwnCall (λ (pass : PassView) (q : OwnPoint) (entry : Entry). (p : Point) × IsCalledAt pass q entry p × IsAnsweredAt p entry)
+    × AtEveryOwnPoint (λ (pass : PassView) (q : OwnPoint). (p : Point) → IsSeenAt pass q p → Agrees q p)
+    × AtEveryOwnPoint (λ (pass : PassView) (q : OwnPoint). (p : Point) → IsSeenAt pass q p → IsServed p)
+
+-- numbers that rise, and one behind them all
+rise_more : (ns : List ℕ) (m : ℕ) → IsStrictlyIncreasing ns → All (λ (n : ℕ). n < m) ns → IsStrictlyIncreasing (ns ++ m ∷ [])
+rise_more ns m rise below k within =
+    let long : length (ns ++ m ∷ []) ≡ length ns + 1 = omega (arith, length-append ns (m ∷ [])) in
+    let first : get_or (ns ++ m ∷ []) k 0 ≡ get_or ns k 0 = get_or_append_left ns (m ∷ []) 0 k (omega (arith, within, long)) in
+    elim (leb_tells (k + 2) (length ns)) [
+      | inl inside ↦
+          (let second : get_or (ns ++ m ∷ []) (k + 1) 0 ≡ get_or ns (k + 1) 0 = get_or_append_left ns (m ∷ []) 0 (k + 1) (omega (arith, inside.1)) in
+          omega (arith, first, second, rise k (omega (arith, inside.1))))
+      | inr last ↦
+          (let is : k + 1 ≡ length ns = omega (arith, last.1, within, long) in
+          let second : get_or (ns ++ m ∷ []) (k + 1) 0 ≡ m = ap (λ (i : ℕ). get_or (ns ++ m ∷ []) i 0) is ∙ at_last ns m in
+          omega (arith, first, second, below k 0 (omega (arith, is))))
+    ]
+
+below_range : (a n : ℕ) → All (λ (m : ℕ). m < a + n) (range_with_len a n)
+below_range a zero = All-nil (λ (m : ℕ). m < a + 0)
+below_range a (suc n) =
+    All-cons (λ (m : ℕ). m < a + suc n) a (range_with_len (a + 1) n) (omega arith)
+    (All-weaker (λ (m : ℕ). m < (a + 1) + n) (λ (m : ℕ). m < a + suc n) (λ m less. omega arith) (range_with_len (a + 1) n) (below_range (a + 1) n))
+
+-- what a reader was given was admitted
+given_below : (p : Point) → IsServed p → All (λ (n : ℕ). n < end_of (state_at p)) (given p)
+given_below p served =
+    let end = end_of (state_at p) in
+    All-weaker (Contains (due p)) (λ (n : ℕ). n < end)
+    (λ n there.
+    (let within = All-contains (λ (m : ℕ). m < 0 + end) (due p) n (All-filter (is_due p) (λ (m : ℕ). m < 0 + end) (range_with_len 0 end) (below_range 0 end)) there in
+    omega (arith, within)))
+    (given p) served.only_due
+
+-- the numbers that it may still be given are not below what the queue had admitted then
+pub ahead_at_end : (laws : OwnLaws) (old new : PassView) (k least at : ℕ) → IsAhead old k least → Grows old new (event.Step k) (reply.End at) → least ≤ at
+ahead_at_end laws old new k least at is grows =
+    let q = is.point in
+    let entry = entry_of old (event.Step k) (reply.End at) in
+    let actor_same : new.actor ≡ old.actor = ap (λ (p : PassView). p.actor) grows.makes.same in
+    let about : is_about q.k entry ≡ true = ap (λ (j : ℕ). is_number j (Some k)) is.place ∙ self_same k in
+    let front : own new.actor new.seen ≡ q.earlier ++ opening_by new.actor q ∷ (q.since ++ entry ∷ []) =
+    subst (λ (a : ℕ). own a new.seen ≡ q.earlier ++ opening_by a q ∷ (q.since ++ entry ∷ [])) (sym actor_same)
+    (grows.makes.adds.own ∙ ap (λ (es : List Entry). es ++ entry ∷ []) is.own_are ∙ append_assoc q.earlier (opening_by old.actor q ∷ q.since) (entry ∷ [])) in
+    let own_at : IsOwnPointOf new q = record { rest = entry ∷ []; front = front; not_closed = is.not_closed } in
+    let called = laws.1 new grows.makes.has_seen q own_at entry [] refl about in
+    let p = called.0 in
+    let same : given p ≡ numbers_given q = (laws.2 new grows.makes.has_seen q own_at p called.1.at).given in
+    let served = laws.3 new grows.makes.has_seen q own_at p called.1.at in
+    let end : at ≡ end_of (state_at p) = (called.2.end_has_all at refl).at_end in
+    let below : All (λ (n : ℕ). n < at) (numbers_given q) =
+    subst (λ (m : ℕ). All (λ (n : ℕ). n < m) (numbers_given q)) (sym end)
+    (subst (λ (ns : List ℕ). All (λ (n : ℕ). n < end_of (state_at p)) ns) same (given_below p served)) in
+    is.ahead at (rise_more (numbers_given q) at (laws.0 new grows.makes.has_seen q own_at) below)
 
 -- two calls that give no product
 pub ahead_over : (old new : PassView) (k least : ℕ) (one two : Entry) → IsAhead old k least → Calls old new (one ∷ two ∷ []) → is_close one.event ≡ false → is_close two.event ≡ false

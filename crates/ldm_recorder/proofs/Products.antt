@@ -1,5 +1,5 @@
 -- Taking a product that is held.
-use Rattle.std.proofs.Common.{◌≡◌, inl, inr, ℕ, ◌≤◌, Bool, true, false, List, [], ◌∷◌, ◌++◌, length, take, refl, sym, ◌∙◌, ap, subst, arith}
+use Rattle.std.proofs.Common.{◌≡◌, ℕ, ◌≤◌, Bool, true, false, List, [], ◌∷◌, ◌++◌, length, take, refl, sym, ◌∙◌, ap, subst, arith}
 use Rattle.std.specs.Prelude.{IfSome, Ok, Err, codes, nat_le, if◌then◌else◌}
 use Rattle.std.proofs.lemmas.List.{take_all}
 use Rattle.ldm_disk.specs.Told.{DiskRecord, IsConsistent}
@@ -23,8 +23,7 @@ use Rattle.ldm_recorder.specs.Recording.{CauseOf, DoesAll, DoesPart, Sight, sigh
 use Rattle.ldm_recorder.specs.Saving.{KeepsBy, Kit}
 use Rattle.ldm_recorder.specs.Taking.{BodyRead, IsSameButBuffer, IsSameRecorder, ReadsBody, WorksBy, kept_as, releasing, taking, writing}
 use Rattle.ldm_recorder.specs.Taking as taken
-use Rattle.ldm_recorder.proofs.Coursing.{who_same}
-use Rattle.ldm_recorder.proofs.Turning.{at, calls_same, calls_worn, cause_here, does_call, part_none, taken_part, taken_unreleased, taken_well, written_part, written_unsaid, written_well}
+use Rattle.ldm_recorder.proofs.Turning.{at, calls_same, calls_worn, cause_here, does_call, part_none, taken_unreleased, taken_unwritten, taken_well, written_part, written_unsaid, written_well}
 
 pub buffer_same : (r s : Recorder) → IsSameButBuffer r s → IsSameRecorder r s
 buffer_same r s same = record { reader = same.reader; base = same.base; ring = ap (λ (j : Journal). j.marks.ring) same.journal }
@@ -88,12 +87,13 @@ module _ (r s : Recorder) (held : Held) (body : List ℕ) (p q : PassView) (numb
   take_unread end.Worn reads = (
     subst (λ (j : Journal). DoesPart (taking (who_of p r) held.n k) before (at q j.marks disk log)) (sym same.journal)
         (part_none (taking (who_of p r) held.n k) p q r.journal.marks disk log consistent (calls_worn p q reads.0 reads.1)),
-    inl (reads.1.long ∙ reads.1.turns_are),
+    reads.1.long ∙ reads.1.turns_are,
   )
-  take_unread end.Stopped reads = absurd reads
+  take_unread (end.Stopped n) reads = absurd reads
   take_unread end.DiskFault reads = absurd reads
   take_unread end.NotAJournal reads = absurd reads
   take_unread end.LogFault reads = absurd reads
+  take_unread end.NoNumbers reads = absurd reads
 
   module _ (of : IsSamePass p q) (reads : ReadsBody (Ok tt) held body it) where
     read_it : DoesAll (taken.reading (who_of p r) k) before between
@@ -101,54 +101,55 @@ module _ (r s : Recorder) (held : Held) (body : List ℕ) (p q : PassView) (numb
         subst (λ (j : Journal). DoesAll (taken.reading (who_of p r) k) before (at q j.marks disk log)) (sym same.journal)
         (does_call (who_of p r) (event.Read r.reader.k 0 held.info.size) (reply.Bytes body) p q r.journal.marks disk log refl consistent reads.1)
 
-    who_is : who_of q s ≡ who_of p r
-    who_is = who_same p q r s of (buffer_same r s same)
+    -- it could not be let go
+    pub take_unreleased : (u : PassView) (turns : ℕ) → FindsWorn q u turns
+        → WorksBy (Err end.Worn) (taking (who_of p r) held.n k) (Given held.n k ∷ []) before (sight_of u s disk log)
+    take_unreleased u turns worn = (
+      taken_unreleased (who_of p r) held.n k before between (sight_of u s disk log) read_it
+          (part_none (releasing (who_of p r) held.n) q u s.journal.marks disk log consistent (calls_worn q u turns worn)),
+      worn.long ∙ worn.turns_are,
+    )
 
-    cause_since : (why : RecordEnd) (turns : List Turn) (c : Sight) → CauseOf why [] between c → CauseOf why turns before c
-    cause_since end.Stopped turns c cause = cause
-    cause_since end.DiskFault turns c cause = cause
-    cause_since end.NotAJournal turns c cause =
-        subst (λ (j : Journal). IfSome disk.file (λ f. (kept appended : List Kept) → ¬ (Stands j.marks kept appended f))) same.journal cause
-    cause_since end.LogFault turns c cause = cause
-    cause_since end.Worn turns c (inl cause) = inl cause
-    cause_since end.Worn turns c (inr cause) = absurd cause
-    cause_since end.OutOfMemory turns c cause = tt
+    module _ (u : PassView) (grows : Grows q u (event.Release s.reader.k) (reply.Released held.n)) where
+      abbrev gone : Sight
+      gone = sight_of u s disk log
 
-    -- it could not be written
-    pub take_unwritten : (why : RecordEnd) (c : Sight)
-        → WorksBy (Err why) (writing (who_of q s) held.n (kept_as number held s.buffer.items)) [] between c
-        → WorksBy (Err why) (taking (who_of p r) held.n k) (Given held.n k ∷ []) before c
-    take_unwritten why c works =
-        let part : DoesPart (writing (who_of p r) held.n k) between c =
-        subst (λ (w : Who). DoesPart (writing w held.n k) between c) who_is
-        (subst (λ (b : List ℕ). DoesPart (writing (who_of q s) held.n (kept_as number held b)) between c) reads.0 works.0) in
-        (taken_part (who_of p r) held.n k before between c read_it part, cause_since why (Given held.n k ∷ []) c works.1)
+      actor : p.actor ≡ q.actor
+      actor = sym (ap (λ (v : PassView). v.actor) of)
 
-    module _ (t : Recorder) (disk' : DiskRecord) (log' : SinkRecord) (consistent' : IfSome disk'.file IsConsistent)
-        (works : DoesAll (writing (who_of q s) held.n (kept_as number held s.buffer.items)) between (sight_of q t disk' log')) where
-      written_it : DoesAll (writing (who_of p r) held.n k) between (sight_of q t disk' log')
-      written_it =
-          subst (λ (w : Who). DoesAll (writing w held.n k) between (sight_of q t disk' log')) who_is
-          (subst (λ (b : List ℕ). DoesAll (writing (who_of q s) held.n (kept_as number held b)) between (sight_of q t disk' log')) reads.0 works)
+      released_it : DoesAll (releasing (who_of p r) held.n) between gone
+      released_it =
+          does_call (who_of p r) (event.Release r.reader.k) (reply.Released held.n) q u s.journal.marks disk log actor consistent
+          (subst (λ (x : reading.Reader). Grows q u (event.Release x.k) (reply.Released held.n)) same.reader grows)
 
-      -- it could not be let go
-      pub take_unreleased : (u : PassView) (turns : ℕ) → FindsWorn q u turns
-          → WorksBy (Err end.Worn) (taking (who_of p r) held.n k) (Given held.n k ∷ []) before (sight_of u t disk' log')
-      take_unreleased u turns worn = (
-        taken_unreleased (who_of p r) held.n k before between (sight_of q t disk' log') read_it (sight_of u t disk' log') written_it
-            (part_none (releasing (who_of p r) held.n) q u t.journal.marks disk' log' consistent' (calls_worn q u turns worn)),
-        inl (worn.long ∙ worn.turns_are),
+      cause_since : (why : RecordEnd) (turns : List Turn) (c : Sight) → CauseOf why [] gone c → CauseOf why turns before c
+      cause_since (end.Stopped n) turns c cause = absurd cause
+      cause_since end.DiskFault turns c cause = cause
+      cause_since end.NotAJournal turns c cause =
+          subst (λ (j : Journal). IfSome disk.file (λ f. (kept appended : List Kept) → ¬ (Stands j.marks kept appended f))) same.journal cause
+      cause_since end.LogFault turns c cause = cause
+      cause_since end.Worn turns c cause = cause
+      cause_since end.NoNumbers turns c cause = absurd cause
+      cause_since end.OutOfMemory turns c cause = tt
+
+      same_bytes : (P : Kept → Type 0) → P (kept_as number held s.buffer.items) → P k
+      same_bytes P there = subst (λ (b : List ℕ). P (kept_as number held b)) reads.0 there
+
+      -- it could not be written
+      pub take_unwritten : (why : RecordEnd) (c : Sight) → WorksBy (Err why) (writing (who_of p r) held.n (kept_as number held s.buffer.items)) [] gone c
+          → WorksBy (Err why) (taking (who_of p r) held.n k) (Given held.n k ∷ []) before c
+      take_unwritten why c works = (
+        taken_unwritten (who_of p r) held.n k before between gone read_it c released_it
+            (same_bytes (λ (x : Kept). DoesPart (writing (who_of p r) held.n x) gone c) works.0),
+        cause_since why (Given held.n k ∷ []) c works.1,
       )
 
-      -- it was let go
-      pub take_whole : (u : PassView) → t.reader ≡ s.reader → Grows q u (event.Release t.reader.k) (reply.Released held.n)
-          → DoesAll (taking (who_of p r) held.n k) before (sight_of u t disk' log')
-      take_whole u reader grows =
-          let here : Grows q u (event.Release r.reader.k) (reply.Released held.n) =
-          subst (λ (x : reading.Reader). Grows q u (event.Release x.k) (reply.Released held.n)) (reader ∙ same.reader) grows in
-          let actor : p.actor ≡ q.actor = sym (ap (λ (v : PassView). v.actor) of) in
-          taken_well (who_of p r) held.n k before between (sight_of q t disk' log') read_it (sight_of u t disk' log') written_it
-          (does_call (who_of p r) (event.Release r.reader.k) (reply.Released held.n) q u t.journal.marks disk' log' actor consistent' here)
+      -- it was written
+      pub take_whole : (c : Sight) → DoesAll (writing (who_of p r) held.n (kept_as number held s.buffer.items)) gone c
+          → DoesAll (taking (who_of p r) held.n k) before c
+      take_whole c works =
+          taken_well (who_of p r) held.n k before between gone read_it c released_it
+          (same_bytes (λ (x : Kept). DoesAll (writing (who_of p r) held.n x) gone c) works)
 
 -- ---- its body
 

@@ -1,5 +1,5 @@
 -- A step of the cursor, and what follows it.
-use Rattle.std.proofs.Common.{◌≡◌, inr, ℕ, ◌+◌, ◌-◌, ◌≤◌, true, false, List, [], ◌∷◌, refl, sym, subst, arith}
+use Rattle.std.proofs.Common.{◌≡◌, ℕ, ◌+◌, ◌-◌, ◌≤◌, List, [], ◌∷◌, refl, sym, subst, arith}
 use Rattle.std.specs.Prelude.{IfSome, None, Some, Result, Ok, Err, codes}
 use Rattle.ldm_disk.specs.Told.{DiskRecord, IsConsistent}
 use Rattle.ldm_outside.specs.Count.{Rose}
@@ -47,7 +47,7 @@ module _ (r : Recorder) (p q : PassView) (disk : DiskRecord) (log : SinkRecord) 
 
   -- losses were told
   pub lost : (count first last : ℕ) (log' : SinkRecord) → Grows p q (event.Step r.reader.k) (reply.Gap count first last)
-      → Takes log (gap_line (codes "journal") count first last) log' → log.faults ≤ log'.faults → TurnsBy (Ok false) who before (sight_of q r disk log')
+      → Takes log (gap_line (codes "journal") count first last) log' → log.faults ≤ log'.faults → TurnsBy (Ok None) who before (sight_of q r disk log')
   lost count first last log' grows takes faults =
       (Lost count first last, refl, turn_lost who count first last p q r.journal.marks disk log log' (stepped (reply.Gap count first last) grows) takes faults)
 
@@ -60,7 +60,7 @@ module _ (r : Recorder) (p q : PassView) (disk : DiskRecord) (log : SinkRecord) 
   -- a product was given
   module _ (held : Held) (body : List ℕ) (grows : Grows p q (event.Step r.reader.k) (reply.Product held.n held.time held.info)) where
     pub gave : (number : ℕ) → Numbers (Some number) r.base held.n → (c : Sight) → DoesAll (taking (who_of q r) held.n (kept_as number held body)) behind c
-        → TurnsBy (Ok false) who before c
+        → TurnsBy (Ok None) who before c
     gave number numbers c does = (
       Given held.n (kept_as number held body),
       refl,
@@ -69,11 +69,12 @@ module _ (r : Recorder) (p q : PassView) (disk : DiskRecord) (log : SinkRecord) 
     )
 
     cause_since : (why : RecordEnd) (turns : List Turn) (c : Sight) → CauseOf why turns behind c → CauseOf why turns before c
-    cause_since end.Stopped turns c cause = cause
+    cause_since (end.Stopped n) turns c cause = cause
     cause_since end.DiskFault turns c cause = cause
     cause_since end.NotAJournal turns c cause = cause
     cause_since end.LogFault turns c cause = cause
     cause_since end.Worn turns c cause = cause
+    cause_since end.NoNumbers turns c cause = cause
     cause_since end.OutOfMemory turns c cause = cause
 
     pub gave_up : (why : RecordEnd) (number : ℕ) → Numbers (Some number) r.base held.n → (c : Sight)
@@ -85,15 +86,15 @@ module _ (r : Recorder) (p q : PassView) (disk : DiskRecord) (log : SinkRecord) 
         (cause_since why (Given held.n (kept_as number held body) ∷ []) c works.1)
 
     -- the journal has no such number
-    pub past_numbers : Numbers None r.base held.n → TurnsBy (Err end.Worn) who before behind
+    pub past_numbers : Numbers None r.base held.n → TurnsBy (Err end.NoNumbers) who before behind
     past_numbers past =
-        stop_given end.Worn who held.n (kept_as (r.base + held.n) held body) before behind behind (stepped (reply.Product held.n held.time held.info) grows)
-        (part_none (taking who held.n (kept_as (r.base + held.n) held body)) q q r.journal.marks disk log consistent (calls_none q)) refl (inr past)
+        stop_given end.NoNumbers who held.n (kept_as (r.base + held.n) held body) before behind behind (stepped (reply.Product held.n held.time held.info) grows)
+        (part_none (taking who held.n (kept_as (r.base + held.n) held body)) q q r.journal.marks disk log consistent (calls_none q)) refl past
 
   -- nothing was left
   module _ (count : ℕ) (grows : Grows p q (event.Step r.reader.k) (reply.End count)) (t : Recorder) (disk' : DiskRecord) where
     pub caught : SavesBy (Ok tt) (λ start. Commit (r.journal.marks.ring - 0) ∷ []) (kit_of r.journal.marks disk) (kit_of t.journal.marks disk')
-        → TurnsBy (Ok true) who before (sight_of q t disk' log)
+        → TurnsBy (Ok (Some count)) who before (sight_of q t disk' log)
     caught saves =
         (CaughtUp count, refl, turn_caught who (kit_of r.journal.marks disk) (kit_of t.journal.marks disk') refl count p q log (stepped (reply.End count) grows) saves.0)
 

@@ -1,6 +1,7 @@
 -- The parts of a turn.
-use Rattle.std.proofs.Common.{◌≡◌, inl, inr, ℕ, ◌+◌, ◌-◌, ◌≤◌, List, [], ◌∷◌, refl, sym, ◌∙◌, ap, subst, arith}
+use Rattle.std.proofs.Common.{◌≡◌, ℕ, ◌+◌, ◌-◌, ◌≤◌, List, [], ◌∷◌, refl, sym, ◌∙◌, ap, subst, arith}
 use Rattle.std.specs.Prelude.{IfSome, codes}
+use Rattle.std.proofs.lemmas.List.{append-nil}
 use Rattle.ldm_disk.specs.Told.{DiskRecord, IsConsistent}
 use Rattle.ldm_disk.specs.Calls.{FileChanges}
 use Rattle.ldm_outside.specs.Count.{Rose}
@@ -20,13 +21,13 @@ use Rattle.ldm_journal.specs.Joining.{BreaksOffAmid, MakesEvents}
 use Rattle.ldm_recorder.specs.declared.end.RecordEnd.{RecordEnd}
 use Rattle.ldm_recorder.specs.declared.end.RecordEnd.TheVariants as end
 use Rattle.ldm_recorder.specs.Turns.{CaughtUp, Given, Lost, Saved, Turn, Who, Work, call_of, keep_events, large_line, no_work, turn_work, work_of, work_then}
-use Rattle.ldm_recorder.specs.Recording.{CauseOf, Does, DoesAll, DoesPart, Sight, Stops}
+use Rattle.ldm_recorder.specs.Recording.{CauseOf, Does, DoesAll, DoesPart, Sight, Stops, sight_at}
 use Rattle.ldm_recorder.specs.Saving.{BreaksOff, Kit, Makes, DiskCause}
 use Rattle.ldm_recorder.specs.Taking.{reading, releasing, taking, writing}
 use Rattle.ldm_recorder.proofs.Working.{IsSameWork, broken_early, does_same, does_then, leaves_amid, none_made, one_turn, part_early, part_same, part_then}
 
 abbrev pub at : PassView → Marks → DiskRecord → SinkRecord → Sight
-at pass marks disk log = record { pass = pass; marks = marks; disk = disk; log = log }
+at pass marks disk log = sight_at pass marks disk log
 
 -- one call on the queue, and nothing else
 abbrev pub calling : Who → Event → Reply → Work
@@ -126,18 +127,19 @@ pub cause_here : (why : RecordEnd) (turns : List Turn) (p q : PassView) (old new
     → CauseOf why turns (at p old.marks old.disk log) (at q new.marks new.disk log)
 cause_here end.DiskFault turns p q old new log cause = cause
 cause_here end.NotAJournal turns p q old new log cause = cause.1
-cause_here end.Stopped turns p q old new log cause = cause
+cause_here (end.Stopped n) turns p q old new log cause = absurd cause
 cause_here end.LogFault turns p q old new log cause = absurd cause
 cause_here end.Worn turns p q old new log cause = absurd cause
+cause_here end.NoNumbers turns p q old new log cause = absurd cause
 cause_here end.OutOfMemory turns p q old new log cause = tt
 
 pub cause_for : (why : RecordEnd) (turns : List Turn) (a b : Sight) → CauseOf why [] a b → CauseOf why turns a b
 cause_for end.DiskFault turns a b cause = cause
 cause_for end.NotAJournal turns a b cause = cause
-cause_for end.Stopped turns a b cause = cause
+cause_for (end.Stopped n) turns a b cause = cause
 cause_for end.LogFault turns a b cause = cause
-cause_for end.Worn turns a b (inl cause) = inl cause
-cause_for end.Worn turns a b (inr cause) = absurd cause
+cause_for end.Worn turns a b cause = cause
+cause_for end.NoNumbers turns a b cause = absurd cause
 cause_for end.OutOfMemory turns a b cause = cause
 
 -- ---- a product
@@ -147,21 +149,22 @@ pub given_work : (who : Who) (n : ℕ) (product : Kept)
     → IsSameWork (work_then (calling who (event.Step who.k) (reply.Product n product.time product.info)) (taking who n product)) (work_of who (Given n product ∷ []))
 given_work who n product = record {
   entries = refl;
-  events = λ start. refl;
-  lines = refl;
+  events = λ start. sym (append-nil (keep_events who.ring product start));
+  lines = sym (append-nil (large_line who.ring n product));
 }
 
 module _ (who : Who) (n : ℕ) (product : Kept) (a b c : Sight) (read : DoesAll (reading who product) a b) where
-  pub taken_part : DoesPart (writing who n product) b c → DoesPart (taking who n product) a c
-  taken_part part = part_then (reading who product) (work_then (writing who n product) (releasing who n)) a b c read (part_early (writing who n product) (releasing who n) b c part)
+  pub taken_unreleased : DoesPart (releasing who n) b c → DoesPart (taking who n product) a c
+  taken_unreleased part =
+      part_then (reading who product) (work_then (releasing who n) (writing who n product)) a b c read (part_early (releasing who n) (writing who n product) b c part)
 
-  pub taken_unreleased : (d : Sight) → DoesAll (writing who n product) b c → DoesPart (releasing who n) c d → DoesPart (taking who n product) a d
-  taken_unreleased d wrote part =
-      part_then (reading who product) (work_then (writing who n product) (releasing who n)) a b d read (part_then (writing who n product) (releasing who n) b c d wrote part)
+  pub taken_unwritten : (d : Sight) → DoesAll (releasing who n) b c → DoesPart (writing who n product) c d → DoesPart (taking who n product) a d
+  taken_unwritten d released part =
+      part_then (reading who product) (work_then (releasing who n) (writing who n product)) a b d read (part_then (releasing who n) (writing who n product) b c d released part)
 
-  pub taken_well : (d : Sight) → DoesAll (writing who n product) b c → DoesAll (releasing who n) c d → DoesAll (taking who n product) a d
-  taken_well d wrote released =
-      does_then (reading who product) (work_then (writing who n product) (releasing who n)) a b d read (does_then (writing who n product) (releasing who n) b c d wrote released)
+  pub taken_well : (d : Sight) → DoesAll (releasing who n) b c → DoesAll (writing who n product) c d → DoesAll (taking who n product) a d
+  taken_well d released wrote =
+      does_then (reading who product) (work_then (releasing who n) (writing who n product)) a b d read (does_then (releasing who n) (writing who n product) b c d released wrote)
 
 -- ---- a turn
 
@@ -335,5 +338,5 @@ stop_worn who old new turns marks disk log consistent worn = record {
   one = omega arith;
   numbered = tt;
   part = part_none no_work old new marks disk log consistent (calls_worn old new turns worn);
-  cause = inl (worn.long ∙ worn.turns_are);
+  cause = worn.long ∙ worn.turns_are;
 }

@@ -1,9 +1,11 @@
 pub mod Restoring
 pub mod Turns
 pub mod Saving
+pub mod Failing
 pub mod Recording
 pub mod Numbers
 pub mod Opening
 pub mod Taking
 pub mod Course
 pub mod Told
+pub mod Finishing

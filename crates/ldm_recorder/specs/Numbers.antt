@@ -23,3 +23,7 @@ pub record IsReady (pass : PassView) (recorder : Recorder) : Type 0 where
   pub least : ℕ
   pub ahead : IsAhead pass recorder.reader.k least
   pub numbers : recorder.journal.marks.next ≤ recorder.base + least
+
+-- the journal takes each number of the queue from one on
+abbrev pub IsBehind : Recorder → ℕ → Type 0
+IsBehind recorder at = recorder.journal.marks.next ≤ recorder.base + at

@@ -1,5 +1,5 @@
 -- What a recorder did: its calls on the queue, the events of the journal, and the lines of the log.
-use Rattle.std.specs.Prelude.{◌≡◌, ℕ, ◌-◌, ◌^◌, ◌≤◌, ◌⊎◌, List, [], ◌∷◌, ◌++◌, length, Bool, true, false, IfSome, Result, Ok, Err}
+use Rattle.std.specs.Prelude.{◌≡◌, ℕ, ◌-◌, ◌^◌, ◌≤◌, List, [], ◌∷◌, ◌++◌, length, Option, Some, None, IfSome, Result, Ok, Err}
 use Rattle.ldm_disk.specs.Told.{DiskRecord}
 use Rattle.ldm_disk.specs.Calls.{FileChanges}
 use Rattle.ldm_outside.specs.Count.{Rose}
@@ -23,8 +23,11 @@ pub record Sight : Type 0 where
   pub disk : DiskRecord
   pub log : SinkRecord
 
+abbrev pub sight_at : PassView → Marks → DiskRecord → SinkRecord → Sight
+sight_at pass marks disk log = record { pass = pass; marks = marks; disk = disk; log = log }
+
 abbrev pub sight_of : PassView → Recorder → DiskRecord → SinkRecord → Sight
-sight_of pass recorder disk log = record { pass = pass; marks = recorder.journal.marks; disk = disk; log = log }
+sight_of pass recorder disk log = sight_at pass recorder.journal.marks disk log
 
 abbrev pub who_of : PassView → Recorder → Who
 who_of pass recorder = record { actor = pass.actor; k = recorder.reader.k; base = recorder.base; ring = recorder.journal.marks.ring }
@@ -45,11 +48,12 @@ IsPastNumbers _ = ⊥
 
 -- Why work broke off that was for these turns. Want of memory may come at any time.
 abbrev pub CauseOf : RecordEnd → List Turn → Sight → Sight → Type 0
-CauseOf end.Stopped turns old new = ⊥
+CauseOf (end.Stopped at) turns old new = ⊥
 CauseOf end.DiskFault turns old new = Rose old.disk.faults new.disk.faults
 CauseOf end.NotAJournal turns old new = IfSome old.disk.file (λ f. (kept appended : List Kept) → ¬ (Stands old.marks kept appended f))
 CauseOf end.LogFault turns old new = Rose old.log.faults new.log.faults
-CauseOf end.Worn turns old new = (length new.pass.seen ≡ MOST_TURNS) ⊎ IsPastNumbers turns
+CauseOf end.Worn turns old new = length new.pass.seen ≡ MOST_TURNS
+CauseOf end.NoNumbers turns old new = IsPastNumbers turns
 CauseOf end.OutOfMemory turns old new = Unit {0}
 
 -- Work broke off: of its calls and of its lines a front was made, and a crash at any moment leaves what its events may
@@ -80,11 +84,16 @@ pub record Stops (why : RecordEnd) (who : Who) (old new : Sight) : Type 0 where
   pub part : DoesPart (work_of who in_hand) old new
   pub cause : CauseOf why in_hand old new
 
--- what a turn came to
-abbrev pub IsAtEnd : Bool → Turn → Type 0
-IsAtEnd at_end (CaughtUp at) = at_end ≡ true
-IsAtEnd at_end _ = at_end ≡ false
+-- what a turn came to: where nothing was left, how many products the queue had admitted
+abbrev pub IsAtEnd : Option ℕ → Turn → Type 0
+IsAtEnd at_end (CaughtUp at) = at_end ≡ Some at
+IsAtEnd at_end _ = at_end ≡ None
 
-abbrev pub TurnsBy : Result Bool RecordEnd → Who → Sight → Sight → Type 0
+abbrev pub TurnsBy : Result (Option ℕ) RecordEnd → Who → Sight → Sight → Type 0
 TurnsBy (Ok at_end) who old new = (turn : Turn) × IsAtEnd at_end turn × Does who (turn ∷ []) old new
 TurnsBy (Err why) who old new = Stops why who old new
+
+-- what holds where nothing was left, of how many products the queue had admitted
+abbrev pub IfAtEnd : Result (Option ℕ) RecordEnd → (ℕ → Type 0) → Type 0
+IfAtEnd (Ok (Some at)) P = P at
+IfAtEnd _ P = Unit {0}

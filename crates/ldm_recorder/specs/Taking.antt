@@ -1,4 +1,4 @@
--- What becomes of a product that is held.
+-- What becomes of a product that is held: it is read, let go, and written.
 use Rattle.std.specs.Prelude.{◌≡◌, ℕ, ◌+◌, ◌-◌, ◌^◌, ◌<◌, ◌≤◌, List, [], ◌∷◌, Option, Some, None, Result, Ok, Err}
 use Rattle.ldm_model.specs.declared.event.Event.TheVariants as event
 use Rattle.ldm_model.specs.declared.event.Reply.TheVariants as reply
@@ -66,7 +66,7 @@ reading who product = record {
 
 -- all of it
 abbrev pub taking : Who → ℕ → Kept → Work
-taking who n product = work_then (reading who product) (work_then (writing who n product) (releasing who n))
+taking who n product = work_then (reading who product) (work_then (releasing who n) (writing who n product))
 
 -- All of some work was done, or it broke off.
 abbrev pub WorksBy : Result (Unit {0}) RecordEnd → Work → List Turn → Sight → Sight → Type 0

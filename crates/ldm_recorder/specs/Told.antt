@@ -1,8 +1,12 @@
 -- Which products of turns go into the journal.
-use Rattle.std.specs.Prelude.{ℕ, List, [], ◌∷◌, ◌++◌, nat_le, if◌then◌else◌}
+use Rattle.std.specs.Prelude.{ℕ, Bool, List, [], ◌∷◌, ◌++◌, nat_le, if◌then◌else◌}
 use Rattle.ldm_journal.specs.Records.{Kept}
 use Rattle.ldm_journal.specs.Appending.{record_len}
 use Rattle.ldm_recorder.specs.Turns.{CaughtUp, Given, Lost, Saved, Turn}
+
+-- whether the ring has room for the record of a product
+abbrev pub has_room : ℕ → Kept → Bool
+has_room ring product = nat_le (record_len product) ring
 
 -- those whose records are not larger than the ring
 abbrev pub kept_of_turn : ℕ → Turn → List Kept

@@ -16,16 +16,19 @@ pub enum RestoreEnd {
 /// How recording ends.
 #[derive(Clone, Copy, Debug, PartialEq, Eq)]
 pub enum RecordEnd {
-    /// The gate said to stop, and all that was given is committed.
-    Stopped,
+    /// The gate said to stop. Of the first so many products that the queue had admitted all are committed that were not
+    /// lost.
+    Stopped { at: u64 },
     /// The disk failed, and its count of faults rose. Attach the file and open the journal again.
     DiskFault,
     /// The file no longer has the records that the journal had.
     NotAJournal,
     /// The log failed, and its count of faults rose.
     LogFault,
-    /// The queue has had all the calls that it can have, or the journal all the numbers.
+    /// The queue has had all the calls that it can have.
     Worn,
+    /// The journal has had all the numbers.
+    NoNumbers,
     /// There is no memory for a body.
     OutOfMemory,
 }

@@ -1,8 +1,10 @@
 //! What the turns of a recorder amount to. These functions do nothing: their contracts are the laws.
-ghost use Rattle.std.specs.Prelude.{◌≡◌, ◌++◌, ◌∷◌, [], ℕ, List, drop};
+ghost use Rattle.std.specs.Prelude.{◌≡◌, ◌++◌, ◌∷◌, [], ℕ, List, drop, filter, map};
+ghost use Rattle.ldm_model.specs.State.{State, end_of, queued};
 ghost use Rattle.ldm_journal.specs.Records.{Kept};
 ghost use Rattle.ldm_journal.specs.Runs.{Content, after_events, opened};
-ghost use Rattle.ldm_recorder.specs.Told.{recorded_in};
+ghost use Rattle.ldm_recorder.specs.Told.{has_room, recorded_in};
+ghost use Rattle.ldm_recorder.specs.Finishing.{is_from, kept_queued, turns_left};
 ghost use Rattle.ldm_recorder.specs.Turns.{CaughtUp, Turn, Who, work_of};
 
 /// Whenever the gate is asked, all that was given before is committed.
@@ -17,4 +19,12 @@ pub fn what_was_given_stands()
     ensures { (who : Who) (turns : List Turn) (first : List Kept)
         → let end = after_events (opened first) ((work_of who turns).events (opened first)) in
         (dropped : ℕ) × (end.kept ++ end.appended ≡ drop dropped (first ++ recorded_in who.ring turns)) }
+{}
+
+/// What [`Recorder::finish`](crate::Recorder::finish) makes up for is each product that is queued, of that number or
+/// later, in order, each once, but for those that are larger than the ring.
+pub fn what_is_left_is_recorded()
+    ensures { (ring base from : ℕ) (s : State)
+        → recorded_in ring (turns_left base (end_of s) from (queued s) ++ CaughtUp (end_of s) ∷ [])
+        ≡ filter (has_room ring) (map (kept_queued base) (filter (is_from from) (queued s))) }
 {}

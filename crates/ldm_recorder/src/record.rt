@@ -2,14 +2,15 @@
 ghost use Rattle.std.specs.Prelude.{◌≡◌, OnOk};
 ghost use Rattle.ldm_shared.specs.Passes.{IsPassOf, IsSamePass, PassView};
 ghost use Rattle.ldm_outside.specs.Io.{SinkRecord};
-ghost use Rattle.ldm_recorder.specs.Numbers.{IsReady};
-ghost use Rattle.ldm_recorder.specs.Course.{RecordsBy, SavesLate, gated_of};
+ghost use Rattle.ldm_recorder.specs.Numbers.{IsBehind, IsReady};
+ghost use Rattle.ldm_recorder.specs.Course.{IfStopped, RecordsBy, SavesLate, gated_of};
 ghost use Rattle.ldm_recorder.specs.Recording.{sight_of, who_of};
 ghost use Rattle.ldm_recorder.specs.Taking.{IsSameRecorder};
 
 use crate::end::RecordEnd;
 use crate::recorder::Recorder;
-use crate::save::save;
+use crate::save::save_some;
+use crate::tell::tell;
 use ldm_disk::Disk;
 use ldm_outside::{Clock, Gate, Go, Sink};
 use ldm_shared::{Pass, Shared};
@@ -23,7 +24,8 @@ impl Recorder {
     /// Records what comes, until the gate says to stop.
     ///
     /// What was given is committed where nothing more is left, before the gate is asked; and after a second by the
-    /// clock, where more and more comes. The log has the lines of [`Recorder::turn`].
+    /// clock, where more and more comes. The log has the lines of [`Recorder::turn`], and behind them `journal fault` where
+    /// the disk failed, or `journal changed` where another wrote into the file.
     pub fn record<H: Wait, D: Disk, E: Sink, G: Gate, C: Clock>(
         &mut self,
         rt: &H,
@@ -38,6 +40,7 @@ impl Recorder {
         requires ready { IsReady pass.old self.old }
         ensures kept { IsSamePass pass.old pass.new }
         ensures same { IsSameRecorder self.old self.new }
+        ensures behind { IfStopped result (IsBehind self.new) }
         ensures recorded { RecordsBy result (who_of pass.old self.old)
             (gated_of (sight_of pass.old self.old (D.tells disk.old) (E.tells log.old)) (G.tells gate.old))
             (gated_of (sight_of pass.new self.new (D.tells disk.new) (E.tells log.new)) (G.tells gate.new)) }
@@ -45,15 +48,21 @@ impl Recorder {
         let mut saved = clock.now();
         for _ in rt.forever() {
             match self.turn(rt, shared, pass, disk, log) {
-                Ok(true) => match gate.idle() {
+                Ok(Some(at)) => match gate.idle() {
                     Go::On => saved = clock.now(),
-                    Go::Stop => return RecordEnd::Stopped,
+                    Go::Stop => return RecordEnd::Stopped { at },
                 },
-                Ok(false) => match self.save_late(disk, &mut saved, clock) {
+                Ok(None) => match self.save_late(disk, &mut saved, clock) {
                     Ok(()) => {}
-                    Err(why) => return why,
+                    Err(why) => {
+                        tell(log, why);
+                        return why;
+                    }
                 },
-                Err(why) => return why,
+                Err(why) => {
+                    tell(log, why);
+                    return why;
+                }
             }
         }
         unreachable!()
@@ -77,6 +86,6 @@ impl Recorder {
             return Ok(());
         }
         *saved = now;
-        save(&mut self.journal, disk, 0)
+        save_some(&mut self.journal, disk)
     }
 }

@@ -29,6 +29,20 @@ pub(crate) fn save<D: Disk>(journal: &mut Journal, disk: &mut D, gap: u64) -> Re
     }
 }
 
+// Makes what was appended stay, where something was.
+pub(crate) fn save_some<D: Disk>(journal: &mut Journal, disk: &mut D) -> Result<(), RecordEnd>
+    ensures saved { SavesBy result (λ start. Commit (journal.old.marks.ring - 0) ∷ [])
+        (kit_of journal.old.marks (D.tells disk.old)) (kit_of journal.new.marks (D.tells disk.new)) }
+    ensures none { journal.old.marks.appended ≡ 0 → D.tells disk.new ≡ D.tells disk.old }
+    ensures ring { journal.new.marks.ring ≡ journal.old.marks.ring }
+    ensures kept { KeepsDisk (D.tells disk.old) (D.tells disk.new) }
+{
+    if journal.appended() == 0 {
+        return Ok(());
+    }
+    save(journal, disk, 0)
+}
+
 // Appends a product where the ring has been made free for its record.
 fn append_where_free<D: Disk>(
     journal: &mut Journal,

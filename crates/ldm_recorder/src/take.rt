@@ -1,20 +1,17 @@
-//! A product that is held: it is read, written into the journal, and let go.
-ghost use Rattle.std.specs.Prelude.{◌≡◌, ◌+◌, ◌<◌, ◌≤◌, ◌^◌, ◌-◌, ℕ, List, [], ◌∷◌, None, Some, length, OnOk};
-ghost use Rattle.ldm_disk.specs.Calls.{KeepsDisk};
-ghost use Rattle.ldm_journal.specs.Records.{Kept};
+//! A product that is held: it is read, let go, and written into the journal.
+ghost use Rattle.std.specs.Prelude.{◌≡◌, ◌+◌, ◌<◌, ◌≤◌, ◌^◌, ◌-◌, ℕ, List, [], ◌∷◌, None, OnOk};
 ghost use Rattle.ldm_shared.specs.Passes.{IsPassOf, IsSamePass, PassView};
 ghost use Rattle.ldm_shared.specs.Reader.{HasCursor, Holds};
 ghost use Rattle.ldm_recorder.specs.Recording.{sight_of, who_of};
 ghost use Rattle.ldm_recorder.specs.Taking.{IsSameButBuffer, IsSameRecorder, Numbers, ReadsBody, WorksBy};
-ghost use Rattle.ldm_recorder.specs.Taking.{kept_as, taking, writing};
+ghost use Rattle.ldm_recorder.specs.Taking.{kept_as, taking};
 ghost use Rattle.ldm_recorder.specs.Turns.{Given};
 
 use crate::end::RecordEnd;
 use crate::recorder::Recorder;
-use crate::save::keep;
+use crate::write::write;
 use ldm_disk::Disk;
 use ldm_outside::Sink;
-use ldm_session::write_gap;
 use ldm_shared::{Held, Pass, Shared, Turn};
 use std::sync::Wait;
 
@@ -59,42 +56,7 @@ impl Recorder {
         }
     }
 
-    // Writes the product whose body stands in the buffer.
-    fn write<D: Disk, E: Sink>(
-        &mut self,
-        number: u64,
-        held: &Held,
-        disk: &mut D,
-        log: &mut E,
-    ) -> Result<(), RecordEnd>
-        requires rises { self.old.journal.marks.next ≤ number }
-        requires numbered { number < 2 ^ 64 - 1 }
-        requires whole { length self.old.buffer.items ≡ held.now.info.size }
-        ensures same { IsSameRecorder self.old self.new }
-        ensures next { OnOk result (self.new.journal.marks.next ≤ number + 1) }
-        ensures written { (pass : PassView) → WorksBy result
-            (writing (who_of pass self.old) held.now.n (kept_as number held.now self.old.buffer.items)) []
-            (sight_of pass self.old (D.tells disk.old) (E.tells log.old))
-            (sight_of pass self.new (D.tells disk.new) (E.tells log.new)) }
-    {
-        match keep(
-            &mut self.journal,
-            disk,
-            number,
-            held.time,
-            &held.info,
-            &self.buffer,
-        ) {
-            Ok(true) => Ok(()),
-            Ok(false) => match write_gap(log, b"ring", 1, held.n, held.n) {
-                Ok(()) => Ok(()),
-                Err(_) => Err(RecordEnd::LogFault),
-            },
-            Err(why) => Err(why),
-        }
-    }
-
-    // Reads a product, writes it under that number, and lets it go.
+    // Reads a product, lets it go, and writes it under that number: no product is held while the disk is called.
     pub(crate) fn take<H: Wait, D: Disk, E: Sink>(
         &mut self,
         rt: &H,
@@ -123,13 +85,25 @@ impl Recorder {
             Ok(()) => {}
             Err(why) => return Err(why),
         }
-        match self.write(number, &held, disk, log) {
-            Ok(()) => {}
-            Err(why) => return Err(why),
-        }
+        let n = held.n;
+        let time = held.time;
+        let info = held.info.copy();
         match self.reader.release(shared, rt, pass, held) {
-            Turn::Done(()) => Ok(()),
-            Turn::Worn { .. } => Err(RecordEnd::Worn),
+            Turn::Done(()) => {}
+            Turn::Worn { .. } => return Err(RecordEnd::Worn),
+        }
+        match write(
+            &mut self.journal,
+            disk,
+            log,
+            number,
+            n,
+            time,
+            &info,
+            &self.buffer,
+        ) {
+            Ok(()) => Ok(()),
+            Err(why) => Err(why),
         }
     }
 }

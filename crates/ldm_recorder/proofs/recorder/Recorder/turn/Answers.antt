@@ -1,6 +1,7 @@
-use Rattle.std.proofs.Common.{refl}
+use Rattle.std.proofs.Common.{arith, refl}
 use Rattle.ldm_recorder.specs.Recording.{sight_of}
 use Rattle.ldm_recorder.proofs.Coursing.{recorder_none}
+use Rattle.ldm_recorder.proofs.Numbering.{ahead_at_end}
 use Rattle.ldm_recorder.proofs.Stepping.{caught, gave, gave_up, lost, lost_unsaid, may_record, not_caught, not_stepped, past_numbers, ready_behind, ready_still}
 use Rattle.ldm_recorder.proofs.recorder.Recorder.turn.Goals as goal
 
@@ -57,26 +58,35 @@ returns-in-None-clause-turned g c =
     past_numbers c.args.self.now c.args.pass.now c.step.new.pass (g.D.Disk.tells c.args.disk.now) (g.E.Sink.tells c.args.log.now) (g.met.D.Disk.consistent c.args.disk.now) c.step.ensures.kept
     c.in-Done-Product.held at.cursor.0 at.done c.in-None.ensures
 
-pub returns-in-Ok-save-clause-ready : goal.returns-in-Ok-save-clause-ready
-returns-in-Ok-save-clause-ready g c =
+pub returns-in-Ok-save_some-clause-ready : goal.returns-in-Ok-save_some-clause-ready
+returns-in-Ok-save_some-clause-ready g c =
     let at = rw c.in-Done-End.field-0-is at c.in-Done-End.ensures in
-    ready_still c.args.self.now (record c.args.self.now { journal = c.save.new.journal }) c.args.pass.now c.step.new.pass _ c.requires.ready at.done (λ ns. refl) at.cursor
-    (record { reader = refl; base = refl; ring = c.save.ensures.ring }) c.in-Ok-save.ensures.saved.1
+    ready_still c.args.self.now (record c.args.self.now { journal = c.save_some.new.journal }) c.args.pass.now c.step.new.pass _ c.requires.ready at.done (λ ns. refl) at.cursor
+    (record { reader = refl; base = refl; ring = c.save_some.ensures.ring }) c.in-Ok-save_some.ensures.saved.1
 
-pub returns-in-Ok-save-clause-turned : goal.returns-in-Ok-save-clause-turned
-returns-in-Ok-save-clause-turned g c =
+pub returns-in-Ok-save_some-clause-turned : goal.returns-in-Ok-save_some-clause-turned
+returns-in-Ok-save_some-clause-turned g c =
     let at = rw c.in-Done-End.field-0-is at c.in-Done-End.ensures in
     caught c.args.self.now c.args.pass.now c.step.new.pass (g.D.Disk.tells c.args.disk.now) (g.E.Sink.tells c.args.log.now) (g.met.D.Disk.consistent c.args.disk.now) c.step.ensures.kept
-    _ at.done (record c.args.self.now { journal = c.save.new.journal }) (g.D.Disk.tells c.save.new.disk) c.in-Ok-save.ensures.saved
+    _ at.done (record c.args.self.now { journal = c.save_some.new.journal }) (g.D.Disk.tells c.save_some.new.disk) c.in-Ok-save_some.ensures.saved
 
-pub returns-in-Err-save-clause-same : goal.returns-in-Err-save-clause-same
-returns-in-Err-save-clause-same g c = record { reader = refl; base = refl; ring = c.save.ensures.ring }
+pub returns-in-Ok-save_some-clause-behind : goal.returns-in-Ok-save_some-clause-behind
+returns-in-Ok-save_some-clause-behind g c =
+    let at = rw c.in-Done-End.field-0-is at c.in-Done-End.ensures in
+    let laws = c.own_readers.ensures in
+    let ready = c.requires.ready in
+    let ahead =
+    ahead_at_end (laws.in_order, laws.answered, laws.agrees, laws.served) c.args.pass.now c.step.new.pass c.args.self.now.reader.k ready.least c.in-Done-End.at ready.ahead at.done in
+    omega (arith, ready.numbers, ahead, c.in-Ok-save_some.ensures.saved.1)
 
-pub returns-in-Err-save-clause-turned : goal.returns-in-Err-save-clause-turned
-returns-in-Err-save-clause-turned g c =
+pub returns-in-Err-save_some-clause-same : goal.returns-in-Err-save_some-clause-same
+returns-in-Err-save_some-clause-same g c = record { reader = refl; base = refl; ring = c.save_some.ensures.ring }
+
+pub returns-in-Err-save_some-clause-turned : goal.returns-in-Err-save_some-clause-turned
+returns-in-Err-save_some-clause-turned g c =
     let at = rw c.in-Done-End.field-0-is at c.in-Done-End.ensures in
     not_caught c.args.self.now c.args.pass.now c.step.new.pass (g.D.Disk.tells c.args.disk.now) (g.E.Sink.tells c.args.log.now) (g.met.D.Disk.consistent c.args.disk.now) c.step.ensures.kept
-    _ at.done (record c.args.self.now { journal = c.save.new.journal }) (g.D.Disk.tells c.save.new.disk) c.in-Err-save.why c.in-Err-save.ensures.saved c.save.ensures.kept.faults
+    _ at.done (record c.args.self.now { journal = c.save_some.new.journal }) (g.D.Disk.tells c.save_some.new.disk) c.in-Err-save_some.why c.in-Err-save_some.ensures.saved c.save_some.ensures.kept.faults
 
 pub returns-in-Worn-clause-turned : goal.returns-in-Worn-clause-turned
 returns-in-Worn-clause-turned g c =
