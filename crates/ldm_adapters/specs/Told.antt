@@ -1,6 +1,8 @@
 -- What the forms of the system tell: counts alone.
-use Rattle.std.specs.Prelude.{Some, None, is_some}
+use Rattle.std.specs.Prelude.{ℕ, Bool, true, false, Option, Some, None, is_some}
 use Rattle.ldm_disk.specs.Told.{DiskRecord}
+use Rattle.ldm_disk.specs.declared.desk.Desk.{Desk}
+use Rattle.ldm_disk.specs.Desks.{DeskRecord, desk_tells}
 use Rattle.ldm_outside.specs.declared.net.Station.{Station}
 use Rattle.ldm_outside.specs.Clock.{ClockRecord}
 use Rattle.ldm_outside.specs.Dial.{DialRecord}
@@ -25,8 +27,13 @@ told_by_sink s = record { written = None; faults = s.faults }
 abbrev pub told_by_clock : RealClock → ClockRecord
 told_by_clock s = record { answers = None }
 
+-- after how many idle calls a gate stops: one that may stop with the input does not tell this
+abbrev pub told_idles : Bool → Option ℕ → Option (Option ℕ)
+told_idles true idles = None
+told_idles false idles = Some idles
+
 abbrev pub told_by_gate : RealGate → GateRecord
-told_by_gate s = record { stops = s.stops; idles = Some s.idles; calls = None }
+told_by_gate s = record { stops = s.stops; idles = told_idles s.by_input s.idles; calls = None }
 
 abbrev pub told_by_link : RealLink → LinkRecord
 told_by_link s = record { passed = None; left = None; ends = s.ends; faults = s.faults; closed = s.closed }
@@ -34,12 +41,11 @@ told_by_link s = record { passed = None; left = None; ends = s.ends; faults = s.
 abbrev pub told_by_lending : RealLending → LendingRecord
 told_by_lending s = record { out = s.out; ended = s.ended; failed = s.failed; back = None }
 
--- a door of the system never closes
 abbrev pub told_by_door : RealDoor → DoorRecord
 told_by_door s = record {
   faults = s.faults;
   peers = s.peers;
-  closings = 0;
+  closings = s.closings;
   hosts = None;
   links = told_by_lending s.links;
 }
@@ -52,3 +58,6 @@ told_by_disk s = record { faults = s.faults; attached = is_some s.file; file = N
 
 abbrev pub told_by_station : {W : Type 0} → Station RealDoor RealDial (RealSink W) RealClock RealGate → StationRecord
 told_by_station station = station_tells told_by_door told_by_dial told_by_sink told_by_clock told_by_gate station
+
+abbrev pub told_by_desk : {W : Type 0} → Desk RealDisk (RealSink W) RealClock RealGate → DeskRecord
+told_by_desk desk = desk_tells told_by_disk told_by_sink told_by_clock told_by_gate desk

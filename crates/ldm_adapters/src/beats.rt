@@ -1,11 +1,13 @@
 //! What cuts the rest of a gate short, and what makes it longer.
 
 use crate::bell::Bell;
+use crate::ending::{Ending, step};
 use std::alloc::{AllocError, Global};
 use std::io;
 use std::rt::HostRuntime;
 use std::sync::Arc;
 use std::sync::atomic::{AtomicBool, AtomicU64, Ordering};
+use std::time::Duration;
 
 /// What the stations of a net share: a bell, which is rung where one of their links has done with bytes that came. A
 /// product may have been queued then, so it wakes the gates of those stations that feed.
@@ -19,15 +21,23 @@ pub struct Beats {
     serves: Arc<AtomicBool>,
     // How many tries of this station in a row came to nothing.
     misses: Arc<AtomicU64>,
+    // What stops the net, where something does.
+    ending: Option<Arc<Ending>>,
 }
 
 impl Beats {
-    /// For the first station of a net.
-    pub(crate) fn new(rt: HostRuntime) -> io::Result<Beats> {
+    /// For the first station of a net, which stops with the input of the program, or never.
+    pub(crate) fn new(rt: HostRuntime, by_input: bool) -> io::Result<Beats> {
+        let ending = if by_input {
+            Some(Arc::new(rt.alloc(), Ending::new(rt))?)
+        } else {
+            None
+        };
         Ok(Beats {
             bell: Arc::new(rt.alloc(), Bell::new(rt)?)?,
             serves: Arc::new(rt.alloc(), AtomicBool::new(false))?,
             misses: Arc::new(rt.alloc(), AtomicU64::new(0))?,
+            ending,
         })
     }
 
@@ -37,6 +47,7 @@ impl Beats {
             bell: Arc::try_clone(&self.bell)?,
             serves: Arc::new(alloc, AtomicBool::new(false))?,
             misses: Arc::new(alloc, AtomicU64::new(0))?,
+            ending: shared(&self.ending)?,
         })
     }
 
@@ -46,7 +57,43 @@ impl Beats {
             bell: Arc::try_clone(&self.bell)?,
             serves: Arc::try_clone(&self.serves)?,
             misses: Arc::try_clone(&self.misses)?,
+            ending: shared(&self.ending)?,
         })
+    }
+
+    /// Whether the net may stop.
+    pub(crate) fn may_stop(&self) -> bool {
+        self.ending.is_some()
+    }
+
+    /// Whether the net is to stop.
+    pub(crate) fn is_over(&self) -> bool {
+        match &self.ending {
+            Some(ending) => ending.is_over(),
+            None => false,
+        }
+    }
+
+    /// Whether no link of the net may bring something, where the net may stop.
+    pub(crate) fn is_quiet(&self) -> bool {
+        match &self.ending {
+            Some(ending) => ending.is_quiet(),
+            None => true,
+        }
+    }
+
+    /// How long one wait in the system may last of the time that is left.
+    pub(crate) fn within(&self, left: Duration) -> Duration {
+        if self.may_stop() {
+            left.min(step())
+        } else {
+            left
+        }
+    }
+
+    /// The same of a wait that has no end of its own.
+    pub(crate) fn longest(&self) -> Option<Duration> {
+        if self.may_stop() { Some(step()) } else { None }
     }
 
     /// The door let a peer in.
@@ -90,17 +137,29 @@ impl Beats {
     }
 }
 
+// What stops a net, for another part of it.
+fn shared(ending: &Option<Arc<Ending>>) -> Result<Option<Arc<Ending>>, AllocError> {
+    match ending {
+        Some(ending) => Ok(Some(Arc::try_clone(ending)?)),
+        None => Ok(None),
+    }
+}
+
 /// When a link beats.
 ///
 /// It does not as bytes come, since what is in them is not queued yet. Whoever has the link takes them first, and then
 /// comes back to it, to receive more, to send an answer or to close it: then it beats, before it does anything else. An
 /// answer to a product is sent once that is queued; a product that is answered by nothing is queued before more is
 /// received.
+///
+/// From the asking for bytes on, and until the link is come back to, it may bring something.
 #[derive(Drop)]
 pub struct Pulse {
     beats: Option<Beats>,
     // Whether bytes came since the last beat.
     is_owed: bool,
+    // Whether it may bring something.
+    is_open: bool,
 }
 
 impl Pulse {
@@ -109,6 +168,15 @@ impl Pulse {
         Pulse {
             beats,
             is_owed: false,
+            is_open: false,
+        }
+    }
+
+    /// The link is asked for bytes.
+    pub(crate) fn open(&mut self) {
+        if let Some(ending) = self.ending() {
+            ending.open();
+            self.is_open = true;
         }
     }
 
@@ -117,10 +185,18 @@ impl Pulse {
         self.is_owed = true;
     }
 
-    /// The link is come back to.
+    /// The link is come back to, or brought nothing.
     pub(crate) fn settle(&mut self) {
         self.end();
         self.is_owed = false;
+        self.is_open = false;
+    }
+
+    fn ending(&self) -> Option<&Ending> {
+        match &self.beats {
+            Some(beats) => beats.ending.as_deref(),
+            None => None,
+        }
     }
 
     /// The link is not come back to.
@@ -129,6 +205,11 @@ impl Pulse {
             && self.is_owed
         {
             beats.beat();
+        }
+        if self.is_open
+            && let Some(ending) = self.ending()
+        {
+            ending.shut();
         }
     }
 }

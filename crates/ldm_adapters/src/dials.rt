@@ -8,7 +8,7 @@ ghost use Rattle.ldm_adapters.specs.Told.{told_by_dial, told_by_link};
 use crate::beats::Beats;
 use crate::lending::RealLending;
 use crate::links::{RealLink, Timeouts};
-use crate::telling::{tell_peer, tell_port};
+use crate::telling::{tell, tell_peer, tell_port};
 use ldm_outside::{Dial, Dialled, Reason, Reasons};
 use std::io::{self, ErrorKind};
 use std::net::{TcpStream, ToSocketAddrs};
@@ -86,6 +86,15 @@ impl RealDial {
         self.faults = self.faults.saturating_add(1);
     }
 
+    /// Counts a fault of the system at a desk, and keeps what it said.
+    pub(crate) fn fail_to_furnish(&mut self, error: &io::Error)
+        ensures counted { self.new ≡ record self.old { faults = self.new.faults; why = self.new.why } }
+        ensures rose { Rose self.old.faults self.new.faults }
+    {
+        tell(&mut self.why, b"desk", error);
+        self.faults = self.faults.saturating_add(1);
+    }
+
     /// Counts a fault at a port of this machine, and keeps what the system said.
     pub(crate) fn fail_to_listen(&mut self, port: u16, error: &io::Error)
         ensures counted { self.new ≡ record self.old { faults = self.new.faults; why = self.new.why } }
@@ -111,6 +120,9 @@ fn connect(
     };
     let mut why = io::Error::new(ErrorKind::NotFound, "Has no address");
     for address in (host, port).to_socket_addrs(&rt)? {
+        if beats.as_ref().is_some_and(Beats::is_over) {
+            return Err(io::Error::new(ErrorKind::ConnectionAborted, "The net stops"));
+        }
         match TcpStream::connect_timeout(&rt, &address, timeouts.connect) {
             Ok(stream) => return RealLink::new(stream, timeouts, beats),
             Err(error) => why = error,

@@ -1,10 +1,11 @@
 //! Doors over TCP.
-ghost use Rattle.std.specs.Prelude.{◌≡◌, IfSome};
+ghost use Rattle.std.specs.Prelude.{◌≡◌, IfOk, IfSome};
 ghost use Rattle.ldm_outside.specs.Door.{IsNewDoor};
 ghost use Rattle.ldm_outside.specs.Link.{IsFresh};
 ghost use Rattle.ldm_adapters.specs.Told.{told_by_door, told_by_link};
 
 use crate::beats::Beats;
+use crate::keeper::Found;
 use crate::lending::RealLending;
 use crate::links::{RealLink, Timeouts};
 use crate::lobby::Way;
@@ -12,9 +13,9 @@ use arrayvec::{ArrayString, ArrayVec};
 use ldm_outside::{Came, Door, LONGEST_HOST};
 use std::fmt::Write;
 use std::io::{self, ErrorKind};
-use std::net::{IpAddr, TcpListener, TcpStream};
+use std::net::{IpAddr, TcpListener};
 
-/// A door over TCP. It tells no host, and never closes.
+/// A door over TCP. It tells no host, and closes only where its net is to stop.
 ///
 /// The host of a peer is the text of its address.
 #[derive(Drop)]
@@ -24,6 +25,7 @@ pub struct RealDoor {
     beats: Option<Beats>,
     faults: u64,
     peers: u64,
+    closings: u64,
     links: RealLending,
 }
 
@@ -37,10 +39,10 @@ enum Entry {
 }
 
 impl Entry {
-    // The next peer, and its address. Its link is out from now on.
-    fn wait(&self) -> io::Result<(TcpStream, IpAddr)> {
+    // The next peer, and its address. Its link is out from now on. None where the net is to stop.
+    fn wait(&self) -> io::Result<Option<Found>> {
         match self {
-            Entry::Listener(listener) => accept_peer(listener),
+            Entry::Listener(listener) => Ok(Some(accept_peer(listener)?)),
             Entry::Lobby(way) => way.wait(),
         }
     }
@@ -84,6 +86,7 @@ impl RealDoor {
             beats,
             faults: 0,
             peers: 0,
+            closings: 0,
             links: RealLending::new(),
         }
     }
@@ -123,7 +126,7 @@ fn host_of(address: IpAddr) -> Option<ArrayVec<u8, LONGEST_HOST>> {
 }
 
 // The next peer. One that went before it was let in is none.
-fn accept_peer(listener: &TcpListener) -> io::Result<(TcpStream, IpAddr)> {
+fn accept_peer(listener: &TcpListener) -> io::Result<Found> {
     for _ in 0..u64::MAX {
         match listener.accept() {
             Ok((stream, address)) => return Ok((stream, address.ip())),
@@ -138,19 +141,22 @@ fn is_passing(kind: ErrorKind) -> bool {
     matches!(kind, ErrorKind::Interrupted | ErrorKind::ConnectionAborted)
 }
 
-// A link to the next peer, with the text of its address.
+// A link to the next peer, with the text of its address. None where the net is to stop.
 fn next_peer(
     entry: &Entry,
     timeouts: Timeouts,
     beats: Option<Beats>,
-) -> Option<(ArrayVec<u8, LONGEST_HOST>, RealLink)>
-    ensures { IfSome result (λ peer. IsFresh (told_by_link peer.1)) }
+) -> io::Result<Option<(ArrayVec<u8, LONGEST_HOST>, RealLink)>>
+    ensures { IfOk result (λ next. IfSome next (λ peer. IsFresh (told_by_link peer.1))) }
 {
-    let (stream, address) = entry.wait().ok()?;
-    Some((
-        host_of(address)?,
-        RealLink::new(stream, timeouts, beats).ok()?,
-    ))
+    let Some((stream, address)) = entry.wait()? else {
+        return Ok(None);
+    };
+    let Some(host) = host_of(address) else {
+        return Err(io::Error::from(ErrorKind::InvalidData));
+    };
+    let link = RealLink::new(stream, timeouts, beats)?;
+    Ok(Some((host, link)))
 }
 
 impl Door for RealDoor {
@@ -161,7 +167,7 @@ impl Door for RealDoor {
     fn accept(&mut self) -> Came<RealLink> {
         let beats = self.beats.as_ref().and_then(|beats| beats.share().ok());
         match next_peer(&self.entry, self.timeouts, beats) {
-            Some((host, link)) => {
+            Ok(Some((host, link))) => {
                 if let Some(beats) = &self.beats {
                     beats.serve();
                 }
@@ -169,7 +175,11 @@ impl Door for RealDoor {
                 self.links.hand_out();
                 Came::Peer { host, link }
             }
-            None => {
+            Ok(None) => {
+                self.closings = self.closings.saturating_add(1);
+                Came::Closed
+            }
+            Err(_) => {
                 self.entry.give_back();
                 self.faults = self.faults.saturating_add(1);
                 Came::Failed

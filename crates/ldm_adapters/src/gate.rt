@@ -1,5 +1,5 @@
 //! A gate for a program that runs by itself.
-ghost use Rattle.std.specs.Prelude.{◌≡◌, ◌≤◌};
+ghost use Rattle.std.specs.Prelude.{◌≡◌, ◌≤◌, true};
 ghost use Rattle.ldm_outside.specs.declared.gate.Go.{Go};
 
 use crate::resting::{IDLE_MILLISECONDS, Resting};
@@ -21,34 +21,61 @@ use std::time::Duration;
 /// [`QUIET_MILLISECONDS`](crate::QUIET_MILLISECONDS) at most, and is woken where a link of its net has done with bytes
 /// that came. Where one had since its last idle call, it sleeps no longer than
 /// [`BUSY_MILLISECONDS`](crate::BUSY_MILLISECONDS), for those that come behind.
+///
+/// A gate of a net that stops with the input of the program does not tell after how many idle calls it stops. It stops
+/// at the first where the input has ended. That of a desk stops behind all links of the net: at the first where none
+/// may bring something, nor could at the one before.
 #[derive(Drop)]
 pub struct RealGate {
     rt: HostRuntime,
     idles: Option<u32>,
     stops: u64,
     resting: Option<Resting>,
+    // Whether it may stop with the input.
+    by_input: bool,
 }
 
 impl RealGate {
     ghost use Rattle.std.specs.Prelude.{Some, None};
+    ghost use Rattle.ldm_outside.specs.Gate.{StopsAfter};
     ghost use Rattle.ldm_adapters.specs.Told.{told_by_gate};
 
     /// A gate that stops after so many idle calls, or never.
     pub fn new(rt: HostRuntime, idles: Option<u32>) -> RealGate
         ensures { told_by_gate result ≡ record { stops = 0; idles = Some idles; calls = None } }
     {
-        RealGate::resting(rt, idles, None)
-    }
-
-    /// The same, which rests so where it has no number.
-    pub(crate) fn resting(rt: HostRuntime, idles: Option<u32>, resting: Option<Resting>) -> RealGate
-        ensures { told_by_gate result ≡ record { stops = 0; idles = Some idles; calls = None } }
-    {
         RealGate {
             rt,
             idles,
             stops: 0,
-            resting,
+            resting: None,
+            by_input: false,
+        }
+    }
+
+    /// The same, which rests so where it has no number, and may stop with the input of the program.
+    pub(crate) fn resting(rt: HostRuntime, idles: Option<u32>, resting: Resting) -> RealGate
+        ensures stops { result.stops ≡ 0 }
+        ensures stopping { StopsAfter idles (told_by_gate result) }
+    {
+        let by_input = resting.may_stop();
+        RealGate {
+            rt,
+            idles,
+            stops: 0,
+            resting: Some(resting),
+            by_input,
+        }
+    }
+
+    // Whether the input has ended, where it may stop with that.
+    fn is_over(&mut self) -> bool
+        ensures by_input { result ≡ true → self.old.by_input ≡ true }
+        ensures rest { self.new ≡ record self.old { resting = self.new.resting } }
+    {
+        match &mut self.resting {
+            Some(resting) if self.by_input => resting.is_over(),
+            _ => false,
         }
     }
 
@@ -72,6 +99,10 @@ impl Gate for RealGate {
     fn after(&mut self, _actor: Actor, _i: u64) {}
 
     fn idle(&mut self) -> Go {
+        if self.is_over() {
+            self.stops = self.stops.saturating_add(1);
+            return Go::Stop;
+        }
         if let Some(left) = self.idles {
             if left == 0 {
                 self.stops = self.stops.saturating_add(1);

@@ -1,5 +1,6 @@
 //! Who keeps a lobby: lets connections in, waits until their peers speak, and chooses who comes to a free door.
 
+use crate::beats::Beats;
 use crate::seats::{Seat, links_out, links_to};
 use crate::waiting::{Visitor, WAITING_MOST, Waiting};
 use mio::unix::SourceFd;
@@ -42,6 +43,8 @@ pub struct Keeper {
     pause: Option<Duration>,
     // Of all doors, in the order in which they were made.
     seats: Vec<Seat>,
+    // What says that the net is to stop.
+    beats: Beats,
 }
 
 // Whom a keeper found for a door.
@@ -122,7 +125,7 @@ fn hear(stream: &TcpStream) -> Heard {
 
 impl Keeper {
     /// The keeper of an empty lobby with no door.
-    pub(crate) fn new(rt: HostRuntime, listener: &TcpListener) -> io::Result<Keeper> {
+    pub(crate) fn new(rt: HostRuntime, listener: &TcpListener, beats: Beats) -> io::Result<Keeper> {
         listener.set_nonblocking(true)?;
         let poll = Poll::new(&rt)?;
         let listener = listener.as_raw_fd();
@@ -139,6 +142,7 @@ impl Keeper {
             next: FIRST,
             pause: None,
             seats: Vec::new(rt.alloc()),
+            beats,
         })
     }
 
@@ -157,18 +161,21 @@ impl Keeper {
     }
 
     /// Waits until somebody may come to the door at that place, of which so many others wait too. Its link is out from
-    /// then on.
+    /// then on. None where the net is to stop.
     pub(crate) fn wait(
         &mut self,
         listener: &TcpListener,
         place: usize,
         doors: &AtomicU64,
-    ) -> io::Result<Found> {
+    ) -> io::Result<Option<Found>> {
         for _ in 0..u64::MAX {
+            if self.beats.is_over() {
+                return Ok(None);
+            }
             let has_more = self.let_in(listener)?;
             self.drop_overdue()?;
             if let Some(found) = self.choose(place, doors) {
-                return Ok(found);
+                return Ok(Some(found));
             }
             self.rest(has_more)?;
         }
@@ -247,7 +254,10 @@ impl Keeper {
             (Some(one), Some(other)) => Some(one.min(other)),
             (one, other) => one.or(other),
         };
-        Ok(deadline.map(|at| at.saturating_sub(now)))
+        Ok(match deadline {
+            Some(at) => Some(self.beats.within(at.saturating_sub(now))),
+            None => self.beats.longest(),
+        })
     }
 
     // Drops those who said nothing for too long. Who spoke while nobody kept the lobby stays.

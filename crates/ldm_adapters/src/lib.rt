@@ -13,6 +13,7 @@ mod clock;
 mod dials;
 mod disk;
 mod doors;
+mod ending;
 mod files;
 mod gate;
 mod keeper;
@@ -35,6 +36,7 @@ pub use clock::RealClock;
 pub use dials::{RealDial, SESSION_SECONDS};
 pub use disk::RealDisk;
 pub use doors::RealDoor;
+pub use ending::{LOOK_MILLISECONDS, STEP_MILLISECONDS};
 pub use files::RealStore;
 pub use gate::RealGate;
 pub use keeper::NO_ROOM_SECONDS;
@@ -44,7 +46,7 @@ pub use links::{
     CONNECT_SECONDS, GRACE_SECONDS, REPLY_SECONDS, REQUEST_SECONDS, RealLink, SILENT_SECONDS,
     STALLED_SECONDS, Timeouts,
 };
-pub use net::{RealNet, RealStation};
+pub use net::{RealDesk, RealNet, RealStation};
 pub use pace::SLOWEST_RATE;
 pub use resting::{
     BUSY_MILLISECONDS, CALM_MILLISECONDS, FIRST_BUSY_MICROSECONDS, IDLE_MILLISECONDS,

@@ -3,6 +3,7 @@ ghost use Rattle.std.specs.Prelude.{◌<◌, length};
 ghost use Rattle.std.specs.Io.{ReadsAtMost, WritesAtMost};
 ghost use Rattle.ldm_adapters.specs.Front.{GivesFront, TakesFront};
 
+use crate::beats::Beats;
 use crate::links::Timeouts;
 use crate::pace::Pace;
 use crate::streams::{told_of_read, told_of_write};
@@ -40,13 +41,20 @@ pub(crate) struct LimitedStream {
     // when the system was asked last whether the peer is there
     looked: Option<Instant>,
     gone: bool,
+    // what says that its net is to stop
+    beats: Option<Beats>,
 }
 
 impl LimitedStream {
-    /// The stream under these limits. It sends each piece at once where the system can.
-    pub(crate) fn new(stream: TcpStream, limits: Timeouts) -> io::Result<LimitedStream> {
-        let read_timeout = step_within(limits.silent);
-        let write_timeout = step_within(limits.stalled);
+    /// The stream under these limits, whose calls fail where its net is to stop. It sends each piece at once where the
+    /// system can.
+    pub(crate) fn new(
+        stream: TcpStream,
+        limits: Timeouts,
+        beats: Option<Beats>,
+    ) -> io::Result<LimitedStream> {
+        let read_timeout = step_within(limits.silent, &beats);
+        let write_timeout = step_within(limits.stalled, &beats);
         stream.set_read_timeout(Some(read_timeout))?;
         stream.set_write_timeout(Some(write_timeout))?;
         let _ = stream.set_nodelay(true);
@@ -61,6 +69,7 @@ impl LimitedStream {
             taking: Pace::new(),
             looked: None,
             gone: false,
+            beats,
         })
     }
 
@@ -103,6 +112,7 @@ impl LimitedStream {
         let mut now = began;
         self.await_from(awaited, began);
         for _ in 0..u64::MAX {
+            self.go_on()?;
             let left = self.read_left(awaited, began, now);
             self.fit_read(left)?;
             let answer = self.stream.read(into);
@@ -124,6 +134,14 @@ impl LimitedStream {
             }
         }
         Err(io::Error::from(ErrorKind::TimedOut))
+    }
+
+    // Fails where the net is to stop.
+    fn go_on(&self) -> io::Result<()> {
+        match &self.beats {
+            Some(beats) if beats.is_over() => Err(io::Error::from(ErrorKind::ConnectionAborted)),
+            _ => Ok(()),
+        }
     }
 
     // From this moment on something is awaited.
@@ -177,7 +195,7 @@ impl LimitedStream {
         if left.is_zero() {
             return Err(io::Error::from(ErrorKind::TimedOut));
         }
-        let timeout = step_within(left);
+        let timeout = step_within(left, &self.beats);
         if timeout != self.read_timeout {
             self.stream.set_read_timeout(Some(timeout))?;
             self.read_timeout = timeout;
@@ -190,7 +208,7 @@ impl LimitedStream {
         if left.is_zero() {
             return Err(io::Error::from(ErrorKind::TimedOut));
         }
-        let timeout = step_within(left);
+        let timeout = step_within(left, &self.beats);
         if timeout != self.write_timeout {
             self.stream.set_write_timeout(Some(timeout))?;
             self.write_timeout = timeout;
@@ -205,6 +223,7 @@ impl LimitedStream {
         let mut began = self.now()?;
         let mut now = began;
         for _ in 0..u64::MAX {
+            self.go_on()?;
             let left = self.write_left(began, now);
             self.fit_write(left)?;
             let answer = self.stream.write(piece);
@@ -262,6 +281,10 @@ impl LimitedStream {
 }
 
 // How long one call of the system may wait of the time that is left.
-fn step_within(left: Duration) -> Duration {
-    left.min(Duration::from_secs(STEP_SECONDS))
+fn step_within(left: Duration, beats: &Option<Beats>) -> Duration {
+    let step = left.min(Duration::from_secs(STEP_SECONDS));
+    match beats {
+        Some(beats) => beats.within(step),
+        None => step,
+    }
 }

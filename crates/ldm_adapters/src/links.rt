@@ -67,7 +67,8 @@ impl Timeouts {
 /// A link over TCP. It tells no bytes.
 ///
 /// A peer that vanishes is a fault, and no signal comes; so is one that is waited for too long. What it is waited for
-/// says how long: [`Timeouts`]. A closed link is shut down in both directions.
+/// says how long: [`Timeouts`]. A closed link is shut down in both directions. Where its net is to stop, a call is a
+/// fault.
 #[derive(Drop)]
 pub struct RealLink {
     stream: LimitedStream,
@@ -92,7 +93,7 @@ impl RealLink {
         ensures { IfOk result (λ link. IsFresh (told_by_link link)) }
     {
         Ok(RealLink {
-            stream: LimitedStream::new(stream, timeouts)?,
+            stream: LimitedStream::new(stream, timeouts, share(&beats)?)?,
             pulse: Pulse::new(beats),
             ends: 0,
             faults: 0,
@@ -119,6 +120,14 @@ impl RealLink {
     }
 }
 
+// What the stations of a net share, for another part of a link.
+fn share(beats: &Option<Beats>) -> io::Result<Option<Beats>> {
+    match beats {
+        Some(beats) => Ok(Some(beats.share()?)),
+        None => Ok(None),
+    }
+}
+
 impl Link for RealLink {
     ghost use Rattle.ldm_adapters.specs.Told.{told_by_link};
 
@@ -126,11 +135,15 @@ impl Link for RealLink {
 
     fn recv(&mut self, into: &mut [u8], awaited: Awaited) -> Got {
         self.pulse.settle();
+        self.pulse.open();
         let got = self.stream.receive(into, awaited);
         match got {
             Got::Bytes(_) => self.pulse.owe(),
             Got::End => self.ends = self.ends.saturating_add(1),
             Got::Failed => self.faults = self.faults.saturating_add(1),
+        }
+        if !matches!(got, Got::Bytes(_)) {
+            self.pulse.settle();
         }
         got
     }

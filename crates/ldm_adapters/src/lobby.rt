@@ -1,5 +1,6 @@
 //! A lobby, which all doors of a net share: whoever waits at one of them keeps it for all.
 
+use crate::beats::Beats;
 use crate::keeper::{Found, Keeper};
 use crate::seats::Seat;
 use crate::streams::{read_once, write_once};
@@ -62,8 +63,8 @@ pub struct Lobby {
 
 impl Lobby {
     /// The lobby of that listener, with no door.
-    pub(crate) fn new(rt: HostRuntime, listener: TcpListener) -> io::Result<Lobby> {
-        let keeper = Keeper::new(rt, &listener)?;
+    pub(crate) fn new(rt: HostRuntime, listener: TcpListener, beats: Beats) -> io::Result<Lobby> {
+        let keeper = Keeper::new(rt, &listener, beats)?;
         Ok(Lobby {
             listener,
             baton: Baton::new(rt)?,
@@ -74,7 +75,7 @@ impl Lobby {
     }
 
     // The next peer of the door at that place.
-    fn wait(&self, place: usize) -> io::Result<Found> {
+    fn wait(&self, place: usize) -> io::Result<Option<Found>> {
         if let Err(error) = self.baton.take() {
             self.doors.fetch_sub(1, Ordering::SeqCst);
             return Err(error);
@@ -112,8 +113,8 @@ impl Way {
         })
     }
 
-    /// Waits for the next peer. Its link is out until it is given back.
-    pub(crate) fn wait(&self) -> io::Result<Found> {
+    /// Waits for the next peer. Its link is out until it is given back. None where the net is to stop.
+    pub(crate) fn wait(&self) -> io::Result<Option<Found>> {
         self.lobby.doors.fetch_add(1, Ordering::SeqCst);
         // who keeps the lobby may let one go that is not to have the last door
         let _ = self.lobby.waker.wake();

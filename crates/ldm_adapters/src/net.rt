@@ -1,18 +1,21 @@
 //! The net over TCP.
-ghost use Rattle.std.specs.Prelude.{◌≡◌, [], All, IfOk, vec_len};
+ghost use Rattle.std.specs.Prelude.{◌≡◌, [], All, IfOk, None, vec_len};
 ghost use Rattle.ldm_outside.specs.Dial.{IsNewDial};
 ghost use Rattle.ldm_outside.specs.Station.{IsNew};
-ghost use Rattle.ldm_adapters.specs.Told.{told_by_dial, told_by_station};
+ghost use Rattle.ldm_disk.specs.Desks.{IsNewDesk};
+ghost use Rattle.ldm_adapters.specs.Told.{told_by_desk, told_by_dial, told_by_station};
 
 use crate::beats::Beats;
 use crate::clock::RealClock;
 use crate::dials::RealDial;
+use crate::disk::RealDisk;
 use crate::doors::RealDoor;
 use crate::gate::RealGate;
 use crate::links::{RealLink, Timeouts};
 use crate::lobby::{Lobby, Way};
 use crate::resting::Resting;
 use crate::streams::RealSink;
+use ldm_disk::{Desk, Desks, Furnished};
 use ldm_outside::{Dial, Dialled, Manned, Net, Reasons, Station};
 use std::io::{self, ErrorKind};
 use std::net::{IpAddr, Ipv4Addr, Ipv6Addr, SocketAddr, TcpListener};
@@ -21,6 +24,31 @@ use std::sync::Arc;
 
 /// The outside of one worker, whose log is standard error.
 pub type RealStation = Station<RealDoor, RealDial, RealSink<Stderr>, RealClock, RealGate>;
+
+/// What keeps a file, and whose log is standard error.
+pub type RealDesk = Desk<RealDisk, RealSink<Stderr>, RealClock, RealGate>;
+
+// What the stations and the desks of a net have in common.
+#[derive(Drop)]
+struct Common {
+    // What one of them was made of, once one was made.
+    beats: Option<Beats>,
+    // Whether their gates may stop with the input of the program.
+    by_input: bool,
+}
+
+impl Common {
+    // For one more of them.
+    fn beats(&mut self, rt: HostRuntime) -> io::Result<Beats> {
+        let beats = match self.beats.take() {
+            Some(beats) => beats,
+            None => Beats::new(rt, self.by_input)?,
+        };
+        let beside = beats.beside(rt.alloc());
+        self.beats = Some(beats);
+        Ok(beside?)
+    }
+}
 
 // A station whose door lets in those of the lobby who spoke.
 fn station(
@@ -37,7 +65,19 @@ fn station(
         dial: RealDial::beating(rt, timeouts, Some(beats.share()?)),
         log: RealSink::new(rt.alloc(), rt.stderr()),
         clock: RealClock::new(rt),
-        gate: RealGate::resting(rt, idles, Some(Resting::new(rt, beats)?)),
+        gate: RealGate::resting(rt, idles, Resting::new(rt, beats)?),
+    })
+}
+
+// A desk to whose disk no file is attached.
+fn furnish(rt: HostRuntime, idles: Option<u32>, beats: Beats) -> io::Result<RealDesk>
+    ensures { IfOk result (λ made. IsNewDesk idles (told_by_desk made)) }
+{
+    Ok(Desk {
+        disk: RealDisk::new(rt),
+        log: RealSink::new(rt.alloc(), rt.stderr()),
+        clock: RealClock::new(rt),
+        gate: RealGate::resting(rt, idles, Resting::of_desk(rt, beats)?),
     })
 }
 
@@ -58,15 +98,16 @@ fn man(
     count: u32,
     timeouts: Timeouts,
     idles: Option<u32>,
+    common: &mut Common,
 ) -> io::Result<Vec<RealStation>>
     ensures count { IfOk result (λ made. vec_len made ≡ count) }
     ensures new { IfOk result (λ made. All (λ one. IsNew idles (told_by_station one)) made.items) }
 {
-    let lobby = Arc::new(rt.alloc(), Lobby::new(rt, listen(rt, port)?)?)?;
-    let beats = Beats::new(rt)?;
+    let lobby = Lobby::new(rt, listen(rt, port)?, common.beats(rt)?)?;
+    let lobby = Arc::new(rt.alloc(), lobby)?;
     let mut made = Vec::with_capacity(rt.alloc(), count as usize)?;
     for _ in 0..count {
-        let beats = beats.beside(rt.alloc())?;
+        let beats = common.beats(rt)?;
         let one = station(rt, &lobby, timeouts, idles, beats)?;
         made.push_reserved(one);
     }
@@ -82,12 +123,15 @@ pub struct RealNet {
     // The port that it was asked for last.
     port: Option<u16>,
     kept: Vec<RealStation>,
+    common: Common,
+    kept_desk: Option<RealDesk>,
 }
 
 impl RealNet {
-    /// The net of this system, which keeps no station.
+    /// The net of this system, which keeps no station and no desk.
     pub fn new(rt: HostRuntime) -> RealNet
         ensures kept { result.kept.items ≡ [] }
+        ensures kept_desk { result.kept_desk ≡ None }
         ensures dial { IsNewDial (told_by_dial result.dial) }
     {
         RealNet::with_timeouts(rt, Timeouts::new(rt))
@@ -96,6 +140,7 @@ impl RealNet {
     /// The same, with links that wait no longer than this.
     pub fn with_timeouts(rt: HostRuntime, timeouts: Timeouts) -> RealNet
         ensures kept { result.kept.items ≡ [] }
+        ensures kept_desk { result.kept_desk ≡ None }
         ensures dial { IsNewDial (told_by_dial result.dial) }
     {
         RealNet {
@@ -104,6 +149,11 @@ impl RealNet {
             timeouts,
             port: None,
             kept: Vec::new(rt.alloc()),
+            common: Common {
+                beats: None,
+                by_input: false,
+            },
+            kept_desk: None,
         }
     }
 }
@@ -148,9 +198,10 @@ impl Net for RealNet {
             (told_by_dial self.new.dial) }
         ensures kept { self.new.kept.items ≡ self.old.kept.items }
         ensures asked { self.new.port ≡ Some port }
+        ensures kept_desk { self.new.kept_desk ≡ self.old.kept_desk }
     {
         self.port = Some(port);
-        match man(self.rt, port, count, self.timeouts, idles) {
+        match man(self.rt, port, count, self.timeouts, idles, &mut self.common) {
             Ok(made) => Manned::Stations(made),
             Err(error) if error.kind() == ErrorKind::OutOfMemory => Manned::OutOfMemory,
             Err(error) => {
@@ -164,8 +215,59 @@ impl Net for RealNet {
         ensures kept { self.new.kept.items ≡ stations.items }
         ensures same { told_by_dial self.new.dial ≡ told_by_dial self.old.dial }
         ensures asked { self.new.port ≡ self.old.port }
+        ensures kept_desk { self.new.kept_desk ≡ self.old.kept_desk }
     {
         self.kept = stations;
+    }
+}
+
+impl Desks for RealNet {
+    ghost use Rattle.std.specs.Prelude.{Some};
+    ghost use Rattle.ldm_disk.specs.Desks.{DeskGives};
+
+    type DeskDisk = RealDisk;
+
+    ghost kept_desk = { λ s. s.kept_desk };
+
+    fn desk(&mut self, idles: Option<u32>) -> Furnished<RealDesk>
+        ensures given { DeskGives told_by_desk result idles (told_by_dial self.old.dial) (told_by_dial self.new.dial) }
+        ensures kept { self.new.kept.items ≡ self.old.kept.items }
+        ensures asked { self.new.port ≡ self.old.port }
+        ensures kept_desk { self.new.kept_desk ≡ self.old.kept_desk }
+    {
+        let made = match self.common.beats(self.rt) {
+            Ok(beats) => furnish(self.rt, idles, beats),
+            Err(error) => Err(error),
+        };
+        match made {
+            Ok(desk) => Furnished::Desk(desk),
+            Err(error) if error.kind() == ErrorKind::OutOfMemory => Furnished::OutOfMemory,
+            Err(error) => {
+                self.dial.fail_to_furnish(&error);
+                Furnished::Failed
+            }
+        }
+    }
+
+    fn keep_desk(&mut self, desk: RealDesk)
+        ensures kept_desk { self.new.kept_desk ≡ Some desk }
+        ensures same { told_by_dial self.new.dial ≡ told_by_dial self.old.dial }
+        ensures kept { self.new.kept.items ≡ self.old.kept.items }
+        ensures asked { self.new.port ≡ self.old.port }
+    {
+        self.kept_desk = Some(desk);
+    }
+
+    fn stop_with_input(&mut self)
+        ensures same { told_by_dial self.new.dial ≡ told_by_dial self.old.dial }
+        ensures kept { self.new.kept.items ≡ self.old.kept.items }
+        ensures asked { self.new.port ≡ self.old.port }
+        ensures kept_desk { self.new.kept_desk ≡ self.old.kept_desk }
+    {
+        self.common = Common {
+            beats: None,
+            by_input: true,
+        };
     }
 }
 

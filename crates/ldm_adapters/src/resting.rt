@@ -35,26 +35,78 @@ pub struct Resting {
     seen: u64,
     // How long the next sleep takes, where beats came.
     busy: Duration,
+    // Whether it stops only behind the links of the net.
+    is_last: bool,
+    // Whether no link could bring something when it was asked last whether to stop.
+    was_quiet: bool,
 }
 
 impl Resting {
     /// The rests of a gate whose station has those beats.
     pub(crate) fn new(rt: HostRuntime, beats: Beats) -> io::Result<Resting> {
+        Resting::made(rt, beats, false)
+    }
+
+    /// The rests of a gate of a desk: it waits for beats as if it fed, and stops last.
+    pub(crate) fn of_desk(rt: HostRuntime, beats: Beats) -> io::Result<Resting> {
+        beats.serve();
+        Resting::made(rt, beats, true)
+    }
+
+    fn made(rt: HostRuntime, beats: Beats, is_last: bool) -> io::Result<Resting> {
         Ok(Resting {
             rt,
             listener: Listener::new(rt, beats.bell())?,
             beats,
             seen: 0,
             busy: first_busy(),
+            is_last,
+            was_quiet: false,
         })
+    }
+
+    /// Whether the gate may stop with the input of the program.
+    pub(crate) fn may_stop(&self) -> bool {
+        self.beats.may_stop()
+    }
+
+    /// Whether the gate is to stop.
+    ///
+    /// That of a desk does so where no link could bring something at the last question already: so its worker has
+    /// looked at the queue since.
+    pub(crate) fn is_over(&mut self) -> bool {
+        if !self.beats.is_over() {
+            return false;
+        }
+        if !self.is_last {
+            return true;
+        }
+        let was_quiet = self.was_quiet;
+        self.was_quiet = self.beats.is_quiet();
+        was_quiet && self.was_quiet
     }
 
     /// Sleeps for one idle call, or until it is worth looking at the queue again.
     pub(crate) fn rest(&mut self) {
-        if self.beats.serves() {
+        if self.beats.is_over() {
+            thread::sleep(&self.rt, Duration::from_millis(BUSY_MILLISECONDS));
+        } else if self.beats.serves() {
             self.rest_between_beats();
         } else {
-            thread::sleep(&self.rt, rest_after(self.beats.misses()));
+            self.sleep(rest_after(self.beats.misses()));
+        }
+    }
+
+    // Sleeps for so long, or until the net is to stop.
+    fn sleep(&self, time: Duration) {
+        let mut left = time;
+        for _ in 0..u64::MAX {
+            let step = self.beats.within(left);
+            thread::sleep(&self.rt, step);
+            left = left.saturating_sub(step);
+            if left.is_zero() || self.beats.is_over() {
+                break;
+            }
         }
     }
 
