@@ -16,6 +16,7 @@ use Rattle.ldm_intake.specs.Notes.{Note}
 use Rattle.ldm_intake.specs.Products.{reserved, reserve_note}
 use Rattle.ldm_intake.specs.Receiving.{Wanting, Receiving, is_wanted}
 use Rattle.ldm_intake.specs.Taken.{Arrival, Taken, after_step, taken}
+use Rattle.ldm_intake.proofs.Courses.{leads-same}
 use Rattle.ldm_upstream.specs.Turn.{Given, announcement}
 use Rattle.ldm_between_ends.specs.Codes.{Agree, soon_codes}
 use Rattle.ldm_between_ends.specs.Handed.{Handed, Declined, Announced}
@@ -23,7 +24,7 @@ use Rattle.ldm_between_ends.specs.Takings.{TakesNone}
 use Rattle.ldm_between_ends.proofs.Growing.{none-taken, asks-made, grows, heard-code, codes-more}
 use Rattle.ldm_between_ends.proofs.Messages.{Again, fed, waiting, so_far, onward, announcement_comes, declined_goes, reserved_goes, reserved_or}
 use Rattle.ldm_between_ends.proofs.Reaching.{First, Reaches, Passed, begun, stopped, finished, prepend}
-use Rattle.ldm_between_ends.proofs.Taking.{leads-along, some-left}
+use Rattle.ldm_between_ends.proofs.Taking.{some-left}
 
 -- the reply to an announcement
 abbrev pub code_of : ℕ → SoonAnswer → Code
@@ -78,7 +79,7 @@ module _ (again : Again) (actor : ℕ) (moments : List ℕ) (w : Wanting) (max :
         | inl has ↦
             let course : Reply → Course Taken = λ v. (then) (reserved (fed w max last) a.now next info v) (after_step (so_far (fed w max last) replies notes) a.at (onward arrivals)) in
             let goes = reserved_goes w max last replies notes a.now a.at (onward arrivals) next info has.r has.evicted some in
-            let on = leads-along actor _ _ more t (ap course has.is ∙ goes) leads in
+            let on = leads-same actor _ _ more t (ap course has.is ∙ goes) leads in
             let grown = grows actor (so_far (waiting w max last (record { info = info; r = has.r; blocks = 0 })) (replies ++ sent.ComingsoonReply next soon.Ok ∷ []) (notes ++ [])) arrivals more t on in
             waits (record {
               r = has.r;
@@ -96,7 +97,7 @@ module _ (again : Again) (actor : ℕ) (moments : List ℕ) (w : Wanting) (max :
             }) (λ later code agree. heard-code codes later code replies t.replies next soon.Ok codes_are grown agree)
         | inr refused ↦
             let goes = declined_goes w max last replies notes a.now a.at (onward arrivals) next info reply refused in
-            let on = leads-along actor _ _ more t goes leads in
+            let on = leads-same actor _ _ more t goes leads in
             let grown = grows actor (so_far (fed w max (Some info.signature)) (replies ++ sent.ComingsoonReply next soon.DontSend ∷ []) (notes ++ reserve_note info reply)) arrivals more t on in
             declined (record {
               first = entry_by actor (Reserve info) reply ∷ [];
@@ -124,7 +125,7 @@ module _ (again : Again) (actor : ℕ) (moments : List ℕ) (w : Wanting) (max :
       let info = given.product.info in
       let on : Reply → Course Taken = λ reply. (then) (reserved (fed w max last) a.now next info reply) (after_step (so_far (fed w max last) replies notes) a.at (onward arrivals)) in
       let comes = announcement_comes again w max last replies notes a arrivals next info fits first.0 wanted in
-      let asked = asks-made actor (Reserve info) on made t (leads-along actor _ _ made t comes leads) in
+      let asked = asks-made actor (Reserve info) on made t (leads-same actor _ _ made t comes leads) in
       by_reply made replies notes a arrivals codes_are first.2 asked.reply asked.more asked.is asked.leads
 
   pub announces : (made : List Entry) → Reaches actor moments t (fed w max last) codes (announcement next given ∷ ms) behind made

@@ -18,8 +18,9 @@ use Rattle.ldm_downstream.specs.Received.{end_by_bytes}
 use Rattle.ldm_downstream.specs.Untimed.{untimed}
 use Rattle.ldm_downstream.proofs.Cut.{cut-records, cut-hand}
 use Rattle.ldm_between_ends.specs.Passing.{moments_of, record_at}
+use Rattle.ldm_between_ends.specs.StreamLaws.{StreamLaws}
 use Rattle.ldm_between_ends.proofs.Reaching.{First}
-use Rattle.ldm_between_ends.proofs.Pieces.{StreamLaws, rest-reads}
+use Rattle.ldm_between_ends.proofs.Pieces.{rest-reads}
 use Rattle.ldm_between_ends.proofs.Sizes.{IsShortMessage}
 use Rattle.ldm_between_ends.proofs.Splitting.{IsPart, splits, splits-all}
 
@@ -54,11 +55,12 @@ record_bytes m = record_of (written m)
 abbrev pub one_record : Sent → Record
 one_record m = in_one (written m)
 
-content_first : List Placed → List ℕ
+-- of the first record its content, and the records behind it
+abbrev pub content_first : List Placed → List ℕ
 content_first [] = []
 content_first (p ∷ ps) = p.content
 
-behind_first : List Placed → List Placed
+abbrev pub behind_first : List Placed → List Placed
 behind_first [] = []
 behind_first (p ∷ ps) = ps
 
@@ -68,7 +70,7 @@ first-none moments (m ∷ behind) = refl
 
 first-of : (moments : List ℕ) (front behind : List Sent) (at : ℕ) (came : List Arrival) → untimed came ≡ placed at (map one_record front)
     → AllByRecursion (λ (a : Arrival). Contains moments a.now) came → First moments (front ++ behind) came behind
-unfolding placed content_first behind_first
+unfolding placed
 first-of moments [] behind at [] same all = first-none moments behind
 first-of moments [] behind at (a ∷ came) same all = absurd (cc same)
 first-of moments (m ∷ front) behind at [] same all = absurd (cc same)
@@ -99,7 +101,7 @@ all-behind : (front behind : List Sent) → AllByRecursion IsShortMessage (front
 all-behind [] behind short = short
 all-behind (m ∷ front) behind short = all-behind front behind short.1
 
-came-behind : (p : Position) (bytes : List ℕ) → (in_hand p bytes).came ≡ p.came + length bytes
+pub came-behind : (p : Position) (bytes : List ℕ) → (in_hand p bytes).came ≡ p.came + length bytes
 unfolding in_hand
 came-behind p [] = omega arith
 came-behind p (byte ∷ bytes) =

@@ -20,6 +20,7 @@ use Rattle.ldm_intake.specs.Notes.{Note}
 use Rattle.ldm_intake.specs.Products.{filled_in, commit_note}
 use Rattle.ldm_intake.specs.Receiving.{Wanting, is_wanted, left_of}
 use Rattle.ldm_intake.specs.Taken.{Arrival, Taken, after_step, taken}
+use Rattle.ldm_intake.proofs.Courses.{leads-same}
 use Rattle.ldm_upstream.specs.Blocks.{cut, count_blocks, blocks}
 use Rattle.ldm_upstream.specs.Turn.{Given, announcement, block_messages}
 use Rattle.ldm_sender.specs.Calls.{later_call}
@@ -29,7 +30,7 @@ use Rattle.ldm_between_ends.specs.Takings.{Fills}
 use Rattle.ldm_between_ends.proofs.Growing.{none-taken, asks-made, codes-same}
 use Rattle.ldm_between_ends.proofs.Messages.{Again, fed, waiting, so_far, onward, block_comes, last_block, next_block}
 use Rattle.ldm_between_ends.proofs.Reaching.{First, Reaches, Passed, begun, stopped, prepend}
-use Rattle.ldm_between_ends.proofs.Taking.{leads-along, some-left}
+use Rattle.ldm_between_ends.proofs.Taking.{some-left}
 use Rattle.ldm_between_ends.proofs.Announcing.{code_of, announces, not_there, declined, waits}
 
 -- a product of which so many blocks came
@@ -116,7 +117,7 @@ module _ (again : Again) (actor : ℕ) (moments : List ℕ) (w : Wanting) (max :
       let p = pending_at info r i in
       let goes = last_block w max last replies notes a.now a.at (onward arrivals) p (length block) le in
       let on : Reply → Course Taken = λ v. taken (so_far (fed w max (Some info.signature)) (replies ++ []) (notes ++ commit_note info v)) arrivals in
-      let asked = asks-made actor (Commit r a.now) on more t (leads-along actor _ _ more t goes leads) in
+      let asked = asks-made actor (Commit r a.now) on more t (leads-same actor _ _ more t goes leads) in
       let entry = entry_by actor (Fill r block) reply in
       let filled : Fills actor r (block ∷ others) (entry ∷ []) = (refl, subst (λ (x : List (List ℕ)). Fills actor r x []) (sym none) tt) in
       inr (record {
@@ -169,7 +170,7 @@ module _ (again : Again) (actor : ℕ) (moments : List ℕ) (w : Wanting) (max :
       let fits : Fits (sent.Blkdata xid info.signature i block) = (number, signed, omega (arith, left.before, left.some, sized), omega (arith, len)) in
       let comes = block_comes again w max last replies notes a arrivals p xid block fits first.0 (len ∙ ap (min LARGEST_BLOCK) (sym left_is)) in
       let on : Reply → Course Taken = λ reply. (then) (filled_in (waiting w max last p) a.now p (length block)) (after_step (so_far (waiting w max last p) replies notes) a.at (onward arrivals)) in
-      let asked = asks-made actor (Fill r block) on made t (leads-along actor _ _ made t comes leads) in
+      let asked = asks-made actor (Fill r block) on made t (leads-same actor _ _ made t comes leads) in
       elim (cases_lt (length block) (left_of p)) [
         | inl lt ↦
             let goes = next_block w max last replies notes a.now a.at (onward arrivals) p (length block) lt in
@@ -182,7 +183,7 @@ module _ (again : Again) (actor : ℕ) (moments : List ℕ) (w : Wanting) (max :
               enough = omega (arith, rest_len, left.enough, len, left_is, lt);
               no_more = omega (arith, rest_len, left.no_more, len, left_is, lt);
             })
-            (codes-same replies codes codes_are) first.2 (leads-along actor _ _ asked.more t goes asked.leads))
+            (codes-same replies codes codes_are) first.2 (leads-same actor _ _ asked.more t goes asked.leads))
         | inr le ↦
             let none : count ≡ 0 = omega (arith, left.no_more, len, left_is, le) in
             let no_blocks : others ≡ [] = cut-none count (drop LARGEST_BLOCK rest) none in

@@ -16,6 +16,7 @@ use Rattle.ldm_intake.specs.Course.{Leads}
 use Rattle.ldm_intake.specs.Notes.{Note}
 use Rattle.ldm_intake.specs.Receiving.{Wanting, Receiving, is_wanted}
 use Rattle.ldm_intake.specs.Taken.{Arrival, Taken, taken}
+use Rattle.ldm_intake.proofs.Courses.{leads-same}
 use Rattle.ldm_sender.specs.declared.standing.Standing.{Standing}
 use Rattle.ldm_sender.specs.Asked.{Asked}
 use Rattle.ldm_upstream.specs.Blocks.{blocks}
@@ -30,7 +31,7 @@ use Rattle.ldm_between_ends.specs.Passing.{IsSound, IsAnswered}
 use Rattle.ldm_between_ends.proofs.Growing.{none-taken, agree-behind, codes-same}
 use Rattle.ldm_between_ends.proofs.Messages.{Again, fed, so_far, alive_comes}
 use Rattle.ldm_between_ends.proofs.Reaching.{First, Reaches, Passed, stopped, finished}
-use Rattle.ldm_between_ends.proofs.Taking.{leads-along, some-left, whole_turn}
+use Rattle.ldm_between_ends.proofs.Taking.{some-left, whole_turn}
 use Rattle.ldm_between_ends.proofs.Announcing.{code_of, declined_turn, announced_last}
 use Rattle.ldm_between_ends.proofs.Filling.{blocks_turn}
 
@@ -75,7 +76,7 @@ module _ (again : Again) (actor : ℕ) (moments : List ℕ) (w : Wanting) (max :
           arrivals = arrivals;
           codes_are = codes-same replies codes codes_are;
           first = first.2;
-          leads = leads-along actor _ _ made t comes leads;
+          leads = leads-same actor _ _ made t comes leads;
         })
 
   -- ---- the last turn

@@ -24,7 +24,7 @@ reading-quiet e h = refl
 keeps-self : (s : State) → KeepsProducts s s
 keeps-self s = record { arena = refl; slots = refl; rows = refl; reservations = refl }
 
-keeps-more : (one two three : State) → KeepsProducts one two → KeepsProducts two three → KeepsProducts one three
+pub keeps-more : (one two three : State) → KeepsProducts one two → KeepsProducts two three → KeepsProducts one three
 keeps-more one two three first second = record {
   arena = second.arena ∙ first.arena;
   slots = second.slots ∙ first.slots;

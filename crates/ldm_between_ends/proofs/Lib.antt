@@ -10,6 +10,8 @@ pub mod Pieces
 pub mod Sizes
 pub mod Arriving
 pub mod Joining
+pub mod EachMessage
+pub mod Leading
 pub mod Calling
 pub mod Saying
 pub mod Moments
@@ -21,7 +23,7 @@ pub mod Owing
 pub mod Hearing
 mod Coming
 mod Feeds
-mod Keeping
+pub mod Keeping
 mod Moving
 mod Stepping
 mod Turning

@@ -10,6 +10,7 @@ use Rattle.ldm_model.specs.declared.event.Reply.TheVariants.{Reserved}
 use Rattle.ldm_relay.specs.declared.fault.RelayFault.{RelayFault}
 use Rattle.ldm_relay.specs.declared.message.TheConstants.{LARGEST_BLOCK}
 use Rattle.ldm_relay.specs.declared.message.SoonAnswer.TheVariants as soon
+use Rattle.ldm_relay.specs.declared.message.ClassAnswer.{ClassAnswer}
 use Rattle.ldm_relay.specs.declared.message.ClassAnswer.TheVariants as class_answer
 use Rattle.ldm_relay.specs.declared.procedure.Procedure.TheVariants as procedure
 use Rattle.ldm_relay.specs.Fits.{Fits}
@@ -106,20 +107,24 @@ module _ (again : Again) (w : Wanting) (max : ℕ) (last : Option (List ℕ)) (r
 
 -- the reply to the request
 module _ (again : Again) (s : Receiving) (class : ClassSpec) (twice : Bool) (a : Arrival) (arrivals : List Arrival) where
-  asker : Phase → Option Pending → Receiving
-  asker p pending = record s { phase = p; pending = pending }
+  pub answer_comes : (xid : ℕ) (answer : ClassAnswer) → Fits (sent.FeedmeReply xid answer) → a.content ≡ written (sent.FeedmeReply xid answer)
+      → s.phase ≡ Asked class twice → xid ≡ number_of_request twice
+      → taken (taken_none s) (a ∷ arrivals) ≡ after_step (taken_none s) a.at (onward arrivals) (by_answer s class twice answer)
+  unfolding taken
+  answer_comes xid answer fits is phase number =
+      let m : Sent = sent.FeedmeReply xid answer in
+      let got : reply_of (number_of procedure.Feedme) a.content ≡ Ok m = ap (reply_of (number_of procedure.Feedme)) is ∙ again m fits in
+      let same : (xid == number_of_request twice) ≡ true = eq-eqb xid (number_of_request twice) number in
+      let rest : Step → Course Taken = after_step (taken_none s) a.at (onward arrivals) in
+      ap (λ (p : Phase). (then) (course_in p s a.now a.content) rest) phase
+      ∙ ap (λ (r : Result Sent RelayFault). (then) (reply_course s class twice r) rest) got
+      ∙ ap (λ (b : Bool). rest (if b then by_answer s class twice answer else Bad)) same
 
   pub reply_comes : (xid : ℕ) → Fits (sent.FeedmeReply xid class_answer.Ok) → a.content ≡ written (sent.FeedmeReply xid class_answer.Ok)
       → s.phase ≡ Asked class twice → s.pending ≡ None → xid ≡ number_of_request twice
       → taken (taken_none s) (a ∷ arrivals) ≡ taken (so_far (fed s.wanting s.max_hereis s.last) [] []) arrivals
-  unfolding taken
   reply_comes xid fits is phase none number =
-      let m : Sent = sent.FeedmeReply xid class_answer.Ok in
-      let got : reply_of (number_of procedure.Feedme) a.content ≡ Ok m = ap (reply_of (number_of procedure.Feedme)) is ∙ again m fits in
-      let same : (xid == number_of_request twice) ≡ true = eq-eqb xid (number_of_request twice) number in
-      ap (λ (p : Phase). (then) (course_in p s a.now a.content) (after_step (taken_none s) a.at (onward arrivals))) phase
-      ∙ ap (λ (r : Result Sent RelayFault). (then) (reply_course s class twice r) (after_step (taken_none s) a.at (onward arrivals))) got
-      ∙ ap (λ (b : Bool). (then) {X = Step} (Comes (if b then by_answer s class twice class_answer.Ok else Bad)) (after_step (taken_none s) a.at (onward arrivals))) same
+      answer_comes xid class_answer.Ok fits is phase number
       ∙ ap (λ (p : Option Pending). taken (so_far (record s { phase = Feeding; pending = p }) [] []) arrivals) none
 
 -- ---- behind the reply of the queue

@@ -1,50 +1,44 @@
 -- A narrower class is offered.
-use Rattle.std.proofs.Common.{◌≡◌, ℕ, ◌*◌, ◌^◌, ◌<◌, ◌≤◌, Bool, true, false, List, [], ◌∷◌, ◌++◌, length, Option, None, is_none, Result, Ok, refl, ap, sym, subst, ◌∙◌, arith}
-use Rattle.std.specs.Prelude.{◌==◌, if◌then◌else◌}
+use Rattle.std.proofs.Common.{◌≡◌, ℕ, ◌*◌, ◌^◌, ◌<◌, ◌≤◌, Bool, true, false, List, [], ◌∷◌, ◌++◌, length, Option, None, is_none, refl, ap, sym, subst, ◌∙◌, arith}
+use Rattle.std.specs.Prelude.{if◌then◌else◌}
 use Rattle.std.specs.List.{flat_map, AllByRecursion}
-use Rattle.std.proofs.lemmas.Bool.{eq-eqb}
 use Rattle.std.proofs.lemmas.List.{append-nil, length-append}
 use Rattle.ldm_types.specs.declared.class.ClassSpec.{ClassSpec}
 use Rattle.ldm_types.specs.declared.class.Spec.{Spec}
 use Rattle.ldm_xdr.specs.Spelling.{unsigned, opaque}
 use Rattle.ldm_xdr.proofs.Lengths.{length_unsigned, length_opaque}
-use Rattle.ldm_model.specs.declared.event.Entry.{Entry}
 use Rattle.ldm_class.specs.Classes.{wants, bad_place}
-use Rattle.ldm_relay.specs.declared.fault.RelayFault.{RelayFault}
 use Rattle.ldm_relay.specs.declared.message.ClassAnswer.TheVariants as class_answer
-use Rattle.ldm_relay.specs.declared.procedure.Procedure.TheVariants as procedure
 use Rattle.ldm_relay.specs.Fits.{Fits, ClassFits, SpecFits}
-use Rattle.ldm_relay.specs.Procedure.{number_of}
-use Rattle.ldm_relay.specs.Reading.{reply_of}
 use Rattle.ldm_relay.specs.Sent.{Sent}
 use Rattle.ldm_relay.specs.Sent as sent
 use Rattle.ldm_relay.specs.Spelling.{class_bytes, instant_bytes, reply_header, spec_bytes, written}
 use Rattle.ldm_intake.specs.declared.end.RecvEnd.{RecvEnd}
-use Rattle.ldm_intake.specs.declared.phase.Phase.{Phase}
 use Rattle.ldm_intake.specs.declared.phase.Phase.TheVariants.{Asked as AskedFor}
-use Rattle.ldm_intake.specs.Answered.{asks_again, by_answer, number_of_request}
+use Rattle.ldm_intake.specs.Answered.{asks_again, number_of_request}
 use Rattle.ldm_intake.specs.Asking.{same_class}
-use Rattle.ldm_intake.specs.Course.{Course, Comes, then}
+use Rattle.ldm_intake.specs.Course.{Course}
 use Rattle.ldm_intake.specs.Receiving.{Receiving}
-use Rattle.ldm_intake.specs.Record.{course_in, reply_course}
 use Rattle.ldm_intake.specs.Step.{Step, Goes, Bad, Declined}
 use Rattle.ldm_intake.specs.Taken.{Arrival, Taken, after_step, taken, taken_none}
-use Rattle.ldm_intake.proofs.Courses.{leads-then_parts}
-use Rattle.ldm_sender.specs.Opening.{Answered, Reclassed, class_answer_of}
+use Rattle.ldm_intake.proofs.Courses.{leads-same}
+use Rattle.ldm_sender.specs.Asked.{Asked}
+use Rattle.ldm_sender.specs.Opening.{Answered, Busy, Denied, Opened, Reclassed, class_answer_of}
 use Rattle.ldm_upstream.specs.Turn.{Turn}
 use Rattle.ldm_upstream.specs.Turns.{after_turns, messages_of_turns}
-use Rattle.ldm_upstream.specs.Feeding.{Last, MayTurn, begun, last_messages, messages_of}
+use Rattle.ldm_upstream.specs.Feeding.{Feeding, GoesOn, IsFeeding, Last, MayTurn, begun, last_messages, messages_of}
 use Rattle.ldm_downstream.specs.Pieces.{arrivals, hand, joined}
 use Rattle.ldm_downstream.specs.Received.{with_hand}
 use Rattle.ldm_between_ends.specs.Narrowing.{IsNarrowing, Narrows, asking}
-use Rattle.ldm_between_ends.specs.Passing.{HasAsked, Passing, moments_of, record_at}
-use Rattle.ldm_between_ends.proofs.Arriving.{arrives}
-use Rattle.ldm_between_ends.proofs.Growing.{comes-made, none-taken}
-use Rattle.ldm_between_ends.proofs.Messages.{Again, onward, so_far}
-use Rattle.ldm_between_ends.proofs.Pieces.{StreamLaws}
+use Rattle.ldm_between_ends.specs.Passing.{Carries, HasAsked, Passing, moments_of, record_at}
+use Rattle.ldm_between_ends.specs.StreamLaws.{StreamLaws}
+use Rattle.ldm_between_ends.specs.Ungranted.{IsUnopened}
+use Rattle.ldm_between_ends.proofs.Growing.{none-taken}
+use Rattle.ldm_between_ends.proofs.Leading.{first-came}
+use Rattle.ldm_between_ends.proofs.Messages.{Again, answer_comes, onward, so_far}
 use Rattle.ldm_between_ends.proofs.Reaching.{First}
 use Rattle.ldm_between_ends.proofs.Sizes.{IsShortMessage, reply_header-length}
-use Rattle.ldm_between_ends.proofs.Taking.{leads-along, some-left}
+use Rattle.ldm_between_ends.proofs.Taking.{some-left}
 
 -- ---- its length
 
@@ -94,17 +88,28 @@ narrower_comes : (again : Again) (s : Receiving) (before class : ClassSpec) (a :
     → Fits (sent.FeedmeReply xid (class_answer.Reclass class)) → a.content ≡ written (sent.FeedmeReply xid (class_answer.Reclass class))
     → s.phase ≡ AskedFor before false → xid ≡ 1 → same_class class before ≡ false → bad_place class.specs.items ≡ None
     → taken (taken_none s) (a ∷ arrivals) ≡ taken (asked-again s class) arrivals
-unfolding taken
 narrower_comes again s before class a arrivals xid fits is phase number other meant =
-    let m : Sent = sent.FeedmeReply xid (class_answer.Reclass class) in
-    let got : reply_of (number_of procedure.Feedme) a.content ≡ Ok m = ap (reply_of (number_of procedure.Feedme)) is ∙ again m fits in
-    let same : (xid == 1) ≡ true = eq-eqb xid 1 number in
     let rest : Step → Course Taken = after_step (taken_none s) a.at (onward arrivals) in
-    ap (λ (p : Phase). (then) (course_in p s a.now a.content) rest) phase
-    ∙ ap (λ (r : Result Sent RelayFault). (then) (reply_course s before false r) rest) got
-    ∙ ap (λ (b : Bool). rest (if b then by_answer s before false (class_answer.Reclass class) else Bad)) same
+    answer_comes again s before false a arrivals xid (class_answer.Reclass class) fits is phase number
     ∙ ap (λ (b : Bool). rest (if b then Declined (class_answer.Reclass class) else asks_again s class)) other
     ∙ ap (λ (o : Option ℕ). rest (if is_none o then Goes (asking s class) (sent.Feedme 2 class s.max_hereis ∷ []) [] else Bad)) meant
+
+-- no turn is made
+alone : (answered : Answered) (turns : List Turn) (last : Last) → IsUnopened answered → MayTurn answered turns last → (turns ≡ []) × (last ≡ GoesOn)
+alone (Denied rule) turns last unopened may = may
+alone (Reclassed class) turns last unopened may = may
+alone (Busy missed) turns last unopened may = may
+alone (Opened missed k) turns last unopened may = absurd unopened
+
+-- the reply is the only message
+pub only-reply : (asked : Asked) (feeding : Feeding) → IsFeeding asked feeding → IsUnopened feeding.answered
+    → messages_of asked feeding ≡ sent.FeedmeReply asked.xid (class_answer_of feeding.answered) ∷ []
+only-reply asked feeding is unopened =
+    let m : Sent = sent.FeedmeReply asked.xid (class_answer_of feeding.answered) in
+    let at_first = begun feeding in
+    let quiet = alone feeding.answered feeding.turns feeding.last unopened is.opened in
+    ap (λ (turns : List Turn). m ∷ (messages_of_turns at_first turns ++ last_messages (after_turns at_first turns).next feeding.last)) quiet.0
+    ∙ ap (λ (last : Last). m ∷ last_messages at_first.next last) quiet.1
 
 pub record OneCame (m : Sent) (came : List Arrival) : Type 0 where
   pub a : Arrival
@@ -123,36 +128,23 @@ once-number false is = refl
 pub narrows : (again : Again) (laws : StreamLaws) (p : Passing) (class : ClassSpec) → IsNarrowing p class → Narrows p class
 narrows again laws p class narrowing =
     let s = p.begins in
-    let feeding = p.feeding in
-    let t = p.came_to in
     let m : Sent = sent.FeedmeReply p.asked.xid (class_answer.Reclass class) in
-    let at_first = begun feeding in
-    let quiet : MayTurn (Reclassed class) feeding.turns feeding.last = subst (λ (a : Answered). MayTurn a feeding.turns feeding.last) narrowing.answered narrowing.is.opened in
-    let same : messages_of p.asked feeding ≡ m ∷ [] =
-    ap (λ (a : Answered). sent.FeedmeReply p.asked.xid (class_answer_of a)
-    ∷ (messages_of_turns at_first feeding.turns ++ last_messages (after_turns at_first feeding.turns).next feeding.last)) narrowing.answered
-    ∙ ap (λ (turns : List Turn). m ∷ (messages_of_turns at_first turns ++ last_messages (after_turns at_first turns).next feeding.last)) quiet.0
-    ∙ ap (λ (last : Last). m ∷ last_messages at_first.next last) quiet.1 in
-    let short : AllByRecursion IsShortMessage (messages_of p.asked feeding) =
-    subst (λ (x : List Sent). AllByRecursion IsShortMessage x) (sym same) (short-narrower p.asked.xid class narrowing.fits, tt) in
-    let came = arrives laws p.at (messages_of p.asked feeding) short p.pieces [] (append-nil (joined p.pieces) ∙ narrowing.carries) narrowing.few in
+    let same : messages_of p.asked p.feeding ≡ m ∷ [] =
+    only-reply p.asked p.feeding narrowing.is (subst IsUnopened (sym narrowing.answered) tt)
+    ∙ ap (λ (a : Answered). sent.FeedmeReply p.asked.xid (class_answer_of a) ∷ []) narrowing.answered in
+    let carries : Carries p = record { rest = []; is = append-nil (joined p.pieces) ∙ narrowing.carries; few = narrowing.few } in
+    let came = first-came laws p carries narrowing.leads (m ∷ []) same (short-narrower p.asked.xid class narrowing.fits, tt) in
     let none = came.whole narrowing.carries in
-    let came_to = arrivals (record_at p.at) p.pieces in
-    let one = one_came (moments_of p.pieces) m came_to came.behind none
-    (subst (λ (x : List Sent). First (moments_of p.pieces) x came_to came.behind) same came.first) in
-    let position = hand (record_at p.at) p.pieces in
-    let parts = leads-then_parts p.actor (taken (taken_none s) came_to) (λ (v : Taken). Comes (with_hand position v)) p.made t narrowing.leads in
-    let ends = comes-made p.actor (with_hand position parts.mid) parts.more t parts.second in
+    let one = one_came (moments_of p.pieces) m (arrivals (record_at p.at) p.pieces) came.behind none came.first in
     let number : p.asked.xid ≡ 1 = narrowing.asker.xid_is ∙ once-number narrowing.asker.again narrowing.once in
     let phase : s.phase ≡ AskedFor p.asked.class false = narrowing.asker.phase_is ∙ ap (AskedFor p.asked.class) narrowing.once in
     let small : p.asked.xid < 2 ^ 32 = omega (arith, number) in
     let comes = narrower_comes again s p.asked.class class one.a [] p.asked.xid (small, narrowing.fits) one.content phase number narrowing.other narrowing.meant in
-    let on = none-taken p.actor (asked-again s class) parts.made parts.mid
-    (leads-along p.actor _ _ parts.made parts.mid (ap (taken (taken_none s)) one.all ∙ comes) parts.first) in
-    let is : t ≡ asked-again s class =
-    sym ends.1 ∙ ap (with_hand position) (sym on.1) ∙ ap (λ (end : Option RecvEnd). record (asked-again s class) { end = end }) came.on in
+    let on = none-taken p.actor (asked-again s class) p.made came.mid (leads-same p.actor _ _ p.made came.mid (ap (taken (taken_none s)) one.all ∙ comes) came.leads) in
+    let is : p.came_to ≡ asked-again s class =
+    sym came.ends ∙ ap (with_hand (hand (record_at p.at) p.pieces)) (sym on.1) ∙ ap (λ (end : Option RecvEnd). record (asked-again s class) { end = end }) came.on in
     record {
-      none_made = parts.all ∙ ap (λ (x : List Entry). x ++ parts.more) on.0 ∙ ends.0;
+      none_made = on.0;
       came_to = is;
       edge = came.edge none;
       asks = λ asked class_is xid_is. subst (λ (v : Taken). HasAsked asked v.receiving) (sym is) (record {

@@ -1,10 +1,9 @@
 -- A receiver replies to each announcement, and a feeder that hears these replies hears no other record.
-use Rattle.std.proofs.Common.{◌≡◌, ℕ, ◌+◌, ◌^◌, ◌<◌, Bool, true, false, List, [], ◌∷◌, ◌++◌, length, Option, Some, None, Result, Ok, refl, ap, sym, subst, ◌∙◌, append_assoc, arith}
+use Rattle.std.proofs.Common.{◌≡◌, ℕ, ◌+◌, true, false, List, [], ◌∷◌, ◌++◌, length, Option, Some, None, Result, Ok, refl, ap, sym, subst, ◌∙◌, append_assoc}
 use Rattle.std.specs.Prelude.{map, is_none, nat_le, ◌==◌, ◌&&◌, if◌then◌else◌}
 use Rattle.std.specs.List.{flat_map, AllByRecursion}
 use Rattle.std.proofs.lemmas.List.{append-nil}
 use Rattle.std.proofs.lemmas.List.Concat.{flat_map-append}
-use Rattle.std.proofs.lemmas.List.Elements.{recursion_from_All}
 use Rattle.ldm_types.specs.Info.{Metadata}
 use Rattle.ldm_model.specs.declared.event.Reply.{Reply}
 use Rattle.ldm_model.specs.declared.event.Reply.TheVariants.{Reserved}
@@ -15,9 +14,7 @@ use Rattle.ldm_rpc.specs.declared.stage.Stage.TheVariants.{Faulty}
 use Rattle.ldm_rpc.specs.Reading.{is_faulty, is_faulty_at}
 use Rattle.ldm_rpc.specs.Spelling.{spelling}
 use Rattle.ldm_rpc.specs.Streams.{Placed, Position, at_start, in_hand, placed, records_in}
-use Rattle.ldm_rpc.proofs.Joined.{records-append}
 use Rattle.ldm_relay.specs.declared.fault.RelayFault.{RelayFault}
-use Rattle.ldm_relay.specs.declared.message.ClassAnswer.{ClassAnswer}
 use Rattle.ldm_relay.specs.declared.message.ClassAnswer.TheVariants as class_answer
 use Rattle.ldm_relay.specs.declared.message.SoonAnswer.{SoonAnswer}
 use Rattle.ldm_relay.specs.declared.message.SoonAnswer.TheVariants as soon_answer
@@ -45,26 +42,27 @@ use Rattle.ldm_intake.specs.Taken.{Arrival, Taken, after_step, taken, taken_none
 use Rattle.ldm_intake.proofs.Courses.{leads-then_parts}
 use Rattle.ldm_sender.specs.Calls.{later_call}
 use Rattle.ldm_sender.specs.declared.standing.Standing.{Standing}
-use Rattle.ldm_sender.specs.Opening.{class_answer_of}
 use Rattle.ldm_upstream.specs.Blocks.{blocks}
-use Rattle.ldm_upstream.specs.Turn.{Given, Turn, Lost, Gave, Quiet, Alive, announcement, block_messages, after_turn}
+use Rattle.ldm_upstream.specs.Turn.{Given, Turn, Lost, Gave, Quiet, Alive, block_messages, after_turn}
 use Rattle.ldm_upstream.specs.Turn as turn
 use Rattle.ldm_upstream.specs.Turns.{after_turns, codes_of_turns, messages_of_turns}
-use Rattle.ldm_upstream.specs.Feeding.{Last, Unanswered, begun, codes_of, given_of, last_messages, messages_of, stands}
+use Rattle.ldm_upstream.specs.Feeding.{Last, Unanswered, begun, codes_of, last_messages, stands}
 use Rattle.ldm_downstream.specs.Pieces.{arrivals, hand}
-use Rattle.ldm_downstream.specs.Received.{end_behind, with_hand}
-use Rattle.ldm_between_ends.specs.Passing.{CarriesAll, IsPassing, IsSound, Passing, moments_of, record_at}
-use Rattle.ldm_between_ends.proofs.Arriving.{arrives, one_record, part-records, record_bytes}
-use Rattle.ldm_between_ends.proofs.Calling.{IsCall, feed-calls}
+use Rattle.ldm_downstream.specs.Received.{end_behind}
+use Rattle.ldm_between_ends.specs.Passing.{CarriesAll, IsPassing, Passing, moments_of, record_at}
+use Rattle.ldm_between_ends.specs.StreamLaws.{StreamLaws}
+use Rattle.ldm_between_ends.proofs.Arriving.{behind_first, content_first, one_record, part-records, record_bytes}
+use Rattle.ldm_between_ends.proofs.Calling.{IsCall, each-call}
+use Rattle.ldm_between_ends.proofs.EachMessage.{behind_reply, holds-behind_reply}
 use Rattle.ldm_between_ends.proofs.Growing.{comes-made}
-use Rattle.ldm_between_ends.proofs.Joining.{behind_reply, joins, small-request}
-use Rattle.ldm_between_ends.proofs.Messages.{Again, fed, reply_comes, so_far}
-use Rattle.ldm_between_ends.proofs.Pieces.{StreamLaws, rest-reads}
+use Rattle.ldm_between_ends.proofs.Joining.{joins}
+use Rattle.ldm_between_ends.proofs.Leading.{granted-came, granted-leads}
+use Rattle.ldm_between_ends.proofs.Messages.{Again, fed, so_far}
+use Rattle.ldm_between_ends.proofs.Pieces.{rest-reads}
 use Rattle.ldm_between_ends.proofs.Reaching.{First}
-use Rattle.ldm_between_ends.proofs.Saying.{Always, AreSoonReplies, all-soon, always-leads, replies-bytes, soon-fits}
-use Rattle.ldm_between_ends.proofs.Sizes.{IsShortMessage, short-messages, short-reply}
+use Rattle.ldm_between_ends.proofs.Saying.{Always, AreSoonReplies, all-soon, always-leads, by-if, placed-all, replies-bytes, soon-fits}
 use Rattle.ldm_between_ends.proofs.Splitting.{splits}
-use Rattle.ldm_between_ends.proofs.Taking.{leads-along, some-left}
+use Rattle.ldm_between_ends.proofs.Taking.{some-left}
 
 -- ---- numbers
 
@@ -98,14 +96,10 @@ Replies xids (Declined answer) = Unit {0}
 abbrev AlwaysReplies : List ℕ → Course Step → Type 0
 AlwaysReplies xids c = Always (Replies xids) c
 
-either : (xids : List ℕ) (b : Bool) (c d : Course Step) → AlwaysReplies xids c → AlwaysReplies xids d → AlwaysReplies xids (if b then c else d)
-either xids true c d first second = first
-either xids false c d first second = second
-
 module _ (s : Receiving) (now : ℕ) (phase : s.phase ≡ InFeed) where
   accepts-replies : (xid : ℕ) (info : Metadata) (r : ℕ) → AlwaysReplies (xid ∷ []) (accepts s now xid info r)
   accepts-replies xid info r =
-      either (xid ∷ []) (info.size == 0) (commits s now (sent.ComingsoonReply xid soon_answer.Ok ∷ []) info r)
+      by-if (Replies (xid ∷ [])) (info.size == 0) (commits s now (sent.ComingsoonReply xid soon_answer.Ok ∷ []) info r)
       (Comes (Goes (record s { pending = Some (record { info = info; r = r; blocks = 0 }) }) (sent.ComingsoonReply xid soon_answer.Ok ∷ []) []))
       (λ reply. (phase, refl)) (phase, refl)
 
@@ -116,19 +110,19 @@ module _ (s : Receiving) (now : ℕ) (phase : s.phase ≡ InFeed) where
   block-replies : (signature : List ℕ) (number : ℕ) (block : List ℕ) (pending : Option Pending) → AlwaysReplies [] (blkdata_of s now signature number block pending)
   block-replies signature number block None = tt
   block-replies signature number block (Some pending) =
-      either [] (is_next pending signature number block) (fills s now pending block) (Comes Bad)
-      (λ reply. either [] (nat_le (left_of pending) (length block)) (commits s now [] pending.info pending.r)
+      by-if (Replies []) (is_next pending signature number block) (fills s now pending block) (Comes Bad)
+      (λ reply. by-if (Replies []) (nat_le (left_of pending) (length block)) (commits s now [] pending.info pending.r)
       (Comes (Goes (record s { pending = Some (record pending { blocks = pending.blocks + 1 }) }) [] []))
       (λ answer. (phase, refl)) (phase, refl)) tt
 
   call-replies : (m : Sent) → AlwaysReplies (announced_in m) (call_course s now (Ok m))
   call-replies (sent.Hereis xid info body) =
-      either [] (is_none s.pending) (if is_wanted s.wanting info then hereis_wanted s now info body else Comes (Goes (with_last s info) [] (Unwanted info.ident ∷ []))) (Comes Bad)
-      (either [] (is_wanted s.wanting info) (hereis_wanted s now info body) (Comes (Goes (with_last s info) [] (Unwanted info.ident ∷ []))) (λ reply. (phase, refl)) (phase, refl)) tt
+      by-if (Replies []) (is_none s.pending) (if is_wanted s.wanting info then hereis_wanted s now info body else Comes (Goes (with_last s info) [] (Unwanted info.ident ∷ []))) (Comes Bad)
+      (by-if (Replies []) (is_wanted s.wanting info) (hereis_wanted s now info body) (Comes (Goes (with_last s info) [] (Unwanted info.ident ∷ []))) (λ reply. (phase, refl)) (phase, refl)) tt
   call-replies (sent.Comingsoon xid info block_size) =
-      either (xid ∷ []) (is_none s.pending && (block_size == LARGEST_BLOCK))
+      by-if (Replies (xid ∷ [])) (is_none s.pending && (block_size == LARGEST_BLOCK))
       (if is_wanted s.wanting info then comingsoon_wanted s now xid info else declines s xid info (Unwanted info.ident ∷ [])) (Comes Bad)
-      (either (xid ∷ []) (is_wanted s.wanting info) (comingsoon_wanted s now xid info) (declines s xid info (Unwanted info.ident ∷ [])) (reserved-replies xid info)
+      (by-if (Replies (xid ∷ [])) (is_wanted s.wanting info) (comingsoon_wanted s now xid info) (declines s xid info (Unwanted info.ident ∷ [])) (reserved-replies xid info)
       (phase, refl)) tt
   call-replies (sent.Blkdata xid signature number block) = block-replies signature number block s.pending
   call-replies (sent.Isalive xid) = (phase, refl)
@@ -198,14 +192,6 @@ turns-announced (Gave given (turn.InBlocks at blocks_at) ∷ turns) standing las
 
 -- ---- what the feeder reads
 
-content_first : List Placed → List ℕ
-content_first [] = []
-content_first (p ∷ ps) = p.content
-
-behind_first : List Placed → List Placed
-behind_first [] = []
-behind_first (p ∷ ps) = ps
-
 rest_of : List ℕ → List ℕ
 rest_of [] = []
 rest_of (n ∷ ns) = ns
@@ -214,7 +200,7 @@ rest_of (n ∷ ns) = ns
 next-reply : Again → (next : ℕ) (codes : List Code) (records : List Placed) (p : Placed) (rest : List Placed) (replies : List Sent) (at : ℕ)
     → placed at (map one_record replies) ≡ records ++ p ∷ rest → AreReplies codes records → AreSoonReplies replies → numbers replies ≡ map code_number codes ++ next ∷ []
     → (answer : SoonAnswer) × IsReplyTo next answer p.content
-unfolding placed content_first behind_first rest_of
+unfolding placed rest_of
 next-reply again next [] [] p rest [] at same are soon all = absurd (cc all)
 next-reply again next [] [] p rest (sent.ComingsoonReply xid answer ∷ replies) at same are soon all =
     let m : Sent = sent.ComingsoonReply xid answer in
@@ -259,25 +245,12 @@ sound-given laws replies given more soon is =
 
 module _ (again : Again) (laws : StreamLaws) (codes : List Code) (next : ℕ) (given more : List ℕ) (replies : List Sent) (soon : AreSoonReplies replies)
     (all : numbers replies ≡ map code_number codes ++ next ∷ []) (is : given ++ more ≡ records_of replies) where
-  placed-all : (behind : List Placed) (said : Said given codes behind)
-      → placed 0 (map one_record replies) ≡ said.replies ++ (behind ++ records_in (hand_given given) more)
-  unfolding records_in
-  placed-all behind said =
-      let start = at_start LARGEST_REPLY in
-      let records = map one_record replies in
-      let rest = records_in (in_hand start given) more in
-      sym (append-nil (placed 0 records))
-      ∙ sym (laws.records LARGEST_REPLY 0 records [] (soon-fits replies soon))
-      ∙ ap (records_in start) (append-nil (flat_map spelling records) ∙ sym (replies-bytes replies) ∙ sym is)
-      ∙ records-append start given more
-      ∙ ap (λ (x : List Placed). x ++ rest) said.records_are
-      ∙ append_assoc said.replies behind rest
-
   -- what stands behind the replies is no other record
   no-other : (behind : List Placed) (at : ℕ) → Said given codes behind → IsNoReply next at given behind → ⊥
   no-other [] at said other = not-faulty (hand_given given).reading.stage other.1.0 (sound-given laws replies given more soon is) other.1.1
   no-other (p ∷ behind) at said other =
-      let reply = next-reply again next codes said.replies p (behind ++ records_in (hand_given given) more) replies 0 (placed-all (p ∷ behind) said) said.each soon all in
+      let reply = next-reply again next codes said.replies p (behind ++ records_in (hand_given given) more) replies 0
+      (placed-all laws codes (p ∷ behind) given more replies said is soon) said.each soon all in
       other.1 reply.0 reply.1
 
 -- ---- a feeding that comes to a receiver
@@ -294,34 +267,18 @@ module _ (again : Again) (laws : StreamLaws) (p : Passing) (passing : IsPassing 
   numbers-by u [] made calls first live leads = absurd (some-left (sent.FeedmeReply p.asked.xid class_answer.Ok) (behind_reply p.feeding) [] first refl)
   numbers-by u (a ∷ came) made calls first live leads =
       let s = p.begins in
-      let asker = passing.asker in
-      let number : p.asked.xid < 2 ^ 32 = subst (λ (n : ℕ). n < 2 ^ 32) (sym asker.xid_is) (small-request asker.again) in
-      let comes = reply_comes again s p.asked.class asker.again a came p.asked.xid (number, tt) first.0 asker.phase_is asker.none_pending asker.xid_is in
       all-replied again p.actor (moments_of p.pieces) (behind_reply p.feeding) came (so_far (fed s.wanting s.max_hereis s.last) [] []) made u refl calls first.2 live
-      (leads-along p.actor _ _ made u comes leads)
+      (granted-leads again p.actor p.asked s passing.asker a came made u first.0 leads)
 
   all-numbers : numbers p.came_to.replies ≡ announced (behind_reply p.feeding)
   all-numbers =
-      let s = p.begins in
-      let granted = passing.granted in
-      let moments = moments_of p.pieces in
       let came_to = arrivals (record_at p.at) p.pieces in
-      let messages = sent.FeedmeReply p.asked.xid class_answer.Ok ∷ behind_reply p.feeding in
-      let same : messages_of p.asked p.feeding ≡ messages =
-      ap (λ (a : ClassAnswer). sent.FeedmeReply p.asked.xid a ∷ behind_reply p.feeding) (ap class_answer_of granted.opened) in
-      let sound = recursion_from_All IsSound (given_of p.feeding) granted.sound in
-      let short : AllByRecursion IsShortMessage (messages_of p.asked p.feeding) = subst (λ (x : List Sent). AllByRecursion IsShortMessage x) (sym same)
-      (short-reply p.asked.xid, short-messages p.feeding.turns (begun p.feeding) p.feeding.last sound) in
-      let came = arrives laws p.at (messages_of p.asked p.feeding) short p.pieces passing.carries.rest passing.carries.is passing.carries.few in
-      let position = hand (record_at p.at) p.pieces in
-      let parts = leads-then_parts p.actor (taken (taken_none s) came_to) (λ (v : Taken). Comes (with_hand position v)) p.made p.came_to passing.leads in
-      let ends = comes-made p.actor (with_hand position parts.mid) parts.more p.came_to parts.second in
-      let live : p.came_to.end ≡ None = (joins again laws p passing).live in
-      let mid_live : parts.mid.end ≡ None = live-before position parts.mid.end (ap (λ (v : Taken). v.end) ends.1 ∙ live) in
-      let first : First moments messages came_to [] =
-      subst (λ (x : List Sent). First moments messages came_to x) (came.whole carries) (subst (λ (x : List Sent). First moments x came_to came.behind) same came.first) in
-      let all = numbers-by parts.mid came_to parts.made (feed-calls p.feeding.turns (begun p.feeding) p.feeding.last (omega arith) sound) first mid_live parts.first in
-      sym (ap (λ (v : Taken). numbers v.replies) ends.1) ∙ all
+      let came = granted-came laws p passing.carries passing.leads passing.granted in
+      let live = live-before (hand (record_at p.at) p.pieces) came.mid.end (ap (λ (v : Taken). v.end) came.ends ∙ (joins again laws p passing).live) in
+      let first = subst (λ (x : List Sent). First (moments_of p.pieces) (sent.FeedmeReply p.asked.xid class_answer.Ok ∷ behind_reply p.feeding) came_to x)
+      (came.whole carries) came.first in
+      let calls = holds-behind_reply IsCall each-call p.asked p.feeding passing.granted in
+      sym (ap (λ (v : Taken). numbers v.replies) came.ends) ∙ numbers-by came.mid came_to p.made calls first live came.leads
 
   pub answers-all : (product : Given) (sent_at at : ℕ) (given more : List ℕ) (behind : List Placed) → p.feeding.last ≡ Unanswered product sent_at
       → Said given (codes_of p.feeding) behind → given ++ more ≡ records_of p.came_to.replies → IsNoReply (stands p.feeding).next at given behind → ⊥

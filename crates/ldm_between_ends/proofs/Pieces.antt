@@ -1,7 +1,6 @@
 -- What a reader makes of the first bytes of records: the records that are whole, and no fault.
 use Rattle.std.proofs.Common.{◌≡◌, ℕ, ◌+◌, ◌<◌, ◌≤◌, Bool, true, false, cond, List, [], ◌∷◌, ◌++◌, length, drop, refl, ap, sym, subst, ◌∙◌, arith}
 use Rattle.std.specs.Prelude.{All}
-use Rattle.std.specs.List.{flat_map}
 use Rattle.std.proofs.lemmas.List.{append-nil, length-append}
 use Rattle.std.proofs.lemmas.List.Elements.{All-head}
 use Rattle.std.proofs.Math.ListN.{drop_of_length-le}
@@ -9,23 +8,9 @@ use Rattle.ldm_rpc.specs.declared.stage.Stage.{Stage}
 use Rattle.ldm_rpc.specs.declared.stage.Stage.TheVariants.{Header, Fragment, Whole, Faulty}
 use Rattle.ldm_rpc.specs.Reading.{Reading, after, after_byte, begun, bytes_taken, is_faulty, is_faulty_at, is_open, is_open_at, is_whole, is_whole_at}
 use Rattle.ldm_rpc.specs.Spelling.{Record, Fits, spelling}
-use Rattle.ldm_rpc.specs.Streams.{Position, Placed, before_record, forgets, given, in_hand, placed, records_in}
+use Rattle.ldm_rpc.specs.Streams.{Position, Placed, before_record, forgets, given, in_hand, records_in}
+use Rattle.ldm_between_ends.specs.StreamLaws.{StreamLaws}
 use Rattle.ldm_between_ends.proofs.Splitting.{IsPart, IsPartOf}
-
--- The laws of streams that are used.
-pub record StreamLaws : Type 0 where
-  pub taken : (limit : ℕ) (r : Record) (rest : List ℕ) → Fits limit r → bytes_taken (begun limit) (spelling r ++ rest) ≡ length (spelling r)
-  pub records : (limit at : ℕ) (records : List Record) (rest : List ℕ) → All (Fits limit) records →
-      records_in (before_record limit at) (flat_map spelling records ++ rest)
-      ≡ placed at records ++ records_in (before_record limit (at + length (flat_map spelling records))) rest
-  pub hand : (limit at : ℕ) (records : List Record) (rest : List ℕ) → All (Fits limit) records →
-      in_hand (before_record limit at) (flat_map spelling records ++ rest) ≡ in_hand (before_record limit (at + length (flat_map spelling records))) rest
-  pub joins : (s : Reading) (a b : List ℕ) → bytes_taken s (a ++ b) ≡ bytes_taken s a + bytes_taken (after s a) b
-  pub pushed : (p : Position) (piece : List ℕ) → is_whole p.reading ≡ false →
-      records_in p piece ≡ given p.begins (after p.reading piece)
-      ++ records_in (forgets p.begins (p.came + bytes_taken p.reading piece) (after p.reading piece)) (drop (bytes_taken p.reading piece) piece)
-  pub pushed_hand : (p : Position) (piece : List ℕ) → is_whole p.reading ≡ false →
-      in_hand p piece ≡ in_hand (forgets p.begins (p.came + bytes_taken p.reading piece) (after p.reading piece)) (drop (bytes_taken p.reading piece) piece)
 
 few-taken : (s : Reading) (bytes : List ℕ) → bytes_taken s bytes ≤ length bytes
 unfolding bytes_taken

@@ -3,7 +3,7 @@ use Rattle.std.proofs.Common.{◌≡◌, ℕ, ◌+◌, ◌^◌, ◌<◌, Bool, t
 use Rattle.std.specs.Prelude.{All, map, is_none, nat_le, ◌==◌, ◌&&◌, if◌then◌else◌}
 use Rattle.std.specs.List.{flat_map, AllByRecursion}
 use Rattle.std.proofs.lemmas.List.{append-nil, length-append}
-use Rattle.std.proofs.lemmas.List.Elements.{All-nil, All-cons, recursion_from_All}
+use Rattle.std.proofs.lemmas.List.Elements.{All-nil, All-cons}
 use Rattle.ldm_types.specs.Info.{Metadata}
 use Rattle.ldm_xdr.specs.Spelling.{unsigned}
 use Rattle.ldm_xdr.proofs.Lengths.{length_unsigned}
@@ -11,11 +11,10 @@ use Rattle.ldm_model.specs.declared.event.Reply.{Reply}
 use Rattle.ldm_model.specs.declared.event.Reply.TheVariants.{Reserved}
 use Rattle.ldm_model.specs.declared.event.Entry.{Entry}
 use Rattle.ldm_rpc.specs.Spelling.{Fits as RecordFits, IsShort, spelling}
-use Rattle.ldm_rpc.specs.Streams.{Placed, at_start, in_hand, placed, records_in}
+use Rattle.ldm_rpc.specs.Streams.{Placed, at_start, placed, records_in}
 use Rattle.ldm_rpc.proofs.Joined.{records-append}
 use Rattle.ldm_relay.specs.declared.fault.RelayFault.{RelayFault}
 use Rattle.ldm_relay.specs.declared.message.TheConstants.{LARGEST_BLOCK, LARGEST_REPLY}
-use Rattle.ldm_relay.specs.declared.message.ClassAnswer.{ClassAnswer}
 use Rattle.ldm_relay.specs.declared.message.ClassAnswer.TheVariants as class_answer
 use Rattle.ldm_relay.specs.declared.message.SoonAnswer.{SoonAnswer}
 use Rattle.ldm_relay.specs.declared.message.SoonAnswer.TheVariants as soon_answer
@@ -25,7 +24,7 @@ use Rattle.ldm_relay.specs.Reading.{call_of, reply_of}
 use Rattle.ldm_relay.specs.Sent.{Sent}
 use Rattle.ldm_relay.specs.Sent as sent
 use Rattle.ldm_relay.specs.Spelling.{reply_header, written}
-use Rattle.ldm_session.specs.Owed.{AreReplies, Code, Said}
+use Rattle.ldm_session.specs.Owed.{AreReplies, Code, Said, hand_given}
 use Rattle.ldm_intake.specs.declared.phase.Pending.{Pending}
 use Rattle.ldm_intake.specs.declared.phase.Phase.{Phase}
 use Rattle.ldm_intake.specs.declared.phase.Phase.TheVariants.{Feeding as InFeed}
@@ -38,21 +37,20 @@ use Rattle.ldm_intake.specs.Room.{records_of}
 use Rattle.ldm_intake.specs.Step.{Step, Goes, Bad, Declined}
 use Rattle.ldm_intake.specs.Taken.{Arrival, Taken, after_step, taken, taken_none}
 use Rattle.ldm_intake.proofs.Courses.{leads-then_parts}
-use Rattle.ldm_sender.specs.Opening.{class_answer_of}
-use Rattle.ldm_upstream.specs.Feeding.{begun, codes_of, given_of, messages_of}
-use Rattle.ldm_downstream.specs.Pieces.{arrivals, hand}
-use Rattle.ldm_downstream.specs.Received.{received, with_hand}
+use Rattle.ldm_upstream.specs.Feeding.{codes_of}
+use Rattle.ldm_downstream.specs.Pieces.{arrivals}
+use Rattle.ldm_downstream.specs.Received.{received}
 use Rattle.ldm_between_ends.specs.Codes.{Agree, soon_codes}
-use Rattle.ldm_between_ends.specs.Passing.{Carries, HasAsked, IsGranted, IsSound, Passing, moments_of, record_at}
-use Rattle.ldm_between_ends.proofs.Arriving.{arrives, one_record}
-use Rattle.ldm_between_ends.proofs.Calling.{IsCall, NumberFits, feed-calls, number-fits}
+use Rattle.ldm_between_ends.specs.Passing.{Carries, HasAsked, IsGranted, Passing, moments_of, record_at}
+use Rattle.ldm_between_ends.specs.StreamLaws.{StreamLaws}
+use Rattle.ldm_between_ends.proofs.Arriving.{behind_first, content_first, one_record}
+use Rattle.ldm_between_ends.proofs.Calling.{IsCall, NumberFits, each-call, number-fits}
+use Rattle.ldm_between_ends.proofs.EachMessage.{behind_reply, holds-behind_reply}
 use Rattle.ldm_between_ends.proofs.Growing.{comes-made, none-taken}
-use Rattle.ldm_between_ends.proofs.Joining.{behind_reply, small-request}
-use Rattle.ldm_between_ends.proofs.Messages.{Again, fed, reply_comes, so_far}
-use Rattle.ldm_between_ends.proofs.Pieces.{StreamLaws}
+use Rattle.ldm_between_ends.proofs.Leading.{granted-came, granted-leads}
+use Rattle.ldm_between_ends.proofs.Messages.{Again, fed, so_far}
 use Rattle.ldm_between_ends.proofs.Reaching.{First}
-use Rattle.ldm_between_ends.proofs.Sizes.{IsShortMessage, reply_header-length, short-messages, short-reply}
-use Rattle.ldm_between_ends.proofs.Taking.{leads-along}
+use Rattle.ldm_between_ends.proofs.Sizes.{reply_header-length}
 
 -- the reply to an announcement whose number fits
 abbrev pub IsSoonReply : Sent → Type 0
@@ -75,6 +73,10 @@ always-leads actor P (Comes x) (entry ∷ made) to always leads = absurd leads
 always-leads actor P (Asks event on) [] to always leads = absurd leads
 always-leads actor P (Asks event on) (entry ∷ made) to always leads = always-leads actor P (on entry.reply) made to (always entry.reply) leads.1
 
+pub by-if : (P : Step → Type 0) (b : Bool) (c d : Course Step) → Always P c → Always P d → Always P (if b then c else d)
+by-if P true c d first second = first
+by-if P false c d first second = second
+
 -- a step that stays in the feed, and replies to an announcement or not
 abbrev StaysInFeed : Step → Type 0
 StaysInFeed (Goes s replies notes) = (s.phase ≡ InFeed) × AreSoonReplies replies
@@ -83,10 +85,6 @@ StaysInFeed (Declined answer) = Unit {0}
 
 abbrev Stays : Course Step → Type 0
 Stays c = Always StaysInFeed c
-
-by-if : (b : Bool) (c d : Course Step) → Stays c → Stays d → Stays (if b then c else d)
-by-if true c d first second = first
-by-if false c d first second = second
 
 module _ (s : Receiving) (now : ℕ) (phase : s.phase ≡ InFeed) where
   commits-stays : (replies : List Sent) (info : Metadata) (r : ℕ) → AreSoonReplies replies → Stays (commits s now replies info r)
@@ -97,7 +95,7 @@ module _ (s : Receiving) (now : ℕ) (phase : s.phase ≡ InFeed) where
 
   accepts-stays : (xid : ℕ) (info : Metadata) (r : ℕ) → xid < 2 ^ 32 → Stays (accepts s now xid info r)
   accepts-stays xid info r small =
-      by-if (info.size == 0) (commits s now (sent.ComingsoonReply xid soon_answer.Ok ∷ []) info r)
+      by-if StaysInFeed (info.size == 0) (commits s now (sent.ComingsoonReply xid soon_answer.Ok ∷ []) info r)
       (Comes (Goes (record s { pending = Some (record { info = info; r = r; blocks = 0 }) }) (sent.ComingsoonReply xid soon_answer.Ok ∷ []) []))
       (commits-stays (sent.ComingsoonReply xid soon_answer.Ok ∷ []) info r (small, tt)) (phase, (small, tt))
 
@@ -108,20 +106,20 @@ module _ (s : Receiving) (now : ℕ) (phase : s.phase ≡ InFeed) where
   block-stays : (signature : List ℕ) (number : ℕ) (block : List ℕ) (pending : Option Pending) → Stays (blkdata_of s now signature number block pending)
   block-stays signature number block None = tt
   block-stays signature number block (Some pending) =
-      by-if (is_next pending signature number block) (fills s now pending block) (Comes Bad)
-      (λ reply. by-if (nat_le (left_of pending) (length block)) (commits s now [] pending.info pending.r)
+      by-if StaysInFeed (is_next pending signature number block) (fills s now pending block) (Comes Bad)
+      (λ reply. by-if StaysInFeed (nat_le (left_of pending) (length block)) (commits s now [] pending.info pending.r)
       (Comes (Goes (record s { pending = Some (record pending { blocks = pending.blocks + 1 }) }) [] []))
       (commits-stays [] pending.info pending.r tt) (phase, tt)) tt
 
   call-stays : (r : Result Sent RelayFault) → ((xid : ℕ) (info : Metadata) (size : ℕ) → r ≡ Ok (sent.Comingsoon xid info size) → xid < 2 ^ 32) → Stays (call_course s now r)
   call-stays (Ok (sent.Hereis xid info body)) small =
-      by-if (is_none s.pending) (if is_wanted s.wanting info then hereis_wanted s now info body else Comes (Goes (with_last s info) [] (Unwanted info.ident ∷ []))) (Comes Bad)
-      (by-if (is_wanted s.wanting info) (hereis_wanted s now info body) (Comes (Goes (with_last s info) [] (Unwanted info.ident ∷ []))) (λ reply. (phase, tt)) (phase, tt)) tt
+      by-if StaysInFeed (is_none s.pending) (if is_wanted s.wanting info then hereis_wanted s now info body else Comes (Goes (with_last s info) [] (Unwanted info.ident ∷ []))) (Comes Bad)
+      (by-if StaysInFeed (is_wanted s.wanting info) (hereis_wanted s now info body) (Comes (Goes (with_last s info) [] (Unwanted info.ident ∷ []))) (λ reply. (phase, tt)) (phase, tt)) tt
   call-stays (Ok (sent.Comingsoon xid info block_size)) small =
       let fits = small xid info block_size refl in
-      by-if (is_none s.pending && (block_size == LARGEST_BLOCK))
+      by-if StaysInFeed (is_none s.pending && (block_size == LARGEST_BLOCK))
       (if is_wanted s.wanting info then comingsoon_wanted s now xid info else declines s xid info (Unwanted info.ident ∷ [])) (Comes Bad)
-      (by-if (is_wanted s.wanting info) (comingsoon_wanted s now xid info) (declines s xid info (Unwanted info.ident ∷ [])) (reserved-stays xid info fits)
+      (by-if StaysInFeed (is_wanted s.wanting info) (comingsoon_wanted s now xid info) (declines s xid info (Unwanted info.ident ∷ [])) (reserved-stays xid info fits)
       (declines-stays xid info (Unwanted info.ident ∷ []) fits)) tt
   call-stays (Ok (sent.Blkdata xid signature number block)) small = block-stays signature number block s.pending
   call-stays (Ok (sent.Isalive xid)) small = (phase, tt)
@@ -164,17 +162,9 @@ came-fit again moments (m ∷ ms) (a ∷ came) behind calls first =
 
 -- ---- what the feeder reads
 
-content_first : List Placed → List ℕ
-content_first [] = []
-content_first (p ∷ ps) = p.content
-
-behind_first : List Placed → List Placed
-behind_first [] = []
-behind_first (p ∷ ps) = ps
-
 agree-said : Again → (codes : List Code) (records : List Placed) (rest : List Placed) (replies : List Sent) (at : ℕ) → placed at (map one_record replies) ≡ records ++ rest
     → AreReplies codes records → AreSoonReplies replies → Agree codes (soon_codes replies)
-unfolding placed content_first behind_first
+unfolding placed
 agree-said again [] records rest replies at same are soon = tt
 agree-said again (code ∷ codes) [] rest replies at same are soon = absurd are
 agree-said again (code ∷ codes) (p ∷ records) rest [] at same are soon = absurd (cc same)
@@ -207,21 +197,26 @@ pub replies-bytes : (replies : List Sent) → records_of replies ≡ flat_map sp
 replies-bytes [] = refl
 replies-bytes (m ∷ replies) = ap (λ (x : List ℕ). spelling (one_record m) ++ x) (replies-bytes replies)
 
-pub agree-given : Again → StreamLaws → (codes : List Code) (behind : List Placed) (given more : List ℕ) (replies : List Sent) → Said given codes behind
-    → given ++ more ≡ records_of replies → AreSoonReplies replies → Agree codes (soon_codes replies)
+-- the records of all replies: those that were read as replies, those behind them, and those that the bytes behind these complete
+pub placed-all : StreamLaws → (codes : List Code) (behind : List Placed) (given more : List ℕ) (replies : List Sent) (said : Said given codes behind)
+    → given ++ more ≡ records_of replies → AreSoonReplies replies → placed 0 (map one_record replies) ≡ said.replies ++ (behind ++ records_in (hand_given given) more)
 unfolding records_in
-agree-given again laws codes behind given more replies said is soon =
+placed-all laws codes behind given more replies said is soon =
     let start = at_start LARGEST_REPLY in
     let all = map one_record replies in
-    let rest = records_in (in_hand start given) more in
-    let same : placed 0 all ≡ said.replies ++ (behind ++ rest) =
+    let rest = records_in (hand_given given) more in
     sym (append-nil (placed 0 all))
     ∙ sym (laws.records LARGEST_REPLY 0 all [] (soon-fits replies soon))
     ∙ ap (records_in start) (append-nil (flat_map spelling all) ∙ sym (replies-bytes replies) ∙ sym is)
     ∙ records-append start given more
     ∙ ap (λ (x : List Placed). x ++ rest) said.records_are
-    ∙ append_assoc said.replies behind rest in
-    agree-said again codes said.replies (behind ++ rest) replies 0 same said.each soon
+    ∙ append_assoc said.replies behind rest
+
+pub agree-given : Again → StreamLaws → (codes : List Code) (behind : List Placed) (given more : List ℕ) (replies : List Sent) → Said given codes behind
+    → given ++ more ≡ records_of replies → AreSoonReplies replies → Agree codes (soon_codes replies)
+agree-given again laws codes behind given more replies said is soon =
+    agree-said again codes said.replies (behind ++ records_in (hand_given given) more) replies 0
+    (placed-all laws codes behind given more replies said is soon) said.each soon
 
 -- ---- a feeding that comes to a receiver
 
@@ -232,31 +227,17 @@ soon-by again actor moments p u behind asker calls [] made first leads =
     subst (λ (v : Taken). AreSoonReplies v.replies) (none-taken actor (taken_none p.begins) made u leads).1 tt
 soon-by again actor moments p u behind asker calls (a ∷ came) made first leads =
     let s = p.begins in
-    let number : p.asked.xid < 2 ^ 32 = subst (λ (n : ℕ). n < 2 ^ 32) (sym asker.xid_is) (small-request asker.again) in
-    let comes = reply_comes again s p.asked.class asker.again a came p.asked.xid (number, tt) first.0 asker.phase_is asker.none_pending asker.xid_is in
     replies-soon actor (so_far (fed s.wanting s.max_hereis s.last) [] []) came made u refl tt (came-fit again moments (behind_reply p.feeding) came behind calls first.2)
-    (leads-along actor _ _ made u comes leads)
+    (granted-leads again actor p.asked s asker a came made u first.0 leads)
 
 module _ (again : Again) (laws : StreamLaws) (p : Passing) (granted : IsGranted p.asked p.feeding) (asker : HasAsked p.asked p.begins) (carries : Carries p)
     (leads : Leads p.actor (received p.begins (record_at p.at) p.pieces) p.made p.came_to) where
   pub all-soon : AreSoonReplies p.came_to.replies
   all-soon =
-      let s = p.begins in
-      let moments = moments_of p.pieces in
-      let came_to = arrivals (record_at p.at) p.pieces in
-      let messages = sent.FeedmeReply p.asked.xid class_answer.Ok ∷ behind_reply p.feeding in
-      let same : messages_of p.asked p.feeding ≡ messages =
-      ap (λ (a : ClassAnswer). sent.FeedmeReply p.asked.xid a ∷ behind_reply p.feeding) (ap class_answer_of granted.opened) in
-      let sound = recursion_from_All IsSound (given_of p.feeding) granted.sound in
-      let short : AllByRecursion IsShortMessage (messages_of p.asked p.feeding) = subst (λ (x : List Sent). AllByRecursion IsShortMessage x) (sym same)
-      (short-reply p.asked.xid, short-messages p.feeding.turns (begun p.feeding) p.feeding.last sound) in
-      let came = arrives laws p.at (messages_of p.asked p.feeding) short p.pieces carries.rest carries.is carries.few in
-      let position = hand (record_at p.at) p.pieces in
-      let parts = leads-then_parts p.actor (taken (taken_none s) came_to) (λ (v : Taken). Comes (with_hand position v)) p.made p.came_to leads in
-      let ends = comes-made p.actor (with_hand position parts.mid) parts.more p.came_to parts.second in
-      let soon = soon-by again p.actor moments p parts.mid came.behind asker (feed-calls p.feeding.turns (begun p.feeding) p.feeding.last (omega arith) sound) came_to parts.made
-      (subst (λ (x : List Sent). First moments x came_to came.behind) same came.first) parts.first in
-      subst (λ (v : Taken). AreSoonReplies v.replies) ends.1 soon
+      let came = granted-came laws p carries leads granted in
+      let calls = holds-behind_reply IsCall each-call p.asked p.feeding granted in
+      let soon = soon-by again p.actor (moments_of p.pieces) p came.mid came.behind asker calls (arrivals (record_at p.at) p.pieces) p.made came.first came.leads in
+      subst (λ (v : Taken). AreSoonReplies v.replies) came.ends soon
 
   -- what was read as replies is what was replied
   pub agree-heard : (given more : List ℕ) (behind : List Placed) → Said given (codes_of p.feeding) behind → given ++ more ≡ records_of p.came_to.replies

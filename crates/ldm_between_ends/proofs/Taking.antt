@@ -1,5 +1,5 @@
 -- What becomes of the messages of one product.
-use Rattle.std.proofs.Common.{◌≡◌, ℕ, true, List, [], ◌∷◌, ◌++◌, Option, Some, refl, sym, subst, ◌∙◌}
+use Rattle.std.proofs.Common.{◌≡◌, ℕ, true, List, [], ◌∷◌, ◌++◌, Option, Some, refl, sym, ◌∙◌}
 use Rattle.ldm_model.specs.declared.event.Event.TheVariants.{Insert}
 use Rattle.ldm_model.specs.declared.event.Reply.{Reply}
 use Rattle.ldm_model.specs.declared.event.Entry.{Entry}
@@ -12,15 +12,13 @@ use Rattle.ldm_intake.specs.Notes.{Note}
 use Rattle.ldm_intake.specs.Products.{insert_note}
 use Rattle.ldm_intake.specs.Receiving.{Wanting, is_wanted}
 use Rattle.ldm_intake.specs.Taken.{Arrival, Taken, taken}
+use Rattle.ldm_intake.proofs.Courses.{leads-same}
 use Rattle.ldm_upstream.specs.Turn.{Given}
 use Rattle.ldm_between_ends.specs.Codes.{soon_codes}
 use Rattle.ldm_between_ends.specs.Handed.{Handed, Whole}
 use Rattle.ldm_between_ends.proofs.Growing.{none-taken, asks-made, codes-same}
 use Rattle.ldm_between_ends.proofs.Messages.{Again, fed, so_far, whole_comes}
 use Rattle.ldm_between_ends.proofs.Reaching.{First, Reaches, Passed, stopped, prepend}
-
-pub leads-along : (actor : ℕ) (c d : Course Taken) (made : List Entry) (t : Taken) → c ≡ d → Leads actor c made t → Leads actor d made t
-leads-along actor c d made t same leads = subst (λ (e : Course Taken). Leads actor e made t) same leads
 
 pub some-left : (m : Sent) (ms behind : List Sent) → behind ≡ m ∷ ms → behind ≡ [] → ⊥
 some-left m ms behind is none = let same : m ∷ ms ≡ [] = sym is ∙ none in cc same
@@ -45,7 +43,7 @@ module _ (again : Again) (actor : ℕ) (moments : List ℕ) (w : Wanting) (max :
         let body = given.product.body in
         let comes = whole_comes again w max last replies notes a arrivals next info body fits first.0 wanted in
         let on : Reply → Course Taken = λ reply. taken (so_far (fed w max (Some info.signature)) (replies ++ []) (notes ++ insert_note info reply)) arrivals in
-        let asked = asks-made actor (Insert a.now info body) on made t (leads-along actor _ _ made t comes leads) in
+        let asked = asks-made actor (Insert a.now info body) on made t (leads-same actor _ _ made t comes leads) in
         let rest = goes_on asked.more (record {
           replies = replies ++ [];
           notes = notes ++ insert_note info asked.reply;

@@ -21,3 +21,4 @@ pub mod Blocks
 pub mod ResumingExamples
 pub mod Counts
 pub mod Meeting
+pub mod StreamLaws

@@ -26,11 +26,21 @@ ghost use Rattle.ldm_between_ends.specs.Narrowing.{IsNarrowing, Narrows};
 ghost use Rattle.ldm_between_ends.specs.Passing.{CameAt, Carries, CarriesAll, HasAsked, IsAnswered, IsGranted};
 ghost use Rattle.ldm_between_ends.specs.Passing.{IsPassing, IsSound, Passing, PassesFirst, PassesWhole, record_at};
 ghost use Rattle.ldm_between_ends.specs.Queue.{passed_all, products_of};
+ghost use Rattle.ldm_between_ends.specs.StreamLaws.{StreamLaws};
 ghost use Rattle.ldm_between_ends.specs.Takings.{IsAt};
 ghost use Rattle.ldm_between_ends.specs.Ungranted.{EndsByReply, IsUngranted};
 
 use ldm_relay::what_is_written_is_read;
 use ldm_rpc::{pieces_join, pushes_read_the_stream, records_are_read};
+
+/// What the laws of streams say that those below make use of.
+fn streams_are_read()
+    ensures { StreamLaws }
+{
+    records_are_read();
+    pieces_join();
+    pushes_read_the_stream();
+}
 
 /// What a receiver takes of the bytes that a feeder owes, cut anywhere and in whatever pieces: the products that were
 /// given and are due, in order, each once.
@@ -52,9 +62,7 @@ pub fn products_are_passed_on()
         → All (λ entry. IsAt now entry.event) p.made }
 {
     what_is_written_is_read();
-    records_are_read();
-    pieces_join();
-    pushes_read_the_stream();
+    streams_are_read();
 }
 
 /// What the queue of a receiver comes to, where all pieces come at one moment and the queue is asked nothing else
@@ -81,9 +89,7 @@ pub fn a_narrower_class_is_asked_for()
     ensures { (p : Passing) (class : ClassSpec) → IsNarrowing p class → Narrows p class }
 {
     what_is_written_is_read();
-    records_are_read();
-    pieces_join();
-    pushes_read_the_stream();
+    streams_are_read();
 }
 
 /// A feeder that does not grant what it was asked for replies so, and nothing else comes: a receiver that had asked
@@ -94,9 +100,7 @@ pub fn a_reply_is_taken()
     ensures part { (p : Passing) → IsUngranted p → IsSome p.came_to.end → CarriesAll p }
 {
     what_is_written_is_read();
-    records_are_read();
-    pieces_join();
-    pushes_read_the_stream();
+    streams_are_read();
 }
 
 /// A receiver that all bytes of a feeding came to has replied to each announcement. So who hears its replies, all but
@@ -109,9 +113,7 @@ pub fn announcements_are_answered()
         IsNoReply (stands p.feeding).next at given behind → ⊥ }
 {
     what_is_written_is_read();
-    records_are_read();
-    pieces_join();
-    pushes_read_the_stream();
+    streams_are_read();
 }
 
 /// A feeding up to the first announcement that has no reply, where so many replies are taken. Who looks at a feeding
@@ -151,7 +153,5 @@ pub fn the_setting_is_met()
     ensures heard { (codes behind replies : List Code) → codes ++ behind ≡ replies → Agree codes replies }
 {
     what_is_written_is_read();
-    records_are_read();
-    pieces_join();
-    pushes_read_the_stream();
+    streams_are_read();
 }

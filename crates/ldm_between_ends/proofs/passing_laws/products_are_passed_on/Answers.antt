@@ -10,22 +10,10 @@ use Rattle.ldm_between_ends.specs.Passing.{Passing, IsPassing, moments_of, recor
 use Rattle.ldm_between_ends.specs.Takings.{IsAt}
 use Rattle.ldm_between_ends.proofs.Joining.{Joined, joins}
 use Rattle.ldm_between_ends.proofs.Moments.{passes-are, moments-at}
-use Rattle.ldm_between_ends.proofs.Pieces.{StreamLaws}
 use Rattle.ldm_between_ends.proofs.passing_laws.products_are_passed_on.Goals as goal
 
--- what the laws say that are called
-abbrev stream_laws : goal.After-pushes_read_the_stream → StreamLaws
-stream_laws c = record {
-  taken = c.records_are_read.ensures.taken;
-  records = c.records_are_read.ensures.records;
-  hand = c.records_are_read.ensures.in_hand;
-  joins = c.pieces_join.ensures.taken;
-  pushed = c.pushes_read_the_stream.ensures.records;
-  pushed_hand = c.pushes_read_the_stream.ensures.in_hand;
-}
-
-by_laws : goal.After-pushes_read_the_stream → (p : Passing) → IsPassing p → Joined p
-by_laws c = joins c.what_is_written_is_read.ensures (stream_laws c)
+by_laws : goal.After-streams_are_read → (p : Passing) → IsPassing p → Joined p
+by_laws c = joins c.what_is_written_is_read.ensures c.streams_are_read.ensures
 
 pub returns-clause-goes_on : goal.returns-clause-goes_on
 returns-clause-goes_on c = λ p passing. (by_laws c p passing).live

@@ -1,21 +1,9 @@
 use Rattle.std.proofs.Common.{List, subst}
 use Rattle.ldm_session.specs.Owed.{Code}
 use Rattle.ldm_between_ends.specs.Codes.{Agree}
-use Rattle.ldm_between_ends.proofs.Pieces.{StreamLaws}
 use Rattle.ldm_between_ends.proofs.Saying.{agree-heard}
 use Rattle.ldm_between_ends.proofs.Setting.{has-requested, short-of_extent, agrees-front}
 use Rattle.ldm_between_ends.proofs.passing_laws.the_setting_is_met.Goals as goal
-
--- what the laws say that are called
-abbrev stream_laws : goal.After-pushes_read_the_stream → StreamLaws
-stream_laws c = record {
-  taken = c.records_are_read.ensures.taken;
-  records = c.records_are_read.ensures.records;
-  hand = c.records_are_read.ensures.in_hand;
-  joins = c.pieces_join.ensures.taken;
-  pushed = c.pushes_read_the_stream.ensures.records;
-  pushed_hand = c.pushes_read_the_stream.ensures.in_hand;
-}
 
 pub returns-clause-requested : goal.returns-clause-requested
 returns-clause-requested c = has-requested
@@ -25,7 +13,7 @@ returns-clause-sound c = λ given info sized within. record { info = info; sized
 
 pub returns-clause-read : goal.returns-clause-read
 returns-clause-read c = λ p given more behind granted asker carries leads said is.
-    agree-heard c.what_is_written_is_read.ensures (stream_laws c) p granted asker carries leads given more behind said is
+    agree-heard c.what_is_written_is_read.ensures c.streams_are_read.ensures p granted asker carries leads given more behind said is
 
 pub returns-clause-heard : goal.returns-clause-heard
 returns-clause-heard c = λ codes behind replies is. subst (λ (x : List Code). Agree codes x) is (agrees-front codes behind)
