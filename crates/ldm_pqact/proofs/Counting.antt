@@ -13,7 +13,7 @@ use Rattle.ldm_pqact.specs.Acting.{HandlesBy, Sight}
 use Rattle.ldm_pqact.specs.Work.{product_work}
 
 -- what becomes of a product gives no other
-handled_uses : (result : Result (Unit {0}) ActEnd) (k : ℕ) (deeds : List (Action × List ℕ)) (lines : List ℕ) (old new : Sight)
+pub handled_uses : (result : Result (Unit {0}) ActEnd) (k : ℕ) (deeds : List (Action × List ℕ)) (lines : List ℕ) (old new : Sight)
     → HandlesBy result k (product_work deeds lines) old new → Uses k old.pass new.pass []
 handled_uses (Ok gone) k deeds lines old new handled = handled.does.uses
 handled_uses (Err why) k deeds lines old new handled = handled.uses

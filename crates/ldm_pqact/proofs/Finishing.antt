@@ -10,19 +10,19 @@ use Rattle.ldm_actions.specs.declared.answers.Begun.{Begun}
 use Rattle.ldm_actions.specs.declared.answers.Done.{Done}
 use Rattle.ldm_actions.specs.declared.answers.Done.TheVariants as done
 use Rattle.ldm_actions.specs.Effects.{Action, InHand, in_hand}
-use Rattle.ldm_actions.specs.Outputs.{Begins, Finishes, HasHand, KeepsUnlessSpent, Standing}
+use Rattle.ldm_actions.specs.Outputs.{Begins, Finishes, Gives, HasHand, KeepsUnlessSpent, Standing}
 use Rattle.ldm_pqact.specs.declared.end.ActEnd.{ActEnd}
 use Rattle.ldm_pqact.specs.declared.end.ActEnd.TheVariants as end
 use Rattle.ldm_pqact.specs.declared.holding.Holding.{Holding}
 use Rattle.ldm_pqact.specs.Acting.{Breaks, Does, LogCount}
-use Rattle.ldm_pqact.specs.Carried.{BreaksOff, Stands}
-use Rattle.ldm_pqact.specs.Handling.{Bodied, DoesAll, DoesHeld, Giving, IsHeld, Lent, ReadsAll, ReadsPart, WritesNoLog, begun_result, bodied, done_result, lent, takes_body, with_log}
+use Rattle.ldm_pqact.specs.Carried.{BreaksOff, DoesBy, IsOfOutputs, Stands}
+use Rattle.ldm_pqact.specs.Handling.{ActsWith, Bodied, DoesAll, DoesHeld, Giving, IsHeld, Lent, ReadsAll, ReadsPart, WritesNoLog, begun_result, bodied, done_result, lent, takes_body, with_log}
 use Rattle.ldm_pqact.specs.Turns.{deed_by, deeds_by}
 use Rattle.ldm_shared.specs.Uses.{Uses}
 use Rattle.ldm_pqact.specs.Work.{only_in_hand, product_work}
 use Rattle.ldm_pqact.proofs.Acts.{breaks_before, breaks_behind, does_none, does_then, front_none}
 use Rattle.ldm_pqact.proofs.Carrying.{Deed}
-use Rattle.ldm_pqact.proofs.Giving.{BeganResult, Began, IsOfOutputs, Whole, begins, breaks_in_body, finishes, gives_no_body, has_body}
+use Rattle.ldm_pqact.proofs.Giving.{BeganResult, Began, GivesResult, Whole, begins, breaks_in_body, finishes, gives_no_body, gives_piece, has_body}
 use Rattle.ldm_shared.proofs.Using.{same_then, uses_none}
 
 -- what was done with files and programs, and the log was left alone
@@ -182,3 +182,54 @@ chosen_whole holding all [] old new empty so_far body holds =
     let one = so_far.does body holds in
     subst (λ (ds : List Deed). DoesHeld (bodied holding body) ds old new) (sym (append-nil one.0) ∙ one.1) one.2
 chosen_whole holding all (it ∷ rest) old new empty so_far body holds = absurd (omega arith)
+
+-- ---- bytes that are at hand
+
+of_outputs : (why : ActEnd) (result : Done) → done_result result ≡ Err why → IsOfOutputs why
+of_outputs why done.Ok is = absurd cc
+of_outputs why done.StoreFault is = let same : end.StoreFault ≡ why = cc is in subst IsOfOutputs same tt
+of_outputs why done.LaunchFault is = let same : end.LaunchFault ≡ why = cc is in subst IsOfOutputs same tt
+
+-- the action could not be begun
+pub unbegun : (why : ActEnd) (result : Begun) (action : Action) (bytes : List ℕ) (a b : Standing) → begun_result result ≡ Err why → Begins result action a b
+    → ActsWith (Err why) action bytes a b
+unbegun why result action bytes a b is began =
+    let ended = subst (λ (r : Result (Unit {0}) ActEnd). BeganResult r action a b) is (begins result action a b began) in (ended.0, ended.1 bytes)
+
+pub began_hand : (action : Action) (a b : Standing) → Began action a b → HasHand b.outputs
+began_hand action a b began unspent = some_hand b.outputs.hand (Some (in_hand action)) began.in_hand.in_hand refl
+
+-- it was not given all bytes
+pub ungiven : (why : ActEnd) (result : Done) (action : Action) (bytes : List ℕ) (a b c : Standing) → done_result result ≡ Err why → Began action a b
+    → Gives result bytes b c → ActsWith (Err why) action bytes a c
+ungiven why result action bytes a b c is began gives = (
+  of_outputs why result is,
+  breaks_in_body why action bytes a b c began
+      (subst (λ (r : Result (Unit {0}) ActEnd). GivesResult r (in_hand action) bytes b c) is (gives_piece result (in_hand action) bytes b c began.in_hand gives)),
+)
+
+pub given_whole : (result : Done) (action : Action) (bytes : List ℕ) (a b c : Standing) → done_result result ≡ Ok tt → Began action a b → Gives result bytes b c
+    → Whole action bytes a c
+given_whole result action bytes a b c is began gives =
+    has_body action bytes a b c began
+    (subst (λ (r : Result (Unit {0}) ActEnd). GivesResult r (in_hand action) bytes b c) is (gives_piece result (in_hand action) bytes b c began.in_hand gives))
+
+pub whole_hand : (action : Action) (bytes : List ℕ) (a b : Standing) → Whole action bytes a b → HasHand b.outputs
+whole_hand action bytes a b whole unspent = some_hand b.outputs.hand (Some (in_hand action)) whole.hand_now.in_hand refl
+
+-- it was finished, or not
+pub finished_with : (result : Done) (action : Action) (bytes : List ℕ) (a b c : Standing) → Whole action bytes a b → Finishes result b c
+    → ActsWith (done_result result) action bytes a c
+finished_with done.Ok action bytes a b c whole finish = finishes done.Ok action bytes a b c whole finish
+finished_with done.StoreFault action bytes a b c whole finish = finishes done.StoreFault action bytes a b c whole finish
+finished_with done.LaunchFault action bytes a b c whole finish = finishes done.LaunchFault action bytes a b c whole finish
+
+-- by how it ended
+pub does_by : (why : ActEnd) (action : Action) (bytes : List ℕ) (a b : Standing) → ActsWith (Err why) action bytes a b → DoesBy why ((action, bytes) ∷ []) a b
+does_by end.Stopped action bytes a b does = absurd does.0
+does_by end.StoreFault action bytes a b does = does
+does_by end.LaunchFault action bytes a b does = does
+does_by end.LogFault action bytes a b does = does
+does_by end.AllBusy action bytes a b does = does
+does_by end.Worn action bytes a b does = does
+does_by end.OutOfMemory action bytes a b does = does

@@ -20,7 +20,7 @@ use Rattle.ldm_actions.specs.World.{Outside, World, appended, child_no}
 use Rattle.ldm_actions.proofs.Pieces.{given_more, kept_append, written_more}
 use Rattle.ldm_pqact.specs.declared.end.ActEnd.{ActEnd}
 use Rattle.ldm_pqact.specs.declared.end.ActEnd.TheVariants as end
-use Rattle.ldm_pqact.specs.Carried.{BreaksOff, IsAsBefore, IsPartOf, LauncherCount, Stands, StoreCount, world_in}
+use Rattle.ldm_pqact.specs.Carried.{BreaksOff, IsAsBefore, IsOfOutputs, IsPartOf, LauncherCount, Stands, StoreCount, world_in}
 use Rattle.ldm_pqact.specs.Handling.{GivesAll, GivesPart, begun_result, done_result, takes_body}
 use Rattle.ldm_pqact.proofs.Carrying.{breaks_off_here, launcher_count_then, store_count_then}
 
@@ -195,13 +195,6 @@ pub record Began (action : Action) (old new : Standing) : Type 0 where
   pub unspent : old.outputs.spent ≡ None
   pub store_faults : new.store.faults ≡ old.store.faults
   pub launcher_faults : new.launcher.faults ≡ old.launcher.faults
-
--- ends that come of outputs
-abbrev pub IsOfOutputs : ActEnd → Type 0
-IsOfOutputs end.StoreFault = Unit {0}
-IsOfOutputs end.LaunchFault = Unit {0}
-IsOfOutputs end.OutOfMemory = Unit {0}
-IsOfOutputs _ = ⊥
 
 abbrev pub BeganResult : Result (Unit {0}) ActEnd → Action → Standing → Standing → Type 0
 BeganResult (Ok whole) action old new = Began action old new

@@ -1,5 +1,6 @@
 pub mod Carrying
 pub mod Counting
+pub mod Lasting
 pub mod Acts
 pub mod Giving
 pub mod Reading

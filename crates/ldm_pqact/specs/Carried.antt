@@ -67,6 +67,18 @@ pub record BreaksOff (why : ActEnd) (earlier deeds : List (Action × List ℕ)) 
   pub store_count : StoreCount why old new
   pub launcher_count : LauncherCount why old new
 
+-- ends that come of outputs
+abbrev pub IsOfOutputs : ActEnd → Type 0
+IsOfOutputs end.StoreFault = Unit {0}
+IsOfOutputs end.LaunchFault = Unit {0}
+IsOfOutputs end.OutOfMemory = Unit {0}
+IsOfOutputs _ = ⊥
+
+-- these actions were done; or they were broken off
+abbrev pub DoesBy : ActEnd → List (Action × List ℕ) → Standing → Standing → Type 0
+DoesBy end.Stopped deeds old new = Stands deeds old new
+DoesBy why deeds old new = IsOfOutputs why × BreaksOff why [] deeds old new
+
 -- by how it ended: where the queue came to its end no action was in hand
 abbrev pub Carries : ActEnd → (whole in_hand : List (Action × List ℕ)) → Standing → Standing → Type 0
 Carries end.Stopped whole in_hand old new = Stands whole old new

@@ -1,5 +1,5 @@
 -- What becomes of one action on a body: its parts, as code makes them.
-use Rattle.std.specs.Prelude.{◌≡◌, ℕ, ◌≤◌, Bool, true, false, List, [], take, drop, Some, Result, Ok, Err}
+use Rattle.std.specs.Prelude.{◌≡◌, ℕ, ◌≤◌, Bool, true, false, List, [], ◌∷◌, take, drop, Some, Result, Ok, Err}
 use Rattle.ldm_outside.specs.Count.{Rose}
 use Rattle.ldm_outside.specs.Io.{SinkRecord, Takes, WritesFront}
 use Rattle.ldm_shared.specs.Passes.{PassView}
@@ -19,7 +19,7 @@ use Rattle.ldm_pqact.specs.declared.end.ActEnd.{ActEnd}
 use Rattle.ldm_pqact.specs.declared.end.ActEnd.TheVariants as end
 use Rattle.ldm_pqact.specs.declared.holding.Holding.{Holding}
 use Rattle.ldm_pqact.specs.Acting.{CauseOf, Does, Breaks, KeepsCursor, Sight, sight_of}
-use Rattle.ldm_pqact.specs.Carried.{LauncherCount, StoreCount, world_in}
+use Rattle.ldm_pqact.specs.Carried.{BreaksOff, IsOfOutputs, LauncherCount, Stands, StoreCount, world_in}
 use Rattle.ldm_pqact.specs.Notes.{notes_of}
 use Rattle.ldm_shared.specs.Givens.{Given}
 use Rattle.ldm_pqact.specs.Turns.{deeds_by}
@@ -137,6 +137,12 @@ DoesAll (Ok whole) it deeds old new = DoesHeld it deeds old new
 DoesAll (Err why) it deeds old new =
     (log : SinkRecord)
     → Breaks why it.holding.reader.k (only_in_hand (product_work deeds [])) (with_log old log) (with_log new log)
+
+-- ---- an action on bytes that are at hand
+
+abbrev pub ActsWith : Result (Unit {0}) ActEnd → Action → List ℕ → (old new : Standing) → Type 0
+ActsWith (Ok whole) action bytes old new = Stands ((action, bytes) ∷ []) old new
+ActsWith (Err why) action bytes old new = IsOfOutputs why × BreaksOff why [] ((action, bytes) ∷ []) old new
 
 -- ---- what entries make of it
 

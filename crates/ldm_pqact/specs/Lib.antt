@@ -5,6 +5,7 @@ pub mod Work
 pub mod Carried
 pub mod Acting
 pub mod Handling
+pub mod Lasting
 pub mod Parts
 pub mod Course
 pub mod Acted

@@ -51,6 +51,7 @@ impl Carrier {
         ensures kept { IsSamePass pass.old pass.new }
         ensures entries { self.new.entries ≡ self.old.entries }
         ensures left { self.new.left ≡ self.old.left }
+        ensures last { self.new.last ≡ self.old.last }
         ensures room { LARGEST_PIECE ≤ vec_capacity self.new.writer.buffer }
         ensures keeps { KeepsUnlessSpent
             (standing self.new.writer.outputs (F.tells store.new) (L.tells launcher.new)) }

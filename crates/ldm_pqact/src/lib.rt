@@ -26,3 +26,4 @@ pub use end::ActEnd;
 pub use limits::{EVERY_FEEDTYPE, LARGEST_PIECE};
 pub use pqact::Pqact;
 pub use premises::premises_are_met;
+pub use writer::act_with;

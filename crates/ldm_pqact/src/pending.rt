@@ -6,6 +6,8 @@ ghost use Rattle.ldm_shared.specs.Reader.{HasCursor};
 ghost use Rattle.ldm_actions.specs.Outputs.{KeepsUnlessSpent, standing};
 ghost use Rattle.ldm_pqact.specs.declared.limits.TheConstants.{LARGEST_PIECE};
 ghost use Rattle.ldm_pqact.specs.Acting.{ActsOn, sight_of};
+ghost use Rattle.ldm_pqact.specs.Lasting.{LastGiven};
+ghost use Rattle.ldm_pqact.specs.Parts.{signature_of};
 ghost use Rattle.ldm_shared.specs.Counting.{CountsGiven};
 
 use crate::carrier::Carrier;
@@ -38,6 +40,7 @@ impl Carrier {
         ensures keeps { KeepsUnlessSpent
             (standing self.new.writer.outputs (F.tells store.new) (L.tells launcher.new)) }
         ensures counts { CountsGiven pass.old pass.new self.old.left self.new.left }
+        ensures last { LastGiven pass.old pass.new (signature_of self.old.last) (signature_of self.new.last) }
         ensures acts { ActsOn result self.old.entries reader.now.k
             (sight_of pass.old (standing self.old.writer.outputs (F.tells store.old) (L.tells launcher.old))
             (E.tells log.old))

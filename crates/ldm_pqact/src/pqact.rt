@@ -1,22 +1,26 @@
 //! Entries of a pqact.conf, and the outputs that they write to.
-ghost use Rattle.std.specs.Prelude.{◌≡◌, IfOk, None};
+ghost use Rattle.std.specs.Prelude.{◌≡◌, ◌∷◌, [], IfOk, None};
 ghost use Rattle.ldm_outside.specs.Reason.{IsReason};
 ghost use Rattle.ldm_shared.specs.Passes.{IsPassOf, IsSamePass};
 ghost use Rattle.ldm_shared.specs.Reader.{HasCursor};
 ghost use Rattle.ldm_actions.specs.Outputs.{Closes, KeepsOfAny, KeepsUnlessSpent, no_outputs, standing};
+ghost use Rattle.ldm_actions.specs.Hands.{action_of};
 ghost use Rattle.ldm_pqact.specs.Acting.{ActsOn, sight_of};
+ghost use Rattle.ldm_pqact.specs.Carried.{DoesBy};
 ghost use Rattle.ldm_pqact.specs.Complete.{Completes};
+ghost use Rattle.ldm_pqact.specs.Lasting.{LastGiven};
+ghost use Rattle.ldm_pqact.specs.Parts.{signature_of};
 ghost use Rattle.ldm_shared.specs.Counting.{CountsGiven};
 
 use crate::carrier::Carrier;
 use crate::end::ActEnd;
 use crate::limits::LARGEST_PIECE;
-use crate::writer::Writer;
-use ldm_actions::{Done, Outputs};
+use crate::writer::{Writer, act_with};
+use ldm_actions::{Action, Done, Outputs};
 use ldm_outside::{Launcher, Reason, Sink, Store};
 use ldm_pqact_conf::Entries;
 use ldm_shared::{Pass, Reader, Shared};
-use ldm_types::OutOfMemory;
+use ldm_types::{OutOfMemory, Signature};
 use std::alloc::Global;
 use std::marker::Model;
 use std::sync::Wait;
@@ -47,6 +51,7 @@ impl Pqact {
         ensures entries { IfOk result (λ made. made.entries ≡ entries) }
         ensures outputs { IfOk result (λ made. made.outputs ≡ no_outputs) }
         ensures uncounted { IfOk result (λ made. made.left ≡ None) }
+        ensures none_given { IfOk result (λ made. made.last ≡ None) }
         ensures keeps { IfOk result (λ made. KeepsOfAny made.outputs) }
     {
         let buffer = Vec::with_capacity(alloc, LARGEST_PIECE)?;
@@ -59,6 +64,7 @@ impl Pqact {
             entries,
             writer,
             left: None,
+            last: None,
             in_hand: Reason::new(),
         };
         Ok(Pqact { carrier })
@@ -78,6 +84,14 @@ impl Pqact {
         ensures { result ≡ self.now.left }
     {
         self.carrier.left
+    }
+
+    /// The signature of the last product that [`pending`](Pqact::pending) was given when it was called last, if it was
+    /// given one.
+    pub fn last(&self) -> Option<Signature>
+        ensures { signature_of result ≡ self.now.last }
+    {
+        self.carrier.last
     }
 
     /// Acts on every product of the cursor up to the end of the queue, and then answers [`ActEnd::Stopped`]. The cursor
@@ -104,6 +118,8 @@ impl Pqact {
         ensures keeps { KeepsUnlessSpent (standing self.new.outputs (F.tells store.new) (L.tells launcher.new)) }
         // Each product that the cursor gave was counted off.
         ensures counts { CountsGiven pass.old pass.new self.old.left self.new.left }
+        // The last product is that of this call.
+        ensures last { LastGiven pass.old pass.new None self.new.last }
         ensures acts { ActsOn result self.old.entries reader.now.k
             (sight_of pass.old (standing self.old.outputs (F.tells store.old) (L.tells launcher.old)) (E.tells log.old))
             (sight_of pass.new (standing self.new.outputs (F.tells store.new) (L.tells launcher.new))
@@ -114,8 +130,34 @@ impl Pqact {
             (sight_of pass.new (standing self.new.outputs (F.tells store.new) (L.tells launcher.new))
             (E.tells log.new)) }
     {
+        self.carrier.last = None;
         self.carrier
             .turns(rt, shared, pass, log, reader, store, launcher)
+    }
+
+    /// Carries out an action on these bytes, in place of the body of a product, and answers [`ActEnd::Stopped`] where
+    /// that is done.
+    pub fn act_with<F: Store, L: Launcher>(
+        &mut self,
+        store: &mut F,
+        launcher: &mut L,
+        action: &Action,
+        bytes: &[u8],
+    ) -> ActEnd
+        requires { KeepsUnlessSpent (standing self.old.outputs (F.tells store.old) (L.tells launcher.old)) }
+        ensures others { self.new ≡ record self.old { outputs = self.new.outputs } }
+        ensures keeps { KeepsUnlessSpent (standing self.new.outputs (F.tells store.new) (L.tells launcher.new)) }
+        ensures does { DoesBy result ((action_of action.now, bytes.now) ∷ [])
+            (standing self.old.outputs (F.tells store.old) (L.tells launcher.old))
+            (standing self.new.outputs (F.tells store.new) (L.tells launcher.new)) }
+    {
+        act_with(
+            &mut self.carrier.writer.outputs,
+            store,
+            launcher,
+            action,
+            bytes,
+        )
     }
 
     /// The product in hand where [`pending`](Pqact::pending) last ended by a fault of the store or of the launcher: the
@@ -131,6 +173,7 @@ impl Pqact {
         requires { KeepsUnlessSpent (standing self.old.outputs (F.tells store.old) (L.tells launcher.old)) }
         ensures entries { self.new.entries ≡ self.old.entries }
         ensures left { self.new.left ≡ self.old.left }
+        ensures last { self.new.last ≡ self.old.last }
         ensures closed { Closes result
             (standing self.old.outputs (F.tells store.old) (L.tells launcher.old))
             (standing self.new.outputs (F.tells store.new) (L.tells launcher.new)) }

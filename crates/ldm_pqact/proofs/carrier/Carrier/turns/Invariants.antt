@@ -4,6 +4,8 @@ use Rattle.ldm_actions.specs.Outputs.{standing}
 use Rattle.ldm_pqact.specs.declared.limits.TheConstants.{LARGEST_PIECE}
 use Rattle.ldm_pqact.specs.Acting.{sight_of}
 use Rattle.ldm_shared.specs.Counting.{CountsGiven}
+use Rattle.ldm_pqact.specs.Lasting.{LastGiven}
+use Rattle.ldm_pqact.specs.Parts.{signature_of}
 use Rattle.ldm_pqact.proofs.Coursing.{KeepsCourse}
 use Rattle.ldm_pqact.proofs.carrier.Carrier.turns.Given as goal
 
@@ -15,3 +17,4 @@ invariant-loop g l =
     × (l.self.entries ≡ l.initial.self.entries)
     × (LARGEST_PIECE ≤ vec_capacity l.self.writer.buffer)
     × CountsGiven l.initial.pass l.pass l.initial.self.left l.self.left
+    × LastGiven l.initial.pass l.pass (signature_of l.initial.self.last) (signature_of l.self.last)
