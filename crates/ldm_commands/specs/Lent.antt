@@ -1,5 +1,5 @@
 -- What each command is told by the form of its words, and what it is lent of a world.
-use Rattle.std.specs.Prelude.{◌≡◌, Bool, true, false}
+use Rattle.std.specs.Prelude.{◌≡◌, Bool, true, false, None}
 use Rattle.ldm_outside.specs.Dial.{Asked}
 use Rattle.ldm_conf.specs.Addresses.{Address}
 use Rattle.ldm_chain.specs.Work.{ChainOutside, ChainWork}
@@ -78,11 +78,11 @@ work_of chain = record {
 
 abbrev pub order_by : ActForm → OrderView
 order_by act =
-    record { peer = asked_of act.peer; class = act.class; count = act.count; arena = act.arena; slots = act.slots }
+    record { peer = asked_of act.peer; class = act.class; last = None; count = act.count; arena = act.arena; slots = act.slots }
 
 abbrev pub order_of : CatForm → OrderView
 order_of cat =
-    record { peer = asked_of cat.peer; class = cat.class; count = cat.count; arena = cat.arena; slots = cat.slots }
+    record { peer = asked_of cat.peer; class = cat.class; last = None; count = cat.count; arena = cat.arena; slots = cat.slots }
 
 abbrev pub setup_of : NodeForm → Setup
 setup_of node = record {

@@ -44,6 +44,7 @@ pub fn pqcat<H: Wait, N: Dial + Reasons, K: Sink, E: Sink, C: Clock>(
         host,
         port,
         class,
+        last: None,
         count,
         arena: ARENA,
         slots: SLOTS,

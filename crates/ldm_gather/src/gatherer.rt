@@ -184,7 +184,7 @@ fn begin<'a>(alloc: Global, order: &Order<'a>) -> Result<Begun<'a>, OutOfMemory>
     ensures no_notes { IfOk result (λ begun. begun.buffers.notes.items ≡ []) }
     ensures room { IfOk result (λ begun. 0 < vec_len begun.buffers.piece) }
 {
-    let mut receiver = Receiver::request(alloc, order.class, None, LARGEST_HEREIS)?;
+    let mut receiver = Receiver::request(alloc, order.class, order.last, LARGEST_HEREIS)?;
     let mut out = Vec::new(alloc);
     receiver.begin(&mut out)?;
     Ok(Begun {

@@ -1,6 +1,7 @@
 //! What is asked for.
 
 use ldm_class::Class;
+use ldm_types::Signature;
 
 /// Whom to ask for which products, for how many of them, and the sizes of the queue of one's own that they come into.
 #[derive(Clone, Copy)]
@@ -11,6 +12,9 @@ pub struct Order<'a> {
     pub port: u16,
     /// The class of the products.
     pub class: &'a Class,
+    /// The signature of the last product that was received before, if one was: the peer begins behind it, where it has
+    /// that queued still.
+    pub last: Option<Signature>,
     /// How many products are to be given, 1 at least. Where there is no count, all are.
     pub count: Option<u64>,
     /// The bytes of the arena of the queue, as [`ARENA`](crate::ARENA).

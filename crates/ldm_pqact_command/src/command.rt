@@ -75,6 +75,7 @@ pub fn pqact<
         host,
         port,
         class,
+        last: None,
         count,
         arena: ARENA,
         slots: SLOTS,

@@ -58,6 +58,7 @@ pub fn pqstats<H: Wait, N: Dial + Reasons, K: Sink, E: Sink, C: Clock>(
         host: asked.host,
         port: asked.port,
         class: asked.class,
+        last: None,
         count: asked.count,
         arena: ARENA,
         slots: SLOTS,
