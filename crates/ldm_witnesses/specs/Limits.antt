@@ -16,6 +16,7 @@ use Rattle.ldm_status.specs.declared.whole_script.TheConstants as scripts
 use Rattle.ldm_exercise.specs.declared.order.TheConstants as drawn
 use Rattle.ldm_rpc.specs.declared.stage.TheConstants as fragments
 use Rattle.ldm_rpc.specs.declared.records.TheConstants as records
+use Rattle.ldm_rpc.specs.declared.kept.TheConstants as kept
 use Rattle.ldm_relay.specs.declared.message.TheConstants as messages
 use Rattle.ldm_relay.specs.declared.front.TheConstants as fronts
 use Rattle.ldm_relay.specs.declared.procedure.TheConstants as procedures
@@ -30,6 +31,7 @@ use Rattle.ldm_watch.specs.declared.limits.TheConstants as watched
 use Rattle.ldm_serve.specs.declared.hiya.TheConstants as offers
 use Rattle.ldm_serve.specs.declared.saying.TheConstants as sayings
 use Rattle.ldm_outside.specs.declared.door.TheConstants as doors
+use Rattle.ldm_outside.specs.declared.reason.TheConstants as reasons
 use Rattle.ldm_text.specs.declared.limits.TheConstants as texts
 use Rattle.ldm_conf.specs.declared.limits.TheConstants as confs
 use Rattle.ldm_words.specs.declared.limits.TheConstants as words
@@ -79,11 +81,13 @@ pub record ScriptLimits : Type 0 where
 pub record MessageLimits : Type 0 where
   pub last_fragment : fragments.LAST_FRAGMENT ≡ 2147483648
   pub largest_kept : records.LARGEST_KEPT ≡ 4194304
+  pub least_front : kept.LEAST_FRONT ≡ 10240
   pub largest_block : messages.LARGEST_BLOCK ≡ 16384
   pub largest_content : messages.LARGEST_CONTENT ≡ 1073742848
   pub largest_record : messages.LARGEST_RECORD ≡ 1073742848
   pub largest_reply : messages.LARGEST_REPLY ≡ 1024
   pub longest_call : fronts.LONGEST_CALL ≡ 10240
+  pub longest_block_call : fronts.LONGEST_BLOCK_CALL ≡ 20480
   pub program : procedures.PROGRAM ≡ 300029
   pub version : procedures.VERSION ≡ 6
 
@@ -129,6 +133,7 @@ pub record CommandLimits : Type 0 where
   pub tool_feedtypes : gathers.EVERY_FEEDTYPE ≡ 4294967295
   pub pqcat_piece : cats.LARGEST_PIECE ≡ 16384
   pub largest_file : inserts.LARGEST_FILE ≡ 1073741824
+  pub longest_reason : reasons.LONGEST_REASON ≡ 200
 
 -- The statuses that the program ends with.
 pub record StatusNumbers : Type 0 where
@@ -138,6 +143,7 @@ pub record StatusNumbers : Type 0 where
   pub bad_frame : (at : ℕ) → code_of (status.BadFrame at) ≡ 65
   pub bad_conf : (file line kind : ℕ) → code_of (status.BadConf file line kind) ≡ 65
   pub bad_pqact : (line kind : ℕ) → code_of (status.BadPqact line kind) ≡ 65
+  pub bad_image : (at : ℕ) → code_of (status.BadImage at) ≡ 65
   pub stream_limit : code_of status.StreamLimit ≡ 66
   pub refused_arena : (arena : ℕ) → code_of (status.RefusedArena arena) ≡ 67
   pub refused_slots : (slots : ℕ) → code_of (status.RefusedSlots slots) ≡ 67
@@ -151,4 +157,5 @@ pub record StatusNumbers : Type 0 where
   pub worn : code_of status.Worn ≡ 77
   pub denied : code_of status.Denied ≡ 78
   pub refused : code_of status.Refused ≡ 79
+  pub unclean : code_of status.Unclean ≡ 80
   pub log_fault : log.LOG_FAULT ≡ 76

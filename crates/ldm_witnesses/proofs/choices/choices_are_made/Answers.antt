@@ -1,4 +1,5 @@
-use Rattle.std.proofs.Common.{◌≡◌, ◌&&◌, ◌||◌, Bool, true, false, refl}
+use Rattle.std.proofs.Common.{true, refl}
+use Rattle.std.proofs.Math.Bool.{and-false, and-true, or-true}
 use Rattle.ldm_types.specs.Feed.{feeds_meet}
 use Rattle.ldm_pattern.specs.Patterns.{found}
 use Rattle.ldm_class.specs.Access.{found_or}
@@ -20,51 +21,31 @@ returns-clause-rules c = record {
 pub returns-clause-lines : goal.returns-clause-lines
 returns-clause-lines c = record {
   no_pattern = λ info feed host. refl;
-  pattern = λ info feed host ok. with_true (found ok info.ident);
-  notpattern = λ info feed host ok no there. rw there (with_false (found_or true ok info.ident));
+  pattern = λ info feed host ok. and-true (found ok info.ident);
+  notpattern = λ info feed host ok no there. rw there (and-false (found_or true ok info.ident));
   both = λ info feed host ok no there not_there. rw (there, not_there);
-  accept = λ info feed host pattern. with_true (found pattern info.ident);
+  accept = λ info feed host pattern. and-true (found pattern info.ident);
   about = λ name feed host pattern. refl;
 }
-  where
-    with_true : (b : Bool) → (b && true) ≡ b
-    with_true true = refl
-    with_true false = refl
-
-    with_false : (b : Bool) → (b && false) ≡ false
-    with_false true = refl
-    with_false false = refl
 
 pub returns-clause-classes : goal.returns-clause-classes
 returns-clause-classes c = record {
   first = λ info class one other two wanted. rw (two, wanted);
-  second = λ info class one other two wanted. rw (two, wanted) (with_true (spec_wants info one));
+  second = λ info class one other two wanted. rw (two, wanted) (or-true (spec_wants info one));
   neither = λ info class one other two not_one not_other. rw (two, not_one, not_other);
-  other_pattern = λ info spec there. rw there (with_false (feeds_meet spec.feed.0 info.feed));
+  other_pattern = λ info spec there. rw there (and-false (feeds_meet spec.feed.0 info.feed));
   other_feedtype = λ info spec apart. rw apart;
   both = λ info spec meets there. rw (meets, there);
 }
-  where
-    with_true : (b : Bool) → (b || true) ≡ true
-    with_true true = refl
-    with_true false = refl
-
-    with_false : (b : Bool) → (b && false) ≡ false
-    with_false true = refl
-    with_false false = refl
 
 pub returns-clause-entries : goal.returns-clause-entries
 unfolding chosen_behind
 returns-clause-entries c = record {
   both_match = λ info time one other matches others. rw (matches, others);
-  else_behind_a_match = λ info time one other matches els. rw (matches, els, with_false (feeds_meet other.feed info.feed));
+  else_behind_a_match = λ info time one other matches els. rw (matches, els, and-false (feeds_meet other.feed info.feed));
   else_behind_a_miss = λ info time one other pattern has missed els meets. rw (missed, has, els, meets);
   else_of_another_feedtype = λ info time one other pattern has missed els apart. rw (missed, has, els, apart);
 }
-  where
-    with_false : (b : Bool) → (b && false) ≡ false
-    with_false true = refl
-    with_false false = refl
 
 pub returns-clause-dates : goal.returns-clause-dates
 unfolding days_from_civil day_count days_of_years days_of_months
