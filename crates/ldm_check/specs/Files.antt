@@ -73,11 +73,14 @@ pub record TellsFile (Tells : List ℕ → Scene → Scene → Type 0) (path : L
   pub reads : ReadsFile answer path LONGEST_CONFIGURATION old.store mid
   pub tells : TellsRead Tells answer path (record old { store = mid }) new
 
--- files were read and told of, in order, each an ldmd.conf, or each a pqact.conf
+-- files were read and told of, in order
+abbrev pub TellsFiles : (List ℕ → List ℕ → Scene → Scene → Type 0) → List (List ℕ) → Scene → Scene → Type 0
+TellsFiles Tells [] old new = new ≡ old
+TellsFiles Tells (path ∷ paths) old new = (mid : Scene) × TellsFile (Tells path) path old mid × TellsFiles Tells paths mid new
+
+-- each an ldmd.conf, or each a pqact.conf
 abbrev pub TellsConfs : List (List ℕ) → Scene → Scene → Type 0
-TellsConfs [] old new = new ≡ old
-TellsConfs (path ∷ paths) old new = (mid : Scene) × TellsFile (TellsConf path) path old mid × TellsConfs paths mid new
+TellsConfs paths old new = TellsFiles TellsConf paths old new
 
 abbrev pub TellsPqacts : List (List ℕ) → Scene → Scene → Type 0
-TellsPqacts [] old new = new ≡ old
-TellsPqacts (path ∷ paths) old new = (mid : Scene) × TellsFile (TellsPqact path) path old mid × TellsPqacts paths mid new
+TellsPqacts paths old new = TellsFiles TellsPqact paths old new

@@ -2,8 +2,10 @@
 use Rattle.std.specs.Prelude.{◌≡◌, ℕ, List, ◌++◌, Option, option_map}
 use Rattle.ldm_outside.specs.Store.{StoreRecord}
 use Rattle.ldm_check.specs.declared.conf_file.Search.{Search}
+use Rattle.ldm_check.specs.declared.looking.Form.{Form}
+use Rattle.ldm_check.specs.declared.looking.Form.TheVariants as form
 use Rattle.ldm_check.specs.ConfFaults.{Asked, Line, faults_of, included}
-use Rattle.ldm_check.specs.Files.{AsksAll, Scene, conf_text}
+use Rattle.ldm_check.specs.Files.{AsksAll, Scene, TellsConf, TellsPqact, conf_text}
 
 -- how many files came, and what was told so far
 pub record State : Type 0 where
@@ -38,3 +40,8 @@ pub record Passes (before after : StoreRecord) (old : State) (lines : List Line)
 -- what is told, beside a store
 abbrev pub scene_of : StoreRecord → Search → Scene
 scene_of store search = record { store = store; told = search.faults.items }
+
+-- what is told of the bytes of a file under a path, by what the file is to be
+abbrev pub tells_by : Form → List ℕ → List ℕ → Scene → Scene → Type 0
+tells_by form.Conf path bytes old new = TellsConf path bytes old new
+tells_by form.Pqact path bytes old new = TellsPqact path bytes old new

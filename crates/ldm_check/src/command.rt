@@ -1,10 +1,9 @@
 //! `ldm check`: what is wrong with configuration files.
-ghost use Rattle.std.specs.Prelude.{◌≡◌, ◌≤◌, ◌++◌, OnOk, IfOk};
-ghost use Rattle.ldm_check.specs.Files.{TellsConfs, TellsPqacts};
+ghost use Rattle.std.specs.Prelude.{◌≡◌, ◌≤◌, ◌++◌, IfOk};
 ghost use Rattle.ldm_check.specs.Runs.{CheckRuns, Finds, code_by, check_tells, texts_of};
-ghost use Rattle.ldm_check.specs.Walks.{scene_of};
 
 use crate::conf_file::Search;
+use crate::looking::Form;
 use crate::warnings::Warnings;
 use ldm_outside::{Reasons, Sink, SinkFailed, Store, write_all};
 use ldm_status::Status;
@@ -70,48 +69,10 @@ fn find_all<F: Store + Reasons>(
         warnings: Warnings::new(alloc),
         files: 0,
     };
-    look_at_confs(alloc, asked.confs, store, &mut search)?;
-    look_at_pqacts(alloc, asked.pqacts, store, &mut search)?;
+    search.look_at_files(alloc, store, asked.confs, Form::Conf)?;
+    search.look_at_files(alloc, store, asked.pqacts, Form::Pqact)?;
     search.warnings.look_for_programs(alloc, store)?;
     Ok(search)
-}
-
-// Looks at each ldmd.conf.
-fn look_at_confs<F: Store + Reasons>(
-    alloc: Global,
-    paths: &[&str],
-    store: &mut F,
-    search: &mut Search,
-) -> Result<(), OutOfMemory>
-    ensures told { OnOk result (TellsConfs (texts_of paths.entry.now)
-        (scene_of (F.tells store.old) search.old) (scene_of (F.tells store.new) search.new)) }
-    ensures faults_kept { (F.tells store.old).faults ≤ (F.tells store.new).faults }
-{
-    let mut left = paths;
-    while let [path, others @ ..] = left {
-        search.look_at_conf(alloc, store, path)?;
-        left = others;
-    }
-    Ok(())
-}
-
-// Looks at each pqact.conf.
-fn look_at_pqacts<F: Store + Reasons>(
-    alloc: Global,
-    paths: &[&str],
-    store: &mut F,
-    search: &mut Search,
-) -> Result<(), OutOfMemory>
-    ensures told { OnOk result (TellsPqacts (texts_of paths.entry.now)
-        (scene_of (F.tells store.old) search.old) (scene_of (F.tells store.new) search.new)) }
-    ensures faults_kept { (F.tells store.old).faults ≤ (F.tells store.new).faults }
-{
-    let mut left = paths;
-    while let [path, others @ ..] = left {
-        search.look_at_pqact(alloc, store, path)?;
-        left = others;
-    }
-    Ok(())
 }
 
 // What is told of faults, and behind it the warnings.

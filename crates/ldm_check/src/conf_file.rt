@@ -2,17 +2,17 @@
 ghost use Rattle.std.specs.Prelude.{◌≡◌, ◌++◌, ◌<◌, ◌≤◌, [], ℕ, length, OnOk, IfOk, IfSome, MatchOption};
 ghost use Rattle.ldm_conf.specs.Lines.{without_return};
 ghost use Rattle.ldm_text.specs.Lines.{length_left};
-ghost use Rattle.ldm_check.specs.Files.{TellsConf, TellsFile, conf_line};
+ghost use Rattle.ldm_check.specs.Files.{TellsConf, conf_line};
 ghost use Rattle.ldm_check.specs.Sources.{Fits, left_of, line_in};
 ghost use Rattle.ldm_check.specs.Walks.{GoesOn, GoesTo, Passes, scene_of, state_of};
 
-use crate::lines::{put_fault, put_file, put_unread};
+use crate::lines::put_fault;
 use crate::said::{Said, look_at};
 use crate::source::{Line, Lines, without_return};
 use crate::warnings::Warnings;
 use ldm_command_files::words_of_conf;
 use ldm_conf::{ConfKind, DEEPEST_INCLUDE, MOST_FILES};
-use ldm_outside::{FileRead, Reasons, Store};
+use ldm_outside::{FileRead, Store};
 use ldm_text::LONGEST_CONFIGURATION;
 use ldm_types::OutOfMemory;
 use std::alloc::{AllocError, Global};
@@ -28,37 +28,8 @@ pub(crate) struct Search {
 }
 
 impl Search {
-    /// Tells what is wrong with the ldmd.conf under the path, and with the files that it includes.
-    pub(crate) fn look_at_conf<F: Store + Reasons>(
-        &mut self,
-        alloc: Global,
-        store: &mut F,
-        path: &str,
-    ) -> Result<(), OutOfMemory>
-        ensures told { OnOk result (TellsFile (TellsConf path.now) path.now
-            (scene_of (F.tells store.old) self.old) (scene_of (F.tells store.new) self.new)) }
-        ensures faults_kept { (F.tells store.old).faults ≤ (F.tells store.new).faults }
-    {
-        match store.read_file(alloc, path, LONGEST_CONFIGURATION as u64) {
-            FileRead::Bytes(bytes) => self.look_at_text(alloc, store, path, bytes.as_slice()),
-            FileRead::TooLong => {
-                put_file(
-                    &mut self.faults,
-                    path.as_bytes(),
-                    words_of_conf(ConfKind::Long),
-                )?;
-                Ok(())
-            }
-            FileRead::Failed => {
-                put_unread(&mut self.faults, path.as_bytes(), store.reason())?;
-                Ok(())
-            }
-            FileRead::OutOfMemory => Err(OutOfMemory),
-        }
-    }
-
-    // The same of the bytes of the file.
-    fn look_at_text<F: Store>(
+    /// Tells what is wrong with the bytes of an ldmd.conf, and with the files that it includes.
+    pub(crate) fn look_at_text<F: Store>(
         &mut self,
         alloc: Global,
         store: &mut F,

@@ -5,6 +5,7 @@ mod command;
 mod conf_file;
 mod laws;
 mod lines;
+mod looking;
 mod patterns;
 mod pqact_file;
 mod programs;

@@ -4,53 +4,22 @@ ghost use Rattle.ldm_outside.specs.Store.{StoreRecord};
 ghost use Rattle.ldm_conf.specs.Lines.{without_return};
 ghost use Rattle.ldm_pqact_conf.specs.Entries.{pqact_entries};
 ghost use Rattle.ldm_text.specs.Lines.{length_left, lines_left, lines_of};
-ghost use Rattle.ldm_check.specs.Files.{TellsFile, TellsPqact, pqact_line};
+ghost use Rattle.ldm_check.specs.Files.{TellsPqact, pqact_line};
 ghost use Rattle.ldm_check.specs.PqactFaults.{behind_entry, from_entry, goes_on, line_behind, lines_behind};
 ghost use Rattle.ldm_check.specs.Walks.{scene_of};
 
 use crate::conf_file::Search;
-use crate::lines::{put_fault, put_file, put_unread};
+use crate::lines::put_fault;
 use crate::source::without_return;
-use ldm_command_files::{words_of_conf, words_of_pqact};
-use ldm_conf::ConfKind;
-use ldm_outside::{FileRead, Reasons, Store};
+use ldm_command_files::words_of_pqact;
 use ldm_pqact_conf::{Entries, PqactFault, PqactKind, read_pqact};
 use ldm_text::{LONGEST_CONFIGURATION, begins_with, first_line, is_blank_text};
 use ldm_types::OutOfMemory;
 use std::alloc::{AllocError, Global};
 
 impl Search {
-    /// Tells what is wrong with the pqact.conf under the path.
-    pub(crate) fn look_at_pqact<F: Store + Reasons>(
-        &mut self,
-        alloc: Global,
-        store: &mut F,
-        path: &str,
-    ) -> Result<(), OutOfMemory>
-        ensures told { OnOk result (TellsFile (TellsPqact path.now) path.now
-            (scene_of (F.tells store.old) self.old) (scene_of (F.tells store.new) self.new)) }
-        ensures faults_kept { (F.tells store.old).faults ≤ (F.tells store.new).faults }
-    {
-        match store.read_file(alloc, path, LONGEST_CONFIGURATION as u64) {
-            FileRead::Bytes(bytes) => self.look_at_entries(alloc, path, bytes.as_slice()),
-            FileRead::TooLong => {
-                put_file(
-                    &mut self.faults,
-                    path.as_bytes(),
-                    words_of_conf(ConfKind::Long),
-                )?;
-                Ok(())
-            }
-            FileRead::Failed => {
-                put_unread(&mut self.faults, path.as_bytes(), store.reason())?;
-                Ok(())
-            }
-            FileRead::OutOfMemory => Err(OutOfMemory),
-        }
-    }
-
-    // The same of the bytes of the file.
-    fn look_at_entries(
+    /// Tells what is wrong with the bytes of a pqact.conf.
+    pub(crate) fn look_at_entries(
         &mut self,
         alloc: Global,
         path: &str,
