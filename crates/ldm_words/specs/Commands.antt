@@ -61,7 +61,7 @@ file_rule = word_rule (codes "file")
 abbrev pub origin_rule : Rule
 origin_rule = option_or_rule (codes "origin") (codes "o") (codes "localhost")
 
--- `node [-a ARENA] [-S SLOTS] [-p PORT] [-w WORKERS] [-n SESSIONS] [-x IDLES] CONF`
+-- `node [-a ARENA] [-S SLOTS] [-p PORT] [-w WORKERS] [-n SESSIONS] [-x IDLES] [-q FILE] [-e] CONF`
 unfoldable pub node_command : App
 node_command = command_of (codes "node")
     (arena_rule
@@ -70,12 +70,20 @@ node_command = command_of (codes "node")
     ∷ option_or_rule (codes "workers") (codes "w") (codes "4")
     ∷ option_or_rule (codes "sessions") (codes "n") (codes "4294967295")
     ∷ option_rule (codes "idles") (codes "x")
+    ∷ option_rule (codes "journal") (codes "q")
+    ∷ flag_rule (codes "input") (codes "e")
     ∷ conf_rule ∷ [])
 
--- `pqact [-f FEED] [-p PATTERN] [-c COUNT] [-a ARENA] [-S SLOTS] CONF HOST:PORT`
+-- `pqact [-f FEED] [-p PATTERN] [-c COUNT] [-a ARENA] [-S SLOTS] [-s STATE] CONF HOST:PORT`
 unfoldable pub pqact_command : App
 pqact_command = command_of (codes "pqact")
-    (feed_rule (codes "ANY") ∷ pattern_rule ∷ count_rule ∷ arena_rule ∷ slots_rule ∷ conf_rule ∷ word_rule (codes "peer") ∷ [])
+    (feed_rule (codes "ANY")
+    ∷ pattern_rule
+    ∷ count_rule
+    ∷ arena_rule
+    ∷ slots_rule
+    ∷ option_rule (codes "state") (codes "s")
+    ∷ conf_rule ∷ word_rule (codes "peer") ∷ [])
 
 -- `pqinsert [-f FEED] [-p IDENT] [-o ORIGIN] [-i] [-q HOST:PORT] FILE..`
 unfoldable pub pqinsert_command : App

@@ -94,6 +94,8 @@ pub record ActForm : Type 0 where
   -- bytes of the arena of the tool's own queue
   pub arena : ℕ
   pub slots : ℕ
+  -- the path of the file with the state, where one is kept
+  pub state : Option Text
   -- the path of the file with the entries
   pub conf : Text
   pub peer : Address
@@ -109,6 +111,7 @@ act_of rows =
       count = receiving.count;
       arena = arena;
       slots = slots;
+      state = first_of (codes "state") rows;
       conf = conf;
       peer = receiving.peer;
     })
@@ -233,6 +236,10 @@ pub record NodeForm : Type 0 where
   pub sessions : ℕ
   -- how often a worker is idle
   pub idles : Option ℕ
+  -- the path of the journal of the queue, if one is named
+  pub journal : Option Text
+  -- whether it ends with its standard input
+  pub ends_with_input : Bool
   -- the path of the configuration
   pub conf : Text
 
@@ -245,7 +252,17 @@ node_of rows =
     said short_number (codes "sessions") rows >>= λ sessions.
     optional short_number (first_of (codes "idles") rows) >>= λ idles.
     first_of (codes "conf") rows >>= λ conf.
-    Some (record { arena = arena; slots = slots; port = port; workers = workers; sessions = sessions; idles = idles; conf = conf })
+    Some (record {
+      arena = arena;
+      slots = slots;
+      port = port;
+      workers = workers;
+      sessions = sessions;
+      idles = idles;
+      journal = first_of (codes "journal") rows;
+      ends_with_input = is_used (first_of (codes "input") rows);
+      conf = conf;
+    })
 
 abbrev pub node_form : List Text → Option NodeForm
 node_form words = matched node_command words >>= node_of

@@ -51,6 +51,7 @@ act_view words = record {
   count = words.count;
   arena = words.arena;
   slots = words.slots;
+  state = option_copied words.state;
   conf = words.conf.now;
   peer = address_view words.peer;
 }
@@ -88,6 +89,8 @@ node_view words = record {
   workers = words.workers;
   sessions = words.sessions;
   idles = words.idles;
+  journal = option_copied words.journal;
+  ends_with_input = words.ends_with_input;
   conf = words.conf.now;
 }
 

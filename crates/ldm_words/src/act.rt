@@ -14,9 +14,9 @@ use crate::values::{long_number, short_number, value};
 use clap::{ArgMatches, Command};
 use std::alloc::{AllocError, Global};
 
-/// What words ask `pqact` to do: `[-f FEED] [-p PATTERN] [-c COUNT] [-a ARENA] [-S SLOTS] CONF HOST:PORT`, by default
-/// `ANY`, `.*`, all products, 67108864 and 16384. PATTERN has at most 255 bytes, COUNT is at least 1 and HOST has 1 to
-/// 255 bytes.
+/// What words ask `pqact` to do: `[-f FEED] [-p PATTERN] [-c COUNT] [-a ARENA] [-S SLOTS] [-s STATE] CONF HOST:PORT`, by
+/// default `ANY`, `.*`, all products, 67108864, 16384 and no state. PATTERN has at most 255 bytes, COUNT is at least 1
+/// and HOST has 1 to 255 bytes.
 ///
 /// `Usage` comes exactly where the words are no form.
 pub fn read_pqact<'a>(alloc: Global, words: &'a [String]) -> Result<ActWords<'a>, WordsFault>
@@ -36,6 +36,7 @@ fn pqact_command<'a>(alloc: Global) -> Result<Command<'a>, AllocError>
         .arg(option(alloc, "count", 'c'))?
         .arg(option_or(alloc, "arena", 'a', "67108864"))?
         .arg(option_or(alloc, "slots", 'S', "16384"))?
+        .arg(option(alloc, "state", 's'))?
         .arg(word(alloc, "conf"))?
         .arg(word(alloc, "peer"))
 }
@@ -59,6 +60,7 @@ fn act_of<'a>(alloc: Global, matches: &ArgMatches<'a>) -> Result<ActWords<'a>, W
         count: receiving.count,
         arena,
         slots,
+        state: value(matches, "state"),
         conf,
         peer: receiving.peer,
     })

@@ -30,6 +30,8 @@ pub fn worked_examples_of_node()
           workers = 4;
           sessions = 4294967295;
           idles = None;
+          journal = None;
+          ends_with_input = false;
           conf = codes "c";
         }) }
     ensures given { node_form
@@ -41,9 +43,25 @@ pub fn worked_examples_of_node()
           workers = 2;
           sessions = 1;
           idles = Some 0;
+          journal = None;
+          ends_with_input = false;
           conf = codes
               "c";
         }) }
+    ensures kept { node_form (codes "-q" ∷ codes "queue" ∷ codes "-e" ∷ codes "c" ∷ [])
+        ≡ Some (record {
+          arena = 67108864;
+          slots = 16384;
+          port = 388;
+          workers = 4;
+          sessions = 4294967295;
+          idles = None;
+          journal = Some (codes "queue");
+          ends_with_input = true;
+          conf = codes "c";
+        }) }
+    ensures no_journal { node_form (codes "c" ∷ codes "-q" ∷ []) ≡ None }
+    ensures ends_twice { node_form (codes "-e" ∷ codes "-e" ∷ codes "c" ∷ []) ≡ None }
     ensures too_many_slots { node_form (codes "-S4294967296" ∷ codes "c" ∷ []) ≡ None }
     ensures leading_zero { node_form (codes "-w04" ∷ codes "c" ∷ []) ≡ None }
     ensures two_files { node_form (codes "c" ∷ codes "d" ∷ []) ≡ None }
@@ -94,9 +112,22 @@ pub fn worked_examples_of_classes()
           count = Some 2;
           arena = 67108864;
           slots = 16384;
+          state = None;
           conf = codes "c";
           peer = record { host = codes "a"; port = 1 };
         }) }
+    ensures state { act_form (codes "-p^S" ∷ codes "-s" ∷ codes "d" ∷ codes "c" ∷ codes "a:1" ∷ [])
+        ≡ Some (record {
+          class = all_times 0xffff_ffff
+              (codes "^S");
+          count = None;
+          arena = 67108864;
+          slots = 16384;
+          state = Some (codes "d");
+          conf = codes "c";
+          peer = record { host = codes "a"; port = 1 };
+        }) }
+    ensures two_states { act_form (codes "-sd" ∷ codes "-se" ∷ codes "c" ∷ codes "a:1" ∷ []) ≡ None }
     ensures sizes { cat_form (codes "-a4096" ∷ codes "-fIDS" ∷ codes "-p^S" ∷ codes "-S8" ∷ codes "-qa:1" ∷ [])
         ≡ Some (record {
           class = all_times 8

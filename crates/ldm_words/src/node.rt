@@ -7,16 +7,16 @@ ghost use Rattle.ldm_words.specs.Faults.{IsFaultOf};
 ghost use Rattle.ldm_words.specs.Forms.{node_form, node_of};
 ghost use Rattle.ldm_words.specs.Views.{node_view, rows_in};
 
-use crate::command::{bare, option, option_or, parse, word};
+use crate::command::{bare, flag, option, option_or, parse, word};
 use crate::fault::WordsFault;
 use crate::said::NodeWords;
-use crate::values::{long_number, optional_number, port, short_number, value};
+use crate::values::{is_used, long_number, optional_number, port, short_number, value};
 use clap::{ArgMatches, Command};
 use std::alloc::{AllocError, Global};
 
-/// The node that words ask for: `[-a ARENA] [-S SLOTS] [-p PORT] [-w WORKERS] [-n SESSIONS] [-x IDLES] CONF`, by
-/// default 67108864, 16384, 388, 4, 4294967295 and no limit. Numbers are decimal, without a sign or a leading zero.
-/// ARENA has 64 bits and PORT 16, and is at least 1; the others have 32.
+/// The node that words ask for: `[-a ARENA] [-S SLOTS] [-p PORT] [-w WORKERS] [-n SESSIONS] [-x IDLES] [-q FILE] [-e]
+/// CONF`, by default 67108864, 16384, 388, 4, 4294967295, no limit and no journal. Numbers are decimal, without a sign or
+/// a leading zero. ARENA has 64 bits and PORT 16, and is at least 1; the others have 32.
 ///
 /// `Usage` comes exactly where the words are no form.
 pub fn read_node<'a>(alloc: Global, words: &'a [String]) -> Result<NodeWords<'a>, WordsFault>
@@ -37,6 +37,8 @@ fn node_command<'a>(alloc: Global) -> Result<Command<'a>, AllocError>
         .arg(option_or(alloc, "workers", 'w', "4"))?
         .arg(option_or(alloc, "sessions", 'n', "4294967295"))?
         .arg(option(alloc, "idles", 'x'))?
+        .arg(option(alloc, "journal", 'q'))?
+        .arg(flag(alloc, "input", 'e'))?
         .arg(word(alloc, "conf"))
 }
 
@@ -57,6 +59,8 @@ fn node_of<'a>(matches: &ArgMatches<'a>) -> Option<NodeWords<'a>>
         workers,
         sessions,
         idles,
+        journal: value(matches, "journal"),
+        ends_with_input: is_used(matches, "input"),
         conf,
     })
 }

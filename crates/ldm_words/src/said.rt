@@ -25,6 +25,10 @@ pub struct NodeWords<'a> {
     pub sessions: u32,
     /// How often a worker is idle at most, or none where there is no limit.
     pub idles: Option<u32>,
+    /// The path of the journal of the queue, or none where it keeps none.
+    pub journal: Option<&'a str>,
+    /// Whether it ends where its standard input does.
+    pub ends_with_input: bool,
     /// The path of the configuration.
     pub conf: &'a str,
     pub ghost port_some: { 0 < port },
@@ -41,6 +45,8 @@ pub struct ActWords<'a> {
     pub arena: u64,
     /// Slots of its own queue.
     pub slots: u32,
+    /// The path of the file with the state, where one is kept.
+    pub state: Option<&'a str>,
     /// The path of the file with the entries.
     pub conf: &'a str,
     /// The node to ask.

@@ -263,6 +263,7 @@ fn kind_of(command: &[u8], letter: u8) -> Option<Kind> {
         b"node" => kind_of_node(letter),
         b"pqact" => match letter {
             b'q' => None,
+            b's' => Some(Kind::Path),
             _ => kind_of_queueing(letter),
         },
         b"pqinsert" => kind_of_pqinsert(letter),
@@ -303,6 +304,8 @@ fn kind_of_node(letter: u8) -> Option<Kind> {
         b'w' => Some(Kind::Short),
         b'n' => Some(Kind::Short),
         b'x' => Some(Kind::Short),
+        b'q' => Some(Kind::Path),
+        b'e' => Some(Kind::Flag),
         _ => None,
     }
 }

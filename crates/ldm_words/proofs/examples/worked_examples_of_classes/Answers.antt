@@ -31,3 +31,11 @@ returns-clause-no_pattern c = refl
 pub returns-clause-no_peer : goal.returns-clause-no_peer
 unfolding on_literals regex_on_literals pattern_meaning
 returns-clause-no_peer c = refl
+
+pub returns-clause-state : goal.returns-clause-state
+unfolding on_literals regex_on_literals pattern_meaning
+returns-clause-state c = refl
+
+pub returns-clause-two_states : goal.returns-clause-two_states
+unfolding on_literals regex_on_literals pattern_meaning
+returns-clause-two_states c = refl

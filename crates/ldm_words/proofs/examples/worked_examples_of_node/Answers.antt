@@ -25,3 +25,15 @@ returns-clause-two_files c = refl
 pub returns-clause-no_file : goal.returns-clause-no_file
 unfolding on_literals
 returns-clause-no_file c = refl
+
+pub returns-clause-kept : goal.returns-clause-kept
+unfolding on_literals
+returns-clause-kept c = refl
+
+pub returns-clause-no_journal : goal.returns-clause-no_journal
+unfolding on_literals
+returns-clause-no_journal c = refl
+
+pub returns-clause-ends_twice : goal.returns-clause-ends_twice
+unfolding on_literals
+returns-clause-ends_twice c = refl
