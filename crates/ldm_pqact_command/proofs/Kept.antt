@@ -1,5 +1,5 @@
 -- What a whole gathering does to the outputs, the store and the launcher: no count falls, and what is kept is of this store and launcher still.
-use Rattle.std.proofs.Common.{◌≡◌, ℕ, zero, suc, ◌≤◌, List, Some, None, Option, inl, inr, refl, ap, arith}
+use Rattle.std.proofs.Common.{◌≡◌, ℕ, zero, suc, ◌≤◌, List, [], ◌∷◌, Some, None, Option, inl, inr, refl, ap, arith}
 use Rattle.ldm_outside.specs.Count.{Rose}
 use Rattle.ldm_outside.specs.Dial.{DialRecord, DialTakesBack}
 use Rattle.ldm_outside.specs.Launcher.{LauncherRecord}
@@ -10,9 +10,11 @@ use Rattle.ldm_actions.specs.declared.answers.Done.{Done}
 use Rattle.ldm_actions.specs.declared.answers.Done.TheVariants as done
 use Rattle.ldm_actions.specs.declared.answers.Fault.{Fault}
 use Rattle.ldm_actions.specs.declared.answers.Fault.TheVariants as fault
-use Rattle.ldm_actions.specs.Outputs.{Closes, ClosesBy, KeepsUnlessSpent, Standing}
+use Rattle.ldm_actions.specs.Effects.{Action}
+use Rattle.ldm_actions.specs.Outputs.{Closes, ClosesBy, KeepsUnlessSpent, Standing, standing}
 use Rattle.ldm_intake.specs.Receiving.{Receiving}
 use Rattle.ldm_gather.specs.declared.end.GatherEnd.{GatherEnd}
+use Rattle.ldm_gather.specs.declared.end.GatherEnd.TheVariants as gather_end
 use Rattle.ldm_gather.specs.declared.end.Handled.{Handled}
 use Rattle.ldm_gather.specs.Gathering.{GathersAll}
 use Rattle.ldm_gather.specs.Orders.{OrderView}
@@ -21,10 +23,11 @@ use Rattle.ldm_gather.specs.Scene.{Lent, Scene}
 use Rattle.ldm_pqact.specs.declared.end.ActEnd.{ActEnd}
 use Rattle.ldm_pqact.specs.declared.end.ActEnd.TheVariants as end
 use Rattle.ldm_pqact.specs.Acting.{EndsSo, Sight}
-use Rattle.ldm_pqact.specs.Carried.{Faulted, LauncherCount, StoreCount}
+use Rattle.ldm_pqact.specs.Carried.{DoesBy, Faulted, LauncherCount, StoreCount}
 use Rattle.ldm_pqact.specs.Work.{Parted}
 use Rattle.ldm_pqact_command.specs.ActerView.{ActerView}
 use Rattle.ldm_pqact_command.specs.Handling.{ActHandles, standing_in}
+use Rattle.ldm_pqact_command.specs.State.{KeepsLast, KeepsState}
 use Rattle.ldm_pqact_command.proofs.Carried.{Parts, gathered_leads, parts_of}
 
 -- ---- counts
@@ -92,6 +95,37 @@ closes_count answer old new closes = by_spent old.outputs.spent answer closes
       launcher = rose_le old.launcher.faults new.launcher.faults closes.0.rose;
     }
 
+-- the actions of the state touched no count but what rose
+does_count : (ended : ActEnd) (deeds : List (Action × List ℕ)) (old new : Standing) → DoesBy ended deeds old new → Counted old new
+does_count end.Stopped deeds old new does = record { store = omega (arith, does.store_faults); launcher = omega (arith, does.launcher_faults) }
+does_count why deeds old new does =
+    record { store = store_le why old new does.1.store_count; launcher = launcher_le why old new does.1.launcher_count }
+
+counted_same : (old new : Standing) → new ≡ old → Counted old new
+counted_same old new same = record {
+  store = omega (arith, ap (λ (s : Standing). s.store.faults) same);
+  launcher = omega (arith, ap (λ (s : Standing). s.launcher.faults) same);
+}
+
+pub counted_then : (a b c : Standing) → Counted a b → Counted b c → Counted a c
+counted_then a b c one two =
+    record { store = omega (arith, one.store, two.store); launcher = omega (arith, one.launcher, two.launcher) }
+
+keeps_count : (acted ended : ActEnd) (deeds : List (Action × List ℕ)) (old new : Standing) → KeepsState acted ended deeds old new → Counted old new
+keeps_count end.Stopped ended [] old new keeps = counted_same old new keeps.0
+keeps_count end.Stopped ended (deed ∷ deeds) old new keeps = does_count ended (deed ∷ deeds) old new keeps
+keeps_count acted ended deeds old new keeps = counted_same old new keeps.0
+
+-- the state behind the closing of the outputs
+pub last_count : (gathered : GatherEnd) (deeds : List (Action × List ℕ)) (old : Standing) (store : StoreRecord) (launcher : LauncherRecord)
+    → KeepsLast gathered deeds old store launcher → (old.store.faults ≤ store.faults) × (old.launcher.faults ≤ launcher.faults)
+last_count gather_end.Stopped [] old store launcher keeps =
+    (omega (arith, ap (λ (s : StoreRecord). s.faults) keeps.0), omega (arith, ap (λ (l : LauncherRecord). l.faults) keeps.1))
+last_count gather_end.Stopped (deed ∷ deeds) old store launcher keeps =
+    let counted = does_count keeps.answer (deed ∷ deeds) old (standing keeps.left store launcher) keeps.does in (counted.store, counted.launcher)
+last_count gathered deeds old store launcher keeps =
+    (omega (arith, ap (λ (s : StoreRecord). s.faults) keeps.0), omega (arith, ap (λ (l : LauncherRecord). l.faults) keeps.1))
+
 -- ---- a gathering
 
 module _ {F L : Type 0} (store_tells : F → StoreRecord) (launcher_tells : L → LauncherRecord) where
@@ -117,7 +151,12 @@ module _ {F L : Type 0} (store_tells : F → StoreRecord) (launcher_tells : L �
   }
 
   stays_handled : (answer : Handled) (old new : Scene ActerView F L) → ActHandles store_tells launcher_tells answer old new → Stays (parts_of old) (parts_of new)
-  stays_handled answer old new handles = record { counted = acts_count handles.ended _ _ _ _ handles.acts.ends; keeps = λ keeps. handles.keeps }
+  stays_handled answer old new handles = record {
+    counted =
+        counted_then (at (parts_of old)) handles.mid (at (parts_of new)) (acts_count handles.acted _ _ _ _ handles.acts.ends)
+        (keeps_count handles.acted handles.ended _ handles.mid (at (parts_of new)) handles.keeps_state);
+    keeps = λ keeps. handles.keeps;
+  }
 
   pub gathered_stays : (e : GatherEnd) (s : Receiving) (old new : Lent ActerView F L) → GathersAll (ActHandles store_tells launcher_tells) e s old new
       → Stays (parts_of old.scene) (parts_of new.scene)

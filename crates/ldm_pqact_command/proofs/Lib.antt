@@ -1,4 +1,5 @@
 mod Carried
+mod Keeping
 mod Kept
 mod Gathered
 mod Stopping

@@ -1,3 +1,4 @@
+pub mod State
 pub mod Stops
 pub mod ActerView
 pub mod Handling

@@ -13,8 +13,9 @@ use Rattle.ldm_status.specs.declared.status.Status.{Status}
 use Rattle.ldm_status.specs.declared.status.Status.TheVariants as status
 use Rattle.ldm_status.specs.declared.status.TheConstants.{LOG_FAULT}
 use Rattle.ldm_status.specs.Status.{ReportsBecause}
+use Rattle.ldm_pqact_command.specs.State.{status_of_state}
 use Rattle.ldm_pqact_command.specs.declared.end.PqactEnd.{PqactEnd}
-use Rattle.ldm_pqact_command.specs.declared.end.PqactEnd.TheVariants.{NotTaken, NotMade, Unreached, Received, Enough, Stopped}
+use Rattle.ldm_pqact_command.specs.declared.end.PqactEnd.TheVariants.{NotTaken, NotResumed, NotMade, Unreached, Received, Enough, Stopped}
 use Rattle.ldm_pqact_command.specs.declared.stop.ActStop.{ActStop}
 use Rattle.ldm_pqact_command.specs.declared.stop.ActStop.TheVariants as stop
 
@@ -52,6 +53,7 @@ stop_status stop.OutOfMemory = Some status.NoMemory
 
 abbrev pub status_of : PqactEnd → Option Status
 status_of (NotTaken why) = Some (status_of_entries why)
+status_of (NotResumed why) = Some (status_of_state why)
 status_of (NotMade fault) = Some (status_of_queue fault)
 status_of Unreached = Some status.NetFault
 status_of (Received end) = status_of_receiving end

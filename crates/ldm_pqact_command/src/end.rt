@@ -4,6 +4,7 @@ ghost use Rattle.ldm_outside.specs.Reason.{IsReason};
 ghost use Rattle.ldm_pqact_command.specs.Statuses.{IfStopped, IsEndOf, ReportsIf, after_closing};
 ghost use Rattle.ldm_pqact_command.specs.Statuses.{status_of, stop_status};
 
+use crate::state::{StateNotTaken, status_of_state};
 use crate::stop::ActStop;
 use ldm_actions::Done;
 use ldm_command_files::{EntriesNotTaken, status_of_entries};
@@ -18,6 +19,8 @@ use ldm_status::{LOG_FAULT, Status};
 pub enum PqactEnd {
     /// No entries were taken.
     NotTaken(EntriesNotTaken),
+    /// No state was taken.
+    NotResumed(StateNotTaken),
     /// No queue was made, or there was no memory to begin.
     NotMade(CreateFault),
     /// No link was connected.
@@ -30,8 +33,8 @@ pub enum PqactEnd {
     Stopped(ActStop),
 }
 
-/// How `pqact` ended, and what is known of that: what is wrong with the pqact.conf; or, of a fault of the store or of
-/// the launcher, the ident of the product in hand, if one was.
+/// How `pqact` ended, and what is known of that: what is wrong with the pqact.conf or the state; or, of a fault of the
+/// store or of the launcher, the ident of the product in hand, if one was.
 #[derive(Drop)]
 pub(crate) struct Ended {
     pub(crate) end: PqactEnd,
@@ -97,6 +100,7 @@ fn status_of(end: PqactEnd) -> Option<Status>
 {
     match end {
         PqactEnd::NotTaken(why) => Some(status_of_entries(why)),
+        PqactEnd::NotResumed(why) => Some(status_of_state(why)),
         PqactEnd::NotMade(fault) => Some(status_of_queue(fault)),
         PqactEnd::Unreached => Some(Status::NetFault),
         PqactEnd::Received(end) => status_of_receiving(end),

@@ -1,7 +1,7 @@
 use Rattle.std.proofs.Common.{Some, None, refl, arith}
 use Rattle.ldm_pqact_command.specs.PqactRuns.{here_of, pqact_lent}
 use Rattle.ldm_pqact_command.proofs.Gathered.{gathered_all}
-use Rattle.ldm_pqact_command.proofs.Kept.{closes_count, gathered_stays, unreached_counted}
+use Rattle.ldm_pqact_command.proofs.Kept.{closes_count, gathered_stays, last_count, unreached_counted}
 use Rattle.ldm_pqact_command.proofs.Stopping.{stopped_why}
 use Rattle.ldm_pqact_command.proofs.command.act.Goals as goal
 
@@ -24,9 +24,8 @@ returns-in-Some-clause-ran g c =
       connects = asked.1;
       closes = record {
         acts = gathered_all g.F.Store.tells g.L.Launcher.tells c.products_stay.ensures.stays _ _ _ _ asked.1.holds.gathered.gathers;
-        answer = closed.0;
-        closes = closed.1;
-        is_end = closed.2;
+        closes = closed.0;
+        is_end = closed.1;
         others = refl;
       };
     }
@@ -45,14 +44,16 @@ returns-in-None-clause-ran g c =
 pub returns-in-Some-clause-counts_kept : goal.returns-in-Some-clause-counts_kept
 returns-in-Some-clause-counts_kept g c =
     let stays = gathered_stays g.F.Store.tells g.L.Launcher.tells _ _ _ _ c.in-Some.ensures.connects.1.holds.gathered.gathers in
-    let closed = closes_count c.close.ensures.closed.0 _ _ c.close.ensures.closed.1.closes in
+    let all = c.close.ensures.closed.0 in
+    let closed = closes_count all.answer _ _ all.closes.closes in
+    let last = last_count c.in-Some.end _ _ _ _ all.keeps in
     let stand = c.in-Some.ensures.counts_kept in
     record {
       net = stand.net;
       ended = stand.ended;
       failed = stand.failed;
-      store = omega (arith, stays.counted.store, closed.store);
-      launcher = omega (arith, stays.counted.launcher, closed.launcher);
+      store = omega (arith, stays.counted.store, closed.store, last.0);
+      launcher = omega (arith, stays.counted.launcher, closed.launcher, last.1);
       log = stand.log;
     }
 
