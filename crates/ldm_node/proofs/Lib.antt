@@ -12,6 +12,8 @@ mod Turned
 mod Posting
 mod RoleLemmas
 mod Gathered
+mod Seating
+mod Recording
 mod Asking
 mod Causing
 mod Crosses

@@ -17,6 +17,8 @@ pub mod TrySteps
 pub mod Stops
 pub mod Roles
 pub mod Workers
+pub mod Clerks
+pub mod Seats
 pub mod Posts
 pub mod Node
 pub mod Causes

@@ -1,4 +1,4 @@
--- Posts: a station for each worker, and why it stopped. No caller needs these.
+-- Posts: a station for each worker, a clerk behind them, and why each stopped. No caller needs these.
 use Rattle.std.specs.Prelude.{◌≡◌, List, [], ◌∷◌, ◌++◌, Option, Some, None, IfSome}
 use Rattle.std.specs.Option.{option_to_list}
 use Rattle.ldm_outside.specs.Station.{StationRecord}
@@ -9,38 +9,59 @@ use Rattle.ldm_node.specs.declared.post.Post.{Post}
 use Rattle.ldm_node.specs.Roles.{Plan, role_of}
 use Rattle.ldm_node.specs.Workers.{HasCause, NoneOut, WorksAs}
 
-abbrev pub post_of : {S : Type 0} → S → Post S
-post_of station = record { station = Some station; stop = Done }
+-- a clerk did its work, and without one nothing was done
+abbrev pub ClerkWorks : {K : Type 0} → (PassView → K → PassView → K → Type 0) → PassView → Option K → PassView → Option K → Type 0
+ClerkWorks does old_pass (Some old) new_pass (Some new) = does old_pass old new_pass new
+ClerkWorks does old_pass (Some old) new_pass None = ⊥
+ClerkWorks does old_pass None new_pass (Some new) = ⊥
+ClerkWorks does old_pass None new_pass None = new_pass ≡ old_pass
 
--- the post of the worker that rests
-abbrev pub rest : {S : Type 0} → Post S
-rest = record { station = None; stop = Done }
+module _ {S K : Type 0} where
+  abbrev pub post_of : S → Post S K
+  post_of station = record { station = Some station; clerk = None; stop = Done }
 
--- a post of each station, and one without a station behind them
-abbrev pub posts_of : {S : Type 0} → List S → List (Post S)
-posts_of [] = rest ∷ []
-posts_of (station ∷ stations) = post_of station ∷ posts_of stations
+  -- the post of the worker without a station, which may be a clerk
+  abbrev pub last_post : Option K → Post S K
+  last_post clerk = record { station = None; clerk = clerk; stop = Done }
 
--- the stations of posts, in order
-abbrev pub stations_of : {S : Type 0} → List (Post S) → List S
-stations_of [] = []
-stations_of (post ∷ posts) = option_to_list post.station ++ stations_of posts
+  -- a post of each station, and one without a station behind them
+  abbrev pub posts_of : List S → Option K → List (Post S K)
+  posts_of [] clerk = last_post clerk ∷ []
+  posts_of (station ∷ stations) clerk = post_of station ∷ posts_of stations clerk
 
-abbrev pub stop_of : {S : Type 0} → Post S → NodeStop
-stop_of post = post.stop
+  -- the stations of posts, in order
+  abbrev pub stations_of : List (Post S K) → List S
+  stations_of [] = []
+  stations_of (post ∷ posts) = option_to_list post.station ++ stations_of posts
 
--- a worker may begin at a post: no link of its station is out
-abbrev pub MayBegin : {S : Type 0} → (S → StationRecord) → Post S → Type 0
-MayBegin tells post = IfSome post.station (λ station. NoneOut (tells station))
+  -- the clerk of the last of these posts, or one before them
+  abbrev pub clerk_behind : Option K → List (Post S K) → Option K
+  clerk_behind before [] = before
+  clerk_behind before (post ∷ posts) = clerk_behind post.clerk posts
 
--- A worker did at a station what the role of its pass's actor says. Without a station it did nothing.
-abbrev pub StationWorks : {S : Type 0} → (S → StationRecord) → Plan → NodeStop → PassView → Option S → PassView → Option S → Type 0
-StationWorks tells plan stop old_pass (Some old) new_pass (Some new) =
-    WorksAs plan (role_of plan old_pass.actor) stop old_pass (tells old) new_pass (tells new)
-    × HasCause plan (role_of plan old_pass.actor) stop new_pass (tells old) (tells new)
-StationWorks tells plan stop old_pass (Some old) new_pass None = ⊥
-StationWorks tells plan stop old_pass None new_pass (Some new) = ⊥
-StationWorks tells plan stop old_pass None new_pass None = (stop ≡ Done) × (new_pass ≡ old_pass)
+  -- only the last of these posts may have a clerk
+  abbrev pub AreLast : List (Post S K) → Type 0
+  AreLast [] = Unit {0}
+  AreLast (post ∷ []) = Unit {0}
+  AreLast (post ∷ next ∷ posts) = (post.clerk ≡ None) × AreLast (next ∷ posts)
 
-abbrev pub PostWorks : {S : Type 0} → (S → StationRecord) → Plan → PassView → Post S → PassView → Post S → Type 0
-PostWorks tells plan old_pass old new_pass new = StationWorks tells plan new.stop old_pass old.station new_pass new.station
+  abbrev pub stop_of : Post S K → NodeStop
+  stop_of post = post.stop
+
+  module _ (tells : S → StationRecord) where
+    -- a worker may begin at a post: no link of its station is out, and its clerk is ready
+    abbrev pub MayBegin : (PassView → K → Type 0) → PassView → Post S K → Type 0
+    MayBegin ready pass post = IfSome post.station (λ station. NoneOut (tells station)) × IfSome post.clerk (ready pass)
+
+    module _ (does : PassView → K → PassView → K → Type 0) (plan : Plan) where
+      -- A worker did at a station what the role of its pass's actor says. Without a station the clerk did its work.
+      abbrev pub StationWorks : PassView → Post S K → Option S → PassView → Post S K → Option S → Type 0
+      StationWorks old_pass old (Some from) new_pass new (Some to) =
+          WorksAs plan (role_of plan old_pass.actor) new.stop old_pass (tells from) new_pass (tells to)
+          × HasCause plan (role_of plan old_pass.actor) new.stop new_pass (tells from) (tells to) × (new.clerk ≡ old.clerk)
+      StationWorks old_pass old (Some from) new_pass new None = ⊥
+      StationWorks old_pass old None new_pass new (Some to) = ⊥
+      StationWorks old_pass old None new_pass new None = (new.stop ≡ Done) × ClerkWorks does old_pass old.clerk new_pass new.clerk
+
+      abbrev pub PostWorks : PassView → Post S K → PassView → Post S K → Type 0
+      PostWorks old_pass old new_pass new = StationWorks old_pass old old.station new_pass new new.station

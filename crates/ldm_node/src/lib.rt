@@ -1,11 +1,12 @@
 //! A node: all its workers over one shared queue.
 //!
 //! [`node`] takes a station for each worker. The first workers let peers in and serve them ([`work_door`]), each of the
-//! next keeps asking another node for what one REQUEST line of ldmd.conf names ([`work_request`]). It hands out the
-//! queue and the stations once all of them have stopped.
+//! next keeps asking another node for what one REQUEST line of ldmd.conf names ([`work_request`]). Behind them a
+//! [`Clerk`] may record what is inserted. It hands out the queue and the stations once all of them have stopped.
 #![tactic(auto)]
 
 mod admitting;
+mod clerk;
 mod door_worker;
 mod line_examples;
 mod lines;
@@ -26,6 +27,7 @@ mod visit_end;
 mod visit_examples;
 mod visit_laws;
 
+pub use clerk::{Clerk, Recorded};
 pub use door_worker::work_door;
 pub use line_examples::worked_examples_of_lines;
 pub use lines::{write_session, write_unreached};

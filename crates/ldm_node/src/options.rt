@@ -1,5 +1,6 @@
 //! What a node is told, and what it leaves.
 
+use crate::clerk::Recorded;
 use crate::stop::NodeStop;
 use ldm_book::Book;
 use ldm_outside::Station;
@@ -20,14 +21,16 @@ pub struct NodeOptions {
 
 /// What a node leaves.
 #[derive(Drop)]
-pub struct NodeEnd<D, I, E, C, G> {
+pub struct NodeEnd<F, D, I, E, C, G> {
     /// The queue, after all calls.
     pub book: Book,
     /// The pass that has seen all calls.
     pub pass: Pass,
     /// The stations that the net gave, in order, as their workers left them.
     pub stations: Vec<Station<D, I, E, C, G>>,
-    /// Why the node ended: why the first worker stopped that was not done. [`NodeStop::OutOfMemory`] is besides the
+    /// What recording left, where there was a clerk.
+    pub recorded: Option<Recorded<F, E, C, G>>,
+    /// Why the node ended: why the first worker of a station stopped that was not done. [`NodeStop::OutOfMemory`] is besides the
     /// answer where there was no memory for the workers, of which none began then.
     pub end: NodeStop,
 }

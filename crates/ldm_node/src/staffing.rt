@@ -1,16 +1,21 @@
 //! What each worker of a node does.
-ghost use Rattle.std.specs.Prelude.{◌≡◌, ◌∷◌};
+ghost use Rattle.std.specs.Prelude.{◌≡◌, ◌∷◌, IfSome};
+ghost use Rattle.ldm_disk.specs.Desks.{desk_tells};
 ghost use Rattle.ldm_outside.specs.Station.{station_tells};
 ghost use Rattle.ldm_shared.specs.Passes.{IsPassOf, IsSamePass};
 ghost use Rattle.ldm_conf.specs.Confs.{conf_view};
 ghost use Rattle.ldm_node.specs.Roles.{plan_of, role_of};
+ghost use Rattle.ldm_node.specs.Posts.{ClerkWorks};
+ghost use Rattle.ldm_node.specs.Seats.{IsReadySeat, SeatWorks};
 ghost use Rattle.ldm_node.specs.Workers.{HasCause, NoneOut, WorksAs};
 
+use crate::clerk::Seat;
 use crate::door_worker::work_door;
 use crate::post::Post;
 use crate::request_worker::work_request;
 use crate::stop::NodeStop;
 use ldm_conf::Conf;
+use ldm_disk::Disk;
 use ldm_outside::{Clock, Dial, Door, Gate, Sink, Station};
 use ldm_shared::{Pass, Shared, Work};
 use std::alloc::Global;
@@ -25,17 +30,22 @@ pub(crate) struct Staffing<'a> {
     pub(crate) sessions: u32,
 }
 
-impl<'a, D: Door, I: Dial, E: Sink, C: Clock, G: Gate> Work<Post<Station<D, I, E, C, G>>>
-    for Staffing<'a> {
+impl<'a, F: Disk, D: Door, I: Dial, E: Sink, C: Clock, G: Gate> Work<
+    Post<Station<D, I, E, C, G>, Seat<F, E, C, G>>,
+> for Staffing<'a> {
     ghost use Rattle.ldm_outside.specs.Station.{station_tells};
     ghost use Rattle.ldm_shared.specs.Passes.{IsPassOf, IsSamePass};
     ghost use Rattle.ldm_conf.specs.Confs.{conf_view};
     ghost use Rattle.ldm_node.specs.Roles.{plan_of};
+    ghost use Rattle.ldm_disk.specs.Desks.{desk_tells};
     ghost use Rattle.ldm_node.specs.Posts.{MayBegin, PostWorks};
+    ghost use Rattle.ldm_node.specs.Seats.{IsReadySeat, SeatWorks};
 
-    ghost begins = { λ _ _ post. MayBegin (station_tells D.tells I.tells E.tells C.tells G.tells) post };
+    ghost begins = { λ _ pass post. MayBegin (station_tells D.tells I.tells E.tells C.tells G.tells)
+        IsReadySeat pass post };
 
     ghost works = { λ work old_pass old new_pass new. PostWorks (station_tells D.tells I.tells E.tells C.tells G.tells)
+        (SeatWorks (desk_tells F.tells E.tells C.tells G.tells))
         (plan_of (conf_view work.conf.now) work.workers work.sessions) old_pass old new_pass new };
 
     fn work<H: Wait>(
@@ -43,12 +53,34 @@ impl<'a, D: Door, I: Dial, E: Sink, C: Clock, G: Gate> Work<Post<Station<D, I, E
         rt: &H,
         shared: &Shared,
         pass: &mut Pass,
-        own: &mut Post<Station<D, I, E, C, G>>,
+        own: &mut Post<Station<D, I, E, C, G>, Seat<F, E, C, G>>,
     ) {
-        own.stop = match &mut own.station {
-            Some(station) => self.man(rt, shared, pass, station),
-            None => NodeStop::Done,
-        };
+        match &mut own.station {
+            Some(station) => own.stop = self.man(rt, shared, pass, station),
+            None => {
+                work_seat(rt, shared, pass, &mut own.clerk);
+                own.stop = NodeStop::Done;
+            }
+        }
+    }
+}
+
+// Records, where there is a clerk.
+fn work_seat<H: Wait, F: Disk, E: Sink, C: Clock, G: Gate>(
+    rt: &H,
+    shared: &Shared,
+    pass: &mut Pass,
+    seat: &mut Option<Seat<F, E, C, G>>,
+)
+    requires of { IsPassOf shared.now pass.old }
+    requires ready { IfSome seat.old (IsReadySeat pass.old) }
+    ensures same { IsSamePass pass.old pass.new }
+    ensures works { ClerkWorks (SeatWorks (desk_tells F.tells E.tells C.tells G.tells))
+        pass.old seat.old pass.new seat.new }
+{
+    match seat {
+        Some(seat) => seat.work(rt, shared, pass),
+        None => {}
     }
 }
 
