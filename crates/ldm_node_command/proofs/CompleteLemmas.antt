@@ -1,5 +1,5 @@
 -- A node that nothing hinders writes its line: for `NodeCompletes`.
-use Rattle.std.proofs.Common.{◌≡◌, ◌∙◌, ◌⊎◌, ℕ, List, Option, Some, Result, Ok, Err, inl, inr, refl, ap, subst}
+use Rattle.std.proofs.Common.{◌≡◌, ◌∙◌, ◌⊎◌, ℕ, List, Option, None, Some, Result, Ok, Err, inl, inr, refl, sym, ap, subst}
 use Rattle.ldm_outside.specs.declared.fault.Failed.{Failed}
 use Rattle.ldm_outside.specs.declared.io.SinkFailed.{SinkFailed}
 use Rattle.ldm_outside.specs.declared.launcher.ChildNo.{ChildNo}
@@ -19,7 +19,7 @@ use Rattle.ldm_node.specs.declared.stop.NodeStop.{NodeStop}
 use Rattle.ldm_node.specs.declared.stop.NodeStop.TheVariants as stop
 use Rattle.ldm_node_command.specs.declared.commands.StartFault.TheVariants as start
 use Rattle.ldm_node_command.specs.declared.ending.NodeFault.{NodeFault}
-use Rattle.ldm_node_command.specs.declared.ending.NodeFault.TheVariants.{NotTaken, NotMade, NotListening, NotStarted}
+use Rattle.ldm_node_command.specs.declared.ending.NodeFault.TheVariants.{NotTaken, NotMade, NotRestored, NotListening, NotStarted}
 use Rattle.ldm_node_command.specs.declared.ending.Ran.{Ran}
 use Rattle.ldm_node_command.specs.declared.listening.ListenFault.TheVariants as listen
 use Rattle.ldm_node_command.specs.Commands.{WaitsForAll, numbers_from, with_commands}
@@ -28,7 +28,11 @@ use Rattle.ldm_node_command.specs.Ending.{NodeEnds, StaysIdle, Takes}
 use Rattle.ldm_node_command.specs.Node.{RunsNode, stat_line}
 use Rattle.ldm_node_command.specs.Outside.{Outside}
 use Rattle.ldm_node_command.specs.Setup.{Setup, passes_for}
-use Rattle.ldm_node_command.specs.Statuses.{Tells, status_behind, status_of_fault, status_of_node, status_of_queue, status_of_stop}
+use Rattle.std.specs.Option.{option_map}
+use Rattle.ldm_recorder.specs.declared.end.RecordEnd.{RecordEnd}
+use Rattle.ldm_node.specs.Clerks.{LeftRecord}
+use Rattle.ldm_node_command.proofs.Journaling.{none_left}
+use Rattle.ldm_node_command.specs.Statuses.{Tells, status_behind, status_of_fault, status_of_node, status_of_queue, status_of_recorded, status_of_stop}
 use Rattle.ldm_node_command.proofs.CommandLemmas.{faults-with_commands, faults-with_waits}
 use Rattle.ldm_node_command.proofs.ConfLemmas.{takes_none}
 
@@ -45,8 +49,8 @@ reported_code ending code old new works (reason, is_reason, inr failed) = absurd
 told_code : (ending : Status) (code : ℕ) (old new : SinkRecord) → ¬ (Rose old.faults new.faults) → (told : Option Status) → told ≡ Some ending → Tells told code old new → code ≡ code_of ending
 told_code ending code old new works told is tells = reported_code ending code old new works (subst (λ (o : Option Status). Tells o code old new) is tells)
 
-good_stop : (why : NodeStop) (behind : Status) → behind ≡ status.Done → (why ≡ stop.Done) ⊎ ((why ≡ stop.Worn) ⊎ (why ≡ stop.OutOfMemory)) → EndsWell (status_of_stop why behind)
-good_stop why behind is (inl done) = inl (ap (λ (w : NodeStop). status_of_stop w behind) done ∙ ap Some is)
+good_stop : (why : NodeStop) (behind : Option Status) → behind ≡ Some status.Done → (why ≡ stop.Done) ⊎ ((why ≡ stop.Worn) ⊎ (why ≡ stop.OutOfMemory)) → EndsWell (status_of_stop why behind)
+good_stop why behind is (inl done) = inl (ap (λ (w : NodeStop). status_of_stop w behind) done ∙ is)
 good_stop why behind is (inr (inl worn)) = inr (inr (ap (λ (w : NodeStop). status_of_stop w behind) worn))
 good_stop why behind is (inr (inr no_memory)) = inr (inl (ap (λ (w : NodeStop). status_of_stop w behind) no_memory))
 
@@ -79,20 +83,23 @@ module _ {S : Type 0} (tells : S → StationRecord) (setup : Setup) (old new : O
   idle_for : (why : NodeFault) → StaysIdle tells why setup old new → status_of_fault why ≡ status.NoMemory
   idle_for (NotTaken why) (none, leaves, same) = ap status_of_conf (takes_none why setup.path old.store new.store none free.files free.conf free.told free.reads free.store_works)
   idle_for (NotMade fault) (conf, taken, bad, leaves, same) = made_for fault conf taken bad
-  idle_for (NotListening listen.Failed) (conf, taken, good, fails, port, kept, same) = absurd (free.net_works fails.0)
-  idle_for (NotListening listen.OutOfMemory) (conf, taken, good, fails, port, kept, same) = refl
-  idle_for (NotStarted start.Failed) (conf, taken, good, listens, port, stops) =
+  idle_for (NotRestored why) (conf, taken, good, none, port, kept, same) = (let no : None ≡ Some none.journal.0 = sym free.plain ∙ none.journal.1 in absurd (cc no))
+  idle_for (NotListening listen.Failed) (conf, taken, good, fails, port, kept, same, first) = absurd (free.net_works fails.0)
+  idle_for (NotListening listen.OutOfMemory) (conf, taken, good, fails, port, kept, same, first) = refl
+  idle_for (NotStarted start.Failed) (conf, taken, good, listens, port, stops, first) =
       absurd (free.launcher_works (subst (λ (n : ℕ). Rose n new.launcher.faults) (faults-with_commands stops.started old.launcher) stops.fails.0))
-  idle_for (NotStarted start.OutOfMemory) (conf, taken, good, listens, port, stops) = refl
+  idle_for (NotStarted start.OutOfMemory) (conf, taken, good, listens, port, stops, first) = refl
 
   ran_well : (ran : Ran) (conf : ConfView) → RunsNode tells ran setup conf old new → EndsWell (status_of_node (Ok ran))
   ran_well ran conf runs =
       let started = with_commands conf.commands old.launcher in
       let launcher_works : ¬ (Rose started.faults new.launcher.faults) =
       λ rose. free.launcher_works (subst (λ (n : ℕ). Rose n new.launcher.faults) (faults-with_commands conf.commands old.launcher) rose) in
-      good_stop ran.stop (status_behind ran.waited ran.written)
-      (good_behind ran.waited ran.written (numbers_from old.launcher.next conf.commands) (stat_line setup runs.last.seen) started new.launcher old.sink new.sink launcher_works free.sink_works
-      runs.attends runs.line)
+      let none : ran.recorded ≡ None = runs.recorded ∙ ap (option_map (λ (l : LeftRecord). l.end)) (none_left setup conf runs.last free.plain runs.left runs.journal) in
+      good_stop ran.stop (status_of_recorded ran.recorded (status_behind ran.waited ran.written))
+      (ap (λ (r : Option RecordEnd). status_of_recorded r (status_behind ran.waited ran.written)) none
+      ∙ ap Some (good_behind ran.waited ran.written (numbers_from old.launcher.next conf.commands) (stat_line setup runs.last.seen) started new.launcher old.sink new.sink launcher_works free.sink_works
+      runs.attends runs.line))
       (runs.works.completes free.stations_work)
 
   ends_well : (ending : Result Ran NodeFault) → NodeEnds tells ending setup old new → EndsWell (status_of_node ending)

@@ -13,13 +13,16 @@ use Rattle.ldm_status.specs.Status.{code_of}
 use Rattle.ldm_node.specs.declared.stop.NodeStop.{NodeStop}
 use Rattle.ldm_node_command.specs.declared.commands.StartFault.TheVariants as start
 use Rattle.ldm_node_command.specs.declared.ending.NodeFault.{NodeFault}
-use Rattle.ldm_node_command.specs.declared.ending.NodeFault.TheVariants.{NotTaken, NotMade, NotListening, NotStarted}
+use Rattle.ldm_node_command.specs.declared.ending.NodeFault.TheVariants.{NotTaken, NotMade, NotRestored, NotListening, NotStarted}
 use Rattle.ldm_node_command.specs.declared.listening.ListenFault.TheVariants as listen
 use Rattle.ldm_node_command.specs.Law.{NodeWritesNothing, ObeysNodeLaw}
 use Rattle.ldm_node_command.specs.Node.{Works, stat_line}
 use Rattle.ldm_node_command.specs.Outside.{Outside}
 use Rattle.ldm_node_command.specs.Setup.{Setup}
-use Rattle.ldm_node_command.specs.Statuses.{status_of_fault}
+use Rattle.ldm_journal.specs.declared.fault.JournalFault.{JournalFault}
+use Rattle.ldm_journal.specs.declared.fault.JournalFault.TheVariants as journal
+use Rattle.ldm_node_command.specs.declared.restoring.RestoreFault.TheVariants as restoring
+use Rattle.ldm_node_command.specs.Statuses.{status_of_fault, status_of_journal}
 
 -- the numbers of a node whose line was written, whole or in part
 abbrev HasLine : ℕ → Type 0
@@ -28,6 +31,17 @@ HasLine code = (code ≡ 0) ⊎ (code ≡ 75)
 -- whether a number is none of them
 is_other : ℕ → Bool
 is_other code = if code == 0 then false else (if code == 75 then false else true)
+
+-- no fault of a journal has one of them
+journal_other : (why : JournalFault) → is_other (code_of (status_of_journal why)) ≡ true
+unfolding is_other
+journal_other journal.NotAJournal = refl
+journal_other journal.OtherRing = refl
+journal_other journal.OtherLength = refl
+journal_other journal.BadHead = refl
+journal_other journal.BadRecord = refl
+journal_other journal.DiskFault = refl
+journal_other journal.OutOfMemory = refl
 
 -- no fault has one of them
 fault_other : (why : NodeFault) → is_other (code_of (status_of_fault why)) ≡ true
@@ -39,6 +53,13 @@ fault_other (NotMade (queue.BadArena arena)) = refl
 fault_other (NotMade (queue.BadSlots slots)) = refl
 fault_other (NotMade (queue.BadPasses passes)) = refl
 fault_other (NotMade queue.OutOfMemory) = refl
+fault_other (NotRestored restoring.NoDesk) = refl
+fault_other (NotRestored restoring.OutOfMemory) = refl
+fault_other (NotRestored restoring.NotAttached) = refl
+fault_other (NotRestored (restoring.NotOpened why)) = journal_other why
+fault_other (NotRestored (restoring.NotRead why)) = journal_other why
+fault_other (NotRestored restoring.Worn) = refl
+fault_other (NotRestored restoring.AllBusy) = refl
 fault_other (NotListening listen.Failed) = refl
 fault_other (NotListening listen.OutOfMemory) = refl
 fault_other (NotStarted start.Failed) = refl

@@ -3,6 +3,8 @@ pub mod ChildLemmas
 pub mod ConfLemmas
 pub mod SharedConf
 pub mod RunLemmas
+pub mod Journaling
+pub mod Attaching
 pub mod LawLemmas
 pub mod HistoryLemmas
 pub mod CompleteLemmas

@@ -17,7 +17,8 @@ use Rattle.ldm_node.specs.declared.stop.NodeStop.{NodeStop}
 use Rattle.ldm_node.specs.Causes.{Completes, NodeCause}
 use Rattle.ldm_node.specs.Node.{Outcome, Staffs}
 use Rattle.ldm_node_command.specs.Commands.{WaitsForAll, numbers_from, with_commands}
-use Rattle.ldm_node_command.specs.Listening.{Listens}
+use Rattle.ldm_node_command.specs.declared.listening.ListenFault.{ListenFault}
+use Rattle.ldm_node_command.specs.Listening.{FailsToListen, Listens}
 use Rattle.ldm_node_command.specs.Node.{Attends, IsMade, Works, plan_for}
 use Rattle.ldm_node_command.specs.Setup.{Setup}
 
@@ -47,6 +48,16 @@ works tells setup conf shared made given left is_last lawful worked causes compl
   causes = causes;
   completes = completes;
 }
+
+-- a net gave no stations, and did nothing before and after
+pub fails_between : (why : ListenFault) (old before after new : DialRecord) → before ≡ old → new ≡ after → FailsToListen why before after → FailsToListen why old new
+fails_between why old before after new first last fails =
+    subst (λ (d : DialRecord). FailsToListen why old d) (sym last) (subst (λ (d : DialRecord). FailsToListen why d after) first fails)
+
+-- it gave stations, behind another moment
+pub listens_behind : {S : Type 0} (tells : S → StationRecord) (setup : Setup) (conf : ConfView) (given : List S) (old before new : DialRecord) → before ≡ old
+    → Listens tells setup conf given before new → Listens tells setup conf given old new
+listens_behind tells setup conf given old before new first listens = subst (λ (d : DialRecord). Listens tells setup conf given d new) first listens
 
 -- stations that the net gave, and the outside behind them
 pub listened : {S : Type 0} (tells : S → StationRecord) (setup : Setup) (conf : ConfView) (given kept : List S) (old mid new : DialRecord) → kept ≡ given → new ≡ mid

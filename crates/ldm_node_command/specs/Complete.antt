@@ -1,5 +1,5 @@
 -- When a node is run to its end, and its line is written.
-use Rattle.std.specs.Prelude.{◌≡◌, ◌⊎◌, ℕ, List, map, Some}
+use Rattle.std.specs.Prelude.{◌≡◌, ◌⊎◌, ℕ, List, map, None, Some}
 use Rattle.std.specs.List.{All}
 use Rattle.ldm_outside.specs.Count.{Rose}
 use Rattle.ldm_outside.specs.Station.{StationRecord}
@@ -19,6 +19,8 @@ module _ {S : Type 0} (tells : S → StationRecord) where
     pub conf : ConfView
     pub reads : FileReadsTo old.store setup.path (Read conf)
     pub good : IsGoodSize setup conf
+    -- it keeps no journal
+    pub plain : setup.journal ≡ None
     pub store_works : ¬ (Rose old.store.faults new.store.faults)
     pub launcher_works : ¬ (Rose old.launcher.faults new.launcher.faults)
     pub net_works : ¬ (Rose old.net.faults new.net.faults)

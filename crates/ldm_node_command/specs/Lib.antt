@@ -1,6 +1,8 @@
 pub mod Setup
 pub mod Outside
 pub mod Steps
+pub mod Restoring
+pub mod Putting
 pub mod Listening
 pub mod Commands
 pub mod Node

@@ -1,5 +1,6 @@
 -- A node that was run, between its configuration and the last line.
-use Rattle.std.specs.Prelude.{◌≡◌, ℕ, List, map, Some, Result}
+use Rattle.std.specs.Prelude.{◌≡◌, ℕ, ◌-◌, List, map, Option, Some, IfSome, Result}
+use Rattle.std.specs.Option.{option_map}
 use Rattle.ldm_outside.specs.declared.fault.Failed.{Failed}
 use Rattle.ldm_outside.specs.Io.{WritesAll}
 use Rattle.ldm_outside.specs.Launcher.{LauncherRecord}
@@ -9,15 +10,17 @@ use Rattle.ldm_model.specs.History.{after}
 use Rattle.ldm_model.specs.Stat.{stat as stat_of}
 use Rattle.ldm_calls.specs.Lawful.{IsLawful}
 use Rattle.ldm_script.specs.Answer.{answer_line}
-use Rattle.ldm_shared.specs.Passes.{IsLast, PassView, SharedView}
+use Rattle.ldm_shared.specs.Passes.{IsLast, PassView, SharedView, new_pass}
 use Rattle.ldm_conf.specs.Confs.{ConfView}
 use Rattle.ldm_node.specs.Causes.{Completes, NodeCause}
+use Rattle.ldm_node.specs.Clerks.{ClerkRecord, LeavesBehind, LeftRecord, RecordCause}
 use Rattle.ldm_node.specs.Node.{Outcome, Staffs}
 use Rattle.ldm_node.specs.Roles.{Plan, plan_of}
 use Rattle.ldm_node_command.specs.declared.ending.Ran.{Ran}
 use Rattle.ldm_node_command.specs.Commands.{WaitsForAll, numbers_from, with_commands}
 use Rattle.ldm_node_command.specs.Listening.{Listens}
 use Rattle.ldm_node_command.specs.Outside.{Outside}
+use Rattle.ldm_node_command.specs.Restoring.{Restored}
 use Rattle.ldm_node_command.specs.Setup.{Setup, IsGoodSize, passes_for}
 
 -- what the node is told
@@ -37,6 +40,17 @@ pub record IsMade (setup : Setup) (conf : ConfView) (shared : SharedView) : Type
 -- The commands were started, all of them, and then waited for in order.
 abbrev pub Attends : Result (Unit {0}) Failed → ConfView → LauncherRecord → LauncherRecord → Type 0
 Attends waited conf old new = WaitsForAll waited (numbers_from old.next conf.commands) (with_commands conf.commands old) new
+
+-- The journal of a node's queue: what it kept was put back with the pass that no worker of a station has, and then what was inserted was
+-- recorded with it. Without a journal nobody made a call with that pass.
+pub record Journals (setup : Setup) (conf : ConfView) (last : PassView) (left : Option LeftRecord) : Type 0 where
+  pub shared : SharedView
+  pub made : IsMade setup conf shared
+  pub pass : PassView
+  pub clerk : Option ClerkRecord
+  pub restored : Restored setup (new_pass shared (shared.passes - 1)) pass clerk
+  pub recorded : LeavesBehind last pass clerk left
+  pub causes : IfSome left (λ (l : LeftRecord). RecordCause l.end l.desk last)
 
 module _ {S : Type 0} (tells : S → StationRecord) where
   -- The node worked at these stations, on a queue of those sizes, and left this. What the last pass has seen is the history of the queue.
@@ -60,6 +74,11 @@ module _ {S : Type 0} (tells : S → StationRecord) where
     -- the programs were started, the workers worked until all had stopped, and the net keeps the stations as they left them
     pub last : PassView
     pub works : Works setup conf given (record { pass = last; stations = new.kept; end = ran.stop })
+    -- what its journal kept had been put back before the net was asked, its queue was recorded to the end, and the net keeps the desk
+    pub left : Option LeftRecord
+    pub journal : Journals setup conf last left
+    pub recorded : ran.recorded ≡ option_map (λ (l : LeftRecord). l.end) left
+    pub desk : IfSome left (λ (l : LeftRecord). new.desk ≡ Some l.desk)
     -- the programs were waited for
     pub attends : Attends ran.waited conf old.launcher new.launcher
     -- the line of the queue was written

@@ -1,6 +1,7 @@
 -- What the command `node` uses of the outside.
 use Rattle.std.specs.Prelude.{◌≡◌, ◌≤◌, ◌⊎◌, ℕ, List, Option}
 use Rattle.std.specs.List.{All}
+use Rattle.ldm_disk.specs.Desks.{DeskRecord}
 use Rattle.ldm_outside.specs.Dial.{DialRecord}
 use Rattle.ldm_outside.specs.Io.{SinkRecord}
 use Rattle.ldm_outside.specs.Launcher.{LauncherRecord}
@@ -18,11 +19,13 @@ pub record Outside (S : Type 0) : Type 0 where
   pub kept : List S
   -- the port that the net was asked for last
   pub port : Option ℕ
+  -- the desk that the net keeps
+  pub desk : Option DeskRecord
 
--- what it uses, by what its parts tell, and of the net also the stations that it keeps and the port
-abbrev pub outside_of : {S : Type 0} → SinkRecord → SinkRecord → StoreRecord → LauncherRecord → DialRecord → List S → Option ℕ → Outside S
-outside_of sink log store launcher net kept port =
-    record { sink = sink; log = log; store = store; launcher = launcher; net = net; kept = kept; port = port }
+-- what it uses, by what its parts tell, and of the net also the stations that it keeps, the port and the desk
+abbrev pub outside_of : {S : Type 0} → SinkRecord → SinkRecord → StoreRecord → LauncherRecord → DialRecord → List S → Option ℕ → Option DeskRecord → Outside S
+outside_of sink log store launcher net kept port desk =
+    record { sink = sink; log = log; store = store; launcher = launcher; net = net; kept = kept; port = port; desk = desk }
 
 -- No count fell.
 pub record KeepsFaults {S : Type 0} (old new : Outside S) : Type 0 where
@@ -38,6 +41,7 @@ pub record LeavesNet {S : Type 0} (old new : Outside S) : Type 0 where
   pub net : new.net ≡ old.net
   pub kept : new.kept ≡ old.kept
   pub port : new.port ≡ old.port
+  pub desk : new.desk ≡ old.desk
 
 -- No worker of a node worked: nothing was written to the sink, and the net keeps what it kept, or stations that are new.
 pub record IsIdle {S : Type 0} (tells : S → StationRecord) (idles : Option ℕ) (old new : Outside S) : Type 0 where

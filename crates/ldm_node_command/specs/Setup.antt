@@ -1,5 +1,6 @@
 -- What a node is set up with.
 use Rattle.std.specs.Prelude.{ℕ, ◌+◌, List, length, min, Option}
+use Rattle.std.specs.Option.{option_copied}
 use Rattle.ldm_conf.specs.Confs.{ConfView}
 use Rattle.ldm_book.specs.Limits.{IsGoodArena, IsGoodSlots}
 use Rattle.ldm_shared.specs.Limits.{IsGoodPasses}
@@ -20,6 +21,8 @@ pub record Setup : Type 0 where
   pub idles : Option ℕ
   -- the path of its configuration
   pub path : List ℕ
+  -- the path of the journal of its queue, if it keeps one
+  pub journal : Option (List ℕ)
 
 abbrev pub setup_of : NodeSetup → Setup
 setup_of setup = record {
@@ -30,6 +33,7 @@ setup_of setup = record {
   sessions = setup.options.sessions;
   idles = setup.options.idles;
   path = setup.conf.now;
+  journal = option_copied setup.journal;
 }
 
 -- how many passes the queue is made with: one for each worker that lets peers in, one for each request, and one for the last look at it

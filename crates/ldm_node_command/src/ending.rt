@@ -2,9 +2,11 @@
 
 use crate::commands::StartFault;
 use crate::listening::ListenFault;
+use crate::restoring::RestoreFault;
 use ldm_command_files::ConfNotTaken;
 use ldm_node::NodeStop;
 use ldm_outside::{Failed, SinkFailed};
+use ldm_recorder::RecordEnd;
 use ldm_shared::CreateFault;
 
 /// Why a node was not run.
@@ -14,6 +16,8 @@ pub enum NodeFault {
     NotTaken(ConfNotTaken),
     /// No queue was made.
     NotMade(CreateFault),
+    /// What the journal of the queue kept was not put back.
+    NotRestored(RestoreFault),
     /// The net gave no stations.
     NotListening(ListenFault),
     /// The commands were not all started.
@@ -25,6 +29,8 @@ pub enum NodeFault {
 pub struct Ran {
     /// Why it stopped.
     pub stop: NodeStop,
+    /// How recording ended, where it kept a journal.
+    pub recorded: Option<RecordEnd>,
     /// Whether each command was waited for.
     pub waited: Result<(), Failed>,
     /// Whether the line of the queue was written whole.
@@ -50,6 +56,17 @@ impl From<CreateFault> for NodeFault {
 
     fn from(why: CreateFault) -> NodeFault {
         NodeFault::NotMade(why)
+    }
+}
+
+impl From<RestoreFault> for NodeFault {
+    ghost use Rattle.std.specs.Prelude.{◌≡◌};
+    ghost use Rattle.ldm_node_command.specs.declared.ending.NodeFault.TheVariants as fault;
+
+    ghost from_gives = { λ why made. made ≡ fault.NotRestored why };
+
+    fn from(why: RestoreFault) -> NodeFault {
+        NodeFault::NotRestored(why)
     }
 }
 

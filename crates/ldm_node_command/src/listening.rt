@@ -31,7 +31,7 @@ pub(crate) fn listen<N: Net>(
     ListenFault,
 >
     requires few { setup.now.options.workers + length conf.now.requests.items < 2 ^ 32 }
-    requires before { steps.old ≡ Some step.Queue }
+    requires before { steps.old ≡ Some step.Restoring }
     ensures listens { IfOk result (λ stations.
         Listens
         (station_tells N.StationDoor.tells N.StationDial.tells N.StationLog.tells N.StationClock.tells

@@ -17,13 +17,15 @@ pub enum Step {
     Configuration,
     /// The queue is made.
     Queue,
+    /// What the journal of the queue kept is put back, where there is one.
+    Restoring,
     /// The net is asked for a station for each worker, whose doors listen.
     Listening,
     /// The programs of the configuration are started.
     Programs,
     /// The workers work until all have stopped.
     Workers,
-    /// The net keeps the stations.
+    /// The net keeps the stations, and the desk of the journal.
     Keeping,
     /// The programs are waited for.
     Waiting,

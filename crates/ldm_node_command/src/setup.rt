@@ -15,4 +15,8 @@ pub struct NodeSetup<'a> {
     pub key: u64,
     /// The path of its configuration.
     pub conf: &'a str,
+    /// The path of the journal of its queue, if it keeps one.
+    pub journal: Option<&'a str>,
+    /// Whether its gates may stop with the input of the program. No clause speaks of it.
+    pub ends_with_input: bool,
 }

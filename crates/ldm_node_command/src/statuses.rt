@@ -2,16 +2,27 @@
 ghost use Rattle.std.specs.Prelude.{◌≡◌, ◌≤◌};
 ghost use Rattle.ldm_outside.specs.Reason.{IsReason};
 ghost use Rattle.ldm_node_command.specs.Statuses.{Tells, status_behind, status_of_fault};
-ghost use Rattle.ldm_node_command.specs.Statuses.{status_of_node, status_of_queue};
+ghost use Rattle.ldm_node_command.specs.Statuses.{status_of_journal, status_of_node, status_of_queue};
+ghost use Rattle.ldm_node_command.specs.Statuses.{status_of_recording, status_of_restoring};
 
 use crate::commands::StartFault;
 use crate::ending::{NodeFault, Ran};
 use crate::listening::ListenFault;
+use crate::restoring::RestoreFault;
 use ldm_command_files::status_of_conf;
+use ldm_journal::JournalFault;
 use ldm_node::NodeStop;
 use ldm_outside::{Failed, Sink, SinkFailed};
+use ldm_recorder::RecordEnd;
 use ldm_shared::CreateFault;
 use ldm_status::{LOG_FAULT, Status};
+
+// Where the size of the ring, the heads and the records begin in the file of a journal.
+const RING_SIZE: u64 = 16;
+
+const HEADS: u64 = 24;
+
+const RECORDS: u64 = 80;
 
 /// Writes the line of an ending to the log, for the reason that the configuration, the store, the net or the launcher
 /// gives, and answers the number that the program ends with. Where the log of a worker failed there is no line, and the
@@ -49,11 +60,32 @@ fn status_of(ending: Result<Ran, NodeFault>) -> Option<Status>
         Err(why) => return Some(status_of_fault(why)),
     };
     match ran.stop {
-        NodeStop::Done => Some(status_behind(ran.waited, ran.written)),
+        NodeStop::Done => {
+            let behind = status_behind(ran.waited, ran.written);
+            match ran.recorded {
+                Some(why) => status_of_recording(why, behind),
+                None => Some(behind),
+            }
+        }
         NodeStop::NetFault => Some(Status::NetFault),
         NodeStop::LogFault => None,
         NodeStop::Worn => Some(Status::Worn),
         NodeStop::OutOfMemory => Some(Status::NoMemory),
+    }
+}
+
+// The status of a node whose workers were done, by how recording ended, or the one behind it. Where the log failed
+// there is none.
+fn status_of_recording(why: RecordEnd, behind: Status) -> Option<Status>
+    ensures { result ≡ status_of_recording why behind }
+{
+    match why {
+        RecordEnd::Stopped { .. } => Some(behind),
+        RecordEnd::DiskFault => Some(Status::StoreFault),
+        RecordEnd::NotAJournal | RecordEnd::NoNumbers => Some(Status::BadImage { at: RECORDS }),
+        RecordEnd::LogFault => None,
+        RecordEnd::Worn => Some(Status::Worn),
+        RecordEnd::OutOfMemory => Some(Status::NoMemory),
     }
 }
 
@@ -75,10 +107,39 @@ fn status_of_fault(why: NodeFault) -> Status
     match why {
         NodeFault::NotTaken(why) => status_of_conf(why),
         NodeFault::NotMade(fault) => status_of_queue(fault),
+        NodeFault::NotRestored(why) => status_of_restoring(why),
         NodeFault::NotListening(ListenFault::Failed) => Status::NetFault,
         NodeFault::NotListening(ListenFault::OutOfMemory) => Status::NoMemory,
         NodeFault::NotStarted(StartFault::Failed) => Status::ChildFault,
         NodeFault::NotStarted(StartFault::OutOfMemory) => Status::NoMemory,
+    }
+}
+
+// The status where what the journal kept was not put back.
+fn status_of_restoring(why: RestoreFault) -> Status
+    ensures { result ≡ status_of_restoring why }
+{
+    match why {
+        RestoreFault::NoDesk => Status::NetFault,
+        RestoreFault::NotAttached => Status::StoreFault,
+        RestoreFault::NotOpened(why) | RestoreFault::NotRead(why) => status_of_journal(why),
+        RestoreFault::Worn => Status::Worn,
+        RestoreFault::OutOfMemory | RestoreFault::AllBusy => Status::NoMemory,
+    }
+}
+
+// The status where a file is no journal, with the byte at which it shows.
+fn status_of_journal(why: JournalFault) -> Status
+    ensures { result ≡ status_of_journal why }
+{
+    match why {
+        JournalFault::NotAJournal => Status::BadImage { at: 0 },
+        JournalFault::OtherRing => Status::BadImage { at: RING_SIZE },
+        JournalFault::OtherLength => Status::Unclean,
+        JournalFault::BadHead => Status::BadImage { at: HEADS },
+        JournalFault::BadRecord => Status::BadImage { at: RECORDS },
+        JournalFault::DiskFault => Status::StoreFault,
+        JournalFault::OutOfMemory => Status::NoMemory,
     }
 }
 

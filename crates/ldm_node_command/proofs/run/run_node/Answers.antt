@@ -1,3 +1,5 @@
+use Rattle.std.specs.Option.{option_map}
+use Rattle.ldm_disk.specs.Desks.{desk_tells}
 use Rattle.ldm_outside.specs.declared.net.Station.{Station}
 use Rattle.ldm_outside.specs.Station.{station_tells}
 use Rattle.ldm_node_command.specs.Outside.{Outside, outside_of}
@@ -12,13 +14,14 @@ returns g c =
     let S = Station g.row.N-StationDoor.Denot g.row.N-StationDial.Denot g.row.N-StationLog.Denot g.row.N-StationClock.Denot g.row.N-StationGate.Denot in
     let tells =
     station_tells g.N.StationDoor.Door.tells g.N.StationDial.Dial.tells g.N.StationLog.Sink.tells g.N.StationClock.Clock.tells g.N.StationGate.Gate.tells in
+    let desks = desk_tells g.N.DeskDisk.Disk.tells g.N.StationLog.Sink.tells g.N.StationClock.Clock.tells g.N.StationGate.Gate.tells in
     let at = c.args in
     let left = c.run_steps-ending.new in
     let setup = setup_of at.setup.now in
     let old : Outside S = outside_of (g.K.Sink.tells at.sink.now) (g.E.Sink.tells at.log.now) (g.F.Store.tells at.store.now) (g.L.Launcher.tells at.launcher.now)
-    (g.N.Dial.tells at.net.now) (g.N.Net.kept at.net.now) (g.N.Net.port_asked at.net.now) in
+    (g.N.Dial.tells at.net.now) (g.N.Net.kept at.net.now) (g.N.Net.port_asked at.net.now) (option_map desks (g.N.Desks.kept_desk at.net.now)) in
     let new : Outside S = outside_of (g.K.Sink.tells left.sink) (g.E.Sink.tells c.report.new.log) (g.F.Store.tells left.store) (g.L.Launcher.tells left.launcher)
-    (g.N.Dial.tells left.net) (g.N.Net.kept left.net) (g.N.Net.port_asked left.net) in
+    (g.N.Dial.tells left.net) (g.N.Net.kept left.net) (g.N.Net.port_asked left.net) (option_map desks (g.N.Desks.kept_desk left.net)) in
     let ending = c.run_steps-ending.result in
     let said = c.run_steps-ending.ensures in
     let ends = said.ends old.log new.log in
