@@ -8,7 +8,7 @@ use Rattle.ldm_node_command.specs.Outside as node_command
 use Rattle.ldm_node_command.specs.Setup.{Setup}
 use Rattle.ldm_watch.specs.Notifyme.{Wanted}
 use Rattle.ldm_gather.specs.Orders.{OrderView}
-use Rattle.ldm_pqact_command.specs.PqactRuns.{PqactLent, pqact_lent}
+use Rattle.ldm_pqact_command.specs.PqactRuns.{ActPaths, PqactLent, pqact_lent}
 use Rattle.ldm_gather.specs.Cats.{CatLent, cat_lent}
 use Rattle.ldm_tools.specs.Inserting.{Inserting}
 use Rattle.ldm_tools.specs.Inserts.{InsertRecord}
@@ -80,6 +80,9 @@ abbrev pub order_by : ActForm → OrderView
 order_by act =
     record { peer = asked_of act.peer; class = act.class; last = None; count = act.count; arena = act.arena; slots = act.slots }
 
+abbrev pub paths_in : ActForm → ActPaths
+paths_in act = record { conf = act.conf; state = act.state }
+
 abbrev pub order_of : CatForm → OrderView
 order_of cat =
     record { peer = asked_of cat.peer; class = cat.class; last = None; count = cat.count; arena = cat.arena; slots = cat.slots }
@@ -93,6 +96,7 @@ setup_of node = record {
   sessions = node.sessions;
   idles = node.idles;
   path = node.conf;
+  journal = node.journal;
 }
 
 -- ---- what it is lent
@@ -144,4 +148,5 @@ module _ {K F L T : Type 0} (tells : Tells K F L T) where
     net = world.net;
     kept = world.kept;
     port = world.port;
+    desk = world.desk;
   }

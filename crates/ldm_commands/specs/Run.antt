@@ -25,7 +25,7 @@ use Rattle.ldm_wmo.specs.Ingests.{Ingests}
 use Rattle.ldm_commands.specs.Command.{Form, has_options, take_memory}
 use Rattle.ldm_commands.specs.Command as form
 use Rattle.ldm_commands.specs.Lent.{IsAskedFor, act_of, asked_of, cat_of, chain_of, check_of, every_of, files_of, ingest_of, ingesting_of, insert_of, inserting_of, mon_of, node_of}
-use Rattle.ldm_commands.specs.Lent.{order_by, order_of, saving_of, setup_of, size_of, stats_of, wanted_of, work_of}
+use Rattle.ldm_commands.specs.Lent.{order_by, order_of, paths_in, saving_of, setup_of, size_of, stats_of, wanted_of, work_of}
 use Rattle.ldm_commands.specs.World.{OnlyStreams, Tells, WorldView, streams_of, with_act, with_cat, with_chain, with_check, with_files, with_ingest, with_net, with_node, with_put, with_saving}
 
 -- Words that are no form of a command were reported, with a reason or without one.
@@ -65,7 +65,7 @@ module _ {K F L T : Type 0} (tells : Tells K F L T) where
       NodeRuns tells.station (setup_of node) code (node_of tells old) (node_of tells new)
       × TellsCommands tells.station (setup_of node) code (node_of tells old) (node_of tells new) × (new ≡ with_node new old)
   Does (form.Pqact act) code old new =
-      Pqacts tells.store tells.launcher code (order_by act) act.conf (act_of old) (act_of new) × (new ≡ with_act new old)
+      Pqacts tells.store tells.launcher code (order_by act) (paths_in act) (act_of old) (act_of new) × (new ≡ with_act new old)
   Does (form.Pqinsert insert) code old new = Inserts code (inserting_of insert) (insert_of tells old) (insert_of tells new) × (new ≡ with_put new old)
   Does (form.Pqcat cat) code old new =
       Cats tells.sink code (order_of cat) (cat_of old) (cat_of new) × (new ≡ with_cat new old)

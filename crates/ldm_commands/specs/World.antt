@@ -1,5 +1,8 @@
 -- What contracts see of the world of the program.
 use Rattle.std.specs.Prelude.{◌≡◌, ◌≤◌, ℕ, List, Option}
+use Rattle.std.specs.Option.{option_map}
+use Rattle.ldm_disk.specs.declared.desk.Desk.{Desk}
+use Rattle.ldm_disk.specs.Desks.{DeskRecord}
 use Rattle.ldm_disk.specs.Told.{DiskRecord}
 use Rattle.ldm_outside.specs.Clock.{ClockRecord}
 use Rattle.ldm_outside.specs.Dial.{DialRecord}
@@ -23,11 +26,17 @@ pub record WorldView (K F L T : Type 0) : Type 0 where
   pub kept : List T
   -- the port that the net was asked for last
   pub port : Option ℕ
+  -- the desk that the net keeps
+  pub desk : Option DeskRecord
   pub disk : DiskRecord
 
+-- what the desk tells that a net keeps
+abbrev pub kept_desk_of : {N F E C G : Type 0} → (N → Option (Desk F E C G)) → (Desk F E C G → DeskRecord) → N → Option DeskRecord
+kept_desk_of kept tells net = option_map tells (kept net)
+
 abbrev pub world_view : {S K E C F L N D T : Type 0} → (S → SourceRecord) → (E → SinkRecord) → (C → ClockRecord) → (N → DialRecord) → (N → List T)
-    → (N → Option ℕ) → (D → DiskRecord) → World S K E C F L N D → WorldView K F L T
-world_view source log clock net kept port disk world = record {
+    → (N → Option ℕ) → (N → Option DeskRecord) → (D → DiskRecord) → World S K E C F L N D → WorldView K F L T
+world_view source log clock net kept port desk disk world = record {
   source = source world.streams.source;
   sink = world.streams.sink;
   log = log world.streams.log;
@@ -37,6 +46,7 @@ world_view source log clock net kept port disk world = record {
   net = net world.net;
   kept = kept world.net;
   port = port world.net;
+  desk = desk world.net;
   disk = disk world.disk;
 }
 
@@ -58,6 +68,7 @@ pub record OnlyStreams {K F L T : Type 0} (old new : WorldView K F L T) : Type 0
   pub net : new.net ≡ old.net
   pub kept : new.kept ≡ old.kept
   pub port : new.port ≡ old.port
+  pub desk : new.desk ≡ old.desk
   pub disk : new.disk ≡ old.disk
 
 -- ---- a world of which some parts are those of another: what a command leaves that is lent just these
@@ -69,7 +80,7 @@ module _ {K F L T : Type 0} where
 
   -- these and the net
   abbrev pub with_net : WorldView K F L T → WorldView K F L T → WorldView K F L T
-  with_net other world = record (with_sinks other world) { net = other.net; kept = other.kept; port = other.port }
+  with_net other world = record (with_sinks other world) { net = other.net; kept = other.kept; port = other.port; desk = other.desk }
 
   -- these and the clock
   abbrev pub with_cat : WorldView K F L T → WorldView K F L T → WorldView K F L T
@@ -106,6 +117,7 @@ module _ {K F L T : Type 0} where
     net = other.net;
     kept = other.kept;
     port = other.port;
+    desk = other.desk;
     clock = other.clock;
     store = other.store;
     launcher = other.launcher;

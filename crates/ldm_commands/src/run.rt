@@ -7,7 +7,8 @@ ghost use Rattle.ldm_commands.specs.Doing.{Done};
 ghost use Rattle.ldm_commands.specs.Law.{RunObeysLaw};
 ghost use Rattle.ldm_commands.specs.Run.{RunEnds};
 ghost use Rattle.ldm_commands.specs.Views.{IsWithin, form_of};
-ghost use Rattle.ldm_commands.specs.World.{KeepsAllFaults, tells_of, world_view};
+ghost use Rattle.ldm_commands.specs.World.{KeepsAllFaults, kept_desk_of, tells_of, world_view};
+ghost use Rattle.ldm_disk.specs.Desks.{desk_tells};
 
 use crate::chain::feed_chain;
 use crate::command::{Command, read_command};
@@ -21,9 +22,9 @@ use crate::tools::{
 use crate::usage::report_usage;
 use crate::world::World;
 use ldm_crowd::crowd;
-use ldm_disk::Disk;
+use ldm_disk::{Desks, Disk};
 use ldm_exercise::exercise;
-use ldm_outside::{Dial, Door, Launcher, Net, Reasons, Rests, Sink, Source, Store};
+use ldm_outside::{Dial, Door, Launcher, Reasons, Rests, Sink, Source, Store};
 use ldm_play::play;
 use ldm_status::Status;
 use ldm_words::WordsFault;
@@ -46,7 +47,7 @@ pub fn run_ldm<
     C: Rests,
     F: Store + Reasons,
     L: Launcher + Reasons,
-    N: Net + Reasons,
+    N: Desks + Reasons,
     D: Disk,
 >(rt: &H, alloc: Global, words: &[String], world: &mut World<S, K, E, C, F, L, N, D>) -> u8
 where
@@ -57,25 +58,41 @@ where
         (station_tells N.StationDoor.tells N.StationDial.tells N.StationLog.tells N.StationClock.tells
         N.StationGate.tells) in
         RunEnds tells (command_of (map string_bytes words.now)) (map string_bytes words.now) result
-        (world_view S.tells E.tells C.tells N.tells N.kept N.port_asked D.tells world.old)
-        (world_view S.tells E.tells C.tells N.tells N.kept N.port_asked D.tells world.new) }
+        (world_view S.tells E.tells C.tells N.tells N.kept N.port_asked
+        (kept_desk_of N.kept_desk
+        (desk_tells N.DeskDisk.tells N.StationLog.tells N.StationClock.tells N.StationGate.tells)) D.tells world.old)
+        (world_view S.tells E.tells C.tells N.tells N.kept N.port_asked
+        (kept_desk_of N.kept_desk
+        (desk_tells N.DeskDisk.tells N.StationLog.tells N.StationClock.tells N.StationGate.tells)) D.tells world.new) }
     ensures law { let tells = tells_of K.tells F.tells L.tells
         (station_tells N.StationDoor.tells N.StationDial.tells N.StationLog.tells N.StationClock.tells
         N.StationGate.tells) in
         RunObeysLaw tells (command_of (map string_bytes words.now)) (take_memory (map string_bytes words.now)) result
-        (world_view S.tells E.tells C.tells N.tells N.kept N.port_asked D.tells world.old)
-        (world_view S.tells E.tells C.tells N.tells N.kept N.port_asked D.tells world.new) }
+        (world_view S.tells E.tells C.tells N.tells N.kept N.port_asked
+        (kept_desk_of N.kept_desk
+        (desk_tells N.DeskDisk.tells N.StationLog.tells N.StationClock.tells N.StationGate.tells)) D.tells world.old)
+        (world_view S.tells E.tells C.tells N.tells N.kept N.port_asked
+        (kept_desk_of N.kept_desk
+        (desk_tells N.DeskDisk.tells N.StationLog.tells N.StationClock.tells N.StationGate.tells)) D.tells world.new) }
     ensures completes { let tells = tells_of K.tells F.tells L.tells
         (station_tells N.StationDoor.tells N.StationDial.tells N.StationLog.tells N.StationClock.tells
         N.StationGate.tells) in
         RunCompletes tells (command_of (map string_bytes words.now)) result
-        (world_view S.tells E.tells C.tells N.tells N.kept N.port_asked D.tells world.old)
-        (world_view S.tells E.tells C.tells N.tells N.kept N.port_asked D.tells world.new) }
+        (world_view S.tells E.tells C.tells N.tells N.kept N.port_asked
+        (kept_desk_of N.kept_desk
+        (desk_tells N.DeskDisk.tells N.StationLog.tells N.StationClock.tells N.StationGate.tells)) D.tells world.old)
+        (world_view S.tells E.tells C.tells N.tells N.kept N.port_asked
+        (kept_desk_of N.kept_desk
+        (desk_tells N.DeskDisk.tells N.StationLog.tells N.StationClock.tells N.StationGate.tells)) D.tells world.new) }
     ensures faults_kept { let tells = tells_of K.tells F.tells L.tells
         (station_tells N.StationDoor.tells N.StationDial.tells N.StationLog.tells N.StationClock.tells
         N.StationGate.tells) in
-        KeepsAllFaults tells (world_view S.tells E.tells C.tells N.tells N.kept N.port_asked D.tells world.old)
-        (world_view S.tells E.tells C.tells N.tells N.kept N.port_asked D.tells world.new) }
+        KeepsAllFaults tells (world_view S.tells E.tells C.tells N.tells N.kept N.port_asked
+        (kept_desk_of N.kept_desk
+        (desk_tells N.DeskDisk.tells N.StationLog.tells N.StationClock.tells N.StationGate.tells)) D.tells world.old)
+        (world_view S.tells E.tells C.tells N.tells N.kept N.port_asked
+        (kept_desk_of N.kept_desk
+        (desk_tells N.DeskDisk.tells N.StationLog.tells N.StationClock.tells N.StationGate.tells)) D.tells world.new) }
 {
     match read_command(alloc, words) {
         Ok(command) => run(rt, alloc, command, world),
@@ -94,7 +111,7 @@ fn run<
     C: Rests,
     F: Store + Reasons,
     L: Launcher + Reasons,
-    N: Net + Reasons,
+    N: Desks + Reasons,
     D: Disk,
 >(rt: &H, alloc: Global, command: Command<'_>, world: &mut World<S, K, E, C, F, L, N, D>) -> u8
 where
@@ -106,8 +123,12 @@ where
         (station_tells N.StationDoor.tells N.StationDial.tells N.StationLog.tells N.StationClock.tells
         N.StationGate.tells) in
         Done tells (form_of command.entry) result
-        (world_view S.tells E.tells C.tells N.tells N.kept N.port_asked D.tells world.old)
-        (world_view S.tells E.tells C.tells N.tells N.kept N.port_asked D.tells world.new) }
+        (world_view S.tells E.tells C.tells N.tells N.kept N.port_asked
+        (kept_desk_of N.kept_desk
+        (desk_tells N.DeskDisk.tells N.StationLog.tells N.StationClock.tells N.StationGate.tells)) D.tells world.old)
+        (world_view S.tells E.tells C.tells N.tells N.kept N.port_asked
+        (kept_desk_of N.kept_desk
+        (desk_tells N.DeskDisk.tells N.StationLog.tells N.StationClock.tells N.StationGate.tells)) D.tells world.new) }
 {
     match command {
         Command::Play { arena, slots } => play(alloc, arena, slots, &mut world.streams),

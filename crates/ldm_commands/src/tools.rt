@@ -6,12 +6,13 @@ ghost use Rattle.ldm_words.specs.Views.{stats_view, wmo_view};
 ghost use Rattle.ldm_commands.specs.Command as form;
 ghost use Rattle.ldm_commands.specs.Doing.{Done};
 ghost use Rattle.ldm_commands.specs.Lent.{form_of};
-ghost use Rattle.ldm_commands.specs.World.{tells_of, world_view};
+ghost use Rattle.ldm_commands.specs.World.{kept_desk_of, tells_of, world_view};
+ghost use Rattle.ldm_disk.specs.Desks.{desk_tells};
 
 use crate::world::World;
-use ldm_disk::Disk;
+use ldm_disk::{Desks, Disk};
 use ldm_gather::{Order, cat_products};
-use ldm_outside::{Clock, Launcher, Net, Reasons, Rests, Sink, Source, Store};
+use ldm_outside::{Clock, Launcher, Reasons, Rests, Sink, Source, Store};
 use ldm_pqact_command::ActOrder;
 use ldm_pqstats::{StatsAsked, pqstats};
 use ldm_tools::{Insertion, pqinsert, pqmon, pqmon_every};
@@ -30,7 +31,7 @@ pub(crate) fn tell_figures<
     C: Rests,
     F: Store,
     L: Launcher,
-    N: Net + Reasons,
+    N: Desks + Reasons,
     D: Disk,
 >(alloc: Global, words: &MonWords, world: &mut World<S, K, E, C, F, L, N, D>) -> u8
     requires { (N.tells world.old.net).links.out ≡ false }
@@ -38,8 +39,12 @@ pub(crate) fn tell_figures<
         (station_tells N.StationDoor.tells N.StationDial.tells N.StationLog.tells N.StationClock.tells
         N.StationGate.tells) in
         Done tells (form.Pqmon (mon_view words.now)) result
-        (world_view S.tells E.tells C.tells N.tells N.kept N.port_asked D.tells world.old)
-        (world_view S.tells E.tells C.tells N.tells N.kept N.port_asked D.tells world.new) }
+        (world_view S.tells E.tells C.tells N.tells N.kept N.port_asked
+        (kept_desk_of N.kept_desk
+        (desk_tells N.DeskDisk.tells N.StationLog.tells N.StationClock.tells N.StationGate.tells)) D.tells world.old)
+        (world_view S.tells E.tells C.tells N.tells N.kept N.port_asked
+        (kept_desk_of N.kept_desk
+        (desk_tells N.DeskDisk.tells N.StationLog.tells N.StationClock.tells N.StationGate.tells)) D.tells world.new) }
 {
     let peer = &words.peer;
     match words.every {
@@ -74,7 +79,7 @@ pub(crate) fn act_on_products<
     C: Clock,
     F: Store + Reasons,
     L: Launcher + Reasons,
-    N: Net + Reasons,
+    N: Desks + Reasons,
     D: Disk,
 >(rt: &H, alloc: Global, words: &ActWords<'_>, world: &mut World<S, K, E, C, F, L, N, D>) -> u8
     requires { (N.tells world.old.net).links.out ≡ false }
@@ -82,8 +87,12 @@ pub(crate) fn act_on_products<
         (station_tells N.StationDoor.tells N.StationDial.tells N.StationLog.tells N.StationClock.tells
         N.StationGate.tells) in
         Done tells (form.Pqact (act_view words.now)) result
-        (world_view S.tells E.tells C.tells N.tells N.kept N.port_asked D.tells world.old)
-        (world_view S.tells E.tells C.tells N.tells N.kept N.port_asked D.tells world.new) }
+        (world_view S.tells E.tells C.tells N.tells N.kept N.port_asked
+        (kept_desk_of N.kept_desk
+        (desk_tells N.DeskDisk.tells N.StationLog.tells N.StationClock.tells N.StationGate.tells)) D.tells world.old)
+        (world_view S.tells E.tells C.tells N.tells N.kept N.port_asked
+        (kept_desk_of N.kept_desk
+        (desk_tells N.DeskDisk.tells N.StationLog.tells N.StationClock.tells N.StationGate.tells)) D.tells world.new) }
 {
     let order = Order {
         host: words.peer.host.as_slice(),
@@ -97,6 +106,7 @@ pub(crate) fn act_on_products<
     let order = ActOrder {
         order,
         conf: words.conf,
+        state: words.state,
     };
     ldm_pqact_command::act_on_products(
         rt,
@@ -120,7 +130,7 @@ pub(crate) fn write_bodies<
     C: Clock,
     F: Store,
     L: Launcher,
-    N: Net + Reasons,
+    N: Desks + Reasons,
     D: Disk,
 >(rt: &H, alloc: Global, words: &CatWords, world: &mut World<S, K, E, C, F, L, N, D>) -> u8
     requires { (N.tells world.old.net).links.out ≡ false }
@@ -128,8 +138,12 @@ pub(crate) fn write_bodies<
         (station_tells N.StationDoor.tells N.StationDial.tells N.StationLog.tells N.StationClock.tells
         N.StationGate.tells) in
         Done tells (form.Pqcat (cat_view words.now)) result
-        (world_view S.tells E.tells C.tells N.tells N.kept N.port_asked D.tells world.old)
-        (world_view S.tells E.tells C.tells N.tells N.kept N.port_asked D.tells world.new) }
+        (world_view S.tells E.tells C.tells N.tells N.kept N.port_asked
+        (kept_desk_of N.kept_desk
+        (desk_tells N.DeskDisk.tells N.StationLog.tells N.StationClock.tells N.StationGate.tells)) D.tells world.old)
+        (world_view S.tells E.tells C.tells N.tells N.kept N.port_asked
+        (kept_desk_of N.kept_desk
+        (desk_tells N.DeskDisk.tells N.StationLog.tells N.StationClock.tells N.StationGate.tells)) D.tells world.new) }
 {
     let order = Order {
         host: words.peer.host.as_slice(),
@@ -160,7 +174,7 @@ pub(crate) fn tell_products<
     C: Clock,
     F: Store,
     L: Launcher,
-    N: Net + Reasons,
+    N: Desks + Reasons,
     D: Disk,
 >(alloc: Global, words: &NoticesWords, world: &mut World<S, K, E, C, F, L, N, D>) -> u8
     requires { (N.tells world.old.net).links.out ≡ false }
@@ -168,8 +182,12 @@ pub(crate) fn tell_products<
         (station_tells N.StationDoor.tells N.StationDial.tells N.StationLog.tells N.StationClock.tells
         N.StationGate.tells) in
         Done tells (form.Notifyme (notices_view words.now)) result
-        (world_view S.tells E.tells C.tells N.tells N.kept N.port_asked D.tells world.old)
-        (world_view S.tells E.tells C.tells N.tells N.kept N.port_asked D.tells world.new) }
+        (world_view S.tells E.tells C.tells N.tells N.kept N.port_asked
+        (kept_desk_of N.kept_desk
+        (desk_tells N.DeskDisk.tells N.StationLog.tells N.StationClock.tells N.StationGate.tells)) D.tells world.old)
+        (world_view S.tells E.tells C.tells N.tells N.kept N.port_asked
+        (kept_desk_of N.kept_desk
+        (desk_tells N.DeskDisk.tells N.StationLog.tells N.StationClock.tells N.StationGate.tells)) D.tells world.new) }
 {
     let asked = NoticesAsked {
         host: words.peer.host.as_slice(),
@@ -207,7 +225,7 @@ pub(crate) fn put_files<
     C: Clock,
     F: Store + Reasons,
     L: Launcher,
-    N: Net + Reasons,
+    N: Desks + Reasons,
     D: Disk,
 >(alloc: Global, words: &InsertWords<'_>, world: &mut World<S, K, E, C, F, L, N, D>) -> u8
     requires { (N.tells world.old.net).links.out ≡ false }
@@ -215,8 +233,12 @@ pub(crate) fn put_files<
         (station_tells N.StationDoor.tells N.StationDial.tells N.StationLog.tells N.StationClock.tells
         N.StationGate.tells) in
         Done tells (form.Pqinsert (insert_view words.now)) result
-        (world_view S.tells E.tells C.tells N.tells N.kept N.port_asked D.tells world.old)
-        (world_view S.tells E.tells C.tells N.tells N.kept N.port_asked D.tells world.new) }
+        (world_view S.tells E.tells C.tells N.tells N.kept N.port_asked
+        (kept_desk_of N.kept_desk
+        (desk_tells N.DeskDisk.tells N.StationLog.tells N.StationClock.tells N.StationGate.tells)) D.tells world.old)
+        (world_view S.tells E.tells C.tells N.tells N.kept N.port_asked
+        (kept_desk_of N.kept_desk
+        (desk_tells N.DeskDisk.tells N.StationLog.tells N.StationClock.tells N.StationGate.tells)) D.tells world.new) }
 {
     let insertion = Insertion {
         host: words.peer.host.as_slice(),
@@ -247,7 +269,7 @@ pub(crate) fn put_bulletins<
     C: Clock,
     F: Store,
     L: Launcher,
-    N: Net + Reasons,
+    N: Desks + Reasons,
     D: Disk,
 >(alloc: Global, words: &WmoWords<'_>, world: &mut World<S, K, E, C, F, L, N, D>) -> u8
     requires { (N.tells world.old.net).links.out ≡ false }
@@ -255,8 +277,12 @@ pub(crate) fn put_bulletins<
         (station_tells N.StationDoor.tells N.StationDial.tells N.StationLog.tells N.StationClock.tells
         N.StationGate.tells) in
         Done tells (form.Wmo (wmo_view words.now)) result
-        (world_view S.tells E.tells C.tells N.tells N.kept N.port_asked D.tells world.old)
-        (world_view S.tells E.tells C.tells N.tells N.kept N.port_asked D.tells world.new) }
+        (world_view S.tells E.tells C.tells N.tells N.kept N.port_asked
+        (kept_desk_of N.kept_desk
+        (desk_tells N.DeskDisk.tells N.StationLog.tells N.StationClock.tells N.StationGate.tells)) D.tells world.old)
+        (world_view S.tells E.tells C.tells N.tells N.kept N.port_asked
+        (kept_desk_of N.kept_desk
+        (desk_tells N.DeskDisk.tells N.StationLog.tells N.StationClock.tells N.StationGate.tells)) D.tells world.new) }
 {
     let ingestion = Ingestion {
         host: words.peer.host.as_slice(),
@@ -285,7 +311,7 @@ pub(crate) fn count_products<
     C: Clock,
     F: Store,
     L: Launcher,
-    N: Net + Reasons,
+    N: Desks + Reasons,
     D: Disk,
 >(rt: &H, alloc: Global, words: &StatsWords, world: &mut World<S, K, E, C, F, L, N, D>) -> u8
     requires { (N.tells world.old.net).links.out ≡ false }
@@ -293,8 +319,12 @@ pub(crate) fn count_products<
         (station_tells N.StationDoor.tells N.StationDial.tells N.StationLog.tells N.StationClock.tells
         N.StationGate.tells) in
         Done tells (form.Pqstats (stats_view words.now)) result
-        (world_view S.tells E.tells C.tells N.tells N.kept N.port_asked D.tells world.old)
-        (world_view S.tells E.tells C.tells N.tells N.kept N.port_asked D.tells world.new) }
+        (world_view S.tells E.tells C.tells N.tells N.kept N.port_asked
+        (kept_desk_of N.kept_desk
+        (desk_tells N.DeskDisk.tells N.StationLog.tells N.StationClock.tells N.StationGate.tells)) D.tells world.old)
+        (world_view S.tells E.tells C.tells N.tells N.kept N.port_asked
+        (kept_desk_of N.kept_desk
+        (desk_tells N.DeskDisk.tells N.StationLog.tells N.StationClock.tells N.StationGate.tells)) D.tells world.new) }
 {
     let asked = StatsAsked {
         host: words.peer.host.as_slice(),

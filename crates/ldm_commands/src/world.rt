@@ -13,7 +13,7 @@ pub struct World<S, K, E, C, F, L, N, D> {
     pub store: F,
     /// Programs: a [`Launcher`](ldm_outside::Launcher).
     pub launcher: L,
-    /// Other nodes, and the stations of this one: a [`Net`](ldm_outside::Net).
+    /// Other nodes, and the stations and the desk of this one: [`Desks`](ldm_disk::Desks).
     pub net: N,
     /// The file of a queue: a [`Disk`](ldm_disk::Disk).
     pub disk: D,

@@ -1,7 +1,7 @@
 //! The example of ldm_commands.
 
 use ldm_commands::{World, run_ldm};
-use ldm_disk::MemDisk;
+use ldm_disk::{MemDisk, MemSite};
 use ldm_outside::{MemClock, MemDial, MemLauncher, MemNet, MemSink, MemSource, MemStore};
 use ldm_status::Streams;
 use std::alloc::Global;
@@ -19,10 +19,13 @@ pub fn run_alone<H: Threads + Wait + Sync>(rt: &H, alloc: Global, words: &[Strin
         clock: MemClock::new(Vec::new(alloc)),
         store: MemStore::new(alloc, Vec::new(alloc), Vec::new(alloc)),
         launcher: MemLauncher::new(alloc, Vec::new(alloc), Vec::new(alloc)),
-        net: MemNet::new(
-            alloc,
-            MemDial::new(alloc, Vec::new(alloc), Vec::new(alloc)),
-            Vec::new(alloc),
+        net: MemSite::new(
+            MemNet::new(
+                alloc,
+                MemDial::new(alloc, Vec::new(alloc), Vec::new(alloc)),
+                Vec::new(alloc),
+            ),
+            None,
         ),
         disk: MemDisk::new(alloc, Vec::new(alloc), Vec::new(alloc)),
         secret: 0,

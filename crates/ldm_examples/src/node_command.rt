@@ -1,8 +1,9 @@
 //! The example of ldm_node_command.
 
+use ldm_disk::Desks;
 use ldm_node::NodeOptions;
 use ldm_node_command::{NodeSetup, run_node};
-use ldm_outside::{Dial, Door, Launcher, Net, Reasons, Sink, Store};
+use ldm_outside::{Dial, Door, Launcher, Reasons, Sink, Store};
 use std::alloc::Global;
 use std::sync::Wait;
 use std::thread::Threads;
@@ -14,7 +15,7 @@ pub fn small_node<
     E: Sink,
     F: Store + Reasons,
     L: Launcher + Reasons,
-    N: Net + Reasons,
+    N: Desks + Reasons,
 >(
     rt: &H,
     alloc: Global,
@@ -39,6 +40,8 @@ where
         },
         key: 0,
         conf: "ldmd.conf",
+        journal: None,
+        ends_with_input: false,
     };
     run_node(rt, alloc, &setup, sink, log, store, launcher, net)
 }

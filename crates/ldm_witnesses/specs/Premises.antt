@@ -101,7 +101,7 @@ abbrev pub launcher : LauncherRecord
 launcher = record { faults = 0; next = 0; running = []; children = Some [] }
 
 abbrev pub setup : Setup
-setup = record { port = 388; arena = 64; slots = 1; workers = 1; sessions = 1; idles = Some 0; path = codes "ldmd.conf" }
+setup = record { port = 388; arena = 64; slots = 1; workers = 1; sessions = 1; idles = Some 0; path = codes "ldmd.conf"; journal = None }
 
 -- a node with one station, as its own record
 abbrev pub node_before : Outside StationRecord
@@ -113,6 +113,7 @@ node_before = record {
   net = dial;
   kept = [];
   port = None;
+  desk = None;
 }
 
 abbrev pub node_after : Outside StationRecord
