@@ -4,7 +4,7 @@ ghost use Rattle.std.specs.Prelude.{◌≡◌, false};
 use crate::parts::{Page, Place, files_of, instants_in, scripts_of, stations_of, words_in};
 use crate::telling::{MemWorld, tell_run};
 use ldm_commands::{World, run_ldm};
-use ldm_disk::MemDisk;
+use ldm_disk::{DeskScript, MemDisk, MemSite};
 use ldm_drive::{Trial, copied, numbers, push, text_copied};
 use ldm_drive_sessions::Case;
 use ldm_outside::{MemClock, MemDial, MemLauncher, MemNet, MemSink, MemSource, MemStore};
@@ -168,14 +168,14 @@ impl Scene {
     }
 
     fn world(&self, trial: &mut Trial) -> MemWorld
-        ensures { result.net.dial.links.out ≡ false }
+        ensures { result.net.net.dial.links.out ≡ false }
     {
         World {
             streams: self.streams(trial),
             clock: MemClock::new(copied(trial, &self.instants)),
             store: self.store(trial),
             launcher: self.launcher(trial),
-            net: self.net(trial),
+            net: self.site(trial),
             disk: self.disk_file(trial),
             secret: 0,
         }
@@ -211,6 +211,25 @@ impl Scene {
             statuses,
             copied(trial, &self.failing.launcher),
         )
+    }
+
+    // The net, with a desk whose disk has the file too. Its gate stops at the first pause.
+    fn site(&self, trial: &mut Trial) -> MemSite
+        ensures { result.net.dial.links.out ≡ false }
+    {
+        let net = self.net(trial);
+        let bytes = copied(trial, &self.disk);
+        let disk_failing = copied(trial, &self.failing.disk);
+        let mut stopping = Vec::new(trial.alloc());
+        push(trial, &mut stopping, 1);
+        let desk = DeskScript {
+            bytes,
+            disk_failing,
+            log_failing: Vec::new(trial.alloc()),
+            instants: Vec::new(trial.alloc()),
+            stopping,
+        };
+        MemSite::new(net, Some(desk))
     }
 
     fn net(&self, trial: &mut Trial) -> MemNet

@@ -1,12 +1,12 @@
 //! What a run left, as words of an answer.
 
 use ldm_commands::World;
-use ldm_disk::MemDisk;
+use ldm_disk::{MemDisk, MemSite};
 use ldm_drive::Trial;
 use ldm_drive_sessions::{tell_log, tell_sent};
 use ldm_outside::{
-    MemChild, MemClock, MemDial, MemDoor, MemLauncher, MemLink, MemNet, MemSink, MemSource,
-    MemStation, MemStore, StationsCall,
+    MemChild, MemClock, MemDial, MemDoor, MemLauncher, MemLink, MemSink, MemSource, MemStation,
+    MemStore, StationsCall,
 };
 
 /// A world in memory.
@@ -17,29 +17,33 @@ pub type MemWorld = World<
     MemClock,
     MemStore,
     MemLauncher,
-    MemNet,
+    MemSite,
     MemDisk,
 >;
 
 /// Tells the status, what was written to the sink and to the log, and then what else was touched: the peers that were
-/// asked with what they were sent, the programs, the stations, and the file of the disk.
+/// asked with what they were sent, the programs, the stations, the file of the disk, and that of the desk.
 pub fn tell_run(trial: &mut Trial, status: u8, world: &MemWorld) {
     trial.tell_value(&status);
     trial.tell(" ");
     trial.tell_shown(world.streams.sink.written());
     trial.tell(" ");
     trial.tell_shown(world.streams.log.written());
-    tell_dial(trial, world.net.dial());
+    tell_dial(trial, world.net.net().dial());
     for child in world.launcher.children() {
         tell_child(trial, child);
     }
-    if let Some(asked) = world.net.asked() {
+    if let Some(asked) = world.net.net().asked() {
         tell_stations_call(trial, asked);
     }
-    for station in world.net.kept() {
+    for station in world.net.net().kept() {
         tell_station(trial, station);
     }
     tell_disk(trial, &world.disk);
+    if let Some(desk) = world.net.kept_desk() {
+        trial.tell(" desk ");
+        trial.tell_digits(desk.disk.bytes());
+    }
 }
 
 // The file of the disk, where a call was made.

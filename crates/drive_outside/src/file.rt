@@ -39,7 +39,8 @@ fn tell(trial: &mut Trial, done: Result<(), Failed>) {
     tell_word(trial, if done.is_ok() { "ok" } else { "failed" });
 }
 
-fn attach<D: Disk>(trial: &mut Trial, disk: &mut D, path: &str) {
+/// Attaches a file, and tells whether that was done.
+pub(crate) fn attach<D: Disk>(trial: &mut Trial, disk: &mut D, path: &str) {
     tell(trial, disk.attach(path));
 }
 

@@ -2,6 +2,7 @@
 //! and, behind the word `memory`, those in memory.
 #![tactic(auto)]
 
+mod desks;
 mod disk;
 mod doors;
 mod file;
@@ -28,6 +29,7 @@ fn answer(rt: HostRuntime, trial: &mut Trial) {
         "gathered" => streams::sink(trial, true),
         "disk" => disk::disk(rt, trial),
         "file" => file::file(rt, trial),
+        "desk" => desks::desk(rt, trial),
         "shell" => system::run_shell(rt, trial),
         "missing" => system::missing(rt, trial),
         "late" => system::late(rt, trial),
@@ -68,6 +70,7 @@ fn in_memory(trial: &mut Trial) {
         "dial" => doors::dial(trial),
         "net" => nets::net(trial),
         "net_dial" => nets::net_dial(trial),
+        "site" => desks::site(trial),
         _ => trial.refuse("no such word"),
     }
 }

@@ -18,8 +18,8 @@ fn station(alloc: Global) -> StationScript {
     }
 }
 
-// A net with two stations, which connects as a dial of three links does.
-fn net_of(trial: &mut Trial, failing: Vec<u64>) -> MemNet
+/// A net with two stations, which connects as a dial of three links does.
+pub(crate) fn net_of(trial: &mut Trial, failing: Vec<u64>) -> MemNet
     ensures { result.dial.links.out ≡ false }
 {
     let alloc = trial.alloc();
@@ -29,8 +29,8 @@ fn net_of(trial: &mut Trial, failing: Vec<u64>) -> MemNet
     MemNet::new(alloc, dial_of(trial, failing), ready)
 }
 
-// Takes stations and hands them back. How many came, where any did.
-fn man<N: Net>(trial: &mut Trial, net: &mut N, count: u32) {
+/// Takes stations and hands them back. How many came, where any did.
+pub(crate) fn man<N: Net>(trial: &mut Trial, net: &mut N, count: u32) {
     match net.stations(388, count, Some(3)) {
         Manned::Stations(stations) => {
             tell_number(trial, stations.len() as u64);

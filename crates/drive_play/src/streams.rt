@@ -2,7 +2,7 @@
 ghost use Rattle.std.specs.Prelude.{◌≡◌, false};
 
 use ldm_commands::{World, run_ldm};
-use ldm_disk::MemDisk;
+use ldm_disk::{MemDisk, MemSite};
 use ldm_drive::Trial;
 use ldm_outside::{MemClock, MemDial, MemLauncher, MemNet, MemSink, MemSource, MemStore};
 use ldm_status::Streams;
@@ -133,11 +133,11 @@ impl Plans {
 }
 
 // A net that reaches nobody and has no stations.
-fn net_of_nobody(alloc: Global) -> MemNet
-    ensures { result.dial.links.out ≡ false }
+fn net_of_nobody(alloc: Global) -> MemSite
+    ensures { result.net.dial.links.out ≡ false }
 {
     let dial = MemDial::new(alloc, Vec::new(alloc), Vec::new(alloc));
-    MemNet::new(alloc, dial, Vec::new(alloc))
+    MemSite::new(MemNet::new(alloc, dial, Vec::new(alloc)), None)
 }
 
 // Text without the newlines at its end.
