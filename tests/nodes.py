@@ -1653,6 +1653,93 @@ def acts_on_many_files(place):
     expect((place.folder / "seven").read_bytes(), b"7\n47\n87\n127\n167\n", "what a program was given")
 
 
+def state_of(product):
+    return product.signature.hex().encode() + b"\n"
+
+
+def goes_on_behind_its_state(place):
+    """With a state a run of `pqact` goes on behind the last product of the run before: each product is acted on once, also one whose action
+    fails. Where that product is not queued any more, it begins at the oldest."""
+    node = place.node(OPEN, *MANY)
+    numbered = [Product(b"n", b"%d\n" % i, seqno=i) for i in range(12)]
+    place.file("act.conf", "IDS\t^n$\tFILE\tgot\nIDS\t^bad$\tFILE\tgot/folder\n")
+    got, state = place.folder / "got", place.folder / "kept/state"
+    words = ["pqact", "-s", "kept/state"]
+    node.put_all(numbered[:5])
+    expect(place.run(*words, "-c", 5, "act.conf", node.at), (0, b"", b""), "pqact with a state that is not there")
+    expect((got.read_bytes(), state.read_bytes()), (b"0\n1\n2\n3\n4\n", state_of(numbered[4])), "what was acted on, and the state")
+    expect((place.folder / "kept/state~").read_bytes(), state_of(numbered[4]), "the state that is written before")
+    node.put_all(numbered[5:8])
+    expect(place.run(*words, "-c", 3, "act.conf", node.at), (0, b"", b""), "pqact with a state")
+    expect(got.read_bytes(), b"".join(product.body for product in numbered[:8]), "what two runs acted on")
+    # the one whose action fails is not met again
+    bad = Product(b"bad", b"no file")
+    node.put_all([numbered[8], bad, numbered[9]])
+    log = b"ldm: bad: got/folder: Not a directory\nldm: store fault\n"
+    expect(place.run(*words, "act.conf", node.at), (72, b"", log), "pqact with an action that fails")
+    expect(state.read_bytes(), state_of(bad), "the state behind an action that failed")
+    expect(place.run(*words, "-c", 1, "act.conf", node.at), (0, b"", b""), "pqact behind an action that failed")
+    expect(got.read_bytes(), b"".join(product.body for product in numbered[:10]), "what four runs acted on")
+    # one that was killed while it wrote the state
+    node.put_all(numbered[10:11])
+    place.file("kept/state", b"")
+    place.file("kept/state~", state_of(numbered[9]))
+    expect(place.run(*words, "-c", 1, "act.conf", node.at), (0, b"", b""), "pqact with the state that is written before")
+    expect(got.read_bytes(), b"".join(product.body for product in numbered[:11]), "what five runs acted on")
+    # a product that the node has not queued
+    place.file("kept/state", state_of(Product(b"n", b"not here")))
+    expect(place.run(*words, "act.conf", node.at)[0], 72, "the status of pqact from the oldest product on")
+    expect(got.read_bytes(), b"".join(product.body for product in numbered[:11] + numbered[:9]), "what is acted on from the oldest product on")
+    # a state that cannot be written
+    (place.folder / "folder").mkdir()
+    ran = place.run("pqact", "-s", "folder", "-c", 1, "-p", "^n$", "act.conf", node.at)
+    expect(ran, (72, b"", b"ldm: folder: Is a directory\nldm: store fault\n"), "pqact with a state that cannot be written")
+    # what is no state
+    for text in (b"", b"\n", state_of(bad)[:-1], state_of(bad) + b"\n", b"g" + state_of(bad)[1:]):
+        place.file("kept/state", text)
+        place.file("kept/state~", text)
+        log = b"ldm: kept/state:1: no signature of a product\nldm: bad conf file 0 line 1 kind 2\n"
+        expect(place.run(*words, "act.conf", node.at), (65, b"", log), f"pqact with the state {text!r}")
+
+
+def bears_kills_with_a_state(place):
+    """A `pqact` with a state is killed at drawn moments while products come: each run goes on behind the product of its state, and in all of them
+    each product is acted on, in order."""
+    node = place.node(OPEN, *MANY)
+    draw = random.Random(7)
+    products = [Product(b"n", b"%d\n" % i, seqno=i) for i in range(1_500)]
+    places = {state_of(product): i for i, product in enumerate(products)}
+    place.file("act.conf", "IDS\t^n$\tFILE\tgot\n")
+    got, state = place.folder / "got", place.folder / "state"
+    got.write_bytes(b"")
+    feeder = threading.Thread(target=node.put_all, args=(products,))
+    feeder.start()
+    ran, last = 0, -1
+    while last + 1 < len(products):
+        before = got.read_bytes()
+        whole = ran == 40
+        words = ["-c", len(products) - last - 1] if whole else []
+        program = place.start("pqact", "-s", "state", *words, "act.conf", node.at)
+        if whole:
+            expect(place.end(program), (0, b"", b""), "pqact behind all that was killed")
+        else:
+            time.sleep(draw.uniform(0, 0.2))
+            program.kill()
+            program.wait()
+        ran += 1
+        acted = [int(line) for line in got.read_bytes()[len(before) :].split()]
+        expect(acted, list(range(last + 1, last + 1 + len(acted))), "what a run acted on behind its state")
+        text = state.read_bytes() if state.exists() else None
+        if text == b"":
+            # it was killed while it wrote the state
+            text = (place.folder / "state~").read_bytes()
+        now = -1 if text is None else places[text]
+        expect(last <= now <= last + len(acted), True, "whether the state is of a product that was acted on")
+        last = now
+    feeder.join()
+    expect(sorted(set(map(int, got.read_bytes().split()))), list(range(len(products))), "what all runs acted on")
+
+
 def acts_no_more(place):
     """What `pqact` cannot do ends it: each cause has its status."""
     node = place.node("ALLOW IDS .*\nACCEPT ANY .* .*\n", *MANY)
@@ -2004,6 +2091,8 @@ CASES = [
     counts_what_came,
     acts_on_products,
     acts_on_many_files,
+    goes_on_behind_its_state,
+    bears_kills_with_a_state,
     acts_no_more,
     ends_as_it_is_told,
     ends_with_each_status,
