@@ -13,6 +13,7 @@
 //! load far PORT ADDRESS MILLISECONDS         listens, and passes on what it is sent so much later, each way, until it is ended
 //! load stream SIZE COUNT                     sends such products over one plain stream
 //! load redis|nats|mqtt ADDRESS SIZE COUNT    publishes such bodies to a broker, and subscribes them
+//! load jetstream ADDRESS SIZE COUNT          the same over a stream of nats that is kept in a file
 //! ```
 //!
 //! `load gathered BYTES ..` does one of these, and each that sends products gathers up to BYTES before it writes, as clients of brokers
@@ -438,7 +439,26 @@ fn append(address: &str, count: u64, folder: &Path) -> io::Result<Duration> {
 enum Broker {
     Redis,
     Nats,
+    JetStream,
     Mqtt,
+}
+
+/// What makes a stream of all that is published, in a file of at most so many bytes, and one consumer of it, to whom it is sent on.
+const STREAM: &str = r#"{"name":"c","subjects":["c"],"retention":"limits","storage":"file","max_bytes":67108864,"discard":"old"}"#;
+const CONSUMER: &str = r#"{"stream_name":"c","config":{"deliver_subject":"d","deliver_policy":"all","ack_policy":"none"}}"#;
+
+/// Asks a server of nats for something, and hears that it has done it, or, where that may fail, that it has not.
+fn ask_nats(stream: &mut TcpStream, answers: &mut impl BufRead, what: &str, body: &str, may_fail: bool) -> io::Result<()> {
+    stream.write_all(format!("PUB $JS.API.{what} answer {}\r\n{body}\r\n", body.len()).as_bytes())?;
+    loop {
+        let line = read_line(answers)?;
+        if let Some(size) = line.strip_prefix("MSG answer 9 ") {
+            let told = read_body(answers, size.parse().unwrap())?;
+            read_line(answers)?;
+            let told = String::from_utf8_lossy(&told);
+            return if may_fail || !told.contains("\"error\"") { Ok(()) } else { wrong(told) };
+        }
+    }
 }
 
 fn read_line(stream: &mut impl BufRead) -> io::Result<String> {
@@ -497,10 +517,15 @@ impl Broker {
                 }
             }
             Broker::Redis => {}
-            Broker::Nats => {
+            Broker::Nats | Broker::JetStream => {
                 read_line(answers)?;
                 stream.write_all(b"CONNECT {\"verbose\":false}\r\n")?;
-                if subscribes {
+                if subscribes && matches!(self, Broker::JetStream) {
+                    stream.write_all(b"SUB d 1\r\nSUB answer 9\r\n")?;
+                    ask_nats(stream, answers, "STREAM.DELETE.c", "", true)?;
+                    ask_nats(stream, answers, "STREAM.CREATE.c", STREAM, false)?;
+                    ask_nats(stream, answers, "CONSUMER.CREATE.c", CONSUMER, false)?;
+                } else if subscribes {
                     stream.write_all(b"SUB c 1\r\n")?;
                 }
                 stream.write_all(b"PING\r\n")?;
@@ -524,7 +549,7 @@ impl Broker {
     fn message(self, body: &[u8]) -> Vec<u8> {
         match self {
             Broker::Redis => [format!("*3\r\n$7\r\nPUBLISH\r\n$1\r\nc\r\n${}\r\n", body.len()).as_bytes(), body, b"\r\n"].concat(),
-            Broker::Nats => [format!("PUB c {}\r\n", body.len()).as_bytes(), body, b"\r\n"].concat(),
+            Broker::Nats | Broker::JetStream => [format!("PUB c {}\r\n", body.len()).as_bytes(), body, b"\r\n"].concat(),
             Broker::Mqtt => packet(0x30, &[b"\0\x01c", body]),
         }
     }
@@ -540,9 +565,10 @@ impl Broker {
                 read_line(stream)?;
                 Ok(body)
             }
-            Broker::Nats => loop {
+            Broker::Nats | Broker::JetStream => loop {
                 let line = read_line(stream)?;
-                if let Some(size) = line.strip_prefix("MSG c 1 ") {
+                // the size is the last word, behind the one to whom it may be answered
+                if let Some((_, size)) = line.strip_prefix("MSG c 1").and_then(|rest| rest.rsplit_once(' ')) {
                     let body = read_body(stream, size.parse().unwrap())?;
                     read_line(stream)?;
                     return Ok(body);
@@ -609,6 +635,7 @@ fn run(words: &[&str]) -> io::Result<String> {
         ["stream", bytes, number] => stream(size(bytes), count(number))?,
         ["redis", address, bytes, number] => through_broker(Broker::Redis, address, size(bytes), count(number))?,
         ["nats", address, bytes, number] => through_broker(Broker::Nats, address, size(bytes), count(number))?,
+        ["jetstream", address, bytes, number] => through_broker(Broker::JetStream, address, size(bytes), count(number))?,
         ["mqtt", address, bytes, number] => through_broker(Broker::Mqtt, address, size(bytes), count(number))?,
         ["delay", from, to, times] => {
             let delays = delays(from, to, count(times))?;
