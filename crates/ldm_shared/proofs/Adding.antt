@@ -16,6 +16,7 @@ use Rattle.ldm_shared.specs.Steps.{adds}
 use Rattle.ldm_shared.proofs.Histories.{prefix_self, prefix_more, own-other, below-append}
 use Rattle.ldm_shared.proofs.Counts.{is_turn, idle_turn, sum-set, sum-at, sum-two, times-self}
 use Rattle.ldm_shared.proofs.Keeping.{known, others}
+use Rattle.ldm_shared.proofs.Puts.{put_later}
 
 abbrev Content : Type 0
 Content = Option BookView
@@ -102,7 +103,9 @@ module _ (sizes : Sizes) where
           below = below-append sizes.passes v.seen (entry ∷ []) (subst (AreBelow sizes.passes) (sym has.seen) k.below) ((knows.actors entry.actor answers).0, tt);
           few = omega (arith, long, few);
           may_sleep = k.may_sleep;
-          word = ap (λ (ws : List ℕ). set ws 0 ((get_or s.words 0 0 + 1) % 2 ^ 64)) k.word ∙ ap (λ (n : ℕ). n ∷ k.may_sleep ∷ []) (omega (arith, fits, now));
+          others = k.others;
+          put = λ actor n told. put_later actor k.history H n (entry ∷ [], ap (λ (h : List Entry). h ++ entry ∷ []) (sym has.seen)) (k.put actor n told);
+          word = ap (λ (ws : List ℕ). set ws 0 ((get_or s.words 0 0 + 1) % 2 ^ 64)) k.word ∙ ap (λ (n : ℕ). n ∷ k.may_sleep ∷ k.others) (omega (arith, fits, now));
           flag = k.flag;
           one_turn = omega (arith, now);
           book = λ _. (

@@ -5,7 +5,6 @@ use Rattle.std.proofs.lemmas.List.{append_cancel_left, length-append}
 use Rattle.std.proofs.lemmas.List.Concat.{flat_map-append}
 use Rattle.ldm_model.specs.declared.event.Event.TheVariants as event
 use Rattle.ldm_model.specs.declared.event.Reply.{Reply}
-use Rattle.ldm_model.specs.declared.event.Reply.TheVariants as reply
 use Rattle.ldm_model.specs.declared.event.Entry.{Entry}
 use Rattle.ldm_shared.specs.Own.{own}
 use Rattle.ldm_shared.specs.Passes.{PassView, Calls, FindsWorn, Grows}

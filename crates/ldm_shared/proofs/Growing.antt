@@ -110,7 +110,7 @@ module _ (shared : SharedView) (old : PassView) (p : Inside) (view_is : view_of_
         } in
         subst (λ (n : ℕ). Adds n old.seen seat.me.0.seen []) actor (subst (λ (h : List Entry). Adds p.actor h seat.me.0.seen []) seen none)
 
-    makes_none : IsHistory seat.me.0 → seat.me.0.turn ≡ false → Makes old (view_of_pass now) []
+    pub makes_none : IsHistory seat.me.0 → seat.me.0.turn ≡ false → Makes old (view_of_pass now) []
     makes_none history idle = record {
       same = same_pass idle;
       adds = others_called;

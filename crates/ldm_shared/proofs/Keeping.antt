@@ -46,7 +46,9 @@ module _ (sizes : Sizes) where
     below = k.below;
     few = k.few;
     may_sleep = k.may_sleep;
-    word = k.word ∙ ap (λ (n : ℕ). (2 * length k.history + n) ∷ k.may_sleep ∷ []) (sym same);
+    others = k.others;
+    put = k.put;
+    word = k.word ∙ ap (λ (n : ℕ). (2 * length k.history + n) ∷ k.may_sleep ∷ k.others) (sym same);
     flag = k.flag;
     one_turn = subst (λ (n : ℕ). n ≤ 1) (sym same) k.one_turn;
     book = λ free. k.book (sym same ∙ free);
@@ -178,6 +180,8 @@ module _ (sizes : Sizes) where
         below = k.below;
         few = k.few;
         may_sleep = f x;
+        others = k.others;
+        put = k.put;
         word = ap (λ (ws : List ℕ). set ws 1 (f x)) k.word;
         flag = few x (subst (λ (n : ℕ). n ≤ 1) (sym found) k.flag);
         one_turn = k.one_turn;
@@ -218,7 +222,9 @@ module _ (sizes : Sizes) where
         below = k.below;
         few = k.few;
         may_sleep = k.may_sleep;
-        word = ap (λ (ws : List ℕ). set ws 0 (old + 1)) k.word ∙ ap (λ (n : ℕ). n ∷ k.may_sleep ∷ []) (omega (arith, found, hit, free, now));
+        others = k.others;
+        put = k.put;
+        word = ap (λ (ws : List ℕ). set ws 0 (old + 1)) k.word ∙ ap (λ (n : ℕ). n ∷ k.may_sleep ∷ k.others) (omega (arith, found, hit, free, now));
         flag = k.flag;
         one_turn = omega (arith, now);
         book = λ none. absurd (omega (arith, now, none));

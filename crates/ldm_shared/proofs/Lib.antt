@@ -5,6 +5,8 @@ pub mod OwnPoints
 pub mod OwnLaw
 pub mod Counts
 pub mod Keeping
+pub mod Puts
+pub mod Telling
 pub mod Adding
 pub mod Joining
 pub mod Taking

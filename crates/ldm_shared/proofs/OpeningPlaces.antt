@@ -1,5 +1,5 @@
 -- The rule holds of a new queue, and the actors are dealt out one by one.
-use Rattle.std.proofs.Common.{◌≡◌, ℕ, zero, suc, ◌+◌, ◌-◌, ◌<◌, ◌≤◌, ◌==◌, Bool, true, false, cond, List, [], ◌∷◌, ◌++◌, map, Option, Some, refl, ap, sym, subst, ◌∙◌, arith, inr}
+use Rattle.std.proofs.Common.{get_or, replicate, ◌≡◌, ℕ, zero, suc, ◌+◌, ◌-◌, ◌<◌, ◌≤◌, ◌==◌, Bool, true, false, cond, List, [], ◌∷◌, ◌++◌, map, Option, Some, refl, ap, sym, subst, ◌∙◌, arith, inr}
 use Rattle.std.specs.List.{range_with_len}
 use mathlib.Core.Option.{some, some-injective, some-ne-none}
 use mathlib.Core.Logic.{dite}
@@ -61,13 +61,15 @@ module _ (sizes : Sizes) where
   first_seat zero v at = subst (Knows sizes []) (some-injective (opening sizes) v at) knows_none
   first_seat (suc id) v at = absurd (some-ne-none v (sym at))
 
-  pub opened : (book : BookView) → StandsFor book (empty sizes.arena sizes.slots) → IsKept sizes (table.opening (0 ∷ 0 ∷ []) (Some book ∷ []) (opening sizes))
+  pub opened : (book : BookView) → StandsFor book (empty sizes.arena sizes.slots) → IsKept sizes (table.opening (replicate 72 0) (Some book ∷ []) (opening sizes))
   opened book stands = record {
     history = [];
     legal = tt;
     below = tt;
     few = omega arith;
     may_sleep = 0;
+    others = replicate 70 0;
+    put = λ actor n told. absurd (let none = zeros 70 (6 + actor) in omega (arith, none, told));
     word = refl;
     flag = omega arith;
     one_turn = omega arith;
@@ -76,6 +78,11 @@ module _ (sizes : Sizes) where
     seats = λ id v at. inr (first_seat id v at);
   }
     where
+      zeros : (count i : ℕ) → ◌≡◌ {A = ℕ} (get_or (replicate count 0) i 0) 0
+      zeros zero i = refl
+      zeros (suc count) zero = refl
+      zeros (suc count) (suc i) = zeros count i
+
       zero_first : (n : ℕ) → 0 + n ≡ n
       zero_first n = omega arith
 

@@ -12,9 +12,9 @@ view_of_shared s = record {
   passes = s.table.shared.key.passes;
 }
 
--- two words and one slot, an arena that a queue can have, and some pass
+-- two words, six that are not used, one for each of 64 actors, and one slot, an arena that a queue can have, and some pass
 pub record IsShared (s : Inside) : Type 0 where
-  pub words : s.table.shared.table_id.words ≡ 2
+  pub words : s.table.shared.table_id.words ≡ 72
   pub slots : s.table.shared.table_id.slots ≡ 1
   pub arena : s.table.shared.key.arena ≡ s.arena
   pub good : IsGoodArena s.arena

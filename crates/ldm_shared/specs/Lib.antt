@@ -1,6 +1,7 @@
 pub mod Own
 pub mod Limits
 pub mod Passes
+pub mod Putting
 pub mod OwnReaders
 pub mod Turns
 pub mod Rule

@@ -1,5 +1,5 @@
 -- What holds of the word, the slot and the views of a shared queue between any two steps on them.
-use Rattle.std.specs.Prelude.{◌≡◌, ℕ, ◌+◌, ◌*◌, ◌<◌, ◌≤◌, ◌==◌, ◌⊎◌, true, false, List, [], ◌∷◌, length, Option, Some, sum_by, count_by}
+use Rattle.std.specs.Prelude.{◌≡◌, ℕ, ◌+◌, ◌*◌, ◌<◌, ◌≤◌, ◌==◌, ◌⊎◌, true, false, List, [], ◌∷◌, length, slice_index, Option, Some, sum_by, count_by}
 use Rattle.std.specs.List.{AllByRecursion, range_with_len}
 use mathlib.Core.Option.{some}
 use mathlib.Core.List.{IsPrefix}
@@ -13,6 +13,7 @@ use Rattle.ldm_shared.specs.declared.sizes.Sizes.{Sizes}
 use Rattle.ldm_shared.specs.declared.view.View.{View}
 use Rattle.ldm_shared.specs.declared.view.Old.{Old}
 use Rattle.ldm_shared.specs.Own.{own, AreBelow}
+use Rattle.ldm_shared.specs.Putting.{HasPut}
 use Rattle.ldm_shared.specs.declared.steps.TheConstants.{MOST_TURNS}
 
 -- how often an actor stands in a list
@@ -86,7 +87,10 @@ pub record IsKept (sizes : Sizes) (s : State (Option BookView) View) : Type 0 wh
   pub few : length history ≤ MOST_TURNS
   -- The first word is twice its length, and one more while a seat has the turn. The second is 1 where a caller may sleep.
   pub may_sleep : ℕ
-  pub word : s.words ≡ (2 * length history + turns s.views) ∷ may_sleep ∷ []
+  pub others : List ℕ
+  pub word : s.words ≡ (2 * length history + turns s.views) ∷ may_sleep ∷ others
+  -- the word of an actor is one more than the number of a product that the actor put in, or found queued
+  pub put : (actor n : ℕ) → slice_index others (6 + actor) ≡ n + 1 → HasPut actor history n
   pub flag : may_sleep ≤ 1
   pub one_turn : turns s.views ≤ 1
   pub book : turns s.views ≡ 0 → HasBook sizes history s.homes

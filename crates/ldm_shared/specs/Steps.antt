@@ -1,5 +1,5 @@
 -- What each step on the word of a shared queue tells the seat that makes it.
-use Rattle.std.specs.Prelude.{◌≡◌, ℕ, ◌+◌, ◌*◌, ◌<◌, ◌≤◌, ◌==◌, ◌⊎◌, ◌++◌, true, false, List, [], ◌∷◌, length, Option, Some, MatchBool}
+use Rattle.std.specs.Prelude.{◌≡◌, ℕ, ◌+◌, ◌-◌, ◌*◌, ◌<◌, ◌≤◌, ◌==◌, ◌⊎◌, ◌++◌, true, false, List, [], ◌∷◌, length, Option, Some, MatchBool}
 use Rattle.std.specs.List.{AllByRecursion}
 use mathlib.Core.List.{IsPrefix}
 use Rattle.atomic_table.specs.Table.{Me, Step, rest}
@@ -9,6 +9,7 @@ use Rattle.ldm_book.specs.View.{BookView}
 use Rattle.ldm_book.specs.Stands.{StandsFor}
 use Rattle.ldm_shared.specs.declared.view.View.{View}
 use Rattle.ldm_shared.specs.Own.{own, AreBelow}
+use Rattle.ldm_shared.specs.Putting.{HasPut}
 use Rattle.ldm_shared.specs.Rule.{AnswersFor, AnswersForAll, IsOld}
 use Rattle.ldm_shared.specs.declared.steps.TheConstants.{MOST_TURNS}
 
@@ -45,6 +46,11 @@ takes step me found after =
 -- what is said of callers that sleep changes, and the seat stays as it was
 abbrev pub says : Step (Option BookView) → Me (Option BookView) View → ℕ → Me (Option BookView) View → Type 0
 says step me found after = after ≡ me
+
+-- a look at the word of an actor, which leaves the turn where it is
+abbrev pub looks_at_put : Step (Option BookView) → Me (Option BookView) View → ℕ → Me (Option BookView) View → Type 0
+looks_at_put step me found after =
+    ((word : ℕ) × Sees me.0 word after.0) × (after.0.turn ≡ false) × (after.1 ≡ []) × ((n : ℕ) → found ≡ n + 1 → HasPut (step.word - 8) after.0.seen n)
 
 -- the turn and the slot are given back, with one more entry in the history
 abbrev pub adds : Entry → Step (Option BookView) → Me (Option BookView) View → ℕ → Me (Option BookView) View → Type 0

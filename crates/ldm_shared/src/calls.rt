@@ -10,6 +10,7 @@ ghost use Rattle.ldm_shared.specs.Passes.{IsPassOf, IsSamePass, Grows, FindsWorn
 ghost use Rattle.ldm_shared.specs.Turns.{IfDone, IfWorn};
 
 use crate::pass::Pass;
+use crate::putting::{put_by_commit, put_by_insert, put_by_reserve};
 use crate::shared::Shared;
 use crate::turn::Turn;
 use ldm_model::{
@@ -41,9 +42,17 @@ impl Shared {
         ensures worn { IfWorn result (FindsWorn pass.old pass.new) }
     {
         insert_is_possible(now, info, body);
-        self.call::<Brand, _, _, _, _>(rt, pass, &(now, info, body), &mut [], |book, actor, _| {
-            book.insert(actor, now, info, body)
-        })
+        let turn = self.call::<Brand, _, _, _, _>(
+            rt,
+            pass,
+            &(now, info, body),
+            &mut [],
+            |book, actor, _| { book.insert(actor, now, info, body) },
+        );
+        if let Turn::Done(reply) = &turn {
+            self.tell_of(pass, put_by_insert(reply));
+        }
+        turn
     }
 
     /// Opens a cursor of the pass's actor for these feedtypes, at the least empty cursor place.
@@ -222,9 +231,13 @@ impl Shared {
         ensures worn { IfWorn result (FindsWorn pass.old pass.new) }
     {
         info_is_possible(info);
-        self.call::<Brand, _, _, _, _>(rt, pass, info, &mut [], |book, actor, _| {
+        let turn = self.call::<Brand, _, _, _, _>(rt, pass, info, &mut [], |book, actor, _| {
             book.reserve(actor, info)
-        })
+        });
+        if let Turn::Done(reply) = &turn {
+            self.tell_of(pass, put_by_reserve(reply));
+        }
+        turn
     }
 
     /// Fills bytes into a reserved region, behind those that it has.
@@ -261,9 +274,13 @@ impl Shared {
         ensures worn { IfWorn result (FindsWorn pass.old pass.new) }
     {
         commit_is_possible(r, now);
-        self.call::<Brand, _, _, _, _>(rt, pass, &(r, now), &mut [], |book, actor, _| {
+        let turn = self.call::<Brand, _, _, _, _>(rt, pass, &(r, now), &mut [], |book, actor, _| {
             book.commit(actor, r, now)
-        })
+        });
+        if let Turn::Done(reply) = &turn {
+            self.tell_of(pass, put_by_commit(reply));
+        }
+        turn
     }
 
     /// Gives a reservation up.

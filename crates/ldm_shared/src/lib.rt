@@ -13,6 +13,7 @@ mod laws;
 mod making;
 mod meeting;
 mod pass;
+mod putting;
 mod reader;
 mod rule;
 mod run;

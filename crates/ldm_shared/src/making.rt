@@ -15,6 +15,7 @@ use crate::pass::Pass;
 use crate::rule::Deal;
 use crate::shared::Shared;
 use crate::sizes::Sizes;
+use crate::steps::WORDS;
 use crate::view::View;
 use atomic_table::{Seat, Table};
 use ldm_book::{Book, CreateFault as BookFault};
@@ -90,7 +91,7 @@ impl Shared {
     {
         let mut row = Vec::with_capacity(alloc, 1)?;
         row.push_reserved(Some(book));
-        match Table::new(alloc, &[0, 0], row, &sizes) {
+        match Table::new(alloc, &[0; WORDS], row, &sizes) {
             Ok((table, seat)) => Ok((
                 Shared {
                     table,

@@ -1,5 +1,5 @@
 //! The rule of the shared words and slot, and what each step on them tells.
-ghost use Rattle.ldm_shared.specs.Steps.{looks, says, takes};
+ghost use Rattle.ldm_shared.specs.Steps.{looks, looks_at_put, says, takes};
 
 use crate::sizes::Sizes;
 use crate::view::View;
@@ -32,7 +32,14 @@ impl Play<Option<Book>, View> for Take {
     ghost then = { takes };
 }
 
-/// A caller says whether one may sleep.
+/// A look at the history, and at what an actor put in last.
+pub(crate) struct LookAtPut;
+
+impl Play<Option<Book>, View> for LookAtPut {
+    ghost then = { looks_at_put };
+}
+
+/// A caller says whether one may sleep, or what it put in last.
 pub(crate) struct Say;
 
 impl Play<Option<Book>, View> for Say {

@@ -30,6 +30,9 @@ const TURNS: usize = 0;
 // The word that is 1 where a caller may sleep, on which callers sleep.
 const MAY_SLEEP: usize = 1;
 
+/// How many words there are.
+pub(crate) const WORDS: usize = 72;
+
 // The first word where it counts so many calls, with no turn taken.
 const WORN: u64 = 2 * MOST_TURNS;
 
