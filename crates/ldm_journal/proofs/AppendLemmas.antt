@@ -37,7 +37,7 @@ appended_here k n marks done old new lawful count rises pushes kept appended sta
         rising = subst (λ (l : List Kept). AreRising 0 l (k.number + 1)) (append_assoc kept appended (k ∷ []))
             (rising_more 0 (kept ++ appended) k marks.next stands.rising rises);
       },
-      weaker (Keeps marks kept) (Holds marks.ring kept) (λ left keeps. keeps.holds) old new p.1,
+      weaker (Keeps marks kept) (Holds marks.ring kept marks.note) (λ left keeps. keeps.holds) old new p.1,
     )
 
 pub appended : (k : Kept) (n : ℕ) (before mid : Marks) (done : Unit {0}) (old new : FileRecord) → IsLawful k → n ≡ length (record_bytes k) → before.next ≤ k.number
@@ -48,7 +48,7 @@ appended k n before mid done old new lawful count rises is pushes =
 pub append_failed : (k : Kept) (before after : Marks) (failed : Failed) (bytes : List ℕ) (old new : FileRecord) → Pushes (Err failed) before bytes old new
     → Appends DiskFault k before after old new
 append_failed k before after failed bytes old new pushes kept appended stands =
-    weaker (Keeps before kept) (Holds before.ring kept) (λ left keeps. keeps.holds) old new (pushes kept stands.crash)
+    weaker (Keeps before kept) (Holds before.ring kept before.note) (λ left keeps. keeps.holds) old new (pushes kept stands.crash)
 
 -- as it was written: what stands in front of the body, the body, and the sum of both
 pub appended_parts : (k : Kept) (head : List ℕ) (before mid : Marks) (done : Unit {0}) (old new : FileRecord) → head ≡ head_bytes k.number k.time k.info → IsLawful k

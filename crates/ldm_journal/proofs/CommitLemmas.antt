@@ -1,7 +1,8 @@
 -- Committing: a head is written beside the one that counts, and then it counts.
-use Rattle.std.proofs.Common.{◌≡◌, ◌⊎◌, inl, inr, ⊎_elim, ℕ, ◌+◌, ◌%◌, ◌<◌, ◌≤◌, min, max, Bool, true, false, not, List, [], ◌∷◌, length, get_or, refl, ◌∙◌, ap, arith}
+use Rattle.std.proofs.Common.{◌≡◌, ◌⊎◌, inl, inr, ⊎_elim, ℕ, ◌+◌, ◌%◌, ◌<◌, ◌≤◌, min, max, Bool, true, false, not, List, [], ◌∷◌, ◌++◌, length, get_or, refl, ◌∙◌, ap, arith}
 use Rattle.std.specs.Prelude.{Result, Ok, Err}
 use Rattle.std.proofs.lemmas.Bool.{cases_lt, cases_eq}
+use Rattle.std.proofs.lemmas.List.{length-append}
 use Rattle.std.proofs.Math.Nat.{mod-lt}
 use Rattle.ldm_outside.specs.declared.fault.Failed.{Failed}
 use Rattle.ldm_disk.specs.Told.{FileRecord, IsConsistent, IsSettled}
@@ -9,9 +10,9 @@ use Rattle.ldm_disk.specs.Model.{Step, IsStep, Torn, Written, PartlyWritten, end
 use Rattle.ldm_disk.specs.Moments.{Goes, LeavesOnly}
 use Rattle.ldm_disk.specs.Calls.{WritesFile, SyncsFile}
 use Rattle.ldm_disk.proofs.CrashLemmas.{started, goes_on, follows_keeps, follows_settled, stays_keeps, settled_leaves}
-use Rattle.ldm_journal.specs.declared.places.TheConstants.{SELECT, RING}
+use Rattle.ldm_journal.specs.declared.places.TheConstants.{SELECT, RING, NOTE}
 use Rattle.ldm_journal.specs.declared.marks.Marks.{Marks}
-use Rattle.ldm_journal.specs.Records.{Kept}
+use Rattle.ldm_journal.specs.Records.{Kept, eight}
 use Rattle.ldm_journal.specs.Format.{place_of, front_at}
 use Rattle.ldm_journal.specs.Standing.{Keeps}
 use Rattle.ldm_journal.specs.Sound.{IsSound}
@@ -20,19 +21,22 @@ use Rattle.ldm_journal.specs.Committing.{IsSelecting, Selects, WritesHead, head_
 use Rattle.ldm_journal.proofs.KeepLemmas.{Agrees, by_marks, from_marks, keeps_by, selected_same, head_within, torn_beside}
 
 -- the two heads stand beside one another
-heads_apart : (odd : Bool) → (place_of odd + 24 ≤ place_of (not odd)) ⊎ (place_of (not odd) + 24 ≤ place_of odd)
+heads_apart : (odd : Bool) → (place_of odd + 24 + NOTE ≤ place_of (not odd)) ⊎ (place_of (not odd) + 24 + NOTE ≤ place_of odd)
 heads_apart false = inl (omega arith)
 heads_apart true = inr (omega arith)
 
-length-head_bytes : (marks : Marks) → length (head_bytes_of marks) ≡ 24
-length-head_bytes marks = refl
+pub length-head_bytes : (marks : Marks) → length marks.note ≡ NOTE → length (head_bytes_of marks) ≡ 24 + NOTE
+length-head_bytes marks is =
+    let numbers = eight marks.front ++ eight marks.used ++ eight marks.next in
+    let count : length numbers ≡ 24 = refl in
+    omega (arith, length-append numbers marks.note, count, is)
 
 end_le : (at : ℕ) (piece : List ℕ) → end_of_piece at piece ≤ at + length piece
 end_le at [] = omega arith
 end_le at (byte ∷ rest) = omega arith
 
 -- The head that does not count was torn.
-head_torn : (marks : Marks) (kept : List Kept) (start end : ℕ) (before after : List ℕ) → IsSound marks → start ≡ place_of (not marks.odd) → end ≤ start + 24
+head_torn : (marks : Marks) (kept : List Kept) (start end : ℕ) (before after : List ℕ) → IsSound marks → start ≡ place_of (not marks.odd) → end ≤ start + 24 + NOTE
     → Torn start end (max (length before) end) before after → Keeps marks kept before → Keeps marks kept after
 head_torn marks kept start end before after sound at to torn keeps =
     let k = by_marks marks kept before keeps in
@@ -56,7 +60,7 @@ head_torn marks kept start end before after sound at to torn keeps =
     from_marks marks kept after (selected_same before after (beside SELECT (omega (arith, whole)) (inl (omega (arith, at, other.0)))) ∙ keeps.odd)
     (keeps_by marks kept before after agrees k)
 
-module _ (before next : Marks) (kept : List Kept) (sound : IsSound before) (turned_to : next.odd ≡ not before.odd) (old : FileRecord) (consistent : IsConsistent old)
+module _ (before next : Marks) (noted : length next.note ≡ NOTE) (kept : List Kept) (sound : IsSound before) (turned_to : next.odd ≡ not before.odd) (old : FileRecord) (consistent : IsConsistent old)
     (crash : CrashKeeps before kept old) where
   private_whole : length old.bytes ≡ RING + before.ring
   private_whole = (crash old.bytes consistent.reads).holds.long
@@ -67,12 +71,12 @@ module _ (before next : Marks) (kept : List Kept) (sound : IsSound before) (turn
       let at : place_of next.odd ≡ place_of (not before.odd) = ap place_of turned_to in
       omega (arith, at, other.1, private_whole)
 
-  head_end : end_of_piece (place_of next.odd) (head_bytes_of next) ≤ min (place_of next.odd) (length old.bytes) + 24
+  head_end : end_of_piece (place_of next.odd) (head_bytes_of next) ≤ min (place_of next.odd) (length old.bytes) + 24 + NOTE
   head_end =
       let at : place_of next.odd ≡ place_of (not before.odd) = ap place_of turned_to in
-      omega (arith, end_le (place_of next.odd) (head_bytes_of next), length-head_bytes next, start_is, at)
+      omega (arith, end_le (place_of next.odd) (head_bytes_of next), length-head_bytes next noted, start_is, at)
 
-  head_keeps : (end : ℕ) (b a : List ℕ) → end ≤ min (place_of next.odd) (length old.bytes) + 24 → Keeps before kept b
+  head_keeps : (end : ℕ) (b a : List ℕ) → end ≤ min (place_of next.odd) (length old.bytes) + 24 + NOTE → Keeps before kept b
       → Torn (min (place_of next.odd) (length old.bytes)) end (max (length b) end) b a → Keeps before kept a
   head_keeps end b a le keeps torn = head_torn before kept (min (place_of next.odd) (length old.bytes)) end b a sound start_is le torn keeps
 
@@ -94,23 +98,23 @@ module _ (before next : Marks) (kept : List Kept) (sound : IsSound before) (turn
       (λ b a keeps step. head_keeps step.0 b a (omega (arith, step.1, head_end)) keeps step.2) goes).1
 
 -- the head was written and synced
-pub head_written : (result : Result (Unit {0}) Failed) (done : Unit {0}) (next : Marks) (old mid new : FileRecord) → IsConsistent old
+pub head_written : (result : Result (Unit {0}) Failed) (done : Unit {0}) (next : Marks) → length next.note ≡ NOTE → (old mid new : FileRecord) → IsConsistent old
     → WritesFile (Ok done) (place_of next.odd) (head_bytes_of next) old mid → SyncsFile result mid new → WritesHead result next old new
-head_written (Ok so) done next old mid new consistent wrote sync = λ before kept sound turned_to crash.
+head_written (Ok so) done next noted old mid new consistent wrote sync = λ before kept sound turned_to crash.
     let P = Keeps before kept in
-    let put = head_put before next kept sound turned_to old consistent crash done mid wrote in (
+    let put = head_put before next noted kept sound turned_to old consistent crash done mid wrote in (
       goes_on P old mid new put.1 sync.1.goes.time (stays_keeps P mid new put.0 sync.1.goes.crash),
       sync.1.settled,
       sync.0 ∙ wrote.0,
     )
-head_written (Err failed) done next old mid new consistent wrote goes = λ before kept sound turned_to crash.
+head_written (Err failed) done next noted old mid new consistent wrote goes = λ before kept sound turned_to crash.
     let P = Keeps before kept in
-    let put = head_put before next kept sound turned_to old consistent crash done mid wrote in
+    let put = head_put before next noted kept sound turned_to old consistent crash done mid wrote in
     goes_on P old mid new put.1 goes.time (stays_keeps P mid new put.0 goes.crash)
 
-pub head_failed : (failed : Failed) (next : Marks) (old new : FileRecord) → IsConsistent old
+pub head_failed : (failed : Failed) (next : Marks) → length next.note ≡ NOTE → (old new : FileRecord) → IsConsistent old
     → WritesFile (Err failed) (place_of next.odd) (head_bytes_of next) old new → WritesHead (Err failed) next old new
-head_failed failed next old new consistent goes = λ before kept sound turned_to crash. head_not_put before next kept sound turned_to old consistent crash failed new goes
+head_failed failed next noted old new consistent goes = λ before kept sound turned_to crash. head_not_put before next noted kept sound turned_to old consistent crash failed new goes
 
 -- The byte that selects was torn.
 select_torn : (base after : List ℕ) (end : ℕ) → SELECT < length base → end ≤ SELECT + 1

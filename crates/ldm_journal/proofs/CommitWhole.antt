@@ -49,7 +49,7 @@ stands_on marks kept appended old mid keeps stands = record {
   rising = stands.rising;
 }
 
-module _ (gap dropped : ℕ) (marks : Marks) (old mid : FileRecord) (consistent : IsConsistent old) (keeps : KeepsFile old mid)
+module _ (gap dropped : ℕ) (note : List ℕ) (marks : Marks) (old mid : FileRecord) (consistent : IsConsistent old) (keeps : KeepsFile old mid)
     (drops : DropsFor (Ok dropped) gap marks old) (kept appended : List Kept) (stands : Stands marks kept appended old) where
   abbrev left : List Kept
   left = kept_after gap marks kept appended
@@ -61,49 +61,49 @@ module _ (gap dropped : ℕ) (marks : Marks) (old mid : FileRecord) (consistent 
     rising = rising_fitting (marks.ring - gap) 0 (kept ++ appended) marks.next stands.rising;
   }
 
-  pub read_leaves : LeavesOnly (HoldsEither marks.ring kept left) old mid
+  pub read_leaves : LeavesOnly (HoldsEither marks.ring kept marks.note left note) old mid
   read_leaves =
-      let P = HoldsEither marks.ring kept left in
+      let P = HoldsEither marks.ring kept marks.note left note in
       let now : (l : List ℕ) → old.may_leave l ≡ true → P l = λ l leaves. inl (stands.crash l leaves).holds in
       goes_on P old old mid (started P old consistent now) keeps.goes.time (stays_keeps P old mid now keeps.goes.crash)
 
-  pub committed_here : (done : Unit {0}) (after : Marks) (new : FileRecord) → Turns (Ok done) dropped marks after mid new
-      → Stands after left [] new × IsSettled new × LeavesOnly (HoldsEither marks.ring kept left) old new
+  pub committed_here : (done : Unit {0}) (after : Marks) (new : FileRecord) → Turns (Ok done) dropped note marks after mid new
+      → Stands after left [] new × IsSettled new × LeavesOnly (HoldsEither marks.ring kept marks.note left note) old new
   committed_here done after new turns =
       let t = turns kept appended left (stands_on marks kept appended old mid keeps stands) is_left in
-      (t.0, t.1, joined (HoldsEither marks.ring kept left) old mid new read_leaves t.2)
+      (t.0, t.1, joined (HoldsEither marks.ring kept marks.note left note) old mid new read_leaves t.2)
 
-  pub broken_off : (failed : Failed) (after : Marks) (new : FileRecord) → Turns (Err failed) dropped marks after mid new → LeavesOnly (HoldsEither marks.ring kept left) old new
+  pub broken_off : (failed : Failed) (after : Marks) (new : FileRecord) → Turns (Err failed) dropped note marks after mid new → LeavesOnly (HoldsEither marks.ring kept marks.note left note) old new
   broken_off failed after new turns =
-      joined (HoldsEither marks.ring kept left) old mid new read_leaves (turns kept appended left (stands_on marks kept appended old mid keeps stands) is_left)
+      joined (HoldsEither marks.ring kept marks.note left note) old mid new read_leaves (turns kept appended left (stands_on marks kept appended old mid keeps stands) is_left)
 
-pub commits : (gap dropped : ℕ) (marks after : Marks) (done : Unit {0}) (old mid new : FileRecord) → IsConsistent old → KeepsFile old mid × DropsFor (Ok dropped) gap marks old
-    → Turns (Ok done) dropped marks after mid new → Commits Committed gap marks after old new
-commits gap dropped marks after done old mid new consistent first turns kept appended stands =
-    committed_here gap dropped marks old mid consistent first.0 first.1 kept appended stands done after new turns
+pub commits : (gap dropped : ℕ) (note : List ℕ) (marks after : Marks) (done : Unit {0}) (old mid new : FileRecord) → IsConsistent old → KeepsFile old mid × DropsFor (Ok dropped) gap marks old
+    → Turns (Ok done) dropped note marks after mid new → Commits Committed gap note marks after old new
+commits gap dropped note marks after done old mid new consistent first turns kept appended stands =
+    committed_here gap dropped note marks old mid consistent first.0 first.1 kept appended stands done after new turns
 
-pub commit_fails : (gap dropped : ℕ) (marks after : Marks) (failed : Failed) (old mid new : FileRecord) → IsConsistent old → KeepsFile old mid × DropsFor (Ok dropped) gap marks old
-    → Turns (Err failed) dropped marks after mid new → Commits DiskFault gap marks after old new
-commit_fails gap dropped marks after failed old mid new consistent first turns kept appended stands =
-    broken_off gap dropped marks old mid consistent first.0 first.1 kept appended stands failed after new turns
+pub commit_fails : (gap dropped : ℕ) (note : List ℕ) (marks after : Marks) (failed : Failed) (old mid new : FileRecord) → IsConsistent old → KeepsFile old mid × DropsFor (Ok dropped) gap marks old
+    → Turns (Err failed) dropped note marks after mid new → Commits DiskFault gap note marks after old new
+commit_fails gap dropped note marks after failed old mid new consistent first turns kept appended stands =
+    broken_off gap dropped note marks old mid consistent first.0 first.1 kept appended stands failed after new turns
 
 -- the disk failed while the lengths of records were read
-pub commit_not_read : (gap : ℕ) (marks after : Marks) (old new : FileRecord) → IsConsistent old → KeepsFile old new → Commits DiskFault gap marks after old new
-commit_not_read gap marks after old new consistent keeps kept appended stands =
-    let P = HoldsEither marks.ring kept (kept_after gap marks kept appended) in
+pub commit_not_read : (gap : ℕ) (note : List ℕ) (marks after : Marks) (old new : FileRecord) → IsConsistent old → KeepsFile old new → Commits DiskFault gap note marks after old new
+commit_not_read gap note marks after old new consistent keeps kept appended stands =
+    let P = HoldsEither marks.ring kept marks.note (kept_after gap marks kept appended) note in
     let now : (l : List ℕ) → old.may_leave l ≡ true → P l = λ l leaves. inl (stands.crash l leaves).holds in
     goes_on P old old new (started P old consistent now) keeps.goes.time (stays_keeps P old new now keeps.goes.crash)
 
 -- the length of a record could not be read
-pub not_dropped : (why : JournalFault) (gap : ℕ) (marks after : Marks) (old new : FileRecord) → IsConsistent old → KeepsFile old new × DropsFor (Err why) gap marks old
-    → Commits (end_of why) gap marks after old new
-not_dropped fault.DiskFault gap marks after old new consistent first = commit_not_read gap marks after old new consistent first.0
-not_dropped fault.NotAJournal gap marks after old new consistent first = first.1
-not_dropped fault.OtherRing gap marks after old new consistent first = first.1
-not_dropped fault.OtherLength gap marks after old new consistent first = first.1
-not_dropped fault.BadHead gap marks after old new consistent first = first.1
-not_dropped fault.BadRecord gap marks after old new consistent first = first.1
-not_dropped fault.OutOfMemory gap marks after old new consistent first = first.1
+pub not_dropped : (why : JournalFault) (gap : ℕ) (note : List ℕ) (marks after : Marks) (old new : FileRecord) → IsConsistent old → KeepsFile old new × DropsFor (Err why) gap marks old
+    → Commits (end_of why) gap note marks after old new
+not_dropped fault.DiskFault gap note marks after old new consistent first = commit_not_read gap note marks after old new consistent first.0
+not_dropped fault.NotAJournal gap note marks after old new consistent first = first.1
+not_dropped fault.OtherRing gap note marks after old new consistent first = first.1
+not_dropped fault.OtherLength gap note marks after old new consistent first = first.1
+not_dropped fault.BadHead gap note marks after old new consistent first = first.1
+not_dropped fault.BadRecord gap note marks after old new consistent first = first.1
+not_dropped fault.OutOfMemory gap note marks after old new consistent first = first.1
 
 pub ends_so : (why : JournalFault) (old new : DiskRecord) → old.faults ≤ new.faults → FaultRose why old new → EndsCommitting (end_of why) old new
 ends_so fault.DiskFault old new le rose = rose

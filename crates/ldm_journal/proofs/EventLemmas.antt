@@ -1,5 +1,5 @@
 -- Calls of an open journal, one after another.
-use Rattle.std.proofs.Common.{◌≡◌, inl, inr, ⊎_elim, ℕ, ◌+◌, ◌-◌, List, [], ◌∷◌, ◌++◌, length, refl, sym, ◌∙◌, ap, subst, arith}
+use Rattle.std.proofs.Common.{◌≡◌, ⊎_elim, ℕ, ◌+◌, ◌-◌, List, [], ◌∷◌, ◌++◌, length, refl, sym, ◌∙◌, ap, subst, arith}
 use Rattle.std.proofs.lemmas.List.{append_assoc}
 use Rattle.ldm_disk.specs.Told.{FileRecord, IsConsistent}
 use Rattle.ldm_disk.specs.Moments.{LeavesOnly}
@@ -18,7 +18,7 @@ use Rattle.ldm_journal.specs.Runs.{Event, Append, Commit, Content, after_event, 
 use Rattle.ldm_journal.specs.Joining.{BreaksOffAmid, IsLeftAmid, IsPartAmid, MakesEvents, then_events}
 use Rattle.ldm_journal.proofs.Around.{length-around}
 use Rattle.ldm_journal.proofs.RecordLemmas.{size-append}
-use Rattle.ldm_journal.proofs.RunLemmas.{leaves_a_part}
+use Rattle.ldm_journal.proofs.RunLemmas.{leaves_a_note, leaves_a_part}
 
 -- ---- how many bytes the records have
 
@@ -48,53 +48,73 @@ first_product marks reader ring at left kept appended file consistent stands = r
 
 -- ---- one call
 
-now_left : (ring : ℕ) (start : Content) (events : List Event) (file : List ℕ) → Holds ring start.kept file → IsLeftAmid ring start events file
-now_left ring start events file holds = record { done = []; rest = events; are = refl; left = start.kept; holds = holds; may_open = inl refl }
-
-then_left : (ring most : ℕ) (start : Content) (events : List Event) (file : List ℕ) → Holds ring (after_event start (Commit most)).kept file → IsLeftAmid ring start events file
-then_left ring most start events file holds = record {
+now_left : (ring : ℕ) (start : Content) (events : List Event) (note file : List ℕ) → start.note ≡ note → Holds ring start.kept note file → IsLeftAmid ring start events file
+now_left ring start events note file noted holds = record {
   done = [];
   rest = events;
   are = refl;
-  left = (after_event start (Commit most)).kept;
+  left = start.kept;
+  note = note;
   holds = holds;
-  may_open = inr (most, refl);
+  may_open = (refl, sym noted);
 }
 
-either_left : (ring most : ℕ) (start : Content) (events : List Event) (file : List ℕ) → HoldsEither ring start.kept (after_event start (Commit most)).kept file → IsLeftAmid ring start events file
-either_left ring most start events file holds = ⊎_elim (now_left ring start events file) (then_left ring most start events file) holds
+then_left : (ring most : ℕ) (start : Content) (note file : List ℕ) → Holds ring (after_event start (Commit most note)).kept note file → IsLeftAmid ring start (Commit most note ∷ []) file
+then_left ring most start note file holds = record {
+  done = Commit most note ∷ [];
+  rest = [];
+  are = refl;
+  left = (after_event start (Commit most note)).kept;
+  note = note;
+  holds = holds;
+  may_open = (refl, refl);
+}
+
+either_left : (ring most : ℕ) (start : Content) (was note file : List ℕ) → start.note ≡ was → HoldsEither ring start.kept was (after_event start (Commit most note)).kept note file
+    → IsLeftAmid ring start (Commit most note ∷ []) file
+either_left ring most start was note file noted holds =
+    ⊎_elim (now_left ring start (Commit most note ∷ []) was file noted) (then_left ring most start note file) holds
 
 pub no_event : (marks : Marks) (file : FileRecord) → IsConsistent file → MakesEvents (λ start. []) marks marks file file
-no_event marks file consistent start stands =
-    (stands, started (IsLeftAmid marks.ring start []) file consistent (λ left leaves. now_left marks.ring start [] left (stands.crash left leaves).holds))
+no_event marks file consistent start stands noted = (
+  stands,
+  sym noted,
+  started (IsLeftAmid marks.ring start []) file consistent (λ left leaves. now_left marks.ring start [] marks.note left noted (stands.crash left leaves).holds),
+)
 
-pub append_event : (k : Kept) (before after : Marks) (old new : FileRecord) → Appends append.Appended k before after old new
+pub append_event : (k : Kept) (before after : Marks) → after.note ≡ before.note → (old new : FileRecord) → Appends append.Appended k before after old new
     → MakesEvents (λ start. Append k ∷ []) before after old new
-append_event k before after old new appends start stands =
-    let one = appends start.kept start.appended stands in
-    (one.0, weaker (Holds before.ring start.kept) (IsLeftAmid before.ring start (Append k ∷ [])) (λ left holds. now_left before.ring start (Append k ∷ []) left holds) old new one.1)
+append_event k before after same old new appends start stands noted =
+    let one = appends start.kept start.appended stands in (
+      one.0,
+      same ∙ sym noted,
+      weaker (Holds before.ring start.kept before.note) (IsLeftAmid before.ring start (Append k ∷ []))
+          (λ left holds. now_left before.ring start (Append k ∷ []) before.note left noted holds) old new one.1,
+    )
 
 pub append_breaks : (events : Content → List Event) (k : Kept) (before after : Marks) (old new : FileRecord) → Appends append.DiskFault k before after old new
     → BreaksOffAmid events before old new
-append_breaks events k before after old new appends start stands =
-    weaker (Holds before.ring start.kept) (IsLeftAmid before.ring start (events start)) (λ left holds. now_left before.ring start (events start) left holds) old new
-    (appends start.kept start.appended stands)
+append_breaks events k before after old new appends start stands noted =
+    weaker (Holds before.ring start.kept before.note) (IsLeftAmid before.ring start (events start))
+    (λ left holds. now_left before.ring start (events start) before.note left noted holds) old new (appends start.kept start.appended stands)
 
-pub commit_event : (gap : ℕ) (before after : Marks) (old new : FileRecord) → Commits commit.Committed gap before after old new
-    → MakesEvents (λ start. Commit (before.ring - gap) ∷ []) before after old new
-commit_event gap before after old new commits start stands =
-    let one = commits start.kept start.appended stands in
-    let events = Commit (before.ring - gap) ∷ [] in (
+pub commit_event : (gap : ℕ) (note : List ℕ) (before after : Marks) → after.note ≡ note → (old new : FileRecord) → Commits commit.Committed gap note before after old new
+    → MakesEvents (λ start. Commit (before.ring - gap) note ∷ []) before after old new
+commit_event gap note before after is old new commits start stands noted =
+    let one = commits start.kept start.appended stands in (
       one.0,
-      weaker (HoldsEither before.ring start.kept (kept_after gap before start.kept start.appended)) (IsLeftAmid before.ring start events)
-          (λ left holds. either_left before.ring (before.ring - gap) start events left holds) old new one.2,
+      is,
+      weaker (HoldsEither before.ring start.kept before.note (kept_after gap before start.kept start.appended) note)
+          (IsLeftAmid before.ring start (Commit (before.ring - gap) note ∷ []))
+          (λ left holds. either_left before.ring (before.ring - gap) start before.note note left noted holds) old new one.2,
     )
 
-pub commit_breaks : (events : Content → List Event) (gap : ℕ) (before after : Marks) (old new : FileRecord) → Commits commit.DiskFault gap before after old new
-    → BreaksOffAmid events before old new
-commit_breaks events gap before after old new commits start stands =
-    weaker (HoldsEither before.ring start.kept (kept_after gap before start.kept start.appended)) (IsLeftAmid before.ring start (events start))
-    (λ left holds. either_left before.ring (before.ring - gap) start (events start) left holds) old new (commits start.kept start.appended stands)
+pub commit_breaks : (gap : ℕ) (note : List ℕ) (before after : Marks) (old new : FileRecord) → Commits commit.DiskFault gap note before after old new
+    → BreaksOffAmid (λ start. Commit (before.ring - gap) note ∷ []) before old new
+commit_breaks gap note before after old new commits start stands noted =
+    weaker (HoldsEither before.ring start.kept before.note (kept_after gap before start.kept start.appended) note)
+    (IsLeftAmid before.ring start (Commit (before.ring - gap) note ∷ []))
+    (λ left holds. either_left before.ring (before.ring - gap) start before.note note left noted holds) old new (commits start.kept start.appended stands)
 
 -- ---- calls in a row
 
@@ -108,6 +128,7 @@ left_early ring start first more file left = record {
   rest = left.rest ++ more;
   are = sym (append_assoc left.done left.rest more) ∙ ap (λ (l : List Event). l ++ more) left.are;
   left = left.left;
+  note = left.note;
   holds = left.holds;
   may_open = left.may_open;
 }
@@ -118,6 +139,7 @@ left_late ring start first more file left = record {
   rest = left.rest;
   are = append_assoc first left.done left.rest ∙ ap (λ (l : List Event). first ++ l) left.are;
   left = left.left;
+  note = left.note;
   holds = left.holds;
   may_open = rw (after_both start first left.done) left.may_open;
 }
@@ -135,52 +157,60 @@ module _ (first more : Content → List Event) (a b : Marks) (ring : b.ring ≡ 
   leaves_then start leaves = subst (λ (r : ℕ). LeavesOnly (IsLeftAmid r (after_events start (first start)) (more (after_events start (first start)))) mid new) ring leaves
 
   pub events_then : (c : Marks) → MakesEvents first a b old mid → MakesEvents more b c mid new → MakesEvents (then_events first more) a c old new
-  events_then c one two start stands =
-      let here = one start stands in
+  events_then c one two start stands noted =
+      let here = one start stands noted in
       let middle = after_events start (first start) in
-      let there = two middle here.0 in (
-        subst (λ (end : Content). Stands c end.kept end.appended new) (sym (after_both start (first start) (more middle))) there.0,
-        both_left a.ring start (first start) (more middle) old mid new here.1 (leaves_then start there.1),
+      let there = two middle here.0 (sym here.1) in
+      let both = sym (after_both start (first start) (more middle)) in (
+        subst (λ (end : Content). Stands c end.kept end.appended new) both there.0,
+        there.1 ∙ ap (λ (end : Content). end.note) both,
+        both_left a.ring start (first start) (more middle) old mid new here.2 (leaves_then start there.2),
       )
 
   pub events_break : MakesEvents first a b old mid → BreaksOffAmid more b mid new → BreaksOffAmid (then_events first more) a old new
-  events_break one two start stands =
-      let here = one start stands in
+  events_break one two start stands noted =
+      let here = one start stands noted in
       let middle = after_events start (first start) in
-      both_left a.ring start (first start) (more middle) old mid new here.1 (leaves_then start (two middle here.0))
+      both_left a.ring start (first start) (more middle) old mid new here.2 (leaves_then start (two middle here.0 (sym here.1)))
 
 -- calls that ended well are such, too, that leave so
 pub events_leave : (events : Content → List Event) (before after : Marks) (old new : FileRecord) → MakesEvents events before after old new → BreaksOffAmid events before old new
-events_leave events before after old new makes start stands = (makes start stands).1
+events_leave events before after old new makes start stands noted = (makes start stands noted).2
 
 -- a crash leaves what more events may leave
 pub breaks_early : (first more : Content → List Event) (before : Marks) (old new : FileRecord) → BreaksOffAmid first before old new
     → BreaksOffAmid (then_events first more) before old new
-breaks_early first more before old new breaks start stands =
+breaks_early first more before old new breaks start stands noted =
     let all = then_events first more start in
     weaker (IsLeftAmid before.ring start (first start)) (IsLeftAmid before.ring start all)
-    (λ left was. left_early before.ring start (first start) (more (after_events start (first start))) left was) old new (breaks start stands)
+    (λ left was. left_early before.ring start (first start) (more (after_events start (first start))) left was) old new (breaks start stands noted)
 
 -- the same events in other words
-pub same_events : (f g : Content → List Event) (before after : Marks) (old new : FileRecord) → ((start : Content) → Stands before start.kept start.appended old → f start ≡ g start)
+pub same_events : (f g : Content → List Event) (before after : Marks) (old new : FileRecord)
+    → ((start : Content) → Stands before start.kept start.appended old → start.note ≡ before.note → f start ≡ g start)
     → MakesEvents f before after old new → MakesEvents g before after old new
-same_events f g before after old new same makes start stands =
-    let one = makes start stands in
+same_events f g before after old new same makes start stands noted =
+    let one = makes start stands noted in
     subst
-    (λ (events : List Event). (let end = after_events start events in Stands after end.kept end.appended new × LeavesOnly (IsLeftAmid before.ring start events) old new))
-    (same start stands) one
+    (λ (events : List Event).
+    (let end = after_events start events in
+    Stands after end.kept end.appended new × (after.note ≡ end.note) × LeavesOnly (IsLeftAmid before.ring start events) old new))
+    (same start stands noted) one
 
-pub same_breaks : (f g : Content → List Event) (before : Marks) (old new : FileRecord) → ((start : Content) → Stands before start.kept start.appended old → f start ≡ g start)
-    → BreaksOffAmid f before old new → BreaksOffAmid g before old new
-same_breaks f g before old new same breaks start stands =
-    subst (λ (events : List Event). LeavesOnly (IsLeftAmid before.ring start events) old new) (same start stands) (breaks start stands)
+pub same_breaks : (f g : Content → List Event) (before : Marks) (old new : FileRecord)
+    → ((start : Content) → Stands before start.kept start.appended old → start.note ≡ before.note → f start ≡ g start) → BreaksOffAmid f before old new → BreaksOffAmid g before old new
+same_breaks f g before old new same breaks start stands noted =
+    subst (λ (events : List Event). LeavesOnly (IsLeftAmid before.ring start events) old new) (same start stands noted) (breaks start stands noted)
 
-pub part_amid : (ring : ℕ) (first : List Kept) (events : List Event) (file : List ℕ) → IsLeftAmid ring (opened first) events file → IsPartAmid ring first events file
-part_amid ring first events file left = record {
+pub part_amid : (ring : ℕ) (first : List Kept) (begun : List ℕ) (events : List Event) (file : List ℕ) → IsLeftAmid ring (opened first begun) events file
+    → IsPartAmid ring first begun events file
+part_amid ring first begun events file left = record {
   done = left.done;
   rest = left.rest;
   are = left.are;
   left = left.left;
+  note = left.note;
   holds = left.holds;
-  part = leaves_a_part first left.done left.left left.may_open;
+  noted = leaves_a_note first begun left.done left.left left.note left.may_open;
+  part = leaves_a_part first begun left.done left.left left.note left.may_open;
 }

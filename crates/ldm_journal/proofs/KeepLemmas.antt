@@ -4,10 +4,10 @@ use Rattle.std.specs.Int.{w64, from_be_bytes}
 use Rattle.std.proofs.lemmas.Bool.{cases_lt}
 use Rattle.std.proofs.Math.Nat.{mod-eq_of_lt, mod-lt}
 use Rattle.ldm_disk.specs.Model.{Torn}
-use Rattle.ldm_journal.specs.declared.places.TheConstants.{SELECT, RING}
+use Rattle.ldm_journal.specs.declared.places.TheConstants.{SELECT, RING, NOTE}
 use Rattle.ldm_journal.specs.declared.marks.Marks.{Marks}
 use Rattle.ldm_journal.specs.Records.{Kept, AreRising}
-use Rattle.ldm_journal.specs.Format.{HoldsBy, number_at, selected, place_of, front_at, used_at, next_at, around}
+use Rattle.ldm_journal.specs.Format.{HoldsBy, number_at, selected, place_of, front_at, used_at, next_at, note_at, around}
 use Rattle.ldm_journal.specs.Standing.{Keeps}
 use Rattle.ldm_journal.specs.Sound.{IsSound}
 use Rattle.ldm_journal.proofs.Around.{around_same, between_same, take_same, mod_round}
@@ -16,7 +16,7 @@ use Rattle.ldm_journal.proofs.Around.{around_same, between_same, take_same, mod_
 pub record Agrees (from ring : ℕ) (before after : List ℕ) : Type 0 where
   pub long : length after ≡ length before
   pub opening : (q : ℕ) → q < 24 → get_or after q 0 ≡ get_or before q 0
-  pub head : (q : ℕ) → from ≤ q → q < from + 24 → get_or after q 0 ≡ get_or before q 0
+  pub head : (q : ℕ) → from ≤ q → q < from + 24 + NOTE → get_or after q 0 ≡ get_or before q 0
   pub records : (i : ℕ) → i < used_at from before
       → get_or after (RING + (front_at from before + i) % ring) 0 ≡ get_or before (RING + (front_at from before + i) % ring) 0
 
@@ -29,22 +29,24 @@ pub selected_same : (before after : List ℕ) → get_or after SELECT 0 ≡ get_
 unfolding selected
 selected_same before after same = ap (λ (byte : ℕ). byte % 2 == 1) same
 
--- the three numbers of a head
+-- the three numbers of a head, and its note
 pub record SameHead (head : ℕ) (before after : List ℕ) : Type 0 where
   pub front : front_at head after ≡ front_at head before
   pub used : used_at head after ≡ used_at head before
   pub next : next_at head after ≡ next_at head before
+  pub note : note_at head after ≡ note_at head before
 
 pub same_head : (head : ℕ) (before after : List ℕ) → length after ≡ length before
-    → ((q : ℕ) → head ≤ q → q < head + 24 → get_or after q 0 ≡ get_or before q 0) → SameHead head before after
+    → ((q : ℕ) → head ≤ q → q < head + 24 + NOTE → get_or after q 0 ≡ get_or before q 0) → SameHead head before after
 same_head head before after long same = record {
   front = number_same head before after long (λ q from to. same q from (omega (arith, to)));
   used = number_same (head + 8) before after long (λ q from to. same q (omega (arith, from)) (omega (arith, to)));
   next = number_same (head + 16) before after long (λ q from to. same q (omega (arith, from)) (omega (arith, to)));
+  note = between_same (head + 24) (head + 24 + NOTE) before after long (λ q from to. same q (omega (arith, from)) to);
 }
 
-pub holds_by : (head ring : ℕ) (kept : List Kept) (before after : List ℕ) → Agrees head ring before after → HoldsBy head ring kept before → HoldsBy head ring kept after
-holds_by head ring kept before after agrees h =
+pub holds_by : (head ring : ℕ) (kept : List Kept) (note before after : List ℕ) → Agrees head ring before after → HoldsBy head ring kept note before → HoldsBy head ring kept note after
+holds_by head ring kept note before after agrees h =
     let same = same_head head before after agrees.long agrees.head in
     record {
       opened = take_same 24 before after agrees.long agrees.opening ∙ h.opened;
@@ -55,24 +57,25 @@ holds_by head ring kept before after agrees h =
           ∙ around_same ring (front_at head before) (used_at head before) before after agrees.records ∙ h.records;
       lawful = h.lawful;
       rising = subst (λ (n : ℕ). AreRising 0 kept n) (sym same.next) h.rising;
+      noted = same.note ∙ h.noted;
     }
 
 -- what is kept, by the marks alone
 pub record KeepsBy (marks : Marks) (kept : List Kept) (file : List ℕ) : Type 0 where
-  pub holds : HoldsBy (place_of marks.odd) marks.ring kept file
+  pub holds : HoldsBy (place_of marks.odd) marks.ring kept marks.note file
   pub front : front_at (place_of marks.odd) file ≡ marks.front
   pub used : used_at (place_of marks.odd) file ≡ marks.used
 
 pub by_marks : (marks : Marks) (kept : List Kept) (file : List ℕ) → Keeps marks kept file → KeepsBy marks kept file
 by_marks marks kept file k = record {
-  holds = subst (λ (o : Bool). HoldsBy (place_of o) marks.ring kept file) k.odd k.holds;
+  holds = subst (λ (o : Bool). HoldsBy (place_of o) marks.ring kept marks.note file) k.odd k.holds;
   front = subst (λ (o : Bool). front_at (place_of o) file ≡ marks.front) k.odd k.front;
   used = subst (λ (o : Bool). used_at (place_of o) file ≡ marks.used) k.odd k.used;
 }
 
 pub from_marks : (marks : Marks) (kept : List Kept) (file : List ℕ) → selected file ≡ marks.odd → KeepsBy marks kept file → Keeps marks kept file
 from_marks marks kept file odd k = record {
-  holds = subst (λ (o : Bool). HoldsBy (place_of o) marks.ring kept file) (sym odd) k.holds;
+  holds = subst (λ (o : Bool). HoldsBy (place_of o) marks.ring kept marks.note file) (sym odd) k.holds;
   odd = odd;
   front = subst (λ (o : Bool). front_at (place_of o) file ≡ marks.front) (sym odd) k.front;
   used = subst (λ (o : Bool). used_at (place_of o) file ≡ marks.used) (sym odd) k.used;
@@ -82,13 +85,13 @@ pub keeps_by : (marks : Marks) (kept : List Kept) (before after : List ℕ) → 
 keeps_by marks kept before after agrees k =
     let same = same_head (place_of marks.odd) before after agrees.long agrees.head in
     record {
-      holds = holds_by (place_of marks.odd) marks.ring kept before after agrees k.holds;
+      holds = holds_by (place_of marks.odd) marks.ring kept marks.note before after agrees k.holds;
       front = same.front ∙ k.front;
       used = same.used ∙ k.used;
     }
 
 -- heads stand in front of the ring
-pub head_within : (odd : Bool) → (24 < place_of odd) × (place_of odd + 24 ≤ RING)
+pub head_within : (odd : Bool) → (24 < place_of odd) × (place_of odd + 24 + NOTE ≤ RING)
 head_within false = (omega arith, omega arith)
 head_within true = (omega arith, omega arith)
 

@@ -1,63 +1,97 @@
 -- Making a journal in an empty file.
-use Rattle.std.proofs.Common.{◌≡◌, inl, inr, ⊎_elim, ℕ, ◌+◌, ◌-◌, ◌<◌, ◌≤◌, min, max, true, false, List, [], ◌∷◌, ◌++◌, length, take, replicate, get_or, refl, sym, ◌∙◌, ap, subst, arith}
+use Rattle.std.proofs.Common.{◌≡◌, inl, inr, ⊎_elim, ℕ, ◌+◌, ◌-◌, ◌%◌, ◌==◌, ◌<◌, ◌≤◌, min, max, true, false, List, [], ◌∷◌, ◌++◌, length, take, replicate, get_or, refl, sym, ◌∙◌, ap, subst, arith}
 use Rattle.std.specs.Prelude.{Result, Ok, Err}
-use Rattle.std.proofs.lemmas.List.{append-nil, length-append, length-take, length-replicate, take-take, get_or-take, ext_get_or, drop_all}
+use Rattle.std.specs.Int.{w64, from_be_bytes}
+use Rattle.std.specs.List.{between}
+use Rattle.std.proofs.lemmas.List.Edits.{get_or-between}
+use Rattle.std.proofs.lemmas.List.{append-nil, length-append, length-take, length-replicate, take-take, take_at, get_or-append_right, get_or-replicate, get_or-take, ext_get_or, drop_all}
 use Rattle.ldm_outside.specs.declared.fault.Failed.{Failed}
 use Rattle.ldm_disk.specs.Told.{FileRecord, IsConsistent, IsSettled}
 use Rattle.ldm_disk.specs.Model.{Step, IsStep, Torn, Written, PartlyWritten, Cut, written_at, cut_to, end_of_piece}
 use Rattle.ldm_disk.specs.Moments.{Goes, LeavesOnly}
 use Rattle.ldm_disk.specs.Calls.{WritesFile, CutsFile, SyncsFile}
 use Rattle.ldm_disk.proofs.CrashLemmas.{started, goes_on, joined, weaker, follows_settled, stays_keeps, settled_leaves}
-use Rattle.ldm_journal.specs.declared.places.TheConstants.{RING}
-use Rattle.ldm_journal.specs.Format.{opening, number_at, selected, front_at, used_at, around}
+use Rattle.ldm_journal.specs.declared.places.TheConstants.{SELECT, HEAD_A, RING, NOTE}
+use Rattle.ldm_journal.specs.Format.{opening, number_at, selected, front_at, used_at, note_at, no_note, zeros, around}
 use Rattle.ldm_journal.specs.Standing.{Keeps}
 use Rattle.ldm_journal.specs.Making.{first_marks, first_front, LeftOfMaking, Lays, Widens, Makes}
+use Rattle.ldm_journal.proofs.Around.{length-between'}
 use Rattle.ldm_journal.proofs.KeepLemmas.{from_marks}
-use Rattle.ldm_journal.proofs.OpenLemmas.{number_in_front, selected_in_front}
+use Rattle.ldm_journal.proofs.OpenLemmas.{between_in_front, number_in_front, selected_in_front}
 
-length-front : (ring : ℕ) → length (first_front ring) ≡ 80
-length-front ring = refl
+pub length-zeros : (n : ℕ) → length (zeros n) ≡ n
+unfolding zeros
+length-zeros n = length-replicate {A = ℕ} n 0
+
+get_or-zeros : (n i : ℕ) → i < n → get_or (zeros n) i 0 ≡ 0
+unfolding zeros
+get_or-zeros n i less = get_or-replicate n i 0 0 less
+
+number_of_zeros : from_be_bytes w64 (zeros 8) ≡ 0
+unfolding zeros
+number_of_zeros = refl
+
+length-front : (ring : ℕ) → length (first_front ring) ≡ RING
+length-front ring = let count : length (opening ring) ≡ 24 = refl in omega (arith, length-append (opening ring) (zeros 12264), length-zeros 12264, count)
 
 front_begins : (ring : ℕ) → take 24 (first_front ring) ≡ opening ring
-front_begins ring = refl
+front_begins ring = take_at (opening ring) (zeros 12264) 24 refl
+
+-- bytes behind the opening
+zero_behind : (ring q : ℕ) → 24 ≤ q → q < RING → get_or (first_front ring) q 0 ≡ 0
+zero_behind ring q from to = get_or-append_right (opening ring) (zeros 12264) 24 q 0 refl from ∙ get_or-zeros 12264 (q - 24) (omega (arith, from, to))
+
+zeros_behind : (ring from n : ℕ) → 24 ≤ from → from + n ≤ RING → between from (from + n) (first_front ring) ≡ zeros n
+zeros_behind ring from n low high =
+    let la = length-between' from (from + n) (first_front ring) in
+    let lb = length-zeros n in
+    ext_get_or 0 (between from (from + n) (first_front ring)) (zeros n) (omega (arith, la, lb, length-front ring, high))
+    (λ k less.
+    let lt : k < n = omega (arith, less, la) in
+    get_or-between (first_front ring) from (from + n) k 0 (omega (arith, lt))
+    ∙ zero_behind ring (from + k) (omega (arith, low)) (omega (arith, lt, high))
+    ∙ sym (get_or-zeros n k lt))
 
 front_even : (ring : ℕ) → selected (first_front ring) ≡ false
 unfolding selected
-front_even ring = refl
+front_even ring = ap (λ (byte : ℕ). byte % 2 == 1) (zero_behind ring SELECT (omega arith) (omega arith))
 
-front_front : (ring : ℕ) → number_at 32 (first_front ring) ≡ 0
+front_number : (ring place : ℕ) → 24 ≤ place → place + 8 ≤ RING → number_at place (first_front ring) ≡ 0
 unfolding number_at
-front_front ring = refl
-
-front_used : (ring : ℕ) → number_at 40 (first_front ring) ≡ 0
-unfolding number_at
-front_used ring = refl
+front_number ring place low high = ap (λ (l : List ℕ). from_be_bytes w64 l) (zeros_behind ring place 8 low high) ∙ number_of_zeros
 
 around_none : (ring from : ℕ) (file : List ℕ) → around ring from 0 file ≡ []
 unfolding around
 around_none ring from file = refl
 
 -- a file that begins as a new journal does, and has its length
-pub keeps_nothing : (ring : ℕ) (file : List ℕ) → 0 < ring → length file ≡ RING + ring → ((q : ℕ) → q < 80 → get_or file q 0 ≡ get_or (first_front ring) q 0)
+pub keeps_nothing : (ring : ℕ) (file : List ℕ) → 0 < ring → length file ≡ RING + ring → ((q : ℕ) → q < RING → get_or file q 0 ≡ get_or (first_front ring) q 0)
     → Keeps (first_marks ring) [] file
 keeps_nothing ring file some long same =
-    let count : length (take 80 file) ≡ 80 = omega (arith, length-take 80 file, long) in
-    let front : take 80 file ≡ first_front ring =
-    ext_get_or 0 (take 80 file) (first_front ring) (count ∙ sym (length-front ring))
-    (λ i within. let lt : i < 80 = omega (arith, within, count) in get_or-take 80 file i 0 lt ∙ same i lt) in
-    let f : front_at 32 file ≡ 0 = sym (number_in_front 32 file (omega arith)) ∙ ap (λ (l : List ℕ). number_at 32 l) front ∙ front_front ring in
-    let u : used_at 32 file ≡ 0 = sym (number_in_front 40 file (omega arith)) ∙ ap (λ (l : List ℕ). number_at 40 l) front ∙ front_used ring in
+    let count : length (take RING file) ≡ RING = omega (arith, length-take RING file, long) in
+    let front : take RING file ≡ first_front ring =
+    ext_get_or 0 (take RING file) (first_front ring) (count ∙ sym (length-front ring))
+    (λ i within. let lt : i < RING = omega (arith, within, count) in get_or-take RING file i 0 lt ∙ same i lt) in
+    let head = HEAD_A in
+    let number : (place : ℕ) → 24 ≤ place → place + 8 ≤ RING → number_at place file ≡ 0 =
+    λ place low high. sym (number_in_front place file high) ∙ ap (λ (l : List ℕ). number_at place l) front ∙ front_number ring place low high in
+    let f : front_at head file ≡ 0 = number head (omega arith) (omega arith) in
+    let u : used_at head file ≡ 0 = number (head + 8) (omega arith) (omega arith) in
+    let n : note_at head file ≡ no_note =
+    sym (between_in_front (head + 24) (head + 24 + NOTE) file (omega arith)) ∙ ap (λ (l : List ℕ). note_at head l) front
+    ∙ zeros_behind ring (head + 24) NOTE (omega arith) (omega arith) in
     let even : selected file ≡ false = sym (selected_in_front file) ∙ ap selected front ∙ front_even ring in
     from_marks (first_marks ring) [] file even
     (record {
       holds = record {
-        opened = sym (take-take 24 80 file (omega arith)) ∙ ap (λ (l : List ℕ). take 24 l) front ∙ front_begins ring;
+        opened = sym (take-take 24 RING file (omega arith)) ∙ ap (λ (l : List ℕ). take 24 l) front ∙ front_begins ring;
         long = long;
         front = omega (arith, f, some);
         used = omega (arith, u);
-        records = ap (λ (n : ℕ). around ring (front_at 32 file) n file) u ∙ around_none ring (front_at 32 file) file;
+        records = ap (λ (n : ℕ). around ring (front_at head file) n file) u ∙ around_none ring (front_at head file) file;
         lawful = tt;
         rising = omega arith;
+        noted = n;
       };
       front = f;
       used = u;
@@ -75,7 +109,7 @@ written_on_nothing (byte ∷ rest) =
 abbrev Short : List ℕ → Type 0
 Short left = length left ≤ RING
 
-lay_torn : (ring start end : ℕ) (before after : List ℕ) → before ≡ [] → end ≤ 80 → Torn start end (max (length before) end) before after → Short after
+lay_torn : (ring start end : ℕ) (before after : List ℕ) → before ≡ [] → end ≤ RING → Torn start end (max (length before) end) before after → Short after
 lay_torn ring start end before after none le torn =
     let zero : length before ≡ 0 = ap length none in
     ⊎_elim (λ same. omega (arith, same, zero)) (λ new. omega (arith, new, zero, le)) torn.long
@@ -109,7 +143,7 @@ not_laid failed ring old new consistent goes = λ none settled.
 -- the ring was put behind, or not yet
 widen_torn : (ring : ℕ) (before after : List ℕ) → 0 < ring → before ≡ first_front ring → Torn (length before) (RING + ring) (RING + ring) before after → LeftOfMaking ring after
 widen_torn ring before after some is torn =
-    let long : length before ≡ 80 = ap length is ∙ length-front ring in
+    let long : length before ≡ RING = ap length is ∙ length-front ring in
     ⊎_elim (λ same. inl (λ whole. omega (arith, same, long, whole, some)))
     (λ whole.
     inr
@@ -122,13 +156,13 @@ widen_goes : (ring : ℕ) (old mid : FileRecord) → 0 < ring → IsConsistent o
 widen_goes ring old mid some consistent settled is goes =
     let P = LeftOfMaking ring in
     let now = follows_settled P (Cut (length old.bytes) (RING + ring)) old mid settled goes.crash (λ after step. widen_torn ring old.bytes after some is step) in
-    let long : length old.bytes ≡ 80 = ap length is ∙ length-front ring in
+    let long : length old.bytes ≡ RING = ap length is ∙ length-front ring in
     let here : P old.bytes = inl (λ whole. omega (arith, long, whole, some)) in
     (goes_on P old old mid (started P old consistent (settled_leaves P old settled here)) goes.time now, now)
 
 whole_after : (ring : ℕ) (bytes : List ℕ) → bytes ≡ first_front ring → length (cut_to (RING + ring) bytes) ≡ RING + ring
 whole_after ring bytes is =
-    let long : length bytes ≡ 80 = ap length is ∙ length-front ring in
+    let long : length bytes ≡ RING = ap length is ∙ length-front ring in
     omega (
       arith,
       length-append (take (RING + ring) bytes) (replicate (RING + ring - length bytes) 0),

@@ -71,8 +71,9 @@ one_list (x ∷ xs) (y ∷ ys) lx ly short is =
     let rest = one_list xs ys lx.1 ly.1 (omega (arith, short, length-append (record_bytes x) (records_of xs))) one.1 in
     cc (one.0, rest)
 
-pub one_kept : (ring : ℕ) (xs ys : List Kept) (file : List ℕ) → ring ≤ LARGEST_RING → Holds ring xs file → Holds ring ys file → xs ≡ ys
-one_kept ring xs ys file sized a b =
+pub one_kept : (ring : ℕ) (xs ys : List Kept) (first second file : List ℕ) → ring ≤ LARGEST_RING → Holds ring xs first file → Holds ring ys second file
+    → (xs ≡ ys) × (first ≡ second)
+one_kept ring xs ys first second file sized a b =
     let len : length (records_of xs) ≡ used_at (place_of (selected file)) file =
     ap length (sym a.records) ∙ length-around ring (front_at (place_of (selected file)) file) (used_at (place_of (selected file)) file) file in
-    one_list xs ys a.lawful b.lawful (omega (arith, len, a.used, sized)) (sym a.records ∙ b.records)
+    (one_list xs ys a.lawful b.lawful (omega (arith, len, a.used, sized)) (sym a.records ∙ b.records), sym a.noted ∙ b.noted)

@@ -5,13 +5,13 @@ use Rattle.std.specs.Int.{w64, from_be_bytes}
 use Rattle.std.specs.List.{AllByRecursion, between}
 use Rattle.std.proofs.lemmas.List.{append-nil, append_assoc, length-append, take-take, get_or-take}
 use Rattle.std.proofs.lemmas.Slice.{between_is, between_from_start}
-use Rattle.ldm_journal.specs.declared.places.TheConstants.{RING, LARGEST_RING}
+use Rattle.ldm_journal.specs.declared.places.TheConstants.{SELECT, RING, LARGEST_RING, NOTE}
 use Rattle.ldm_journal.specs.declared.marks.Marks.{Marks}
 use Rattle.ldm_journal.specs.declared.entry.Entry.{Entry}
 use Rattle.ldm_journal.specs.declared.fault.JournalFault.{JournalFault}
 use Rattle.ldm_journal.specs.declared.fault.JournalFault.TheVariants.{NotAJournal, OtherRing, OtherLength, BadHead, BadRecord, DiskFault, OutOfMemory}
 use Rattle.ldm_journal.specs.Records.{Kept, record_bytes, records_of, IsLawful, AreRising}
-use Rattle.ldm_journal.specs.Format.{Holds, opening, number_at, selected, place_of, front_at, used_at, around}
+use Rattle.ldm_journal.specs.Format.{Holds, opening, number_at, selected, place_of, front_at, used_at, note_at, around}
 use Rattle.ldm_journal.specs.Reading.{Fills, ReadsRecord, kept_of}
 use Rattle.ldm_journal.specs.Opening.{AreRecords, HasMarks, HasNumbers, IsOfFile, JudgesFile, JudgesFront, JudgesRecords}
 use Rattle.ldm_journal.specs.Sound.{IsSound}
@@ -23,19 +23,21 @@ use Rattle.ldm_journal.proofs.RecordLemmas.{records-push, lawful_both}
 use Rattle.ldm_journal.proofs.ReadLemmas.{least_record}
 use Rattle.ldm_journal.proofs.OneList.{one_record, small}
 
--- a number in front of the ring
-pub number_in_front : (place : ℕ) (file : List ℕ) → place + 8 ≤ 80 → number_at place (take 80 file) ≡ number_at place file
-unfolding number_at
-number_in_front place file within =
-    ap (λ (l : List ℕ). from_be_bytes w64 l)
-    (between_is (take 80 file) place (place + 8) ∙ ap (λ (l : List ℕ). drop place l) (take-take (place + 8) 80 file within) ∙ sym (between_is file place (place + 8)))
+-- bytes in front of the ring
+pub between_in_front : (from to : ℕ) (file : List ℕ) → to ≤ RING → between from to (take RING file) ≡ between from to file
+between_in_front from to file within =
+    between_is (take RING file) from to ∙ ap (λ (l : List ℕ). drop from l) (take-take to RING file within) ∙ sym (between_is file from to)
 
-pub selected_in_front : (file : List ℕ) → selected (take 80 file) ≡ selected file
+pub number_in_front : (place : ℕ) (file : List ℕ) → place + 8 ≤ RING → number_at place (take RING file) ≡ number_at place file
+unfolding number_at
+number_in_front place file within = ap (λ (l : List ℕ). from_be_bytes w64 l) (between_in_front place (place + 8) file within)
+
+pub selected_in_front : (file : List ℕ) → selected (take RING file) ≡ selected file
 unfolding selected
-selected_in_front file = ap (λ (byte : ℕ). byte % 2 == 1) (get_or-take 80 file 24 0 (omega arith))
+selected_in_front file = ap (λ (byte : ℕ). byte % 2 == 1) (get_or-take RING file SELECT 0 (omega arith))
 
 -- what the marks say of the whole file
-pub front_judged : (marks : Marks) (ring : ℕ) (front file : List ℕ) → front ≡ take 80 file → take 24 front ≡ opening ring → length file ≡ RING + ring
+pub front_judged : (marks : Marks) (ring : ℕ) (front file : List ℕ) → front ≡ take RING file → take 24 front ≡ opening ring → length file ≡ RING + ring
     → HasNumbers marks ring (selected front) front → HasMarks marks ring file
 front_judged marks ring front file is opened long numbers =
     let odd : selected front ≡ selected file = ap selected is ∙ selected_in_front file in
@@ -46,7 +48,7 @@ front_judged marks ring front file is opened long numbers =
     ∙ number_in_front (place_of (selected file) + offset) file (omega (arith, head.1, fits)) in
     let none : (n : ℕ) → n + 0 ≡ n = λ n. omega arith in
     record {
-      opened = sym (take-take 24 80 file (omega arith)) ∙ ap (λ (l : List ℕ). take 24 l) (sym is) ∙ opened;
+      opened = sym (take-take 24 RING file (omega arith)) ∙ ap (λ (l : List ℕ). take 24 l) (sym is) ∙ opened;
       long = long;
       ring = numbers.ring;
       odd = sym odd ∙ sym numbers.odd;
@@ -55,15 +57,19 @@ front_judged marks ring front file is opened long numbers =
       used = sym (number 8 (omega arith)) ∙ sym numbers.used;
       next = sym (number 16 (omega arith)) ∙ sym numbers.next;
       appended = numbers.appended;
+      note = sym (between_in_front (place_of (selected file) + 24) (place_of (selected file) + 24 + NOTE) file (omega (arith, head.1)))
+          ∙ ap (λ (l : List ℕ). note_at (place_of (selected file)) l) (sym is)
+          ∙ ap (λ (o : Bool). note_at (place_of o) front) (sym odd)
+          ∙ sym numbers.note;
     }
 
 -- files that are none
-pub not_opened : (ring : ℕ) (front file : List ℕ) → front ≡ take 80 file → (take 24 front ≢ opening ring) → (kept : List Kept) → ¬ (Holds ring kept file)
-not_opened ring front file is not kept holds =
-    not (ap (λ (l : List ℕ). take 24 l) is ∙ take-take 24 80 file (omega arith) ∙ holds.opened)
+pub not_opened : (ring : ℕ) (front file : List ℕ) → front ≡ take RING file → (take 24 front ≢ opening ring) → (kept : List Kept) (note : List ℕ) → ¬ (Holds ring kept note file)
+not_opened ring front file is not kept note holds =
+    not (ap (λ (l : List ℕ). take 24 l) is ∙ take-take 24 RING file (omega arith) ∙ holds.opened)
 
-pub bad_head : (marks : Marks) (ring : ℕ) (file : List ℕ) → HasMarks marks ring file → (ring ≤ marks.front) ⊎ (ring < marks.used) → (kept : List Kept) → ¬ (Holds ring kept file)
-bad_head marks ring file has bad kept holds =
+pub bad_head : (marks : Marks) (ring : ℕ) (file : List ℕ) → HasMarks marks ring file → (ring ≤ marks.front) ⊎ (ring < marks.used) → (kept : List Kept) (note : List ℕ) → ¬ (Holds ring kept note file)
+bad_head marks ring file has bad kept note holds =
     ⊎_elim (λ front. omega (arith, front, holds.front, has.front)) (λ used. omega (arith, used, holds.used, has.used)) bad
 
 -- the number behind the last of a list, or the one given
@@ -293,6 +299,7 @@ file_judged marks ring file sound has records =
             records = ap (λ (n : ℕ). around marks.ring n (used_at place file) file) has.front ∙ ap (λ (n : ℕ). around marks.ring marks.front n file) has.used ∙ are.records;
             lawful = are.lawful;
             rising = subst (λ (n : ℕ). AreRising 0 kept n) (sym has.next) are.rising;
+            noted = has.note;
           };
           odd = has.odd;
           front = has.front;
@@ -305,8 +312,8 @@ file_judged marks ring file sound has records =
 -- faults of a file that was read
 no_list : (marks : Marks) (ring : ℕ) (file : List ℕ) → HasMarks marks ring file
     → (length file ≡ RING + marks.ring → (kept : List Kept) → ¬ (AreRecords kept marks.next (around marks.ring marks.front marks.used file)))
-    → (kept : List Kept) → ¬ (Holds ring kept file)
-no_list marks ring file has none kept holds =
+    → (kept : List Kept) (note : List ℕ) → ¬ (Holds ring kept note file)
+no_list marks ring file has none kept note holds =
     let place = place_of (selected file) in
     none (has.long ∙ ap (λ (n : ℕ). RING + n) (sym has.ring)) kept
     (record {
@@ -337,9 +344,9 @@ front_fault OutOfMemory ring file is none = tt
 front_fault DiskFault ring file is none = tt
 
 pub too_short : (ring : ℕ) (file : List ℕ) → length file < RING → JudgesFile (Err NotAJournal) ring file
-too_short ring file short kept holds = omega (arith, short, holds.long)
+too_short ring file short kept note holds = omega (arith, short, holds.long)
 
-pub fill_fault : (fault : JournalFault) (ring : ℕ) (into file : List ℕ) → length into ≡ 80 → Fills (Err fault) 0 into file → JudgesFile (Err fault) ring file
+pub fill_fault : (fault : JournalFault) (ring : ℕ) (into file : List ℕ) → length into ≡ RING → Fills (Err fault) 0 into file → JudgesFile (Err fault) ring file
 fill_fault NotAJournal ring into file is short = too_short ring file (omega (arith, is, short))
 fill_fault OtherRing ring into file is none = absurd none
 fill_fault OtherLength ring into file is none = absurd none
@@ -349,7 +356,7 @@ fill_fault OutOfMemory ring into file is none = absurd none
 fill_fault DiskFault ring into file is none = tt
 
 -- the first bytes of a file were read
-pub front_read : (done : Unit {0}) (into file : List ℕ) → length into ≡ 80 → Fills (Ok done) 0 into file → into ≡ take 80 file
+pub front_read : (done : Unit {0}) (into file : List ℕ) → length into ≡ RING → Fills (Ok done) 0 into file → into ≡ take RING file
 front_read done into file is fills =
-    let end : 0 + length into ≡ 80 = omega (arith, is) in
-    fills ∙ ap (λ (n : ℕ). between 0 n file) end ∙ between_from_start file 80
+    let end : 0 + length into ≡ RING = omega (arith, is) in
+    fills ∙ ap (λ (n : ℕ). between 0 n file) end ∙ between_from_start file RING

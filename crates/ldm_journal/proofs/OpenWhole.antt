@@ -50,6 +50,7 @@ opened_made done ring old new is makes =
           (record {
             empty = none;
             stands = stands_so (first_marks ring) [] new m.1 m.2 refl (omega arith);
+            note = refl;
             settled = m.1;
             leaves = m.0;
           }),
@@ -72,7 +73,7 @@ pub record IsRead (old new : FileRecord) : Type 0 where
   pub some : 0 < length old.bytes
   pub stays : KeepsFile old new
 
-refused : (ring : ℕ) (old new : FileRecord) → IsRead old new → ((kept : List Kept) → ¬ (Holds ring kept old.bytes)) → IsRefused ring old new
+refused : (ring : ℕ) (old new : FileRecord) → IsRead old new → ((kept : List Kept) (note : List ℕ) → ¬ (Holds ring kept note old.bytes)) → IsRefused ring old new
 refused ring old new is none = record {
   not_empty = λ empty. let zero : length old.bytes ≡ 0 = ap length empty in omega (arith, zero, is.some);
   none = none;
@@ -88,7 +89,7 @@ opened_so (Ok marks) ring old new is judged =
       inl
           (record {
             kept = kept;
-            holds = subst (λ (n : ℕ). Holds n kept old.bytes) judged.0 here.holds;
+            holds = subst (λ (n : ℕ). Holds n kept marks.note old.bytes) judged.0 here.holds;
             stands = stands_so marks kept new settled (subst (λ (bytes : List ℕ). Keeps marks kept bytes) (sym is.stays.bytes) here) judged.1 judged.2.2;
             stays = is.stays;
           }),
@@ -108,14 +109,14 @@ opened_so (Err DiskFault) ring old new is judged = record {
 refused_later : (ring : ℕ) (old mid new : FileRecord) → IsConsistent old → KeepsFile old mid → IsRefused ring mid new → IsRefused ring old new
 refused_later ring old mid new consistent keeps is = record {
   not_empty = λ empty. is.not_empty (keeps.bytes ∙ empty);
-  none = λ kept holds. is.none kept (subst (λ (bytes : List ℕ). Holds ring kept bytes) (sym keeps.bytes) holds);
+  none = λ kept note holds. is.none kept note (subst (λ (bytes : List ℕ). Holds ring kept note bytes) (sym keeps.bytes) holds);
   stays = keeps_file old mid new consistent keeps is.stays;
 }
 
 found_later : (ring : ℕ) (marks : Marks) (old mid new : FileRecord) → IsConsistent old → KeepsFile old mid → IsFound ring marks mid new → IsFound ring marks old new
 found_later ring marks old mid new consistent keeps is = record {
   kept = is.kept;
-  holds = subst (λ (bytes : List ℕ). Holds ring is.kept bytes) keeps.bytes is.holds;
+  holds = subst (λ (bytes : List ℕ). Holds ring is.kept marks.note bytes) keeps.bytes is.holds;
   stands = is.stands;
   stays = keeps_file old mid new consistent keeps is.stays;
 }
@@ -124,6 +125,7 @@ made_later : (ring : ℕ) (marks : Marks) (old mid new : FileRecord) → IsConsi
 made_later ring marks old mid new start keeps is = record {
   empty = sym keeps.bytes ∙ is.empty;
   stands = is.stands;
+  note = is.note;
   settled = is.settled;
   leaves = joined (LeftOfMaking ring) old mid new (empty_leaves ring old mid start.0 start.1 (sym keeps.bytes ∙ is.empty) keeps) is.leaves;
 }

@@ -1,9 +1,9 @@
 -- Runs of an open journal.
-use Rattle.std.proofs.Common.{◌≡◌, inl, inr, ⊎_elim, ℕ, zero, suc, ◌+◌, ◌-◌, ◌<◌, ◌≤◌, Bool, cond, List, [], ◌∷◌, ◌++◌, length, take, drop, refl, sym, ◌∙◌, ap, subst, arith}
+use Rattle.std.proofs.Common.{◌≡◌, inl, inr, ℕ, zero, suc, ◌+◌, ◌-◌, ◌<◌, ◌≤◌, Bool, cond, List, [], ◌∷◌, ◌++◌, length, take, drop, refl, sym, ◌∙◌, ap, subst, arith}
 use Rattle.std.proofs.lemmas.Bool.Decides.{leb_tells}
-use Rattle.std.proofs.lemmas.List.{append-nil, append_assoc, length-append, length-drop, length_push, drop-append-le, drop-drop, take_at, take_all}
+use Rattle.std.proofs.lemmas.List.{append-nil, append_assoc, length-append, length-drop, length_push, drop-append-le, drop-drop, take_at}
 use Rattle.ldm_journal.specs.Records.{Kept, fitting, size_of}
-use Rattle.ldm_journal.specs.Runs.{Event, Append, Commit, Content, opened, after_event, after_events, appended_in, committed_in, MayOpen, IsPart}
+use Rattle.ldm_journal.specs.Runs.{Event, Append, Commit, Content, opened, after_event, after_events, appended_in, committed_in, noted_in, MayOpen, IsPart}
 
 -- what goes from the front
 pub record Drops (most : ℕ) (all : List Kept) : Type 0 where
@@ -66,7 +66,7 @@ step first committed all content (Append k) s = (
     count = omega (arith, length_push all k, length_push content.appended k, s.count);
   },
 )
-step first committed all content (Commit most) s =
+step first committed all content (Commit most note) s =
     let all_here = content.kept ++ content.appended in
     let d = fitting_drops most all_here in
     let long : length all_here ≡ length all - first = ap length s.whole ∙ length-drop first all in (
@@ -91,9 +91,10 @@ run (Append k ∷ events) first committed all content s =
           (append_assoc all (k ∷ []) (appended_in events))
           (subst (λ (n : ℕ). Stands rest.0 (committed_in committed n events) ((all ++ k ∷ []) ++ appended_in events) (after_events (after_event content (Append k)) events)) long rest.1),
     )
-run (Commit most ∷ events) first committed all content s =
-    let one = step first committed all content (Commit most) s in
-    run events one.0 (length all) all (after_event content (Commit most)) (subst (λ (l : List Kept). Stands one.0 (length all) l (after_event content (Commit most))) (append-nil all) one.1)
+run (Commit most note ∷ events) first committed all content s =
+    let one = step first committed all content (Commit most note) s in
+    run events one.0 (length all) all (after_event content (Commit most note))
+    (subst (λ (l : List Kept). Stands one.0 (length all) l (after_event content (Commit most note))) (append-nil all) one.1)
 
 kept_part : (first committed : ℕ) (all : List Kept) (content : Content) → Stands first committed all content → IsPart committed all content.kept
 kept_part first committed all content s =
@@ -109,30 +110,22 @@ kept_part first committed all content s =
       is = sym (take_at content.kept content.appended (committed - first) count) ∙ ap (λ (l : List Kept). take (committed - first) l) s.whole;
     }
 
-fitting_part : (most first committed : ℕ) (all : List Kept) (content : Content) → Stands first committed all content
-    → IsPart committed all (fitting most (content.kept ++ content.appended))
-fitting_part most first committed all content s =
-    let all_here = content.kept ++ content.appended in
-    let d = fitting_drops most all_here in
-    let long : length all_here ≡ length all - first = ap length s.whole ∙ length-drop first all in
-    let rest = drop (first + d.dropped) all in
-    let short : length rest ≤ length all - (first + d.dropped) = omega (arith, length-drop (first + d.dropped) all) in
-    record {
-      first = first + d.dropped;
-      end = length all;
-      ordered = omega (arith, d.within, long, s.within, s.count);
-      within = omega arith;
-      enough = omega (arith, s.count);
-      is = d.is ∙ ap (λ (l : List Kept). drop d.dropped l) s.whole ∙ drop-drop d.dropped first all ∙ sym (take_all (length all - (first + d.dropped)) rest short);
-    }
-
-pub leaves_a_part : (first : List Kept) (events : List Event) (left : List Kept) → MayOpen (after_events (opened first) events) left
+pub leaves_a_part : (first : List Kept) (begun : List ℕ) (events : List Event) (left : List Kept) (note : List ℕ) → MayOpen (after_events (opened first begun) events) left note
     → IsPart (committed_in (length first) (length first) events) (first ++ appended_in events) left
-leaves_a_part first events left may =
-    let start : Stands 0 (length first) first (opened first) = record { whole = append-nil first; within = omega arith; count = omega arith } in
-    let end = run events 0 (length first) first (opened first) start in
+leaves_a_part first begun events left note may =
+    let begin = opened first begun in
+    let start : Stands 0 (length first) first begin = record { whole = append-nil first; within = omega arith; count = omega arith } in
+    let end = run events 0 (length first) first begin start in
     let all = first ++ appended_in events in
     let committed = committed_in (length first) (length first) events in
-    let content = after_events (opened first) events in
-    ⊎_elim (λ is. subst (λ (l : List Kept). IsPart committed all l) (sym is) (kept_part end.0 committed all content end.1))
-    (λ some. subst (λ (l : List Kept). IsPart committed all l) (sym some.1) (fitting_part some.0 end.0 committed all content end.1)) may
+    subst (λ (l : List Kept). IsPart committed all l) (sym may.0) (kept_part end.0 committed all (after_events begin events) end.1)
+
+-- the note of the last commit
+note_after : (events : List Event) (content : Content) → (after_events content events).note ≡ noted_in content.note events
+note_after [] content = refl
+note_after (Append k ∷ events) content = note_after events (after_event content (Append k))
+note_after (Commit most note ∷ events) content = note_after events (after_event content (Commit most note))
+
+pub leaves_a_note : (first : List Kept) (begun : List ℕ) (events : List Event) (left : List Kept) (note : List ℕ) → MayOpen (after_events (opened first begun) events) left note
+    → note ≡ noted_in begun events
+leaves_a_note first begun events left note may = may.1 ∙ note_after events (opened first begun)

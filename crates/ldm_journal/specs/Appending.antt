@@ -16,14 +16,14 @@ abbrev pub record_len : Kept → ℕ
 record_len k = 40 + metadata_len k.info + length k.body
 
 -- What appending a product did, by its end, whatever the journal stands for. A crash at any moment of it leaves what is
--- committed.
+-- committed, with its note.
 abbrev pub Appends : AppendEnd → Kept → Marks → Marks → FileRecord → FileRecord → Type 0
 Appends Appended k before after old new =
-    (kept appended : List Kept) → Stands before kept appended old → Stands after kept (appended ++ k ∷ []) new × LeavesOnly (Holds before.ring kept) old new
+    (kept appended : List Kept) → Stands before kept appended old → Stands after kept (appended ++ k ∷ []) new × LeavesOnly (Holds before.ring kept before.note) old new
 -- nothing was written
 Appends Full k before after old new = (new ≡ old) × (after ≡ before)
 Appends DiskFault k before after old new =
-    (kept appended : List Kept) → Stands before kept appended old → LeavesOnly (Holds before.ring kept) old new
+    (kept appended : List Kept) → Stands before kept appended old → LeavesOnly (Holds before.ring kept before.note) old new
 
 -- Why it ended: it is full exactly where the ring has no room, and fails only where the disk failed.
 abbrev pub EndsAppending : AppendEnd → Kept → Marks → DiskRecord → DiskRecord → Type 0

@@ -18,9 +18,9 @@ use Rattle.ldm_journal.specs.Standing.{Keeps, Stands}
 use Rattle.ldm_journal.specs.Pushing.{CrashKeeps}
 use Rattle.ldm_journal.specs.Sound.{IsSound}
 
--- a file keeps the products of one list, or those of another
-abbrev pub HoldsEither : ℕ → List Kept → List Kept → List ℕ → Type 0
-HoldsEither ring first other file = Holds ring first file ⊎ Holds ring other file
+-- a file keeps the products of one list with one note, or those of another with another
+abbrev pub HoldsEither : ℕ → List Kept → List ℕ → List Kept → List ℕ → List ℕ → Type 0
+HoldsEither ring kept note left note' file = Holds ring kept note file ⊎ Holds ring left note' file
 
 -- What is kept after a commit that is to leave so many bytes free: all that is committed and appended, but for the
 -- fewest at the front that have to go.
@@ -28,17 +28,23 @@ abbrev pub kept_after : ℕ → Marks → List Kept → List Kept → List Kept
 kept_after gap marks kept appended = fitting (marks.ring - gap) (kept ++ appended)
 
 -- What committing did, by its end, whatever the journal stands for. A crash at any moment of it leaves what was
--- committed before, or what is after.
-abbrev pub Commits : CommitEnd → ℕ → Marks → Marks → FileRecord → FileRecord → Type 0
-Commits Committed gap before after old new =
+-- committed before, with the note of then, or what is after, with the note that is given.
+abbrev pub Commits : CommitEnd → ℕ → List ℕ → Marks → Marks → FileRecord → FileRecord → Type 0
+Commits Committed gap note before after old new =
     (kept appended : List Kept) → Stands before kept appended old →
     let left = kept_after gap before kept appended in
-    Stands after left [] new × IsSettled new × LeavesOnly (HoldsEither before.ring kept left) old new
+    Stands after left [] new × IsSettled new × LeavesOnly (HoldsEither before.ring kept before.note left note) old new
 -- a file for which the journal stands never ends so
-Commits NotAJournal gap before after old new = (kept appended : List Kept) → ¬ (Stands before kept appended old)
-Commits DiskFault gap before after old new =
+Commits NotAJournal gap note before after old new = (kept appended : List Kept) → ¬ (Stands before kept appended old)
+Commits DiskFault gap note before after old new =
     (kept appended : List Kept) → Stands before kept appended old →
-    LeavesOnly (HoldsEither before.ring kept (kept_after gap before kept appended)) old new
+    LeavesOnly (HoldsEither before.ring kept before.note (kept_after gap before kept appended) note) old new
+
+-- the note that is committed then
+abbrev pub NotesCommitting : CommitEnd → List ℕ → Marks → Marks → Type 0
+NotesCommitting Committed note before after = after.note ≡ note
+NotesCommitting NotAJournal note before after = after.note ≡ before.note
+NotesCommitting DiskFault note before after = after.note ≡ before.note
 
 -- it fails only where the disk failed
 abbrev pub EndsCommitting : CommitEnd → DiskRecord → DiskRecord → Type 0
@@ -63,15 +69,16 @@ DropsFor (Ok dropped) gap marks file =
 DropsFor (Err fault.DiskFault) gap marks file = Unit {0}
 DropsFor (Err why) gap marks file = (kept appended : List Kept) → ¬ (Stands marks kept appended file)
 
--- the journal after so many bytes were let go from the front
-abbrev pub turned : ℕ → Marks → Marks
-turned dropped marks = record {
+-- the journal after so many bytes were let go from the front, and with a note
+abbrev pub turned : ℕ → List ℕ → Marks → Marks
+turned dropped note marks = record {
   ring = marks.ring;
   odd = not marks.odd;
   front = (marks.front + dropped) % marks.ring;
   used = marks.used + marks.appended - dropped;
   appended = 0;
   next = marks.next;
+  note = note;
 }
 
 -- what is left when so many bytes go from the front
@@ -80,18 +87,18 @@ pub record IsLeft (dropped : ℕ) (marks : Marks) (kept appended left : List Kep
   pub lawful : AllByRecursion IsLawful left
   pub rising : AreRising 0 left marks.next
 
--- So many bytes were let go from the front, and what is left is committed; or a call failed.
-abbrev pub Turns : Result (Unit {0}) Failed → ℕ → Marks → Marks → FileRecord → FileRecord → Type 0
-Turns (Ok done) dropped before after old new =
+-- So many bytes were let go from the front, and what is left is committed with a note; or a call failed.
+abbrev pub Turns : Result (Unit {0}) Failed → ℕ → List ℕ → Marks → Marks → FileRecord → FileRecord → Type 0
+Turns (Ok done) dropped note before after old new =
     (kept appended left : List Kept) → Stands before kept appended old → IsLeft dropped before kept appended left →
-    Stands after left [] new × IsSettled new × LeavesOnly (HoldsEither before.ring kept left) old new
-Turns (Err failed) dropped before after old new =
+    Stands after left [] new × IsSettled new × LeavesOnly (HoldsEither before.ring kept before.note left note) old new
+Turns (Err failed) dropped note before after old new =
     (kept appended left : List Kept) → Stands before kept appended old → IsLeft dropped before kept appended left →
-    LeavesOnly (HoldsEither before.ring kept left) old new
+    LeavesOnly (HoldsEither before.ring kept before.note left note) old new
 
 -- the bytes of the head of a journal
 abbrev pub head_bytes_of : Marks → List ℕ
-head_bytes_of marks = eight marks.front ++ eight marks.used ++ eight marks.next
+head_bytes_of marks = eight marks.front ++ eight marks.used ++ eight marks.next ++ marks.note
 
 -- The head of a journal was written, beside the one that counts, and synced; or a call failed.
 abbrev pub WritesHead : Result (Unit {0}) Failed → Marks → FileRecord → FileRecord → Type 0

@@ -1,20 +1,20 @@
 -- Making a journal in an empty file, and what a crash leaves meanwhile.
-use Rattle.std.specs.Prelude.{◌≡◌, ◌≢◌, ◌⊎◌, ℕ, ◌+◌, ◌≤◌, false, List, [], ◌++◌, length, replicate, Result, Ok, Err}
+use Rattle.std.specs.Prelude.{◌≡◌, ◌≢◌, ◌⊎◌, ℕ, ◌+◌, ◌≤◌, false, List, [], ◌++◌, length, Result, Ok, Err}
 use Rattle.ldm_outside.specs.declared.fault.Failed.{Failed}
 use Rattle.ldm_disk.specs.Told.{FileRecord, IsSettled}
 use Rattle.ldm_disk.specs.Moments.{LeavesOnly}
 use Rattle.ldm_journal.specs.declared.places.TheConstants.{RING}
 use Rattle.ldm_journal.specs.declared.marks.Marks.{Marks}
-use Rattle.ldm_journal.specs.Format.{opening}
+use Rattle.ldm_journal.specs.Format.{no_note, opening, zeros}
 use Rattle.ldm_journal.specs.Standing.{Keeps}
 
 -- the marks of a journal that keeps nothing and was just made
 abbrev pub first_marks : ℕ → Marks
-first_marks ring = record { ring = ring; odd = false; front = 0; used = 0; appended = 0; next = 0 }
+first_marks ring = record { ring = ring; odd = false; front = 0; used = 0; appended = 0; next = 0; note = no_note }
 
 -- what stands in front of its ring
 abbrev pub first_front : ℕ → List ℕ
-first_front ring = opening ring ++ replicate 56 0
+first_front ring = opening ring ++ zeros 12264
 
 -- What a crash may leave while a journal is made in an empty file: one that has another length than a journal with that
 -- ring, or a journal that keeps nothing.

@@ -10,28 +10,29 @@ use Rattle.ldm_journal.specs.declared.marks.Marks.{Marks}
 use Rattle.ldm_journal.specs.declared.fault.JournalFault.{JournalFault}
 use Rattle.ldm_journal.specs.declared.fault.JournalFault.TheVariants.{NotAJournal, OtherRing, OtherLength, BadHead, BadRecord, DiskFault, OutOfMemory}
 use Rattle.ldm_journal.specs.Records.{Kept, records_of, IsLawful, AreRising}
-use Rattle.ldm_journal.specs.Format.{Holds, opening, selected, place_of, front_at, used_at, next_at, around}
+use Rattle.ldm_journal.specs.Format.{Holds, opening, selected, place_of, front_at, used_at, next_at, note_at, no_note, around}
 use Rattle.ldm_journal.specs.Standing.{Keeps, Stands}
 use Rattle.ldm_journal.specs.Making.{LeftOfMaking}
 
--- A file had a journal, and it stays as it is: what it keeps is what was opened.
+-- A file had a journal, and it stays as it is: what it keeps is what was opened, and so is the note.
 pub record IsFound (ring : ℕ) (marks : Marks) (old new : FileRecord) : Type 0 where
   pub kept : List Kept
-  pub holds : Holds ring kept old.bytes
+  pub holds : Holds ring kept marks.note old.bytes
   pub stands : Stands marks kept [] new
   pub stays : KeepsFile old new
 
--- An empty file was made a journal that keeps nothing.
+-- An empty file was made a journal that keeps nothing, with a note of zeros.
 pub record IsMade (ring : ℕ) (marks : Marks) (old new : FileRecord) : Type 0 where
   pub empty : old.bytes ≡ []
   pub stands : Stands marks [] [] new
+  pub note : marks.note ≡ no_note
   pub settled : IsSettled new
   pub leaves : LeavesOnly (LeftOfMaking ring) old new
 
 -- A file that is not empty is no journal with that ring, and stays as it is.
 pub record IsRefused (ring : ℕ) (old new : FileRecord) : Type 0 where
   pub not_empty : old.bytes ≢ []
-  pub none : (kept : List Kept) → ¬ (Holds ring kept old.bytes)
+  pub none : (kept : List Kept) (note : List ℕ) → ¬ (Holds ring kept note old.bytes)
   pub stays : KeepsFile old new
 
 -- The disk failed while a file was read, or an empty one was made a journal.
@@ -61,7 +62,7 @@ JudgesFile (Ok marks) ring file =
     (marks.ring ≡ ring) × (marks.appended ≡ 0) × ((kept : List Kept) × Keeps marks kept file × AreRising 0 kept marks.next)
 JudgesFile (Err DiskFault) ring file = Unit {0}
 JudgesFile (Err OutOfMemory) ring file = Unit {0}
-JudgesFile (Err fault) ring file = (kept : List Kept) → ¬ (Holds ring kept file)
+JudgesFile (Err fault) ring file = (kept : List Kept) (note : List ℕ) → ¬ (Holds ring kept note file)
 
 -- a fault that is one of the file, and not of the disk or of memory
 abbrev pub IsOfFile : JournalFault → Type 0
@@ -78,6 +79,7 @@ pub record HasNumbers (marks : Marks) (size : ℕ) (which : Bool) (bytes : List 
   pub appended : marks.appended ≡ 0
   pub next : marks.next ≡ next_at (place_of which) bytes
   pub small : marks.next < 2 ^ 64
+  pub note : marks.note ≡ note_at (place_of which) bytes
 
 -- the marks are what the head says that counts
 pub record HasMarks (marks : Marks) (size : ℕ) (file : List ℕ) : Type 0 where
@@ -89,11 +91,12 @@ pub record HasMarks (marks : Marks) (size : ℕ) (file : List ℕ) : Type 0 wher
   pub used : used_at (place_of (selected file)) file ≡ marks.used
   pub next : next_at (place_of (selected file)) file ≡ marks.next
   pub appended : marks.appended ≡ 0
+  pub note : note_at (place_of (selected file)) file ≡ marks.note
 
 -- What stands in front of the ring was judged, and the length.
 abbrev pub JudgesFront : Result Marks JournalFault → ℕ → List ℕ → Type 0
 JudgesFront (Ok marks) ring file = HasMarks marks ring file
-JudgesFront (Err fault) ring file = (kept : List Kept) → ¬ (Holds ring kept file)
+JudgesFront (Err fault) ring file = (kept : List Kept) (note : List ℕ) → ¬ (Holds ring kept note file)
 
 -- bytes are the records of products, in order
 pub record AreRecords (kept : List Kept) (next : ℕ) (bytes : List ℕ) : Type 0 where

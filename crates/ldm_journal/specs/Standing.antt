@@ -6,9 +6,9 @@ use Rattle.ldm_journal.specs.declared.marks.Marks.{Marks}
 use Rattle.ldm_journal.specs.Records.{Kept, records_of, IsLawful, AreRising}
 use Rattle.ldm_journal.specs.Format.{Holds, selected, place_of, front_at, used_at, around}
 
--- A file keeps these products, by the head that an open journal has.
+-- A file keeps these products, and the note of an open journal, by the head that the journal has.
 pub record Keeps (marks : Marks) (kept : List Kept) (file : List ℕ) : Type 0 where
-  pub holds : Holds marks.ring kept file
+  pub holds : Holds marks.ring kept marks.note file
   pub odd : selected file ≡ marks.odd
   pub front : front_at (place_of (selected file)) file ≡ marks.front
   pub used : used_at (place_of (selected file)) file ≡ marks.used

@@ -46,6 +46,7 @@ impl Journal {
             self.old.marks (D.tells disk.old) (D.tells disk.new) }
         ensures ring { self.new.marks.ring ≡ self.old.marks.ring }
         ensures numbered { NumbersAppending result number self.old.marks self.new.marks }
+        ensures note { self.new.marks.note ≡ self.old.marks.note }
         ensures kept { KeepsDisk (D.tells disk.old) (D.tells disk.new) }
     {
         let len = (FRAME + info_len(info) + body.len()) as u64;
@@ -77,6 +78,7 @@ fn push_record<D: Disk>(
     ensures grown { OnOk result (marks.new ≡ grown (length head.now + length body.now + 16) marks.old) }
     ensures sound { IsSound marks.new }
     ensures ring { marks.new.ring ≡ marks.old.ring }
+    ensures note { marks.new.note ≡ marks.old.note }
     ensures failed { Rises result (D.tells disk.old) (D.tells disk.new) }
     ensures kept { KeepsDisk (D.tells disk.old) (D.tells disk.new) }
 {
@@ -101,6 +103,7 @@ fn push_both<D: Disk>(
     ensures grown { OnOk result (marks.new ≡ grown (length first.now + length rest.now) marks.old) }
     ensures sound { IsSound marks.new }
     ensures ring { marks.new.ring ≡ marks.old.ring }
+    ensures note { marks.new.note ≡ marks.old.note }
     ensures failed { Rises result (D.tells disk.old) (D.tells disk.new) }
     ensures kept { KeepsDisk (D.tells disk.old) (D.tells disk.new) }
 {

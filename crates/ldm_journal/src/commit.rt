@@ -1,8 +1,8 @@
 //! Committing what was appended to a journal.
 ghost use Rattle.std.specs.Prelude.{◌≡◌, ◌≢◌, ◌+◌, ◌-◌, ◌≤◌, length, IfErr, IfOk, IfSome, OnErr, OnOk};
 ghost use Rattle.ldm_disk.specs.Calls.{FileChanges, KeepsDisk, KeepsFile, Rises};
-ghost use Rattle.ldm_journal.specs.Committing.{Commits, DropsFor, EndsCommitting, Frees, Selects, Turns, WritesHead};
-ghost use Rattle.ldm_journal.specs.Committing.{end_of, head_bytes_of, select_byte, turned};
+ghost use Rattle.ldm_journal.specs.Committing.{Commits, DropsFor, EndsCommitting, Frees, NotesCommitting, Selects};
+ghost use Rattle.ldm_journal.specs.Committing.{Turns, WritesHead, end_of, head_bytes_of, select_byte, turned};
 ghost use Rattle.ldm_journal.specs.Format.{place_of};
 ghost use Rattle.ldm_journal.specs.Sound.{IsSound};
 ghost use Rattle.ldm_journal.specs.Reading.{FaultRose};
@@ -11,9 +11,12 @@ use crate::fault::JournalFault;
 use crate::journal::Journal;
 use crate::marks::Marks;
 use crate::next::record_len;
-use crate::places::{HEAD_A, HEAD_B, SELECT};
+use crate::places::{HEAD_A, HEAD_B, NOTE, SELECT};
 use ldm_disk::Disk;
 use ldm_outside::Failed;
+
+// Bytes of a head: three numbers and a note.
+const HEAD: usize = 24 + NOTE;
 
 /// How committing ended.
 #[derive(Clone, Copy, Debug, PartialEq, Eq)]
@@ -27,22 +30,24 @@ pub enum CommitEnd {
 }
 
 impl Journal {
-    /// Makes what was appended stay, and drops the oldest products as far as so many bytes of the ring are to be free.
-    pub fn commit<D: Disk>(&mut self, disk: &mut D, gap: u64) -> CommitEnd
+    /// Makes what was appended stay, with a note, and drops the oldest products as far as so many bytes of the ring are
+    /// to be free. The products and the note stay together, or neither.
+    pub fn commit<D: Disk>(&mut self, disk: &mut D, gap: u64, note: &[u8; NOTE]) -> CommitEnd
         requires { gap ≤ self.old.marks.ring }
-        ensures committed { FileChanges (Commits result gap self.old.marks self.new.marks) (D.tells disk.old).file
-            (D.tells disk.new).file }
+        ensures committed { FileChanges (Commits result gap note.now self.old.marks self.new.marks)
+            (D.tells disk.old).file (D.tells disk.new).file }
         ensures ended { EndsCommitting result (D.tells disk.old) (D.tells disk.new) }
         ensures ring { self.new.marks.ring ≡ self.old.marks.ring }
         ensures next { self.new.marks.next ≡ self.old.marks.next }
         ensures freed { Frees result gap self.new.marks }
+        ensures note { NotesCommitting result note.now self.old.marks self.new.marks }
         ensures kept { KeepsDisk (D.tells disk.old) (D.tells disk.new) }
     {
         let dropped = match dropped_for(&self.marks, disk, gap) {
             Ok(dropped) => dropped,
             Err(fault) => return end_of(fault),
         };
-        match turn(&mut self.marks, disk, dropped) {
+        match turn(&mut self.marks, disk, dropped, note) {
             Ok(()) => CommitEnd::Committed,
             Err(_) => CommitEnd::DiskFault,
         }
@@ -82,19 +87,24 @@ fn dropped_for<D: Disk>(marks: &Marks, disk: &mut D, gap: u64) -> Result<u64, Jo
     Ok(dropped)
 }
 
-// Lets so many bytes go from the front: writes the head that does not count, and then lets it count.
-fn turn<D: Disk>(marks: &mut Marks, disk: &mut D, dropped: u64) -> Result<(), Failed>
+// Lets so many bytes go from the front: writes the head that does not count, with a note, and then lets it count.
+fn turn<D: Disk>(
+    marks: &mut Marks,
+    disk: &mut D,
+    dropped: u64,
+    note: &[u8; NOTE],
+) -> Result<(), Failed>
     requires sound { IsSound marks.old }
     requires within { dropped ≤ marks.old.used + marks.old.appended }
-    ensures turned { FileChanges (Turns result dropped marks.old marks.new) (D.tells disk.old).file
+    ensures turned { FileChanges (Turns result dropped note.now marks.old marks.new) (D.tells disk.old).file
         (D.tells disk.new).file }
     ensures sound { IsSound marks.new }
-    ensures marks { OnOk result (marks.new ≡ turned dropped marks.old) }
+    ensures marks { OnOk result (marks.new ≡ turned dropped note.now marks.old) }
     ensures same { OnErr result (marks.new ≡ marks.old) }
     ensures failed { Rises result (D.tells disk.old) (D.tells disk.new) }
     ensures kept { KeepsDisk (D.tells disk.old) (D.tells disk.new) }
 {
-    let next = marks_after(marks, dropped);
+    let next = marks_after(marks, dropped, note);
     match write_head(disk, &next) {
         Ok(()) => {}
         Err(failed) => return Err(failed),
@@ -108,11 +118,11 @@ fn turn<D: Disk>(marks: &mut Marks, disk: &mut D, dropped: u64) -> Result<(), Fa
     }
 }
 
-// The marks after so many bytes were let go from the front.
-fn marks_after(marks: &Marks, dropped: u64) -> Marks
+// The marks after so many bytes were let go from the front, with a note.
+fn marks_after(marks: &Marks, dropped: u64, note: &[u8; NOTE]) -> Marks
     requires sound { IsSound marks.now }
     requires within { dropped ≤ marks.now.used + marks.now.appended }
-    ensures { result ≡ turned dropped marks.now }
+    ensures { result ≡ turned dropped note.now marks.now }
 {
     Marks {
         ring: marks.ring,
@@ -121,11 +131,13 @@ fn marks_after(marks: &Marks, dropped: u64) -> Marks
         used: marks.used + marks.appended - dropped,
         appended: 0,
         next: marks.next,
+        note: *note,
     }
 }
 
 // Writes a head, and syncs it.
 fn write_head<D: Disk>(disk: &mut D, next: &Marks) -> Result<(), Failed>
+    requires { length next.now.note ≡ NOTE }
     ensures written { FileChanges (WritesHead result next.now) (D.tells disk.old).file (D.tells disk.new).file }
     ensures failed { Rises result (D.tells disk.old) (D.tells disk.new) }
     ensures kept { KeepsDisk (D.tells disk.old) (D.tells disk.new) }
@@ -145,13 +157,14 @@ pub(crate) fn place_of(odd: bool) -> u64
 }
 
 // The bytes of a head.
-fn head_of(next: &Marks) -> [u8; 24]
+fn head_of(next: &Marks) -> [u8; HEAD]
     ensures { result ≡ head_bytes_of next.now }
 {
-    let mut head = [0u8; 24];
+    let mut head = [0u8; HEAD];
     head[..8].copy_from_slice(&next.front.to_be_bytes());
     head[8..16].copy_from_slice(&next.used.to_be_bytes());
-    head[16..].copy_from_slice(&next.next.to_be_bytes());
+    head[16..24].copy_from_slice(&next.next.to_be_bytes());
+    head[24..].copy_from_slice(&next.note);
     head
 }
 

@@ -29,5 +29,6 @@ pub use laws::{
     a_crash_leaves_a_part, a_file_keeps_one_list, calls_make_events, marks_count_records,
     the_fewest_are_dropped,
 };
+pub use places::NOTE;
 pub use reader::Reader;
 pub use record::record_bytes;

@@ -9,9 +9,12 @@ use crate::places::RING;
 use ldm_disk::Disk;
 use ldm_outside::Failed;
 
+/// Bytes in front of the ring.
+pub(crate) const FRONT: usize = RING as usize;
+
 /// How the file of any journal begins.
 pub(crate) const NAME: [u8; 16] = [
-    76, 68, 77, 32, 106, 111, 117, 114, 110, 97, 108, 0, 0, 0, 0, 1,
+    76, 68, 77, 32, 106, 111, 117, 114, 110, 97, 108, 0, 0, 0, 0, 2,
 ];
 
 /// Makes an empty file a journal that keeps nothing.
@@ -59,10 +62,10 @@ fn widen<D: Disk>(disk: &mut D, ring: u64) -> Result<(), Failed>
 }
 
 // What stands in front of the ring of a journal that keeps nothing.
-fn front_of(ring: u64) -> [u8; 80]
+fn front_of(ring: u64) -> [u8; FRONT]
     ensures { result ≡ first_front ring }
 {
-    let mut front = [0u8; 80];
+    let mut front = [0u8; FRONT];
     front[..24].copy_from_slice(&opening(ring));
     front
 }

@@ -1,5 +1,7 @@
 //! Where the records of a journal stand.
 
+use crate::places::NOTE;
+
 /// Where the records of a journal stand.
 #[derive(Clone, Copy, Debug)]
 pub struct Marks {
@@ -15,4 +17,6 @@ pub struct Marks {
     pub(crate) appended: u64,
     /// The least number that the next product may have.
     pub(crate) next: u64,
+    /// The note that is committed with them.
+    pub(crate) note: [u8; NOTE],
 }

@@ -1,5 +1,6 @@
 //! Reading records one after another.
-ghost use Rattle.std.specs.Prelude.{◌≡◌, ◌+◌, ◌-◌, ◌*◌, ◌^◌, ◌<◌, ◌≤◌, ℕ, List, length, IfErr, IfOk, IfSome, OnErr, vec_len};
+ghost use Rattle.std.specs.Prelude.{◌≡◌, ◌+◌, ◌-◌, ◌*◌, ◌^◌, ◌<◌, ◌≤◌, ℕ, List, length};
+ghost use Rattle.std.specs.Prelude.{IfErr, IfOk, IfSome, OnErr, vec_len};
 ghost use Rattle.ldm_disk.specs.Calls.{FileChanges, KeepsDisk, KeepsFile};
 ghost use Rattle.ldm_journal.specs.declared.places.TheConstants.{LARGEST_RING};
 ghost use Rattle.ldm_disk.specs.Told.{FileRecord, IsConsistent};
@@ -10,6 +11,7 @@ ghost use Rattle.ldm_journal.specs.Standing.{Stands};
 use crate::entry::Entry;
 use crate::fault::JournalFault;
 use crate::journal::Journal;
+use crate::places::NOTE;
 use crate::read::fill_around;
 use crate::reader::Reader;
 use crate::record::judge;
@@ -44,6 +46,13 @@ impl Journal {
         ensures { result ≡ self.now.marks.appended }
     {
         self.marks.appended
+    }
+
+    /// The note that is committed. A journal that was just made has one of zeros.
+    pub fn note(&self) -> &[u8; NOTE]
+        ensures { result.now ≡ self.now.marks.note }
+    {
+        &self.marks.note
     }
 
     /// The least number that the next product may have.

@@ -1,28 +1,26 @@
 //! Opening a journal.
 ghost use Rattle.std.specs.Prelude.{◌≡◌, ◌≢◌, ◌↔◌, IsTrue, ◌+◌, ◌<◌, ◌≤◌, List, ℕ, length, take, IfErr, IfOk, IfSome};
+ghost use Rattle.std.specs.List.{between};
 ghost use Rattle.ldm_disk.specs.Calls.{FileChanges, KeepsDisk, KeepsFile};
 ghost use Rattle.ldm_disk.specs.Told.{IsSettled};
 ghost use Rattle.ldm_journal.specs.declared.places.TheConstants.{LARGEST_RING, RING};
 ghost use Rattle.ldm_journal.specs.Opening.{HasNumbers, IsOfFile, JudgesFile, JudgesFront, JudgesRecords, Opens};
 ghost use Rattle.ldm_journal.specs.Opening.{marks_of};
-ghost use Rattle.ldm_journal.specs.Format.{opening, selected};
+ghost use Rattle.ldm_journal.specs.Format.{no_note, opening, selected};
 ghost use Rattle.ldm_journal.specs.Reading.{FaultRose};
 ghost use Rattle.ldm_journal.specs.Sound.{IsSound};
 
 use crate::commit::place_of;
 use crate::fault::JournalFault;
 use crate::journal::Journal;
-use crate::make::{NAME, make, opening};
+use crate::make::{FRONT, NAME, make, opening};
 use crate::marks::Marks;
 use crate::next::read_record;
-use crate::places::{RING, SELECT};
+use crate::places::{NOTE, RING, SELECT};
 use crate::read::fill;
 use crate::record::number_in;
 use ldm_disk::Disk;
 use std::alloc::Global;
-
-// Bytes in front of the ring.
-const FRONT: usize = RING as usize;
 
 impl Journal {
     /// Opens the file of a disk, which is attached and of which nothing is pending, as a journal with a ring of that
@@ -106,9 +104,18 @@ fn marks_made<D: Disk>(disk: &mut D, ring: u64) -> Result<Marks, JournalFault>
             used: 0,
             appended: 0,
             next: 0,
+            note: no_note(),
         }),
         Err(_) => Err(JournalFault::DiskFault),
     }
+}
+
+// The note of a journal that was just made.
+#[tactic(auto, unfolding(crate::specs::Format::zeros))]
+fn no_note() -> [u8; NOTE]
+    ensures { result ≡ no_note }
+{
+    [0; NOTE]
 }
 
 // The marks of the journal in a file of that length.
@@ -147,9 +154,9 @@ fn marks_of<D: Disk>(
 
 // The marks that stand in front of the ring, in a file of that length.
 fn judge_front(front: &[u8], ring: u64, len: u64) -> Result<Marks, JournalFault>
-    requires long { length front.now ≡ 80 }
+    requires long { length front.now ≡ RING }
     requires sized { ring ≤ LARGEST_RING }
-    ensures judged { (file : List ℕ) → front.now ≡ take 80 file → len ≡ length file → JudgesFront result ring file }
+    ensures judged { (file : List ℕ) → front.now ≡ take RING file → len ≡ length file → JudgesFront result ring file }
     ensures sound { IfOk result IsSound }
     ensures ring { IfOk result (λ marks. marks.ring ≡ ring) }
     ensures of_file { IfErr result IsOfFile }
@@ -163,10 +170,10 @@ fn judge_front(front: &[u8], ring: u64, len: u64) -> Result<Marks, JournalFault>
 
 // The same where the file begins as it should.
 fn judge_head(front: &[u8], ring: u64, len: u64) -> Result<Marks, JournalFault>
-    requires long { length front.now ≡ 80 }
+    requires long { length front.now ≡ RING }
     requires sized { ring ≤ LARGEST_RING }
     requires opened { take 24 front.now ≡ opening ring }
-    ensures judged { (file : List ℕ) → front.now ≡ take 80 file → len ≡ length file → JudgesFront result ring file }
+    ensures judged { (file : List ℕ) → front.now ≡ take RING file → len ≡ length file → JudgesFront result ring file }
     ensures sound { IfOk result IsSound }
     ensures ring { IfOk result (λ marks. marks.ring ≡ ring) }
     ensures of_file { IfErr result IsOfFile }
@@ -180,10 +187,10 @@ fn judge_head(front: &[u8], ring: u64, len: u64) -> Result<Marks, JournalFault>
 
 // The same where the length is right too.
 fn ordered_marks(front: &[u8], ring: u64) -> Result<Marks, JournalFault>
-    requires long { length front.now ≡ 80 }
+    requires long { length front.now ≡ RING }
     requires sized { ring ≤ LARGEST_RING }
     requires opened { take 24 front.now ≡ opening ring }
-    ensures judged { (file : List ℕ) → front.now ≡ take 80 file → length file ≡ RING + ring
+    ensures judged { (file : List ℕ) → front.now ≡ take RING file → length file ≡ RING + ring
         → JudgesFront result ring file }
     ensures sound { IfOk result IsSound }
     ensures ring { IfOk result (λ marks. marks.ring ≡ ring) }
@@ -214,7 +221,7 @@ fn is_ordered(marks: &Marks) -> bool
 
 // Why a file does not begin as a journal with the ring that is asked for.
 fn wrong_opening(front: &[u8]) -> JournalFault
-    requires { length front.now ≡ 80 }
+    requires { length front.now ≡ RING }
     ensures { IsOfFile result }
 {
     if begins(front, &NAME) {
@@ -227,7 +234,7 @@ fn wrong_opening(front: &[u8]) -> JournalFault
 // Whether the second head counts.
 #[tactic(auto, unfolding(crate::specs::Format::selected))]
 fn is_odd(front: &[u8]) -> bool
-    requires { length front.now ≡ 80 }
+    requires { length front.now ≡ RING }
     ensures { result ≡ selected front.now }
 {
     front[SELECT as usize] % 2 == 1
@@ -235,7 +242,7 @@ fn is_odd(front: &[u8]) -> bool
 
 // The marks by the head that counts.
 fn marks_at(front: &[u8], ring: u64, odd: bool) -> Marks
-    requires { length front.now ≡ 80 }
+    requires { length front.now ≡ RING }
     ensures { HasNumbers result ring odd front.now }
 {
     let head = place_of(odd) as usize;
@@ -246,7 +253,18 @@ fn marks_at(front: &[u8], ring: u64, odd: bool) -> Marks
         used: number_in(front, head + 8),
         appended: 0,
         next: number_in(front, head + 16),
+        note: note_in(front, head + 24),
     }
+}
+
+// The note at a place.
+fn note_in(front: &[u8], at: usize) -> [u8; NOTE]
+    requires { at + NOTE ≤ length front.now }
+    ensures { result ≡ between at (at + NOTE) front.now }
+{
+    let mut note = [0u8; NOTE];
+    note.copy_from_slice(&front[at..at + NOTE]);
+    note
 }
 
 // Whether bytes begin with others.

@@ -26,6 +26,7 @@ fn push_part<D: Disk>(marks: &mut Marks, disk: &mut D, piece: &[u8]) -> Result<(
     ensures grown { OnOk result (marks.new ≡ grown (length piece.now) marks.old) }
     ensures sound { IsSound marks.new }
     ensures ring { marks.new.ring ≡ marks.old.ring }
+    ensures note { marks.new.note ≡ marks.old.note }
     ensures failed { Rises result (D.tells disk.old) (D.tells disk.new) }
     ensures kept { KeepsDisk (D.tells disk.old) (D.tells disk.new) }
 {
@@ -46,6 +47,7 @@ pub(crate) fn push<D: Disk>(marks: &mut Marks, disk: &mut D, piece: &[u8]) -> Re
     ensures grown { OnOk result (marks.new ≡ grown (length piece.now) marks.old) }
     ensures sound { IsSound marks.new }
     ensures ring { marks.new.ring ≡ marks.old.ring }
+    ensures note { marks.new.note ≡ marks.old.note }
     ensures failed { Rises result (D.tells disk.old) (D.tells disk.new) }
     ensures kept { KeepsDisk (D.tells disk.old) (D.tells disk.new) }
 {

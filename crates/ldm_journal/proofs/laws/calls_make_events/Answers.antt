@@ -1,4 +1,4 @@
-use Rattle.ldm_journal.proofs.EventLemmas.{append_breaks, append_event, commit_breaks, commit_event, events_break, events_then, no_event, part_amid}
+use Rattle.ldm_journal.proofs.EventLemmas.{append_breaks, append_event, breaks_early, commit_breaks, commit_event, events_break, events_then, no_event, part_amid}
 use Rattle.ldm_journal.proofs.laws.calls_make_events.Goals as goal
 
 pub returns-clause-nothing : goal.returns-clause-nothing
@@ -15,6 +15,9 @@ returns-clause-not_appended c = append_breaks
 
 pub returns-clause-not_committed : goal.returns-clause-not_committed
 returns-clause-not_committed c = commit_breaks
+
+pub returns-clause-more : goal.returns-clause-more
+returns-clause-more c = breaks_early
 
 pub returns-clause-in_a_row : goal.returns-clause-in_a_row
 returns-clause-in_a_row c = events_then

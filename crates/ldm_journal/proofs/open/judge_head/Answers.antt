@@ -9,4 +9,4 @@ returns-then-is_long-clause-judged c = λ file is long.
     c.ordered_marks.ensures.judged file is (sym long ∙ c.is_long.ensures.0 held)
 
 pub returns-else-is_long-clause-judged : goal.returns-else-is_long-clause-judged
-returns-else-is_long-clause-judged c = λ file is long kept holds. both_ways c.is_long.result c.if-is_long.false (c.is_long.ensures.1 (long ∙ holds.long))
+returns-else-is_long-clause-judged c = λ file is long kept note holds. both_ways c.is_long.result c.if-is_long.false (c.is_long.ensures.1 (long ∙ holds.long))

@@ -1,6 +1,7 @@
-use Rattle.std.proofs.Common.{◌⊎◌, inl, inr, ◌<◌, ◌≤◌, Bool, subst, arith}
+use Rattle.std.proofs.Common.{◌≡◌, ◌⊎◌, inl, inr, ◌<◌, ◌≤◌, Bool, length, subst, arith}
 use Rattle.std.specs.Prelude.{IsTrue}
 use Rattle.std.proofs.lemmas.Bool.{cases_lt}
+use Rattle.ldm_journal.specs.declared.places.TheConstants.{NOTE}
 use Rattle.ldm_journal.specs.Opening.{HasNumbers}
 use Rattle.ldm_journal.specs.Format.{selected}
 use Rattle.ldm_journal.proofs.OpenLemmas.{bad_head, front_judged}
@@ -18,7 +19,8 @@ returns-then-is_ordered-clause-sound c =
     let held : IsTrue c.is_ordered.result = c.if-is_ordered.true in
     let ordered = c.is_ordered.ensures.0 held in
     let numbers = c.marks_at-marks.ensures in
-    (omega (arith, numbers.ring, c.requires.sized), ordered.0, omega (arith, ordered.1, numbers.appended), numbers.small)
+    let noted : length c.marks_at-marks.result.note ≡ NOTE = omega arith in
+    (omega (arith, numbers.ring, c.requires.sized), ordered.0, omega (arith, ordered.1, numbers.appended), numbers.small, noted)
 
 pub returns-else-is_ordered-clause-judged : goal.returns-else-is_ordered-clause-judged
 returns-else-is_ordered-clause-judged c = λ file is long.

@@ -14,14 +14,15 @@ returns-in-Ok-turn-clause-committed g c =
     let tells = g.D.Disk.tells in
     let marks = c.args.self.now.marks in
     let gap = c.args.gap in
+    let note = c.args.note.now in
     let n = c.in-Ok.dropped in
     let done = c.in-Ok-turn.field-0 in
     let after = c.turn.new.marks in
     let old = (tells c.args.disk.now).file in
     let mid = (tells c.dropped_for.new.disk).file in
     let new = (tells c.turn.new.disk).file in
-    chained IsConsistent IsConsistent (λ a b. KeepsFile a b × DropsFor (Ok n) gap marks a) (Turns (Ok done) n marks after) (Commits Committed gap marks after)
-    (λ a b d s t first turns. commits gap n marks after done a b d s first turns) old mid new (g.met.D.Disk.consistent c.args.disk.now) (g.met.D.Disk.consistent c.dropped_for.new.disk)
+    chained IsConsistent IsConsistent (λ a b. KeepsFile a b × DropsFor (Ok n) gap marks a) (Turns (Ok done) n note marks after) (Commits Committed gap note marks after)
+    (λ a b d s t first turns. commits gap n note marks after done a b d s first turns) old mid new (g.met.D.Disk.consistent c.args.disk.now) (g.met.D.Disk.consistent c.dropped_for.new.disk)
     (with_drops (DropsFor (Ok n) gap marks) old mid c.dropped_for.ensures.file c.in-Ok.ensures.found) c.in-Ok-turn.ensures.turned
 
 pub returns-in-Err-turn-clause-committed : goal.returns-in-Err-turn-clause-committed
@@ -29,14 +30,15 @@ returns-in-Err-turn-clause-committed g c =
     let tells = g.D.Disk.tells in
     let marks = c.args.self.now.marks in
     let gap = c.args.gap in
+    let note = c.args.note.now in
     let n = c.in-Ok.dropped in
     let failed = c.in-Err-turn.field-0 in
     let after = c.turn.new.marks in
     let old = (tells c.args.disk.now).file in
     let mid = (tells c.dropped_for.new.disk).file in
     let new = (tells c.turn.new.disk).file in
-    chained IsConsistent IsConsistent (λ a b. KeepsFile a b × DropsFor (Ok n) gap marks a) (Turns (Err failed) n marks after) (Commits DiskFault gap marks after)
-    (λ a b d s t first turns. commit_fails gap n marks after failed a b d s first turns) old mid new (g.met.D.Disk.consistent c.args.disk.now)
+    chained IsConsistent IsConsistent (λ a b. KeepsFile a b × DropsFor (Ok n) gap marks a) (Turns (Err failed) n note marks after) (Commits DiskFault gap note marks after)
+    (λ a b d s t first turns. commit_fails gap n note marks after failed a b d s first turns) old mid new (g.met.D.Disk.consistent c.args.disk.now)
     (g.met.D.Disk.consistent c.dropped_for.new.disk) (with_drops (DropsFor (Ok n) gap marks) old mid c.dropped_for.ensures.file c.in-Ok.ensures.found) c.in-Err-turn.ensures.turned
 
 pub returns-in-Err-clause-committed : goal.returns-in-Err-clause-committed
@@ -44,12 +46,13 @@ returns-in-Err-clause-committed g c =
     let tells = g.D.Disk.tells in
     let marks = c.args.self.now.marks in
     let gap = c.args.gap in
+    let note = c.args.note.now in
     let why = c.in-Err.fault in
     let old = (tells c.args.disk.now).file in
     let new = (tells c.dropped_for.new.disk).file in
-    subst (λ (e : CommitEnd). FileChanges (Commits e gap marks marks) old new) (sym c.end_of.ensures)
-    (mapped IsConsistent (λ a b. KeepsFile a b × DropsFor (Err why) gap marks a) (Commits (end_of why) gap marks marks)
-    (λ a b s first. not_dropped why gap marks marks a b s first) old new (g.met.D.Disk.consistent c.args.disk.now)
+    subst (λ (e : CommitEnd). FileChanges (Commits e gap note marks marks) old new) (sym c.end_of.ensures)
+    (mapped IsConsistent (λ a b. KeepsFile a b × DropsFor (Err why) gap marks a) (Commits (end_of why) gap note marks marks)
+    (λ a b s first. not_dropped why gap note marks marks a b s first) old new (g.met.D.Disk.consistent c.args.disk.now)
     (with_drops (DropsFor (Err why) gap marks) old new c.dropped_for.ensures.file c.in-Err.ensures.found))
 
 pub returns-in-Err-clause-ended : goal.returns-in-Err-clause-ended
