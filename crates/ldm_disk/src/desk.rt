@@ -63,6 +63,14 @@ pub trait Desks: Net {
         ensures kept { Self.kept self.new ≡ Self.kept self.old }
         ensures asked { Self.port_asked self.new ≡ Self.port_asked self.old };
 
+    /// From now on the first of the stations that it hands out in one call are for so many workers that let in so many
+    /// peers each, and stop then; the others let in nobody. A gate of a desk may stop once the workers of all have.
+    fn limit_peers(&mut self, workers: u32, peers: u32)
+        ensures same { Self.tells self.new ≡ Self.tells self.old }
+        ensures kept { Self.kept self.new ≡ Self.kept self.old }
+        ensures asked { Self.port_asked self.new ≡ Self.port_asked self.old }
+        ensures kept_desk { kept_desk self.new ≡ kept_desk self.old };
+
     /// From now on a gate of what it hands out may also stop at the end of the program's standard input.
     fn stop_with_input(&mut self)
         ensures same { Self.tells self.new ≡ Self.tells self.old }

@@ -34,8 +34,8 @@ pub struct DeskScript {
 
 /// A net in memory that has a desk, or none. It hands the desk out once, and fails then.
 ///
-/// The number of idle calls changes nothing of the desk, and the input of the program nothing of the gates: their
-/// scripts say what they do.
+/// The number of idle calls changes nothing of the desk, and the input of the program and the numbers of peers nothing
+/// of the gates: their scripts say what they do.
 #[derive(Drop)]
 pub struct MemSite {
     net: MemNet,
@@ -206,6 +206,10 @@ impl Desks for MemSite {
     {
         self.kept_desk = Some(desk);
     }
+
+    fn limit_peers(&mut self, _workers: u32, _peers: u32)
+        ensures unchanged { self.new ≡ self.old }
+    {}
 
     fn stop_with_input(&mut self)
         ensures unchanged { self.new ≡ self.old }
