@@ -4,7 +4,7 @@ use Rattle.std.specs.Prelude.{Option, Some, None, IfSome, Ok, Err, slice_get}
 use Rattle.std.specs.List.{AllByRecursion}
 use Rattle.std.proofs.lemmas.List.{append-nil, length-append, length-drop, drop_at, take-append-drop}
 use Rattle.ldm_disk.specs.Told.{FileRecord, IsConsistent}
-use Rattle.ldm_journal.specs.declared.places.TheConstants.{RING, LARGEST_RING}
+use Rattle.ldm_journal.specs.declared.places.TheConstants.{RING}
 use Rattle.ldm_journal.specs.declared.marks.Marks.{Marks}
 use Rattle.ldm_journal.specs.declared.entry.Entry.{Entry}
 use Rattle.ldm_journal.specs.declared.reader.Reader.{Reader}
@@ -13,12 +13,11 @@ use Rattle.ldm_journal.specs.declared.fault.JournalFault.TheVariants.{NotAJourna
 use Rattle.ldm_journal.specs.Records.{Kept, record_bytes, records_of, size_of, IsLawful}
 use Rattle.ldm_journal.specs.Format.{around, front_at, place_of}
 use Rattle.ldm_journal.specs.Standing.{Stands}
-use Rattle.ldm_journal.specs.Reading.{IsBefore, Reads, ReadsRecord, kept_of}
-use Rattle.ldm_journal.proofs.Around.{around-add, drop-around, length-around}
+use Rattle.ldm_journal.specs.Reading.{HasNoRecord, IsBefore, Reads, TakesRecord, kept_of}
+use Rattle.ldm_journal.proofs.Around.{drop-around, length-around}
 use Rattle.ldm_journal.proofs.KeepLemmas.{KeepsBy, by_marks}
 use Rattle.ldm_journal.proofs.RecordLemmas.{records-append, size-append}
 use Rattle.ldm_journal.proofs.ReadLemmas.{least_record}
-use Rattle.ldm_journal.proofs.OneList.{one_record, small}
 
 lawful_drop : (i : ℕ) (kept : List Kept) → AllByRecursion IsLawful kept → AllByRecursion IsLawful (drop i kept)
 lawful_drop zero kept lawful = lawful
@@ -39,12 +38,9 @@ none_left : (i : ℕ) (kept : List Kept) → i ≤ length kept → drop i kept �
 none_left i kept within is = (let none : length kept - i ≡ 0 = sym (length-drop i kept) ∙ ap length is in omega (arith, none, within))
 
 module _ (marks : Marks) (kept appended : List Kept) (i : ℕ) (file : FileRecord) (consistent : IsConsistent file) (stands : Stands marks kept appended file)
-    (before : Reader) (is_before : IsBefore i kept marks before) (sized : before.ring ≤ LARGEST_RING) where
+    (before : Reader) (is_before : IsBefore i kept marks before) where
   keeps : KeepsBy marks kept file.bytes
   keeps = by_marks marks kept file.bytes (stands.crash file.bytes consistent.reads)
-
-  small_ring : marks.used ≤ LARGEST_RING
-  small_ring = omega (arith, keeps.holds.used, keeps.used, is_before.ring, sized)
 
   pub file_long : length file.bytes ≡ RING + marks.ring
   file_long = keeps.holds.long
@@ -86,27 +82,18 @@ module _ (marks : Marks) (kept appended : List Kept) (i : ℕ) (file : FileRecor
   at_end none = nothing (drop i kept) refl lawful_left none
 
   -- a record was read
-  given : (left rest : List Kept) → left ≡ drop i kept → AllByRecursion IsLawful left → (entry : Entry) (buffer : List ℕ) (after : Reader) → 0 < before.left
+  given : (left : List Kept) → left ≡ drop i kept → AllByRecursion IsLawful left → (entry : Entry) (buffer : List ℕ) (after : Reader) → 0 < before.left
       → after.ring ≡ before.ring → after.at ≡ before.at + length buffer → after.left ≡ before.left - length buffer
-      → ReadsRecord (Ok entry) before.ring before.at before.left buffer file.bytes → (slice_get kept i ≡ Some (kept_of entry buffer)) × IsBefore (i + 1) kept marks after
-  given [] rest is lawful entry buffer after some ring at left reads =
+      → TakesRecord (Ok entry) before.ring before.at before.left buffer file.bytes → (slice_get kept i ≡ Some (kept_of entry buffer)) × IsBefore (i + 1) kept marks after
+  given [] is lawful entry buffer after some ring at left takes =
       let size : 0 ≡ before.left = ap (λ (l : List Kept). size_of l) is ∙ sym is_before.left in
       absurd (omega (arith, size, some))
-  given (m ∷ more) rest is lawful entry buffer after some ring at left reads =
-      let k = kept_of entry buffer in
+  given (m ∷ more) is lawful entry buffer after some ring at left takes =
       let n = length buffer in
-      let behind = around before.ring (before.at + n) (before.left - n) file.bytes in
-      let sum : before.left ≡ n + (before.left - n) = omega (arith, reads.0) in
-      let split : around before.ring before.at before.left file.bytes ≡ record_bytes k ++ behind =
-      ap (λ (c : ℕ). around before.ring before.at c file.bytes) sum ∙ around-add before.ring before.at n (before.left - n) file.bytes
-      ∙ ap (λ (l : List ℕ). l ++ behind) (reads.1 ∙ reads.2) in
-      let here : record_bytes m ++ records_of more ≡ record_bytes k ++ behind = ap (λ (l : List Kept). records_of l) is ∙ sym left_window ∙ split in
+      let one = takes.1 m (records_of more) lawful.0 (left_window ∙ ap (λ (l : List Kept). records_of l) (sym is)) in
+      let count : length (record_bytes m) ≡ n = sym one.0 in
       let len_m : length (records_of (m ∷ more)) ≡ before.left = ap (λ (l : List Kept). size_of l) is ∙ sym is_before.left in
-      let le : before.left ≤ LARGEST_RING = omega (arith, total, is_before.left, small_ring) in
-      let len_k : length (records_of (k ∷ [])) ≡ n = ap length (append-nil (record_bytes k) ∙ sym reads.2) in
-      let one = one_record m k (records_of more) behind lawful.0 reads.3 (small m more lawful.0 (omega (arith, len_m, le))) (small k [] reads.3 (omega (arith, len_k, reads.0, le))) here in
       let first = first_left i kept more m (sym is) in
-      let count : length (record_bytes m) ≡ n = ap (λ (j : Kept). length (record_bytes j)) one.0 ∙ ap length (sym reads.2) in
       let next : i + 1 ≡ suc i = omega arith in
       let taken : size_of (take (i + 1) kept) ≡ size_of (take i kept) + n =
       ap (λ (j : ℕ). size_of (take j kept)) next ∙ ap (λ (l : List Kept). size_of l) first.1 ∙ size-append (take i kept) (m ∷ [])
@@ -114,7 +101,7 @@ module _ (marks : Marks) (kept appended : List Kept) (i : ℕ) (file : FileRecor
       let dropped : size_of (drop (i + 1) kept) ≡ before.left - n =
       ap (λ (j : ℕ). size_of (drop j kept)) next ∙ ap (λ (l : List Kept). size_of l) first.2
       ∙ omega (arith, len_m, length-append (record_bytes m) (records_of more), count) in (
-        first.0 ∙ ap (λ (j : Kept). Some j) one.0,
+        first.0 ∙ ap (λ (j : Kept). Some j) one.1,
         record {
           within = omega (arith, first.3);
           ring = ring ∙ is_before.ring;
@@ -124,9 +111,9 @@ module _ (marks : Marks) (kept appended : List Kept) (i : ℕ) (file : FileRecor
       )
 
   pub goes_on : (entry : Entry) (buffer : List ℕ) (after : Reader) → 0 < before.left → after.ring ≡ before.ring → after.at ≡ before.at + length buffer
-      → after.left ≡ before.left - length buffer → ReadsRecord (Ok entry) before.ring before.at before.left buffer file.bytes
+      → after.left ≡ before.left - length buffer → TakesRecord (Ok entry) before.ring before.at before.left buffer file.bytes
       → (slice_get kept i ≡ Some (kept_of entry buffer)) × IsBefore (i + 1) kept marks after
-  goes_on entry buffer after some ring at left reads = given (drop i kept) [] refl lawful_left entry buffer after some ring at left reads
+  goes_on entry buffer after some ring at left takes = given (drop i kept) refl lawful_left entry buffer after some ring at left takes
 
   there : (left : List Kept) → left ≡ drop i kept → AllByRecursion IsLawful left → 0 < before.left
       → ((k : Kept) (rest : List ℕ) → IsLawful k → ¬ (around before.ring before.at before.left file.bytes ≡ record_bytes k ++ rest)) → ⊥
@@ -138,30 +125,30 @@ module _ (marks : Marks) (kept appended : List Kept) (i : ℕ) (file : FileRecor
   never some none = there (drop i kept) refl lawful_left some (none (file_long ∙ ap (λ (n : ℕ). RING + n) (sym is_before.ring)))
 
 -- as clauses say it
-pub ended_reading : (before : Reader) (buffer : List ℕ) (file : Option FileRecord) → IfSome file IsConsistent → before.ring ≤ LARGEST_RING → before.left ≡ 0
+pub ended_reading : (before : Reader) (buffer : List ℕ) (file : Option FileRecord) → IfSome file IsConsistent → before.left ≡ 0
     → IfSome file (Reads (Ok None) before before buffer)
-ended_reading before buffer None consistent sized none = tt
-ended_reading before buffer (Some file) consistent sized none = λ marks kept appended i stands is_before.
-    at_end marks kept appended i file consistent stands before is_before sized none
+ended_reading before buffer None consistent none = tt
+ended_reading before buffer (Some file) consistent none = λ marks kept appended i stands is_before.
+    at_end marks kept appended i file consistent stands before is_before none
 
-pub gave : (entry : Entry) (before after : Reader) (buffer : List ℕ) (file : Option FileRecord) → IfSome file IsConsistent → before.ring ≤ LARGEST_RING → 0 < before.left
+pub gave : (entry : Entry) (before after : Reader) (buffer : List ℕ) (file : Option FileRecord) → IfSome file IsConsistent → 0 < before.left
     → after.ring ≡ before.ring → after.at ≡ before.at + length buffer → after.left ≡ before.left - length buffer
-    → IfSome file (λ f. ReadsRecord (Ok entry) before.ring before.at before.left buffer f.bytes) → IfSome file (Reads (Ok (Some entry)) before after buffer)
-gave entry before after buffer None consistent sized some ring at left reads = tt
-gave entry before after buffer (Some file) consistent sized some ring at left reads = λ marks kept appended i stands is_before.
-    goes_on marks kept appended i file consistent stands before is_before sized entry buffer after some ring at left reads
+    → IfSome file (λ f. TakesRecord (Ok entry) before.ring before.at before.left buffer f.bytes) → IfSome file (Reads (Ok (Some entry)) before after buffer)
+gave entry before after buffer None consistent some ring at left reads = tt
+gave entry before after buffer (Some file) consistent some ring at left reads = λ marks kept appended i stands is_before.
+    goes_on marks kept appended i file consistent stands before is_before entry buffer after some ring at left reads
 
-fault_here : (fault : JournalFault) (before after : Reader) (buffer : List ℕ) (file : FileRecord) → IsConsistent file → before.ring ≤ LARGEST_RING → 0 < before.left
-    → ReadsRecord (Err fault) before.ring before.at before.left buffer file.bytes → Reads (Err fault) before after buffer file
-fault_here NotAJournal before after buffer file consistent sized some reads = λ marks kept appended i stands is_before. never marks kept appended i file consistent stands before is_before sized some reads
-fault_here OtherRing before after buffer file consistent sized some reads = λ marks kept appended i stands is_before. never marks kept appended i file consistent stands before is_before sized some reads
-fault_here OtherLength before after buffer file consistent sized some reads = λ marks kept appended i stands is_before. never marks kept appended i file consistent stands before is_before sized some reads
-fault_here BadHead before after buffer file consistent sized some reads = λ marks kept appended i stands is_before. never marks kept appended i file consistent stands before is_before sized some reads
-fault_here BadRecord before after buffer file consistent sized some reads = λ marks kept appended i stands is_before. never marks kept appended i file consistent stands before is_before sized some reads
-fault_here OutOfMemory before after buffer file consistent sized some reads = λ marks kept appended i stands is_before. tt
-fault_here DiskFault before after buffer file consistent sized some reads = λ marks kept appended i stands is_before. tt
+fault_here : (fault : JournalFault) (before after : Reader) (buffer : List ℕ) (file : FileRecord) → IsConsistent file → 0 < before.left
+    → HasNoRecord fault before.ring before.at before.left file.bytes → Reads (Err fault) before after buffer file
+fault_here NotAJournal before after buffer file consistent some reads = λ marks kept appended i stands is_before. never marks kept appended i file consistent stands before is_before some reads
+fault_here OtherRing before after buffer file consistent some reads = λ marks kept appended i stands is_before. never marks kept appended i file consistent stands before is_before some reads
+fault_here OtherLength before after buffer file consistent some reads = λ marks kept appended i stands is_before. never marks kept appended i file consistent stands before is_before some reads
+fault_here BadHead before after buffer file consistent some reads = λ marks kept appended i stands is_before. never marks kept appended i file consistent stands before is_before some reads
+fault_here BadRecord before after buffer file consistent some reads = λ marks kept appended i stands is_before. never marks kept appended i file consistent stands before is_before some reads
+fault_here OutOfMemory before after buffer file consistent some reads = λ marks kept appended i stands is_before. tt
+fault_here DiskFault before after buffer file consistent some reads = λ marks kept appended i stands is_before. tt
 
-pub failed_reading : (fault : JournalFault) (before after : Reader) (buffer : List ℕ) (file : Option FileRecord) → IfSome file IsConsistent → before.ring ≤ LARGEST_RING → 0 < before.left
-    → IfSome file (λ f. ReadsRecord (Err fault) before.ring before.at before.left buffer f.bytes) → IfSome file (Reads (Err fault) before after buffer)
-failed_reading fault before after buffer None consistent sized some reads = tt
-failed_reading fault before after buffer (Some file) consistent sized some reads = fault_here fault before after buffer file consistent sized some reads
+pub failed_reading : (fault : JournalFault) (before after : Reader) (buffer : List ℕ) (file : Option FileRecord) → IfSome file IsConsistent → 0 < before.left
+    → IfSome file (λ f. HasNoRecord fault before.ring before.at before.left f.bytes) → IfSome file (Reads (Err fault) before after buffer)
+failed_reading fault before after buffer None consistent some reads = tt
+failed_reading fault before after buffer (Some file) consistent some reads = fault_here fault before after buffer file consistent some reads

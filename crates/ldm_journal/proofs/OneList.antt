@@ -13,7 +13,10 @@ use Rattle.ldm_journal.specs.declared.places.TheConstants.{LARGEST_RING}
 use Rattle.ldm_journal.proofs.Around.{length-around}
 use Rattle.ldm_journal.proofs.RecordLemmas.{length-record, length-counted, length-eight, record_counted}
 use Rattle.ldm_journal.proofs.ReadLemmas.{record_begins, tail_of, least_record}
-use Rattle.ldm_journal.proofs.JudgeLemmas.{has_parts}
+use Rattle.ldm_journal.specs.declared.entry.Entry.{Entry}
+use Rattle.std.specs.Prelude.{IfSome, Option, Some, None}
+use Rattle.ldm_journal.specs.Reading.{JudgesCounted, TellsRecord, kept_of}
+use Rattle.ldm_journal.proofs.JudgeLemmas.{cut_sum, has_parts, same_entry}
 
 -- the first number of a record, which says how long it is
 first_number : (k : Kept) (rest : List ℕ) → take 8 (record_bytes k ++ rest) ≡ eight (16 + metadata_len k.info + k.info.size)
@@ -34,6 +37,29 @@ same_kept a b number time info body =
     ap (λ (n : ℕ). made n a.time a.info a.body) number ∙ ap (λ (t : ℕ). made b.number t a.info a.body) time
     ∙ ap (λ (i : Metadata). made b.number b.time i a.body) info ∙ ap (λ (d : List ℕ). made b.number b.time b.info d) body
 
+-- bytes are those of one product at most, but for the sum
+one_counted : (a b : Kept) → IsLawful a → IsLawful b → counted a ≡ counted b → a ≡ b
+one_counted a b la lb same =
+    let pa = has_parts a (counted a) la refl in
+    let pb = has_parts b (counted a) lb same in
+    let texts = spelled_once a.info b.info a.body b.body la.info lb.info (sym pa.rest ∙ pb.rest) in
+    same_kept a b (sym pa.number ∙ pb.number) (sym pa.time ∙ pb.time) texts.0 texts.1
+
+-- the product of which bytes are the record was told without the sum
+told_so : (entry : Entry) (front sum bytes : List ℕ) → JudgesCounted (Some entry) front → bytes ≡ front ++ sum → length sum ≡ 16 → TellsRecord (Some entry) bytes
+told_so entry front sum bytes judged is long k lawful whole =
+    let cut = cut_sum k front sum long (sym is ∙ whole) in
+    one_counted k (kept_of entry front) lawful judged.0 (sym cut.0 ∙ judged.1) ∙ sym (ap (λ (l : List ℕ). kept_of entry l) is ∙ same_entry entry front sum judged.2)
+
+pub told : (result : Option Entry) (front sum bytes : List ℕ) → JudgesCounted result front → bytes ≡ front ++ sum → length sum ≡ 16 → TellsRecord result bytes
+told (Some entry) front sum bytes judged is long = told_so entry front sum bytes judged is long
+told None front sum bytes judged is long = λ k lawful whole. judged k lawful (cut_sum k front sum long (sym is ∙ whole)).0
+
+pub has_body : (result : Option Entry) (front sum bytes : List ℕ) → JudgesCounted result front → bytes ≡ front ++ sum
+    → IfSome result (λ entry. entry.body_at + entry.info.size ≤ length bytes)
+has_body (Some entry) front sum bytes judged is = omega (arith, judged.2, ap length is, length-append front sum)
+has_body None front sum bytes judged is = tt
+
 pub one_record : (a b : Kept) (x y : List ℕ) → IsLawful a → IsLawful b → Small a → Small b → record_bytes a ++ x ≡ record_bytes b ++ y → (a ≡ b) × (x ≡ y)
 one_record a b x y la lb sa sb is =
     let na = 16 + metadata_len a.info + a.info.size in
@@ -49,10 +75,7 @@ one_record a b x y la lb sa sb is =
     let same : m ≡ length (counted b) = omega (arith, count, length-counted a la, length-counted b lb) in
     let fronts : counted a ≡ counted b =
     sym (take_at (counted a) (md5 (counted a)) m refl) ∙ ap (λ (l : List ℕ). take m l) (sym (record_counted a) ∙ whole ∙ record_counted b) ∙ take_at (counted b) (md5 (counted b)) m (sym same) in
-    let pa = has_parts a (counted a) la refl in
-    let pb = has_parts b (counted a) lb fronts in
-    let texts = spelled_once a.info b.info a.body b.body la.info lb.info (sym pa.rest ∙ pb.rest) in
-    (same_kept a b (sym pa.number ∙ pb.number) (sym pa.time ∙ pb.time) texts.0 texts.1, rests)
+    (one_counted a b la lb fronts, rests)
 
 pub small : (k : Kept) (xs : List Kept) → IsLawful k → length (records_of (k ∷ xs)) < 2 ^ 62 → Small k
 small k xs lawful short = record { small = omega (arith, length-record k lawful, length-append (record_bytes k) (records_of xs), short) }

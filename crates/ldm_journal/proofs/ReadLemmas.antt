@@ -13,7 +13,7 @@ use Rattle.std.specs.Prelude.{Some, None, Ok, Err}
 use Rattle.ldm_journal.specs.declared.entry.Entry.{Entry}
 use Rattle.ldm_journal.specs.declared.fault.JournalFault.{JournalFault}
 use Rattle.ldm_journal.specs.declared.fault.JournalFault.TheVariants.{NotAJournal, OtherRing, OtherLength, BadHead, BadRecord, DiskFault, OutOfMemory}
-use Rattle.ldm_journal.specs.Reading.{CountsRecord, FillsAround, JudgesRecord, ReadsRecord}
+use Rattle.ldm_journal.specs.Reading.{CountsRecord, Fetches, FillsAround, HasNoRecord, JudgesRecord, ReadsRecord, TakesRecord, TellsRecord}
 use Rattle.ldm_journal.proofs.Around.{length-around, take-around}
 use Rattle.ldm_journal.proofs.RecordLemmas.{length-eight, length-record}
 
@@ -82,24 +82,39 @@ count_fails BadRecord ring from left into file fills = λ whole k rest lawful is
 count_fails OutOfMemory ring from left into file fills = λ whole k rest lawful is. fills whole
 count_fails DiskFault ring from left into file fills = tt
 
--- the record that was read whole, and judged
-pub read_so : (done : Unit {0}) (entry : Entry) (ring from left : ℕ) (into file : List ℕ) → length into ≤ left → FillsAround (Ok done) ring from into file
-    → JudgesRecord (Some entry) into → ReadsRecord (Ok entry) ring from left into file
-read_so done entry ring from left into file within fills judged = (within, sym fills, judged.1, judged.0)
+-- the bytes of a record were read
+pub fetched_so : (done : Unit {0}) (ring from left : ℕ) (into file : List ℕ) → length into ≤ left → FillsAround (Ok done) ring from into file
+    → CountsRecord (Ok (length into)) ring from left file → Fetches (Ok done) ring from left into file
+fetched_so done ring from left into file within fills counts = (within, fills, counts)
 
-pub read_none : (done : Unit {0}) (ring from left : ℕ) (into file : List ℕ) → length into ≤ left → FillsAround (Ok done) ring from into file
-    → CountsRecord (Ok (length into)) ring from left file → JudgesRecord None into → ReadsRecord (Err BadRecord) ring from left into file
-read_none done ring from left into file within fills counts judged whole k rest lawful is =
-    judged k lawful (fills ∙ record_read k rest ring from left (length into) file is (counts k rest lawful is) within)
+fetched_all : (done : Unit {0}) (ring from left : ℕ) (into file : List ℕ) (k : Kept) (rest : List ℕ) → Fetches (Ok done) ring from left into file → IsLawful k
+    → around ring from left file ≡ record_bytes k ++ rest → into ≡ record_bytes k
+fetched_all done ring from left into file k rest fetched lawful is =
+    fetched.1 ∙ record_read k rest ring from left (length into) file is (fetched.2 k rest lawful is) fetched.0
 
-pub read_not_counted : (fault : JournalFault) (ring from left : ℕ) (into file : List ℕ) → CountsRecord (Err fault) ring from left file → ReadsRecord (Err fault) ring from left into file
-read_not_counted NotAJournal ring from left into file counts = counts
-read_not_counted OtherRing ring from left into file counts = counts
-read_not_counted OtherLength ring from left into file counts = counts
-read_not_counted BadHead ring from left into file counts = counts
-read_not_counted BadRecord ring from left into file counts = counts
-read_not_counted OutOfMemory ring from left into file counts = tt
-read_not_counted DiskFault ring from left into file counts = tt
+-- they were judged
+pub read_so : (done : Unit {0}) (entry : Entry) (ring from left : ℕ) (into file : List ℕ) → Fetches (Ok done) ring from left into file → JudgesRecord (Some entry) into
+    → ReadsRecord (Ok entry) ring from left into file
+read_so done entry ring from left into file fetched judged = (fetched.0, sym fetched.1, judged.1, judged.0)
 
-pub read_fails : (fault : JournalFault) (ring from left : ℕ) (into file : List ℕ) → FillsAround (Err fault) ring from into file → ReadsRecord (Err fault) ring from left into file
-read_fails fault ring from left into file fills = read_not_counted fault ring from left into file (count_fails fault ring from left into file fills)
+pub read_none : (done : Unit {0}) (ring from left : ℕ) (into file : List ℕ) → Fetches (Ok done) ring from left into file → JudgesRecord None into → HasNoRecord BadRecord ring from left file
+read_none done ring from left into file fetched judged whole k rest lawful is = judged k lawful (fetched_all done ring from left into file k rest fetched lawful is)
+
+-- or their product was told
+pub took : (done : Unit {0}) (entry : Entry) (ring from left : ℕ) (into file : List ℕ) → Fetches (Ok done) ring from left into file → TellsRecord (Some entry) into
+    → TakesRecord (Ok entry) ring from left into file
+took done entry ring from left into file fetched told =
+    (fetched.0, λ k rest lawful is. (fetched.2 k rest lawful is, told k lawful (fetched_all done ring from left into file k rest fetched lawful is)))
+
+-- they were not read
+pub not_counted : (fault : JournalFault) (ring from left : ℕ) (file : List ℕ) → CountsRecord (Err fault) ring from left file → HasNoRecord fault ring from left file
+not_counted NotAJournal ring from left file counts = counts
+not_counted OtherRing ring from left file counts = counts
+not_counted OtherLength ring from left file counts = counts
+not_counted BadHead ring from left file counts = counts
+not_counted BadRecord ring from left file counts = counts
+not_counted OutOfMemory ring from left file counts = tt
+not_counted DiskFault ring from left file counts = tt
+
+pub not_fetched : (fault : JournalFault) (ring from left : ℕ) (into file : List ℕ) → FillsAround (Err fault) ring from into file → HasNoRecord fault ring from left file
+not_fetched fault ring from left into file fills = not_counted fault ring from left file (count_fails fault ring from left into file fills)

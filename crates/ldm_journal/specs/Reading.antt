@@ -27,6 +27,11 @@ abbrev pub JudgesRecord : Option Entry → List ℕ → Type 0
 JudgesRecord (Some entry) bytes = IsLawful (kept_of entry bytes) × (bytes ≡ record_bytes (kept_of entry bytes))
 JudgesRecord None bytes = (k : Kept) → IsLawful k → ¬ (bytes ≡ record_bytes k)
 
+-- The product of bytes, if they are the record of one. Their sum may be any.
+abbrev pub TellsRecord : Option Entry → List ℕ → Type 0
+TellsRecord (Some entry) bytes = (k : Kept) → IsLawful k → bytes ≡ record_bytes k → k ≡ kept_of entry bytes
+TellsRecord None bytes = (k : Kept) → IsLawful k → ¬ (bytes ≡ record_bytes k)
+
 -- Bytes are the record of a product but for its sum, or of none.
 abbrev pub JudgesCounted : Option Entry → List ℕ → Type 0
 JudgesCounted (Some entry) bytes =
@@ -54,14 +59,31 @@ CountsRecord (Err DiskFault) ring from left file = Unit {0}
 CountsRecord (Err fault) ring from left file =
     length file ≡ RING + ring → (k : Kept) (rest : List ℕ) → IsLawful k → ¬ (around ring from left file ≡ record_bytes k ++ rest)
 
--- The record at the front of some bytes of the ring was read into a buffer.
+-- why no record was read at the front of some bytes of the ring
+abbrev pub HasNoRecord : JournalFault → ℕ → ℕ → ℕ → List ℕ → Type 0
+HasNoRecord DiskFault ring from left file = Unit {0}
+HasNoRecord OutOfMemory ring from left file = Unit {0}
+HasNoRecord fault ring from left file =
+    length file ≡ RING + ring → (k : Kept) (rest : List ℕ) → IsLawful k → ¬ (around ring from left file ≡ record_bytes k ++ rest)
+
+-- As many bytes as the record has were read into a buffer.
+abbrev pub Fetches : Result (Unit {0}) JournalFault → ℕ → ℕ → ℕ → List ℕ → List ℕ → Type 0
+Fetches (Ok done) ring from left buffer file =
+    (length buffer ≤ left) × (buffer ≡ around ring from (length buffer) file) × CountsRecord (Ok (length buffer)) ring from left file
+Fetches (Err fault) ring from left buffer file = HasNoRecord fault ring from left file
+
+-- The record was read into a buffer, and its product told. The sum may be any.
+abbrev pub TakesRecord : Result Entry JournalFault → ℕ → ℕ → ℕ → List ℕ → List ℕ → Type 0
+TakesRecord (Ok entry) ring from left buffer file =
+    (length buffer ≤ left) × ((k : Kept) (rest : List ℕ) → IsLawful k → around ring from left file ≡ record_bytes k ++ rest
+    → (length buffer ≡ length (record_bytes k)) × (k ≡ kept_of entry buffer))
+TakesRecord (Err fault) ring from left buffer file = HasNoRecord fault ring from left file
+
+-- The record was read into a buffer, and its sum holds.
 abbrev pub ReadsRecord : Result Entry JournalFault → ℕ → ℕ → ℕ → List ℕ → List ℕ → Type 0
 ReadsRecord (Ok entry) ring from left buffer file =
     (length buffer ≤ left) × (around ring from (length buffer) file ≡ buffer) × (buffer ≡ record_bytes (kept_of entry buffer)) × IsLawful (kept_of entry buffer)
-ReadsRecord (Err DiskFault) ring from left buffer file = Unit {0}
-ReadsRecord (Err OutOfMemory) ring from left buffer file = Unit {0}
-ReadsRecord (Err fault) ring from left buffer file =
-    length file ≡ RING + ring → (k : Kept) (rest : List ℕ) → IsLawful k → ¬ (around ring from left file ≡ record_bytes k ++ rest)
+ReadsRecord (Err fault) ring from left buffer file = HasNoRecord fault ring from left file
 
 -- the disk failed only where its count of faults rose
 abbrev pub FaultRose : JournalFault → DiskRecord → DiskRecord → Type 0

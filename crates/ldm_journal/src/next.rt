@@ -5,7 +5,8 @@ ghost use Rattle.ldm_disk.specs.Calls.{FileChanges, KeepsDisk, KeepsFile};
 ghost use Rattle.ldm_journal.specs.declared.places.TheConstants.{LARGEST_RING};
 ghost use Rattle.ldm_disk.specs.Told.{FileRecord, IsConsistent};
 ghost use Rattle.ldm_journal.specs.Records.{Kept};
-ghost use Rattle.ldm_journal.specs.Reading.{CountsRecord, FaultRose, HasBody, IsBefore, IsShorter, Reads, ReadsRecord};
+ghost use Rattle.ldm_journal.specs.Reading.{CountsRecord, FaultRose, Fetches, HasBody, IsBefore, IsShorter};
+ghost use Rattle.ldm_journal.specs.Reading.{Reads, ReadsRecord, TakesRecord};
 ghost use Rattle.ldm_journal.specs.Standing.{Stands};
 
 use crate::entry::Entry;
@@ -14,7 +15,7 @@ use crate::journal::Journal;
 use crate::places::NOTE;
 use crate::read::fill_around;
 use crate::reader::Reader;
-use crate::record::judge;
+use crate::record::{judge, tell};
 use ldm_disk::Disk;
 
 impl Journal {
@@ -65,6 +66,8 @@ impl Journal {
 
 impl Reader {
     /// The next product. Its record stands in the buffer, which grows to it. After an `Err` the same product is next.
+    ///
+    /// The sum is not computed: opening did it.
     pub fn next<D: Disk>(
         &mut self,
         disk: &mut D,
@@ -81,7 +84,7 @@ impl Reader {
         if self.left == 0 {
             return Ok(None);
         }
-        let entry = match read_record(disk, self.ring, self.at, self.left, buffer) {
+        let entry = match take_record(disk, self.ring, self.at, self.left, buffer) {
             Ok(entry) => entry,
             Err(fault) => return Err(fault),
         };
@@ -92,7 +95,37 @@ impl Reader {
     }
 }
 
-/// Reads the record at the front of so many bytes of the ring from a place on.
+// Reads the record at the front of so many bytes of the ring from a place on. Its sum is not computed.
+fn take_record<D: Disk>(
+    disk: &mut D,
+    ring: u64,
+    from: u64,
+    left: u64,
+    buffer: &mut Vec<u8>,
+) -> Result<Entry, JournalFault>
+    requires sized { ring ≤ LARGEST_RING }
+    requires filled { left ≤ ring }
+    requires twice { from + left < 2 * ring }
+    ensures taken { IfSome (D.tells disk.old).file
+        (λ file. TakesRecord result ring from left buffer.new.items file.bytes) }
+    ensures within { IfOk result (λ entry. vec_len buffer.new ≤ left) }
+    ensures some { IfOk result (λ entry. 24 ≤ vec_len buffer.new) }
+    ensures body { IfOk result (λ entry. entry.body_at + entry.info.size ≤ length buffer.new.items) }
+    ensures file { FileChanges KeepsFile (D.tells disk.old).file (D.tells disk.new).file }
+    ensures failed { IfErr result (λ fault. FaultRose fault (D.tells disk.old) (D.tells disk.new)) }
+    ensures kept { KeepsDisk (D.tells disk.old) (D.tells disk.new) }
+{
+    match fetch(disk, ring, from, left, buffer) {
+        Ok(()) => {}
+        Err(fault) => return Err(fault),
+    }
+    match tell(buffer) {
+        Some(entry) => Ok(entry),
+        None => Err(JournalFault::BadRecord),
+    }
+}
+
+/// Reads the record at the front of so many bytes of the ring from a place on, whose sum holds.
 pub(crate) fn read_record<D: Disk>(
     disk: &mut D,
     ring: u64,
@@ -113,6 +146,35 @@ pub(crate) fn read_record<D: Disk>(
     ensures failed { IfErr result (λ fault. FaultRose fault (D.tells disk.old) (D.tells disk.new)) }
     ensures kept { KeepsDisk (D.tells disk.old) (D.tells disk.new) }
 {
+    match fetch(disk, ring, from, left, buffer) {
+        Ok(()) => {}
+        Err(fault) => return Err(fault),
+    }
+    match judge(buffer) {
+        Some(entry) => Ok(entry),
+        None => Err(JournalFault::BadRecord),
+    }
+}
+
+// Reads the bytes of the record at the front of so many bytes of the ring from a place on.
+fn fetch<D: Disk>(
+    disk: &mut D,
+    ring: u64,
+    from: u64,
+    left: u64,
+    buffer: &mut Vec<u8>,
+) -> Result<(), JournalFault>
+    requires sized { ring ≤ LARGEST_RING }
+    requires filled { left ≤ ring }
+    requires twice { from + left < 2 * ring }
+    ensures fetched { IfSome (D.tells disk.old).file
+        (λ file. Fetches result ring from left buffer.new.items file.bytes) }
+    ensures within { IfOk result (λ done. vec_len buffer.new ≤ left) }
+    ensures some { IfOk result (λ done. 24 ≤ vec_len buffer.new) }
+    ensures file { FileChanges KeepsFile (D.tells disk.old).file (D.tells disk.new).file }
+    ensures failed { IfErr result (λ fault. FaultRose fault (D.tells disk.old) (D.tells disk.new)) }
+    ensures kept { KeepsDisk (D.tells disk.old) (D.tells disk.new) }
+{
     let len = match record_len(disk, ring, from, left) {
         Ok(len) => len,
         Err(fault) => return Err(fault),
@@ -122,14 +184,7 @@ pub(crate) fn read_record<D: Disk>(
         Ok(()) => {}
         Err(_) => return Err(JournalFault::OutOfMemory),
     }
-    match fill_around(disk, ring, from, buffer) {
-        Ok(()) => {}
-        Err(fault) => return Err(fault),
-    }
-    match judge(buffer) {
-        Some(entry) => Ok(entry),
-        None => Err(JournalFault::BadRecord),
-    }
+    fill_around(disk, ring, from, buffer)
 }
 
 /// How many bytes the record has that stands at the front of so many bytes of the ring from a place on.

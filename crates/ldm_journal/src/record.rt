@@ -9,7 +9,7 @@ ghost use Rattle.std.specs.List.{between};
 ghost use Rattle.ldm_xdr.specs.Spelling.{Fits};
 ghost use Rattle.ldm_journal.specs.Format.{number_at};
 ghost use Rattle.ldm_journal.specs.Records.{eight, head_bytes};
-ghost use Rattle.ldm_journal.specs.Reading.{JudgesCounted, JudgesRecord};
+ghost use Rattle.ldm_journal.specs.Reading.{JudgesCounted, JudgesRecord, TellsRecord};
 
 use crate::entry::Entry;
 use arrayvec::ArrayVec;
@@ -87,6 +87,19 @@ pub(crate) fn sum_of(head: &[u8], body: &[u8]) -> [u8; 16]
     hasher.update(head);
     hasher.update(body);
     hasher.finalize()
+}
+
+/// The product whose record these bytes are, if they are that of one. Their sum is not computed.
+pub(crate) fn tell(bytes: &[u8]) -> Option<Entry>
+    requires { length bytes.now < 2 ^ 62 }
+    ensures told { TellsRecord result bytes.now }
+    ensures body { IfSome result (λ entry. entry.body_at + entry.info.size ≤ length bytes.now) }
+{
+    if bytes.len() < SUM {
+        return None;
+    }
+    let (front, _) = bytes.split_at(bytes.len() - SUM);
+    entry_in(front)
 }
 
 /// The product whose record these bytes are. `None` where they are the record of none.
