@@ -12,10 +12,10 @@ use Rattle.ldm_journal.specs.declared.fault.JournalFault.{JournalFault}
 use Rattle.ldm_journal.specs.declared.fault.JournalFault.TheVariants.{NotAJournal, OtherRing, OtherLength, BadHead, BadRecord, DiskFault, OutOfMemory}
 use Rattle.ldm_journal.specs.Records.{Kept, record_bytes, records_of, IsLawful, AreRising}
 use Rattle.ldm_journal.specs.Format.{Holds, opening, number_at, selected, place_of, front_at, used_at, note_at, around}
-use Rattle.ldm_journal.specs.Reading.{Fills, ReadsRecord, kept_of}
+use Rattle.ldm_journal.specs.Reading.{FaultRose, Fills, ReadsRecord, kept_of}
 use Rattle.ldm_journal.specs.Opening.{AreRecords, HasMarks, HasNumbers, IsOfFile, JudgesFile, JudgesFront, JudgesRecords}
 use Rattle.ldm_journal.specs.Sound.{IsSound}
-use Rattle.ldm_disk.specs.Told.{FileRecord}
+use Rattle.ldm_disk.specs.Told.{DiskRecord, FileRecord}
 use Rattle.ldm_disk.specs.Calls.{FileChanges, KeepsFile}
 use Rattle.ldm_journal.proofs.Around.{around-add, length-around}
 use Rattle.ldm_journal.proofs.KeepLemmas.{head_within}
@@ -334,6 +334,15 @@ records_fault BadRecord marks ring file has none = no_list marks ring file has n
 records_fault OutOfMemory marks ring file has none = tt
 records_fault DiskFault marks ring file has none = tt
 
+pub of_file_rose : (fault : JournalFault) (old new : DiskRecord) → IsOfFile fault → FaultRose fault old new
+of_file_rose NotAJournal old new is = tt
+of_file_rose OtherRing old new is = tt
+of_file_rose OtherLength old new is = tt
+of_file_rose BadHead old new is = tt
+of_file_rose BadRecord old new is = tt
+of_file_rose OutOfMemory old new is = tt
+of_file_rose DiskFault old new is = absurd is
+
 pub front_fault : (fault : JournalFault) (ring : ℕ) (file : List ℕ) → IsOfFile fault → JudgesFront (Err fault) ring file → JudgesFile (Err fault) ring file
 front_fault NotAJournal ring file is none = none
 front_fault OtherRing ring file is none = none
@@ -343,11 +352,20 @@ front_fault BadRecord ring file is none = none
 front_fault OutOfMemory ring file is none = tt
 front_fault DiskFault ring file is none = tt
 
-pub too_short : (ring : ℕ) (file : List ℕ) → length file < RING → JudgesFile (Err NotAJournal) ring file
+too_short : (ring : ℕ) (file : List ℕ) → length file < RING → (kept : List Kept) (note : List ℕ) → ¬ (Holds ring kept note file)
 too_short ring file short kept note holds = omega (arith, short, holds.long)
 
+pub short_judged : (fault : JournalFault) (ring : ℕ) (file : List ℕ) → length file < RING → JudgesFile (Err fault) ring file
+short_judged NotAJournal ring file short = too_short ring file short
+short_judged OtherRing ring file short = too_short ring file short
+short_judged OtherLength ring file short = too_short ring file short
+short_judged BadHead ring file short = too_short ring file short
+short_judged BadRecord ring file short = too_short ring file short
+short_judged OutOfMemory ring file short = tt
+short_judged DiskFault ring file short = tt
+
 pub fill_fault : (fault : JournalFault) (ring : ℕ) (into file : List ℕ) → length into ≡ RING → Fills (Err fault) 0 into file → JudgesFile (Err fault) ring file
-fill_fault NotAJournal ring into file is short = too_short ring file (omega (arith, is, short))
+fill_fault NotAJournal ring into file is short = short_judged NotAJournal ring file (omega (arith, is, short))
 fill_fault OtherRing ring into file is none = absurd none
 fill_fault OtherLength ring into file is none = absurd none
 fill_fault BadHead ring into file is none = absurd none

@@ -136,7 +136,7 @@ fn marks_of<D: Disk>(
 {
     let mut front = [0u8; FRONT];
     if len < RING {
-        return Err(JournalFault::NotAJournal);
+        return Err(short_fault(disk, ring));
     }
     match fill(disk, 0, &mut front) {
         Ok(()) => {}
@@ -149,6 +149,33 @@ fn marks_of<D: Disk>(
     match judge_records(alloc, disk, &marks) {
         Ok(()) => Ok(marks),
         Err(fault) => Err(fault),
+    }
+}
+
+// Why a file is no journal that ends before a ring begins. It may be one that was not made whole.
+fn short_fault<D: Disk>(disk: &mut D, ring: u64) -> JournalFault
+    requires { IfSome (D.tells disk.old).file (λ file. length file.bytes < RING) }
+    ensures judged { IfSome (D.tells disk.old).file (λ file. JudgesFile (Err result) ring file.bytes) }
+    ensures file { FileChanges KeepsFile (D.tells disk.old).file (D.tells disk.new).file }
+    ensures failed { FaultRose result (D.tells disk.old) (D.tells disk.new) }
+    ensures kept { KeepsDisk (D.tells disk.old) (D.tells disk.new) }
+{
+    let mut front = [0u8; 24];
+    match fill(disk, 0, &mut front) {
+        Ok(()) => fault_behind(&front, ring),
+        Err(fault) => fault,
+    }
+}
+
+// Why a file is none that begins so, and ends before a ring begins.
+fn fault_behind(front: &[u8], ring: u64) -> JournalFault
+    requires { length front.now ≡ 24 }
+    ensures { IsOfFile result }
+{
+    if begins(front, &opening(ring)) {
+        JournalFault::OtherLength
+    } else {
+        wrong_opening(front)
     }
 }
 
@@ -221,7 +248,7 @@ fn is_ordered(marks: &Marks) -> bool
 
 // Why a file does not begin as a journal with the ring that is asked for.
 fn wrong_opening(front: &[u8]) -> JournalFault
-    requires { length front.now ≡ RING }
+    requires { 16 ≤ length front.now }
     ensures { IsOfFile result }
 {
     if begins(front, &NAME) {

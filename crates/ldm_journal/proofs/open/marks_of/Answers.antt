@@ -1,19 +1,16 @@
-use Rattle.std.proofs.Common.{◌≡◌, length, arith}
+use Rattle.std.proofs.Common.{◌≡◌, ◌<◌, length, arith}
 use Rattle.std.specs.Prelude.{Ok, Err, IfSome}
 use Rattle.ldm_journal.specs.declared.places.TheConstants.{RING}
-use Rattle.ldm_journal.specs.declared.fault.JournalFault.TheVariants.{NotAJournal}
 use Rattle.ldm_journal.specs.Reading.{Fills}
 use Rattle.ldm_journal.specs.Opening.{HasMarks, JudgesFile, JudgesRecords}
 use Rattle.ldm_disk.proofs.Filled.{both_keep}
 use Rattle.ldm_journal.proofs.Stays.{fault_later, in_bytes, in_bytes_both, kept_back}
-use Rattle.ldm_journal.proofs.OpenLemmas.{too_short, fill_fault, front_fault, front_read, file_judged, records_fault}
+use Rattle.ldm_journal.proofs.OpenLemmas.{fill_fault, front_fault, front_read, file_judged, records_fault}
 use Rattle.ldm_journal.proofs.open.marks_of.Goals as goal
 
-pub returns-then-len-lt-RING-clause-judged : goal.returns-then-len-lt-RING-clause-judged
-returns-then-len-lt-RING-clause-judged g c =
-    let ring = c.args.ring in
-    in_bytes (λ bytes. c.args.len ≡ length bytes) (λ bytes. JudgesFile (Err NotAJournal) ring bytes) (g.D.Disk.tells c.args.disk.now).file
-    (λ bytes is. too_short ring bytes (omega (arith, is, c.if-len-lt-RING.true))) c.requires.long
+pub short_fault-requires : goal.short_fault-requires
+short_fault-requires g c =
+    in_bytes (λ bytes. c.args.len ≡ length bytes) (λ bytes. length bytes < RING) (g.D.Disk.tells c.args.disk.now).file (λ bytes is. omega (arith, is, c.if-len-lt-RING.true)) c.requires.long
 
 pub returns-in-Err-clause-judged : goal.returns-in-Err-clause-judged
 returns-in-Err-clause-judged g c =
