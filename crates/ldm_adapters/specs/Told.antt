@@ -27,13 +27,13 @@ told_by_sink s = record { written = None; faults = s.faults }
 abbrev pub told_by_clock : RealClock → ClockRecord
 told_by_clock s = record { answers = None }
 
--- after how many idle calls a gate stops: one that may stop with the input does not tell this
+-- after how many idle calls a gate stops: one that may stop with its net does not tell this
 abbrev pub told_idles : Bool → Option ℕ → Option (Option ℕ)
 told_idles true idles = None
 told_idles false idles = Some idles
 
 abbrev pub told_by_gate : RealGate → GateRecord
-told_by_gate s = record { stops = s.stops; idles = told_idles s.by_input s.idles; calls = None }
+told_by_gate s = record { stops = s.stops; idles = told_idles s.by_net s.idles; calls = None }
 
 abbrev pub told_by_link : RealLink → LinkRecord
 told_by_link s = record { passed = None; left = None; ends = s.ends; faults = s.faults; closed = s.closed }

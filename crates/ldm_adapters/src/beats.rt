@@ -23,6 +23,10 @@ pub struct Beats {
     misses: Arc<AtomicU64>,
     // What stops the net, where something does.
     ending: Option<Arc<Ending>>,
+    // How many stations of the net are at work.
+    busy: Arc<AtomicU64>,
+    // Whether this station is one of them.
+    is_busy: Arc<AtomicBool>,
 }
 
 impl Beats {
@@ -38,6 +42,8 @@ impl Beats {
             serves: Arc::new(rt.alloc(), AtomicBool::new(false))?,
             misses: Arc::new(rt.alloc(), AtomicU64::new(0))?,
             ending,
+            busy: Arc::new(rt.alloc(), AtomicU64::new(0))?,
+            is_busy: Arc::new(rt.alloc(), AtomicBool::new(false))?,
         })
     }
 
@@ -48,6 +54,8 @@ impl Beats {
             serves: Arc::new(alloc, AtomicBool::new(false))?,
             misses: Arc::new(alloc, AtomicU64::new(0))?,
             ending: shared(&self.ending)?,
+            busy: Arc::try_clone(&self.busy)?,
+            is_busy: Arc::new(alloc, AtomicBool::new(false))?,
         })
     }
 
@@ -58,6 +66,8 @@ impl Beats {
             serves: Arc::try_clone(&self.serves)?,
             misses: Arc::try_clone(&self.misses)?,
             ending: shared(&self.ending)?,
+            busy: Arc::try_clone(&self.busy)?,
+            is_busy: Arc::try_clone(&self.is_busy)?,
         })
     }
 
@@ -80,6 +90,26 @@ impl Beats {
             Some(ending) => ending.is_quiet(),
             None => true,
         }
+    }
+
+    /// The station is at work from now on.
+    pub(crate) fn begin(&self) {
+        if !self.is_busy.swap(true, Ordering::SeqCst) {
+            let _ = self.busy.fetch_add(1, Ordering::SeqCst);
+        }
+    }
+
+    /// The worker of the station stops, whatever it has still to write. All that its links brought has been taken.
+    pub(crate) fn leave(&self) {
+        if self.is_busy.swap(false, Ordering::SeqCst) {
+            let _ = self.busy.fetch_sub(1, Ordering::SeqCst);
+            self.beat();
+        }
+    }
+
+    /// Whether no station of the net is at work.
+    pub(crate) fn is_left(&self) -> bool {
+        self.busy.load(Ordering::SeqCst) == 0
     }
 
     /// How long one wait in the system may last of the time that is left.

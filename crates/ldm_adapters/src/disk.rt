@@ -1,6 +1,7 @@
 //! A file of the system, as a disk.
 ghost use Rattle.std.specs.Prelude.{◌≡◌, ◌≤◌, false, None};
 ghost use Rattle.std.specs.Io.{ReadsAtMost};
+ghost use Rattle.ldm_disk.specs.Calls.{Rises};
 ghost use Rattle.ldm_outside.specs.Count.{Rose};
 ghost use Rattle.ldm_adapters.specs.Front.{GivesPlace};
 ghost use Rattle.ldm_adapters.specs.Told.{told_by_disk};
@@ -12,7 +13,13 @@ use std::io::{self, ErrorKind};
 use std::os::unix::fs::FileExt;
 use std::rt::HostRuntime;
 
+// How many bytes are gathered at most before the system is called to write them.
+const GATHERED: usize = 131_072;
+
 /// A file of the system, which no other program that locks it has at the same time. It does not tell what it has.
+///
+/// Small pieces that are written one behind the other are gathered, and written by one call of the system: at the latest
+/// before the file is read, measured, cut, synced, or written at another place.
 ///
 /// `attach` refuses what is no regular file without waiting for it, and a file that another program has locked. It
 /// makes a missing file, and no folder. The lock ends with the disk, or at the next `attach`.
@@ -21,6 +28,9 @@ pub struct RealDisk {
     rt: HostRuntime,
     file: Option<File>,
     faults: u64,
+    // What was written and the file has not got yet, and the place where it goes.
+    gathered: Vec<u8>,
+    place: u64,
 }
 
 impl RealDisk {
@@ -32,6 +42,8 @@ impl RealDisk {
             rt,
             file: None,
             faults: 0,
+            gathered: Vec::new(rt.alloc()),
+            place: 0,
         }
     }
 
@@ -40,6 +52,41 @@ impl RealDisk {
         ensures { result ≡ self.now.faults }
     {
         self.faults
+    }
+
+    // Writes what is gathered. Where that fails it is lost, as by a crash.
+    fn flush(&mut self) -> Result<(), Failed>
+        ensures attached { self.new.file ≡ self.old.file }
+        ensures rises { Rises result (told_by_disk self.old) (told_by_disk self.new) }
+    {
+        if self.gathered.is_empty() {
+            return Ok(());
+        }
+        let written = match &self.file {
+            Some(file) => file
+                .write_all_at(self.gathered.as_slice(), self.place)
+                .is_ok(),
+            None => false,
+        };
+        self.gathered.clear();
+        if written { Ok(()) } else { Err(self.fail()) }
+    }
+
+    // Gathers a piece behind what is gathered, where there is room, and nothing stands between. It answers whether it did.
+    fn gather(&mut self, at: u64, piece: &[u8]) -> bool
+        ensures attached { self.new.file ≡ self.old.file }
+        ensures kept { self.new.faults ≡ self.old.faults }
+    {
+        let len = self.gathered.len();
+        if len == 0 {
+            self.place = at;
+        } else if at < self.place || at - self.place != len as u64 {
+            return false;
+        }
+        if piece.len() > GATHERED || len > GATHERED - piece.len() {
+            return false;
+        }
+        self.gathered.extend_from_slice(piece).is_ok()
     }
 
     // Counts a fault.
@@ -61,6 +108,7 @@ impl Disk for RealDisk {
     ghost consistent = { λ _. tt };
 
     fn attach(&mut self, path: &str) -> Result<(), Failed> {
+        let _ = self.flush();
         // the lock on the file that was attached before ends here
         self.file = None;
         match attach(self.rt, path) {
@@ -73,6 +121,7 @@ impl Disk for RealDisk {
     }
 
     fn len(&mut self) -> Result<u64, Failed> {
+        self.flush()?;
         match self.file.as_ref().map(File::metadata) {
             Some(Ok(found)) => Ok(found.len()),
             _ => Err(self.fail()),
@@ -80,6 +129,9 @@ impl Disk for RealDisk {
     }
 
     fn read(&mut self, at: u64, into: &mut [u8]) -> Got {
+        if self.flush().is_err() {
+            return Got::Failed;
+        }
         let got = match &self.file {
             Some(file) => read_place(file, at, into),
             None => Got::Failed,
@@ -91,6 +143,16 @@ impl Disk for RealDisk {
     }
 
     fn write_at(&mut self, at: u64, piece: &[u8]) -> Result<(), Failed> {
+        if self.file.is_none() {
+            return Err(self.fail());
+        }
+        if self.gather(at, piece) {
+            return Ok(());
+        }
+        self.flush()?;
+        if self.gather(at, piece) {
+            return Ok(());
+        }
         match self.file.as_ref().map(|file| file.write_all_at(piece, at)) {
             Some(Ok(())) => Ok(()),
             _ => Err(self.fail()),
@@ -98,6 +160,7 @@ impl Disk for RealDisk {
     }
 
     fn cut(&mut self, len: u64) -> Result<(), Failed> {
+        self.flush()?;
         match self.file.as_ref().map(|file| file.set_len(len)) {
             Some(Ok(())) => Ok(()),
             _ => Err(self.fail()),
@@ -105,6 +168,7 @@ impl Disk for RealDisk {
     }
 
     fn sync(&mut self) -> Result<(), Failed> {
+        self.flush()?;
         match self.file.as_ref().map(File::sync_data) {
             Some(Ok(())) => Ok(()),
             _ => Err(self.fail()),

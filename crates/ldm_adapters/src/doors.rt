@@ -17,12 +17,15 @@ use std::net::{IpAddr, TcpListener};
 
 /// A door over TCP. It tells no host, and closes only where its net is to stop.
 ///
-/// The host of a peer is the text of its address.
+/// The host of a peer is the text of its address. Where it closed or failed, or the link of the last peer of its worker
+/// was given back, its station is at work no more.
 #[derive(Drop)]
 pub struct RealDoor {
     entry: Entry,
     timeouts: Timeouts,
     beats: Option<Beats>,
+    // How many more peers its worker lets in.
+    left: u32,
     faults: u64,
     peers: u64,
     closings: u64,
@@ -67,27 +70,45 @@ impl RealDoor {
     pub fn new(listener: TcpListener, timeouts: Timeouts) -> RealDoor
         ensures { IsNewDoor (told_by_door result) }
     {
-        RealDoor::made(Entry::Listener(listener), timeouts, None)
+        RealDoor::made(Entry::Listener(listener), timeouts, None, u32::MAX)
     }
 
-    /// A door where those of a lobby come in who spoke, over links that wait no longer than this, and beat.
-    pub(crate) fn of_lobby(way: Way, timeouts: Timeouts, beats: Beats) -> RealDoor
+    /// A door where those of a lobby come in who spoke, over links that wait no longer than this, and beat. Its worker
+    /// lets in so many.
+    pub(crate) fn of_lobby(way: Way, timeouts: Timeouts, beats: Beats, peers: u32) -> RealDoor
         ensures { IsNewDoor (told_by_door result) }
     {
-        RealDoor::made(Entry::Lobby(way), timeouts, Some(beats))
+        RealDoor::made(Entry::Lobby(way), timeouts, Some(beats), peers)
     }
 
-    fn made(entry: Entry, timeouts: Timeouts, beats: Option<Beats>) -> RealDoor
+    fn made(entry: Entry, timeouts: Timeouts, beats: Option<Beats>, left: u32) -> RealDoor
         ensures { IsNewDoor (told_by_door result) }
     {
         RealDoor {
             entry,
             timeouts,
             beats,
+            left,
             faults: 0,
             peers: 0,
             closings: 0,
             links: RealLending::new(),
+        }
+    }
+
+    /// Its station is at work from now on, unless its worker lets nobody in.
+    pub(crate) fn begin(&self) {
+        if let Some(beats) = &self.beats
+            && self.left > 0
+        {
+            beats.begin();
+        }
+    }
+
+    // Its worker stops.
+    fn leave(&self) {
+        if let Some(beats) = &self.beats {
+            beats.leave();
         }
     }
 
@@ -176,10 +197,12 @@ impl Door for RealDoor {
                 Came::Peer { host, link }
             }
             Ok(None) => {
+                self.leave();
                 self.closings = self.closings.saturating_add(1);
                 Came::Closed
             }
             Err(_) => {
+                self.leave();
                 self.entry.give_back();
                 self.faults = self.faults.saturating_add(1);
                 Came::Failed
@@ -190,5 +213,9 @@ impl Door for RealDoor {
     fn give_back(&mut self, link: RealLink) {
         self.entry.give_back();
         self.links.take_back(link);
+        self.left = self.left.saturating_sub(1);
+        if self.left == 0 {
+            self.leave();
+        }
     }
 }

@@ -1,5 +1,6 @@
 //! A gate for a program that runs by itself.
 ghost use Rattle.std.specs.Prelude.{◌≡◌, ◌≤◌, true};
+ghost use Rattle.ldm_outside.specs.Count.{Rose};
 ghost use Rattle.ldm_outside.specs.declared.gate.Go.{Go};
 
 use crate::resting::{IDLE_MILLISECONDS, Resting};
@@ -23,20 +24,23 @@ use std::time::Duration;
 /// [`BUSY_MILLISECONDS`](crate::BUSY_MILLISECONDS), for those that come behind.
 ///
 /// A gate of a net that stops with the input of the program does not tell after how many idle calls it stops. It stops
-/// at the first where the input has ended. That of a desk stops behind all links of the net: at the first where none
-/// may bring something, nor could at the one before.
+/// at the first where the input has ended.
+///
+/// That of a desk tells none either. It stops behind all stations of the net: at the first where the workers of all have
+/// stopped, as far as the net sees, and had at the one before. Where the input has ended it stops behind their links: at
+/// the first where none may bring something, nor could at the one before.
 #[derive(Drop)]
 pub struct RealGate {
     rt: HostRuntime,
     idles: Option<u32>,
     stops: u64,
     resting: Option<Resting>,
-    // Whether it may stop with the input.
-    by_input: bool,
+    // Whether it may stop with its net.
+    by_net: bool,
 }
 
 impl RealGate {
-    ghost use Rattle.std.specs.Prelude.{Some, None};
+    ghost use Rattle.std.specs.Prelude.{ℕ, Option, Some, None};
     ghost use Rattle.ldm_outside.specs.Gate.{StopsAfter};
     ghost use Rattle.ldm_adapters.specs.Told.{told_by_gate};
 
@@ -49,34 +53,61 @@ impl RealGate {
             idles,
             stops: 0,
             resting: None,
-            by_input: false,
+            by_net: false,
         }
     }
 
-    /// The same, which rests so where it has no number, and may stop with the input of the program.
+    /// The same of a station, which rests so where it has no number, and may stop with the input of the program.
     pub(crate) fn resting(rt: HostRuntime, idles: Option<u32>, resting: Resting) -> RealGate
         ensures stops { result.stops ≡ 0 }
         ensures stopping { StopsAfter idles (told_by_gate result) }
     {
-        let by_input = resting.may_stop();
+        let by_net = resting.may_stop();
         RealGate {
             rt,
             idles,
             stops: 0,
             resting: Some(resting),
-            by_input,
+            by_net,
         }
     }
 
-    // Whether the input has ended, where it may stop with that.
+    /// That of a desk, which has no number, and stops behind the stations of its net.
+    pub(crate) fn of_desk(rt: HostRuntime, resting: Resting) -> RealGate
+        ensures stops { result.stops ≡ 0 }
+        ensures stopping { (idles : Option ℕ) → StopsAfter idles (told_by_gate result) }
+    {
+        RealGate {
+            rt,
+            idles: None,
+            stops: 0,
+            resting: Some(resting),
+            by_net: true,
+        }
+    }
+
+    // Whether its net has it stop.
     fn is_over(&mut self) -> bool
-        ensures by_input { result ≡ true → self.old.by_input ≡ true }
+        ensures by_net { result ≡ true → self.old.by_net ≡ true }
         ensures rest { self.new ≡ record self.old { resting = self.new.resting } }
     {
         match &mut self.resting {
-            Some(resting) if self.by_input => resting.is_over(),
+            Some(resting) if self.by_net => resting.is_over(),
             _ => false,
         }
+    }
+
+    // Counts a stop, behind which its worker stops.
+    fn stop(&mut self) -> Go
+        ensures stop { result ≡ Go.Stop }
+        ensures counted { self.new ≡ record self.old { stops = self.new.stops } }
+        ensures rose { Rose self.old.stops self.new.stops }
+    {
+        if let Some(resting) = &self.resting {
+            resting.leave();
+        }
+        self.stops = self.stops.saturating_add(1);
+        Go::Stop
     }
 
     fn sleep(&self) {
@@ -100,13 +131,11 @@ impl Gate for RealGate {
 
     fn idle(&mut self) -> Go {
         if self.is_over() {
-            self.stops = self.stops.saturating_add(1);
-            return Go::Stop;
+            return self.stop();
         }
         if let Some(left) = self.idles {
             if left == 0 {
-                self.stops = self.stops.saturating_add(1);
-                return Go::Stop;
+                return self.stop();
             }
             self.idles = Some(left - 1);
             self.sleep();

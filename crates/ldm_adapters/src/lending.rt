@@ -12,7 +12,8 @@ pub struct RealLending {
 }
 
 impl RealLending {
-    ghost use Rattle.ldm_outside.specs.Lending.{TakesBack, IsUnlent, with_out};
+    ghost use Rattle.std.specs.Prelude.{ℕ, nat_lt};
+    ghost use Rattle.ldm_outside.specs.Lending.{CountsBack, TakesBack, IsUnlent, with_out};
     ghost use Rattle.ldm_adapters.specs.Told.{told_by_lending, told_by_link};
 
     /// No link is out, and none was.
@@ -38,10 +39,19 @@ impl RealLending {
         ensures { TakesBack (told_by_link link) (told_by_lending self.old) (told_by_lending self.new) }
     {
         link.end();
-        if link.ended() {
+        self.count(link.ended(), link.failed());
+    }
+
+    // The link is out no more: one that had ended, or failed.
+    fn count(&mut self, ended: bool, failed: bool)
+        ensures ended { (ends : ℕ) → ended ≡ nat_lt 0 ends → CountsBack ends self.old.ended self.new.ended }
+        ensures failed { (faults : ℕ) → failed ≡ nat_lt 0 faults → CountsBack faults self.old.failed self.new.failed }
+        ensures out { self.new.out ≡ false }
+    {
+        if ended {
             self.ended = self.ended.saturating_add(1);
         }
-        if link.failed() {
+        if failed {
             self.failed = self.failed.saturating_add(1);
         }
         self.out = false;

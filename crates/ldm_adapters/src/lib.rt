@@ -27,6 +27,7 @@ mod processes;
 mod resting;
 mod seats;
 mod standard;
+mod station_log;
 mod streams;
 mod telling;
 mod waiting;
@@ -53,5 +54,6 @@ pub use resting::{
     LONGEST_REST_SECONDS, QUIET_MILLISECONDS,
 };
 pub use standard::StandardStreams;
+pub use station_log::StationLog;
 pub use streams::{MOST_GATHERED, RealSink, RealSource};
 pub use waiting::{FIRST_BYTES_SECONDS, WAITING_MOST, WAITING_OF_ONE_ADDRESS};

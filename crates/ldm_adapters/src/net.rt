@@ -1,5 +1,5 @@
 //! The net over TCP.
-ghost use Rattle.std.specs.Prelude.{◌≡◌, [], All, IfOk, None, vec_len};
+ghost use Rattle.std.specs.Prelude.{◌≡◌, ℕ, [], All, IfOk, Option, None, vec_len};
 ghost use Rattle.ldm_outside.specs.Dial.{IsNewDial};
 ghost use Rattle.ldm_outside.specs.Station.{IsNew};
 ghost use Rattle.ldm_disk.specs.Desks.{IsNewDesk};
@@ -14,19 +14,20 @@ use crate::gate::RealGate;
 use crate::links::{RealLink, Timeouts};
 use crate::lobby::{Lobby, Way};
 use crate::resting::Resting;
+use crate::station_log::StationLog;
 use crate::streams::RealSink;
 use ldm_disk::{Desk, Desks, Furnished};
 use ldm_outside::{Dial, Dialled, Manned, Net, Reasons, Station};
 use std::io::{self, ErrorKind};
 use std::net::{IpAddr, Ipv4Addr, Ipv6Addr, SocketAddr, TcpListener};
-use std::rt::{HostRuntime, Stderr};
+use std::rt::HostRuntime;
 use std::sync::Arc;
 
 /// The outside of one worker, whose log is standard error.
-pub type RealStation = Station<RealDoor, RealDial, RealSink<Stderr>, RealClock, RealGate>;
+pub type RealStation = Station<RealDoor, RealDial, RealSink<StationLog>, RealClock, RealGate>;
 
 /// What keeps a file, and whose log is standard error.
-pub type RealDesk = Desk<RealDisk, RealSink<Stderr>, RealClock, RealGate>;
+pub type RealDesk = Desk<RealDisk, RealSink<StationLog>, RealClock, RealGate>;
 
 // What the stations and the desks of a net have in common.
 #[derive(Drop)]
@@ -35,9 +36,31 @@ struct Common {
     beats: Option<Beats>,
     // Whether their gates may stop with the input of the program.
     by_input: bool,
+    // How many of the stations that are handed out together are for workers that let peers in, and how many each.
+    workers: u32,
+    peers: u32,
 }
 
 impl Common {
+    // Of a net that has made none yet, whose workers let in any number of peers.
+    fn new() -> Common {
+        Common {
+            beats: None,
+            by_input: false,
+            workers: u32::MAX,
+            peers: u32::MAX,
+        }
+    }
+
+    // How many peers the worker at that place lets in. One that lets in nobody is told of no end here.
+    fn peers_at(&self, place: usize) -> u32 {
+        if place < self.workers as usize {
+            self.peers
+        } else {
+            u32::MAX
+        }
+    }
+
     // For one more of them.
     fn beats(&mut self, rt: HostRuntime) -> io::Result<Beats> {
         let beats = match self.beats.take() {
@@ -50,34 +73,36 @@ impl Common {
     }
 }
 
-// A station whose door lets in those of the lobby who spoke.
+// A station whose door lets in so many of the lobby who spoke.
 fn station(
     rt: HostRuntime,
     lobby: &Arc<Lobby>,
     timeouts: Timeouts,
     idles: Option<u32>,
+    peers: u32,
     beats: Beats,
 ) -> io::Result<RealStation>
     ensures { IfOk result (λ made. IsNew idles (told_by_station made)) }
 {
     Ok(Station {
-        door: RealDoor::of_lobby(Way::new(lobby)?, timeouts, beats.share()?),
+        door: RealDoor::of_lobby(Way::new(lobby)?, timeouts, beats.share()?, peers),
         dial: RealDial::beating(rt, timeouts, Some(beats.share()?)),
-        log: RealSink::new(rt.alloc(), rt.stderr()),
+        log: RealSink::new(rt.alloc(), StationLog::new(rt, beats.share()?)),
         clock: RealClock::new(rt),
         gate: RealGate::resting(rt, idles, Resting::new(rt, beats)?),
     })
 }
 
-// A desk to whose disk no file is attached.
-fn furnish(rt: HostRuntime, idles: Option<u32>, beats: Beats) -> io::Result<RealDesk>
-    ensures { IfOk result (λ made. IsNewDesk idles (told_by_desk made)) }
+// A desk to whose disk no file is attached. Its gate stops behind all stations, by whatever number these stop.
+fn furnish(rt: HostRuntime, common: &mut Common) -> io::Result<RealDesk>
+    ensures { IfOk result (λ made. (idles : Option ℕ) → IsNewDesk idles (told_by_desk made)) }
 {
+    let beats = common.beats(rt)?;
     Ok(Desk {
         disk: RealDisk::new(rt),
-        log: RealSink::new(rt.alloc(), rt.stderr()),
+        log: RealSink::new(rt.alloc(), StationLog::new(rt, beats.share()?)),
         clock: RealClock::new(rt),
-        gate: RealGate::resting(rt, idles, Resting::of_desk(rt, beats)?),
+        gate: RealGate::of_desk(rt, Resting::of_desk(rt, beats)?),
     })
 }
 
@@ -108,10 +133,19 @@ fn man(
     let mut made = Vec::with_capacity(rt.alloc(), count as usize)?;
     for _ in 0..count {
         let beats = common.beats(rt)?;
-        let one = station(rt, &lobby, timeouts, idles, beats)?;
+        let peers = common.peers_at(made.len());
+        let one = station(rt, &lobby, timeouts, idles, peers, beats)?;
         made.push_reserved(one);
     }
+    begin(made.as_slice());
     Ok(made)
+}
+
+// The stations are at work from now on.
+fn begin(stations: &[RealStation]) {
+    for one in stations {
+        one.door.begin();
+    }
 }
 
 /// The net over TCP of this system.
@@ -149,10 +183,7 @@ impl RealNet {
             timeouts,
             port: None,
             kept: Vec::new(rt.alloc()),
-            common: Common {
-                beats: None,
-                by_input: false,
-            },
+            common: Common::new(),
             kept_desk: None,
         }
     }
@@ -183,7 +214,7 @@ impl Net for RealNet {
 
     type StationDial = RealDial;
 
-    type StationLog = RealSink<Stderr>;
+    type StationLog = RealSink<StationLog>;
 
     type StationClock = RealClock;
 
@@ -235,11 +266,7 @@ impl Desks for RealNet {
         ensures asked { self.new.port ≡ self.old.port }
         ensures kept_desk { self.new.kept_desk ≡ self.old.kept_desk }
     {
-        let made = match self.common.beats(self.rt) {
-            Ok(beats) => furnish(self.rt, idles, beats),
-            Err(error) => Err(error),
-        };
-        match made {
+        match furnish(self.rt, &mut self.common) {
             Ok(desk) => Furnished::Desk(desk),
             Err(error) if error.kind() == ErrorKind::OutOfMemory => Furnished::OutOfMemory,
             Err(error) => {
@@ -258,16 +285,24 @@ impl Desks for RealNet {
         self.kept_desk = Some(desk);
     }
 
+    fn limit_peers(&mut self, workers: u32, peers: u32)
+        ensures same { told_by_dial self.new.dial ≡ told_by_dial self.old.dial }
+        ensures kept { self.new.kept.items ≡ self.old.kept.items }
+        ensures asked { self.new.port ≡ self.old.port }
+        ensures kept_desk { self.new.kept_desk ≡ self.old.kept_desk }
+    {
+        self.common.workers = workers;
+        self.common.peers = peers;
+    }
+
     fn stop_with_input(&mut self)
         ensures same { told_by_dial self.new.dial ≡ told_by_dial self.old.dial }
         ensures kept { self.new.kept.items ≡ self.old.kept.items }
         ensures asked { self.new.port ≡ self.old.port }
         ensures kept_desk { self.new.kept_desk ≡ self.old.kept_desk }
     {
-        self.common = Common {
-            beats: None,
-            by_input: true,
-        };
+        self.common.beats = None;
+        self.common.by_input = true;
     }
 }
 

@@ -35,9 +35,9 @@ pub struct Resting {
     seen: u64,
     // How long the next sleep takes, where beats came.
     busy: Duration,
-    // Whether it stops only behind the links of the net.
+    // Whether it stops only behind the stations of the net, or behind their links.
     is_last: bool,
-    // Whether no link could bring something when it was asked last whether to stop.
+    // Whether nothing could come any more when it was asked last whether to stop.
     was_quiet: bool,
 }
 
@@ -72,23 +72,26 @@ impl Resting {
 
     /// Whether the gate is to stop.
     ///
-    /// That of a desk does so where no link could bring something at the last question already: so its worker has
-    /// looked at the queue since.
+    /// That of a desk does so where nothing could come any more at the last question already: so its worker has looked
+    /// at the queue since. Nothing comes once no station is at work, or, where the input has ended, once no link may
+    /// bring something.
     pub(crate) fn is_over(&mut self) -> bool {
-        if !self.beats.is_over() {
-            return false;
-        }
         if !self.is_last {
-            return true;
+            return self.beats.is_over();
         }
         let was_quiet = self.was_quiet;
-        self.was_quiet = self.beats.is_quiet();
+        self.was_quiet = self.beats.is_left() || self.beats.is_over() && self.beats.is_quiet();
         was_quiet && self.was_quiet
+    }
+
+    /// The gate stopped.
+    pub(crate) fn leave(&self) {
+        self.beats.leave();
     }
 
     /// Sleeps for one idle call, or until it is worth looking at the queue again.
     pub(crate) fn rest(&mut self) {
-        if self.beats.is_over() {
+        if self.was_quiet || self.beats.is_over() {
             thread::sleep(&self.rt, Duration::from_millis(BUSY_MILLISECONDS));
         } else if self.beats.serves() {
             self.rest_between_beats();
