@@ -56,6 +56,7 @@ pub fn site(trial: &mut Trial) {
     let mut site = MemSite::new(net_of(trial, none), Some(script));
     let count = trial.number();
     calls(trial, &mut site, count);
+    site.limit_peers(1, 1);
     site.stop_with_input();
     sit(trial, &mut site, "any");
     sit(trial, &mut site, "any");
