@@ -1,6 +1,7 @@
 -- Turns, one after another.
 use Rattle.std.proofs.Common.{◌≡◌, ℕ, List, [], ◌∷◌, ◌++◌, refl, sym, ◌∙◌, ap, subst}
-use Rattle.std.specs.Prelude.{IfSome, None, Some, Ok, Err}
+use Rattle.std.specs.Prelude.{IfSome, None, Option, Some, Ok, Err}
+use mathlib.Core.List.{IsPrefix}
 use Rattle.std.specs.List.{flat_map}
 use Rattle.std.proofs.lemmas.List.{append-nil, append_assoc}
 use Rattle.std.proofs.lemmas.List.Concat.{flat_map-append}
@@ -14,20 +15,38 @@ use Rattle.ldm_session.specs.Exchange.{IdledAll}
 use Rattle.ldm_session.proofs.CallerLemmas.{IdledAll-one, IdledAll-then}
 use Rattle.ldm_recorder.specs.declared.end.RecordEnd.{RecordEnd}
 use Rattle.ldm_recorder.specs.declared.end.RecordEnd.TheVariants as end
-use Rattle.ldm_recorder.specs.Turns.{AreNumbered, CaughtUp, Given, Lost, Saved, Turn, Who, turn_work, work_of, work_then}
+use Rattle.ldm_recorder.specs.Turns.{AreNumbered, AreTold, CaughtUp, Given, IsTold, Lost, Saved, Turn, Who, turn_work, work_of, work_then}
 use Rattle.ldm_shared.specs.Passes.{IsSamePass, PassView}
 use Rattle.ldm_shared.specs.declared.reader.Reader as reading
+use Rattle.ldm_recorder.specs.declared.line.Line.{Line}
 use Rattle.ldm_recorder.specs.declared.recorder.Recorder.{Recorder}
 use Rattle.ldm_recorder.specs.Taking.{IsSameRecorder}
 use Rattle.ldm_recorder.specs.Recording.{Does, IsAtEnd, Sight, Stops, TurnsBy, who_of}
 use Rattle.ldm_recorder.specs.Course.{BreaksOffThen, Gated, IfStopped, RecordsBy, SavesLate, StopsWell, asks}
 use Rattle.ldm_recorder.specs.Failing.{TellsFault}
 use Rattle.ldm_recorder.proofs.Working.{IsSameWork, does_none, does_same, does_then}
+use Rattle.ldm_recorder.proofs.Knowing.{lasts_later}
 use Rattle.ldm_recorder.proofs.Telling.{work_events}
 
 pub numbered-append : (base : ℕ) (first more : List Turn) → AreNumbered base first → AreNumbered base more → AreNumbered base (first ++ more)
 numbered-append base [] more one two = two
 numbered-append base (turn ∷ first) more one two = (one.0, numbered-append base first more one.1 two)
+
+pub told-append : (seen : List Entry) (who : Who) (first more : List Turn) → AreTold seen who first → AreTold seen who more → AreTold seen who (first ++ more)
+told-append seen who [] more one two = two
+told-append seen who (turn ∷ first) more one two = (one.0, told-append seen who first more one.1 two)
+
+-- what was told stays told
+one_told_later : (seen later : List Entry) (who : Who) (turn : Turn) → IsPrefix seen later → IsTold seen who turn → IsTold later who turn
+one_told_later seen later who (CaughtUp at (Some lasts)) begins told = lasts_later who.base at seen later who.lines lasts begins told
+one_told_later seen later who (CaughtUp at None) begins told = tt
+one_told_later seen later who (Lost count first last) begins told = tt
+one_told_later seen later who (Given n product) begins told = tt
+one_told_later seen later who Saved begins told = tt
+
+pub told_later : (seen later : List Entry) (who : Who) (turns : List Turn) → IsPrefix seen later → AreTold seen who turns → AreTold later who turns
+told_later seen later who [] begins told = tt
+told_later seen later who (turn ∷ turns) begins told = (one_told_later seen later who turn begins told.0, told_later seen later who turns begins told.1)
 
 entries-append : (who : Who) (first more : List Turn) → (work_of who first).entries ++ (work_of who more).entries ≡ (work_of who (first ++ more)).entries
 entries-append who [] more = refl
@@ -51,11 +70,12 @@ both_works who first more = record {
 pub turns_then : (who : Who) (first more : List Turn) (a b c : Sight) → Does who first a b → Does who more b c → Does who (first ++ more) a c
 turns_then who first more a b c one two = record {
   numbered = numbered-append who.base first more one.numbered two.numbered;
+  told = told-append c.pass.seen who first more (told_later b.pass.seen c.pass.seen who first two.all.calls.adds.begins one.told) two.told;
   all = does_same (work_then (work_of who first) (work_of who more)) (work_of who (first ++ more)) a c (both_works who first more) (does_then (work_of who first) (work_of who more) a b c one.all two.all);
 }
 
 pub no_turns : (who : Who) (now : Sight) → IfSome now.disk.file IsConsistent → Does who [] now now
-no_turns who now consistent = record { numbered = tt; all = does_none now consistent }
+no_turns who now consistent = record { numbered = tt; told = tt; all = does_none now consistent }
 
 -- so far some turns are whole, and the gate was asked behind those where nothing was left
 pub record CoursesOn (who : Who) (old new : Gated) : Type 0 where
@@ -79,20 +99,21 @@ course_quiet who a b c more quiet so_far does = record {
 }
 
 -- nothing was left, and the gate said to go on
-pub course_on : (who : Who) (a b c : Gated) (at : ℕ) → CoursesOn who a b → Does who (CaughtUp at ∷ []) b.sight c.sight → Idles go.On b.gate c.gate → CoursesOn who a c
-course_on who a b c at so_far does idles = record {
-  turns = so_far.turns ++ CaughtUp at ∷ [];
-  does = turns_then who so_far.turns (CaughtUp at ∷ []) a.sight b.sight c.sight so_far.does does;
+pub course_on : (who : Who) (a b c : Gated) (at : ℕ) (lasts : Option (List ℕ)) → CoursesOn who a b → Does who (CaughtUp at lasts ∷ []) b.sight c.sight → Idles go.On b.gate c.gate → CoursesOn who a c
+course_on who a b c at lasts so_far does idles = record {
+  turns = so_far.turns ++ CaughtUp at lasts ∷ [];
+  does = turns_then who so_far.turns (CaughtUp at lasts ∷ []) a.sight b.sight c.sight so_far.does does;
   idled =
-      subst (λ (gos : List Go). IdledAll gos a.gate c.gate) (sym (flat_map-append asks so_far.turns (CaughtUp at ∷ [])))
+      subst (λ (gos : List Go). IdledAll gos a.gate c.gate) (sym (flat_map-append asks so_far.turns (CaughtUp at lasts ∷ [])))
       (IdledAll-then (flat_map asks so_far.turns) (go.On ∷ []) a.gate b.gate c.gate so_far.idled (IdledAll-one go.On b.gate c.gate idles));
 }
 
 -- it said to stop
-pub course_stops : (who : Who) (a b c : Gated) (at : ℕ) → CoursesOn who a b → Does who (CaughtUp at ∷ []) b.sight c.sight → Idles go.Stop b.gate c.gate → StopsWell at who a c
-course_stops who a b c at so_far does idles = record {
+pub course_stops : (who : Who) (a b c : Gated) (at : ℕ) (lasts : Option (List ℕ)) → CoursesOn who a b → Does who (CaughtUp at lasts ∷ []) b.sight c.sight → Idles go.Stop b.gate c.gate → StopsWell at who a c
+course_stops who a b c at lasts so_far does idles = record {
   earlier = so_far.turns;
-  does = turns_then who so_far.turns (CaughtUp at ∷ []) a.sight b.sight c.sight so_far.does does;
+  lasts = lasts;
+  does = turns_then who so_far.turns (CaughtUp at lasts ∷ []) a.sight b.sight c.sight so_far.does does;
   idled = IdledAll-then (flat_map asks so_far.turns) (go.Stop ∷ []) a.gate b.gate c.gate so_far.idled (IdledAll-one go.Stop b.gate c.gate idles);
 }
 
@@ -127,35 +148,39 @@ not_stopped end.OutOfMemory who a b P stops = tt
 
 -- ---- what a turn came to
 
-pub caught_of : (who : Who) (at : ℕ) (turn : Turn) (b c : Sight) → IsAtEnd (Some at) turn → Does who (turn ∷ []) b c → Does who (CaughtUp at ∷ []) b c
-caught_of who at (CaughtUp there) b c is does = (let same : at ≡ there = cc is in subst (λ (n : ℕ). Does who (CaughtUp n ∷ []) b c) (sym same) does)
+pub caught_of : (who : Who) (at : ℕ) (turn : Turn) (b c : Sight) → IsAtEnd (Some at) turn → Does who (turn ∷ []) b c
+    → (lasts : Option (List ℕ)) × Does who (CaughtUp at lasts ∷ []) b c
+caught_of who at (CaughtUp there lasts) b c is does =
+    (let same : at ≡ there = cc is in (lasts, subst (λ (n : ℕ). Does who (CaughtUp n lasts ∷ []) b c) (sym same) does))
 caught_of who at (Lost count first last) b c is does = absurd (cc is)
 caught_of who at (Given n product) b c is does = absurd (cc is)
 caught_of who at Saved b c is does = absurd (cc is)
 
 pub quiet_of : (turn : Turn) → IsAtEnd None turn → flat_map asks (turn ∷ []) ≡ []
-quiet_of (CaughtUp at) is = absurd (cc is)
+quiet_of (CaughtUp at lasts) is = absurd (cc is)
 quiet_of (Lost count first last) is = refl
 quiet_of (Given n product) is = refl
 quiet_of Saved is = refl
 
 -- ---- who
 
-abbrev pub whose : ℕ → ℕ → ℕ → ℕ → Who
-whose actor k base ring = record { actor = actor; k = k; base = base; ring = ring }
+abbrev pub whose : ℕ → ℕ → ℕ → ℕ → List Line → Who
+whose actor k base ring lines = record { actor = actor; k = k; base = base; ring = ring; lines = lines }
 
 pub who_same : (p q : PassView) (r s : Recorder) → IsSamePass p q → IsSameRecorder r s → who_of q s ≡ who_of p r
 who_same p q r s pass same =
-    ap (λ (x : ℕ). whose x s.reader.k s.base s.journal.marks.ring) (ap (λ (v : PassView). v.actor) pass)
-    ∙ ap (λ (x : reading.Reader). whose p.actor x.k s.base s.journal.marks.ring) same.reader
-    ∙ ap (λ (x : ℕ). whose p.actor r.reader.k x s.journal.marks.ring) same.base
-    ∙ ap (λ (x : ℕ). whose p.actor r.reader.k r.base x) same.ring
+    ap (λ (x : ℕ). whose x s.reader.k s.base s.journal.marks.ring s.lines.items) (ap (λ (v : PassView). v.actor) pass)
+    ∙ ap (λ (x : reading.Reader). whose p.actor x.k s.base s.journal.marks.ring s.lines.items) same.reader
+    ∙ ap (λ (x : ℕ). whose p.actor r.reader.k x s.journal.marks.ring s.lines.items) same.base
+    ∙ ap (λ (x : ℕ). whose p.actor r.reader.k r.base x s.lines.items) same.ring
+    ∙ ap (λ (x : List Line). whose p.actor r.reader.k r.base r.journal.marks.ring x) same.lines
 
 pub recorder_then : (a b c : Recorder) → IsSameRecorder a b → IsSameRecorder b c → IsSameRecorder a c
-recorder_then a b c one two = record { reader = two.reader ∙ one.reader; base = two.base ∙ one.base; ring = two.ring ∙ one.ring }
+recorder_then a b c one two =
+    record { reader = two.reader ∙ one.reader; base = two.base ∙ one.base; lines = two.lines ∙ one.lines; ring = two.ring ∙ one.ring }
 
 pub recorder_none : (a : Recorder) → IsSameRecorder a a
-recorder_none a = record { reader = refl; base = refl; ring = refl }
+recorder_none a = record { reader = refl; base = refl; lines = refl; ring = refl }
 
 -- ---- what the turns of a recorder come to, whose pass and whose self changed meanwhile
 
@@ -163,15 +188,18 @@ module _ (p q : PassView) (r s : Recorder) (of : IsSamePass p q) (same : IsSameR
   who_is : who_of q s ≡ who_of p r
   who_is = who_same p q r s of same
 
-  caught_here : (at : ℕ) (c : Sight) → TurnsBy (Ok (Some at)) (who_of q s) b.sight c → Does (who_of p r) (CaughtUp at ∷ []) b.sight c
+  caught_here : (at : ℕ) (c : Sight) → TurnsBy (Ok (Some at)) (who_of q s) b.sight c → (lasts : Option (List ℕ)) × Does (who_of p r) (CaughtUp at lasts ∷ []) b.sight c
   caught_here at c turned =
-      subst (λ (w : Who). Does w (CaughtUp at ∷ []) b.sight c) who_is (caught_of (who_of q s) at turned.0 b.sight c turned.1 turned.2)
+      let caught = caught_of (who_of q s) at turned.0 b.sight c turned.1 turned.3 in
+      (caught.0, subst (λ (w : Who). Does w (CaughtUp at caught.0 ∷ []) b.sight c) who_is caught.1)
 
   pub course_caught : (at : ℕ) (c : Gated) → TurnsBy (Ok (Some at)) (who_of q s) b.sight c.sight → Idles go.On b.gate c.gate → CoursesOn (who_of p r) a c
-  course_caught at c turned idles = course_on (who_of p r) a b c at so_far (caught_here at c.sight turned) idles
+  course_caught at c turned idles =
+      let caught = caught_here at c.sight turned in course_on (who_of p r) a b c at caught.0 so_far caught.1 idles
 
   pub course_stopped : (at : ℕ) (c : Gated) → TurnsBy (Ok (Some at)) (who_of q s) b.sight c.sight → Idles go.Stop b.gate c.gate → StopsWell at (who_of p r) a c
-  course_stopped at c turned idles = course_stops (who_of p r) a b c at so_far (caught_here at c.sight turned) idles
+  course_stopped at c turned idles =
+      let caught = caught_here at c.sight turned in course_stops (who_of p r) a b c at caught.0 so_far caught.1 idles
 
   pub course_broken : (why : RecordEnd) (c : Sight) (log : SinkRecord) → Stops why (who_of q s) b.sight c → TellsFault why c.log log
       → RecordsBy why (who_of p r) a (told_behind c log b)
@@ -183,7 +211,7 @@ module _ (p q : PassView) (r s : Recorder) (of : IsSamePass p q) (same : IsSameR
     given : CoursesOn (who_of p r) a (record { sight = c; gate = b.gate })
     given =
         course_quiet (who_of p r) a b c (turned.0 ∷ []) (quiet_of turned.0 turned.1) so_far
-        (subst (λ (w : Who). Does w (turned.0 ∷ []) b.sight c) who_is turned.2)
+        (subst (λ (w : Who). Does w (turned.0 ∷ []) b.sight c) who_is turned.3)
 
     who_still : who_of u t ≡ who_of p r
     who_still = who_same p u r t of' same'

@@ -7,20 +7,22 @@ use Rattle.ldm_disk.specs.Told.{DiskRecord, IsConsistent}
 use Rattle.ldm_outside.specs.Io.{SinkRecord, Takes}
 use Rattle.ldm_outside.proofs.CallerLemmas.{Takes-nothing}
 use Rattle.ldm_session.specs.Gaps.{gap_line}
+use Rattle.ldm_model.specs.declared.event.Entry.{Entry}
 use Rattle.ldm_model.specs.State.{Queued}
 use Rattle.ldm_shared.specs.Passes.{PassView}
 use Rattle.ldm_shared.proofs.Made.{calls_none}
 use Rattle.ldm_journal.specs.declared.marks.Marks.{Marks}
 use Rattle.ldm_journal.specs.Records.{Kept}
-use Rattle.ldm_journal.specs.Runs.{Commit, Content}
+use Rattle.ldm_journal.specs.Runs.{Content}
 use Rattle.ldm_recorder.specs.declared.end.RecordEnd.{RecordEnd}
 use Rattle.ldm_recorder.specs.declared.end.RecordEnd.TheVariants as end
-use Rattle.ldm_recorder.specs.Turns.{AreNumbered, CaughtUp, Given, Lost, Turn, Who, keep_events, large_line, work_of, work_then}
+use Rattle.ldm_recorder.specs.Turns.{AreNumbered, AreTold, CaughtUp, Given, Lost, Turn, Who, keep_events, large_line, note_then, work_of, work_then}
 use Rattle.ldm_recorder.specs.Recording.{DoesAll, Sight}
-use Rattle.ldm_recorder.specs.Saving.{Kit, SavesBy}
+use Rattle.ldm_recorder.specs.Catching.{CommitsAt}
+use Rattle.ldm_recorder.specs.Saving.{Kit}
 use Rattle.ldm_recorder.specs.Taking.{WorksBy, writing}
 use Rattle.ldm_recorder.specs.Finishing.{BreaksOffIn, MakesUp, TellsLost, behind_one, kept_queued, lost_between, lost_lines, silent, turn_left}
-use Rattle.ldm_recorder.proofs.Coursing.{lines-append, numbered-append}
+use Rattle.ldm_recorder.proofs.Coursing.{lines-append, numbered-append, told-append, told_later}
 use Rattle.ldm_recorder.proofs.Keeping.{too_long}
 use Rattle.ldm_recorder.proofs.Telling.{work_events}
 use Rattle.ldm_recorder.proofs.Turning.{at, cause_for, cause_here, commit_broken, commit_made, part_none}
@@ -37,11 +39,12 @@ silent_turns who first more = record {
 }
 
 pub up_none : (who : Who) (now : Sight) → IfSome now.disk.file IsConsistent → MakesUp who [] now now
-up_none who now consistent = record { numbered = tt; all = does_none now consistent }
+up_none who now consistent = record { numbered = tt; told = tt; all = does_none now consistent }
 
 pub up_then : (who : Who) (first more : List Turn) (a b c : Sight) → MakesUp who first a b → MakesUp who more b c → MakesUp who (first ++ more) a c
 up_then who first more a b c one two = record {
   numbered = numbered-append who.base first more one.numbered two.numbered;
+  told = told-append c.pass.seen who first more (told_later b.pass.seen c.pass.seen who first two.all.calls.adds.begins one.told) two.told;
   all =
       does_same (work_then (silent (work_of who first)) (silent (work_of who more))) (silent (work_of who (first ++ more))) a c (silent_turns who first more)
       (does_then (silent (work_of who first)) (silent (work_of who more)) a b c one.all two.all);
@@ -58,6 +61,7 @@ broken_then why who first more a b c one two = record {
   mid = two.mid;
   does = up_then who first two.whole a b two.mid one two.does;
   numbered = two.numbered;
+  told = two.told;
   part = two.part;
   cause = two.cause;
 }
@@ -74,6 +78,7 @@ broken_soon why who first more a b one = record {
   mid = one.mid;
   does = one.does;
   numbered = one.numbered;
+  told = one.told;
   part = one.part;
   cause = one.cause;
 }
@@ -96,6 +101,10 @@ module _ (who : Who) (count first last : ℕ) where
   numbered_by true = tt
   numbered_by false = (tt, tt)
 
+  told_by : (seen : List Entry) (none : Bool) → AreTold seen who (lost_if none)
+  told_by seen true = tt
+  told_by seen false = (tt, tt)
+
   one_by : (none : Bool) → length (lost_if none) ≤ 1
   one_by true = omega arith
   one_by false = omega arith
@@ -110,9 +119,13 @@ module _ (who : Who) (from to : ℕ) (pass : PassView) (marks : Marks) (disk : D
   numbered : AreNumbered who.base (lost_between from to)
   numbered = numbered_by who (to - from) from (to - 1) none
 
+  told : AreTold pass.seen who (lost_between from to)
+  told = told_by who (to - from) from (to - 1) pass.seen none
+
   pub lost_made : TellsLost (Ok tt) from to a b → MakesUp who (lost_between from to) (at pass marks disk a) (at pass marks disk b)
   lost_made tells = record {
     numbered = numbered;
+    told = told;
     all = record {
       calls = calls_none pass;
       events =
@@ -135,6 +148,7 @@ module _ (who : Who) (from to : ℕ) (pass : PassView) (marks : Marks) (disk : D
     mid = at pass marks disk a;
     does = up_none who (at pass marks disk a) consistent;
     numbered = numbered;
+    told = told;
     part = record {
       called = [];
       not_called = [];
@@ -173,6 +187,7 @@ module _ (who : Who) (n : ℕ) (k : Kept) (is : k.number ≡ who.base + n) (a b 
   pub given_made : DoesAll (writing who n k) a b → MakesUp who (Given n k ∷ []) a b
   given_made does = record {
     numbered = (is, tt);
+    told = (tt, tt);
     all = does_same (writing who n k) (silent (work_of who (Given n k ∷ []))) a b written_is does;
   }
 
@@ -186,6 +201,7 @@ module _ (who : Who) (n : ℕ) (k : Kept) (is : k.number ≡ who.base + n) (a b 
     mid = a;
     does = up_none who a consistent;
     numbered = (is, tt);
+    told = (tt, tt);
     part = part_same (writing who n k) (silent (work_of who (Given n k ∷ []))) a b written_is works.0;
     cause = cause_for why (Given n k ∷ []) a b works.1;
   }
@@ -201,6 +217,7 @@ module _ (who : Who) (n : ℕ) (k : Kept) (is : k.number ≡ who.base + n) (a b 
     mid = a;
     does = up_none who a consistent;
     numbered = (is, tt);
+    told = (tt, tt);
     part = part_none (silent (work_of who (Given n k ∷ []))) a.pass a.pass a.marks a.disk a.log consistent (calls_none a.pass);
     cause = past;
   }
@@ -208,37 +225,39 @@ module _ (who : Who) (n : ℕ) (k : Kept) (is : k.number ≡ who.base + n) (a b 
 -- ---- a commit
 
 module _ (who : Who) (end : ℕ) (pass : PassView) (log : SinkRecord) (old new : Kit) (ring : who.ring ≡ old.marks.ring) where
-  pub caught_made : SavesBy (Ok tt) (λ start. Commit (old.marks.ring - 0) ∷ []) old new
-      → MakesUp who (CaughtUp end ∷ []) (at pass old.marks old.disk log) (at pass new.marks new.disk log)
-  caught_made saves = record {
+  pub caught_made : (commits : CommitsAt (Ok tt) who end (at pass old.marks old.disk log) (at pass new.marks new.disk log))
+      → MakesUp who (CaughtUp end commits.lasts ∷ []) (at pass old.marks old.disk log) (at pass new.marks new.disk log)
+  caught_made commits = record {
     numbered = (tt, tt);
+    told = (commits.told, tt);
     all = record {
       calls = calls_none pass;
-      events = commit_made who old new ring saves.0;
+      events = commit_made who old new ring (λ start. note_then who.lines commits.lasts start.note) commits.saves.0;
       lines = Takes-nothing log log refl;
-      ring = saves.0.ring;
-      disk_faults = saves.0.faults;
+      ring = commits.saves.0.ring;
+      disk_faults = commits.saves.0.faults;
       log_faults = omega arith;
     };
   }
 
-  pub caught_broken : IfSome old.disk.file IsConsistent → (why : RecordEnd) → SavesBy (Err why) (λ start. Commit (old.marks.ring - 0) ∷ []) old new
-      → old.disk.faults ≤ new.disk.faults → BreaksOffIn why who (CaughtUp end ∷ []) (at pass old.marks old.disk log) (at pass new.marks new.disk log)
-  caught_broken consistent why saves faults = record {
+  pub caught_broken : IfSome old.disk.file IsConsistent → (why : RecordEnd) (commits : CommitsAt (Err why) who end (at pass old.marks old.disk log) (at pass new.marks new.disk log))
+      → old.disk.faults ≤ new.disk.faults → BreaksOffIn why who (CaughtUp end commits.lasts ∷ []) (at pass old.marks old.disk log) (at pass new.marks new.disk log)
+  caught_broken consistent why commits faults = record {
     whole = [];
-    in_hand = CaughtUp end ∷ [];
+    in_hand = CaughtUp end commits.lasts ∷ [];
     behind = [];
     are = refl;
     one = omega arith;
     mid = at pass old.marks old.disk log;
     does = up_none who (at pass old.marks old.disk log) consistent;
     numbered = (tt, tt);
+    told = (commits.told, tt);
     part = record {
       called = [];
       not_called = [];
       calls_are = refl;
       calls = calls_none pass;
-      events = commit_broken who old new ring saves.left;
+      events = commit_broken who old new ring (λ start. note_then who.lines commits.lasts start.note) commits.saves.left;
       written = [];
       not_written = [];
       lines_are = refl;
@@ -246,7 +265,7 @@ module _ (who : Who) (end : ℕ) (pass : PassView) (log : SinkRecord) (old new :
       disk_faults = faults;
       log_faults = omega arith;
     };
-    cause = cause_here why (CaughtUp end ∷ []) pass pass old new log saves.cause;
+    cause = cause_here why (CaughtUp end commits.lasts ∷ []) pass pass old new log commits.saves.cause;
   }
 
 -- ---- a queued product

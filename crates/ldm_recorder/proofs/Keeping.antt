@@ -23,9 +23,9 @@ use Rattle.ldm_journal.proofs.Around.{length-around}
 use Rattle.ldm_journal.proofs.RecordLemmas.{length-record}
 use Rattle.ldm_recorder.specs.declared.end.RecordEnd.{RecordEnd}
 use Rattle.ldm_recorder.specs.declared.end.RecordEnd.TheVariants as end
-use Rattle.ldm_recorder.specs.Saving.{AppendsBy, BreaksOff, DiskCause, KeepsBy, Kit, Makes, ReplacesBy, replacing}
+use Rattle.ldm_recorder.specs.Saving.{AppendsBy, BreaksOff, DiskCause, KeepsBy, Kit, Makes, ReplacesBy, SavesBy, replacing}
 use Rattle.ldm_recorder.specs.Turns.{keep_events}
-use Rattle.ldm_recorder.proofs.Working.{broken_early, broken_same, made_same, none_made, then_broken, then_made}
+use Rattle.ldm_recorder.proofs.Working.{broken_early, broken_same, made_same, none_made, noted_broken, noted_made, then_broken, then_made}
 
 -- ---- the events of a product
 
@@ -35,37 +35,37 @@ too_long a b less = elim (leb_tells a b) [ inl within ↦ absurd (omega (arith, 
 pub keep_large : (ring : ℕ) (k : Kept) (start : Content) → ring < record_len k → keep_events ring k start ≡ []
 keep_large ring k start over =
     ap
-    (λ (b : Bool). cond b (cond (nat_le (size_of (start.kept ++ start.appended) + record_len k) ring) (Append k ∷ []) (Commit (ring - record_len k) ∷ Append k ∷ [])) [])
+    (λ (b : Bool). cond b (cond (nat_le (size_of (start.kept ++ start.appended) + record_len k) ring) (Append k ∷ []) (Commit (ring - record_len k) start.note ∷ Append k ∷ [])) [])
     (too_long (record_len k) ring over)
 
 fitting_here : (ring : ℕ) (k : Kept) (start : Content) → record_len k ≤ ring
-    → keep_events ring k start ≡ cond (nat_le (size_of (start.kept ++ start.appended) + record_len k) ring) (Append k ∷ []) (Commit (ring - record_len k) ∷ Append k ∷ [])
+    → keep_events ring k start ≡ cond (nat_le (size_of (start.kept ++ start.appended) + record_len k) ring) (Append k ∷ []) (Commit (ring - record_len k) start.note ∷ Append k ∷ [])
 fitting_here ring k start le =
     ap
-    (λ (b : Bool). cond b (cond (nat_le (size_of (start.kept ++ start.appended) + record_len k) ring) (Append k ∷ []) (Commit (ring - record_len k) ∷ Append k ∷ [])) [])
+    (λ (b : Bool). cond b (cond (nat_le (size_of (start.kept ++ start.appended) + record_len k) ring) (Append k ∷ []) (Commit (ring - record_len k) start.note ∷ Append k ∷ [])) [])
     (le-leb (record_len k) ring le)
 
 pub keep_fits : (ring : ℕ) (k : Kept) (start : Content) → size_of (start.kept ++ start.appended) + record_len k ≤ ring → keep_events ring k start ≡ Append k ∷ []
 keep_fits ring k start le =
     fitting_here ring k start (omega (arith, le))
-    ∙ ap (λ (b : Bool). cond b (Append k ∷ []) (Commit (ring - record_len k) ∷ Append k ∷ [])) (le-leb (size_of (start.kept ++ start.appended) + record_len k) ring le)
+    ∙ ap (λ (b : Bool). cond b (Append k ∷ []) (Commit (ring - record_len k) start.note ∷ Append k ∷ [])) (le-leb (size_of (start.kept ++ start.appended) + record_len k) ring le)
 
 pub keep_full : (ring : ℕ) (k : Kept) (start : Content) → record_len k ≤ ring → ring < size_of (start.kept ++ start.appended) + record_len k
     → keep_events ring k start ≡ replacing ring k start
 keep_full ring k start le over =
     fitting_here ring k start le
-    ∙ ap (λ (b : Bool). cond b (Append k ∷ []) (Commit (ring - record_len k) ∷ Append k ∷ [])) (too_long (size_of (start.kept ++ start.appended) + record_len k) ring over)
+    ∙ ap (λ (b : Bool). cond b (Append k ∷ []) (Commit (ring - record_len k) start.note ∷ Append k ∷ [])) (too_long (size_of (start.kept ++ start.appended) + record_len k) ring over)
 
 -- ---- appending
 
 -- there was room
-pub appended_here : (k : Kept) (before after : Marks) (old new : Option FileRecord) → before.used + before.appended + record_len k ≤ before.ring → IfSome old IsConsistent
-    → FileChanges (Appends append.Appended k before after) old new → FileChanges (MakesEvents (keep_events before.ring k) before after) old new
-appended_here k before after old new room consistent appends =
+pub appended_here : (k : Kept) (before after : Marks) → after.note ≡ before.note → (old new : Option FileRecord) → before.used + before.appended + record_len k ≤ before.ring
+    → IfSome old IsConsistent → FileChanges (Appends append.Appended k before after) old new → FileChanges (MakesEvents (keep_events before.ring k) before after) old new
+appended_here k before after noted old new room consistent appends =
     mapped IsConsistent (Appends append.Appended k before after) (MakesEvents (keep_events before.ring k) before after)
     (λ a b s p.
     same_events (λ start. Append k ∷ []) (keep_events before.ring k) before after a b
-    (λ start stands. sym (keep_fits before.ring k start (omega (arith, room, all_bytes before start.kept start.appended a s stands)))) (append_event k before after a b p))
+    (λ start stands noted. sym (keep_fits before.ring k start (omega (arith, room, all_bytes before start.kept start.appended a s stands)))) (append_event k before after noted a b p))
     old new consistent appends
 
 -- there was none, and the oldest went
@@ -75,7 +75,7 @@ full_then k before mid after old m new le over consistent full made =
     let here = subst (λ (f : FileRecord). MakesEvents (replacing mid.ring k) mid after f new) full.0 made in
     let there = subst (λ (x : Marks). MakesEvents (replacing x.ring k) x after old new) full.1 here in
     same_events (replacing before.ring k) (keep_events before.ring k) before after old new
-    (λ start stands. sym (keep_full before.ring k start le (omega (arith, over, all_bytes before start.kept start.appended old consistent stands)))) there
+    (λ start stands noted. sym (keep_full before.ring k start le (omega (arith, over, all_bytes before start.kept start.appended old consistent stands)))) there
 
 pub replaced_here : (k : Kept) (before mid after : Marks) (old m new : Option FileRecord) → record_len k ≤ before.ring
     → before.ring < before.used + before.appended + record_len k → IfSome old IsConsistent → IfSome m IsConsistent
@@ -91,7 +91,7 @@ full_breaks k before mid old m new le over consistent full made =
     let here = subst (λ (f : FileRecord). BreaksOffAmid (replacing mid.ring k) mid f new) full.0 made in
     let there = subst (λ (x : Marks). BreaksOffAmid (replacing x.ring k) x old new) full.1 here in
     same_breaks (replacing before.ring k) (keep_events before.ring k) before old new
-    (λ start stands. sym (keep_full before.ring k start le (omega (arith, over, all_bytes before start.kept start.appended old consistent stands)))) there
+    (λ start stands noted. sym (keep_full before.ring k start le (omega (arith, over, all_bytes before start.kept start.appended old consistent stands)))) there
 
 pub replacing_broken : (k : Kept) (before mid : Marks) (old m new : Option FileRecord) → record_len k ≤ before.ring
     → before.ring < before.used + before.appended + record_len k → IfSome old IsConsistent → IfSome m IsConsistent
@@ -106,27 +106,57 @@ pub not_appended : (events : Content → List Event) (k : Kept) (before after : 
 not_appended events k before after old new appends =
     one_call (Appends append.DiskFault k before after) (BreaksOffAmid events before) (λ a b p. append_breaks events k before after a b p) old new appends
 
-pub appended_one : (k : Kept) (before after : Marks) (old new : Option FileRecord) → FileChanges (Appends append.Appended k before after) old new
+pub appended_one : (k : Kept) (before after : Marks) → after.note ≡ before.note → (old new : Option FileRecord) → FileChanges (Appends append.Appended k before after) old new
     → FileChanges (MakesEvents (λ start. Append k ∷ []) before after) old new
-appended_one k before after old new appends =
-    one_call (Appends append.Appended k before after) (MakesEvents (λ start. Append k ∷ []) before after) (λ a b p. append_event k before after a b p) old new appends
+appended_one k before after noted old new appends =
+    one_call (Appends append.Appended k before after) (MakesEvents (λ start. Append k ∷ []) before after) (λ a b p. append_event k before after noted a b p) old new appends
 
 -- ---- committing
 
-pub committed_one : (gap : ℕ) (before after : Marks) (old new : Option FileRecord) → FileChanges (Commits commit.Committed gap before after) old new
-    → FileChanges (MakesEvents (λ start. Commit (before.ring - gap) ∷ []) before after) old new
-committed_one gap before after old new commits =
-    one_call (Commits commit.Committed gap before after) (MakesEvents (λ start. Commit (before.ring - gap) ∷ []) before after) (λ a b p. commit_event gap before after a b p) old new commits
+pub committed_one : (gap : ℕ) (note : List ℕ) (before after : Marks) → after.note ≡ note → (old new : Option FileRecord) → FileChanges (Commits commit.Committed gap note before after) old new
+    → FileChanges (MakesEvents (λ start. Commit (before.ring - gap) note ∷ []) before after) old new
+committed_one gap note before after noted old new commits =
+    one_call (Commits commit.Committed gap note before after) (MakesEvents (λ start. Commit (before.ring - gap) note ∷ []) before after)
+    (λ a b p. commit_event gap note before after noted a b p) old new commits
 
-pub not_committed : (events : Content → List Event) (gap : ℕ) (before after : Marks) (old new : Option FileRecord) → FileChanges (Commits commit.DiskFault gap before after) old new
-    → FileChanges (BreaksOffAmid events before) old new
-not_committed events gap before after old new commits =
-    one_call (Commits commit.DiskFault gap before after) (BreaksOffAmid events before) (λ a b p. commit_breaks events gap before after a b p) old new commits
+pub not_committed : (gap : ℕ) (note : List ℕ) (before after : Marks) (old new : Option FileRecord) → FileChanges (Commits commit.DiskFault gap note before after) old new
+    → FileChanges (BreaksOffAmid (λ start. Commit (before.ring - gap) note ∷ []) before) old new
+not_committed gap note before after old new commits =
+    one_call (Commits commit.DiskFault gap note before after) (BreaksOffAmid (λ start. Commit (before.ring - gap) note ∷ []) before)
+    (λ a b p. commit_breaks gap note before after a b p) old new commits
 
-pub no_journal : (events : Content → List Event) (gap : ℕ) (before after : Marks) (old new : Option FileRecord) → FileChanges (Commits commit.NotAJournal gap before after) old new
-    → FileChanges (BreaksOffAmid events before) old new
-no_journal events gap before after old new commits =
-    one_call (Commits commit.NotAJournal gap before after) (BreaksOffAmid events before) (λ a b p start stands. absurd (p start.kept start.appended stands)) old new commits
+pub no_journal : (events : Content → List Event) (gap : ℕ) (note : List ℕ) (before after : Marks) (old new : Option FileRecord)
+    → FileChanges (Commits commit.NotAJournal gap note before after) old new → FileChanges (BreaksOffAmid events before) old new
+no_journal events gap note before after old new commits =
+    one_call (Commits commit.NotAJournal gap note before after) (BreaksOffAmid events before) (λ a b p start stands noted. absurd (p start.kept start.appended stands)) old new commits
+
+-- a note that is that of the journal already
+pub made_on : (gap : ℕ) (note : List ℕ) (before after : Marks) → note ≡ before.note → (old new : Option FileRecord)
+    → FileChanges (MakesEvents (λ start. Commit (before.ring - gap) note ∷ []) before after) old new
+    → FileChanges (MakesEvents (λ start. Commit (before.ring - gap) start.note ∷ []) before after) old new
+made_on gap note before after is old new made =
+    noted_made (λ start. Commit (before.ring - gap) note ∷ []) (λ start. Commit (before.ring - gap) start.note ∷ []) before after old new
+    (λ start noted. ap (λ (n : List ℕ). Commit (before.ring - gap) n ∷ []) (is ∙ sym noted)) made
+
+pub broken_on : (gap : ℕ) (note : List ℕ) (before : Marks) → note ≡ before.note → (old new : Option FileRecord)
+    → FileChanges (BreaksOffAmid (λ start. Commit (before.ring - gap) note ∷ []) before) old new
+    → FileChanges (BreaksOffAmid (λ start. Commit (before.ring - gap) start.note ∷ []) before) old new
+broken_on gap note before is old new broken =
+    noted_broken (λ start. Commit (before.ring - gap) note ∷ []) (λ start. Commit (before.ring - gap) start.note ∷ []) before old new
+    (λ start noted. ap (λ (n : List ℕ). Commit (before.ring - gap) n ∷ []) (is ∙ sym noted)) broken
+
+pub saved_on : (r : Result (Unit {0}) RecordEnd) (gap : ℕ) (note : List ℕ) (old new : Kit) → note ≡ old.marks.note → SavesBy r (λ start. Commit (old.marks.ring - gap) note ∷ []) old new
+    → SavesBy r (λ start. Commit (old.marks.ring - gap) start.note ∷ []) old new
+saved_on (Ok done) gap note old new is saves = (
+  record {
+    made = made_on gap note old.marks new.marks is old.disk.file new.disk.file saves.0.made;
+    ring = saves.0.ring;
+    faults = saves.0.faults;
+  },
+  saves.1,
+)
+saved_on (Err why) gap note old new is saves =
+    record { left = broken_on gap note old.marks is old.disk.file new.disk.file saves.left; cause = saves.cause }
 
 none_appended : (marks : Marks) (kept appended : List Kept) (file : FileRecord) → marks.appended ≡ 0 → Stands marks kept appended file → appended ≡ []
 none_appended marks kept [] file none stands = refl
@@ -145,11 +175,11 @@ fitting_all : (most : ℕ) (all : List Kept) → size_of all ≤ most → fittin
 fitting_all most [] fits = refl
 fitting_all most (k ∷ all) fits = ap (λ (b : Bool). cond b (k ∷ all) (fitting most all)) (le-leb (size_of (k ∷ all)) most fits)
 
--- where nothing was appended, all is committed without a call
+-- where nothing was appended, all is committed without a call, with the note that there is
 pub nothing_to_commit : (before : Marks) (file : Option FileRecord) → before.used + before.appended ≤ before.ring → before.appended ≡ 0 → IfSome file IsConsistent
-    → FileChanges (MakesEvents (λ start. Commit (before.ring - 0) ∷ []) before before) file file
+    → FileChanges (MakesEvents (λ start. Commit (before.ring - 0) start.note ∷ []) before before) file file
 nothing_to_commit before None sound none consistent = tt
-nothing_to_commit before (Some file) sound none consistent = λ start stands.
+nothing_to_commit before (Some file) sound none consistent = λ start stands noted.
     let empty : start.appended ≡ [] = none_appended before start.kept start.appended file none stands in
     let all : start.kept ++ start.appended ≡ start.kept = ap (λ (l : List Kept). start.kept ++ l) empty ∙ append-nil start.kept in
     let bytes = all_bytes before start.kept start.appended file consistent stands in
@@ -158,14 +188,17 @@ nothing_to_commit before (Some file) sound none consistent = λ start stands.
     ∙ fitting_all (before.ring - 0) start.kept (omega (arith, bytes, ap (λ (l : List Kept). size_of l) all, sound)) in
     let here : Stands before start.kept [] file = subst (λ (l : List Kept). Stands before start.kept l file) empty stands in (
       subst (λ (l : List Kept). Stands before l [] file) (sym fits) here,
-      breaks_early (λ begun. []) (λ begun. Commit (before.ring - 0) ∷ []) before file file (events_leave (λ begun. []) before before file file (no_event before file consistent)) start stands,
+      sym noted,
+      breaks_early (λ begun. []) (λ begun. Commit (before.ring - 0) begun.note ∷ []) before file file (events_leave (λ begun. []) before before file file (no_event before file consistent))
+          start stands noted,
     )
 
-pub stood_for_nothing : (gap : ℕ) (before after : Marks) (old new : Option FileRecord) → FileChanges (Commits commit.NotAJournal gap before after) old new
+pub stood_for_nothing : (gap : ℕ) (note : List ℕ) (before after : Marks) (old new : Option FileRecord)
+    → FileChanges (Commits commit.NotAJournal gap note before after) old new
     → IfSome old (λ f. (kept appended : List Kept) → ¬ (Stands before kept appended f))
-stood_for_nothing gap before after None new commits = tt
-stood_for_nothing gap before after (Some old) None commits = absurd commits
-stood_for_nothing gap before after (Some old) (Some new) commits = commits
+stood_for_nothing gap note before after None new commits = tt
+stood_for_nothing gap note before after (Some old) None commits = absurd commits
+stood_for_nothing gap note before after (Some old) (Some new) commits = commits
 
 -- a cause that came later
 pub cause_later : (why : RecordEnd) (k : Kept) (before mid after : Marks) (old m new : DiskRecord) → old.faults ≤ m.faults → FileChanges (Appends append.Full k before mid) old.file m.file
@@ -193,7 +226,7 @@ nothing_before : (events : Content → List Event) (a b : Marks) (old mid : Opti
 nothing_before events a b None mid made none = tt
 nothing_before events a b (Some old) None made none = absurd made
 nothing_before events a b (Some old) (Some mid) made none = λ kept appended stands.
-    (let one = made (record { kept = kept; appended = appended }) stands in none _ _ one.0)
+    (let one = made (record { kept = kept; appended = appended; note = a.note }) stands refl in none _ _ one.0)
 
 cause_behind : (why : RecordEnd) (events : Content → List Event) (old mid new : Kit) → Makes events old mid → DiskCause why mid new → DiskCause why old new
 cause_behind end.DiskFault events old mid new makes cause = Rose-later old.disk.faults mid.disk.faults new.disk.faults makes.faults cause
@@ -206,16 +239,16 @@ cause_behind end.NoNumbers events old mid new makes cause = cause
 cause_behind end.OutOfMemory events old mid new makes cause = cause
 
 module _ (k : Kept) (gap : ℕ) (is : gap ≡ record_len k) (old : Kit) where
-  same_gap : (start : Content) → (Commit (old.marks.ring - gap) ∷ []) ++ Append k ∷ [] ≡ replacing old.marks.ring k start
-  same_gap start = ap (λ (n : ℕ). Commit (old.marks.ring - n) ∷ Append k ∷ []) is
+  same_gap : (start : Content) → (Commit (old.marks.ring - gap) start.note ∷ []) ++ Append k ∷ [] ≡ replacing old.marks.ring k start
+  same_gap start = ap (λ (n : ℕ). Commit (old.marks.ring - n) start.note ∷ Append k ∷ []) is
 
-  pub replaces : (r : Result (Unit {0}) RecordEnd) (mid new : Kit) → Makes (λ start. Commit (old.marks.ring - gap) ∷ []) old mid → AppendsBy r k mid new → ReplacesBy r k old new
+  pub replaces : (r : Result (Unit {0}) RecordEnd) (mid new : Kit) → Makes (λ start. Commit (old.marks.ring - gap) start.note ∷ []) old mid → AppendsBy r k mid new → ReplacesBy r k old new
   replaces (Ok done) mid new saved appends = (
     record {
       made =
-          made_same (then_events (λ start. Commit (old.marks.ring - gap) ∷ []) (λ start. Append k ∷ [])) (replacing old.marks.ring k) old.marks new.marks old.disk.file
+          made_same (then_events (λ start. Commit (old.marks.ring - gap) start.note ∷ []) (λ start. Append k ∷ [])) (replacing old.marks.ring k) old.marks new.marks old.disk.file
           new.disk.file same_gap
-          (then_made (λ start. Commit (old.marks.ring - gap) ∷ []) (λ start. Append k ∷ []) old.marks mid.marks new.marks saved.ring old.disk.file mid.disk.file new.disk.file
+          (then_made (λ start. Commit (old.marks.ring - gap) start.note ∷ []) (λ start. Append k ∷ []) old.marks mid.marks new.marks saved.ring old.disk.file mid.disk.file new.disk.file
           saved.made appends.0.made);
       ring = appends.0.ring ∙ saved.ring;
       faults = omega (arith, saved.faults, appends.0.faults);
@@ -224,29 +257,29 @@ module _ (k : Kept) (gap : ℕ) (is : gap ≡ record_len k) (old : Kit) where
   )
   replaces (Err why) mid new saved appends = record {
     left =
-        broken_same (then_events (λ start. Commit (old.marks.ring - gap) ∷ []) (λ start. Append k ∷ [])) (replacing old.marks.ring k) old.marks old.disk.file
+        broken_same (then_events (λ start. Commit (old.marks.ring - gap) start.note ∷ []) (λ start. Append k ∷ [])) (replacing old.marks.ring k) old.marks old.disk.file
         new.disk.file same_gap
-        (then_broken (λ start. Commit (old.marks.ring - gap) ∷ []) (λ start. Append k ∷ []) old.marks mid.marks saved.ring old.disk.file mid.disk.file new.disk.file
+        (then_broken (λ start. Commit (old.marks.ring - gap) start.note ∷ []) (λ start. Append k ∷ []) old.marks mid.marks saved.ring old.disk.file mid.disk.file new.disk.file
         saved.made appends.left);
-    cause = cause_behind why (λ start. Commit (old.marks.ring - gap) ∷ []) old mid new saved appends.cause;
+    cause = cause_behind why (λ start. Commit (old.marks.ring - gap) start.note ∷ []) old mid new saved appends.cause;
   }
 
-  pub not_replaced : (why : RecordEnd) (new : Kit) → BreaksOff why (λ start. Commit (old.marks.ring - gap) ∷ []) old new → ReplacesBy (Err why) k old new
+  pub not_replaced : (why : RecordEnd) (new : Kit) → BreaksOff why (λ start. Commit (old.marks.ring - gap) start.note ∷ []) old new → ReplacesBy (Err why) k old new
   not_replaced why new breaks = record {
     left =
-        broken_same (then_events (λ start. Commit (old.marks.ring - gap) ∷ []) (λ start. Append k ∷ [])) (replacing old.marks.ring k) old.marks old.disk.file
+        broken_same (then_events (λ start. Commit (old.marks.ring - gap) start.note ∷ []) (λ start. Append k ∷ [])) (replacing old.marks.ring k) old.marks old.disk.file
         new.disk.file same_gap
-        (broken_early (λ start. Commit (old.marks.ring - gap) ∷ []) (λ start. Append k ∷ []) old.marks old.disk.file new.disk.file breaks.left);
+        (broken_early (λ start. Commit (old.marks.ring - gap) start.note ∷ []) (λ start. Append k ∷ []) old.marks old.disk.file new.disk.file breaks.left);
     cause = breaks.cause;
   }
 
 -- a product was kept at once
-pub kept_at_once : (k : Kept) (before after : Marks) (old new : DiskRecord) → before.used + before.appended + record_len k ≤ before.ring → IfSome old.file IsConsistent
+pub kept_at_once : (k : Kept) (before after : Marks) → after.note ≡ before.note → (old new : DiskRecord) → before.used + before.appended + record_len k ≤ before.ring → IfSome old.file IsConsistent
     → FileChanges (Appends append.Appended k before after) old.file new.file → after.ring ≡ before.ring → old.faults ≤ new.faults → after.next ≡ k.number + 1
     → KeepsBy (Ok true) k (keep_events before.ring k) (record { marks = before; disk = old }) (record { marks = after; disk = new })
-kept_at_once k before after old new room consistent appends ring faults next = (
+kept_at_once k before after noted old new room consistent appends ring faults next = (
   sym (le-leb (record_len k) before.ring (omega (arith, room))),
-  record { made = appended_here k before after old.file new.file room consistent appends; ring = ring; faults = faults },
+  record { made = appended_here k before after noted old.file new.file room consistent appends; ring = ring; faults = faults },
   omega (arith, next),
 )
 

@@ -1,6 +1,6 @@
 -- What is left of a queue that has ended.
 use Rattle.std.proofs.Common.{◌≡◌, inl, inr, ℕ, ◌+◌, ◌-◌, ◌<◌, ◌≤◌, Bool, true, false, cond, List, [], ◌∷◌, ◌++◌, drop, filter, map, Option, refl, sym, ◌∙◌, ap, subst, arith}
-use Rattle.std.specs.Prelude.{IfSome, None, Some, nat_le, slice_get}
+use Rattle.std.specs.Prelude.{IfSome, None, Result, Some, nat_le, slice_get}
 use Rattle.std.proofs.lemmas.List.{append-nil, append_assoc}
 use Rattle.std.proofs.lemmas.Bool.{le-leb}
 use Rattle.std.proofs.lemmas.Bool.Decides.{leb_tells}
@@ -12,6 +12,7 @@ use Rattle.ldm_recorder.specs.Turns.{CaughtUp, Given, Lost, Turn, Who}
 use Rattle.ldm_shared.specs.Passes.{PassView}
 use Rattle.ldm_recorder.specs.declared.recorder.Recorder.{Recorder}
 use Rattle.ldm_recorder.specs.Recording.{Sight, who_of}
+use Rattle.ldm_recorder.specs.Catching.{CommitsAt}
 use Rattle.ldm_recorder.specs.Taking.{IsSameRecorder}
 use Rattle.ldm_recorder.proofs.Coursing.{who_same}
 use Rattle.ldm_recorder.specs.Told.{has_room, kept_of_turn, recorded_in}
@@ -60,7 +61,7 @@ left_all who base from left all a b so_far none =
     (sym (append-nil so_far.done) ∙ ap (λ (l : List Queued). so_far.done ++ turns_queued base from l) (sym none) ∙ so_far.are) so_far.does
 
 -- the same recorder has the same turns
-still_who : (r s : Recorder) → IsSameRecorder r s → (pass : PassView) → who_of pass s ≡ who_of pass r
+pub still_who : (r s : Recorder) → IsSameRecorder r s → (pass : PassView) → who_of pass s ≡ who_of pass r
 still_who r s same pass = who_same pass pass r s refl same
 
 pub still_made : (r s : Recorder) (same : IsSameRecorder r s) (pass : PassView) (from : ℕ) (q : Queued) (b c : Sight) → MakesUp (who_of pass s) (turn_left s.base from q) b c
@@ -75,6 +76,13 @@ still_broken r s same pass from q b c why broken =
     subst (λ (n : ℕ). BreaksOffIn why (who_of pass r) (turn_left n from q) b c) same.base
     (subst (λ (w : Who). BreaksOffIn why w (turn_left s.base from q) b c) (still_who r s same pass) broken)
 
+-- a commit by the same recorder
+pub still_commits : (r s : Recorder) → IsSameRecorder r s → (pass : PassView) (result : Result (Unit {0}) RecordEnd) (n m : ℕ) → n ≡ m → (b c : Sight)
+    → CommitsAt result (who_of pass s) n b c → CommitsAt result (who_of pass r) m b c
+still_commits r s same pass result n m is b c commits =
+    subst (λ (k : ℕ). CommitsAt result (who_of pass r) k b c) is
+    (subst (λ (w : Who). CommitsAt result w n b c) (still_who r s same pass) commits)
+
 -- the number behind those that are left
 pub behind_more : (from i all : ℕ) (qs : List Queued) (q : Queued) → slice_get qs i ≡ Some q → behind_all from (drop i qs) ≡ all
     → behind_all (behind_one from q) (drop (i + 1) qs) ≡ all
@@ -85,30 +93,30 @@ behind_none from all left so_far none = ap (λ (l : List Queued). behind_all fro
 
 -- ---- all of it
 
-module _ (who : Who) (from end : ℕ) (qs : List Queued) (a b : Sight) (queued_made : MakesUp who (turns_queued who.base from qs) a b) where
+module _ (who : Who) (from end : ℕ) (lasts : Option (List ℕ)) (qs : List Queued) (a b : Sight) (queued_made : MakesUp who (turns_queued who.base from qs) a b) where
   abbrev lost : List Turn
   lost = lost_between (behind_all from qs) end
 
   pub all_lost_broken : (why : RecordEnd) (c : Sight) → BreaksOffIn why who lost b c
-      → BreaksOffIn why who (turns_left who.base end from qs ++ CaughtUp end ∷ []) a c
+      → BreaksOffIn why who (turns_left who.base end from qs ++ CaughtUp end lasts ∷ []) a c
   all_lost_broken why c broken =
-      broken_soon why who (turns_left who.base end from qs) (CaughtUp end ∷ []) a c (broken_then why who (turns_queued who.base from qs) lost a b c queued_made broken)
+      broken_soon why who (turns_left who.base end from qs) (CaughtUp end lasts ∷ []) a c (broken_then why who (turns_queued who.base from qs) lost a b c queued_made broken)
 
   module _ (c d : Sight) (lost_made : MakesUp who lost b c) where
     before : MakesUp who (turns_left who.base end from qs) a c
     before = up_then who (turns_queued who.base from qs) lost a b c queued_made lost_made
 
-    pub all_made : MakesUp who (CaughtUp end ∷ []) c d → MakesUp who (turns_left who.base end from qs ++ CaughtUp end ∷ []) a d
-    all_made caught = up_then who (turns_left who.base end from qs) (CaughtUp end ∷ []) a c d before caught
+    pub all_made : MakesUp who (CaughtUp end lasts ∷ []) c d → MakesUp who (turns_left who.base end from qs ++ CaughtUp end lasts ∷ []) a d
+    all_made caught = up_then who (turns_left who.base end from qs) (CaughtUp end lasts ∷ []) a c d before caught
 
-    pub all_caught_broken : (why : RecordEnd) → BreaksOffIn why who (CaughtUp end ∷ []) c d
-        → BreaksOffIn why who (turns_left who.base end from qs ++ CaughtUp end ∷ []) a d
-    all_caught_broken why broken = broken_then why who (turns_left who.base end from qs) (CaughtUp end ∷ []) a c d before broken
+    pub all_caught_broken : (why : RecordEnd) → BreaksOffIn why who (CaughtUp end lasts ∷ []) c d
+        → BreaksOffIn why who (turns_left who.base end from qs ++ CaughtUp end lasts ∷ []) a d
+    all_caught_broken why broken = broken_then why who (turns_left who.base end from qs) (CaughtUp end lasts ∷ []) a c d before broken
 
-pub all_queued_broken : (why : RecordEnd) (who : Who) (from end : ℕ) (qs : List Queued) (a b : Sight) → BreaksOffIn why who (turns_queued who.base from qs) a b
-    → BreaksOffIn why who (turns_left who.base end from qs ++ CaughtUp end ∷ []) a b
-all_queued_broken why who from end qs a b broken =
-    broken_soon why who (turns_left who.base end from qs) (CaughtUp end ∷ []) a b
+pub all_queued_broken : (why : RecordEnd) (who : Who) (from end : ℕ) (lasts : Option (List ℕ)) (qs : List Queued) (a b : Sight) → BreaksOffIn why who (turns_queued who.base from qs) a b
+    → BreaksOffIn why who (turns_left who.base end from qs ++ CaughtUp end lasts ∷ []) a b
+all_queued_broken why who from end lasts qs a b broken =
+    broken_soon why who (turns_left who.base end from qs) (CaughtUp end lasts ∷ []) a b
     (broken_soon why who (turns_queued who.base from qs) (lost_between (behind_all from qs) end) a b broken)
 
 -- ---- what is recorded of it
@@ -196,13 +204,13 @@ recorded_all ring base from k (q ∷ qs) are =
           ∙ ap (λ (b : Bool). kept_from ring base (cond b (q ∷ filter (is_from from) qs) (filter (is_from from) qs))) (sym over.0))
     ]
 
-pub left_is_recorded : (ring base from : ℕ) (s : State) → recorded_in ring (turns_left base (end_of s) from (queued s) ++ CaughtUp (end_of s) ∷ [])
+pub left_is_recorded : (ring base from : ℕ) (lasts : Option (List ℕ)) (s : State) → recorded_in ring (turns_left base (end_of s) from (queued s) ++ CaughtUp (end_of s) lasts ∷ [])
     ≡ filter (has_room ring) (map (kept_queued base) (filter (is_from from) (queued s)))
-left_is_recorded ring base from s =
+left_is_recorded ring base from lasts s =
     let end = end_of s in
     let qs = queued s in
     let lost = lost_between (behind_all from qs) end in
-    recorded-append ring (turns_left base end from qs) (CaughtUp end ∷ []) ∙ append-nil (recorded_in ring (turns_left base end from qs))
+    recorded-append ring (turns_left base end from qs) (CaughtUp end lasts ∷ []) ∙ append-nil (recorded_in ring (turns_left base end from qs))
     ∙ recorded-append ring (turns_queued base from qs) lost
     ∙ ap (λ (l : List Kept). recorded_in ring (turns_queued base from qs) ++ l) (recorded_lost ring (behind_all from qs) end)
     ∙ append-nil (recorded_in ring (turns_queued base from qs)) ∙ recorded_all ring base from 0 qs (rows_from 0 s.rows)

@@ -11,3 +11,7 @@ pub mod Listed
 pub mod Finishing
 pub mod Leaving
 pub mod Failing
+pub mod Noting
+pub mod Finding
+pub mod Knowing
+pub mod Catching

@@ -1,6 +1,6 @@
 -- The numbers that a reader may still be given.
 use Rattle.std.proofs.Common.{◌≡◌, ◌∙◌, inl, inr, ℕ, zero, suc, ◌+◌, ◌<◌, ◌≤◌, true, false, List, [], ◌∷◌, ◌++◌, length, get_or, refl, sym, ap, subst, arith, rules}
-use Rattle.std.specs.Prelude.{◌&&◌, All, if◌then◌else◌, Bool, Some}
+use Rattle.std.specs.Prelude.{◌&&◌, All, if◌then◌else◌, Bool, None, Some}
 use Rattle.std.specs.List.{Contains, range_with_len}
 use Rattle.std.specs.List.Sorted.{IsStrictlyIncreasing}
 use Rattle.std.proofs.lemmas.List.{append_assoc, append-nil, length-append, get_or_append_left}
@@ -18,6 +18,7 @@ use Rattle.ldm_model.specs.State.{end_of}
 use Rattle.ldm_model.specs.Law.{IsAnsweredAt, IsServed, Point, due, given, is_close, is_due, place_of_event, state_at, with_given}
 use Rattle.ldm_shared.specs.Own.{own}
 use Rattle.ldm_shared.specs.Passes.{PassView, Calls, Grows, entry_of}
+use Rattle.ldm_shared.specs.Reader.{HasCursor}
 use Rattle.ldm_shared.specs.OwnReaders.{Agrees, AtEveryOwnCall, AtEveryOwnPoint, IsCalledAt, IsOwnPointOf, IsSeenAt, OwnPoint, is_about, numbers_given, opening_by, over_own}
 use Rattle.ldm_recorder.specs.Numbers.{IsAhead}
 
@@ -225,3 +226,40 @@ ahead_opened old new k feed start grows =
       not_closed = All-nil (λ (entry : Entry). (is_about k entry && is_close entry.event) ≡ false);
       ahead = λ n rise. omega arith;
     }
+
+-- ---- a pass that has seen more, with no call of its own
+
+pub ahead_kept : (old new : PassView) (k least : ℕ) → Calls old new [] → IsAhead old k least → IsAhead new k least
+ahead_kept old new k least calls is =
+    let q = is.point in
+    let actor_same : new.actor ≡ old.actor = ap (λ (p : PassView). p.actor) calls.same in
+    record {
+      point = q;
+      place = is.place;
+      own_are =
+          subst (λ (a : ℕ). own a new.seen ≡ q.earlier ++ opening_by a q ∷ q.since) (sym actor_same)
+          (calls.adds.own ∙ append-nil (own old.actor old.seen) ∙ is.own_are);
+      not_closed = is.not_closed;
+      ahead = is.ahead;
+    }
+
+pub cursor_kept : (old new : PassView) (k : ℕ) → HasCursor old k None → Calls old new [] → HasCursor new k None
+cursor_kept old new k has calls = elim calls.has_seen [
+  | inl same ↦ subst (λ (p : PassView). HasCursor p k None) (sym same) has
+  | inr seen ↦
+      (let actor_same : new.actor ≡ old.actor = ap (λ (p : PassView). p.actor) calls.same in
+      record {
+        has_seen = seen;
+        earlier = has.earlier;
+        feed = has.feed;
+        start = has.start;
+        since = has.since;
+        own_are =
+            subst
+            (λ (a : ℕ). own a new.seen ≡ has.earlier
+            ++ opening_by a (record { earlier = has.earlier; feed = has.feed; start = has.start; k = k; since = has.since }) ∷ has.since)
+            (sym actor_same) (calls.adds.own ∙ append-nil (own old.actor old.seen) ∙ has.own_are);
+        not_closed = has.not_closed;
+        holds = has.holds;
+      })
+]

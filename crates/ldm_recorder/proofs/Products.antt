@@ -26,7 +26,12 @@ use Rattle.ldm_recorder.specs.Taking as taken
 use Rattle.ldm_recorder.proofs.Turning.{at, calls_same, calls_worn, cause_here, does_call, part_none, taken_unreleased, taken_unwritten, taken_well, written_part, written_unsaid, written_well}
 
 pub buffer_same : (r s : Recorder) → IsSameButBuffer r s → IsSameRecorder r s
-buffer_same r s same = record { reader = same.reader; base = same.base; ring = ap (λ (j : Journal). j.marks.ring) same.journal }
+buffer_same r s same = record {
+  reader = same.reader;
+  base = same.base;
+  lines = same.lines;
+  ring = ap (λ (j : Journal). j.marks.ring) same.journal;
+}
 
 -- ---- writing it
 

@@ -26,8 +26,10 @@ use Rattle.ldm_journal.specs.Records.{Kept}
 use Rattle.ldm_journal.specs.Format.{around}
 use Rattle.ldm_journal.specs.Standing.{Keeps, Stands}
 use Rattle.ldm_journal.specs.Reading.{FaultRose, IsBefore, Reads, ReadsNext, kept_of}
+use Rattle.ldm_types.specs.declared.signature.Signature.{Signature}
+use Rattle.ldm_recorder.specs.declared.line.Line.{Line}
 use Rattle.ldm_recorder.specs.declared.end.RestoreEnd.TheVariants.{Restored, NotRead, Worn}
-use Rattle.ldm_recorder.specs.Restoring.{AnswersLast, AreOfKept, Freed, InHand, IsOfOutside, PutBack, PutsOne, PutsPart, Restores, expiration, freed_entries, hand_entries, insertion, last_entries, put_entries}
+use Rattle.ldm_recorder.specs.Restoring.{AnswersLast, AreFound, AreOfKept, Freed, InHand, IsOfOutside, PutBack, PutsOne, PutsPart, Restores, expiration, freed_entries, hand_entries, insertion, last_entries, put_entries, source_of}
 
 -- ---- one product
 
@@ -172,15 +174,25 @@ pub record IsBehind (whole : List PutBack) (marks : Marks) (reader : Reader) (ke
 abbrev pub ReadsOn : List PutBack → Marks → Reader → Option FileRecord → Type 0
 ReadsOn whole marks reader file = IfSome file (λ f. (kept appended : List Kept) → Stands marks kept appended f → IsBehind whole marks reader kept)
 
-pub record RestoresSome (count : ℕ) (marks : Marks) (reader : Reader) (file : Option FileRecord) (old new : PassView) : Type 0 where
+-- what was found for the lines by then
+pub record Asked : Type 0 where
+  pub lines : List Line
+  pub lasts : List (Option Signature)
+
+abbrev pub asked : List Line → List (Option Signature) → Asked
+asked lines lasts = record { lines = lines; lasts = lasts }
+
+pub record RestoresSome (count : ℕ) (marks : Marks) (reader : Reader) (file : Option FileRecord) (for : Asked) (old new : PassView) : Type 0 where
   pub whole : List PutBack
+  pub found : AreFound for.lines (products_of whole) for.lasts
   pub counts : count ≡ length whole
   pub calls : Calls old new (flat_map (put_entries old.actor) whole)
   pub reads : ReadsOn whole marks reader file
 
-pub restores_none : (marks : Marks) (reader : Reader) (file : Option FileRecord) (pass : PassView) → IfSome file IsConsistent
-    → ((kept appended : List Kept) (f : FileRecord) → IsConsistent f → Stands marks kept appended f → IsBefore 0 kept marks reader) → RestoresSome 0 marks reader file pass pass
-restores_none marks reader file pass consistent first = record { whole = []; counts = refl; calls = calls_none pass; reads = at_first file consistent }
+pub restores_none : (marks : Marks) (reader : Reader) (file : Option FileRecord) (for : Asked) (pass : PassView) → AreFound for.lines [] for.lasts → IfSome file IsConsistent
+    → ((kept appended : List Kept) (f : FileRecord) → IsConsistent f → Stands marks kept appended f → IsBefore 0 kept marks reader)
+    → RestoresSome 0 marks reader file for pass pass
+restores_none marks reader file for pass found consistent first = record { whole = []; found = found; counts = refl; calls = calls_none pass; reads = at_first file consistent }
   where
     at_first : (f : Option FileRecord) → IfSome f IsConsistent → ReadsOn [] marks reader f
     at_first None consistent = tt
@@ -224,10 +236,16 @@ module _ (entry : kept.Entry) (before after : Reader) (buffer : List ℕ) (marks
   reads_more whole put is (Some old) (Some now) keeps reads so_far = λ all appended stands.
       behind_more whole put is all appended old now keeps reads (so_far all appended) stands
 
-  pub restores_more : (count : ℕ) (start now : Option FileRecord) (old mid new : PassView) → RestoresSome count marks before start old mid → FileChanges KeepsFile start now
-      → IfSome now (Reads (Ok (Some entry)) before after buffer) → PutsOne k mid new → RestoresSome (count + 1) marks after start old new
-  restores_more count start now old mid new some keeps reads puts = record {
+  -- the product was looked at for the lines, too
+  pub restores_more : (count : ℕ) (start now : Option FileRecord) (lines : List Line) (lasts next : List (Option Signature)) (old mid new : PassView)
+      → RestoresSome count marks before start (asked lines lasts) old mid → FileChanges KeepsFile start now → IfSome now (Reads (Ok (Some entry)) before after buffer) → PutsOne k mid new
+      → ((one : Kept) (all : List Kept) → one.number ≡ entry.number → one.info.signature ≡ entry.info.signature → AreFound lines all lasts → AreFound lines (all ++ one ∷ []) next)
+      → RestoresSome (count + 1) marks after start (asked lines next) old new
+  restores_more count start now lines lasts next old mid new some keeps reads puts finds = record {
     whole = some.whole ++ puts.put ∷ [];
+    found =
+        subst (λ (l : List Kept). AreFound lines l next) (sym (map-append (λ (p : PutBack). p.product) some.whole (puts.put ∷ [])))
+        (finds puts.put.product (products_of some.whole) (ap (λ (p : Kept). p.number) puts.product) (ap (λ (p : Kept). p.info.signature) puts.product) some.found);
     counts = omega (arith, some.counts, length-append some.whole (puts.put ∷ []));
     calls = put_whole k old mid new some.whole puts.put some.calls puts.calls;
     reads = reads_more some.whole puts.put puts.product start now keeps reads some.reads;
@@ -256,10 +274,11 @@ module _ (entry : kept.Entry) (before after : Reader) (buffer : List ℕ) (marks
   worn_products whole hand is (Some old) (Some now) keeps reads so_far = λ all appended stands.
       kept_front whole hand is all appended old now keeps reads (so_far all appended) stands
 
-  pub restores_worn : (count : ℕ) (start now : Option FileRecord) (old mid new : PassView) → RestoresSome count marks before start old mid → FileChanges KeepsFile start now
-      → IfSome now (Reads (Ok (Some entry)) before after buffer) → PutsPart k mid new → Restores Worn marks start old new
-  restores_worn count start now old mid new some keeps reads puts = record {
+  pub restores_worn : (count : ℕ) (start now : Option FileRecord) (for : Asked) (old mid new : PassView) → RestoresSome count marks before start for old mid → FileChanges KeepsFile start now
+      → IfSome now (Reads (Ok (Some entry)) before after buffer) → PutsPart k mid new → Restores Worn (source_of marks start for.lines) for.lasts old new
+  restores_worn count start now for old mid new some keeps reads puts = record {
     whole = some.whole;
+    found = some.found;
     in_hand = puts.hand ∷ [];
     is_in_hand = refl;
     calls =
@@ -282,10 +301,11 @@ module _ (marks : Marks) (before after : Reader) (buffer : List ℕ) (start now 
       let is : length whole ≡ length all = reads marks all appended (length whole) (stands_still marks all appended old now keeps stands) at.before in
       (append-nil (products_of whole) ∙ at.products ∙ take_all (length whole) all (omega (arith, is)), sym is)
 
-  pub restores_all : (count : ℕ) (old new : PassView) → RestoresSome count marks before start old new → IfSome now (Reads (Ok None) before after buffer)
-      → Restores (Restored count) marks start old new
-  restores_all count old new some reads = record {
+  pub restores_all : (count : ℕ) (for : Asked) (old new : PassView) → RestoresSome count marks before start for old new → IfSome now (Reads (Ok None) before after buffer)
+      → Restores (Restored count) (source_of marks start for.lines) for.lasts old new
+  restores_all count for old new some reads = record {
     whole = some.whole;
+    found = some.found;
     in_hand = [];
     is_in_hand = refl;
     calls = subst (λ (l : List Entry). Calls old new l) (sym (append-nil (flat_map (put_entries old.actor) some.whole))) some.calls;
@@ -320,11 +340,12 @@ front_products why whole marks before after buffer (Some start) (Some now) keeps
       ),
     )
 
-pub restores_front : (why : JournalFault) (count : ℕ) (marks : Marks) (before after : Reader) (buffer : List ℕ) (start now : Option FileRecord) (old new : PassView)
-    → RestoresSome count marks before start old new → FileChanges KeepsFile start now → IfSome now (Reads (Err why) before after buffer)
-    → Restores (NotRead why) marks start old new
-restores_front why count marks before after buffer start now old new some keeps reads = record {
+pub restores_front : (why : JournalFault) (count : ℕ) (marks : Marks) (before after : Reader) (buffer : List ℕ) (start now : Option FileRecord) (for : Asked) (old new : PassView)
+    → RestoresSome count marks before start for old new → FileChanges KeepsFile start now → IfSome now (Reads (Err why) before after buffer)
+    → Restores (NotRead why) (source_of marks start for.lines) for.lasts old new
+restores_front why count marks before after buffer start now for old new some keeps reads = record {
   whole = some.whole;
+  found = some.found;
   in_hand = [];
   is_in_hand = refl;
   calls = subst (λ (l : List Entry). Calls old new l) (sym (append-nil (flat_map (put_entries old.actor) some.whole))) some.calls;

@@ -1,6 +1,6 @@
 -- The parts of a turn.
 use Rattle.std.proofs.Common.{◌≡◌, ℕ, ◌+◌, ◌-◌, ◌≤◌, List, [], ◌∷◌, refl, sym, ◌∙◌, ap, subst, arith}
-use Rattle.std.specs.Prelude.{IfSome, codes}
+use Rattle.std.specs.Prelude.{IfSome, Option, codes}
 use Rattle.std.proofs.lemmas.List.{append-nil}
 use Rattle.ldm_disk.specs.Told.{DiskRecord, IsConsistent}
 use Rattle.ldm_disk.specs.Calls.{FileChanges}
@@ -13,14 +13,14 @@ use Rattle.ldm_model.specs.declared.event.Event.TheVariants as event
 use Rattle.ldm_model.specs.declared.event.Reply.{Reply}
 use Rattle.ldm_model.specs.declared.event.Reply.TheVariants as reply
 use Rattle.ldm_shared.specs.Passes.{PassView, Calls, FindsWorn, Grows}
-use Rattle.ldm_shared.proofs.Made.{calls_none, calls_some}
+use Rattle.ldm_shared.proofs.Made.{calls_none, calls_some, calls_trans}
 use Rattle.ldm_journal.specs.declared.marks.Marks.{Marks}
 use Rattle.ldm_journal.specs.Records.{Kept}
-use Rattle.ldm_journal.specs.Runs.{Commit}
+use Rattle.ldm_journal.specs.Runs.{Commit, Content}
 use Rattle.ldm_journal.specs.Joining.{BreaksOffAmid, MakesEvents}
 use Rattle.ldm_recorder.specs.declared.end.RecordEnd.{RecordEnd}
 use Rattle.ldm_recorder.specs.declared.end.RecordEnd.TheVariants as end
-use Rattle.ldm_recorder.specs.Turns.{CaughtUp, Given, Lost, Saved, Turn, Who, Work, call_of, keep_events, large_line, no_work, turn_work, work_of, work_then}
+use Rattle.ldm_recorder.specs.Turns.{CaughtUp, Given, IsTold, Lost, Saved, Turn, Who, Work, call_of, keep_events, large_line, no_work, note_then, turn_entries, turn_work, work_of, work_then}
 use Rattle.ldm_recorder.specs.Recording.{CauseOf, Does, DoesAll, DoesPart, Sight, Stops, sight_at}
 use Rattle.ldm_recorder.specs.Saving.{BreaksOff, Kit, Makes, DiskCause}
 use Rattle.ldm_recorder.specs.Taking.{reading, releasing, taking, writing}
@@ -173,6 +173,7 @@ pub turn_given : (who : Who) (n : ℕ) (product : Kept) (a b c : Sight) → Does
     → DoesAll (taking who n product) b c → product.number ≡ who.base + n → Does who (Given n product ∷ []) a c
 turn_given who n product a b c stepped taken numbered = record {
   numbered = (numbered, tt);
+  told = (tt, tt);
   all =
       does_same (work_then (calling who (event.Step who.k) (reply.Product n product.time product.info)) (taking who n product)) (work_of who (Given n product ∷ [])) a c
       (given_work who n product) (does_then (calling who (event.Step who.k) (reply.Product n product.time product.info)) (taking who n product) a b c stepped taken);
@@ -185,6 +186,7 @@ stop_given why who n product a b c stepped taken numbered cause = record {
   in_hand = Given n product ∷ [];
   one = omega arith;
   numbered = (numbered, tt);
+  told = (tt, tt);
   part =
       part_same (work_then (calling who (event.Step who.k) (reply.Product n product.time product.info)) (taking who n product)) (work_of who (Given n product ∷ [])) a c
       (given_work who n product) (part_then (calling who (event.Step who.k) (reply.Product n product.time product.info)) (taking who n product) a b c stepped taken);
@@ -198,6 +200,7 @@ pub turn_lost : (who : Who) (count first last : ℕ) (old new : PassView) (marks
     → Does who (Lost count first last ∷ []) (at old marks disk log) (at new marks disk log')
 turn_lost who count first last old new marks disk log log' stepped takes faults = record {
   numbered = (tt, tt);
+  told = (tt, tt);
   all =
       does_same (turn_work who (Lost count first last)) (work_of who (Lost count first last ∷ [])) (at old marks disk log) (at new marks disk log')
       (one_turn who (Lost count first last))
@@ -212,6 +215,7 @@ stop_lost who count first last old new marks disk log log' stepped wrote faults 
   in_hand = Lost count first last ∷ [];
   one = omega arith;
   numbered = (tt, tt);
+  told = (tt, tt);
   part =
       part_same (turn_work who (Lost count first last)) (work_of who (Lost count first last ∷ [])) (at old marks disk log) (at new marks disk log')
       (one_turn who (Lost count first last))
@@ -233,29 +237,36 @@ stop_lost who count first last old new marks disk log log' stepped wrote faults 
 
 -- ---- a commit of all
 
-module _ (who : Who) (old new : Kit) (ring : who.ring ≡ old.marks.ring) where
+module _ (who : Who) (old new : Kit) (ring : who.ring ≡ old.marks.ring) (note : Content → List ℕ) where
   all_of_ring : old.marks.ring - 0 ≡ who.ring
   all_of_ring = omega (arith, ring)
 
-  pub commit_made : Makes (λ start. Commit (old.marks.ring - 0) ∷ []) old new → FileChanges (MakesEvents (λ start. Commit who.ring ∷ []) old.marks new.marks) old.disk.file new.disk.file
+  pub commit_made : Makes (λ start. Commit (old.marks.ring - 0) (note start) ∷ []) old new → FileChanges (MakesEvents (λ start. Commit who.ring (note start) ∷ []) old.marks new.marks) old.disk.file new.disk.file
   commit_made makes =
-      subst (λ (most : ℕ). FileChanges (MakesEvents (λ start. Commit most ∷ []) old.marks new.marks) old.disk.file new.disk.file) all_of_ring makes.made
+      subst (λ (most : ℕ). FileChanges (MakesEvents (λ start. Commit most (note start) ∷ []) old.marks new.marks) old.disk.file new.disk.file) all_of_ring makes.made
 
-  pub commit_broken : FileChanges (BreaksOffAmid (λ start. Commit (old.marks.ring - 0) ∷ []) old.marks) old.disk.file new.disk.file
-      → FileChanges (BreaksOffAmid (λ start. Commit who.ring ∷ []) old.marks) old.disk.file new.disk.file
+  pub commit_broken : FileChanges (BreaksOffAmid (λ start. Commit (old.marks.ring - 0) (note start) ∷ []) old.marks) old.disk.file new.disk.file
+      → FileChanges (BreaksOffAmid (λ start. Commit who.ring (note start) ∷ []) old.marks) old.disk.file new.disk.file
   commit_broken broken =
-      subst (λ (most : ℕ). FileChanges (BreaksOffAmid (λ start. Commit most ∷ []) old.marks) old.disk.file new.disk.file) all_of_ring broken
+      subst (λ (most : ℕ). FileChanges (BreaksOffAmid (λ start. Commit most (note start) ∷ []) old.marks) old.disk.file new.disk.file) all_of_ring broken
 
-  -- nothing was left
-  pub turn_caught : (count : ℕ) (p q : PassView) (log : SinkRecord) → DoesAll (calling who (event.Step who.k) (reply.End count)) (at p old.marks old.disk log) (at q old.marks old.disk log)
-      → Makes (λ start. Commit (old.marks.ring - 0) ∷ []) old new → Does who (CaughtUp count ∷ []) (at p old.marks old.disk log) (at q new.marks new.disk log)
-  turn_caught count p q log stepped makes = record {
+-- nothing was left
+module _ (who : Who) (old new : Kit) (ring : who.ring ≡ old.marks.ring) (count : ℕ) (lasts : Option (List ℕ)) where
+  abbrev noting : Content → List ℕ
+  noting start = note_then who.lines lasts start.note
+
+  pub turn_caught : (p q u : PassView) (log : SinkRecord) → DoesAll (calling who (event.Step who.k) (reply.End count)) (at p old.marks old.disk log) (at q old.marks old.disk log)
+      → Calls q u [] → IsTold u.seen who (CaughtUp count lasts) → Makes (λ start. Commit (old.marks.ring - 0) (noting start) ∷ []) old new
+      → Does who (CaughtUp count lasts ∷ []) (at p old.marks old.disk log) (at u new.marks new.disk log)
+  turn_caught p q u log stepped looked told makes = record {
     numbered = (tt, tt);
+    told = (told, tt);
     all =
-        does_same (turn_work who (CaughtUp count)) (work_of who (CaughtUp count ∷ [])) (at p old.marks old.disk log) (at q new.marks new.disk log) (one_turn who (CaughtUp count))
+        does_same (turn_work who (CaughtUp count lasts)) (work_of who (CaughtUp count lasts ∷ [])) (at p old.marks old.disk log) (at u new.marks new.disk log)
+        (one_turn who (CaughtUp count lasts))
         (record {
-          calls = stepped.calls;
-          events = commit_made makes;
+          calls = calls_trans p q u (turn_entries who (CaughtUp count lasts)) [] stepped.calls looked;
+          events = commit_made who old new ring noting makes;
           lines = Takes-nothing log log refl;
           ring = makes.ring;
           disk_faults = makes.faults;
@@ -263,22 +274,24 @@ module _ (who : Who) (old new : Kit) (ring : who.ring ≡ old.marks.ring) where
         });
   }
 
-  pub stop_caught : (why : RecordEnd) (count : ℕ) (p q : PassView) (log : SinkRecord)
-      → DoesAll (calling who (event.Step who.k) (reply.End count)) (at p old.marks old.disk log) (at q old.marks old.disk log)
-      → BreaksOff why (λ start. Commit (old.marks.ring - 0) ∷ []) old new → old.disk.faults ≤ new.disk.faults
-      → Stops why who (at p old.marks old.disk log) (at q new.marks new.disk log)
-  stop_caught why count p q log stepped breaks faults = record {
-    in_hand = CaughtUp count ∷ [];
+  pub stop_caught : (why : RecordEnd) (p q u : PassView) (log : SinkRecord)
+      → DoesAll (calling who (event.Step who.k) (reply.End count)) (at p old.marks old.disk log) (at q old.marks old.disk log) → Calls q u []
+      → IsTold u.seen who (CaughtUp count lasts) → BreaksOff why (λ start. Commit (old.marks.ring - 0) (noting start) ∷ []) old new → old.disk.faults ≤ new.disk.faults
+      → Stops why who (at p old.marks old.disk log) (at u new.marks new.disk log)
+  stop_caught why p q u log stepped looked told breaks faults = record {
+    in_hand = CaughtUp count lasts ∷ [];
     one = omega arith;
     numbered = (tt, tt);
+    told = (told, tt);
     part =
-        part_same (turn_work who (CaughtUp count)) (work_of who (CaughtUp count ∷ [])) (at p old.marks old.disk log) (at q new.marks new.disk log) (one_turn who (CaughtUp count))
+        part_same (turn_work who (CaughtUp count lasts)) (work_of who (CaughtUp count lasts ∷ [])) (at p old.marks old.disk log) (at u new.marks new.disk log)
+        (one_turn who (CaughtUp count lasts))
         (record {
-          called = (turn_work who (CaughtUp count)).entries;
+          called = (turn_work who (CaughtUp count lasts)).entries;
           not_called = [];
           calls_are = refl;
-          calls = stepped.calls;
-          events = commit_broken breaks.left;
+          calls = calls_trans p q u (turn_entries who (CaughtUp count lasts)) [] stepped.calls looked;
+          events = commit_broken who old new ring noting breaks.left;
           written = [];
           not_written = [];
           lines_are = refl;
@@ -286,19 +299,21 @@ module _ (who : Who) (old new : Kit) (ring : who.ring ≡ old.marks.ring) where
           disk_faults = faults;
           log_faults = omega arith;
         });
-    cause = cause_here why (CaughtUp count ∷ []) p q old new log breaks.cause;
+    cause = cause_here why (CaughtUp count lasts ∷ []) p u old new log breaks.cause;
   }
 
-  -- the last commit was long ago
-  pub turn_saved : (pass : PassView) (log : SinkRecord) → Makes (λ start. Commit (old.marks.ring - 0) ∷ []) old new
+-- the last commit was long ago
+module _ (who : Who) (old new : Kit) (ring : who.ring ≡ old.marks.ring) where
+  pub turn_saved : (pass : PassView) (log : SinkRecord) → Makes (λ start. Commit (old.marks.ring - 0) start.note ∷ []) old new
       → Does who (Saved ∷ []) (at pass old.marks old.disk log) (at pass new.marks new.disk log)
   turn_saved pass log makes = record {
     numbered = (tt, tt);
+    told = (tt, tt);
     all =
         does_same (turn_work who Saved) (work_of who (Saved ∷ [])) (at pass old.marks old.disk log) (at pass new.marks new.disk log) (one_turn who Saved)
         (record {
           calls = calls_none pass;
-          events = commit_made makes;
+          events = commit_made who old new ring (λ start. start.note) makes;
           lines = Takes-nothing log log refl;
           ring = makes.ring;
           disk_faults = makes.faults;
@@ -306,12 +321,13 @@ module _ (who : Who) (old new : Kit) (ring : who.ring ≡ old.marks.ring) where
         });
   }
 
-  pub stop_saved : (why : RecordEnd) (pass : PassView) (log : SinkRecord) → BreaksOff why (λ start. Commit (old.marks.ring - 0) ∷ []) old new → old.disk.faults ≤ new.disk.faults
+  pub stop_saved : (why : RecordEnd) (pass : PassView) (log : SinkRecord) → BreaksOff why (λ start. Commit (old.marks.ring - 0) start.note ∷ []) old new → old.disk.faults ≤ new.disk.faults
       → Stops why who (at pass old.marks old.disk log) (at pass new.marks new.disk log)
   stop_saved why pass log breaks faults = record {
     in_hand = Saved ∷ [];
     one = omega arith;
     numbered = (tt, tt);
+    told = (tt, tt);
     part =
         part_same (turn_work who Saved) (work_of who (Saved ∷ [])) (at pass old.marks old.disk log) (at pass new.marks new.disk log) (one_turn who Saved)
         (record {
@@ -319,7 +335,7 @@ module _ (who : Who) (old new : Kit) (ring : who.ring ≡ old.marks.ring) where
           not_called = [];
           calls_are = refl;
           calls = calls_none pass;
-          events = commit_broken breaks.left;
+          events = commit_broken who old new ring (λ start. start.note) breaks.left;
           written = [];
           not_written = [];
           lines_are = refl;
@@ -337,6 +353,7 @@ stop_worn who old new turns marks disk log consistent worn = record {
   in_hand = [];
   one = omega arith;
   numbered = tt;
+  told = tt;
   part = part_none no_work old new marks disk log consistent (calls_worn old new turns worn);
   cause = worn.long ∙ worn.turns_are;
 }

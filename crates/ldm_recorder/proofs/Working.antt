@@ -46,12 +46,23 @@ broken_early first more a old new broken =
 pub made_same : (f g : Content → List Event) (before after : Marks) (old new : Option FileRecord) → ((start : Content) → f start ≡ g start)
     → FileChanges (MakesEvents f before after) old new → FileChanges (MakesEvents g before after) old new
 made_same f g before after old new same made =
-    one_call (MakesEvents f before after) (MakesEvents g before after) (λ a b m. same_events f g before after a b (λ start stands. same start) m) old new made
+    one_call (MakesEvents f before after) (MakesEvents g before after) (λ a b m. same_events f g before after a b (λ start stands noted. same start) m) old new made
 
 pub broken_same : (f g : Content → List Event) (before : Marks) (old new : Option FileRecord) → ((start : Content) → f start ≡ g start)
     → FileChanges (BreaksOffAmid f before) old new → FileChanges (BreaksOffAmid g before) old new
 broken_same f g before old new same broken =
-    one_call (BreaksOffAmid f before) (BreaksOffAmid g before) (λ a b m. same_breaks f g before a b (λ start stands. same start) m) old new broken
+    one_call (BreaksOffAmid f before) (BreaksOffAmid g before) (λ a b m. same_breaks f g before a b (λ start stands noted. same start) m) old new broken
+
+-- by the note that the journal has
+pub noted_made : (f g : Content → List Event) (before after : Marks) (old new : Option FileRecord) → ((start : Content) → start.note ≡ before.note → f start ≡ g start)
+    → FileChanges (MakesEvents f before after) old new → FileChanges (MakesEvents g before after) old new
+noted_made f g before after old new same made =
+    one_call (MakesEvents f before after) (MakesEvents g before after) (λ a b m. same_events f g before after a b (λ start stands noted. same start noted) m) old new made
+
+pub noted_broken : (f g : Content → List Event) (before : Marks) (old new : Option FileRecord) → ((start : Content) → start.note ≡ before.note → f start ≡ g start)
+    → FileChanges (BreaksOffAmid f before) old new → FileChanges (BreaksOffAmid g before) old new
+noted_broken f g before old new same broken =
+    one_call (BreaksOffAmid f before) (BreaksOffAmid g before) (λ a b m. same_breaks f g before a b (λ start stands noted. same start noted) m) old new broken
 
 -- ---- work
 

@@ -1,5 +1,5 @@
 -- The whole course of a recorder, up to its end.
-use Rattle.std.specs.Prelude.{◌≡◌, ℕ, List, [], ◌∷◌, ◌++◌, Result, Ok, Err}
+use Rattle.std.specs.Prelude.{◌≡◌, ℕ, List, [], ◌∷◌, ◌++◌, Option, Result, Ok, Err}
 use Rattle.std.specs.List.{flat_map}
 use Rattle.ldm_outside.specs.declared.gate.Go.{Go}
 use Rattle.ldm_outside.specs.declared.gate.Go.TheVariants as go
@@ -22,13 +22,14 @@ gated_of sight gate = record { sight = sight; gate = gate }
 
 -- The gate is asked where nothing was left and all that was given is committed, and nowhere else.
 abbrev pub asks : Turn → List Go
-asks (CaughtUp at) = go.On ∷ []
+asks (CaughtUp at lasts) = go.On ∷ []
 asks _ = []
 
 -- The gate said to stop behind the last turn, at which the queue had admitted so many.
 pub record StopsWell (at : ℕ) (who : Who) (old new : Gated) : Type 0 where
   pub earlier : List Turn
-  pub does : Does who (earlier ++ CaughtUp at ∷ []) old.sight new.sight
+  pub lasts : Option (List ℕ)
+  pub does : Does who (earlier ++ CaughtUp at lasts ∷ []) old.sight new.sight
   pub idled : IdledAll (flat_map asks earlier ++ go.Stop ∷ []) old.gate new.gate
 
 -- The turns up to a moment are whole, and then one broke off. Behind it the log was told where the journal failed.

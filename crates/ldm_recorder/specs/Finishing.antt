@@ -11,7 +11,7 @@ use Rattle.ldm_book.specs.Stands.{StandsFor}
 use Rattle.ldm_journal.specs.Records.{Kept}
 use Rattle.ldm_recorder.specs.declared.end.RecordEnd.{RecordEnd}
 use Rattle.ldm_recorder.specs.declared.end.RecordEnd.TheVariants as end
-use Rattle.ldm_recorder.specs.Turns.{AreNumbered, Given, Lost, Turn, Who, Work, work_of}
+use Rattle.ldm_recorder.specs.Turns.{AreNumbered, AreTold, Given, Lost, Turn, Who, Work, work_of}
 use Rattle.ldm_recorder.specs.Recording.{CauseOf, DoesAll, DoesPart, Sight}
 use Rattle.ldm_recorder.specs.Failing.{TellsFault}
 
@@ -64,9 +64,10 @@ turns_left base end from qs = turns_queued base from qs ++ lost_between (behind_
 abbrev pub silent : Work → Work
 silent work = record { entries = []; events = work.events; lines = work.lines }
 
--- Just these turns were made up for, and each is whole.
+-- Just these turns were made up for, and each is whole. What is told of lines is by what a pass has seen.
 pub record MakesUp (who : Who) (turns : List Turn) (old new : Sight) : Type 0 where
   pub numbered : AreNumbered who.base turns
+  pub told : AreTold new.pass.seen who turns
   pub all : DoesAll (silent (work_of who turns)) old new
 
 -- Of these turns a front is whole, and at most one broke off.
@@ -79,6 +80,7 @@ pub record BreaksOffIn (why : RecordEnd) (who : Who) (turns : List Turn) (old ne
   pub mid : Sight
   pub does : MakesUp who whole old mid
   pub numbered : AreNumbered who.base in_hand
+  pub told : AreTold new.pass.seen who in_hand
   pub part : DoesPart (silent (work_of who in_hand)) mid new
   pub cause : CauseOf why in_hand mid new
 

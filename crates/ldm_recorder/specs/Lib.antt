@@ -1,3 +1,4 @@
+pub mod Lines
 pub mod Restoring
 pub mod Turns
 pub mod Saving
@@ -9,3 +10,5 @@ pub mod Taking
 pub mod Course
 pub mod Told
 pub mod Finishing
+pub mod Catching
+pub mod LineExamples

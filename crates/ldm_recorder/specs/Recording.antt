@@ -14,7 +14,7 @@ use Rattle.ldm_journal.specs.Joining.{MakesEvents, BreaksOffAmid}
 use Rattle.ldm_recorder.specs.declared.end.RecordEnd.{RecordEnd}
 use Rattle.ldm_recorder.specs.declared.end.RecordEnd.TheVariants as end
 use Rattle.ldm_recorder.specs.declared.recorder.Recorder.{Recorder}
-use Rattle.ldm_recorder.specs.Turns.{Turn, CaughtUp, Given, Who, Work, AreNumbered, work_of}
+use Rattle.ldm_recorder.specs.Turns.{Turn, CaughtUp, Given, Lost, Saved, Who, Work, AreNumbered, AreTold, work_of}
 
 -- The pass, the journal's marks with the disk, and the log.
 pub record Sight : Type 0 where
@@ -30,7 +30,13 @@ abbrev pub sight_of : PassView → Recorder → DiskRecord → SinkRecord → Si
 sight_of pass recorder disk log = sight_at pass recorder.journal.marks disk log
 
 abbrev pub who_of : PassView → Recorder → Who
-who_of pass recorder = record { actor = pass.actor; k = recorder.reader.k; base = recorder.base; ring = recorder.journal.marks.ring }
+who_of pass recorder = record {
+  actor = pass.actor;
+  k = recorder.reader.k;
+  base = recorder.base;
+  ring = recorder.journal.marks.ring;
+  lines = recorder.lines.items;
+}
 
 -- All of some work was done, and nothing else.
 pub record DoesAll (work : Work) (old new : Sight) : Type 0 where
@@ -74,6 +80,7 @@ pub record DoesPart (work : Work) (old new : Sight) : Type 0 where
 -- Just these turns were done, and each is whole.
 pub record Does (who : Who) (turns : List Turn) (old new : Sight) : Type 0 where
   pub numbered : AreNumbered who.base turns
+  pub told : AreTold new.pass.seen who turns
   pub all : DoesAll (work_of who turns) old new
 
 -- A turn broke off; or it was none.
@@ -81,16 +88,27 @@ pub record Stops (why : RecordEnd) (who : Who) (old new : Sight) : Type 0 where
   pub in_hand : List Turn
   pub one : length in_hand ≤ 1
   pub numbered : AreNumbered who.base in_hand
+  pub told : AreTold new.pass.seen who in_hand
   pub part : DoesPart (work_of who in_hand) old new
   pub cause : CauseOf why in_hand old new
 
 -- what a turn came to: where nothing was left, how many products the queue had admitted
 abbrev pub IsAtEnd : Option ℕ → Turn → Type 0
-IsAtEnd at_end (CaughtUp at) = at_end ≡ Some at
+IsAtEnd at_end (CaughtUp at lasts) = at_end ≡ Some at
 IsAtEnd at_end _ = at_end ≡ None
 
+-- Where nothing was left, and so many bytes had been appended since the last commit: only where there were none is no line
+-- told of.
+abbrev pub TellsWhereDue : ℕ → Turn → Type 0
+TellsWhereDue appended (CaughtUp at None) = appended ≡ 0
+TellsWhereDue appended (CaughtUp at (Some lasts)) = Unit {0}
+TellsWhereDue appended (Lost count first last) = Unit {0}
+TellsWhereDue appended (Given n product) = Unit {0}
+TellsWhereDue appended Saved = Unit {0}
+
 abbrev pub TurnsBy : Result (Option ℕ) RecordEnd → Who → Sight → Sight → Type 0
-TurnsBy (Ok at_end) who old new = (turn : Turn) × IsAtEnd at_end turn × Does who (turn ∷ []) old new
+TurnsBy (Ok at_end) who old new =
+    (turn : Turn) × IsAtEnd at_end turn × TellsWhereDue old.marks.appended turn × Does who (turn ∷ []) old new
 TurnsBy (Err why) who old new = Stops why who old new
 
 -- what holds where nothing was left, of how many products the queue had admitted

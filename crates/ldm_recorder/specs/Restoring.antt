@@ -1,5 +1,5 @@
 -- What restoring a journal comes to.
-use Rattle.std.specs.Prelude.{◌≡◌, ℕ, ◌≤◌, List, [], ◌∷◌, ◌++◌, length, map, Option, IfSome, Bool, true, false}
+use Rattle.std.specs.Prelude.{◌≡◌, ℕ, ◌≤◌, List, [], ◌∷◌, ◌++◌, length, map, Option, option_map, IfSome, Bool, true, false}
 use Rattle.std.specs.List.{flat_map}
 use Rattle.ldm_disk.specs.Told.{FileRecord}
 use Rattle.ldm_model.specs.declared.event.Event.TheVariants as event
@@ -18,8 +18,11 @@ use Rattle.ldm_journal.specs.Records.{Kept}
 use Rattle.ldm_journal.specs.declared.fault.JournalFault.{JournalFault}
 use Rattle.ldm_journal.specs.declared.fault.JournalFault.TheVariants as fault
 use Rattle.ldm_journal.specs.Standing.{Stands}
+use Rattle.ldm_types.specs.declared.signature.Signature.{Signature}
+use Rattle.ldm_recorder.specs.declared.line.Line.{Line}
 use Rattle.ldm_recorder.specs.declared.end.RestoreEnd.{RestoreEnd}
 use Rattle.ldm_recorder.specs.declared.end.RestoreEnd.TheVariants.{Restored, NotRead, Worn}
+use Rattle.ldm_recorder.specs.Lines.{found_in}
 
 -- ---- a product
 
@@ -109,14 +112,33 @@ CountsWhole (Restored count) n new = count ≡ n
 CountsWhole (NotRead why) n new = Unit {0}
 CountsWhole Worn n new = length new.seen ≡ MOST_TURNS
 
--- Products were put back, in order: just these calls were made with the pass.
-pub record Restores (why : RestoreEnd) (marks : Marks) (file : Option FileRecord) (old new : PassView) : Type 0 where
+-- What is put back: what a journal of these marks keeps in a file; and the lines that ask for their last products.
+pub record Source : Type 0 where
+  pub marks : Marks
+  pub file : Option FileRecord
+  pub lines : List Line
+
+abbrev pub source_of : Marks → Option FileRecord → List Line → Source
+source_of marks file lines = record { marks = marks; file = file; lines = lines }
+
+-- signatures as their bytes
+abbrev pub signatures : List (Option Signature) → List (Option (List ℕ))
+signatures lasts = map (option_map (λ (s : Signature). s.0)) lasts
+
+-- for each line, the signature is found of the product that it had last, where it is among these
+abbrev pub AreFound : List Line → List Kept → List (Option Signature) → Type 0
+AreFound lines kept lasts = signatures lasts ≡ map (λ (line : Line). found_in line.last kept) lines
+
+-- Products were put back, in order: just these calls were made with the pass. Each line is told the signature of the one
+-- that it had last, where it is among them.
+pub record Restores (why : RestoreEnd) (from : Source) (lasts : List (Option Signature)) (old new : PassView) : Type 0 where
   pub whole : List PutBack
   pub in_hand : List InHand
   pub is_in_hand : IsInHand why in_hand
   pub calls : Calls old new (flat_map (put_entries old.actor) whole ++ flat_map (hand_entries old.actor) in_hand)
   pub counts : CountsWhole why (length whole) new
-  pub products : IfSome file (λ f. (kept appended : List Kept) → Stands marks kept appended f →
+  pub found : AreFound from.lines (map (λ (put : PutBack). put.product) whole) lasts
+  pub products : IfSome from.file (λ f. (kept appended : List Kept) → Stands from.marks kept appended f →
       AreOfKept why (map (λ (put : PutBack). put.product) whole ++ map (λ (hand : InHand). hand.product) in_hand) kept)
 
 abbrev pub IfNotRead : RestoreEnd → (JournalFault → Type 0) → Type 0

@@ -52,7 +52,7 @@ AppendsBy (Err why) k old new = BreaksOff why (λ start. Append k ∷ []) old ne
 
 -- The fewest products went from the front that had to, with a commit, and a product was appended.
 abbrev pub replacing : ℕ → Kept → Content → List Event
-replacing ring k start = Commit (ring - record_len k) ∷ Append k ∷ []
+replacing ring k start = Commit (ring - record_len k) start.note ∷ Append k ∷ []
 
 abbrev pub ReplacesBy : Result (Unit {0}) RecordEnd → Kept → Kit → Kit → Type 0
 ReplacesBy (Ok done) k old new = Makes (replacing old.marks.ring k) old new × (new.marks.next ≡ k.number + 1)

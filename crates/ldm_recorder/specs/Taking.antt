@@ -26,11 +26,14 @@ pub record IsSameButBuffer (old new : Recorder) : Type 0 where
   pub journal : new.journal ≡ old.journal
   pub reader : new.reader ≡ old.reader
   pub base : new.base ≡ old.base
+  pub lines : new.lines.items ≡ old.lines.items
+  pub lasts : new.lasts ≡ old.lasts
 
--- the same but for the journal's marks, too
+-- the same but for the journal's marks, and for what is known of the lines, too
 pub record IsSameRecorder (old new : Recorder) : Type 0 where
   pub reader : new.reader ≡ old.reader
   pub base : new.base ≡ old.base
+  pub lines : new.lines.items ≡ old.lines.items
   pub ring : new.journal.marks.ring ≡ old.journal.marks.ring
 
 -- Reading a body: by which cursor, what stands in the buffer then, and the pass before and after.

@@ -1,19 +1,19 @@
 //! What is recorded of a queue that has ended.
-ghost use Rattle.std.specs.Prelude.{◌≡◌, ◌+◌, ◌≤◌, ◌++◌, [], ◌∷◌, length, IfOk};
+ghost use Rattle.std.specs.Prelude.{◌≡◌, ◌+◌, ◌≤◌, ◌++◌, [], ◌∷◌, ℕ, List, Option, length, IfOk};
 ghost use Rattle.ldm_model.specs.State.{State, end_of, queued};
 ghost use Rattle.ldm_book.specs.Stands.{StandsFor};
 ghost use Rattle.ldm_book.specs.Listing.{queued_of};
 ghost use Rattle.ldm_shared.specs.Passes.{PassView};
 ghost use Rattle.ldm_recorder.specs.Finishing.{FinishesBy, MakesUpTo, StandsAfter, TellsLost};
-ghost use Rattle.ldm_recorder.specs.Finishing.{behind_all, behind_one, turn_left, turns_left, turns_queued, without_number};
-ghost use Rattle.ldm_recorder.specs.Numbers.{IsBehind};
+ghost use Rattle.ldm_recorder.specs.Finishing.{behind_all, behind_one, turn_left, turns_left, turns_queued};
+ghost use Rattle.ldm_recorder.specs.Finishing.{without_number};
+ghost use Rattle.ldm_recorder.specs.Numbers.{IsBehind, KnowsLasts};
 ghost use Rattle.ldm_recorder.specs.Recording.{sight_of, who_of};
 ghost use Rattle.ldm_recorder.specs.Taking.{IsSameRecorder};
 ghost use Rattle.ldm_recorder.specs.Turns.{CaughtUp};
 
 use crate::end::RecordEnd;
 use crate::recorder::Recorder;
-use crate::save::save_some;
 use crate::tell::tell;
 use crate::write::write;
 use ldm_book::{Book, Stored};
@@ -23,12 +23,12 @@ use ldm_session::write_gap;
 use ldm_shared::products_stay;
 
 impl Recorder {
-    /// Records what is still queued when a queue has ended: each product of the number `from` or later, and then commits
-    /// it.
+    /// Records what is still queued when a queue has ended: each product of the number `from` or later, and then
+    /// commits it with what is known of each line.
     ///
-    /// `from` is what [`RecordEnd::Stopped`] tells, so nothing is written twice. No memory is taken. The log has the lines
-    /// that [`Recorder::record`] writes: of products that were evicted meanwhile, of those that the ring has no room for,
-    /// and of the journal where it failed.
+    /// `from` is what [`RecordEnd::Stopped`] tells, so nothing is written twice. No memory is taken. The log has the
+    /// lines that [`Recorder::record`] writes: of products that were evicted meanwhile, of those that the ring has no
+    /// room for, and of the journal where it failed.
     pub fn finish<D: Disk, E: Sink>(
         &mut self,
         book: &Book,
@@ -39,9 +39,9 @@ impl Recorder {
         requires after_calls { StandsAfter book.now }
         requires behind { IsBehind self.old from }
         ensures same { IsSameRecorder self.old self.new }
-        ensures finished { (s : State) → StandsFor book.now s → (pass : PassView) → FinishesBy result
-            (who_of pass self.old)
-            (turns_left self.old.base (end_of s) from (queued s) ++ CaughtUp (end_of s) ∷ [])
+        ensures finished { (s : State) → StandsFor book.now s → (pass : PassView) → KnowsLasts pass.seen self.old
+            → (lasts : Option (List ℕ)) × FinishesBy result (who_of pass self.old)
+            (turns_left self.old.base (end_of s) from (queued s) ++ CaughtUp (end_of s) lasts ∷ [])
             (sight_of pass self.old (D.tells disk.old) (E.tells log.old))
             (sight_of pass self.new (D.tells disk.new) (E.tells log.new)) }
     {
@@ -65,9 +65,9 @@ impl Recorder {
         requires after_calls { StandsAfter book.now }
         requires behind { IsBehind self.old from }
         ensures same { IsSameRecorder self.old self.new }
-        ensures caught { (s : State) → StandsFor book.now s → (pass : PassView) → MakesUpTo result
-            (who_of pass self.old)
-            (turns_left self.old.base (end_of s) from (queued s) ++ CaughtUp (end_of s) ∷ [])
+        ensures caught { (s : State) → StandsFor book.now s → (pass : PassView) → KnowsLasts pass.seen self.old
+            → (lasts : Option (List ℕ)) × MakesUpTo result (who_of pass self.old)
+            (turns_left self.old.base (end_of s) from (queued s) ++ CaughtUp (end_of s) lasts ∷ [])
             (sight_of pass self.old (D.tells disk.old) (E.tells log.old))
             (sight_of pass self.new (D.tells disk.new) (E.tells log.new)) }
     {
@@ -75,11 +75,12 @@ impl Recorder {
             Ok(next) => next,
             Err(why) => return Err(why),
         };
-        match tell_lost(log, next, book.admitted()) {
+        let end = book.admitted();
+        match tell_lost(log, next, end) {
             Ok(()) => {}
             Err(why) => return Err(why),
         }
-        match save_some(&mut self.journal, disk) {
+        match self.save_known(end, disk) {
             Ok(()) => Ok(()),
             Err(why) => Err(why),
         }
@@ -96,6 +97,7 @@ impl Recorder {
         requires after_calls { StandsAfter book.now }
         requires behind { IsBehind self.old from }
         ensures same { IsSameRecorder self.old self.new }
+        ensures lasts { self.new.lasts ≡ self.old.lasts }
         ensures next { (s : State) → StandsFor book.now s
             → IfOk result (λ next. next ≡ behind_all from (queued s)) }
         ensures wrote { (s : State) → StandsFor book.now s → (pass : PassView) → MakesUpTo (without_number result)
@@ -129,6 +131,7 @@ impl Recorder {
         requires whole { length product.now.body.now ≡ product.now.info.size }
         requires behind { IsBehind self.old next }
         ensures same { IsSameRecorder self.old self.new }
+        ensures lasts { self.new.lasts ≡ self.old.lasts }
         ensures behind { IfOk result (IsBehind self.new) }
         ensures next { IfOk result (λ behind. behind ≡ behind_one next (queued_of product.now)) }
         ensures wrote { (pass : PassView) → MakesUpTo (without_number result)

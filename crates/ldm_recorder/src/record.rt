@@ -2,7 +2,7 @@
 ghost use Rattle.std.specs.Prelude.{◌≡◌, OnOk};
 ghost use Rattle.ldm_shared.specs.Passes.{IsPassOf, IsSamePass, PassView};
 ghost use Rattle.ldm_outside.specs.Io.{SinkRecord};
-ghost use Rattle.ldm_recorder.specs.Numbers.{IsBehind, IsReady};
+ghost use Rattle.ldm_recorder.specs.Numbers.{IsBehind, IsReady, KnowsLasts};
 ghost use Rattle.ldm_recorder.specs.Course.{IfStopped, RecordsBy, SavesLate, gated_of};
 ghost use Rattle.ldm_recorder.specs.Recording.{sight_of, who_of};
 ghost use Rattle.ldm_recorder.specs.Taking.{IsSameRecorder};
@@ -24,8 +24,8 @@ impl Recorder {
     /// Records what comes, until the gate says to stop.
     ///
     /// What was given is committed where nothing more is left, before the gate is asked; and after a second by the
-    /// clock, where more and more comes. The log has the lines of [`Recorder::turn`], and behind them `journal fault` where
-    /// the disk failed, or `journal changed` where another wrote into the file.
+    /// clock, where more and more comes. The log has the lines of [`Recorder::turn`], and behind them `journal fault`
+    /// where the disk failed, or `journal changed` where another wrote into the file.
     pub fn record<H: Wait, D: Disk, E: Sink, G: Gate, C: Clock>(
         &mut self,
         rt: &H,
@@ -41,6 +41,7 @@ impl Recorder {
         ensures kept { IsSamePass pass.old pass.new }
         ensures same { IsSameRecorder self.old self.new }
         ensures behind { IfStopped result (IsBehind self.new) }
+        ensures knows { IfStopped result (λ at. KnowsLasts pass.new.seen self.new) }
         ensures recorded { RecordsBy result (who_of pass.old self.old)
             (gated_of (sight_of pass.old self.old (D.tells disk.old) (E.tells log.old)) (G.tells gate.old))
             (gated_of (sight_of pass.new self.new (D.tells disk.new) (E.tells log.new)) (G.tells gate.new)) }

@@ -1,16 +1,18 @@
 //! Putting back what a journal keeps.
-ghost use Rattle.std.specs.Prelude.{◌≡◌, ◌≤◌, ◌<◌, ℕ, length};
+ghost use Rattle.std.specs.Prelude.{◌≡◌, ◌≤◌, ◌<◌, ◌++◌, [], ◌∷◌, ℕ, List, None, length, replicate};
 ghost use Rattle.ldm_disk.specs.Calls.{FileChanges, KeepsDisk, KeepsFile};
 ghost use Rattle.ldm_shared.specs.Passes.{IsPassOf, IsSamePass};
 ghost use Rattle.ldm_journal.specs.Reading.{FaultRose};
-ghost use Rattle.ldm_recorder.specs.Restoring.{AnswersLast, IfNotRead, PutsBy, Restores};
+ghost use Rattle.ldm_journal.specs.Records.{Kept};
+ghost use Rattle.ldm_recorder.specs.Restoring.{AnswersLast, AreFound, IfNotRead, PutsBy, Restores, source_of};
 
 use crate::end::RestoreEnd;
+use crate::line::Line;
 use ldm_disk::Disk;
 use ldm_journal::Journal;
 use ldm_model::{ExpireReply, InsertReply};
 use ldm_shared::{Pass, Shared, Turn};
-use ldm_types::{Info, Micros};
+use ldm_types::{Info, Micros, Signature};
 use std::alloc::Global;
 use std::sync::Wait;
 
@@ -19,6 +21,8 @@ use std::sync::Wait;
 /// Where the queue has its signature the older copy had been evicted before this one came: then the oldest products are
 /// evicted until the signature is free, or no product can be evicted any more. What the queue answers changes nothing
 /// else: a product that is larger than the arena is passed over, for one.
+///
+/// For each line, `lasts` has then the signature of the product that it had last, if that was put back.
 pub fn restore<H: Wait, D: Disk>(
     rt: &H,
     alloc: Global,
@@ -26,14 +30,19 @@ pub fn restore<H: Wait, D: Disk>(
     pass: &mut Pass,
     journal: &Journal,
     disk: &mut D,
+    lines: &[Line],
+    lasts: &mut [Option<Signature>],
 ) -> RestoreEnd
-    requires { IsPassOf shared.now pass.old }
+    requires of { IsPassOf shared.now pass.old }
+    requires one_each { length lasts.old ≡ length lines.now }
     ensures kept { IsSamePass pass.old pass.new }
-    ensures restored { Restores result journal.now.marks (D.tells disk.old).file pass.old pass.new }
+    ensures restored { Restores result (source_of journal.now.marks (D.tells disk.old).file lines.now) lasts.new
+        pass.old pass.new }
     ensures failed { IfNotRead result (λ fault. FaultRose fault (D.tells disk.old) (D.tells disk.new)) }
     ensures file { FileChanges KeepsFile (D.tells disk.old).file (D.tells disk.new).file }
     ensures disk { KeepsDisk (D.tells disk.old) (D.tells disk.new) }
 {
+    clear(lasts);
     let mut buffer = Vec::new(alloc);
     let mut reader = journal.reader();
     let mut count: u64 = 0;
@@ -46,7 +55,10 @@ pub fn restore<H: Wait, D: Disk>(
         let end = entry.body_at + entry.info.size() as usize;
         let body = &buffer[entry.body_at..end];
         match put_back(rt, shared, pass, entry.time, &entry.info, body) {
-            Turn::Done(()) => count += 1,
+            Turn::Done(()) => {
+                count += 1;
+                find_last(lines, lasts, entry.number, entry.info.signature());
+            }
             Turn::Worn { .. } => return RestoreEnd::Worn,
         }
     }
@@ -90,4 +102,27 @@ fn is_last(reply: InsertReply) -> bool
     ensures { AnswersLast result reply }
 {
     !matches!(reply, InsertReply::Duplicate { .. })
+}
+
+// Finds no product yet.
+fn clear(lasts: &mut [Option<Signature>])
+    ensures { lasts.new ≡ replicate (length lasts.old) None }
+{
+    for last in lasts.iter_mut() {
+        *last = None;
+    }
+}
+
+// Finds the product of that number, for the lines that had it last.
+fn find_last(lines: &[Line], lasts: &mut [Option<Signature>], number: u64, signature: Signature)
+    requires { length lasts.old ≡ length lines.now }
+    ensures { (k : Kept) (kept : List Kept) → k.number ≡ number → k.info.signature ≡ signature.0
+        → AreFound lines.now kept lasts.old
+        → AreFound lines.now (kept ++ k ∷ []) lasts.new }
+{
+    for (i, line) in lines.iter().enumerate() {
+        if line.last > 0 && line.last - 1 == number {
+            lasts[i] = Some(signature);
+        }
+    }
 }

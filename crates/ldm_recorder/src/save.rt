@@ -9,29 +9,48 @@ ghost use Rattle.ldm_recorder.specs.Turns.{keep_events};
 
 use crate::end::RecordEnd;
 use ldm_disk::Disk;
-use ldm_journal::{AppendEnd, CommitEnd, Journal, record_bytes};
+use ldm_journal::{AppendEnd, CommitEnd, Journal, NOTE, record_bytes};
 use ldm_types::{Info, Micros};
 
-// Makes what was appended stay, and leaves so many bytes of the ring free.
-pub(crate) fn save<D: Disk>(journal: &mut Journal, disk: &mut D, gap: u64) -> Result<(), RecordEnd>
+// Makes what was appended stay with a note, and leaves so many bytes of the ring free.
+pub(crate) fn save<D: Disk>(
+    journal: &mut Journal,
+    disk: &mut D,
+    gap: u64,
+    note: &[u8; NOTE],
+) -> Result<(), RecordEnd>
     requires { gap ≤ journal.old.marks.ring }
-    ensures saved { SavesBy result (λ start. Commit (journal.old.marks.ring - gap) ∷ [])
+    ensures saved { SavesBy result (λ start. Commit (journal.old.marks.ring - gap) note.now ∷ [])
         (kit_of journal.old.marks (D.tells disk.old)) (kit_of journal.new.marks (D.tells disk.new)) }
     ensures free { OnOk result ((journal.new.marks.appended ≡ 0)
         × (journal.new.marks.used + gap ≤ journal.new.marks.ring)) }
     ensures ring { journal.new.marks.ring ≡ journal.old.marks.ring }
     ensures kept { KeepsDisk (D.tells disk.old) (D.tells disk.new) }
 {
-    match journal.commit(disk, gap) {
+    match journal.commit(disk, gap, note) {
         CommitEnd::Committed => Ok(()),
         CommitEnd::NotAJournal => Err(RecordEnd::NotAJournal),
         CommitEnd::DiskFault => Err(RecordEnd::DiskFault),
     }
 }
 
-// Makes what was appended stay, where something was.
+// Makes what was appended stay with the note that there is, and leaves so many bytes of the ring free.
+fn save_on<D: Disk>(journal: &mut Journal, disk: &mut D, gap: u64) -> Result<(), RecordEnd>
+    requires { gap ≤ journal.old.marks.ring }
+    ensures saved { SavesBy result (λ start. Commit (journal.old.marks.ring - gap) start.note ∷ [])
+        (kit_of journal.old.marks (D.tells disk.old)) (kit_of journal.new.marks (D.tells disk.new)) }
+    ensures free { OnOk result ((journal.new.marks.appended ≡ 0)
+        × (journal.new.marks.used + gap ≤ journal.new.marks.ring)) }
+    ensures ring { journal.new.marks.ring ≡ journal.old.marks.ring }
+    ensures kept { KeepsDisk (D.tells disk.old) (D.tells disk.new) }
+{
+    let note = *journal.note();
+    save(journal, disk, gap, &note)
+}
+
+// Makes what was appended stay with the note that there is, where something was.
 pub(crate) fn save_some<D: Disk>(journal: &mut Journal, disk: &mut D) -> Result<(), RecordEnd>
-    ensures saved { SavesBy result (λ start. Commit (journal.old.marks.ring - 0) ∷ [])
+    ensures saved { SavesBy result (λ start. Commit (journal.old.marks.ring - 0) start.note ∷ [])
         (kit_of journal.old.marks (D.tells disk.old)) (kit_of journal.new.marks (D.tells disk.new)) }
     ensures none { journal.old.marks.appended ≡ 0 → D.tells disk.new ≡ D.tells disk.old }
     ensures ring { journal.new.marks.ring ≡ journal.old.marks.ring }
@@ -40,7 +59,7 @@ pub(crate) fn save_some<D: Disk>(journal: &mut Journal, disk: &mut D) -> Result<
     if journal.appended() == 0 {
         return Ok(());
     }
-    save(journal, disk, 0)
+    save_on(journal, disk, 0)
 }
 
 // Appends a product where the ring has been made free for its record.
@@ -89,7 +108,7 @@ fn append_in_place<D: Disk>(
     ensures ring { journal.new.marks.ring ≡ journal.old.marks.ring }
     ensures kept { KeepsDisk (D.tells disk.old) (D.tells disk.new) }
 {
-    match save(journal, disk, record_bytes(info)) {
+    match save_on(journal, disk, record_bytes(info)) {
         Ok(()) => append_where_free(journal, disk, number, time, info, body),
         Err(why) => Err(why),
     }

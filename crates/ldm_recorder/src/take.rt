@@ -73,6 +73,7 @@ impl Recorder {
         requires numbered { number < 2 ^ 64 - 1 }
         ensures kept { IsSamePass pass.old pass.new }
         ensures same { IsSameRecorder self.old self.new }
+        ensures lasts { self.new.lasts ≡ self.old.lasts }
         ensures cursor { OnOk result (HasCursor pass.new self.old.reader.k None) }
         ensures next { OnOk result (self.new.journal.marks.next ≤ number + 1) }
         ensures taken { (body : List ℕ) → Holds pass.old self.old.reader.k held body → WorksBy result

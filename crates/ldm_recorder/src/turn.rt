@@ -7,7 +7,6 @@ ghost use Rattle.ldm_recorder.specs.Taking.{IsSameRecorder};
 
 use crate::end::RecordEnd;
 use crate::recorder::Recorder;
-use crate::save::save_some;
 use ldm_disk::Disk;
 use ldm_outside::Sink;
 use ldm_session::write_gap;
@@ -15,8 +14,9 @@ use ldm_shared::{Came, Pass, Shared, Turn, own_readers};
 use std::sync::Wait;
 
 impl Recorder {
-    /// One step of the cursor: what comes is written into the journal, and where nothing is left, that is committed. It
-    /// answers then how many products the queue had admitted. The disk is called only where something has to be written.
+    /// One step of the cursor: what comes is written into the journal, and where nothing is left, that is committed
+    /// with what is known of each line. It answers then how many products the queue had admitted. The disk is called
+    /// only where something has to be written.
     ///
     /// What was evicted before it was given is the log line `gap journal COUNT FIRST LAST`, and a product whose record
     /// is larger than the ring the line `gap ring 1 N N`.
@@ -54,7 +54,7 @@ impl Recorder {
                 },
                 None => Err(RecordEnd::NoNumbers),
             },
-            Turn::Done(Came::End { at }) => match save_some(&mut self.journal, disk) {
+            Turn::Done(Came::End { at }) => match self.save_caught(shared, pass, at, disk) {
                 Ok(()) => Ok(Some(at)),
                 Err(why) => Err(why),
             },

@@ -14,8 +14,8 @@ use ldm_outside::Sink;
 use ldm_session::write_gap;
 use ldm_types::{Info, Micros};
 
-/// Writes a product, which the queue has under the number `n`, into the journal. Where its record is larger than the ring
-/// the log says so.
+/// Writes a product, which the queue has under the number `n`, into the journal. Where its record is larger than the
+/// ring the log says so.
 pub(crate) fn write<D: Disk, E: Sink>(
     journal: &mut Journal,
     disk: &mut D,

@@ -10,7 +10,7 @@ returns-in-Appended-clause-appended g c =
     let e = c.in-Appended.ensures in
     let k : Kept = record { number = c.args.number; time = c.args.time; info = c.args.info.now; body = c.args.body.now } in (
       record {
-        made = appended_one k c.args.journal.now.marks c.append.new.self.marks (tells c.args.disk.now).file (tells c.append.new.disk).file e.appended;
+        made = appended_one k c.args.journal.now.marks c.append.new.self.marks e.note (tells c.args.disk.now).file (tells c.append.new.disk).file e.appended;
         ring = e.ring;
         faults = e.kept.faults;
       },

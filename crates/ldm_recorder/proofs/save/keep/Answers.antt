@@ -15,7 +15,7 @@ returns-in-Appended-clause-written g c =
     let tells = g.D.Disk.tells in
     let e = c.in-Appended.ensures in
     let k : Kept = record { number = c.args.number; time = c.args.time; info = c.args.info.now; body = c.args.body.now } in
-    kept_at_once k c.args.journal.now.marks c.append.new.self.marks (tells c.args.disk.now) (tells c.append.new.disk) e.ended.0 (g.met.D.Disk.consistent c.args.disk.now)
+    kept_at_once k c.args.journal.now.marks c.append.new.self.marks e.note (tells c.args.disk.now) (tells c.append.new.disk) e.ended.0 (g.met.D.Disk.consistent c.args.disk.now)
     e.appended e.ring e.kept.faults e.numbered
 
 pub returns-in-DiskFault-clause-written : goal.returns-in-DiskFault-clause-written

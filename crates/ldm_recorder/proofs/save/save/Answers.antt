@@ -10,7 +10,7 @@ returns-in-Committed-clause-saved g c =
     let before = c.args.journal.now.marks in
     let after = c.commit.new.self.marks in (
       record {
-        made = committed_one c.args.gap before after (tells c.args.disk.now).file (tells c.commit.new.disk).file e.committed;
+        made = committed_one c.args.gap c.args.note.now before after e.note (tells c.args.disk.now).file (tells c.commit.new.disk).file e.committed;
         ring = e.ring;
         faults = e.kept.faults;
       },
@@ -26,8 +26,8 @@ returns-in-NotAJournal-clause-saved g c =
     let old = (tells c.args.disk.now).file in
     let new = (tells c.commit.new.disk).file in
     record {
-      left = no_journal (λ start. Commit (before.ring - c.args.gap) ∷ []) c.args.gap before after old new e.committed;
-      cause = (e.kept.faults, stood_for_nothing c.args.gap before after old new e.committed);
+      left = no_journal (λ start. Commit (before.ring - c.args.gap) c.args.note.now ∷ []) c.args.gap c.args.note.now before after old new e.committed;
+      cause = (e.kept.faults, stood_for_nothing c.args.gap c.args.note.now before after old new e.committed);
     }
 
 pub returns-in-DiskFault-clause-saved : goal.returns-in-DiskFault-clause-saved
@@ -38,4 +38,4 @@ returns-in-DiskFault-clause-saved g c =
     let after = c.commit.new.self.marks in
     let old = (tells c.args.disk.now).file in
     let new = (tells c.commit.new.disk).file in
-    record { left = not_committed (λ start. Commit (before.ring - c.args.gap) ∷ []) c.args.gap before after old new e.committed; cause = e.ended }
+    record { left = not_committed c.args.gap c.args.note.now before after old new e.committed; cause = e.ended }

@@ -1,6 +1,6 @@
 use Rattle.ldm_recorder.specs.Recording.{sight_of, who_of}
 use Rattle.ldm_recorder.specs.Course.{gated_of}
-use Rattle.ldm_recorder.specs.Numbers.{IsBehind}
+use Rattle.ldm_recorder.specs.Numbers.{IsBehind, KnowsLasts}
 use Rattle.ldm_recorder.proofs.Coursing.{course_begins, course_broken, course_caught, course_given, course_stopped, course_unsaved, not_stopped, recorder_none, recorder_then}
 use Rattle.ldm_recorder.proofs.PuttingBack.{of_same, same_none, same_then}
 use Rattle.ldm_recorder.proofs.recorder.Recorder.record.Goals as goal
@@ -110,3 +110,22 @@ returns-in-Err-save_late-clause-behind g c =
     (sight_of c.turn.new.pass c.turn.new.self (tells c.turn.new.disk) (lines c.turn.new.log))
     (sight_of c.turn.new.pass c.save_late.new.self (tells c.save_late.new.disk) (lines c.turn.new.log))
     (IsBehind c.save_late.new.self) (c.in-Err-save_late.ensures.saved c.turn.new.pass (lines c.turn.new.log))
+
+pub returns-in-Stop-clause-knows : goal.returns-in-Stop-clause-knows
+returns-in-Stop-clause-knows g c = c.in-Ok-Some.ensures.ready.knows
+
+pub returns-in-Err-clause-knows : goal.returns-in-Err-clause-knows
+returns-in-Err-clause-knows g c =
+    let tells = g.D.Disk.tells in
+    let lines = g.E.Sink.tells in
+    not_stopped c.in-Err.why (who_of c.loop.pass c.loop.self) (sight_of c.loop.pass c.loop.self (tells c.loop.disk) (lines c.loop.log))
+    (sight_of c.turn.new.pass c.turn.new.self (tells c.turn.new.disk) (lines c.turn.new.log)) (λ at. KnowsLasts c.turn.new.pass.seen c.turn.new.self) c.in-Err.ensures.turned
+
+pub returns-in-Err-save_late-clause-knows : goal.returns-in-Err-save_late-clause-knows
+returns-in-Err-save_late-clause-knows g c =
+    let tells = g.D.Disk.tells in
+    let lines = g.E.Sink.tells in
+    not_stopped c.in-Err-save_late.why (who_of c.turn.new.pass c.turn.new.self)
+    (sight_of c.turn.new.pass c.turn.new.self (tells c.turn.new.disk) (lines c.turn.new.log))
+    (sight_of c.turn.new.pass c.save_late.new.self (tells c.save_late.new.disk) (lines c.turn.new.log))
+    (λ at. KnowsLasts c.turn.new.pass.seen c.save_late.new.self) (c.in-Err-save_late.ensures.saved c.turn.new.pass (lines c.turn.new.log))

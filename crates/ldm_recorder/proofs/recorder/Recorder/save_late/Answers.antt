@@ -7,7 +7,7 @@ returns-then-get-saturating_add-clause-saved g c = λ pass log.
     saved_lately c.args.self.now (g.D.Disk.tells c.args.disk.now) pass log (g.met.D.Disk.consistent c.args.disk.now)
 
 pub returns-clause-same : goal.returns-clause-same
-returns-clause-same g c = record { reader = refl; base = refl; ring = c.save_some.ensures.ring }
+returns-clause-same g c = record { reader = refl; base = refl; lines = refl; ring = c.save_some.ensures.ring }
 
 pub returns-clause-saved : goal.returns-clause-saved
 returns-clause-saved g c = λ pass log.

@@ -1,4 +1,4 @@
-use Rattle.std.proofs.Common.{◌≡◌, ◌+◌, ℕ, drop, arith, refl, subst, sym}
+use Rattle.std.proofs.Common.{◌≡◌, ◌∙◌, ◌+◌, ℕ, drop, arith, refl, subst, sym}
 use Rattle.ldm_model.specs.State.{queued}
 use Rattle.ldm_model.specs.History.{after}
 use Rattle.ldm_book.specs.Listing.{queued_of}
@@ -14,6 +14,7 @@ loop-i-init g c =
     let r = c.args.self.now in
     record {
       same = recorder_none r;
+      lasts = refl;
       behind = c.requires.behind;
       next = λ s stands. refl;
       wrote = λ s stands pass.
@@ -37,6 +38,7 @@ loop-i-preserved g c =
     let t = c.write_queued.new.self in
     record {
       same = recorder_then r l.self t l.invariant.same e.same;
+      lasts = e.lasts ∙ l.invariant.lasts;
       behind = e.behind;
       next = λ s stands.
           subst (λ (n : ℕ). behind_all n (drop (l.i + 1) (queued s)) ≡ behind_all c.args.from (queued s)) (sym e.next)

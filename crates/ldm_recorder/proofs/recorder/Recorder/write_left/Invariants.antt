@@ -12,6 +12,7 @@ use Rattle.ldm_recorder.proofs.recorder.Recorder.write_left.Given as goal
 abbrev pub invariant-loop-i : goal.invariant-loop-i
 invariant-loop-i g l = record {
   same : IsSameRecorder l.fn.self l.self;
+  lasts : l.self.lasts ≡ l.fn.self.lasts;
   behind : IsBehind l.self l.next;
   next : (s : State) → StandsFor l.book s → behind_all l.next (drop l.i (queued s)) ≡ behind_all l.fn.from (queued s);
   wrote : (s : State) → StandsFor l.book s → (pass : PassView) → LeftAt (who_of pass l.fn.self)
