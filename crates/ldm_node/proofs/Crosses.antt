@@ -11,4 +11,4 @@ pub Staffing-sync : IsSync Conf.the_row → (κ : NamedLft) → IsSync (Staffing
 Staffing-sync shared κ =
     let T = Staffing.the_type κ in
     recorded_sync (Struct (shape T)) T.D T.to T.to_one
-    (struct_sync (shape T) (global.the_field_sync, (search (sendable, shared) depth 20, (search sendable, (search sendable, tt)))))
+    (struct_sync (shape T) (global.the_field_sync, (search (sendable, shared) depth 20, (search sendable, (search sendable, (search sendable depth 20, tt))))))

@@ -1,5 +1,5 @@
 -- The roles of workers.
-use Rattle.std.proofs.Common.{◌≡◌, ℕ, ◌-◌, ◌<◌, ◌≤◌, List, length, map, get_or, replicate, sym, ap, ◌∙◌, arith}
+use Rattle.std.proofs.Common.{◌≡◌, ℕ, ◌-◌, ◌<◌, ◌≤◌, List, Option, length, map, get_or, replicate, sym, ap, ◌∙◌, arith}
 use Rattle.std.proofs.lemmas.List.{get_or-append_right, get_or-map, get_or-replicate, get_or_append_left, get_or_past, length-map, length-replicate}
 use Rattle.ldm_conf.specs.declared.request.Request.{Request as CodeRequest}
 use Rattle.ldm_conf.specs.Confs.{ConfView, RequestView, request_view}
@@ -24,11 +24,11 @@ rests plan actor past beyond =
     past_doors plan actor past ∙ get_or_past (map Asks plan.requests) (actor - plan.workers) Rests (omega (arith, length-map plan.requests Asks))
 
 -- the role of one who has the request of a place of the configuration
-pub asks_at : (conf : ConfView) (workers sessions : ℕ) (items : List CodeRequest) (actor at : ℕ) (request : CodeRequest) → conf.requests ≡ map request_view items → workers ≤ actor
-    → at ≡ actor - workers → at < length items → get_or items at request ≡ request → role_of (plan_of conf workers sessions) actor ≡ Asks (request_view request)
-asks_at conf workers sessions items actor at request are past place less is =
+pub asks_at : (conf : ConfView) (workers sessions : ℕ) (lasts : List (Option (List ℕ))) (items : List CodeRequest) (actor at : ℕ) (request : CodeRequest) → conf.requests ≡ map request_view items → workers ≤ actor
+    → at ≡ actor - workers → at < length items → get_or items at request ≡ request → role_of (plan_of conf workers sessions lasts) actor ≡ Asks (request_view request)
+asks_at conf workers sessions lasts items actor at request are past place less is =
     let view = request_view request in
     let there : get_or conf.requests at view ≡ view =
     ap (λ (rs : List RequestView). get_or rs at view) are ∙ get_or-map request_view items at request view less ∙ ap request_view is in
-    asks (plan_of conf workers sessions) actor view past (omega (arith, place, less, ap length are, length-map items request_view))
+    asks (plan_of conf workers sessions lasts) actor view past (omega (arith, place, less, ap length are, length-map items request_view))
     (ap (λ (n : ℕ). get_or conf.requests n view) (sym place) ∙ there)

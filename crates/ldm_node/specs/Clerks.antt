@@ -10,9 +10,9 @@ use Rattle.ldm_shared.specs.Passes.{SharedView, PassView, IsPassOf, IsSamePass, 
 use Rattle.ldm_recorder.specs.declared.end.RecordEnd.{RecordEnd}
 use Rattle.ldm_recorder.specs.declared.end.RecordEnd.TheVariants as recording
 use Rattle.ldm_recorder.specs.declared.recorder.Recorder.{Recorder}
-use Rattle.ldm_recorder.specs.Course.{Gated, RecordsBy, gated_of}
+use Rattle.ldm_recorder.specs.Course.{Gated, IfStopped, RecordsBy, gated_of}
 use Rattle.ldm_recorder.specs.Finishing.{FinishesBy, turns_left}
-use Rattle.ldm_recorder.specs.Numbers.{IsReady}
+use Rattle.ldm_recorder.specs.Numbers.{IsReady, KnowsLasts}
 use Rattle.ldm_recorder.specs.Recording.{sight_of, who_of}
 use Rattle.ldm_recorder.specs.Taking.{IsSameRecorder}
 use Rattle.ldm_recorder.specs.Turns.{CaughtUp}
@@ -56,25 +56,29 @@ pub record ArePassesFor (shared : SharedView) (passes : List PassView) (recorder
 abbrev pub with_pass : PassView → ClerkRecord → Gated
 with_pass pass clerk = gated_of (sight_of pass clerk.recorder clerk.desk.disk clerk.desk.log) clerk.desk.gate
 
--- A worker recorded up to this end, from a pass and a clerk to those that it leaves.
+-- A worker recorded up to this end, from a pass and a clerk to those that it leaves. Where the gate had stopped it, what its recorder knows
+-- of the REQUEST lines is by what the pass has seen.
 pub record Records (why : RecordEnd) (old_pass : PassView) (old : ClerkRecord) (new_pass : PassView) (new : ClerkRecord) : Type 0 where
   pub same : IsSameRecorder old.recorder new.recorder
   pub records : RecordsBy why (who_of old_pass old.recorder) (with_pass old_pass old) (with_pass new_pass new)
+  pub knows : IfStopped why (λ at. KnowsLasts new_pass.seen new.recorder)
 
 -- how it ends where what was left over was recorded, or was not
 abbrev pub EndsWith : Result (Unit {0}) RecordEnd → RecordEnd → RecordEnd → Type 0
 EndsWith (Ok done) why end = end ≡ why
 EndsWith (Err failed) why end = end ≡ failed
 
--- What was left over in a queue that had ended in that state was recorded, behind so many products.
+-- What was left over in a queue that had ended in that state was recorded, behind so many products, and committed with what the recorder
+-- knows of the lines, by any pass that has seen it.
 pub record Finishes (at : ℕ) (s : State) (end : RecordEnd) (old : ClerkRecord) (new : DeskRecord) : Type 0 where
   pub recorder : Recorder
   pub same : IsSameRecorder old.recorder recorder
   pub gate : new.gate ≡ old.desk.gate
   pub ended : Result (Unit {0}) RecordEnd
   pub ends : EndsWith ended (recording.Stopped at) end
-  pub finishes : (pass : PassView) → FinishesBy ended (who_of pass old.recorder)
-      (turns_left old.recorder.base (end_of s) at (queued s) ++ CaughtUp (end_of s) ∷ [])
+  pub finishes : (pass : PassView) → KnowsLasts pass.seen old.recorder → (lasts : Option (List ℕ))
+      × FinishesBy ended (who_of pass old.recorder)
+      (turns_left old.recorder.base (end_of s) at (queued s) ++ CaughtUp (end_of s) lasts ∷ [])
       (sight_of pass old.recorder old.desk.disk old.desk.log) (sight_of pass recorder new.disk new.log)
 
 -- Where the gate had stopped the worker, what was left over was recorded; else nothing more was done.

@@ -1,5 +1,5 @@
 -- One worker of a node.
-use Rattle.std.specs.Prelude.{◌≡◌, ℕ, false, List, Option, None}
+use Rattle.std.specs.Prelude.{◌≡◌, ℕ, false, List, Option}
 use Rattle.ldm_outside.specs.Station.{StationRecord}
 use Rattle.ldm_shared.specs.Passes.{SharedView, PassView, IsSamePass, HasAllOf, new_pass}
 use Rattle.ldm_node.specs.declared.stop.NodeStop.{NodeStop}
@@ -8,14 +8,16 @@ use Rattle.ldm_node.specs.DoorMoments as acceptor
 use Rattle.ldm_node.specs.DoorWorks as acceptor_works
 use Rattle.ldm_node.specs.RequestMoments as requester
 use Rattle.ldm_node.specs.RequestWorks as requester_works
-use Rattle.ldm_node.specs.Roles.{Plan, Role, LetsIn, Asks, Rests, role_of}
+use Rattle.ldm_node.specs.Roles.{Plan, Role, LetsIn, Asks, Rests, last_for, role_of}
 
--- A worker did what its role says, from a pass and a station to those that it leaves, and stopped so.
+-- A worker did what its role says, from a pass and a station to those that it leaves, and stopped so. One that asks begins behind the last
+-- product of its request that is known.
 abbrev pub WorksAs : Plan → Role → NodeStop → PassView → StationRecord → PassView → StationRecord → Type 0
 WorksAs plan LetsIn stop old_pass old new_pass new =
     acceptor_works.Works stop plan.rules plan.sessions (acceptor.moment old_pass old) (acceptor.moment new_pass new)
 WorksAs plan (Asks request) stop old_pass old new_pass new =
-    (last : Option (List ℕ)) × requester_works.Works stop request (requester.moment old_pass old None) (requester.moment new_pass new last)
+    (last : Option (List ℕ))
+    × requester_works.Works stop request (requester.moment old_pass old (last_for plan old_pass.actor)) (requester.moment new_pass new last)
 WorksAs plan Rests stop old_pass old new_pass new = (stop ≡ Done) × (new_pass ≡ old_pass) × (new ≡ old)
 
 -- what stands besides where a worker of that role stops, in what its pass has seen and in its station

@@ -30,7 +30,7 @@ pub struct NodeEnd<F, D, I, E, C, G> {
     pub stations: Vec<Station<D, I, E, C, G>>,
     /// What recording left, where there was a clerk.
     pub recorded: Option<Recorded<F, E, C, G>>,
-    /// Why the node ended: why the first worker of a station stopped that was not done. [`NodeStop::OutOfMemory`] is besides the
-    /// answer where there was no memory for the workers, of which none began then.
+    /// Why the node ended: why the first worker of a station stopped that was not done. [`NodeStop::OutOfMemory`] is
+    /// besides the answer where there was no memory for the workers, of which none began then.
     pub end: NodeStop,
 }

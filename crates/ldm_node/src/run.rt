@@ -14,7 +14,7 @@ ghost use Rattle.ldm_shared.specs.Passes.{AreAllOf, HasAllOf, IsLast, PassView};
 ghost use Rattle.ldm_conf.specs.Confs.{conf_view};
 ghost use Rattle.ldm_conf.specs.contracts.conf.Conf as Configuration;
 ghost use Rattle.ldm_recorder.specs.Finishing.{StandsAfter};
-ghost use Rattle.ldm_node.specs.Roles.{plan_of};
+ghost use Rattle.ldm_node.specs.Roles.{last_view, plan_of};
 ghost use Rattle.ldm_node.specs.Node.{Staffs};
 ghost use Rattle.ldm_node.specs.Clerks.{ArePassesFor, LeavesBehind, RecordCause, clerk_tells, left_tells};
 ghost use Rattle.ldm_node.specs.Seats.{AreBehind, ClosesSeat, IsFreshSeat, SeatsBehind, clerk_of, recorder_of};
@@ -33,7 +33,7 @@ use ldm_disk::Disk;
 use ldm_outside::{Clock, Dial, Door, Gate, Sink, Station};
 use ldm_recorder::RecordEnd;
 use ldm_shared::{Left, Pass, Shared, run_workers};
-use ldm_types::OutOfMemory;
+use ldm_types::{OutOfMemory, Signature};
 use std::alloc::Global;
 use std::sync::Wait;
 use std::thread::Threads;
@@ -53,7 +53,8 @@ struct Staffed<S, K> {
 /// Worker i has station i and the pass of actor i. The first workers let peers in, as many as the options say, and
 /// behind them one asks by each request of the configuration, in order. So there is one station fewer than passes: with
 /// the last pass a clerk records what is inserted, or it rests where there is none. The port and the number of idle
-/// calls are what the stations were asked for.
+/// calls are what the stations were asked for. The worker of request i begins behind the last product that `lasts` has
+/// at i, where it has one.
 ///
 /// The stations are new. The passes are all that the queue was made with, and no call was made with them, but for that
 /// of the clerk: by it the recorder was opened. All memory for the workers is taken before the first begins. Where no
@@ -77,6 +78,7 @@ pub fn node<
     passes: Vec<Pass>,
     stations: Vec<Station<D, I, E, C, G>>,
     clerk: Option<Clerk<F, E, C, G>>,
+    lasts: &[Option<Signature>],
     options: &NodeOptions,
 ) -> NodeEnd<F, D, I, E, C, G>
 where
@@ -93,7 +95,8 @@ where
     ensures stands { StandsFor result.book (after shared.arena shared.slots result.pass.seen) }
     ensures law { IsLawful shared.arena shared.slots result.pass.seen }
     ensures worked { Staffs (station_tells D.tells I.tells E.tells C.tells G.tells)
-        (plan_of (conf_view conf) options.now.workers options.now.sessions) shared stations.items
+        (plan_of (conf_view conf) options.now.workers options.now.sessions (map last_view lasts.now)) shared
+        stations.items
         (record { pass = result.pass; stations = result.stations.items; end = result.end }) }
     ensures recorded { (pass : PassView) → pass ≡ slice_index_or passes.items (vec_len stations) pass
         → LeavesBehind result.pass pass
@@ -102,7 +105,8 @@ where
     ensures record_causes { IfSome
         (option_map (left_tells (desk_tells F.tells E.tells C.tells G.tells)) result.recorded)
         (λ left. RecordCause left.end left.desk result.pass) }
-    ensures causes { NodeCause result.end (plan_of (conf_view conf) options.now.workers options.now.sessions)
+    ensures causes { NodeCause result.end
+        (plan_of (conf_view conf) options.now.workers options.now.sessions (map last_view lasts.now))
         (map (station_tells D.tells I.tells E.tells C.tells G.tells) result.stations.items) result.pass }
     ensures completes { Completes result.end
         (map (station_tells D.tells I.tells E.tells C.tells G.tells) result.stations.items) }
@@ -113,6 +117,7 @@ where
         conf: &conf,
         workers: options.workers,
         sessions: options.sessions,
+        lasts,
     };
     let seat = seat_of(clerk);
     let Staffed {
@@ -192,7 +197,8 @@ where
     ensures last { IsLast shared result.pass }
     ensures stands { StandsFor result.book (after shared.arena shared.slots result.pass.seen) }
     ensures staffs { Staffs (station_tells D.tells I.tells E.tells C.tells G.tells)
-        (plan_of (conf_view staffing.now.conf.now) staffing.now.workers staffing.now.sessions) shared stations.items
+        (plan_of (conf_view staffing.now.conf.now) staffing.now.workers staffing.now.sessions
+        (map last_view staffing.now.lasts.now)) shared stations.items
         (record { pass = result.pass; stations = result.stations.items; end = result.end }) }
     ensures seated { (pass : PassView) → pass ≡ slice_index_or passes.items (vec_len stations) pass
         → SeatsBehind (desk_tells F.tells E.tells C.tells G.tells) result.pass pass seat result.seat }

@@ -1,10 +1,10 @@
 //! What each worker of a node does.
-ghost use Rattle.std.specs.Prelude.{◌≡◌, ◌∷◌, IfSome};
+ghost use Rattle.std.specs.Prelude.{◌≡◌, ◌∷◌, None, IfSome, map, slice_index_or};
 ghost use Rattle.ldm_disk.specs.Desks.{desk_tells};
 ghost use Rattle.ldm_outside.specs.Station.{station_tells};
 ghost use Rattle.ldm_shared.specs.Passes.{IsPassOf, IsSamePass};
 ghost use Rattle.ldm_conf.specs.Confs.{conf_view};
-ghost use Rattle.ldm_node.specs.Roles.{plan_of, role_of};
+ghost use Rattle.ldm_node.specs.Roles.{last_view, plan_of, role_of};
 ghost use Rattle.ldm_node.specs.Posts.{ClerkWorks};
 ghost use Rattle.ldm_node.specs.Seats.{IsReadySeat, SeatWorks};
 ghost use Rattle.ldm_node.specs.Workers.{HasCause, NoneOut, WorksAs};
@@ -18,6 +18,7 @@ use ldm_conf::Conf;
 use ldm_disk::Disk;
 use ldm_outside::{Clock, Dial, Door, Gate, Sink, Station};
 use ldm_shared::{Pass, Shared, Work};
+use ldm_types::Signature;
 use std::alloc::Global;
 use std::sync::Wait;
 
@@ -28,15 +29,17 @@ pub(crate) struct Staffing<'a> {
     pub(crate) conf: &'a Conf,
     pub(crate) workers: u32,
     pub(crate) sessions: u32,
+    pub(crate) lasts: &'a [Option<Signature>],
 }
 
 impl<'a, F: Disk, D: Door, I: Dial, E: Sink, C: Clock, G: Gate> Work<
     Post<Station<D, I, E, C, G>, Seat<F, E, C, G>>,
 > for Staffing<'a> {
+    ghost use Rattle.std.specs.Prelude.{map};
     ghost use Rattle.ldm_outside.specs.Station.{station_tells};
     ghost use Rattle.ldm_shared.specs.Passes.{IsPassOf, IsSamePass};
     ghost use Rattle.ldm_conf.specs.Confs.{conf_view};
-    ghost use Rattle.ldm_node.specs.Roles.{plan_of};
+    ghost use Rattle.ldm_node.specs.Roles.{last_view, plan_of};
     ghost use Rattle.ldm_disk.specs.Desks.{desk_tells};
     ghost use Rattle.ldm_node.specs.Posts.{MayBegin, PostWorks};
     ghost use Rattle.ldm_node.specs.Seats.{IsReadySeat, SeatWorks};
@@ -46,7 +49,8 @@ impl<'a, F: Disk, D: Door, I: Dial, E: Sink, C: Clock, G: Gate> Work<
 
     ghost works = { λ work old_pass old new_pass new. PostWorks (station_tells D.tells I.tells E.tells C.tells G.tells)
         (SeatWorks (desk_tells F.tells E.tells C.tells G.tells))
-        (plan_of (conf_view work.conf.now) work.workers work.sessions) old_pass old new_pass new };
+        (plan_of (conf_view work.conf.now) work.workers work.sessions (map last_view work.lasts.now))
+        old_pass old new_pass new };
 
     fn work<H: Wait>(
         &self,
@@ -96,11 +100,13 @@ impl<'a> Staffing<'a> {
         requires of { IsPassOf shared.now pass.old }
         requires none_out { NoneOut (station_tells D.tells I.tells E.tells C.tells G.tells station.old) }
         ensures same { IsSamePass pass.old pass.new }
-        ensures works { let plan = plan_of (conf_view self.now.conf.now) self.now.workers self.now.sessions in
+        ensures works { let plan = plan_of (conf_view self.now.conf.now) self.now.workers self.now.sessions
+            (map last_view self.now.lasts.now) in
             WorksAs plan (role_of plan pass.old.actor) result
             pass.old (station_tells D.tells I.tells E.tells C.tells G.tells station.old)
             pass.new (station_tells D.tells I.tells E.tells C.tells G.tells station.new) }
-        ensures causes { let plan = plan_of (conf_view self.now.conf.now) self.now.workers self.now.sessions in
+        ensures causes { let plan = plan_of (conf_view self.now.conf.now) self.now.workers self.now.sessions
+            (map last_view self.now.lasts.now) in
             HasCause plan (role_of plan pass.old.actor) result pass.new
             (station_tells D.tells I.tells E.tells C.tells G.tells station.old)
             (station_tells D.tells I.tells E.tells C.tells G.tells station.new) }
@@ -117,9 +123,23 @@ impl<'a> Staffing<'a> {
                 self.sessions,
             );
         }
-        match self.conf.requests.get((actor - self.workers) as usize) {
-            Some(request) => work_request(rt, self.alloc, shared, pass, station, request),
+        let place = (actor - self.workers) as usize;
+        match self.conf.requests.get(place) {
+            Some(request) => {
+                let last = last_at(self.lasts, place);
+                work_request(rt, self.alloc, shared, pass, station, request, last)
+            }
             None => NodeStop::Done,
         }
+    }
+}
+
+// The last product of the request at a place, where one is known.
+fn last_at(lasts: &[Option<Signature>], place: usize) -> Option<Signature>
+    ensures { last_view result ≡ slice_index_or (map last_view lasts.now) place None }
+{
+    match lasts.get(place) {
+        Some(last) => *last,
+        None => None,
     }
 }

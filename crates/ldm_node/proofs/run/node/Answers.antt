@@ -4,7 +4,7 @@ use Rattle.ldm_outside.specs.Station.{station_tells}
 use Rattle.ldm_disk.specs.Desks.{desk_tells}
 use Rattle.ldm_shared.specs.Passes.{PassView}
 use Rattle.ldm_conf.specs.Confs.{conf_view, request_view}
-use Rattle.ldm_node.specs.Roles.{plan_of}
+use Rattle.ldm_node.specs.Roles.{last_view, plan_of}
 use Rattle.ldm_node.proofs.Asking.{all_out, last_legal, one_each}
 use Rattle.ldm_node.proofs.Causing.{completes, staffs_cause}
 use Rattle.std.specs.Option.{option_map}
@@ -68,7 +68,7 @@ returns-clause-law g c =
 pub returns-clause-causes : goal.returns-clause-causes
 returns-clause-causes g c =
     let tells = station_tells g.D.Door.tells g.I.Dial.tells g.E.Sink.tells g.C.Clock.tells g.G.Gate.tells in
-    let plan = plan_of (conf_view c.args.conf) c.args.options.now.workers c.args.options.now.sessions in
+    let plan = plan_of (conf_view c.args.conf) c.args.options.now.workers c.args.options.now.sessions (map last_view c.args.lasts.now) in
     let left = c.staff-book.result in
     staffs_cause tells plan c.args.options.now.idles c.args.shared c.args.stations.items (record { pass = left.pass; stations = left.stations.items; end = left.end }) c.staff-book.ensures.last
     c.requires.are_new (one_each request_view c.args.conf.requests.items (length c.args.stations.items) c.args.options.now.workers (omega (arith, c.requires.stations, c.args.stations.ok)))
@@ -77,5 +77,5 @@ returns-clause-causes g c =
 pub returns-clause-completes : goal.returns-clause-completes
 returns-clause-completes g c =
     let tells = station_tells g.D.Door.tells g.I.Dial.tells g.E.Sink.tells g.C.Clock.tells g.G.Gate.tells in
-    completes (plan_of (conf_view c.args.conf) c.args.options.now.workers c.args.options.now.sessions) c.staff-book.result.pass (map tells c.staff-book.result.stations.items) c.staff-book.result.end
+    completes (plan_of (conf_view c.args.conf) c.args.options.now.workers c.args.options.now.sessions (map last_view c.args.lasts.now)) c.staff-book.result.pass (map tells c.staff-book.result.stations.items) c.staff-book.result.end
     (returns-clause-causes g c)

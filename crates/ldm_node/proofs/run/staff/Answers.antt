@@ -1,5 +1,5 @@
 use denote.Param.Send.{arg_sync, param_sync}
-use Rattle.std.proofs.Common.{◌≡◌, ◌+◌, ℕ, length, get_or, sym, ap, subst, inr, arith, ◌∙◌}
+use Rattle.std.proofs.Common.{◌≡◌, ◌+◌, ℕ, length, map, get_or, sym, ap, subst, inr, arith, ◌∙◌}
 use Rattle.std.specs.Prelude.{OnOk, OnErr}
 use Rattle.std.specs.Option.{option_map}
 use Rattle.std.specs.Vec.{vec_len}
@@ -9,7 +9,7 @@ use Rattle.ldm_conf.specs.Confs.{conf_view}
 use Rattle.ldm_shared.specs.Passes.{HasAllOf, PassView}
 use Rattle.ldm_shared.specs.Work.{AllBegin, AllWorked}
 use Rattle.ldm_node.specs.Posts.{MayBegin, PostWorks}
-use Rattle.ldm_node.specs.Roles.{plan_of}
+use Rattle.ldm_node.specs.Roles.{last_view, plan_of}
 use Rattle.ldm_node.specs.Seats.{IsReadySeat, SeatWorks, SeatsBehind, recorder_of}
 use Rattle.ldm_node.proofs.Crosses.{Staffing-sync}
 use Rattle.ldm_node.proofs.Gathered.{all_did, come_back, come_last, last_called, left_behind, left_same, none_called, staffed}
@@ -89,7 +89,7 @@ pub take_back-first-requires-clause-room : goal.take_back-first-requires-clause-
 take_back-first-requires-clause-room g c =
     let tells = station_tells g.D.Door.tells g.I.Dial.tells g.E.Sink.tells g.C.Clock.tells g.G.Gate.tells in
     let does = SeatWorks (desk_tells g.F.Disk.tells g.E.Sink.tells g.C.Clock.tells g.G.Gate.tells) in
-    let plan = plan_of (conf_view c.args.staffing.now.conf.now) c.args.staffing.now.workers c.args.staffing.now.sessions in
+    let plan = plan_of (conf_view c.args.staffing.now.conf.now) c.args.staffing.now.workers c.args.staffing.now.sessions (map last_view c.args.staffing.now.lasts.now) in
     let left = c.run_workers-book.result in
     let given = c.args.stations.items in
     let seat = c.args.seat in
@@ -108,7 +108,7 @@ pub take_back-first-requires-clause-last : goal.take_back-first-requires-clause-
 take_back-first-requires-clause-last g c =
     let tells = station_tells g.D.Door.tells g.I.Dial.tells g.E.Sink.tells g.C.Clock.tells g.G.Gate.tells in
     let does = SeatWorks (desk_tells g.F.Disk.tells g.E.Sink.tells g.C.Clock.tells g.G.Gate.tells) in
-    let plan = plan_of (conf_view c.args.staffing.now.conf.now) c.args.staffing.now.workers c.args.staffing.now.sessions in
+    let plan = plan_of (conf_view c.args.staffing.now.conf.now) c.args.staffing.now.workers c.args.staffing.now.sessions (map last_view c.args.staffing.now.lasts.now) in
     let left = c.run_workers-book.result in
     let given = c.args.stations.items in
     let seat = c.args.seat in
@@ -126,7 +126,7 @@ pub returns-clause-staffs : goal.returns-clause-staffs
 returns-clause-staffs g c =
     let tells = station_tells g.D.Door.tells g.I.Dial.tells g.E.Sink.tells g.C.Clock.tells g.G.Gate.tells in
     let does = SeatWorks (desk_tells g.F.Disk.tells g.E.Sink.tells g.C.Clock.tells g.G.Gate.tells) in
-    let plan = plan_of (conf_view c.args.staffing.now.conf.now) c.args.staffing.now.workers c.args.staffing.now.sessions in
+    let plan = plan_of (conf_view c.args.staffing.now.conf.now) c.args.staffing.now.workers c.args.staffing.now.sessions (map last_view c.args.staffing.now.lasts.now) in
     let left = c.run_workers-book.result in
     let given = c.args.stations.items in
     let seat = c.args.seat in
@@ -149,7 +149,7 @@ returns-clause-seated g c = λ pass is.
     let tells = station_tells g.D.Door.tells g.I.Dial.tells g.E.Sink.tells g.C.Clock.tells g.G.Gate.tells in
     let desks = desk_tells g.F.Disk.tells g.E.Sink.tells g.C.Clock.tells g.G.Gate.tells in
     let does = SeatWorks desks in
-    let plan = plan_of (conf_view c.args.staffing.now.conf.now) c.args.staffing.now.workers c.args.staffing.now.sessions in
+    let plan = plan_of (conf_view c.args.staffing.now.conf.now) c.args.staffing.now.workers c.args.staffing.now.sessions (map last_view c.args.staffing.now.lasts.now) in
     let left = c.run_workers-book.result in
     let given = c.args.stations.items in
     let seat = c.args.seat in

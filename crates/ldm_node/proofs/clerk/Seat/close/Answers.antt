@@ -20,7 +20,7 @@ returns-in-Ok g c =
             gate = refl;
             ended = Ok tt;
             ends = refl;
-            finishes = λ pass. c.in-Ok.ensures.finished s stands pass;
+            finishes = c.in-Ok.ensures.finished s stands;
           });
     }
 
@@ -38,6 +38,6 @@ returns-in-Stopped g c =
             gate = refl;
             ended = Err c.in-Err.why;
             ends = refl;
-            finishes = λ pass. c.in-Err.ensures.finished s stands pass;
+            finishes = c.in-Err.ensures.finished s stands;
           });
     }
