@@ -95,7 +95,7 @@ module _ {S : Type 0} (tells : S → StationRecord) (setup : Setup) (old new : O
       let started = with_commands conf.commands old.launcher in
       let launcher_works : ¬ (Rose started.faults new.launcher.faults) =
       λ rose. free.launcher_works (subst (λ (n : ℕ). Rose n new.launcher.faults) (faults-with_commands conf.commands old.launcher) rose) in
-      let none : ran.recorded ≡ None = runs.recorded ∙ ap (option_map (λ (l : LeftRecord). l.end)) (none_left setup conf runs.last free.plain runs.left runs.journal) in
+      let none : ran.recorded ≡ None = runs.recorded ∙ ap (option_map (λ (l : LeftRecord). l.end)) (none_left setup conf runs.lasts runs.last free.plain runs.left runs.journal) in
       good_stop ran.stop (status_of_recorded ran.recorded (status_behind ran.waited ran.written))
       (ap (λ (r : Option RecordEnd). status_of_recorded r (status_behind ran.waited ran.written)) none
       ∙ ap Some (good_behind ran.waited ran.written (numbers_from old.launcher.next conf.commands) (stat_line setup runs.last.seen) started new.launcher old.sink new.sink launcher_works free.sink_works

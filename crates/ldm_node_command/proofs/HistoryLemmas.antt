@@ -1,6 +1,7 @@
 -- The numbers where no node was run: for `line_is_of_a_history`.
-use Rattle.std.proofs.Common.{◌≡◌, ◌∙◌, ◌⊎◌, ℕ, List, Bool, true, false, inl, inr, refl, sym, ap}
+use Rattle.std.proofs.Common.{◌≡◌, ◌∙◌, ◌⊎◌, ℕ, List, Option, Bool, true, false, inl, inr, refl, sym, ap}
 use Rattle.std.specs.Prelude.{◌==◌, if◌then◌else◌}
+use Rattle.ldm_types.specs.declared.signature.Signature.{Signature}
 use Rattle.ldm_outside.specs.Io.{WritesFront}
 use Rattle.ldm_outside.specs.Station.{StationRecord}
 use Rattle.ldm_model.specs.declared.event.Entry.{Entry}
@@ -85,7 +86,7 @@ module _ {S : Type 0} (tells : S → StationRecord) (setup : Setup) (code : ℕ)
       → (history : List Entry)
       × (IsLawful setup.arena setup.slots history
       × WritesFront old.sink (stat_line setup history) new.sink
-      × ((conf : ConfView) × (given : List S) × (last : PassView) × (stop : NodeStop) × (last.seen ≡ history)
-      × Works tells setup conf given (record { pass = last; stations = new.kept; end = stop })))
+      × ((conf : ConfView) × (given : List S) × (lasts : List (Option Signature)) × (last : PassView) × (stop : NodeStop) × (last.seen ≡ history)
+      × Works tells setup conf lasts given (record { pass = last; stations = new.kept; end = stop })))
   line_written has (inl nothing) = absurd (none_run has nothing)
-  line_written has (inr run) = (run.last.seen, (run.lawful, run.front, (run.conf, run.given, run.last, run.stop, refl, run.works)))
+  line_written has (inr run) = (run.last.seen, (run.lawful, run.front, (run.conf, run.given, run.lasts, run.last, run.stop, refl, run.works)))

@@ -1,6 +1,7 @@
 -- What a node writes obeys the law of the queue: for `ObeysNodeLaw`.
 use Rattle.std.proofs.Common.{◌≡◌, ◌∙◌, ◌⊎◌, ◌<◌, ℕ, List, [], map, Option, None, Some, Result, Ok, Err, inl, inr, refl, subst}
 use Rattle.std.proofs.lemmas.List.{append-nil}
+use Rattle.ldm_types.specs.declared.signature.Signature.{Signature}
 use Rattle.ldm_outside.specs.declared.fault.Failed.{Failed}
 use Rattle.ldm_outside.specs.declared.io.SinkFailed.{SinkFailed}
 use Rattle.ldm_outside.specs.Count.{Rose}
@@ -61,7 +62,7 @@ module _ {S : Type 0} (tells : S → StationRecord) (setup : Setup) (code : ℕ)
 
   -- the number of a node whose workers were all done, and the clerk
   behind : (conf : ConfView) (left : Leaves) (waited : Result (Unit {0}) Failed) (written : Result (Unit {0}) SinkFailed) → IsRecordedWhole left.recorded
-      → NodeCause stop.Done (plan_for setup conf) (map tells new.kept) left.last → Attends waited conf old.launcher new.launcher
+      → NodeCause stop.Done (plan_for setup conf left.lasts) (map tells new.kept) left.last → Attends waited conf old.launcher new.launcher
       → WritesAll written (stat_line setup left.last.seen) old.sink new.sink → ReportsBecause (status_behind waited written) code old.log new.log
       → NumberOfRun tells setup code conf left old new
   behind conf left (Err failed) written recorded done fails writes told =
@@ -72,11 +73,11 @@ module _ {S : Type 0} (tells : S → StationRecord) (setup : Setup) (code : ℕ)
       numbered conf left status.Done (λ is. inl (is, record { done = done; recorded = recorded; waited = waits; written = writes })) told
 
   -- the number of a node whose workers were all done, by how recording ended
-  module _ (conf : ConfView) (last : PassView) (waited : Result (Unit {0}) Failed) (written : Result (Unit {0}) SinkFailed)
-      (done : NodeCause stop.Done (plan_for setup conf) (map tells new.kept) last) (attends : Attends waited conf old.launcher new.launcher)
+  module _ (conf : ConfView) (lasts : List (Option Signature)) (last : PassView) (waited : Result (Unit {0}) Failed) (written : Result (Unit {0}) SinkFailed)
+      (done : NodeCause stop.Done (plan_for setup conf lasts) (map tells new.kept) last) (attends : Attends waited conf old.launcher new.launcher)
       (writes : WritesAll written (stat_line setup last.seen) old.sink new.sink) where
     abbrev with_left : Option LeftRecord → Leaves
-    with_left left = record { last = last; recorded = left }
+    with_left left = record { lasts = lasts; last = last; recorded = left }
 
     by_end : (l : LeftRecord) (why : RecordEnd) → l.end ≡ why → RecordCause why l.desk last
         → Tells (status_of_recording why (status_behind waited written)) code old.log new.log → NumberOfRun tells setup code conf (with_left (Some l)) old new
@@ -98,19 +99,19 @@ module _ {S : Type 0} (tells : S → StationRecord) (setup : Setup) (code : ℕ)
     recorded_so None cause told = behind conf (with_left None) waited written tt done attends writes told
     recorded_so (Some l) cause told = by_end l l.end refl cause told
 
-  number : (conf : ConfView) (last : PassView) (left : Option LeftRecord) (why : NodeStop) (waited : Result (Unit {0}) Failed) (written : Result (Unit {0}) SinkFailed)
-      → NodeCause why (plan_for setup conf) (map tells new.kept) last → IfSome left (λ (l : LeftRecord). RecordCause l.end l.desk last)
+  number : (conf : ConfView) (lasts : List (Option Signature)) (last : PassView) (left : Option LeftRecord) (why : NodeStop) (waited : Result (Unit {0}) Failed) (written : Result (Unit {0}) SinkFailed)
+      → NodeCause why (plan_for setup conf lasts) (map tells new.kept) last → IfSome left (λ (l : LeftRecord). RecordCause l.end l.desk last)
       → Attends waited conf old.launcher new.launcher → WritesAll written (stat_line setup last.seen) old.sink new.sink
       → Tells (status_of_stop why (status_of_recorded (option_map (λ (l : LeftRecord). l.end) left) (status_behind waited written))) code old.log new.log
-      → NumberOfRun tells setup code conf (record { last = last; recorded = left }) old new
-  number conf last left stop.Done waited written cause recorded attends writes told = recorded_so conf last waited written cause attends writes left recorded told
-  number conf last left stop.NetFault waited written cause recorded attends writes told =
-      numbered conf (record { last = last; recorded = left }) status.NetFault (λ is. inr (inl (is, cause))) told
-  number conf last left stop.LogFault waited written cause recorded attends writes told = unlogged conf (record { last = last; recorded = left }) told.0 (inl cause)
-  number conf last left stop.Worn waited written cause recorded attends writes told =
-      numbered conf (record { last = last; recorded = left }) status.Worn (λ is. inr (inr (inr (inr (inr (inr (inl (is, cause)))))))) told
-  number conf last left stop.OutOfMemory waited written cause recorded attends writes told =
-      numbered conf (record { last = last; recorded = left }) status.NoMemory (λ is. inr (inr (inl is))) told
+      → NumberOfRun tells setup code conf (record { lasts = lasts; last = last; recorded = left }) old new
+  number conf lasts last left stop.Done waited written cause recorded attends writes told = recorded_so conf lasts last waited written cause attends writes left recorded told
+  number conf lasts last left stop.NetFault waited written cause recorded attends writes told =
+      numbered conf (record { lasts = lasts; last = last; recorded = left }) status.NetFault (λ is. inr (inl (is, cause))) told
+  number conf lasts last left stop.LogFault waited written cause recorded attends writes told = unlogged conf (record { lasts = lasts; last = last; recorded = left }) told.0 (inl cause)
+  number conf lasts last left stop.Worn waited written cause recorded attends writes told =
+      numbered conf (record { lasts = lasts; last = last; recorded = left }) status.Worn (λ is. inr (inr (inr (inr (inr (inr (inl (is, cause)))))))) told
+  number conf lasts last left stop.OutOfMemory waited written cause recorded attends writes told =
+      numbered conf (record { lasts = lasts; last = last; recorded = left }) status.NoMemory (λ is. inr (inr (inl is))) told
 
   pub node_obeys : (ending : Result Ran NodeFault) → NodeEnds tells ending setup old new → Tells (status_of_node ending) code old.log new.log → ObeysNodeLaw tells setup code old new
   node_obeys (Ok ran) (conf, taken, runs) told =
@@ -119,6 +120,7 @@ module _ {S : Type 0} (tells : S → StationRecord) (setup : Setup) (code : ℕ)
         stop = ran.stop;
         conf = conf;
         given = runs.given;
+        lasts = runs.lasts;
         last = runs.last;
         works = runs.works;
         lawful = runs.works.lawful;
@@ -127,7 +129,7 @@ module _ {S : Type 0} (tells : S → StationRecord) (setup : Setup) (code : ℕ)
         left = runs.left;
         journal = runs.journal;
         number =
-            number conf runs.last runs.left ran.stop ran.waited ran.written runs.works.causes runs.journal.causes runs.attends runs.line
+            number conf runs.lasts runs.last runs.left ran.stop ran.waited ran.written runs.works.causes runs.journal.causes runs.attends runs.line
             (subst (λ (r : Option RecordEnd). Tells (status_of_stop ran.stop (status_of_recorded r (status_behind ran.waited ran.written))) code old.log new.log) runs.recorded told);
       })
   node_obeys (Err why) (stays, nothing) told = inl (record { why = why; cause = stays; nothing = nothing; told = told })

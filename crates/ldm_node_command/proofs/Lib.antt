@@ -1,3 +1,4 @@
+pub mod LineLemmas
 pub mod CommandLemmas
 pub mod ChildLemmas
 pub mod ConfLemmas

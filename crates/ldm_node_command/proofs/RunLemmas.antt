@@ -1,5 +1,6 @@
 -- What the parts of a node's run come to together.
-use Rattle.std.proofs.Common.{◌≡◌, ◌≤◌, ℕ, List, map, Result, inl, inr, sym, subst, arith}
+use Rattle.std.proofs.Common.{◌≡◌, ◌≤◌, ℕ, List, Option, map, Result, inl, inr, sym, subst, arith}
+use Rattle.ldm_types.specs.declared.signature.Signature.{Signature}
 use Rattle.ldm_outside.specs.declared.fault.Failed.{Failed}
 use Rattle.ldm_outside.specs.declared.launcher.ChildNo.{ChildNo}
 use Rattle.ldm_outside.specs.Count.{Rose}
@@ -36,10 +37,11 @@ rose_kept old new (inl more) = omega (arith, more)
 rose_kept old new (inr still) = omega (arith, still.0, still.1)
 
 -- a node worked at stations, on a queue of its sizes
-pub works : {S : Type 0} (tells : S → StationRecord) (setup : Setup) (conf : ConfView) (shared : SharedView) → IsMade setup conf shared → (given : List S) (left : Outcome S)
-    → IsLast shared left.pass → IsLawful shared.arena shared.slots left.pass.seen → Staffs tells (plan_for setup conf) shared given left
-    → NodeCause left.end (plan_for setup conf) (map tells left.stations) left.pass → Completes left.end (map tells left.stations) → Works tells setup conf given left
-works tells setup conf shared made given left is_last lawful worked causes completes = record {
+pub works : {S : Type 0} (tells : S → StationRecord) (setup : Setup) (conf : ConfView) (shared : SharedView) → IsMade setup conf shared
+    → (lasts : List (Option Signature)) (given : List S) (left : Outcome S) → IsLast shared left.pass → IsLawful shared.arena shared.slots left.pass.seen
+    → Staffs tells (plan_for setup conf lasts) shared given left → NodeCause left.end (plan_for setup conf lasts) (map tells left.stations) left.pass
+    → Completes left.end (map tells left.stations) → Works tells setup conf lasts given left
+works tells setup conf shared made lasts given left is_last lawful worked causes completes = record {
   shared = shared;
   made = made;
   is_last = is_last;
@@ -67,10 +69,11 @@ listened {S = S} tells setup conf given kept old mid new are same listens =
     (subst (λ (all : List S). Listens tells setup conf all old mid) (sym are) listens)
 
 -- what the net keeps is what the workers left
-pub worked : {S : Type 0} (tells : S → StationRecord) (setup : Setup) (conf : ConfView) (given stations kept : List S) (last : PassView) (end : NodeStop) → kept ≡ stations
-    → Works tells setup conf given (record { pass = last; stations = stations; end = end }) → Works tells setup conf given (record { pass = last; stations = kept; end = end })
-worked {S = S} tells setup conf given stations kept last end are works =
-    subst (λ (all : List S). Works tells setup conf given (record { pass = last; stations = all; end = end })) (sym are) works
+pub worked : {S : Type 0} (tells : S → StationRecord) (setup : Setup) (conf : ConfView) (lasts : List (Option Signature)) (given stations kept : List S) (last : PassView) (end : NodeStop)
+    → kept ≡ stations → Works tells setup conf lasts given (record { pass = last; stations = stations; end = end })
+    → Works tells setup conf lasts given (record { pass = last; stations = kept; end = end })
+worked {S = S} tells setup conf lasts given stations kept last end are works =
+    subst (λ (all : List S). Works tells setup conf lasts given (record { pass = last; stations = all; end = end })) (sym are) works
 
 -- the queue stands for the state after its history
 pub stands : (setup : Setup) (conf : ConfView) (shared : SharedView) → IsMade setup conf shared → (book : BookView) (history : List Entry) → StandsFor book (after shared.arena shared.slots history)

@@ -1,5 +1,6 @@
 -- How the command `node` ends, its log apart.
 use Rattle.std.specs.Prelude.{◌≡◌, ℕ, ◌-◌, List, Option, Some, IfSome, Result, Ok, Err}
+use Rattle.ldm_types.specs.declared.signature.Signature.{Signature}
 use Rattle.ldm_disk.specs.Desks.{DeskRecord}
 use Rattle.ldm_outside.specs.Count.{Rose}
 use Rattle.ldm_outside.specs.Station.{StationRecord}
@@ -39,7 +40,8 @@ pub record PutBackFirst (setup : Setup) (conf : ConfView) (desk : Option DeskRec
   pub made : IsMade setup conf shared
   pub pass : PassView
   pub clerk : Option ClerkRecord
-  pub restored : Restored setup (new_pass shared (shared.passes - 1)) pass clerk
+  pub lasts : List (Option Signature)
+  pub restored : Restored setup conf (new_pass shared (shared.passes - 1)) pass clerk lasts
   pub kept : IfSome clerk (λ clerk. desk ≡ Some clerk.desk)
 
 -- It was not, for this cause.
@@ -47,7 +49,7 @@ pub record NotPutBack (why : RestoreFault) (setup : Setup) (conf : ConfView) (ol
   pub shared : SharedView
   pub made : IsMade setup conf shared
   pub journal : HasJournal setup
-  pub fails : FailsToRestore why setup (new_pass shared (shared.passes - 1)) old new
+  pub fails : FailsToRestore setup conf why (new_pass shared (shared.passes - 1)) old new
 
 module _ {S : Type 0} (tells : S → StationRecord) where
   -- Why no node was run, and what was done then.

@@ -1,5 +1,6 @@
 -- The law of the queue, of what a node writes.
 use Rattle.std.specs.Prelude.{◌≡◌, ◌⊎◌, ◌<◌, ℕ, List, length, map, Ok, Option, Some, None}
+use Rattle.ldm_types.specs.declared.signature.Signature.{Signature}
 use Rattle.ldm_outside.specs.Count.{Rose}
 use Rattle.ldm_outside.specs.Io.{Takes, WritesFront}
 use Rattle.ldm_outside.specs.Station.{StationRecord}
@@ -20,8 +21,9 @@ use Rattle.ldm_node_command.specs.Outside.{Outside}
 use Rattle.ldm_node_command.specs.Setup.{Setup}
 use Rattle.ldm_node_command.specs.Statuses.{status_of_fault}
 
--- What the workers of a node leave: the last pass, and what recording left where it keeps a journal.
+-- The last products with which a node began, and what its workers leave: the last pass, and what recording left where it keeps a journal.
 pub record Leaves : Type 0 where
+  pub lasts : List (Option Signature)
   pub last : PassView
   pub recorded : Option LeftRecord
 
@@ -47,7 +49,7 @@ IsKept (Some left) = Unit {0}
 module _ {S : Type 0} (tells : S → StationRecord) (setup : Setup) where
   -- Each worker was done, and the clerk, the programs were waited for, and the line of the queue is written.
   pub record IsWhole (conf : ConfView) (left : Leaves) (old new : Outside S) : Type 0 where
-    pub done : NodeCause stop.Done (plan_for setup conf) (map tells new.kept) left.last
+    pub done : NodeCause stop.Done (plan_for setup conf left.lasts) (map tells new.kept) left.last
     pub recorded : IsRecordedWhole left.recorded
     pub waited : Attends (Ok tt) conf old.launcher new.launcher
     pub written : Takes old.sink (stat_line setup left.last.seen) new.sink
@@ -79,14 +81,15 @@ module _ {S : Type 0} (tells : S → StationRecord) (setup : Setup) where
     pub stop : NodeStop
     pub conf : ConfView
     pub given : List S
+    pub lasts : List (Option Signature)
     pub last : PassView
-    pub works : Works tells setup conf given (record { pass = last; stations = new.kept; end = stop })
+    pub works : Works tells setup conf lasts given (record { pass = last; stations = new.kept; end = stop })
     pub lawful : IsLawful setup.arena setup.slots last.seen
     pub front : WritesFront old.sink (stat_line setup last.seen) new.sink
     pub whole : ¬ (Rose old.sink.faults new.sink.faults) → Takes old.sink (stat_line setup last.seen) new.sink
     pub left : Option LeftRecord
-    pub journal : Journals setup conf last left
-    pub number : NumberOfRun code conf (record { last = last; recorded = left }) old new
+    pub journal : Journals setup conf lasts last left
+    pub number : NumberOfRun code conf (record { lasts = lasts; last = last; recorded = left }) old new
 
   -- No node was run, for this cause, and the number and the log tell it. Nothing is written.
   pub record NodeWritesNothing (code : ℕ) (old new : Outside S) : Type 0 where

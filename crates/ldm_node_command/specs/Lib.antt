@@ -1,4 +1,6 @@
 pub mod Setup
+pub mod Lines
+pub mod LineExamples
 pub mod Outside
 pub mod Steps
 pub mod Restoring

@@ -1,8 +1,13 @@
 -- What the command `node` uses of the outside.
 use Rattle.std.specs.Prelude.{◌≡◌, ◌≤◌, ◌⊎◌, ℕ, List, Option}
 use Rattle.std.specs.List.{All}
-use Rattle.ldm_disk.specs.Desks.{DeskRecord}
+use Rattle.std.specs.Option.{option_map}
+use Rattle.ldm_disk.specs.declared.desk.Desk.{Desk}
+use Rattle.ldm_disk.specs.Desks.{DeskRecord, desk_tells}
+use Rattle.ldm_disk.specs.Told.{DiskRecord}
+use Rattle.ldm_outside.specs.Clock.{ClockRecord}
 use Rattle.ldm_outside.specs.Dial.{DialRecord}
+use Rattle.ldm_outside.specs.Gate.{GateRecord}
 use Rattle.ldm_outside.specs.Io.{SinkRecord}
 use Rattle.ldm_outside.specs.Launcher.{LauncherRecord}
 use Rattle.ldm_outside.specs.Station.{StationRecord, IsNew}
@@ -26,6 +31,11 @@ pub record Outside (S : Type 0) : Type 0 where
 abbrev pub outside_of : {S : Type 0} → SinkRecord → SinkRecord → StoreRecord → LauncherRecord → DialRecord → List S → Option ℕ → Option DeskRecord → Outside S
 outside_of sink log store launcher net kept port desk =
     record { sink = sink; log = log; store = store; launcher = launcher; net = net; kept = kept; port = port; desk = desk }
+
+-- what is told of the desk that a net keeps, if it keeps one, by what the parts of a desk tell
+abbrev pub kept_desk_of : {F E C G : Type 0} → (F → DiskRecord) → (E → SinkRecord) → (C → ClockRecord) → (G → GateRecord)
+    → Option (Desk F E C G) → Option DeskRecord
+kept_desk_of disk log clock gate kept = option_map (desk_tells disk log clock gate) kept
 
 -- No count fell.
 pub record KeepsFaults {S : Type 0} (old new : Outside S) : Type 0 where

@@ -1,5 +1,6 @@
 //! What the number that a node ends with says of its queue.
-ghost use Rattle.std.specs.Prelude.{◌≡◌, ◌⊎◌, ℕ, List};
+ghost use Rattle.std.specs.Prelude.{◌≡◌, ◌⊎◌, ℕ, List, Option};
+ghost use Rattle.ldm_types.specs.declared.signature.Signature.{Signature};
 ghost use Rattle.ldm_outside.specs.Io.{WritesFront};
 ghost use Rattle.ldm_outside.specs.Station.{StationRecord};
 ghost use Rattle.ldm_model.specs.declared.event.Entry.{Entry};
@@ -21,6 +22,7 @@ pub fn line_is_of_a_history<S>()
         (history : List Entry)
         × (IsLawful setup.arena setup.slots history
         × WritesFront old.sink (stat_line setup history) new.sink
-        × ((conf : ConfView) × (given : List S) × (last : PassView) × (stop : NodeStop) × (last.seen ≡ history)
-        × Works tells setup conf given (record { pass = last; stations = new.kept; end = stop }))) }
+        × ((conf : ConfView) × (given : List S) × (lasts : List (Option Signature)) × (last : PassView)
+        × (stop : NodeStop) × (last.seen ≡ history)
+        × Works tells setup conf lasts given (record { pass = last; stations = new.kept; end = stop }))) }
 {}

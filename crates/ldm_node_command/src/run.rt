@@ -1,5 +1,6 @@
 //! `ldm node`: a node, from its configuration to the line of its queue.
-ghost use Rattle.std.specs.Prelude.{◌≡◌, ◌+◌, ◌-◌, ◌<◌, ◌≤◌, ◌^◌, length, map, slice_index_or, Some, None, IfOk, IfErr, IfSome, OnOk};
+ghost use Rattle.std.specs.Prelude.{◌≡◌, ◌+◌, ◌-◌, ◌<◌, ◌≤◌, ◌^◌, length, map, slice_index_or, Some, None};
+ghost use Rattle.std.specs.Prelude.{IfOk, IfErr, IfSome, OnOk};
 ghost use Rattle.std.specs.Option.{option_map};
 ghost use Rattle.std.specs.List.{All, range_with_len};
 ghost use Rattle.std.specs.Vec.{vec_len};
@@ -9,7 +10,6 @@ ghost use Rattle.ldm_model.specs.History.{after};
 ghost use Rattle.ldm_book.specs.Stands.{StandsFor};
 ghost use Rattle.ldm_shared.specs.Limits.{IsFaultOf};
 ghost use Rattle.ldm_disk.specs.Desks.{desk_tells};
-ghost use Rattle.ldm_book.specs.Limits.{IsGoodArena};
 ghost use Rattle.ldm_shared.specs.Passes.{PassView, new_pass};
 ghost use Rattle.ldm_node.specs.Clerks.{ArePassesFor, LeavesBehind, RecordCause, clerk_tells, left_tells};
 ghost use Rattle.ldm_conf.specs.Confs.{conf_view};
@@ -18,7 +18,7 @@ ghost use Rattle.ldm_node_command.specs.Complete.{NodeCompletes};
 ghost use Rattle.ldm_node_command.specs.Ending.{NodeEnds};
 ghost use Rattle.ldm_node_command.specs.Law.{ObeysNodeLaw};
 ghost use Rattle.ldm_node_command.specs.Node.{IsMade, Works};
-ghost use Rattle.ldm_node_command.specs.Outside.{KeepsFaults, outside_of};
+ghost use Rattle.ldm_node_command.specs.Outside.{KeepsFaults, kept_desk_of, outside_of};
 ghost use Rattle.ldm_node_command.specs.Restoring.{FailsToRestore, HasJournal, restored_net};
 ghost use Rattle.ldm_node_command.specs.Putting.{IsPutBack};
 ghost use Rattle.ldm_node_command.specs.Run.{NodeRuns};
@@ -30,7 +30,7 @@ use crate::ending::{NodeFault, Ran};
 use crate::listening::listen;
 use crate::passes::count_passes;
 use crate::progress::{Step, Steps};
-use crate::restoring::{RestoreFault, restore_queue};
+use crate::restoring::{RestoreFault, Resumed, restore_queue};
 use crate::setup::NodeSetup;
 use crate::stat_line::write_stat;
 use crate::statuses::report;
@@ -47,8 +47,8 @@ use std::thread::Threads;
 /// Runs a node: takes its configuration, makes its queue, puts back what its journal kept if it has one, has the net
 /// listen, starts the commands of the configuration, and has the workers of the node do their work until all have
 /// stopped; one of them records what is inserted into the journal. Then the net keeps the stations and the desk of the
-/// journal, the commands are waited for, and the line of the queue is written to the sink. Answers the number that the program ends with, and
-/// writes its line to the log.
+/// journal, the commands are waited for, and the line of the queue is written to the sink. Answers the number that the
+/// program ends with, and writes its line to the log.
 ///
 /// Each step comes only where all before it went well, but what comes behind the workers' work comes at each of its
 /// ends. Where a command cannot be started, those before it run on, nobody waits for them, and the net keeps the
@@ -80,48 +80,48 @@ where
         N.StationGate.tells)
         (setup_of setup.now) result
         (outside_of (K.tells sink.old) (E.tells log.old) (F.tells store.old) (L.tells launcher.old) (N.tells net.old)
-        (N.kept net.old) (N.port_asked net.old) (option_map (desk_tells N.DeskDisk.tells N.StationLog.tells N.StationClock.tells N.StationGate.tells)
-        (N.kept_desk net.old)))
+        (N.kept net.old) (N.port_asked net.old) (kept_desk_of N.DeskDisk.tells N.StationLog.tells N.StationClock.tells
+        N.StationGate.tells (N.kept_desk net.old)))
         (outside_of (K.tells sink.new) (E.tells log.new) (F.tells store.new) (L.tells launcher.new) (N.tells net.new)
-        (N.kept net.new) (N.port_asked net.new) (option_map (desk_tells N.DeskDisk.tells N.StationLog.tells N.StationClock.tells N.StationGate.tells)
-        (N.kept_desk net.new))) }
+        (N.kept net.new) (N.port_asked net.new) (kept_desk_of N.DeskDisk.tells N.StationLog.tells N.StationClock.tells
+        N.StationGate.tells (N.kept_desk net.new))) }
     ensures law { ObeysNodeLaw
         (station_tells N.StationDoor.tells N.StationDial.tells N.StationLog.tells N.StationClock.tells
         N.StationGate.tells)
         (setup_of setup.now) result
         (outside_of (K.tells sink.old) (E.tells log.old) (F.tells store.old) (L.tells launcher.old) (N.tells net.old)
-        (N.kept net.old) (N.port_asked net.old) (option_map (desk_tells N.DeskDisk.tells N.StationLog.tells N.StationClock.tells N.StationGate.tells)
-        (N.kept_desk net.old)))
+        (N.kept net.old) (N.port_asked net.old) (kept_desk_of N.DeskDisk.tells N.StationLog.tells N.StationClock.tells
+        N.StationGate.tells (N.kept_desk net.old)))
         (outside_of (K.tells sink.new) (E.tells log.new) (F.tells store.new) (L.tells launcher.new) (N.tells net.new)
-        (N.kept net.new) (N.port_asked net.new) (option_map (desk_tells N.DeskDisk.tells N.StationLog.tells N.StationClock.tells N.StationGate.tells)
-        (N.kept_desk net.new))) }
+        (N.kept net.new) (N.port_asked net.new) (kept_desk_of N.DeskDisk.tells N.StationLog.tells N.StationClock.tells
+        N.StationGate.tells (N.kept_desk net.new))) }
     ensures completes { NodeCompletes
         (station_tells N.StationDoor.tells N.StationDial.tells N.StationLog.tells N.StationClock.tells
         N.StationGate.tells)
         (setup_of setup.now) result
         (outside_of (K.tells sink.old) (E.tells log.old) (F.tells store.old) (L.tells launcher.old) (N.tells net.old)
-        (N.kept net.old) (N.port_asked net.old) (option_map (desk_tells N.DeskDisk.tells N.StationLog.tells N.StationClock.tells N.StationGate.tells)
-        (N.kept_desk net.old)))
+        (N.kept net.old) (N.port_asked net.old) (kept_desk_of N.DeskDisk.tells N.StationLog.tells N.StationClock.tells
+        N.StationGate.tells (N.kept_desk net.old)))
         (outside_of (K.tells sink.new) (E.tells log.new) (F.tells store.new) (L.tells launcher.new) (N.tells net.new)
-        (N.kept net.new) (N.port_asked net.new) (option_map (desk_tells N.DeskDisk.tells N.StationLog.tells N.StationClock.tells N.StationGate.tells)
-        (N.kept_desk net.new))) }
+        (N.kept net.new) (N.port_asked net.new) (kept_desk_of N.DeskDisk.tells N.StationLog.tells N.StationClock.tells
+        N.StationGate.tells (N.kept_desk net.new))) }
     ensures commands { TellsCommands
         (station_tells N.StationDoor.tells N.StationDial.tells N.StationLog.tells N.StationClock.tells
         N.StationGate.tells)
         (setup_of setup.now) result
         (outside_of (K.tells sink.old) (E.tells log.old) (F.tells store.old) (L.tells launcher.old) (N.tells net.old)
-        (N.kept net.old) (N.port_asked net.old) (option_map (desk_tells N.DeskDisk.tells N.StationLog.tells N.StationClock.tells N.StationGate.tells)
-        (N.kept_desk net.old)))
+        (N.kept net.old) (N.port_asked net.old) (kept_desk_of N.DeskDisk.tells N.StationLog.tells N.StationClock.tells
+        N.StationGate.tells (N.kept_desk net.old)))
         (outside_of (K.tells sink.new) (E.tells log.new) (F.tells store.new) (L.tells launcher.new) (N.tells net.new)
-        (N.kept net.new) (N.port_asked net.new) (option_map (desk_tells N.DeskDisk.tells N.StationLog.tells N.StationClock.tells N.StationGate.tells)
-        (N.kept_desk net.new))) }
+        (N.kept net.new) (N.port_asked net.new) (kept_desk_of N.DeskDisk.tells N.StationLog.tells N.StationClock.tells
+        N.StationGate.tells (N.kept_desk net.new))) }
     ensures faults_kept { KeepsFaults
         (outside_of (K.tells sink.old) (E.tells log.old) (F.tells store.old) (L.tells launcher.old) (N.tells net.old)
-        (N.kept net.old) (N.port_asked net.old) (option_map (desk_tells N.DeskDisk.tells N.StationLog.tells N.StationClock.tells N.StationGate.tells)
-        (N.kept_desk net.old)))
+        (N.kept net.old) (N.port_asked net.old) (kept_desk_of N.DeskDisk.tells N.StationLog.tells N.StationClock.tells
+        N.StationGate.tells (N.kept_desk net.old)))
         (outside_of (K.tells sink.new) (E.tells log.new) (F.tells store.new) (L.tells launcher.new) (N.tells net.new)
-        (N.kept net.new) (N.port_asked net.new) (option_map (desk_tells N.DeskDisk.tells N.StationLog.tells N.StationClock.tells N.StationGate.tells)
-        (N.kept_desk net.new))) }
+        (N.kept net.new) (N.port_asked net.new) (kept_desk_of N.DeskDisk.tells N.StationLog.tells N.StationClock.tells
+        N.StationGate.tells (N.kept_desk net.new))) }
 {
     let mut steps = Steps::new();
     let ending = run_steps(rt, alloc, setup, sink, store, launcher, net, &mut steps);
@@ -156,11 +156,11 @@ where
         N.StationGate.tells) result
         (setup_of setup.now)
         (outside_of (K.tells sink.old) log_before (F.tells store.old) (L.tells launcher.old) (N.tells net.old)
-        (N.kept net.old) (N.port_asked net.old) (option_map (desk_tells N.DeskDisk.tells N.StationLog.tells N.StationClock.tells N.StationGate.tells)
-        (N.kept_desk net.old)))
+        (N.kept net.old) (N.port_asked net.old) (kept_desk_of N.DeskDisk.tells N.StationLog.tells N.StationClock.tells
+        N.StationGate.tells (N.kept_desk net.old)))
         (outside_of (K.tells sink.new) log_after (F.tells store.new) (L.tells launcher.new) (N.tells net.new)
-        (N.kept net.new) (N.port_asked net.new) (option_map (desk_tells N.DeskDisk.tells N.StationLog.tells N.StationClock.tells N.StationGate.tells)
-        (N.kept_desk net.new))) }
+        (N.kept net.new) (N.port_asked net.new) (kept_desk_of N.DeskDisk.tells N.StationLog.tells N.StationClock.tells
+        N.StationGate.tells (N.kept_desk net.new))) }
     ensures order { OnOk result (steps.new ≡ Some step.Line) }
     ensures sink_kept { (K.tells sink.old).faults ≤ (K.tells sink.new).faults }
     ensures store_kept { (F.tells store.old).faults ≤ (F.tells store.new).faults }
@@ -172,11 +172,11 @@ where
     steps.make(Step::Configuration);
     let (shared, mut passes) = make_queue(alloc, setup, &conf)?;
     steps.make(Step::Queue);
-    let clerk = put_back(rt, alloc, setup, &shared, &mut passes, net, steps)?;
+    let resumed = put_back(rt, alloc, setup, &conf, &shared, &mut passes, net, steps)?;
     let stations = match listen(setup, &conf, net, steps) {
         Ok(stations) => stations,
         Err(why) => {
-            keep_clerk(net, clerk);
+            keep_clerk(net, resumed);
             return Err(NodeFault::NotListening(why));
         }
     };
@@ -184,7 +184,7 @@ where
         Ok(children) => children,
         Err(why) => {
             net.keep(stations);
-            keep_clerk(net, clerk);
+            keep_clerk(net, resumed);
             return Err(NodeFault::NotStarted(why));
         }
     };
@@ -195,7 +195,7 @@ where
         recorded,
         end: stop,
         ..
-    } = work(rt, alloc, setup, conf, shared, passes, stations, clerk);
+    } = work(rt, alloc, setup, conf, shared, passes, stations, resumed);
     keep_stations(net, stations, steps);
     let recorded = keep_recorded(net, recorded);
     let waited = wait_for_commands(launcher, children.as_slice(), steps);
@@ -213,30 +213,27 @@ fn put_back<H: Wait, N: Desks>(
     rt: &H,
     alloc: Global,
     setup: &NodeSetup<'_>,
+    conf: &Conf,
     shared: &Shared,
     passes: &mut Vec<Pass>,
     net: &mut N,
     steps: &mut Steps,
-) -> Result<
-    Option<Clerk<N::DeskDisk, N::StationLog, N::StationClock, N::StationGate>>,
-    RestoreFault,
->
+) -> Result<Resumed<N::DeskDisk, N::StationLog, N::StationClock, N::StationGate>, RestoreFault>
     requires passes { passes.old.items ≡ map (new_pass shared.now) (range_with_len 0 shared.now.passes) }
-    requires last { 0 < shared.now.passes }
-    requires good { IsGoodArena setup.now.arena }
+    requires count { shared.now.passes ≡ setup.now.options.workers + length conf.now.requests.items + 1 }
+    requires good { IsGoodSize (setup_of setup.now) (conf_view conf.now) }
     requires before { steps.old ≡ Some step.Queue }
-    ensures back { IfOk result (λ clerk. IsPutBack (setup_of setup.now) shared.now passes.new.items
-        (option_map
+    ensures back { IfOk result (λ resumed.
+        IsPutBack (setup_of setup.now) (conf_view conf.now) shared.now passes.new.items (option_map
         (clerk_tells (desk_tells N.DeskDisk.tells N.StationLog.tells N.StationClock.tells N.StationGate.tells))
-        clerk)) }
+        resumed.clerk) resumed.lasts.items) }
     ensures same { OnOk result (N.tells net.new ≡ N.tells net.old) }
     ensures fails { IfErr result (λ why. HasJournal (setup_of setup.now)
-        × FailsToRestore why (setup_of setup.now) (new_pass shared.now (shared.now.passes - 1))
-        (restored_net (N.tells net.old) (option_map
-        (desk_tells N.DeskDisk.tells N.StationLog.tells N.StationClock.tells N.StationGate.tells) (N.kept_desk net.old)))
-        (restored_net (N.tells net.new) (option_map
-        (desk_tells N.DeskDisk.tells N.StationLog.tells N.StationClock.tells N.StationGate.tells)
-        (N.kept_desk net.new)))) }
+        × FailsToRestore (setup_of setup.now) (conf_view conf.now) why (new_pass shared.now (shared.now.passes - 1))
+        (restored_net (N.tells net.old) (kept_desk_of N.DeskDisk.tells N.StationLog.tells
+        N.StationClock.tells N.StationGate.tells (N.kept_desk net.old)))
+        (restored_net (N.tells net.new) (kept_desk_of N.DeskDisk.tells N.StationLog.tells
+        N.StationClock.tells N.StationGate.tells (N.kept_desk net.new)))) }
     ensures stations { N.kept net.new ≡ N.kept net.old }
     ensures asked { N.port_asked net.new ≡ N.port_asked net.old }
     ensures noted { OnOk result (steps.new ≡ Some step.Restoring) }
@@ -245,10 +242,10 @@ fn put_back<H: Wait, N: Desks>(
     let Some(mut pass) = passes.pop() else {
         unreachable!()
     };
-    match restore_queue(rt, alloc, setup, shared, &mut pass, net, steps) {
-        Ok(clerk) => {
+    match restore_queue(rt, alloc, setup, conf, shared, &mut pass, net, steps) {
+        Ok(resumed) => {
             passes.push_reserved(pass);
-            Ok(clerk)
+            Ok(resumed)
         }
         Err(why) => Err(why),
     }
@@ -257,19 +254,19 @@ fn put_back<H: Wait, N: Desks>(
 // Has the net keep the desk of a clerk, where there is one.
 fn keep_clerk<N: Desks>(
     net: &mut N,
-    clerk: Option<Clerk<N::DeskDisk, N::StationLog, N::StationClock, N::StationGate>>,
+    resumed: Resumed<N::DeskDisk, N::StationLog, N::StationClock, N::StationGate>,
 )
     ensures desk { IfSome
         (option_map
         (clerk_tells (desk_tells N.DeskDisk.tells N.StationLog.tells N.StationClock.tells N.StationGate.tells))
-        clerk)
-        (λ clerk. option_map
-        (desk_tells N.DeskDisk.tells N.StationLog.tells N.StationClock.tells N.StationGate.tells) (N.kept_desk net.new)
-        ≡ Some clerk.desk) }
+        resumed.clerk)
+        (λ clerk. kept_desk_of N.DeskDisk.tells N.StationLog.tells N.StationClock.tells N.StationGate.tells
+        (N.kept_desk net.new) ≡ Some clerk.desk) }
     ensures same { N.tells net.new ≡ N.tells net.old }
     ensures kept { N.kept net.new ≡ N.kept net.old }
     ensures asked { N.port_asked net.new ≡ N.port_asked net.old }
 {
+    let Resumed { clerk, lasts: _ } = resumed;
     match clerk {
         Some(clerk) => {
             let Clerk { recorder: _, desk } = clerk;
@@ -288,9 +285,8 @@ fn keep_recorded<N: Desks>(
         (option_map
         (left_tells (desk_tells N.DeskDisk.tells N.StationLog.tells N.StationClock.tells N.StationGate.tells))
         recorded)
-        (λ left. option_map
-        (desk_tells N.DeskDisk.tells N.StationLog.tells N.StationClock.tells N.StationGate.tells) (N.kept_desk net.new)
-        ≡ Some left.desk) }
+        (λ left. kept_desk_of N.DeskDisk.tells N.StationLog.tells N.StationClock.tells N.StationGate.tells
+        (N.kept_desk net.new) ≡ Some left.desk) }
     ensures end { result ≡ option_map (λ left. left.end) (option_map
         (left_tells (desk_tells N.DeskDisk.tells N.StationLog.tells N.StationClock.tells N.StationGate.tells))
         recorded) }
@@ -344,29 +340,31 @@ fn work<
     shared: Shared,
     passes: Vec<Pass>,
     stations: Vec<Station<D, I, E, C, G>>,
-    clerk: Option<Clerk<F, E, C, G>>,
+    resumed: Resumed<F, E, C, G>,
 ) -> NodeEnd<F, D, I, E, C, G>
 where
     D::Link: Send,
     I::Link: Send,
     requires made { IsMade (setup_of setup.now) (conf_view conf) shared }
-    requires passes { ArePassesFor shared passes.items (option_map (λ clerk. clerk.recorder) clerk) }
+    requires passes { ArePassesFor shared passes.items (option_map (λ clerk. clerk.recorder) resumed.clerk) }
     requires count { shared.passes ≡ setup.now.options.workers + length conf.requests.items + 1 }
     requires stations { vec_len stations ≡ setup.now.options.workers + length conf.requests.items }
     requires are_new { All
         (λ station. IsNew setup.now.options.idles (station_tells D.tells I.tells E.tells C.tells G.tells station))
         stations.items }
     ensures works { Works (station_tells D.tells I.tells E.tells C.tells G.tells) (setup_of setup.now) (conf_view conf)
-        stations.items (record { pass = result.pass; stations = result.stations.items; end = result.end }) }
+        resumed.lasts.items stations.items
+        (record { pass = result.pass; stations = result.stations.items; end = result.end }) }
     ensures recorded { (pass : PassView) → pass ≡ slice_index_or passes.items (vec_len stations) pass
         → LeavesBehind result.pass pass
-        (option_map (clerk_tells (desk_tells F.tells E.tells C.tells G.tells)) clerk)
+        (option_map (clerk_tells (desk_tells F.tells E.tells C.tells G.tells)) resumed.clerk)
         (option_map (left_tells (desk_tells F.tells E.tells C.tells G.tells)) result.recorded) }
     ensures record_causes { IfSome
         (option_map (left_tells (desk_tells F.tells E.tells C.tells G.tells)) result.recorded)
         (λ left. RecordCause left.end left.desk result.pass) }
     ensures stands { StandsFor result.book (after setup.now.arena setup.now.slots result.pass.seen) }
 {
+    let Resumed { clerk, lasts } = resumed;
     node(
         rt,
         alloc,
@@ -375,6 +373,7 @@ where
         passes,
         stations,
         clerk,
+        &lasts,
         &setup.options,
     )
 }

@@ -22,7 +22,7 @@ const RING_SIZE: u64 = 16;
 
 const HEADS: u64 = 24;
 
-const RECORDS: u64 = 80;
+const RECORDS: u64 = 12_288;
 
 /// Writes the line of an ending to the log, for the reason that the configuration, the store, the net or the launcher
 /// gives, and answers the number that the program ends with. Where the log of a worker failed there is no line, and the

@@ -23,12 +23,12 @@ returns-in_err-shared-clause-ends g c = λ log_before log_after.
     c.in_ok-conf.ensures.completes in
     rw (p.1, p.2) ((conf_view c.in_ok-conf.conf, taken, c.in_err-shared.ensures.fault, record { net = refl; kept = refl; port = refl; desk = refl }, refl), refl)
 
-pub returns-in_err-clerk-clause-ends : goal.returns-in_err-clerk-clause-ends
-returns-in_err-clerk-clause-ends g c = λ log_before log_after.
-    let p = err_from_is_err_and c.from_residual-in_err-clerk.result c.from_residual-in_err-clerk.ensures.1 in
+pub returns-in_err-resumed-clause-ends : goal.returns-in_err-resumed-clause-ends
+returns-in_err-resumed-clause-ends g c = λ log_before log_after.
+    let p = err_from_is_err_and c.from_residual-in_err-resumed.result c.from_residual-in_err-resumed.ensures.1 in
     let taken = takes c.in_ok-conf.conf c.args.setup.now.conf.now (g.F.Store.tells c.args.store.now) (g.F.Store.tells c.take_conf.new.store) c.in_ok-conf.ensures.takes
     c.in_ok-conf.ensures.completes in
-    let fails = c.in_err-clerk.ensures.fails in
+    let fails = c.in_err-resumed.ensures.fails in
     rw (p.1, p.2) (
       (
         conf_view c.in_ok-conf.conf,
@@ -49,7 +49,7 @@ returns-in-Err-clause-ends g c = λ log_before log_after.
     c.in_ok-conf.ensures.completes in
     let fails =
     fails_between c.in-Err.why (g.N.Dial.tells c.args.net.now) (g.N.Dial.tells c.put_back.new.net) (g.N.Dial.tells c.listen.new.net) (g.N.Dial.tells c.keep_clerk.new.net)
-    c.in_ok-clerk.ensures.same c.keep_clerk.ensures.same c.in-Err.ensures.fails in (
+    c.in_ok-resumed.ensures.same c.keep_clerk.ensures.same c.in-Err.ensures.fails in (
       (
         conf_view c.in_ok-conf.conf,
         taken,
@@ -58,8 +58,8 @@ returns-in-Err-clause-ends g c = λ log_before log_after.
         c.keep_clerk.ensures.asked ∙ c.listen.ensures.asked,
         c.keep_clerk.ensures.kept ∙ c.listen.ensures.kept ∙ c.put_back.ensures.stations,
         refl,
-        put_back_first (setup_of c.args.setup.now) (conf_view c.in_ok-conf.conf) _ c.in_ok-shared.ensures.made _ (option_map (clerk_tells desks) c.in_ok-clerk.clerk)
-            c.in_ok-clerk.ensures.back (option_map desks (g.N.Desks.kept_desk c.keep_clerk.new.net)) c.keep_clerk.ensures.desk,
+        put_back_first (setup_of c.args.setup.now) (conf_view c.in_ok-conf.conf) _ c.in_ok-shared.ensures.made _ (option_map (clerk_tells desks) c.in_ok-resumed.resumed.clerk)
+            c.in_ok-resumed.resumed.lasts.items c.in_ok-resumed.ensures.back (option_map desks (g.N.Desks.kept_desk c.keep_clerk.new.net)) c.keep_clerk.ensures.desk,
       ),
       refl,
     )
@@ -80,7 +80,7 @@ returns-in-Err-start_commands-clause-ends g c = λ log_before log_after.
     let net = c.keep_clerk-in-Err-start_commands.new.net in
     let given = c.in-Ok.stations.items in
     let listens =
-    listens_behind tells setup conf given (g.N.Dial.tells c.args.net.now) (g.N.Dial.tells c.put_back.new.net) (g.N.Dial.tells c.listen.new.net) c.in_ok-clerk.ensures.same
+    listens_behind tells setup conf given (g.N.Dial.tells c.args.net.now) (g.N.Dial.tells c.put_back.new.net) (g.N.Dial.tells c.listen.new.net) c.in_ok-resumed.ensures.same
     c.in-Ok.ensures.listens in
     let kept =
     listened tells setup conf given (g.N.Net.kept net) (g.N.Dial.tells c.args.net.now) (g.N.Dial.tells c.listen.new.net) (g.N.Dial.tells net)
@@ -92,8 +92,8 @@ returns-in-Err-start_commands-clause-ends g c = λ log_before log_after.
         kept,
         c.keep_clerk-in-Err-start_commands.ensures.asked ∙ c.keep.ensures.asked ∙ c.listen.ensures.asked,
         stopped,
-        put_back_first setup conf _ c.in_ok-shared.ensures.made _ (option_map (clerk_tells desks) c.in_ok-clerk.clerk) c.in_ok-clerk.ensures.back
-            (option_map desks (g.N.Desks.kept_desk net)) c.keep_clerk-in-Err-start_commands.ensures.desk,
+        put_back_first setup conf _ c.in_ok-shared.ensures.made _ (option_map (clerk_tells desks) c.in_ok-resumed.resumed.clerk) c.in_ok-resumed.resumed.lasts.items
+            c.in_ok-resumed.ensures.back (option_map desks (g.N.Desks.kept_desk net)) c.keep_clerk-in-Err-start_commands.ensures.desk,
       ),
       refl,
     )
@@ -119,8 +119,9 @@ returns-clause-ends g c = λ log_before log_after.
     let given = c.in-Ok.stations.items in
     let left = c.work-book.result in
     let recorded = option_map (left_tells desks) left.recorded in
-    let clerk = option_map (clerk_tells desks) c.in_ok-clerk.clerk in
-    let back = c.in_ok-clerk.ensures.back in
+    let clerk = option_map (clerk_tells desks) c.in_ok-resumed.resumed.clerk in
+    let lasts = c.in_ok-resumed.resumed.lasts.items in
+    let back = c.in_ok-resumed.ensures.back in
     let count : vec_len c.in-Ok.stations + 1 ≡ c.in_ok-shared.shared.passes =
     omega (
       arith,
@@ -130,7 +131,7 @@ returns-clause-ends g c = λ log_before log_after.
       length-map c.in_ok-conf.conf.requests.items request_view,
     ) in
     let listens =
-    listens_behind tells setup conf given before (g.N.Dial.tells c.put_back.new.net) (g.N.Dial.tells c.listen.new.net) c.in_ok-clerk.ensures.same c.in-Ok.ensures.listens in (
+    listens_behind tells setup conf given before (g.N.Dial.tells c.put_back.new.net) (g.N.Dial.tells c.listen.new.net) c.in_ok-resumed.ensures.same c.in-Ok.ensures.listens in (
       conf,
       taken,
       record {
@@ -140,14 +141,15 @@ returns-clause-ends g c = λ log_before log_after.
         listens =
             listened tells setup conf given given before (g.N.Dial.tells c.listen.new.net) (g.N.Dial.tells net) refl
             (c.keep_recorded-recorded.ensures.same ∙ c.keep_stations.ensures.same) listens;
+        lasts = lasts;
         last = left.pass;
         works =
-            worked tells setup conf given left.stations.items (g.N.Net.kept net) left.pass left.end (c.keep_recorded-recorded.ensures.kept ∙ c.keep_stations.ensures.kept)
+            worked tells setup conf lasts given left.stations.items (g.N.Net.kept net) left.pass left.end (c.keep_recorded-recorded.ensures.kept ∙ c.keep_stations.ensures.kept)
             c.work-book.ensures.works;
         left = recorded;
         journal =
-            journals setup conf c.in_ok-shared.shared c.in_ok-shared.ensures.made left.pass c.put_back.new.passes.items clerk recorded back
-            (c.work-book.ensures.recorded back.pass (behind_place setup c.in_ok-shared.shared c.put_back.new.passes.items clerk back (vec_len c.in-Ok.stations) count))
+            journals setup conf c.in_ok-shared.shared c.in_ok-shared.ensures.made left.pass c.put_back.new.passes.items clerk lasts recorded back
+            (c.work-book.ensures.recorded back.pass (behind_place setup conf c.in_ok-shared.shared c.put_back.new.passes.items clerk lasts back (vec_len c.in-Ok.stations) count))
             c.work-book.ensures.record_causes;
         recorded = c.keep_recorded-recorded.ensures.end;
         desk = c.keep_recorded-recorded.ensures.desk;
