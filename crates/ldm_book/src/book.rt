@@ -43,10 +43,8 @@ use ldm_model::{
     CloseReply, CommitReply, DiscardReply, ExpireReply, FillReply, InsertReply, LookReply,
     OpenReply, ReadReply, ReleaseReply, ReserveNo, ReserveReply, Start, StepReply, TallyReply,
 };
-use ldm_types::{
-    ARENA_UNIT, Actor, CursorNo, Feed, Info, LARGEST_ARENA, MOST_SLOTS, Micros, SMALLEST_ARENA,
-    Signature, Stat,
-};
+use ldm_types::{ARENA_UNIT, Actor, CursorNo, Feed, Info, LARGEST_ARENA, MOST_SLOTS, Micros, SMALLEST_ARENA, Signature};
+use ldm_model::Stat;
 use ldm_xdr::info_len;
 use std::alloc::Global;
 use std::marker::Model;

@@ -7,7 +7,7 @@ ghost use Rattle.ldm_check.specs.Says.{IsFaultOf, IsFirstWord, said_view, says};
 
 use crate::source::without_return;
 use ldm_conf::{Conf, ConfKind, read_conf};
-use ldm_outside::MemStore;
+use ldm_outside::NoFiles;
 use ldm_text::{Comments, first_word, to_word};
 use ldm_types::OutOfMemory;
 use std::alloc::Global;
@@ -29,7 +29,7 @@ pub(crate) fn look_at(alloc: Global, line: &[u8]) -> Result<Said<'_>, OutOfMemor
     requires short { length line.now ≤ LONGEST_CONFIGURATION }
     ensures { IfOk result (λ said. said_view said ≡ says (meaning_of line.entry.now)) }
 {
-    let mut nothing = MemStore::new(alloc, Vec::new(alloc), Vec::new(alloc));
+    let mut nothing = NoFiles::new();
     match read_conf(alloc, line, &mut nothing) {
         Ok(conf) => Ok(Said::Fine(conf)),
         Err(fault) => by_fault(line, fault.kind),

@@ -16,6 +16,7 @@ mod possible;
 mod premises;
 mod replies;
 mod reserving;
+mod stat;
 
 pub use bytes::Bytes;
 pub use event::{Entry, Event, Reply, Start};
@@ -25,7 +26,6 @@ pub use laws::{
     histories_append, products_were_admitted, regions_lie_apart, reservations_are_filled,
     signatures_differ, times_rise,
 };
-pub use ldm_types::Stat;
 pub use numbers::ReserveNo;
 pub use possible::{
     actor_is_possible, bytes_are_possible, commit_is_possible, feed_is_possible, fill_is_possible,
@@ -38,3 +38,4 @@ pub use replies::{
     OpenReply, ReadReply, ReleaseReply, ReserveReply, StepReply, TallyReply,
 };
 pub use reserving::worked_examples_of_reservations;
+pub use stat::Stat;

@@ -15,7 +15,8 @@ use ldm_model::{
     CloseReply, CommitReply, DiscardReply, ExpireReply, FillReply, InsertReply, LookReply,
     OpenReply, ReadReply, ReleaseReply, ReserveNo, ReserveReply, StepReply, TallyReply,
 };
-use ldm_types::{CursorNo, Info, Micros, Stat};
+use ldm_types::{CursorNo, Info, Micros};
+use ldm_model::Stat;
 
 /// The most bytes of an answer, without its newline.
 pub const LONGEST_ANSWER: usize = 16_384;

@@ -11,7 +11,7 @@ use Rattle.ldm_model.specs.declared.event.Entry.{Entry}
 use Rattle.ldm_outside.specs.Link.{LinkRecord}
 use Rattle.ldm_relay.specs.Sent.{Sent}
 use Rattle.ldm_relay.specs.Sent as sent
-use Rattle.ldm_types.specs.declared.stat.Stat as figures
+use Rattle.ldm_model.specs.declared.stat.Stat as figures
 use Rattle.ldm_session.specs.Exchange.{Exchanged}
 use Rattle.ldm_intake.specs.Course.{entry_by}
 use Rattle.ldm_intake.specs.Room.{records_of}

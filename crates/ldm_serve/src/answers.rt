@@ -8,7 +8,7 @@ ghost use Rattle.ldm_serve.specs.Responds.{HasAnswerRoom};
 
 use ldm_model::InsertReply;
 use ldm_relay::{Message, PutAnswer, QstatReply, write_message, write_put_reply};
-use ldm_types::Stat;
+use ldm_model::Stat;
 
 // Appends the answer to the PUT of that number.
 pub(crate) fn put_answer(out: &mut Vec<u8>, xid: u32, answer: PutAnswer)

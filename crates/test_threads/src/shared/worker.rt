@@ -8,7 +8,8 @@ use ldm_model::{
     OpenReply, ReadReply, ReleaseReply, ReserveNo, ReserveReply, Start, StepReply, TallyReply,
 };
 use ldm_shared::{Pass, Shared, Turn};
-use ldm_types::{CursorNo, Feed, Info, Micros, Signature, Stat};
+use ldm_types::{CursorNo, Feed, Info, Micros, Signature};
+use ldm_model::Stat;
 use std::alloc::Global;
 use std::sync::Wait;
 
