@@ -21,7 +21,7 @@ use crate::outcome::{Crowd, CrowdEnd};
 use crate::run::play_crowd;
 use crate::statuses::status_of;
 use ldm_book::Book;
-use ldm_calls::histories_are_lawful;
+use ldm_model::histories_are_lawful;
 use ldm_outside::{OpenGate, Sink, SinkFailed, Source, write_all};
 use ldm_script::{Answer, Text, write_answer};
 use ldm_shared::{CreateFault, Pass, Shared};

@@ -27,3 +27,5 @@ pub mod Always
 pub mod Filling
 pub mod Examples
 pub mod Premises
+pub mod Lawful
+pub mod CommitExamples

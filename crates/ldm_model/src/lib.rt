@@ -8,6 +8,7 @@
 #![tactic(auto)]
 
 mod bytes;
+mod commits;
 mod event;
 mod examples;
 mod laws;
@@ -19,12 +20,13 @@ mod reserving;
 mod stat;
 
 pub use bytes::Bytes;
+pub use commits::worked_examples_of_commits;
 pub use event::{Entry, Event, Reply, Start};
 pub use examples::{worked_example_of_the_law, worked_examples, worked_examples_of_cursors};
 pub use laws::{
     admissions_are_numbered, every_reader_is_served, evictions_make_room, held_products_are_queued,
-    histories_append, products_were_admitted, regions_lie_apart, reservations_are_filled,
-    signatures_differ, times_rise,
+    histories_append, histories_are_lawful, products_were_admitted, regions_lie_apart,
+    reservations_are_filled, signatures_differ, times_rise,
 };
 pub use numbers::ReserveNo;
 pub use possible::{

@@ -7,7 +7,7 @@ use Rattle.ldm_model.specs.Reserve.{reserve}
 use Rattle.ldm_model.specs.Fill.{fill}
 use Rattle.ldm_model.specs.Insert.{insert}
 use Rattle.ldm_model.specs.Examples.{sample_info}
-use Rattle.ldm_calls.proofs.examples.worked_examples_of_commits.Goals as goal
+use Rattle.ldm_model.proofs.commits.worked_examples_of_commits.Goals as goal
 
 pub returns-clause-whole : goal.returns-clause-whole
 unfolding reserve fill

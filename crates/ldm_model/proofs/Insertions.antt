@@ -21,7 +21,7 @@ use Rattle.ldm_model.specs.Commit.{commit, commit_open, commit_whole}
 use Rattle.ldm_model.specs.Next.{next}
 use Rattle.ldm_model.specs.Always.{IsInsertable}
 use Rattle.ldm_model.specs.History.{IsLegal, IsLegalFrom, IsAnswered, after, after_entries, next_entry}
-use Rattle.ldm_calls.specs.Lawful.{IsAdmittedOrRefused, IsWholeAt, IsCommittedOrRefused, ObeysInsertions}
+use Rattle.ldm_model.specs.Lawful.{IsAdmittedOrRefused, IsWholeAt, IsCommittedOrRefused, ObeysInsertions}
 
 -- what is found is an element, and passes
 found-is : {X : Type 0} (test : X → Bool) (xs : List X) (x : X) → find test xs ≡ Some x → Contains xs x × (test x ≡ true)

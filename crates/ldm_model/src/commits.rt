@@ -4,8 +4,8 @@ ghost use Rattle.ldm_model.specs.declared.event.Reply.TheVariants.{TooBig, Dupli
 ghost use Rattle.ldm_model.specs.State.{State};
 ghost use Rattle.ldm_model.specs.Reservation.{with_reservation};
 ghost use Rattle.ldm_model.specs.Examples.{sample_info};
-ghost use Rattle.ldm_calls.specs.Lawful.{IsCommittedOrRefused, IsWholeAt};
-ghost use Rattle.ldm_calls.specs.Examples.{reservation_filled, state_doubled, state_filled};
+ghost use Rattle.ldm_model.specs.Lawful.{IsCommittedOrRefused, IsWholeAt};
+ghost use Rattle.ldm_model.specs.CommitExamples.{reservation_filled, state_doubled, state_filled};
 
 /// Worked examples of what the law of insertions says of a commit.
 pub fn worked_examples_of_commits()
