@@ -9,7 +9,7 @@ use crate::answers::Answers;
 use crate::calls::call;
 use crate::order::{BODY_LIMIT, Order, READ_SIZE};
 use ldm_book::{Book, CreateFault};
-use ldm_script::Text;
+use ldm_answers::Text;
 use ldm_types::OutOfMemory;
 use std::alloc::Global;
 use std::marker::Model;

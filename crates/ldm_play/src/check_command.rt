@@ -16,7 +16,7 @@ use ldm_book::Book;
 use ldm_disk::Disk;
 use ldm_image::ImageFault;
 use ldm_outside::{Sink, SinkFailed, write_all};
-use ldm_script::{put, put_number};
+use ldm_answers::{put, put_number};
 use ldm_types::Actor;
 use std::alloc::Global;
 

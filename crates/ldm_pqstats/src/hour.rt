@@ -12,7 +12,7 @@ use crate::end::SendFault;
 use crate::limits::{EXP, LARGEST_BODY};
 use arrayvec::ArrayVec;
 use ldm_outside::{Clock, Link, Sink};
-use ldm_script::put;
+use ldm_answers::put;
 use ldm_signature::sign;
 use ldm_stats::{Stats, hour_text};
 use ldm_tools::{Puts, put_product};

@@ -7,7 +7,7 @@ ghost use Rattle.ldm_watch.specs.FeedNames.{feeds_text, first_named, listed, mem
 
 use arrayvec::ArrayVec;
 use ldm_feedtype::NAMES;
-use ldm_script::put;
+use ldm_answers::put;
 use ldm_types::Feed;
 
 // A name has at most eight bytes, and one stands in front of it.

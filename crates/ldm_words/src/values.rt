@@ -22,7 +22,7 @@ use clap::ArgMatches;
 use ldm_class::Class;
 use ldm_conf::{Address, read_address, read_port};
 use ldm_feedtype::read_feed;
-use ldm_script::read_number;
+use ldm_answers::read_number;
 use ldm_types::{ClassSpec, Feed, Info, LONGEST_PATTERN, Micros, Signature, Spec};
 use std::alloc::Global;
 
