@@ -9,8 +9,8 @@ ghost use Rattle.ldm_intake.specs.Notes as note;
 ghost use Rattle.ldm_intake.specs.Products.{insert_note, reserve_note, commit_note};
 ghost use Rattle.ldm_intake.specs.Room.{HasNoteRoom};
 
-use ldm_model::{CommitReply, InsertReply, ReserveReply};
 use ldm_answers::{Answer, LONGEST_ANSWER, Text, put, text_into, write_answer};
+use ldm_model::{CommitReply, InsertReply, ReserveReply};
 use ldm_types::{Info, LONGEST_IDENT};
 
 /// The most bytes of a log line: a word, the spelling of an ident, and an answer line.

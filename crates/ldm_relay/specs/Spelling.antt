@@ -136,3 +136,7 @@ in_one content = record { before = []; last = content }
 -- its spelling: a header of four bytes, and the content
 abbrev pub record_of : List ℕ → List ℕ
 record_of content = record_spelling (in_one content)
+
+-- the records of messages, in order
+abbrev pub records_of : List Sent → List ℕ
+records_of messages = flat_map (λ m. record_of (written m)) messages

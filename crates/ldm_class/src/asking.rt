@@ -2,7 +2,7 @@
 ghost use Rattle.std.specs.Prelude.{◌≡◌};
 ghost use Rattle.std.specs.List.{list_all, zip};
 ghost use Rattle.std.specs.Option.{option_map};
-ghost use Rattle.ldm_intake.specs.Asking.{asked_class, same_class, same_spec, same_specs, resuming as resuming_spec};
+ghost use Rattle.ldm_class.specs.Asking.{asked_class, same_class, same_spec, same_specs, resuming as resuming_spec};
 
 use arrayvec::ArrayVec;
 use ldm_types::{ClassSpec, Feed, MOST_SPECS, Signature, Spec};
