@@ -4,7 +4,10 @@ use ldm_commands::World;
 use ldm_disk_memory::{MemDisk, MemSite};
 use ldm_drive::Trial;
 use ldm_drive_sessions::{tell_log, tell_sent};
-use ldm_outside_memory::{MemChild, MemClock, MemDial, MemDoor, MemLauncher, MemLink, MemSink, MemSource, MemStation, MemStore, StationsCall};
+use ldm_outside_memory::{
+    MemChild, MemClock, MemDial, MemDoor, MemLauncher, MemLink, MemSink, MemSource, MemStation,
+    MemStore, StationsCall,
+};
 
 /// A world in memory.
 pub type MemWorld = World<

@@ -6,11 +6,11 @@ ghost use Rattle.ldm_exercise.specs.OrderView.{event_of, IsShort};
 ghost use Rattle.ldm_exercise.specs.declared.order.TheConstants.{BODY_LIMIT, READ_SIZE};
 
 use crate::order::{BODY_LIMIT, Order, READ_SIZE, Request};
+use ldm_answers::Answer;
 use ldm_book::Book;
 use ldm_calls::{Caller, Unmade};
 use ldm_model::Start;
 use ldm_script::{Body, Call};
-use ldm_answers::Answer;
 use ldm_types::{CursorNo, Feed};
 
 /// Makes the call of an order, and answers what the queue does. A body that is inserted is made in `body_room`, and the

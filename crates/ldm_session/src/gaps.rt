@@ -7,8 +7,8 @@ ghost use Rattle.ldm_outside.specs.Io.{WritesAll};
 ghost use Rattle.ldm_session.specs.Gaps.{gap_line};
 ghost use Rattle.ldm_session.specs.declared.gaps.TheConstants.{LONGEST_NAME};
 
-use ldm_outside::{Sink, SinkFailed, write_all};
 use ldm_answers::{Text, put, put_number, text_into};
+use ldm_outside::{Sink, SinkFailed, write_all};
 
 /// The most bytes of the name of a host in a log line.
 pub const LONGEST_NAME: usize = 255;

@@ -7,8 +7,8 @@ ghost use Rattle.ldm_stats.specs.Report.{line_of};
 use crate::hour::hour_text;
 use crate::place::Place;
 use crate::total::Total;
-use ldm_feedtype::feed_text;
 use ldm_answers::{Text, put, put_number, text_into};
+use ldm_feedtype::feed_text;
 
 /// Writes `YYYYMMDDHH FEED ORIGIN COUNT BYTES LATENCY` and a newline.
 pub fn put_line(place: &Place, total: Total, line: &mut Text)

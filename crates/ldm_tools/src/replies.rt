@@ -6,9 +6,9 @@ ghost use Rattle.ldm_tools.specs.Replies.{HearsReply, IsStatReply};
 
 use crate::no_reply::{NoReply, no_reply};
 use crate::reader::LinkReader;
+use ldm_model::Stat;
 use ldm_outside::Link;
 use ldm_relay::{Message, Procedure, read_reply};
-use ldm_model::Stat;
 
 /// Hears the reply to the QSTAT of that number, which is the next record that the link gives.
 pub(crate) fn hear_stat<K: Link>(

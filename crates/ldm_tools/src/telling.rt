@@ -10,9 +10,9 @@ ghost use Rattle.ldm_tools.specs.Telling.{PutsProduct, putting_tells};
 
 use crate::put_fault::PutFault;
 use crate::puts::Puts;
+use ldm_answers::{Answer, Text, put, put_number, write_answer};
 use ldm_outside::{Link, Sink, SinkFailed, write_all};
 use ldm_relay::PutAnswer;
-use ldm_answers::{Answer, Text, put, put_number, write_answer};
 use ldm_types::Info;
 
 /// Puts a product into the queue of the peer, and writes the line of the answer, as a script has it. Answers whether
