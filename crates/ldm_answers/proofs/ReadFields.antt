@@ -2,18 +2,15 @@
 use Rattle.std.proofs.Common.{◌≡◌, ℕ, zero, suc, ◌+◌, ◌-◌, ◌*◌, ◌/◌, ◌%◌, ◌^◌, ◌<◌, ◌≤◌, Bool, true, false, cond, ◌||◌, List, [], ◌∷◌, ◌++◌, length, get_or, codes, decimal, Option, Some, None, Result, Ok, refl, sym, ap, subst, ◌∙◌, arith, inl, inr}
 use Rattle.std.proofs.lemmas.Bool.{false≢true, and_parts, cases_Bool, cases_eq, eqb-true, le-leb, lt-leb, cond-true, cond-false}
 use Rattle.std.proofs.lemmas.Fmt.{decimal_by_steps, decimal_digit, first_decimal, decimal_nonempty}
-use Rattle.std.proofs.lemmas.List.{append-nil}
 use Rattle.std.proofs.lemmas.Slice.Eq.{bytes_eq-Decides}
 use Rattle.std.specs.List.{flat_map, list_all, list_any}
 use Rattle.std.specs.Prelude.{◌==◌, ◌&&◌, not, nat_le, bytes_eq, is_some, unwrap_or}
-use Rattle.std.specs.Option.{option_map}
 use Rattle.std.specs.Result.{result_ok}
-use Rattle.hex.specs.Hex.{IsBytes, decode_sized, encode_lower, encode_upper, lower_digits, upper_digits}
-use Rattle.hex.proofs.HexLemmas.{length-encode_with, decode_of-encode_upper, decode_sized-twice, decode_sized-encode_lower}
+use Rattle.hex.specs.Hex.{IsBytes, decode_sized, encode_upper, upper_digits}
+use Rattle.hex.proofs.HexLemmas.{length-encode_with, decode_of-encode_upper, decode_sized-twice}
 use Rattle.hex.specs.declared.error.FromHexError.{FromHexError}
 use Rattle.ldm_answers.specs.Number.{is_digit, digits_from, up_to, number_up_to, number_below}
 use Rattle.ldm_answers.specs.Texts.{is_plain, spelled_byte, spelled, unspelled, with_byte, if_text, text_up_to}
-use Rattle.ldm_answers.specs.Texts.{body_text}
 use Rattle.ldm_answers.proofs.Unspelling.{escaped, unspelled-plain, if_text-is}
 use Rattle.ldm_answers.proofs.Numbers.{one_digit, number_below-next}
 

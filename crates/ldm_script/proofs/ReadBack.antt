@@ -1,27 +1,24 @@
 -- Fields that are read as what they were written for.
-use Rattle.std.proofs.Common.{◌≡◌, ℕ, zero, suc, ◌+◌, ◌-◌, ◌*◌, ◌/◌, ◌%◌, ◌^◌, ◌<◌, ◌≤◌, Bool, true, false, cond, ◌||◌, List, [], ◌∷◌, ◌++◌, length, get_or, codes, decimal, Option, Some, None, Result, Ok, refl, sym, ap, subst, ◌∙◌, arith, inl, inr}
-use Rattle.std.proofs.lemmas.Bool.{false≢true, and_parts, cases_Bool, cases_eq, eqb-true, le-leb, lt-leb, cond-true, cond-false}
-use Rattle.std.proofs.lemmas.Fmt.{decimal_by_steps, decimal_digit, first_decimal, decimal_nonempty}
+use Rattle.std.proofs.Common.{◌≡◌, ℕ, ◌*◌, ◌/◌, ◌<◌, List, [], ◌∷◌, length, codes, decimal, Some, None, Result, refl, sym, ap, ◌∙◌, arith}
+use Rattle.std.proofs.lemmas.Bool.{cond-false}
 use Rattle.std.proofs.lemmas.List.{append-nil}
-use Rattle.std.proofs.lemmas.Slice.Eq.{bytes_eq-Decides}
-use Rattle.std.specs.List.{flat_map, list_all, list_any}
-use Rattle.std.specs.Prelude.{◌==◌, ◌&&◌, not, nat_le, bytes_eq, is_some, unwrap_or}
+use Rattle.std.specs.List.{list_any}
+use Rattle.std.specs.Prelude.{◌==◌, bytes_eq}
 use Rattle.std.specs.Option.{option_map}
 use Rattle.std.specs.Result.{result_ok}
-use Rattle.hex.specs.Hex.{IsBytes, decode_sized, encode_lower, encode_upper, lower_digits, upper_digits}
-use Rattle.hex.proofs.HexLemmas.{length-encode_with, decode_of-encode_upper, decode_sized-twice, decode_sized-encode_lower}
+use Rattle.hex.specs.Hex.{IsBytes, encode_lower, lower_digits}
+use Rattle.hex.proofs.HexLemmas.{length-encode_with, decode_sized-encode_lower}
 use Rattle.hex.specs.declared.error.FromHexError.{FromHexError}
 use Rattle.ldm_feedtype.specs.Text.{feed_digits}
 use Rattle.ldm_feedtype.specs.Reading.{feed_number}
 use Rattle.ldm_signature.specs.HexSignature.{hex_signature}
-use Rattle.ldm_answers.specs.Number.{is_digit, digits_from, up_to, number_up_to, number_below}
-use Rattle.ldm_answers.specs.Texts.{is_plain, spelled_byte, spelled, unspelled, with_byte, if_text, text_up_to, body_text}
+use Rattle.ldm_answers.specs.Number.{number_up_to}
+use Rattle.ldm_answers.specs.Texts.{body_text}
 use Rattle.ldm_script.specs.Bodies.{body_of, digits_of}
 use Rattle.ldm_script.specs.Grammar.{place_or_last, signature_of, feed_of}
 use Rattle.ldm_script.proofs.Solid.{list_any-lacks, lacks-feed_digits, lacks_star-encode_lower}
 use Rattle.ldm_answers.proofs.ReadFields.{number_up_to-decimal, other_text}
 use Rattle.ldm_script.proofs.Bodies.{digits_body}
-use Rattle.ldm_answers.proofs.Numbers.{one_digit, number_below-next}
 
 -- ---- places of cursors and reservations
 

@@ -1,5 +1,5 @@
 -- The grammar of script lines.
-use Rattle.std.specs.Prelude.{ℕ, ◌+◌, ◌-◌, ◌^◌, ◌==◌, Bool, true, nat_lt, List, [], ◌∷◌, length, codes, bytes_eq, unwrap_or, Option, Some, None, option_map, Result, Ok, Err, if◌then◌else◌}
+use Rattle.std.specs.Prelude.{ℕ, ◌+◌, ◌-◌, ◌==◌, Bool, true, nat_lt, List, [], ◌∷◌, length, codes, bytes_eq, unwrap_or, Option, Some, None, option_map, Result, Ok, Err, if◌then◌else◌}
 use Rattle.std.specs.List.{list_any, find}
 use Rattle.md5.specs.Md5.{md5}
 use Rattle.ldm_types.specs.Info.{Metadata}
