@@ -1,5 +1,6 @@
 //! The outside of the program as traits, so that contracts can speak of what went in and out, and the forms of these
-//! traits that need no outside: the gate that never stops, the sink that takes all, the store without files.
+//! traits that need no outside: the gate that never stops, the sink that
+//! takes all.
 //!
 //! An object of the outside counts its faults. The count never falls, and a call answers `Failed` only where
 //! it rose. For contracts each object tells one record: its counts, and what it has left or took, which only the forms
@@ -15,7 +16,6 @@ mod io;
 mod launcher;
 mod link;
 mod net;
-mod no_files;
 mod open_gate;
 mod reason;
 mod reason_text;
@@ -32,7 +32,6 @@ pub use io::{Got, Put, Sink, SinkFailed, Source, write_all};
 pub use launcher::{ChildNo, Launcher};
 pub use link::{Awaited, Link, LinkFailed, Passed, Way, send_all};
 pub use net::{Manned, Net, Station};
-pub use no_files::NoFiles;
 pub use open_gate::OpenGate;
 pub use reason::{LONGEST_REASON, Reasons};
 pub use reason_text::Reason;

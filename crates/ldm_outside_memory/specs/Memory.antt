@@ -1,5 +1,5 @@
 -- What contracts see of the forms in memory, and what one call of theirs does.
-use Rattle.std.specs.Prelude.{◌≡◌, ℕ, ◌+◌, ◌-◌, ◌^◌, ◌==◌, Bool, true, false, List, [], ◌++◌, length, take, drop, min, max, Some, None}
+use Rattle.std.specs.Prelude.{◌≡◌, ℕ, ◌-◌, ◌^◌, ◌==◌, Bool, true, false, List, [], ◌++◌, length, take, drop, min, max, Some}
 use Rattle.std.specs.List.{list_any}
 use Rattle.ldm_outside.specs.declared.io.Got.{Got}
 use Rattle.ldm_outside.specs.declared.io.Got.TheVariants.{Bytes, End, Failed}

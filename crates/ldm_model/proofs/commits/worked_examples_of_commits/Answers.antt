@@ -1,4 +1,4 @@
-use Rattle.std.proofs.Common.{◌≡◌, ◌<◌, ℕ, inl, inr, refl, sym, ap, arith}
+use Rattle.std.proofs.Common.{◌<◌, inl, inr, refl, sym, ap, arith}
 use Rattle.std.specs.Prelude.{is_some, replicate}
 use Rattle.std.proofs.lemmas.Bool.{false≢true}
 use Rattle.ldm_model.specs.State.{State}
