@@ -1,105 +1,88 @@
 #!/usr/bin/env python3
-"""Looks at the links over TCP of ldm_adapters from addresses that the cases of drive_outside do not reach.
+"""Looks at the links over TCP of nodes and tools from more addresses than 127.0.0.1.
 
-The library cannot bind the calling end of a link, so a case there sees a peer at 127.0.0.1 alone, which is the address of the
-door too. Here a peer comes from 127.0.0.2, and where the machine has IPv6, one comes from ::1 and one is called there. The peers
-come to the listener that a net makes, so that one which listened on one family alone is told. A host of two addresses is called,
-of which one answers. A program that was stopped while it waits for bytes waits on. A net listens at once at a port where one before
-it ended its links first. The program that the gate has built of drive_outside answers the cases `tcp visit` and `tcp call`.
+A peer comes to a node from 127.0.0.2, and where the machine has IPv6, from ::1; a tool calls a node there, and a host of two addresses of
+which one answers. Programs that were stopped while they wait for bytes wait on. A node listens at once at a port where one before it ended
+its links first.
 
-Called as: addresses.py"""
+Called as: tests/addresses.py [PROGRAM [CASE ..]]. The program is that of tests/program.py, where none is named; with names of cases only
+these are tried."""
 
-import os
+import contextlib
 import pathlib
 import signal
 import socket
 import subprocess
 import sys
-import tempfile
-import time
 
-from peers import PATIENCE, hold_port, port_of
+import nodes
+from nodes import HOST, try_case, until
+from peers import PATIENCE, QSTAT, Peer, Stat, call, expect, hold_port, number, port_of, reply
+from program import leave_out
 
-PROGRAM = pathlib.Path(__file__).resolve().parent.parent / "crates/drive_outside/out/drive_outside"
+SECOND = "127.0.0.2"
+THIRD = "::1"
 
 # Runs a program that sees another list of hosts.
 WITH_HOSTS = ["unshare", "-rm", "sh", "-c", 'mount --bind "$0" /etc/hosts && exec "$@"']
 
-
-def start(case, before=()):
-    pipes = {"stdin": subprocess.PIPE, "stdout": subprocess.PIPE, "text": True}
-    program = subprocess.Popen([*before, PROGRAM], **pipes)
-    program.stdin.write(case + "\n")
-    program.stdin.close()
-    program.stdin = None
-    return program
+# What a peer answers to who asks for its figures.
+FIGURES = Stat(5, 4, 3, 200, 100)
 
 
-def answer_of(program):
-    try:
-        return program.communicate(timeout=PATIENCE)[0].rstrip("\n")
-    except subprocess.TimeoutExpired:
-        program.kill()
-        return "no answer"
+def allow(address):
+    """A line that lets that address ask for figures, and no other one."""
+    return f"ALLOW ANY ^{address.replace('.', '[.]')}$\n"
 
 
-def connect(program, target, port, source):
-    """A connection to the program from that address, as soon as it listens; None where it does not."""
-    last = time.monotonic() + PATIENCE
-    while program.poll() is None and time.monotonic() < last:
-        try:
-            return socket.create_connection((target, port), PATIENCE, source_address=(source, 0))
-        except ConnectionRefusedError:
-            time.sleep(0.05)
-    return None
+def connect(target, port, source):
+    """A peer from that address of this machine."""
+    connection = socket.create_connection((target, port), PATIENCE, source_address=(source, 0))
+    connection.settimeout(PATIENCE)
+    return Peer(connection)
 
 
-def no_delay(_program):
-    pass
+def tells_address(place, target, source):
+    """A node whose rules let that one address in knows a peer by it: in its log, and as it denies who comes from elsewhere."""
+    node = place.node(allow(source))
+    with connect(target, node.port, source) as peer:
+        expect(peer.stat() is None, False, f"whether a peer from {source} is denied")
+    node.until_logged(f"session {source} ended")
+    with connect(HOST, node.port, HOST) as peer:
+        expect(peer.stat(), None, f"what a peer from {HOST} is told where {source} is let in")
 
 
-def is_in_state(program, letter, sockets):
-    """Whether the program is in that state, as the system names it, with so many sockets open at least."""
-    folder = pathlib.Path(f"/proc/{program.pid}")
-    try:
-        state = (folder / "stat").read_text().rpartition(")")[2].split()[0]
-        links = [os.readlink(one) for one in (folder / "fd").iterdir()]
-    except OSError:
-        return False
-    return state == letter and sum(link.startswith("socket:") for link in links) >= sockets
+def hears_from_a_second_address(place):
+    tells_address(place, HOST, SECOND)
 
 
-def until_in_state(program, letter, sockets):
-    """Waits until the program is in that state, or ended."""
-    last = time.monotonic() + PATIENCE
-    while program.poll() is None and time.monotonic() < last and not is_in_state(program, letter, sockets):
-        time.sleep(0.01)
+def hears_from_ipv6(place):
+    if has_ipv6():
+        tells_address(place, THIRD, THIRD)
+    else:
+        leave_out("IPv6", "links over it")
+
+
+def is_in_state(program, letter):
+    """Whether the program is in that state, as the system names it."""
+    return pathlib.Path(f"/proc/{program.pid}/stat").read_text().rpartition(")")[2].split()[0] == letter
 
 
 def stop_and_go_on(program):
-    # with its listener and its link it sleeps only as it waits for bytes
-    for stop, letter in ((signal.SIGCONT, "S"), (signal.SIGSTOP, "T"), (signal.SIGCONT, "S")):
-        program.send_signal(stop)
-        until_in_state(program, letter, 2)
+    for order, letter in ((signal.SIGCONT, "S"), (signal.SIGSTOP, "T"), (signal.SIGCONT, "S")):
+        program.send_signal(order)
+        until(lambda: is_in_state(program, letter), f"a program in the state {letter}")
 
 
-def visit(target, source, port, delay=no_delay):
-    """What the program tells of a peer at that address, which sends once it was delayed."""
-    program = start(f"tcp visit {port}")
-    peer = connect(program, target, port, source)
-    if peer is None:
-        program.kill()
-        return answer_of(program)
-    with peer:
-        delay(program)
-        peer.sendall(b"hello")
-        return answer_of(program)
-
-
-def visit_anywhere(target, source, delay=no_delay):
-    """The same, at any port."""
-    with hold_port() as holder:
-        return visit(target, source, port_of(holder), delay)
+def waits_on_where_it_was_stopped(place):
+    """A node that waits for the calls of a peer, and a tool that waits for a reply, are stopped and go on."""
+    node = place.node(nodes.OPEN)
+    with node.connect() as peer:
+        before = peer.stat()
+        stop_and_go_on(node.program)
+        expect(peer.stat(), before, "what a node that was stopped answers")
+    with socket.create_server((HOST, 0)) as listener:
+        expect(called(place, HOST, listener, stop_and_go_on), HOST, "where a tool that was stopped calls from")
 
 
 def is_held(port):
@@ -112,75 +95,85 @@ def is_held(port):
             return True
 
 
-def restart():
-    """What two programs tell that listen at one port, one after the other. The first ends its link before the peer does, so
-    that the system holds the port; whether it does is told between the two."""
+def listens_where_one_was(place):
+    """Two nodes at one port, one after the other. The first ends its link before the peer does, so that the system holds the port."""
     with hold_port() as holder:
         port = port_of(holder)
-        first = visit("127.0.0.1", "127.0.0.1", port)
-    return first, is_held(port), visit("127.0.0.1", "127.0.0.1", port)
+        node = place.node(nodes.OPEN, port=port)
+        with node.connect() as peer:
+            peer.stat()
+            node.stop()
+            with contextlib.suppress(ConnectionResetError):
+                expect(peer.connection.recv(1), b"", "what comes of a node that was killed")
+    expect(is_held(port), True, "whether the system holds the port")
+    with place.node(nodes.OPEN, port=port).connect() as peer:
+        expect(peer.stat() is None, False, "whether a peer is denied")
 
 
-def call(host, at, family, before=()):
-    """What the program tells of a call of that host, with what came to one of its addresses and from where."""
-    # the port is held at the other addresses too, so that nobody answers there
-    with hold_port() as holder, socket.create_server((at, port_of(holder)), family=family) as listener:
-        listener.settimeout(PATIENCE)
-        program = start(f"tcp call {host} {port_of(holder)}", before)
-        try:
-            peer, address = listener.accept()
-        except TimeoutError:
-            return answer_of(program), b"", "nobody"
-        with peer:
-            peer.settimeout(PATIENCE)
-            return answer_of(program), peer.recv(8), address[0]
+def called(place, host, listener, delay=lambda program: None, before=()):
+    """From which address a tool calls that host, where the listener answers it."""
+    listener.settimeout(PATIENCE)
+    output = place.folder / "figures"
+    words = [*before, nodes.PROGRAM, "pqmon", "-q", f"{host}:{port_of(listener)}"]
+    with open(output, "wb") as file:
+        program = subprocess.Popen([*map(str, words)], stdin=subprocess.DEVNULL, stdout=file)
+    place.running.append(program)
+    connection, address = listener.accept()
+    with connection:
+        peer = Peer(connection)
+        expect(peer.next_record(), call(1, QSTAT)[4:], "what pqmon asks")
+        delay(program)
+        peer.send(reply(1, number(0) + b"".join(figure.to_bytes(8, "big") for figure in FIGURES)))
+        expect((program.wait(PATIENCE), output.read_text()), (0, FIGURES.line()), f"pqmon at {host}")
+    return address[0]
 
 
-def calls_of_two_addresses():
-    """Calls of a host of two addresses of which one answers, the one and then the other; None where a program cannot be shown
-    another list of hosts."""
-    with tempfile.NamedTemporaryFile("w") as hosts:
-        hosts.write("127.0.0.2 two-addresses\n127.0.0.1 two-addresses\n")
-        hosts.flush()
-        before = [*WITH_HOSTS, hosts.name]
-        try:
-            subprocess.run([*before, "true"], check=True, stderr=subprocess.DEVNULL)
-        except (OSError, subprocess.CalledProcessError):
-            return None
-        return [call("two-addresses", at, socket.AF_INET, before)[:2] for at in ("127.0.0.1", "127.0.0.2")]
+def calls_a_host_of_two_addresses(place):
+    """One of them answers, the one and then the other."""
+    hosts = place.folder / place.file("hosts", f"{SECOND} two-addresses\n{HOST} two-addresses\n")
+    before = [*WITH_HOSTS, hosts]
+    try:
+        subprocess.run([*before, "true"], check=True, stderr=subprocess.DEVNULL)
+    except (OSError, subprocess.CalledProcessError):
+        leave_out("another list of hosts for a program", "a host of two addresses")
+        return
+    for at in (HOST, SECOND):
+        # the port is held at the other addresses too, so that nobody answers there
+        with hold_port() as holder, socket.create_server((at, port_of(holder))) as listener:
+            called(place, "two-addresses", listener, before=before)
+
+
+def calls_ipv6(place):
+    if has_ipv6():
+        with socket.create_server((THIRD, 0), family=socket.AF_INET6) as listener:
+            expect(called(place, THIRD, listener), THIRD, "where pqmon calls from")
+    # (what is left out without it was said)
 
 
 def has_ipv6():
     try:
         with socket.socket(socket.AF_INET6) as listener:
-            listener.bind(("::1", 0))
+            listener.bind((THIRD, 0))
             return True
     except OSError:
         return False
 
 
+CASES = [
+    hears_from_a_second_address,
+    hears_from_ipv6,
+    waits_on_where_it_was_stopped,
+    listens_where_one_was,
+    calls_a_host_of_two_addresses,
+    calls_ipv6,
+]
+
+
 def main():
-    tried = [
-        ("a peer from 127.0.0.2", visit_anywhere("127.0.0.1", "127.0.0.2"), "127.0.0.2 5"),
-        ("a program that was stopped", visit_anywhere("127.0.0.1", "127.0.0.1", stop_and_go_on), "127.0.0.1 5"),
-        ("a port that was just used", restart(), ("127.0.0.1 5", True, "127.0.0.1 5")),
-    ]
-    calls = calls_of_two_addresses()
-    if calls is None:
-        print("no other list of hosts for a program: a host of two addresses is not tried", file=sys.stderr)
-    else:
-        tried.append(("calls of two addresses", calls, [("5", b"hello")] * 2))
-    if has_ipv6():
-        tried += [
-            ("a peer from ::1", visit_anywhere("::1", "::1"), "::1 5"),
-            ("a call of ::1", call("::1", "::1", socket.AF_INET6), ("5", b"hello", "::1")),
-        ]
-    else:
-        print("no IPv6 on this machine: links over it are not tried", file=sys.stderr)
-    wrong = [(what, found, wanted) for what, found, wanted in tried if found != wanted]
-    for what, found, wanted in wrong:
-        print(f"{what}: {found!r} in place of {wanted!r}", file=sys.stderr)
-    sys.exit(bool(wrong))
+    if sys.argv[1:]:
+        nodes.PROGRAM = pathlib.Path(sys.argv[1]).resolve()
+    cases = [case for case in CASES if not sys.argv[2:] or case.__name__ in sys.argv[2:]]
+    sys.exit(not all([try_case(case) for case in cases]))
 
 
 main()

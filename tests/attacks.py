@@ -6,7 +6,7 @@ A node has four workers, as by default. A stranger comes from an address that is
 apart: the script makes a network of its own, with addresses of its own, where the system lets it (`unshare`), and else takes the address
 that this machine has. Each attack has a node of its own, and all are made side by side. Of each the end is told, and how long it took.
 
-Called as: tests/attacks.py [PROGRAM [CASE ..]]. The program is crates/ldm/out/ldm, where none is named; with names of cases only these
+Called as: tests/attacks.py [PROGRAM [CASE ..]]. The program is that of tests/program.py, where none is named; with names of cases only these
 are tried.
 """
 
@@ -33,6 +33,7 @@ from peers import (
     QSTAT, TOO_BIG,
     Peer, Product, Wrong, call, expect, number, product_class, reply,
 )  # fmt: skip
+from program import leave_out
 
 # The addresses of a network of the script's own.
 STRANGER, OTHER = "10.99.0.2", "10.99.0.3"
@@ -89,7 +90,8 @@ def find_addresses():
         enter_network()
         STRANGER, OTHER = own_address(), HOST
         if STRANGER is None:
-            sys.exit("attacks: this machine has no address for a stranger")
+            leave_out("an address for a stranger, or a network of one's own", "attacks")
+            sys.exit()
         return
     del os.environ[IN_OWN_NETWORK]
     make_network()

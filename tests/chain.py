@@ -14,7 +14,7 @@ import subprocess
 import sys
 import tempfile
 
-from exercise import PROGRAM
+from program import PROGRAM
 
 PATTERNS = [".*", ".*", "^a", "b", "c$", "^(ab|c)", "^[^b]*$"]
 ANY = 2**32 - 1

@@ -4,7 +4,7 @@
 The program runs in a network of its own, where it has addresses besides those of the loopback. What a node has to do comes from
 crates/ldm_adapters/README.md.
 
-Called as: tests/doors.py [PROGRAM [CASE ..]]. The program is crates/ldm/out/ldm, where none is named; with names of cases only these
+Called as: tests/doors.py [PROGRAM [CASE ..]]. The program is that of tests/program.py, where none is named; with names of cases only these
 are tried.
 """
 
@@ -22,8 +22,7 @@ import threading
 import time
 
 from peers import QSTAT, Peer, Wrong, call, expect
-
-PROGRAM = pathlib.Path(__file__).resolve().parent.parent / "crates/ldm/out/ldm"
+from program import PROGRAM, leave_out
 
 PORT = 38_800
 NODE = "198.51.100.1"
@@ -59,6 +58,11 @@ def make_addresses():
 
 
 def go_into_own_network():
+    try:
+        subprocess.run(["unshare", "-rn", "true"], check=True, stderr=subprocess.DEVNULL)
+    except (OSError, subprocess.CalledProcessError):
+        leave_out("a network of one's own", "doors")
+        sys.exit()
     os.environ[IN_OWN_NETWORK] = "1"
     os.execvp("unshare", ["unshare", "-rn", sys.executable, *sys.argv])
 

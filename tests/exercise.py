@@ -6,15 +6,10 @@ Called as: tests/exercise.py. The script is drawn as crates/ldm_exercise/specs/O
 """
 
 import hashlib
-import os
 import subprocess
 import sys
 
-TOP = os.path.dirname(os.path.dirname(os.path.abspath(__file__)))
-# the program that the gate has just built, else the one that ./ldm becomes
-PROGRAM = os.path.join(TOP, "crates/ldm/out/ldm")
-if not os.access(PROGRAM, os.X_OK):
-    PROGRAM = os.path.join(TOP, "ldm")
+from program import PROGRAM
 
 RUNS = [(7, 0), (7, 1000), (2**64 - 1, 1000), (1, 20000)]
 

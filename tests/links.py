@@ -4,8 +4,8 @@
 The limits are those of the table of times in docs/node.md. Cases that wait for one run side by side, so that all take about as long as
 the longest, 120 seconds. Each program that was started is ended at the end.
 
-Called as: tests/links.py [PROGRAM [DRIVE [CASE ..]]]. PROGRAM is crates/ldm/out/ldm, and DRIVE, which answers the case of the clock,
-crates/drive_outside/out/drive_outside, where they are not named; with names of cases only these are tried."""
+Called as: tests/links.py [PROGRAM [CASE ..]]. The program is that of tests/program.py, where none is named; with names of cases only these
+are tried."""
 
 import concurrent.futures
 import contextlib
@@ -23,10 +23,9 @@ from peers import (
     ADMITTED, ANY, BLOCK, DDS, FEEDME, HEREIS, IS_ALIVE, NOTIFYME, OK, PUT, QSTAT,
     Peer, Product, Upstream, Wrong, call, expect, hold_port, number, port_of, product_class, reply,
 )  # fmt: skip
+from program import PROGRAM, leave_out
 
 HERE = pathlib.Path(__file__).resolve().parent
-PROGRAM = HERE.parent / "crates/ldm/out/ldm"
-DRIVE = HERE.parent / "crates/drive_outside/out/drive_outside"
 
 HOST = "127.0.0.1"
 OPEN = "ALLOW ANY .*\nACCEPT ANY .* .*\n"
@@ -72,7 +71,7 @@ class Place:
                     streams[name] = stack.enter_context(open(path, "wb"))
             line = ["sh", "-c", f'exec "$@" {shell}', "sh", program or PROGRAM, *map(str, words)]
             started = subprocess.Popen(line, cwd=self.folder, **streams)
-        started.log_file = log
+        started.log_file, started.output_file = log, self.folder / f"output.{self.count}"
         self.running.append(started)
         return started
 
@@ -359,16 +358,23 @@ def needs_its_streams(place):
 
 
 def goes_on_where_the_clock_is_set_back(place):
-    """An idle call takes its time by the clock of the program, though that of the system was set back meanwhile."""
+    """`pqmon -i` asks again when its second has passed, also where the clock of the system was set back by an hour meanwhile."""
     compiler = shutil.which("cc")
     if not compiler:
-        print("links.py: no cc, so the clock is not set back", file=sys.stderr)
+        leave_out("cc", "a clock that is set back")
         return
     library = place.folder / "set_back.so"
     subprocess.run([compiler, "-O1", "-shared", "-fPIC", "-o", library, HERE / "set_back.c", "-ldl"], check=True)
+    node = place.node(OPEN)
     for more in ({}, {"LD_PRELOAD": str(library)}):
-        ran = subprocess.run([DRIVE], input=b"time\n", stdout=subprocess.PIPE, env=os.environ | more, timeout=30)
-        expect(ran.stdout, b"on stop now slept\n", f"the clock with {more}")
+        began = time.monotonic()
+        program = place.start("pqmon", "-i", 1, "-q", node.at, env=os.environ | more)
+        while program.output_file.read_text().count("stat ") < 4:
+            if time.monotonic() - began > 30 or program.poll() is not None:
+                raise Wrong(f"pqmon -i 1 with {more} writes {program.output_file.read_text()!r} in {time.monotonic() - began:.0f} seconds")
+            time.sleep(0.02)
+        if time.monotonic() - began < 3:
+            raise Wrong(f"pqmon -i 1 with {more} writes four lines in {time.monotonic() - began:.1f} seconds")
 
 
 def waits_for_no_fifo(place):
@@ -438,12 +444,10 @@ def try_case(case):
 
 
 def main():
-    global PROGRAM, DRIVE
+    global PROGRAM
     if sys.argv[1:]:
         PROGRAM = pathlib.Path(sys.argv[1]).resolve()
-    if sys.argv[2:]:
-        DRIVE = pathlib.Path(sys.argv[2]).resolve()
-    cases = [case for case in CASES if not sys.argv[3:] or case.__name__ in sys.argv[3:]]
+    cases = [case for case in CASES if not sys.argv[2:] or case.__name__ in sys.argv[2:]]
     with concurrent.futures.ThreadPoolExecutor(len(cases) or 1) as threads:
         passed = list(threads.map(try_case, cases))
     sys.exit(not all(passed))

@@ -4,7 +4,7 @@
 What each has to answer, write and log comes from the rules of docs/, and from the plain peers of tests/peers.py, never from the
 program. Each step has a limit of time. All programs that were started are ended at the end, and the folder in which they ran is removed.
 
-Called as: tests/nodes.py [PROGRAM [CASE ..]]. The program is crates/ldm/out/ldm, where none is named; with names of cases only these
+Called as: tests/nodes.py [PROGRAM [CASE ..]]. The program is that of tests/program.py, where none is named; with names of cases only these
 are tried.
 """
 
@@ -29,8 +29,7 @@ from peers import (
     NOTIFYME, OK, OTHER_VERSION, PATIENCE, PUT, QSTAT, RECLASS, TOO_BIG,
     Peer, Product, Stat, Upstream, Wrong, call, expect, hold_port, number, port_of, product_class, read_product, record, reply, string,
 )  # fmt: skip
-
-PROGRAM = pathlib.Path(__file__).resolve().parent.parent / "crates/ldm/out/ldm"
+from program import PROGRAM
 
 HOST = "127.0.0.1"
 ARENA = 67_108_864

@@ -11,7 +11,7 @@ import subprocess
 import sys
 import tempfile
 
-from exercise import PROGRAM
+from program import PROGRAM
 
 ACTORS = 4
 SIZES = [(64, 1), (168, 10), (1_120, 4), (4_096, 64), (65_536, 300)]

@@ -16,13 +16,13 @@ import termios
 import time
 import typing
 
-from exercise import PROGRAM as BUILT
 from peers import (
     ADMITTED, DUPLICATE, LOCKED, NOT_ACCEPTED, PATIENCE, PUT, TIME_END, TOO_BIG,
     Wrong, call, expect, instant, number, record,
 )  # fmt: skip
+from program import PROGRAM as TRIED
 
-PROGRAM = pathlib.Path(sys.argv[1]).resolve() if sys.argv[1:] else BUILT
+PROGRAM = pathlib.Path(sys.argv[1]).resolve() if sys.argv[1:] else TRIED
 
 HOST = "127.0.0.1"
 LONG = 2**64 - 1

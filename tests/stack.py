@@ -6,7 +6,7 @@ No proof bounds how much stack a program takes. A machine gives eight megabytes 
 enough. What commands then answer is compared by cases of tests/nodes.py. A program whose stack does not suffice is
 ended by a signal, which no case expects.
 
-Called as: tests/stack.py [PROGRAM]. The program is crates/ldm/out/ldm, where none is named.
+Called as: tests/stack.py [PROGRAM]. The program is that of tests/program.py, where none is named.
 """
 
 import contextlib
