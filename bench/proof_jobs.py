@@ -14,7 +14,7 @@ TICKS = os.sysconf("SC_CLK_TCK")
 PROOF, TESTS, SECOND, EDIT, PROGRAM, RUN, CHECKS = KINDS = (
     "proofs of crates",
     "proofs of their tests",
-    "second proofs, with which the edits begin",
+    "second proofs that edits begin with",
     "edits that must fail",
     "compiling and linking programs",
     "running programs and tests",

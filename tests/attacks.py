@@ -33,7 +33,7 @@ from peers import (
     QSTAT, TOO_BIG,
     Peer, Product, Wrong, call, expect, number, product_class, reply,
 )  # fmt: skip
-from program import leave_out
+from program import LEFT_OUT, leave_out
 
 # The addresses of a network of the script's own.
 STRANGER, OTHER = "10.99.0.2", "10.99.0.3"
@@ -90,8 +90,8 @@ def find_addresses():
         enter_network()
         STRANGER, OTHER = own_address(), HOST
         if STRANGER is None:
-            leave_out("an address for a stranger, or a network of one's own", "attacks")
-            sys.exit()
+            leave_out("an address for a stranger", "attacks")
+            sys.exit(LEFT_OUT)
         return
     del os.environ[IN_OWN_NETWORK]
     make_network()

@@ -22,7 +22,7 @@ import threading
 import time
 
 from peers import QSTAT, Peer, Wrong, call, expect
-from program import PROGRAM, leave_out
+from program import LEFT_OUT, PROGRAM, leave_out
 
 PORT = 38_800
 NODE = "198.51.100.1"
@@ -61,8 +61,8 @@ def go_into_own_network():
     try:
         subprocess.run(["unshare", "-rn", "true"], check=True, stderr=subprocess.DEVNULL)
     except (OSError, subprocess.CalledProcessError):
-        leave_out("a network of one's own", "doors")
-        sys.exit()
+        leave_out("a network of its own", "the doors of a node")
+        sys.exit(LEFT_OUT)
     os.environ[IN_OWN_NETWORK] = "1"
     os.execvp("unshare", ["unshare", "-rn", sys.executable, *sys.argv])
 

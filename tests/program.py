@@ -9,8 +9,12 @@ TOP = pathlib.Path(__file__).resolve().parent.parent
 PROGRAM = TOP / ("crates/ldm/out/ldm" if os.environ.get("LDM_BUILD") == "1" else "release/ldm")
 
 
+# The status of a check of which nothing was tried.
+LEFT_OUT = 77
+
+
 def leave_out(tool, what):
-    """Says that a part of a check is not tried on this machine, and for want of what. tests/all gathers these lines."""
+    """Says that a check, or a part of it, is not tried on this machine, and for want of what. tests/all gathers these lines."""
     print(f"left out without {tool}: {what}", flush=True)
 
 
