@@ -8,16 +8,18 @@ that crate then begins. Programs and tests run in folders whose names begin with
 import contextlib
 import dataclasses
 import os
+import re
 
 TICKS = os.sysconf("SC_CLK_TCK")
 
-PROOF, TESTS, SECOND, EDIT, PROGRAM, RUN, CHECKS = KINDS = (
+PROOF, TESTS, SECOND, EDIT, PROGRAM, RUN, SCRIPT, CHECKS = KINDS = (
     "proofs of crates",
     "proofs of their tests",
     "second proofs that edits begin with",
     "edits that must fail",
     "compiling and linking programs",
     "running programs and tests",
+    "edits that a script of tests/ tries",
     "tests/all",
 )
 COMPILERS = ("rattle-link", "clang", "ld.lld", "lld", "llvm-nm")
@@ -36,6 +38,9 @@ class Job:
 
 def job_of(command, folder):
     """The job that a process of this command line in this folder begins, if it begins one."""
+    for word in command[:3]:
+        if re.search(r"(^|/)tests/(all|edits\w*(/\w+)?)$", word):
+            return Job(CHECKS if word.endswith("/all") else SCRIPT, None)
     name = os.path.basename(command[0])
     if name == "rattle" and command[1:2] in (["build"], ["check"]) and "--crate-name" in command:
         crate = command[command.index("--crate-name") + 1]
@@ -47,8 +52,6 @@ def job_of(command, folder):
         return Job(RUN, None)
     if name in COMPILERS:
         return Job(PROGRAM, os.path.basename(folder))
-    if any(word == "tests/all" or word.endswith("/tests/all") for word in command):
-        return Job(CHECKS, None)
     return None
 
 

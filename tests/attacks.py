@@ -6,8 +6,8 @@ A node has four workers, as by default. A stranger comes from an address that is
 apart: the script makes a network of its own, with addresses of its own, where the system lets it (`unshare`), and else takes the address
 that this machine has. Each attack has a node of its own, and all are made side by side. Of each the end is told, and how long it took.
 
-Called as: tests/attacks.py [PROGRAM [CASE ..]]. The program is that of tests/program.py, where none is named; with names of cases only these
-are tried.
+Called as: tests/attacks.py [PROGRAM [CASE ..]]. The program is that of tests/program.py, where none is named; with names of cases only
+these are tried.
 """
 
 import concurrent.futures

@@ -4,8 +4,8 @@
 The program runs in a network of its own, where it has addresses besides those of the loopback. What a node has to do comes from
 crates/ldm_adapters/README.md.
 
-Called as: tests/doors.py [PROGRAM [CASE ..]]. The program is that of tests/program.py, where none is named; with names of cases only these
-are tried.
+Called as: tests/doors.py [PROGRAM [CASE ..]]. The program is that of tests/program.py, where none is named; with names of cases only
+these are tried.
 """
 
 import contextlib

@@ -4,8 +4,8 @@
 What each has to answer, write and log comes from the rules of docs/, and from the plain peers of tests/peers.py, never from the
 program. Each step has a limit of time. All programs that were started are ended at the end, and the folder in which they ran is removed.
 
-Called as: tests/nodes.py [PROGRAM [CASE ..]]. The program is that of tests/program.py, where none is named; with names of cases only these
-are tried.
+Called as: tests/nodes.py [PROGRAM [CASE ..]]. The program is that of tests/program.py, where none is named; with names of cases only
+these are tried.
 """
 
 import collections

@@ -2,7 +2,8 @@
 """Makes mistakes that new users make, with real files, programs and ports, and compares what the program says of each: the line that
 names the word, the file or the host, and then the line of its status.
 
-Called as: tests/reasons.py [PROGRAM]. The program is that of tests/program.py, where none is named. The lines are those of docs/commands.md.
+Called as: tests/reasons.py [PROGRAM]. The program is that of tests/program.py, where none is named. The lines are those of
+docs/commands.md.
 """
 
 import fcntl
