@@ -1,18 +1,17 @@
 #!/usr/bin/env python3
-"""Works out what crates/drive_tables answers to the cases of images, from the format of images and from the model of a crash alone.
+"""Works out what a driver answers to the cases of images, from the format of images and from the model of a crash alone.
 
-The cases are the lines of crates/drive_tables/stdin that begin with `image`. Called with no word it compares the answers with those of
-crates/drive_tables/stdout, and ends with 1 where they differ; called with `--print` it prints them. It stands on nothing of the project: images are read and written
+The cases are the lines of the driver's stdin that begin with `image`. Called with no word it compares the answers with those of its stdout,
+and ends with 1 where they differ; called with `--print` it prints them. It stands on nothing of the project: images are read and written
 here by their table, saving is a list of calls, and a crash leaves the old length and other bytes wherever something was written.
 
 Called as: tests/image.py [--print]
 """
 
-import pathlib
 import struct
 import sys
 
-CASES = pathlib.Path(__file__).resolve().parent.parent / "crates/drive_tables"
+from cases import driver_of
 
 MAGIC, VERSION, CLEAN = b"LDMQ", 1, 1
 GATE, HEAD, ROW = 5, 48, 24
@@ -324,13 +323,14 @@ def answer(line):
 
 
 def main():
-    lines = (CASES / "stdin").read_text().splitlines()
+    folder = driver_of("image")
+    lines = (folder / "stdin").read_text().splitlines()
     cases = [(at, line.removeprefix("image ")) for at, line in enumerate(lines) if line.startswith("image ")]
     told = [(at, answer(case)) for at, case in cases]
     if sys.argv[1:] == ["--print"]:
         print("\n".join(text for _, text in told))
         return 0
-    given = (CASES / "stdout").read_text().splitlines()
+    given = (folder / "stdout").read_text().splitlines()
     differing = [at + 1 for at, text in told if given[at] != text]
     if not told or len(lines) != len(given) or differing:
         print(f"differs at lines {differing[:10]} of {len(lines)}, of which {len(told)} are cases of images")

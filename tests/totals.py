@@ -1,5 +1,5 @@
 #!/usr/bin/env python3
-"""Answers the cases of hourly totals of `drive_values` by a plain program, and compares them with its `stdout`.
+"""Answers the cases of hourly totals of a driver by a plain program, and compares them with its `stdout`.
 
 A table of the plain program keeps all products that it was ever given, and how often each; its report is made of those that lie within the
 window, line by line.
@@ -10,15 +10,16 @@ Called as: tests/totals.py [--write]. With --write the answers are written to `s
 import collections
 import datetime
 import hashlib
-import pathlib
 import sys
 import typing
+
+from cases import driver_of
 
 HOUR = 3_600_000_000
 MOST_HOURS = 8_760
 MOST_PRODUCTS = 2**31
 LONGEST_TOLD = 4_000
-FOLDER = pathlib.Path(__file__).resolve().parent.parent / "crates/drive_values"
+FOLDER = driver_of("split")
 
 
 class Product(typing.NamedTuple):
@@ -157,7 +158,7 @@ def main():
     cases = (FOLDER / "stdin").read_text().splitlines()
     found = (FOLDER / "stdout").read_text().splitlines()
     if len(found) != len(cases):
-        sys.exit(f"stdout of drive_values has {len(found)} lines for {len(cases)} of stdin")
+        sys.exit(f"stdout of {FOLDER.name} has {len(found)} lines for {len(cases)} of stdin")
     asked = [at for at, line in enumerate(cases) if is_asked(line)]
     if sys.argv[1:] == ["--write"]:
         for at in asked:
@@ -167,7 +168,7 @@ def main():
     for at in asked:
         wanted = answer(cases[at])
         if wanted != found[at]:
-            sys.exit(f"to {cases[at][:300]!r} the answer is {wanted[:500]!r}, and stdout of drive_values has {found[at][:500]!r}")
+            sys.exit(f"to {cases[at][:300]!r} the answer is {wanted[:500]!r}, and stdout of {FOLDER.name} has {found[at][:500]!r}")
     if not asked:
         sys.exit("no case of hourly totals is there")
     print(f"{len(asked)} cases of hourly totals have the answers of a plain program")
