@@ -135,4 +135,4 @@ def log_lines(told):
     for line, (count, last) in sorted(told.log.journal.items()):
         yield f"journal   {line}, {count_text(count)} lines" + (f", last {age_text(told.now - last)} ago" if last else "")
     if not told.log.journal:
-        yield "journal   no fault"
+        yield "journal   no fault in the log"
