@@ -1,5 +1,6 @@
 """The REQUEST lines of an ldmd.conf, also of those that it includes."""
 
+import contextlib
 import typing
 
 from ldm_from_ldm6 import words
@@ -28,14 +29,17 @@ class Request(typing.NamedTuple):
 
 
 def read(path):
-    """The REQUEST lines of a file and of those that it includes, whose paths go from this folder. Lines that mean nothing are passed over:
-    `ldm check` tells them. Raises OSError."""
-    return list(_read(path, 0, [path]))
+    """The REQUEST lines of a file and of those that it includes, whose paths go from this folder. What means nothing, or is included and
+    cannot be read, is passed over: `ldm check` tells that. Raises OSError."""
+    return list(_read(_lines(path), 0, [path]))
 
 
-def _read(path, depth, files):
+def _lines(path):
     with open(path, encoding="utf-8", errors="replace") as file:
-        lines = file.read().split("\n")
+        return file.read().split("\n")
+
+
+def _read(lines, depth, files):
     for line in lines:
         try:
             found = [word.text for word in words.split(line.rstrip("\r"), BLANKS, True)[0]]
@@ -44,7 +48,8 @@ def _read(path, depth, files):
         name = found[0].upper() if found else ""
         if name == "INCLUDE" and len(found) == 2 and depth < DEEPEST and len(files) < MOST_FILES:
             files.append(found[1])
-            yield from _read(found[1], depth + 1, files)
+            with contextlib.suppress(OSError):
+                yield from _read(_lines(found[1]), depth + 1, files)
         elif name == "REQUEST" and len(found) >= 4:
             request = _request(found)
             if request:

@@ -180,8 +180,8 @@ def age_card(window, totals, series):
     return card(
         "age",
         title,
-        "How old the products of the hour were at most when pqstats received them. Of a report over what is queued it is about "
-        "their age at that report, and not the time that they took to come.",
+        "How old the products of the hour were at most when they were counted. Of a report over what is queued it is about their age "
+        "at that report, and not the time that they took to come.",
         age_plot(window, series, title, "oldest of an hour"),
         table(["feed", "greatest", "last whole hour"], rows, f"{title}: the greatest"),
         more("each hour", table(["hour, UTC", *series.names], hours, f"{title}: each hour")),
@@ -397,7 +397,7 @@ def losses_plot(title, rows):
     for row, (name, host) in enumerate(rows):
         y = TOP + band * row
         plot.text(EDGE + 4, y + 14, shortened(name, 48))
-        bar = tag("rect", x=EDGE, y=y + 19, width=max(1.0, right(host.lost) - EDGE), height=14, class_="f1")
+        bar = tag("rect", x=EDGE, y=y + 19, width=max(1.0, right(host.lost) - EDGE), height=14, class_="lost")
         plot.put("g", tag("title", f"{name}: {count_text(host.lost)} products"), bar)
         plot.text(right(host.lost) + 6, y + 31, short_count(host.lost))
     plot.rule((EDGE, TOP), (EDGE, plot.foot), "axis")

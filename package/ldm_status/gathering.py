@@ -112,16 +112,15 @@ def age_text(seconds):
 
 
 def read_log(path, unit):
-    """What a log tells, of the last day where its lines have times."""
+    """What a log tells, of the last day where its lines have times. None where this user may not read the journal."""
     now = int(time.time())
     log = reading.Log(now)
     window = reading.Window(now, HOURS)
     if path:
         reading.read_log(reading.Reading(path, reading.LOG), window, log)
         return log
-    lines = system.run(
-        ["journalctl", "-q", "-o", "short-unix", f"--since=-{HOURS}h", f"_SYSTEMD_UNIT={unit}", "+", f"MESSAGE_ID={DROPPED}"]
-    )
+    words = ["journalctl", "-q", "-o", "short-unix", f"--since=-{HOURS}h", f"_SYSTEMD_UNIT={unit}", "+", f"MESSAGE_ID={DROPPED}"]
+    lines = system.run(words) if system.reads_journal() else None
     if lines is None:
         return None
     with tempfile.NamedTemporaryFile("w") as file:

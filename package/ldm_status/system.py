@@ -112,6 +112,12 @@ def unit_began(unit):
     return int(found[1]) if found and "ActiveState=active" in output else None
 
 
+def reads_journal():
+    """Whether this user may read the journal of the system: to who may not, journalctl shows nothing, and says nothing of that."""
+    files = [file for folder in ("/var/log/journal", "/run/log/journal") for file in pathlib.Path(folder).glob("*/system.journal")]
+    return any(os.access(file, os.R_OK) for file in files)
+
+
 def run(words):
     """What a command writes, or None."""
     try:

@@ -128,7 +128,7 @@ def hosts(told):
 
 def log_lines(told):
     if told.log is None:
-        yield "log       none: name one by -l or -u"
+        yield "log       none that this user may read; -l names a file, -u a unit"
         return
     lost = ", ".join(f"{count_text(count)} {what}" for what, count in told.log.losses.items())
     yield f"lost      {lost or 'nothing'} {when(told.log)}"
