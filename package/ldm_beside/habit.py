@@ -4,8 +4,8 @@ import heapq
 
 MICRO = 10**6
 
-# A feed is late where nothing came for longer than so many times its usual gap, and never sooner than a minute. The usual gap is the longest
-# but one, so that one outage does not become a habit; of fewer gaps than three nobody knows what is usual.
+# A feed is late where nothing came for longer than so many times its usual gap, and never sooner than a minute. The usual gap is the
+# longest but one, so that one outage does not become a habit; of fewer gaps than three nobody knows what is usual.
 TIMES = 2
 LEAST = 60
 FEWEST = 3

@@ -23,7 +23,7 @@ HATCH = Markup(
 
 
 class Found:
-    """What was read: the totals of reports, the samples, what logs come to, the files themselves, and the REQUEST lines of a configuration."""
+    """What was read: the totals of reports, samples, what logs come to, the files themselves, and the REQUEST lines of a configuration."""
 
     def __init__(self, totals, samples, log, readings, asked):
         self.totals = totals

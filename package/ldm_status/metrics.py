@@ -40,10 +40,10 @@ def families(told):
             ({}, int(any(line.startswith("journal") for line in told.log.journal)))
         ]
         hosts = list(told.log.hosts.items())[:MOST_HOSTS]
-        yield "ldm_host_lost_last_day", "Products evicted before the host was sent them.", [({"host": name}, host.lost) for name, host in hosts]
-        yield "ldm_host_last_line_timestamp_seconds", "When a session of the host ended last, or a try failed.", [
-            ({"host": name, "end": host.last.replace(" ", "_")}, host.when) for name, host in hosts if host.when
-        ]
+        lost = [({"host": name}, host.lost) for name, host in hosts]
+        yield "ldm_host_lost_last_day", "Products evicted before the host was sent them.", lost
+        ends = [({"host": name}, host.when) for name, host in hosts if host.when]
+        yield "ldm_host_last_line_timestamp_seconds", "When a session of the host ended last, or a try failed.", ends
 
 
 def habits(name, whose, rows, now):
