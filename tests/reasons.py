@@ -11,6 +11,7 @@ import os
 import pathlib
 import socket
 import sys
+import time
 
 import nodes
 from nodes import FULL, HOST, MANY, OPEN, free_port, try_case
@@ -52,6 +53,15 @@ CONF = {
     "no pipe": "IDS\t^SAUS\tPIPE\tno-such-program\n",
     "no program": "IDS\t^SAUS\tEXEC\t./no-right\n",
     "no reader": "IDS\t^big\tPIPE\ttrue\n",
+    "cidr.conf": f"{OPEN}ALLOW ANY 10.1.0.0/16\n",
+    "star.conf": f"{OPEN}ALLOW ANY *\n",
+    "order.conf": f"{OPEN}ACCEPT ANY ^10[.]1[.] .*\n",
+    "far.conf": f"{OPEN}REQUEST ANY .* host:99999\n",
+    "brackets.conf": f"{OPEN}REQUEST ANY .* [::1]:388\n",
+    "spaces": "IDS ^S FILE data\n",
+    "some spaces": "IDS\t^S\tFILE    -close  data\n",
+    "words": "no bulletin is here\n",
+    "heading": "SAUS44 KWBC 010000\r\r\nMETAR KDCA=\r\r\n",
     "every.conf": f"{OPEN}ALOW ANY .*\nALLOW IDS ^.*[.]edu$\nINCLUDE some.conf\nINCLUDE gone.conf\nREQUEST ANY ( host:388\n",
     "some.conf": "ALLOW ANY .*\nEXEC\n",
     "every": "\tFILE\tdata\nIDS\t^S\tFILE\n\tdata/(\\1:dd)\nHDS\t^(.*)\tPIPE\t-flush\n\tdecoder \\1\nHDS\t^(.*)\tFILE\tdata/\\1\nANY\t_ELSE_\tNOP\n",
@@ -249,6 +259,61 @@ def hosts_and_ports(place):
         expect(ran, (69, b"", "a line about no-such-host.invalid:388"), "a name that is none")
 
 
+def sizes(place):
+    """Sizes that no queue has, and too many workers: the status alone says so, and names no option."""
+    at = ["node", "-p", free_port()]
+    cases = [
+        ([*at, "-a", 1001, "good"], "arena 1001"),
+        ([*at, "-a", 2**31, "good"], f"arena {2**31}"),
+        ([*at, "-S", 0, "good"], "slots 0"),
+        # a pass for each worker and one more
+        ([*at, "-w", 100, "good"], "passes 101"),
+        (["pqcat", "-a", 1001, "-q", f"{HOST}:1"], "arena 1001"),
+    ]
+    for words, what in cases:
+        expect(place.run(*words), (67, b"", lines(None, f"refused {what}")), f"{words}")
+    # no worker: nobody is served, and it ends at once
+    expect(place.run(*at, "-w", 0, "good"), (0, b"stat 0 0 0 0 67108864\n", b""), "a node without workers")
+
+
+def rules(place):
+    """Lines that are read, and mean something else than what was wanted: `check` is silent of some."""
+    few = "too few fields, too many, or one of a wrong form"
+    cases = [
+        (["cidr.conf"], 0, ""),
+        (["order.conf"], 0, ""),
+        (["brackets.conf"], 0, ""),
+        (["star.conf"], 65, "star.conf:3: a pattern that does not read: ALLOW ANY *\n"),
+        (["far.conf"], 65, "far.conf:3: too few words, too many, or one of a wrong form: REQUEST ANY .* host:99999\n"),
+        (["-p", "spaces"], 65, f"spaces:1: {few}: IDS ^S FILE data\n"),
+        (["-p", "some spaces"], 65, "some spaces:1: no such action: IDS?^S?FILE    -close  data\n"),
+    ]
+    for words, status, said in cases:
+        expect(place.run("check", *words), (status, said.encode(), b""), f"check {words}")
+    expect(place.run("pqmon", "-q", "[::1]:388").status, 69, "a host in brackets")
+
+
+def no_right(place):
+    """A node with no rule for this host, and one whose worker is taken: a tool is told no more than `denied`, or waits."""
+    strict = place.node("ALLOW ANY ^9$\n")
+    for words in (["pqmon"], ["pqcat"], ["notifyme"], ["pqstats"], ["pqinsert", "good"]):
+        expect(place.run(words[0], "-q", strict.at, *words[1:]), (78, b"", b"ldm: denied\n"), f"{words} of a node without a rule for it")
+    busy = place.node(OPEN, "-w", 1)
+    with busy.connect() as peer:
+        peer.stat()
+        waiting = place.start("pqmon", "-q", busy.at)
+        time.sleep(1)
+        expect(waiting.poll(), None, "the end of a tool while the worker is taken")
+    expect(place.end(waiting)[::2], (0, b""), "its end behind that")
+
+
+def no_bulletin(place):
+    """Streams in which `wmo` finds no bulletin: nothing says so."""
+    node = place.node(OPEN)
+    for name in ("words", "heading"):
+        expect(place.run("wmo", "-q", node.at, source=name), (0, b"", b""), f"wmo of {name}")
+
+
 def lines(why, status):
     """The line that says why, if one does, and that of the status."""
     return (f"ldm: {why}\n" if why else "").encode() + f"ldm: {status}\n".encode()
@@ -268,7 +333,9 @@ def with_files(case):
 def main():
     if sys.argv[1:]:
         nodes.PROGRAM = pathlib.Path(sys.argv[1]).resolve()
-    cases = [usage, configurations, every_fault, files_and_programs, actions, images, hosts_and_ports]
+    cases = [
+        usage, configurations, every_fault, files_and_programs, actions, images, hosts_and_ports, sizes, rules, no_right, no_bulletin,
+    ]  # fmt: skip
     sys.exit(not all([try_case(with_files(case)) for case in cases]))
 
 

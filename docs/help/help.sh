@@ -25,6 +25,25 @@ answer_help() {
     fi
 }
 
+# Runs a program that lies beside ldm in place of the script, where the first word names it: `ldm status` is ldm-status. None of these words
+# is a command of the program.
+#
+# Called as: run_beside FOLDER ARGUMENT ..
+run_beside() {
+    help_beside=$1
+    shift
+    case ${1-} in
+    status | page | from-ldm6)
+        help_name=$1
+        shift
+        # it asks nodes by this script
+        LDM_COMMAND=${LDM_COMMAND:-$(readlink -f "$0")}
+        export LDM_COMMAND
+        exec "$help_beside/ldm-$help_name" "$@"
+        ;;
+    esac
+}
+
 # Runs a program with these arguments in place of the script. Where it runs in front on a terminal, a line there says how far a long one is,
 # and where it ends with 64, a line behind its own says which help there is.
 run_program() {
@@ -121,14 +140,16 @@ show_hint() {
         help_name=$1
     else
         help_name=$(find_nearest "$1")
+        printf 'there is no command %s%s\n' "$1" "${help_name:+; did you mean $help_name?}" | tr -c '[:print:]\n' '?' >&2
     fi
     printf 'see ldm help%s\n' "${help_name:+ $help_name}" >&2
 }
 
-# The command whose name takes the fewest letters put in, left out or replaced, where that are at most two.
+# The command whose name takes the fewest letters put in, left out or replaced, where that are at most two. Those of the program come first.
 find_nearest() {
-    for help_text in "$help_folder"/*.txt; do
-        basename "$help_text" .txt
+    for help_text in "$help_folder"/[!l]*.txt "$help_folder"/l*.txt; do
+        help_name=$(basename "$help_text" .txt)
+        printf '%s\n' "${help_name#ldm-}"
     done | HELP_WORD=$1 awk '
         function least(a, b) { return a < b ? a : b }
         function distance(from, to, i, j, row, left, corner, above) {
@@ -151,11 +172,14 @@ find_nearest() {
         END { print nearest }'
 }
 
+# Whether there is a text of that command, which help_text names then. Programs beside ldm have texts too: that of status is ldm-status.
 has_help() {
     case $1 in
     '' | */*) return 1 ;;
     esac
-    [ -f "$help_folder/$1.txt" ]
+    help_text=$help_folder/$1.txt
+    [ -f "$help_text" ] || help_text=$help_folder/ldm-$1.txt
+    [ -f "$help_text" ]
 }
 
 show_help() {
@@ -163,7 +187,7 @@ show_help() {
         printf 'ldm: no help on %s; "ldm help" lists the commands\n' "$1" >&2
         exit 64
     fi
-    cat "$help_folder/$1.txt"
+    cat "$help_text"
     exit
 }
 

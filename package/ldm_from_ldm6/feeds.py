@@ -2,39 +2,12 @@
 
 import re
 
+from ldm_beside.feeds import NAMES, VALUES
+
 from .notes import LeftOut
 
-# The names that are read here, besides FT0 to FT31.
-KNOWN = set("NONE PPS DDS DOMESTIC DDPLUS HDS HRS IDS INTNL WMO SPARE UNIWISC MCIDAS UNIDATA EXP ANY".split())
-KNOWN.update(f"FT{bit}" for bit in range(32))
-
-# The names of LDM 6 by their bit.
-NAMES = {
-    6: "PCWS ACARS",
-    7: "FSL2 PROFILER",
-    8: "FSL3",
-    9: "FSL4",
-    10: "FSL5",
-    11: "GPSSRC",
-    12: "CONDUIT NCEPH NMC2",
-    13: "FNEXRAD NMC3",
-    14: "LIGHTNING NLDN",
-    15: "WSI",
-    16: "DIFAX",
-    17: "FAA604",
-    18: "GPS",
-    19: "FNMOC",
-    20: "GEM CMC",
-    21: "NIMAGE",
-    22: "NTEXT",
-    23: "NGRID",
-    24: "NPOINT NBUFR",
-    25: "NGRAPH",
-    26: "NOTHER",
-    27: "NEXRAD3 NNEXRAD NEXRAD",
-    28: "NEXRAD2 NEXRD2 CRAFT",
-    29: "NXRDSRC",
-}
+# The names that are read here.
+KNOWN = set(VALUES)
 HERE = {name: f"FT{bit}" for bit, names in NAMES.items() for name in names.split()}
 # the products of NOAAPort but for radar and images
 HERE["NPORT"] = "(FT22|FT23|FT24|FT25|FT26)"

@@ -1,13 +1,14 @@
-"""The parts of a page, each a plot with its table: totals of hours, ages at reports, the queue, sessions and losses."""
+"""The parts of a page, most of them a plot with its table: totals of hours, ages, the queue, sessions and losses."""
 
 import collections
 import math
+import statistics
 
 from .drawing import (
     CROSS, LEFT, RIGHT, TOP, Plot, area, bytes_text, card, count_text, hour_text, marker, more, named, short_count,
-    shortened, steps, table, tag, time_text,
+    shortened, steps, table, tag, time_text, utc,
 )  # fmt: skip
-from .reading import BROKEN, DAY, DECLINED, ENDS, HOUR, OTHERS, UNREACHED, WELL, Host, depths
+from .reading import BROKEN, DAY, DECLINED, ENDS, HOUR, MICRO, OTHERS, UNREACHED, WELL, Host, depths, longest_pause
 
 # How many feeds or origins, and how many hosts, a plot tells apart; how many hosts a table does.
 SERIES = 6
@@ -50,8 +51,16 @@ class Series:
 # Totals of hours
 
 
-def stacked(window, values, title, caption, words):
-    """Bars of hours, in which the series stand on each other in the order of the table."""
+def gaps(window, values):
+    """The hours of each series without a product, between hours of which most had one, up to the last whole hour."""
+    for at in range(len(values[window.last])):
+        had = [hour for hour in window.hours if values[hour][at]]
+        if had and 2 * len(had) > window.last - had[0]:
+            yield from ((at, hour) for hour in range(had[0], window.last + 1) if not values[hour][at])
+
+
+def stacked(window, values, title, caption, words, names=None):
+    """Bars of hours, in which the series stand on each other in the order of the table; with names, hours in which one is missing."""
     plot = Plot(title)
     marks = steps(max(map(sum, values.values())))
     high = plot.linear(marks[-1])
@@ -70,11 +79,17 @@ def stacked(window, values, title, caption, words):
                 below += value
         if below:
             plot.put("g", *said)
+    missing = collections.Counter()
+    for at, hour in gaps(window, values) if names else ():
+        place = plot.at(window, (hour + 0.5) * HOUR), TOP + 4 + 9 * missing[hour]
+        plot.put("g", tag("title", f"{names[at]}: none in {hour_text(hour)}"), marker(at, *place, CROSS), class_="gap")
+        missing[hour] += 1
     plot.hours(window)
     return plot.done()
 
 
 def totals_card(window, series, field, name, title, caption, words, kind):
+    marked = kind == "feed"
     values = series.values(field)
     rows = []
     for at, each in enumerate(series.names):
@@ -85,8 +100,8 @@ def totals_card(window, series, field, name, title, caption, words, kind):
     return card(
         name,
         title,
-        None,
-        stacked(window, values, title, caption, short_count if words is count_text else words),
+        "A cross: an hour in which a feed is missing that most hours have." if marked and any(gaps(window, values)) else None,
+        stacked(window, values, title, caption, short_count if words is count_text else words, series.names if marked else None),
         table([kind, "all hours", "greatest hour", "last whole hour"], rows, f"{title}: the sums"),
         more("each hour", table(["hour, UTC", *series.names], hours, f"{title}: each hour")),
     )
@@ -120,7 +135,7 @@ def age_marks(values):
     return marks[first : max(last, first + 1) + 1]
 
 
-def age_plot(window, series, title):
+def age_plot(window, series, title, caption):
     """A line with marks for each series, on a logarithmic scale."""
     plot = Plot(title)
     had = [[(hour, row[at][2]) for hour, row in series.at.items() if row[at][0]] for at in range(len(series.names))]
@@ -132,7 +147,7 @@ def age_plot(window, series, title):
         return plot.linear(1)(min(part, 1))
 
     apart = math.ceil(len(window.hours) / 40)
-    plot.caption("oldest of an hour, logarithmic")
+    plot.caption(f"{caption}, logarithmic")
     plot.heights(marks[:: 1 if len(marks) < 8 else 2], high, ROUND.get)
     for at, values in reversed(list(enumerate(had))):
         places = [(plot.at(window, (hour + 0.5) * HOUR), high(value)) for hour, value in values]
@@ -165,11 +180,36 @@ def age_card(window, totals, series):
     return card(
         "age",
         title,
-        "How old the products of the hour were at most when pqstats received them. Of a report over what is queued it is about "
-        "their age at that report, and not the time that they took to come.",
-        age_plot(window, series, title),
+        "How old the products of the hour were at most when they were counted. Of a report over what is queued it is about their age "
+        "at that report, and not the time that they took to come.",
+        age_plot(window, series, title, "oldest of an hour"),
         table(["feed", "greatest", "last whole hour"], rows, f"{title}: the greatest"),
         more("each hour", table(["hour, UTC", *series.names], hours, f"{title}: each hour")),
+    )
+
+
+def latency_card(window, latencies):
+    """How long products took that came while the node was asked."""
+    title = "Latency by origin"
+    found = collections.defaultdict(list)
+    for origin, samples in latencies.items():
+        for when, seconds in samples:
+            if when // HOUR in window.hours:
+                found[when // HOUR, 0, origin].append(seconds)
+    if not found:
+        return card("latency", title, "No sample of these hours has a product that came while the node was asked.")
+    totals = {key: (len(values), 0, statistics.median(values) * MICRO) for key, values in found.items()}
+    series = Series(window, totals, lambda key: key[2], lambda origin: shortened(origin, 60))
+    rows = []
+    for at, name in enumerate(series.names):
+        last, greatest = series.at[window.hours[-1]][at], max(row[at][2] for row in series.at.values())
+        rows.append([named(at, name), time_text(greatest / 1e6), time_text(last[2] / 1e6) if last[0] else "none came"])
+    return card(
+        "latency",
+        title,
+        "From a product's own arrival, which its origin set, until its notice came here, of products that came while the node was asked.",
+        age_plot(window, series, title, "median of an hour"),
+        table(["origin", "greatest", "this hour"], rows, f"{title}: the medians"),
     )
 
 
@@ -199,12 +239,6 @@ def thinned(window, found):
     return list(kept.values())
 
 
-def longest_pause(found):
-    """Samples that are farther apart are not joined: three times what is usual."""
-    apart = sorted(after.sample.time - before.sample.time for before, after in zip(found, found[1:]))
-    return 3 * apart[len(apart) // 2] if apart else 0
-
-
 def depth_marks(greatest):
     """The marks of the scale, with the seconds and the name of their unit."""
     for unit, name, sizes in ((1, "s", (1, 2, 3)), (60, "min", (1, 2, 3)), (HOUR, "h", (1, 2, 3, 6))):
@@ -222,7 +256,8 @@ def depth_plot(window, title, found):
     plot.caption("age of the oldest product in the queue")
     plot.heights(marks, high, lambda mark: f"{mark // unit} {name}")
     points = thinned(window, found)
-    pause = longest_pause(points)
+    # samples that are farther apart are not joined
+    pause = longest_pause([depth.sample.time for depth in points])
     for before, after in zip(points, points[1:]):
         if None not in (before.seconds, after.seconds) and after.sample.time - before.sample.time <= pause:
             a, b = ((plot.at(window, each.sample.time), high(each.seconds)) for each in (before, after))
@@ -261,9 +296,9 @@ def depth_hours(window, found):
             yield [hour_text(hour), depth_text(least_of(known)) if known else "no answer", *figures, silent]
 
 
-def depth_card(window, samples):
+def depth_card(window, figures):
     title = "How far back the queue goes"
-    found = [depth for depth in depths(samples) if depth.sample.time >= window.start]
+    found = [depth for depth in depths(figures) if depth.sample.time >= window.start]
     if not found:
         return card("queue", title, "No sample is of these hours.")
     known = [depth for depth in found if depth.seconds is not None]
@@ -296,8 +331,13 @@ def depth_card(window, samples):
 
 # Hosts
 
-# What is told of sessions, with the series whose colour and shape it has.
-SIGNS = {WELL: 0, BROKEN: 1, DECLINED: 2, UNREACHED: 3}
+# What is told of sessions.
+KINDS = [WELL, BROKEN, DECLINED, UNREACHED]
+
+
+def last_text(host):
+    """How the last session of a host ended, and when."""
+    return (host.last or "") + (utc(host.when, " %H:%M") if host.when else "")
 
 
 def ranked(hosts, size_of, most):
@@ -317,36 +357,6 @@ def ranked(hosts, size_of, most):
 EDGE = 14
 
 
-def sessions_plot(title, rows):
-    """A band for each host, with a mark where each of its counts stands on a logarithmic scale."""
-    band = 48
-    plot = Plot(title, TOP + band * len(rows) + 30)
-    plot.foot = TOP + band * len(rows)
-    greatest = max(count for _, host in rows for count in host.counts().values())
-    powers = range(max(1, len(str(greatest - 1))) + 1)
-
-    def right(count):
-        return EDGE + (RIGHT - EDGE) * math.log10(count) / powers[-1]
-
-    plot.caption("sessions or tries, logarithmic")
-    for power in powers[:: 1 if len(powers) < 8 else 2]:
-        x = right(10**power)
-        plot.rule((x, TOP), (x, plot.foot))
-        anchor = "start" if power == 0 else "end" if power == powers[-1] else "middle"
-        plot.text(x, plot.foot + 16, short_count(10**power), anchor)
-    for row, (name, host) in enumerate(rows):
-        y = TOP + band * row
-        plot.rule((EDGE, y), (RIGHT, y))
-        plot.text(EDGE + 4, y + 14, shortened(name, 48))
-        for lane, (kind, at) in enumerate(SIGNS.items()):
-            count = host.counts()[kind]
-            if count:
-                said = tag("title", f"{name}: {count_text(count)} {kind}")
-                plot.put("g", said, marker(at, right(count), y + 21 + 7 * lane))
-    plot.rule((EDGE, plot.foot), (RIGHT, plot.foot), "axis")
-    return plot.done()
-
-
 def sessions_card(log, when):
     title = "Sessions by host"
     if log is None:
@@ -358,16 +368,15 @@ def sessions_card(log, when):
     listed = ranked(log.hosts, size, HOSTS_LISTED)
     if not listed:
         return card("sessions", title, f"The log has no session {when}.")
-    rows = [[name, *(count_text(host.counts()[kind]) for kind in SIGNS)] for name, host in listed]
+    rows = [[name, *(count_text(host.counts()[kind]) for kind in KINDS)] for name, host in listed]
     ends = [end for kind in ENDS for end in ENDS[kind] if any(host.ends[end] for host in log.hosts.values())]
-    each = [[name, *(count_text(host.ends[end]) for end in ends)] for name, host in listed]
+    each = [[name, *(count_text(host.ends[end]) for end in ends), last_text(host)] for name, host in listed]
     return card(
         "sessions",
         title,
         f"What the log has {when}. A session that goes on has no line yet.",
-        sessions_plot(title, ranked(log.hosts, size, HOSTS_SHOWN)),
-        table(["host", *(named(at, kind) for kind, at in SIGNS.items())], rows, f"{title}: how they ended"),
-        more("each end", table(["host", *ends], each, f"{title}: each end")),
+        table(["host", *KINDS], rows, f"{title}: how they ended"),
+        more("each end, and the last line", table(["host", *ends, "last"], each, f"{title}: each end")),
     )
 
 
@@ -388,7 +397,7 @@ def losses_plot(title, rows):
     for row, (name, host) in enumerate(rows):
         y = TOP + band * row
         plot.text(EDGE + 4, y + 14, shortened(name, 48))
-        bar = tag("rect", x=EDGE, y=y + 19, width=max(1.0, right(host.lost) - EDGE), height=14, class_="f1")
+        bar = tag("rect", x=EDGE, y=y + 19, width=max(1.0, right(host.lost) - EDGE), height=14, class_="lost")
         plot.put("g", tag("title", f"{name}: {count_text(host.lost)} products"), bar)
         plot.text(right(host.lost) + 6, y + 31, short_count(host.lost))
     plot.rule((EDGE, TOP), (EDGE, plot.foot), "axis")
@@ -412,6 +421,9 @@ def losses_card(log, when):
         parts.append(table(["host", "products", "lines"], rows, f"{title}: the sums"))
     else:
         note = f"The log has no lost product {when}."
+    if log.journal:
+        rows = [[line, count_text(count), utc(when) if when else ""] for line, (count, when) in sorted(log.journal.items())]
+        parts.append(table(["the node's journal", "lines", "last"], rows, "What the log says of the node's journal"))
     if log.not_taken:
         rows = [[words, count_text(count)] for words, count in sorted(log.not_taken.items())]
         shown = table(["what the log says", "lines"], rows, "Products that were not taken or not acted on")

@@ -6,16 +6,8 @@ import math
 
 from .reading import DAY, HOUR
 
-FEEDS = {0: "NONE", 3: "DDPLUS", 15: "WMO", 47: "UNIDATA", 2**32 - 1: "ANY"}
-FEEDS.update({2**bit: f"FT{bit}" for bit in range(32)})
-FEEDS.update({1: "PPS", 2: "DDS", 4: "HDS", 8: "IDS", 16: "SPARE", 32: "UNIWISC", 2**30: "EXP"})
-
 # The unit of a length of time, its seconds, and where the next one begins.
 UNITS_OF_TIME = (("µs", 1e-6, 1e-3), ("ms", 1e-3, 0.9995), ("s", 1, 119.5), ("min", 60, 7170), ("h", HOUR, 2 * DAY))
-
-
-def feed_name(feed):
-    return FEEDS.get(feed, f"0x{feed:08x}")
 
 
 def rounded(number):

@@ -2,8 +2,11 @@
 
 import pathlib
 
-from .cards import Series, age_card, depth_card, depth_text, losses_card, sessions_card, totals_cards
-from .drawing import Markup, bytes_text, count_text, feed_name, shortened, tag, together, utc
+from ldm_beside.feeds import feed_name
+
+from . import states
+from .cards import Series, age_card, depth_card, depth_text, latency_card, losses_card, sessions_card, totals_cards
+from .drawing import Markup, bytes_text, count_text, shortened, tag, together, utc
 from .reading import BROKEN, HOUR, LOG, depths
 
 THIS_MACHINE = ("127.0.0.1", "::1")
@@ -20,13 +23,14 @@ HATCH = Markup(
 
 
 class Found:
-    """What was read: the totals of reports, the samples, what logs come to, and the files themselves."""
+    """What was read: the totals of reports, samples, what logs come to, the files themselves, and the REQUEST lines of a configuration."""
 
-    def __init__(self, totals, samples, log, readings):
+    def __init__(self, totals, samples, log, readings, asked):
         self.totals = totals
         self.samples = samples
         self.log = log
         self.readings = readings
+        self.asked = asked
 
     def has_log(self):
         return any(reading.kind == LOG for reading in self.readings)
@@ -47,7 +51,7 @@ def key_figures(window, found):
         count, size = sum(figures[0] for figures in of_last), sum(figures[1] for figures in of_last)
         products = f"{count_text(count)} products from {utc(window.last * HOUR, '%H:%M')} on"
         yield "the last whole hour", bytes_text(size), products
-    for depth in list(depths(found.samples))[-1:]:
+    for depth in list(depths(found.samples.figures))[-1:]:
         at = utc(depth.sample.time)
         if depth.seconds is None:
             yield "the node", "no answer", at
@@ -70,7 +74,8 @@ def cards(window, found):
     yield from totals_cards(window, found.totals, by_feed, "feed")
     yield from totals_cards(window, found.totals, by_origin, "origin")
     yield age_card(window, found.totals, by_feed)
-    yield depth_card(window, found.samples)
+    yield latency_card(window, found.samples.latencies)
+    yield depth_card(window, found.samples.figures)
     log = found.log if found.has_log() else None
     yield sessions_card(log, found.when())
     yield losses_card(log, found.when())
@@ -93,8 +98,8 @@ def foot(readings):
     return tag("footer", "Read: ", tag("ul", *items), "Hours are in UTC. Made by ldm-page.")
 
 
-def page(window, name, found):
-    """The page, as a text."""
+def page(window, name, found, links, seconds):
+    """The page, as a text: with links to other pages, each a name and an address; it reloads itself after so many seconds, or never."""
     hours = len(window.hours)
     title = f"{name}: {f'{hours} hours' if hours > 1 else 'an hour'} of a relay"
     style = pathlib.Path(__file__).with_name("page.css").read_text()
@@ -102,6 +107,7 @@ def page(window, name, found):
         "head",
         tag("meta", charset="utf-8"),
         tag("meta", http_equiv="Content-Security-Policy", content=POLICY),
+        tag("meta", http_equiv="refresh", content=seconds) if seconds else "",
         tag("meta", name="viewport", content="width=device-width, initial-scale=1"),
         tag("title", title),
         tag("style", Markup(style)),
@@ -113,7 +119,9 @@ def page(window, name, found):
     body = tag(
         "body",
         HATCH,
+        states.line(window, found.samples, found.log if found.has_log() else None, found.asked),
         tag("h1", title),
+        tag("nav", together(*(tag("a", other, href=address) for other, address in links))) if links else "",
         tag("p", f"{utc(window.start)} to {utc(window.now)}, UTC", class_="note"),
         tag("dl", *figures) if figures else "",
         tag("main", together("\n".join(cards(window, found)))),
