@@ -1,7 +1,7 @@
 //! How the streams of a run behave.
 
 use ldm_drive::{Trial, copied, numbers_in};
-use ldm_outside::{MemSink, MemSource};
+use ldm_outside_memory::{MemSink, MemSource};
 use ldm_status::Streams;
 use std::alloc::Global;
 

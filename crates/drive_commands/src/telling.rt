@@ -2,7 +2,7 @@
 
 use crate::scene::Ran;
 use ldm_commands::World;
-use ldm_disk::{MemDisk, MemSite};
+use ldm_disk_memory::{MemDisk, MemSite};
 use ldm_drive::{Trial, tell_spelled};
 use ldm_drive_sessions::{tell_log, tell_sent};
 use ldm_outside_memory::{

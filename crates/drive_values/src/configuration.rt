@@ -9,7 +9,7 @@ mod texts;
 
 use ldm_class::{Class, Policy};
 use ldm_drive::Trial;
-use ldm_outside::MemFile;
+use ldm_outside_memory::MemFile;
 use std::alloc::Global;
 
 /// What earlier lines left.

@@ -1,7 +1,8 @@
 //! What a session left, as words of an answer.
 
 use ldm_drive::{Trial, push, tell_spelled};
-use ldm_outside::{MemLink, Way};
+use ldm_outside::Way;
+use ldm_outside_memory::MemLink;
 use ldm_relay::ClassAnswer;
 
 /// Adds all bytes that a link was sent.

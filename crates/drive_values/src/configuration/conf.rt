@@ -4,7 +4,7 @@ use crate::configuration::Kept;
 use crate::configuration::classes::tell_class;
 use ldm_conf::{Command, Conf, ConfFault, Request, read_conf};
 use ldm_drive::{Trial, numbers, push, tell_fault, text_or_bytes};
-use ldm_outside::{MemFile, MemStore};
+use ldm_outside_memory::{MemFile, MemStore};
 use std::alloc::Global;
 
 /// Sets what the next texts find: a file, the numbers of the store's calls that fail, or neither.

@@ -3,7 +3,8 @@
 use crate::images::answers::{Answer, Opened, Row, open_file, save};
 use crate::images::files::{file_of, queue_of};
 use ldm_book::Book;
-use ldm_disk::{Disk, MemDisk};
+use ldm_disk::Disk;
+use ldm_disk_memory::MemDisk;
 use ldm_drive::{Trial, copied, push};
 use ldm_image::SaveEnd;
 
