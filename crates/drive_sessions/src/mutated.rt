@@ -224,7 +224,7 @@ impl Seen {
             _ => &mut self.others,
         };
         *count = count.saturating_add(1);
-        let mut digested = copied(trial, &self.digest.0);
+        let mut digested = copied(trial, self.digest.0.as_slice());
         extend(trial, &mut digested, answer.as_bytes());
         self.digest = sign(&digested);
     }
