@@ -2,7 +2,7 @@
 
 use arrayvec::ArrayVec;
 use ldm_drive::{Trial, copied, numbers, push, text_copied};
-use ldm_drive_sessions::Case;
+use ldm_drive_sessions::{Case, link_script};
 use ldm_outside_memory::{LinkScript, MemFile, MemPeer, StationScript};
 use ldm_types::Micros;
 
@@ -34,26 +34,11 @@ pub fn files_of(trial: &mut Trial, pages: &[Page]) -> Vec<MemFile> {
     files
 }
 
-// What a link does.
-fn script_of(trial: &mut Trial, case: &Case) -> LinkScript {
-    let mut pieces = Vec::new(trial.alloc());
-    for piece in &case.pieces {
-        push(trial, &mut pieces, *piece as usize);
-    }
-    LinkScript {
-        bytes: copied(trial, &case.given),
-        pieces,
-        has_end: !case.is_open,
-        most_sent: case.sends as usize,
-        failing: copied(trial, &case.link_fails),
-    }
-}
-
 /// What each link does.
 pub fn scripts_of(trial: &mut Trial, cases: &[Case]) -> Vec<LinkScript> {
     let mut scripts = Vec::new(trial.alloc());
     for case in cases {
-        let script = script_of(trial, case);
+        let script = link_script(trial, case);
         push(trial, &mut scripts, script);
     }
     scripts
@@ -63,7 +48,7 @@ pub fn scripts_of(trial: &mut Trial, cases: &[Case]) -> Vec<LinkScript> {
 fn peers_of(trial: &mut Trial, cases: &[Case]) -> Vec<MemPeer> {
     let mut peers = Vec::new(trial.alloc());
     for case in cases {
-        let script = script_of(trial, case);
+        let script = link_script(trial, case);
         match ArrayVec::try_from(case.host.as_slice()) {
             Ok(host) => push(trial, &mut peers, MemPeer { host, script }),
             Err(_) => trial.refuse("a host is too long"),
@@ -107,23 +92,27 @@ pub fn instants_in(trial: &mut Trial) -> Vec<Micros> {
     instants
 }
 
-/// The words of a command line, which are all that is left of the case: text with a blank between two, in which `''` is
-/// the empty one.
-pub fn words_in(trial: &mut Trial) -> Vec<String> {
-    let mut words = Vec::new(trial.alloc());
-    let line = trial.rest();
+/// Adds the words of a command line: text with a blank between two, in which `''` is the empty one.
+pub fn add_words(trial: &mut Trial, words: &mut Vec<String>, line: &str) {
     if line.is_empty() {
-        return words;
+        return;
     }
     for word in line.split(' ') {
         let text = trial.text_in(if word == "''" { "" } else { word });
         match str::from_utf8(&text) {
             Ok(text) => {
                 let text = text_copied(trial, text);
-                push(trial, &mut words, text);
+                push(trial, words, text);
             }
             Err(_) => trial.refuse("a word is no text"),
         }
     }
+}
+
+/// The words of a command line, which are all that is left of the case.
+pub fn words_in(trial: &mut Trial) -> Vec<String> {
+    let mut words = Vec::new(trial.alloc());
+    let line = trial.rest();
+    add_words(trial, &mut words, line);
     words
 }

@@ -1,25 +1,22 @@
 //! The world of the runs, which grows from case to case.
 ghost use Rattle.std.specs.Prelude.{◌≡◌, false};
 
-use crate::parts::{Page, Place, files_of, instants_in, scripts_of, stations_of, words_in};
-use crate::telling::{MemWorld, tell_run};
+use crate::parts::{Page, Place, files_of, instants_in, scripts_of, stations_of};
+use crate::streams::Plans;
+use crate::telling::MemWorld;
 use ldm_commands::{World, run_ldm};
 use ldm_disk_memory::{DeskScript, MemDisk, MemSite};
-use ldm_drive::{Trial, copied, numbers, push, text_copied};
+use ldm_drive::{Trial, copied, extend, numbers, push, text_copied};
 use ldm_drive_sessions::Case;
-use ldm_outside_memory::{MemClock, MemDial, MemLauncher, MemNet, MemSink, MemSource, MemStore};
-use ldm_status::Streams;
+use ldm_outside_memory::{MemClock, MemDial, MemLauncher, MemNet, MemStore};
 use ldm_types::Micros;
 use std::alloc::Global;
 use std::sync::Wait;
 use std::thread::Threads;
 
-// The numbers of the calls that fail, of each part of the world.
+// The numbers of the calls that fail, of the parts of the world that are no streams.
 #[derive(Drop)]
 struct Failing {
-    source: Vec<u64>,
-    sink: Vec<u64>,
-    log: Vec<u64>,
     store: Vec<u64>,
     launcher: Vec<u64>,
     net: Vec<u64>,
@@ -37,9 +34,17 @@ pub struct Scene {
     statuses: Vec<u32>,
     // What the source gives.
     script: Vec<u8>,
+    streams: Plans,
     // The file of the disk.
     disk: Vec<u8>,
     failing: Failing,
+}
+
+/// What a run left.
+#[derive(Drop)]
+pub struct Ran {
+    pub status: u8,
+    pub world: MemWorld,
 }
 
 impl Scene {
@@ -52,11 +57,9 @@ impl Scene {
             instants: Vec::new(alloc),
             statuses: Vec::new(alloc),
             script: Vec::new(alloc),
+            streams: Plans::new(alloc),
             disk: Vec::new(alloc),
             failing: Failing {
-                source: Vec::new(alloc),
-                sink: Vec::new(alloc),
-                log: Vec::new(alloc),
                 store: Vec::new(alloc),
                 launcher: Vec::new(alloc),
                 net: Vec::new(alloc),
@@ -148,9 +151,9 @@ impl Scene {
         let part = trial.word();
         let calls = numbers(trial);
         match part {
-            "source" => self.failing.source = calls,
-            "sink" => self.failing.sink = calls,
-            "log" => self.failing.log = calls,
+            "source" => self.streams.source.failing = calls,
+            "sink" => self.streams.sink.failing = calls,
+            "log" => self.streams.log.failing = calls,
             "store" => self.failing.store = calls,
             "launcher" => self.failing.launcher = calls,
             "net" => self.failing.net = calls,
@@ -159,19 +162,41 @@ impl Scene {
         }
     }
 
-    /// `run WORD ..`: a run with these words.
-    pub fn run<H: Threads + Wait + Sync>(&self, rt: &H, trial: &mut Trial) {
-        let words = words_in(trial);
+    /// `with SOURCE SINK LOG`: how the streams behave, each by a word `MOST/CALL`: a call moves at most so many bytes,
+    /// and the call of that number fails; `-` is no limit, and no call.
+    pub fn with(&mut self, trial: &mut Trial) {
+        self.streams = Plans::read(trial);
+        trial.tell("ok");
+    }
+
+    /// Adds bytes to what the source gives.
+    pub fn extend_script(&mut self, trial: &mut Trial, bytes: &[u8]) {
+        extend(trial, &mut self.script, bytes);
+    }
+
+    /// Adds how many bytes the source gives.
+    pub fn tell_size(&self, trial: &mut Trial) {
+        trial.tell_value(&self.script.len());
+        trial.tell(" bytes");
+    }
+
+    /// A run with these words.
+    pub fn run<H: Threads + Wait + Sync>(
+        &self,
+        rt: &H,
+        trial: &mut Trial,
+        words: &[String],
+    ) -> Ran {
         let mut world = self.world(trial);
-        let status = run_ldm(rt, trial.alloc(), &words, &mut world);
-        tell_run(trial, status, &world);
+        let status = run_ldm(rt, trial.alloc(), words, &mut world);
+        Ran { status, world }
     }
 
     fn world(&self, trial: &mut Trial) -> MemWorld
         ensures { result.net.net.dial.links.out ≡ false }
     {
         World {
-            streams: self.streams(trial),
+            streams: self.streams.streams(trial, &self.script),
             clock: MemClock::new(copied(trial, &self.instants)),
             store: self.store(trial),
             launcher: self.launcher(trial),
@@ -185,18 +210,6 @@ impl Scene {
         let alloc = trial.alloc();
         let bytes = copied(trial, &self.disk);
         MemDisk::new(alloc, bytes, copied(trial, &self.failing.disk))
-    }
-
-    fn streams(&self, trial: &mut Trial) -> Streams<MemSource, MemSink, MemSink> {
-        let alloc = trial.alloc();
-        Streams {
-            source: MemSource::new(
-                copied(trial, &self.script),
-                copied(trial, &self.failing.source),
-            ),
-            sink: MemSink::new(alloc, copied(trial, &self.failing.sink)),
-            log: MemSink::new(alloc, copied(trial, &self.failing.log)),
-        }
     }
 
     fn store(&self, trial: &mut Trial) -> MemStore {

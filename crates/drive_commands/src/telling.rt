@@ -1,8 +1,9 @@
 //! What a run left, as words of an answer.
 
+use crate::scene::Ran;
 use ldm_commands::World;
 use ldm_disk_memory::{MemDisk, MemSite};
-use ldm_drive::Trial;
+use ldm_drive::{Trial, tell_spelled};
 use ldm_drive_sessions::{tell_log, tell_sent};
 use ldm_outside_memory::{
     MemChild, MemClock, MemDial, MemDoor, MemLauncher, MemLink, MemSink, MemSource, MemStation,
@@ -23,8 +24,9 @@ pub type MemWorld = World<
 
 /// Tells the status, what was written to the sink and to the log, and then what else was touched: the peers that were
 /// asked with what they were sent, the programs, the stations, the file of the disk, and that of the desk.
-pub fn tell_run(trial: &mut Trial, status: u8, world: &MemWorld) {
-    trial.tell_value(&status);
+pub fn tell_run(trial: &mut Trial, ran: &Ran) {
+    let world = &ran.world;
+    trial.tell_value(&ran.status);
     trial.tell(" ");
     trial.tell_shown(world.streams.sink.written());
     trial.tell(" ");
@@ -42,7 +44,7 @@ pub fn tell_run(trial: &mut Trial, status: u8, world: &MemWorld) {
     tell_disk(trial, &world.disk);
     if let Some(desk) = world.net.kept_desk() {
         trial.tell(" desk ");
-        trial.tell_digits(desk.disk.bytes());
+        tell_spelled(trial, desk.disk.bytes());
     }
 }
 
@@ -50,7 +52,7 @@ pub fn tell_run(trial: &mut Trial, status: u8, world: &MemWorld) {
 fn tell_disk(trial: &mut Trial, disk: &MemDisk) {
     if !disk.calls().is_empty() {
         trial.tell(" disk ");
-        trial.tell_digits(disk.bytes());
+        tell_spelled(trial, disk.bytes());
     }
 }
 

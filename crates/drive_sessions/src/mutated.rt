@@ -4,8 +4,8 @@ ghost use Rattle.ldm_shared.specs.Passes.{IsPassOf, IsSamePass};
 use crate::receiving::{tell_end, tell_last};
 use ldm_class::Class;
 use ldm_downstream::Receiver;
-use ldm_drive::Trial;
-use ldm_drive_sessions::{Case, queue_of, tell_bytes, tell_log, tell_queue};
+use ldm_drive::{Draws, Trial, copied, extend, push, tell_spelled};
+use ldm_drive_sessions::{Case, queue_of, tell_log, tell_queue};
 use ldm_shared::{Pass, Shared};
 use ldm_signature::sign;
 use ldm_types::{Micros, Signature};
@@ -15,9 +15,7 @@ use std::sync::Wait;
 /// each in drawn pieces, are pushed to a receiver with a queue of its own. Tells how many ended in which way, and a
 /// digest over all answers: each is that of the digest before it and the answer that `receive` tells.
 pub fn mutated<H: Wait>(rt: &H, trial: &mut Trial) {
-    let mut draws = Draws {
-        state: trial.number(),
-    };
+    let mut draws = Draws::behind(trial.number());
     let count = trial.number();
     let mut case = Case::of(trial);
     let Ok(class) = Class::build(trial.alloc(), &case.class) else {
@@ -81,7 +79,7 @@ fn push_pieces<H: Wait>(
     tell_end(trial, &end);
     tell_last(trial, last);
     trial.tell(" sent ");
-    tell_bytes(trial, &out);
+    tell_spelled(trial, &out);
     tell_log(trial, &notes);
 }
 
@@ -109,34 +107,15 @@ fn push_all<H: Wait>(
     let _ = receiver.push(shared, rt, pass, rest, now, out, notes);
 }
 
-// Draws numbers below 2^32, by Knuth's linear congruential generator.
-#[derive(Drop)]
-struct Draws {
-    state: u64,
+// Draws a number below another, and 0 below 0.
+fn below(draws: &mut Draws, end: u64) -> u64 {
+    draws.half().checked_rem(end).unwrap_or(0)
 }
 
-impl Draws {
-    fn draw(&mut self) -> u64 {
-        self.state = self
-            .state
-            .wrapping_mul(6_364_136_223_846_793_005)
-            .wrapping_add(1_442_695_040_888_963_407);
-        self.state >> 32
-    }
-
-    // Draws a number below another.
-    fn below(&mut self, end: u64) -> u64 {
-        match self.draw().checked_rem(end) {
-            Some(number) => number,
-            None => 0,
-        }
-    }
-
-    // Draws one of some bytes.
-    fn byte_of(&mut self, bytes: &[u8]) -> u8 {
-        let at = self.below(bytes.len() as u64) as usize;
-        bytes.get(at).copied().unwrap_or(0)
-    }
+// Draws one of some bytes.
+fn byte_of(draws: &mut Draws, bytes: &[u8]) -> u8 {
+    let at = below(draws, bytes.len() as u64) as usize;
+    bytes.get(at).copied().unwrap_or(0)
 }
 
 // The values that are most likely to mean something.
@@ -144,65 +123,56 @@ const TELLING: [u8; 11] = [0, 1, 2, 3, 4, 5, 12, 13, 14, 128, 255];
 
 // A copy of one of the streams, with one change or two.
 fn stream(trial: &mut Trial, draws: &mut Draws, streams: &[Vec<u8>]) -> Vec<u8> {
-    let chosen = draws.below(streams.len() as u64) as usize;
+    let chosen = below(draws, streams.len() as u64) as usize;
     let mut bytes = match streams.get(chosen) {
-        Some(stream) => copy_of(trial, stream),
+        Some(stream) => copied(trial, stream),
         None => Vec::new(trial.alloc()),
     };
-    for _ in 0..=draws.below(2) {
+    for _ in 0..=below(draws, 2) {
         bytes = changed(trial, draws, &bytes);
     }
     bytes
 }
 
-fn copy_of(trial: &mut Trial, bytes: &[u8]) -> Vec<u8> {
-    let mut copy = Vec::new(trial.alloc());
-    append(trial, &mut copy, bytes);
-    copy
-}
-
-fn append(trial: &mut Trial, bytes: &mut Vec<u8>, more: &[u8]) {
-    if bytes.extend_from_slice(more).is_err() {
-        trial.lack_memory();
-    }
-}
-
 // The bytes with one of them changed, some of them cut off, or some added.
 fn changed(trial: &mut Trial, draws: &mut Draws, bytes: &[u8]) -> Vec<u8> {
-    let kind = draws.below(3);
-    let at = draws.below(bytes.len() as u64) as usize;
+    let kind = below(draws, 3);
+    let at = below(draws, bytes.len() as u64) as usize;
     let (front, rest) = bytes.split_at_checked(at).unwrap_or((bytes, &[]));
-    let mut changed = copy_of(trial, front);
+    let mut changed = copied(trial, front);
     match kind {
         0 => {
             let byte = drawn_byte(draws);
-            append(trial, &mut changed, &[byte]);
-            append(trial, &mut changed, behind(rest, 1));
+            extend(trial, &mut changed, &[byte]);
+            extend(trial, &mut changed, behind(rest, 1));
         }
         1 => {
-            let count = draws.below(8) as usize;
-            append(trial, &mut changed, behind(rest, count.saturating_add(1)));
+            let count = below(draws, 8) as usize;
+            extend(trial, &mut changed, behind(rest, count.saturating_add(1)));
         }
         _ => {
-            let count = draws.byte_of(&[1, 4, 8]);
-            let byte = draws.byte_of(&[0, 1, 255]);
+            let count = byte_of(draws, &[1, 4, 8]);
+            let byte = byte_of(draws, &[0, 1, 255]);
             for _ in 0..count {
-                append(trial, &mut changed, &[byte]);
+                extend(trial, &mut changed, &[byte]);
             }
-            append(trial, &mut changed, rest);
+            extend(trial, &mut changed, rest);
         }
     }
     changed
 }
 
 fn drawn_byte(draws: &mut Draws) -> u8 {
-    if draws.below(2) == 0 {
-        return draws.byte_of(&TELLING);
+    if below(draws, 2) == 0 {
+        return byte_of(draws, &TELLING);
     }
-    draws.byte_of(&[
-        0x00, 0x11, 0x22, 0x33, 0x44, 0x55, 0x66, 0x77, 0x88, 0x99, 0xaa, 0xbb, 0xcc, 0xdd, 0xee,
-        0xff,
-    ])
+    byte_of(
+        draws,
+        &[
+            0x00, 0x11, 0x22, 0x33, 0x44, 0x55, 0x66, 0x77, 0x88, 0x99, 0xaa, 0xbb, 0xcc, 0xdd,
+            0xee, 0xff,
+        ],
+    )
 }
 
 // What is left behind so many bytes.
@@ -215,11 +185,9 @@ fn behind(bytes: &[u8], count: usize) -> &[u8] {
 
 fn pieces(trial: &mut Trial, draws: &mut Draws) -> Vec<u64> {
     let mut pieces = Vec::new(trial.alloc());
-    for _ in 0..draws.below(4) {
-        let length = draws.below(60).saturating_add(1);
-        if pieces.push(length).is_err() {
-            trial.lack_memory();
-        }
+    for _ in 0..below(draws, 4) {
+        let length = below(draws, 60).saturating_add(1);
+        push(trial, &mut pieces, length);
     }
     pieces
 }
@@ -256,8 +224,8 @@ impl Seen {
             _ => &mut self.others,
         };
         *count = count.saturating_add(1);
-        let mut digested = copy_of(trial, &self.digest.0);
-        append(trial, &mut digested, answer.as_bytes());
+        let mut digested = copied(trial, self.digest.0.as_slice());
+        extend(trial, &mut digested, answer.as_bytes());
         self.digest = sign(&digested);
     }
 

@@ -3,10 +3,10 @@ ghost use Rattle.ldm_shared.specs.Passes.{IsPassOf};
 
 use ldm_class::Class;
 use ldm_downstream::{Received, receive};
-use ldm_drive::Trial;
+use ldm_drive::{Trial, tell_spelled};
 use ldm_drive_sessions::{
     Case, clock_of, hold_some, insert_all, link_of, log_of, queue_of, reserve_all, tell_answer,
-    tell_bytes, tell_log, tell_place, tell_queue, tell_sent,
+    tell_log, tell_place, tell_queue, tell_sent,
 };
 use ldm_intake::RecvEnd;
 use ldm_shared::{Pass, Shared};
@@ -63,7 +63,7 @@ fn tell_received(trial: &mut Trial, received: &Received) {
 pub fn tell_last(trial: &mut Trial, last: Option<Signature>) {
     trial.tell(" last ");
     match last {
-        Some(signature) => tell_bytes(trial, &signature.0),
+        Some(signature) => tell_spelled(trial, &signature.0),
         None => trial.tell("-"),
     }
 }
@@ -79,6 +79,6 @@ pub fn tell_end(trial: &mut Trial, end: &RecvEnd) {
         RecvEnd::LogFault => trial.tell("LogFault"),
         RecvEnd::StreamLimit => trial.tell("StreamLimit"),
         RecvEnd::Worn => trial.tell("Worn"),
-        RecvEnd::OutOfMemory => trial.tell("OutOfMemory"),
+        RecvEnd::OutOfMemory => trial.lack_memory(),
     }
 }

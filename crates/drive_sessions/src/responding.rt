@@ -2,9 +2,9 @@
 ghost use Rattle.ldm_shared.specs.Passes.{IsPassOf, IsSamePass};
 
 use ldm_class::Policy;
-use ldm_drive::Trial;
+use ldm_drive::{Trial, tell_spelled};
 use ldm_drive_sessions::{
-    Case, clock_of, hold_some, insert_all, policy_of, queue_of, reserve_all, tell_bytes, tell_queue,
+    Case, clock_of, hold_some, insert_all, policy_of, queue_of, reserve_all, tell_queue,
 };
 use ldm_rpc::Front;
 use ldm_serve::{RespondFault, Responded, respond};
@@ -28,7 +28,7 @@ pub fn respond_case<H: Wait>(rt: &H, trial: &mut Trial) {
     let mut owed = Vec::new(trial.alloc());
     respond_all(rt, trial, &case, &policy, &shared, &mut pass, &mut owed);
     trial.tell("owed ");
-    tell_bytes(trial, &owed);
+    tell_spelled(trial, &owed);
     tell_queue(rt, trial, &shared, &mut pass);
 }
 

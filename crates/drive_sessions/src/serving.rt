@@ -1,13 +1,13 @@
 //! What a server does with a connection.
 ghost use Rattle.ldm_shared.specs.Passes.{IsPassOf};
 
+use crate::receiving::tell_end;
 use ldm_conf::Conf;
 use ldm_drive::{Trial, copied};
 use ldm_drive_sessions::{
-    BusyGate, Case, clock_of, conf_of, insert_all, link_of, log_of, queue_of, tell_answer,
-    tell_log, tell_place, tell_queue, tell_sent,
+    BusyGate, Case, clock_of, conf_of, insert_all, link_of, log_of, queue_of, tell_log, tell_place,
+    tell_queue, tell_sent,
 };
-use ldm_intake::RecvEnd;
 use ldm_serve::{ServeEnd, serve};
 use ldm_session::LONGEST_NAME;
 use ldm_shared::{Pass, Shared};
@@ -75,7 +75,7 @@ fn tell_served(trial: &mut Trial, end: &ServeEnd) {
         }
         ServeEnd::Receive(why) => {
             trial.tell("Receive ");
-            tell_received(trial, why);
+            tell_end(trial, why);
         }
         ServeEnd::Notify(why) => {
             trial.tell("Notify ");
@@ -92,19 +92,5 @@ fn tell_served(trial: &mut Trial, end: &ServeEnd) {
         ServeEnd::StreamLimit => trial.tell("StreamLimit"),
         ServeEnd::Worn => trial.tell("Worn"),
         ServeEnd::OutOfMemory => trial.lack_memory(),
-    }
-}
-
-fn tell_received(trial: &mut Trial, end: &RecvEnd) {
-    match end {
-        RecvEnd::Ended => trial.tell("Ended"),
-        RecvEnd::Truncated { at } => tell_place(trial, "Truncated", *at),
-        RecvEnd::BadFrame { at } => tell_place(trial, "BadFrame", *at),
-        RecvEnd::Refused { answer } => tell_answer(trial, answer),
-        RecvEnd::LinkFault => trial.tell("LinkFault"),
-        RecvEnd::LogFault => trial.tell("LogFault"),
-        RecvEnd::StreamLimit => trial.tell("StreamLimit"),
-        RecvEnd::Worn => trial.tell("Worn"),
-        RecvEnd::OutOfMemory => trial.lack_memory(),
     }
 }

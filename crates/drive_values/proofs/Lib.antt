@@ -1,1 +1,3 @@
+mod Marks
+mod Pairs
 pub mod PlacesLemmas

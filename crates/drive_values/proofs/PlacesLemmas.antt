@@ -7,7 +7,7 @@ use Rattle.ldm_rpc.specs.declared.fault.RpcFault.TheVariants.{TooLong, OutOfMemo
 use Rattle.ldm_rpc.specs.Streams.{Placed}
 use Rattle.ldm_rpc.specs.Taking.{IsFaultOf}
 use Rattle.ldm_rpc.proofs.CallerLemmas.{IsReading, reads_fault}
-use Rattle.drive_values.specs.declared.places.Stream.{Stream}
+use Rattle.drive_values.specs.declared.records.places.Stream.{Stream}
 use Rattle.drive_values.specs.Places.{EndsBy, position_of}
 
 pub refused_at : (fault : RpcFault) (old t new : Stream) (piece rest : List ℕ) (before out : List Placed) → IsReading (position_of old) piece before (position_of t) rest out

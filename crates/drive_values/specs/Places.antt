@@ -3,8 +3,8 @@ use Rattle.std.specs.Prelude.{◌≡◌, ℕ, List, ◌++◌, map}
 use Rattle.ldm_rpc.specs.declared.fault.RpcFault.{RpcFault}
 use Rattle.ldm_rpc.specs.declared.fault.RpcFault.TheVariants.{TooLong, OutOfMemory}
 use Rattle.ldm_rpc.specs.Streams.{Position, Placed, in_hand, records_in}
-use Rattle.drive_values.specs.declared.places.Found.{Found}
-use Rattle.drive_values.specs.declared.places.Stream.{Stream}
+use Rattle.drive_values.specs.declared.records.places.Found.{Found}
+use Rattle.drive_values.specs.declared.records.places.Stream.{Stream}
 
 abbrev pub position_of : Stream → Position
 position_of stream = record { reading = stream.records; begins = stream.begins; came = stream.came }

@@ -1,4 +1,9 @@
-//! A reader of records, a call at a time.
+//! Records: a reader of records, a call at a time.
+
+pub mod messages;
+pub mod mutated;
+pub mod pieces;
+pub mod places;
 
 use ldm_drive::Trial;
 use ldm_rpc::Records;

@@ -1,10 +1,10 @@
-//! Numbers within their bounds, feedtypes, metadata, classes, and want of memory.
+//! Numbers within their bounds, feedtypes, metadata, classes, signatures, and want of memory.
 
 use arrayvec::ArrayVec;
-use ldm_drive::Trial;
+use ldm_drive::{Trial, signature};
+use ldm_signature::{read_hex, sign, write_hex};
 use ldm_types::{
-    Actor, ClassSpec, CursorNo, Feed, Info, InfoFault, MOST_SPECS, Micros, OutOfMemory, Signature,
-    Spec,
+    Actor, ClassSpec, CursorNo, Feed, Info, InfoFault, MOST_SPECS, Micros, OutOfMemory, Spec,
 };
 use std::alloc::Global;
 
@@ -41,22 +41,10 @@ fn instant_of(trial: &mut Trial) -> Option<Micros> {
     instant
 }
 
-// The next word, which is a signature in hexadecimal digits.
-fn signature_of(trial: &mut Trial) -> Signature {
-    let bytes = trial.bytes();
-    let mut signature = [0; 16];
-    if bytes.len() == 16 {
-        signature.copy_from_slice(&bytes);
-    } else {
-        trial.refuse("a signature has 16 bytes");
-    }
-    Signature(signature)
-}
-
 // Metadata of the words `ARRIVAL SIGNATURE ORIGIN FEED SEQNO IDENT SIZE`, or their fault.
 fn read_info(trial: &mut Trial) -> Option<Result<Info, InfoFault>> {
     let arrival = instant_of(trial)?;
-    let signature = signature_of(trial);
+    let signature = signature(trial);
     let origin = trial.bytes();
     let feed = Feed(trial.small());
     let seqno = trial.small();
@@ -134,8 +122,8 @@ fn spec_of(trial: &mut Trial) -> Option<Spec> {
     }
 }
 
-/// `class FROM TO FEED PATTERN ..`: a class of these instants and specifications.
-pub fn class(trial: &mut Trial) {
+/// `class_spec FROM TO FEED PATTERN ..`: a class of these instants and specifications.
+pub fn class_spec(trial: &mut Trial) {
     if let Some(class) = class_of(trial) {
         trial.tell_debug(&class);
     }
@@ -171,4 +159,20 @@ fn kept(alloc: Global, bytes: &[u8]) -> Result<Vec<u8>, OutOfMemory> {
         kept.push(*byte)?;
     }
     Ok(kept)
+}
+
+/// `sign BYTES`: the signature of a body, as its hexadecimal text.
+pub fn sign_body(trial: &mut Trial) {
+    let body = trial.bytes();
+    let digits = write_hex(&sign(&body));
+    trial.tell_text(digits.as_slice());
+}
+
+/// `read_hex TEXT`: the bytes of the signature that a text spells.
+pub fn read_signature(trial: &mut Trial) {
+    let text = trial.text();
+    match read_hex(&text) {
+        Some(signature) => trial.tell_digits(&signature.0),
+        None => trial.tell("None"),
+    }
 }

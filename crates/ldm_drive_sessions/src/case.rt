@@ -2,8 +2,7 @@
 
 use crate::items::{Item, items_in};
 use arrayvec::ArrayVec;
-use ldm_drive::Trial;
-use ldm_feedtype::read_feed;
+use ldm_drive::{Trial, numbers_in, push, spec_in};
 use ldm_types::{ClassSpec, MOST_SPECS, Micros, Signature, Spec};
 
 /// What a case says, by words `NAME=VALUE`. What it does not say is as [`Case::new`] has it.
@@ -88,7 +87,7 @@ impl Case {
         };
         case.host = trial.text_in("h");
         case.conf = trial.text_in("ALLOW\\tANY\\t.*\\n");
-        case.stops = numbers(trial, "1");
+        case.stops = numbers_in(trial, "1");
         case
     }
 
@@ -123,10 +122,10 @@ impl Case {
 
     fn set_numbers(&mut self, trial: &mut Trial, name: &str, value: &str) {
         match name {
-            "pieces" => self.pieces = numbers(trial, value),
-            "fails" => self.link_fails = numbers(trial, value),
-            "log_fails" => self.log_fails = numbers(trial, value),
-            "stops" => self.stops = numbers(trial, value),
+            "pieces" => self.pieces = numbers_in(trial, value),
+            "fails" => self.link_fails = numbers_in(trial, value),
+            "log_fails" => self.log_fails = numbers_in(trial, value),
+            "stops" => self.stops = numbers_in(trial, value),
             "clock" => self.instants = instants(trial, value),
             _ => self.set_number(trial, name, value),
         }
@@ -198,27 +197,11 @@ fn first_instant() -> Micros {
     }
 }
 
-// Numbers with a comma between two; `-` is none.
-fn numbers(trial: &mut Trial, value: &str) -> Vec<u64> {
-    let mut numbers = Vec::new(trial.alloc());
-    if value != "-" {
-        for part in value.split(',') {
-            let number = number(trial, part);
-            if numbers.push(number).is_err() {
-                trial.lack_memory();
-            }
-        }
-    }
-    numbers
-}
-
 fn instants(trial: &mut Trial, value: &str) -> Vec<Micros> {
     let mut instants = Vec::new(trial.alloc());
-    for number in &numbers(trial, value) {
+    for number in &numbers_in(trial, value) {
         let instant = instant(trial, *number);
-        if instants.push(instant).is_err() {
-            trial.lack_memory();
-        }
+        push(trial, &mut instants, instant);
     }
     instants
 }
@@ -227,9 +210,7 @@ fn streams_in(trial: &mut Trial, value: &str) -> Vec<Vec<u8>> {
     let mut streams = Vec::new(trial.alloc());
     for part in value.split(',') {
         let stream = trial.bytes_in(part);
-        if streams.push(stream).is_err() {
-            trial.lack_memory();
-        }
+        push(trial, &mut streams, stream);
     }
     streams
 }
@@ -247,11 +228,4 @@ fn specs_in(trial: &mut Trial, value: &str) -> ArrayVec<Spec, MOST_SPECS> {
         }
     }
     specs
-}
-
-fn spec_in(trial: &mut Trial, part: &str) -> Option<Spec> {
-    let (feed, pattern) = part.split_once('/')?;
-    let feed = read_feed(feed.as_bytes()).ok()?;
-    let pattern = ArrayVec::try_from(trial.text_in(pattern).as_slice()).ok()?;
-    Some(Spec { feed, pattern })
 }

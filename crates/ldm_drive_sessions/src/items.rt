@@ -1,12 +1,11 @@
 //! Products as words of a case.
 ghost use Rattle.ldm_shared.specs.Passes.{IsPassOf, IsSamePass};
 
-use crate::telling::tell_bytes;
-use ldm_drive::Trial;
+use ldm_drive::{Trial, plain_info, push, tell_spelled};
 use ldm_feedtype::read_feed;
 use ldm_model::{OpenReply, Start, StepReply};
 use ldm_shared::{Pass, Shared, Turn};
-use ldm_types::{CursorNo, Feed, Info, Micros, Signature};
+use ldm_types::{CursorNo, Feed, Info, Micros};
 use std::sync::Wait;
 
 /// A product that a case has, and when it is inserted.
@@ -24,11 +23,7 @@ pub fn items_in(trial: &mut Trial, word: &str) -> Vec<Item> {
     let mut items = Vec::new(trial.alloc());
     for part in word.split(';') {
         match item_in(trial, part) {
-            Some(item) => {
-                if items.push(item).is_err() {
-                    trial.lack_memory();
-                }
-            }
+            Some(item) => push(trial, &mut items, item),
             None => trial.refuse("no product"),
         }
     }
@@ -45,13 +40,9 @@ fn item_in(trial: &mut Trial, part: &str) -> Option<Item> {
     let feed = read_feed(feed.as_bytes()).ok()?;
     let body = trial.bytes_in(body);
     let ident = trial.text_in(ident);
-    let info = info_of(time, byte, feed, &ident, &body)?;
-    Some(Item { time, info, body })
-}
-
-fn info_of(time: Micros, byte: u8, feed: Feed, ident: &[u8], body: &[u8]) -> Option<Info> {
     let size = u32::try_from(body.len()).ok()?;
-    Info::new(time, Signature([byte; 16]), b"h", feed, 1, ident, size).ok()
+    let info = plain_info(time, byte, feed, &ident, size)?;
+    Some(Item { time, info, body })
 }
 
 /// Inserts products, each at its time. What the queue refuses it goes without.
@@ -74,7 +65,7 @@ pub fn reserve_all<H: Wait>(rt: &H, shared: &Shared, pass: &mut Pass, count: u64
     for n in 0..count {
         let byte = (n % 100) as u8 + 100;
         if let Some(now) = Micros::new(1)
-            && let Some(info) = info_of(now, byte, Feed(2), b"r", &[])
+            && let Some(info) = plain_info(now, byte, Feed(2), b"r", 0)
         {
             let _ = shared.reserve(rt, pass, &info);
         }
@@ -154,12 +145,12 @@ fn tell_product<H: Wait>(
 {
     trial.tell_number(u64::from(info.signature().0[0]));
     trial.tell("/");
-    tell_bytes(trial, info.ident());
+    tell_spelled(trial, info.ident());
     trial.tell("/");
     match vec![in trial.alloc(); 0u8; info.size() as usize] {
         Ok(mut body) => {
             let _ = shared.read(rt, pass, k, 0, body.as_mut_slice());
-            tell_bytes(trial, &body);
+            tell_spelled(trial, &body);
         }
         Err(_) => trial.lack_memory(),
     }

@@ -13,5 +13,5 @@ pub use case::Case;
 pub use cursors::{open_all, tell_cursor};
 pub use gates::BusyGate;
 pub use items::{Item, hold_some, insert_all, reserve_all, tell_queue};
-pub use outside::{clock_of, conf_of, link_of, log_of, policy_of, queue_of};
-pub use telling::{tell_answer, tell_bytes, tell_log, tell_place, tell_sent};
+pub use outside::{clock_of, conf_of, link_of, link_script, log_of, policy_of, queue_of};
+pub use telling::{tell_answer, tell_log, tell_place, tell_sent};

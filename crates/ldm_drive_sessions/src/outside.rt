@@ -5,7 +5,7 @@ ghost use Rattle.ldm_shared.specs.Passes.{IsPassOf};
 use crate::case::Case;
 use ldm_class::Policy;
 use ldm_conf::{Conf, read_conf};
-use ldm_drive::{Trial, copied};
+use ldm_drive::{Trial, copied, push};
 use ldm_outside_memory::{LinkScript, MemClock, MemLink, MemSink, MemStore};
 use ldm_shared::{Pass, Shared};
 use std::alloc::Global;
@@ -32,23 +32,26 @@ pub fn policy_of(alloc: Global, case: &Case) -> Option<Policy> {
     Some(conf.policy)
 }
 
-/// Its link.
-pub fn link_of(trial: &mut Trial, case: &Case) -> MemLink
-    ensures { result.closed ≡ false }
-{
+/// What its link does.
+pub fn link_script(trial: &mut Trial, case: &Case) -> LinkScript {
     let mut pieces = Vec::new(trial.alloc());
     for piece in &case.pieces {
-        if pieces.push(*piece as usize).is_err() {
-            trial.lack_memory();
-        }
+        push(trial, &mut pieces, *piece as usize);
     }
-    let script = LinkScript {
+    LinkScript {
         bytes: copied(trial, &case.given),
         pieces,
         has_end: !case.is_open,
         most_sent: case.sends as usize,
         failing: copied(trial, &case.link_fails),
-    };
+    }
+}
+
+/// Its link.
+pub fn link_of(trial: &mut Trial, case: &Case) -> MemLink
+    ensures { result.closed ≡ false }
+{
+    let script = link_script(trial, case);
     MemLink::new(trial.alloc(), script)
 }
 

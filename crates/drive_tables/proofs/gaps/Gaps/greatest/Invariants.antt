@@ -1,4 +1,0 @@
-use Rattle.drive_tables.proofs.gaps.Gaps.greatest.Given as goal
-
-abbrev pub ghosts-greatest_of : goal.ghosts-greatest_of
-ghosts-greatest_of a = record { name = a.blank.name; parts = a.blank.parts }
