@@ -1,5 +1,5 @@
 -- Values that meet the premises of the promises to complete.
-use Rattle.std.proofs.Common.{◌≡◌, ℕ, ◌+◌, ◌<◌, false, zero, suc, List, [], ◌∷◌, Option, Some, None, Ok, refl, sym, ap, subst, ◌∙◌, arith, codes}
+use Rattle.std.proofs.Common.{◌≡◌, ℕ, ◌+◌, ◌<◌, false, zero, suc, List, [], ◌∷◌, Option, Some, None, Ok, inl, inr, refl, sym, ap, subst, ◌∙◌, arith, codes}
 use Rattle.std.specs.Prelude.{slice_get, IsSome}
 use Rattle.std.proofs.lemmas.List.Elements.{All-from_recursion}
 use Rattle.ldm_types.specs.declared.class.ClassSpec.{ClassSpec}
@@ -25,7 +25,7 @@ use Rattle.ldm_chain.specs.Linking.{host_name}
 use Rattle.ldm_chain.specs.Policy.{TakesRules, all_allowed}
 use Rattle.ldm_chain.specs.Unfed.{AsksFor, LeavesNothing, LeavesUnmeant}
 use Rattle.ldm_chain.specs.Complete.{LeavesAll}
-use Rattle.ldm_witnesses.specs.Premises.{PlayIsUnhindered, CrowdIsUnhindered, ChainIsUnhindered, NodeIsUnhindered, line, store, class, work, station}
+use Rattle.ldm_witnesses.specs.Premises.{PlayIsUnhindered, CrowdIsUnhindered, ChainIsUnhindered, NodeIsUnhindered, JournalIsUnhindered, line, store, class, work, station}
 
 -- no count rose
 still : ¬ (Rose 0 0)
@@ -123,6 +123,26 @@ node_unhindered = record {
     passes = record { some = omega arith; most = omega arith };
   };
   journal = inl refl;
+  store_works = still;
+  launcher_works = still;
+  net_works = still;
+  stations_work = All-from_recursion (λ (it : StationRecord). (it.door.faults ≡ 0) × (it.log.faults ≡ 0)) (station ∷ []) ((refl, refl), tt);
+  sink_works = still;
+  log_works = still;
+}
+
+pub journal_unhindered : JournalIsUnhindered
+journal_unhindered = record {
+  files = record { path = codes "ldmd.conf"; bytes = line (codes "# all") } ∷ [];
+  told = refl;
+  conf = no_conf;
+  reads = file_reads;
+  good = record {
+    arena = record { whole = refl; least = omega arith; greatest = omega arith };
+    slots = record { some = omega arith; most = omega arith };
+    passes = record { some = omega arith; most = omega arith };
+  };
+  journal = inr (record { file = _; told = refl; is_journal = inl refl; disk_works = refl; log_works = refl });
   store_works = still;
   launcher_works = still;
   net_works = still;

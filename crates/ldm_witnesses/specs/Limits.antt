@@ -43,6 +43,14 @@ use Rattle.ldm_pqact.specs.declared.limits.TheConstants as acting
 use Rattle.ldm_gather.specs.declared.limits.TheConstants as gathers
 use Rattle.ldm_gather.specs.declared.cat_limits.TheConstants as cats
 use Rattle.ldm_tools.specs.declared.limits.TheConstants as inserts
+use Rattle.ldm_check.specs.declared.lines.TheConstants as faults
+use Rattle.ldm_check.specs.declared.command.TheConstants as checks
+use Rattle.ldm_pqact_command.specs.declared.state.TheConstants as states
+use Rattle.ldm_wmo.specs.declared.write.TheConstants as bulletins
+use Rattle.ldm_serve.specs.declared.keeping.TheConstants as keeping
+use Rattle.ldm_journal.specs.declared.places.TheConstants as places
+use Rattle.ldm_recorder.specs.declared.line.TheConstants as requests
+use Rattle.ldm_recorder.specs.declared.recorder.TheConstants as recorders
 use Rattle.ldm_status.specs.declared.status.TheConstants as log
 use Rattle.ldm_status.specs.declared.status.Status.TheVariants as status
 use Rattle.ldm_status.specs.Status.{code_of}
@@ -104,6 +112,7 @@ pub record SessionLimits : Type 0 where
   pub hereis_that_is_taken : offers.MAX_HEREIS ≡ 16384
   pub longest_answer_of_a_link : sayings.LONGEST_ANSWER ≡ 72
   pub longest_host : doors.LONGEST_HOST ≡ 64
+  pub longest_carried : keeping.LONGEST_CARRIED ≡ 65536
 
 -- Configurations and words.
 pub record FileLimits : Type 0 where
@@ -134,6 +143,21 @@ pub record CommandLimits : Type 0 where
   pub pqcat_piece : cats.LARGEST_PIECE ≡ 16384
   pub largest_file : inserts.LARGEST_FILE ≡ 1073741824
   pub longest_reason : reasons.LONGEST_REASON ≡ 200
+  pub longest_shown : faults.LONGEST_SHOWN ≡ 100
+  pub faulty : checks.FAULTY ≡ 65
+  pub longest_state : states.LONGEST_STATE ≡ 33
+  pub largest_seqno : bulletins.LARGEST_SEQNO ≡ 99999
+
+-- The journal of a node: the places of its file in bytes, the room of its note, and what is recorded.
+pub record JournalLimits : Type 0 where
+  pub selecting_byte : places.SELECT ≡ 24
+  pub first_head : places.HEAD_A ≡ 4096
+  pub second_head : places.HEAD_B ≡ 8192
+  pub ring : places.RING ≡ 12288
+  pub note : places.NOTE ≡ 1536
+  pub largest_ring : places.LARGEST_RING ≡ 1099511627776
+  pub most_lines : requests.MOST_LINES ≡ 64
+  pub feedtypes : recorders.EVERY_FEEDTYPE ≡ 4294967295
 
 -- The statuses that the program ends with.
 pub record StatusNumbers : Type 0 where

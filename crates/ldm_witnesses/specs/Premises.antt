@@ -1,8 +1,9 @@
 -- What each command's promise to complete asks for can be: a script of one line over memory, a configuration of a
 -- comment, one class, and an outside of which nothing failed.
-use Rattle.std.specs.Prelude.{ℕ, false, List, [], ◌∷◌, ◌++◌, Some, None, codes}
+use Rattle.std.specs.Prelude.{ℕ, false, true, nat_lt, length, List, [], ◌∷◌, ◌++◌, Some, None, codes}
 use Rattle.ldm_types.specs.declared.class.ClassSpec.{ClassSpec}
 use Rattle.ldm_types.specs.declared.limits.TheConstants.{GREATEST_INSTANT}
+use Rattle.ldm_disk.specs.Desks.{DeskRecord}
 use Rattle.ldm_outside.specs.Io.{SourceRecord, SinkRecord}
 use Rattle.ldm_outside.specs.Clock.{ClockRecord}
 use Rattle.ldm_outside.specs.Dial.{DialRecord}
@@ -121,3 +122,22 @@ node_after = record node_before { kept = station ∷ []; port = Some setup.port 
 
 abbrev pub NodeIsUnhindered : Type 0
 NodeIsUnhindered = NodeUnhindered (λ (it : StationRecord). it) setup node_before node_after
+
+-- a desk of which nothing failed, whose disk has an empty file
+abbrev pub desk : DeskRecord
+desk = record {
+  disk = record {
+    faults = 0;
+    attached = true;
+    file = Some (record { bytes = []; moment = 0; may_leave = λ left. nat_lt (length left) 1; left_since = λ since left. nat_lt (length left) 1 });
+  };
+  log = sink_of [];
+  clock = record { answers = Some [] };
+  gate = record { stops = 1; idles = Some (Some 0); calls = Some [] };
+}
+
+-- the same node with a journal
+abbrev pub JournalIsUnhindered : Type 0
+JournalIsUnhindered =
+    NodeUnhindered (λ (it : StationRecord). it) (record setup { journal = Some (codes "queue") }) node_before
+    (record node_after { desk = Some desk })

@@ -1,6 +1,6 @@
 //! The limits of the program, each with its number. This function does nothing: its contract is the table.
 ghost use Rattle.ldm_witnesses.specs.Limits.{QueueLimits, ScriptLimits, MessageLimits, SessionLimits};
-ghost use Rattle.ldm_witnesses.specs.Limits.{FileLimits, CommandLimits, StatusNumbers};
+ghost use Rattle.ldm_witnesses.specs.Limits.{FileLimits, CommandLimits, JournalLimits, StatusNumbers};
 
 /// Each limit that a clause or a definition names has this number, and so has each status.
 pub fn limits_are()
@@ -10,5 +10,6 @@ pub fn limits_are()
     ensures sessions { SessionLimits }
     ensures files { FileLimits }
     ensures commands { CommandLimits }
+    ensures journal { JournalLimits }
     ensures statuses { StatusNumbers }
 {}

@@ -1,4 +1,4 @@
-use Rattle.ldm_witnesses.proofs.Unhindered.{play_unhindered, crowd_unhindered, chain_unhindered, node_unhindered}
+use Rattle.ldm_witnesses.proofs.Unhindered.{play_unhindered, crowd_unhindered, chain_unhindered, node_unhindered, journal_unhindered}
 use Rattle.ldm_witnesses.proofs.premises.premises_are_met.Goals as goal
 
 pub returns-clause-play : goal.returns-clause-play
@@ -12,3 +12,6 @@ returns-clause-chain c = chain_unhindered
 
 pub returns-clause-node : goal.returns-clause-node
 returns-clause-node c = node_unhindered
+
+pub returns-clause-journal : goal.returns-clause-journal
+returns-clause-journal c = journal_unhindered
