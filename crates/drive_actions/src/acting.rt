@@ -7,7 +7,7 @@ use ldm_drive::{Trial, copied, numbers, push};
 use ldm_drive_sessions::{
     BusyGate, Case, insert_all, log_of, open_all, queue_of, tell_cursor, tell_log,
 };
-use ldm_outside::{MemLauncher, MemStore};
+use ldm_outside_memory::{MemLauncher, MemStore};
 use ldm_pqact::act;
 use ldm_pqact_conf::Entries;
 use ldm_shared::{Pass, Shared};

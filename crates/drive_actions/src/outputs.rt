@@ -1,12 +1,13 @@
 //! Actions that are carried out over a store and a launcher in memory.
-ghost use Rattle.ldm_outside.specs.MemLauncher.{told_by_launcher};
-ghost use Rattle.ldm_outside.specs.MemStore.{told_by_store};
+ghost use Rattle.ldm_outside_memory.specs.MemLauncher.{told_by_launcher};
+ghost use Rattle.ldm_outside_memory.specs.MemStore.{told_by_store};
 ghost use Rattle.ldm_actions.specs.Outputs.{BeginsHand, HasHand, KeepsUnlessSpent, standing};
 
 use crate::steps::{Step, step_in};
 use ldm_actions::{Action, Begun, Done, Outputs};
 use ldm_drive::{Trial, numbers, push};
-use ldm_outside::{Launcher, MemFile, MemLauncher, MemStore, Store};
+use ldm_outside::{Launcher, Store};
+use ldm_outside_memory::{MemFile, MemLauncher, MemStore};
 use md5::{Digest, Md5};
 
 // How many steps a case may have.

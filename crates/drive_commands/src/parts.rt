@@ -3,7 +3,7 @@
 use arrayvec::ArrayVec;
 use ldm_drive::{Trial, copied, numbers, push, text_copied};
 use ldm_drive_sessions::Case;
-use ldm_outside::{LinkScript, MemFile, MemPeer, StationScript};
+use ldm_outside_memory::{LinkScript, MemFile, MemPeer, StationScript};
 use ldm_types::Micros;
 
 /// A file.

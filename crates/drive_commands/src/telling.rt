@@ -1,10 +1,10 @@
 //! What a run left, as words of an answer.
 
 use ldm_commands::World;
-use ldm_disk::{MemDisk, MemSite};
+use ldm_disk_memory::{MemDisk, MemSite};
 use ldm_drive::Trial;
 use ldm_drive_sessions::{tell_log, tell_sent};
-use ldm_outside::{
+use ldm_outside_memory::{
     MemChild, MemClock, MemDial, MemDoor, MemLauncher, MemLink, MemSink, MemSource, MemStation,
     MemStore, StationsCall,
 };

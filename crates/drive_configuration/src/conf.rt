@@ -5,7 +5,7 @@ use crate::classes::tell_class;
 use crate::patterns::text_or_bytes;
 use ldm_conf::{Command, Conf, ConfFault, Request, read_conf};
 use ldm_drive::Trial;
-use ldm_outside::{MemFile, MemStore};
+use ldm_outside_memory::{MemFile, MemStore};
 use std::alloc::Global;
 
 /// Sets what the next texts find: a file, the numbers of the store's calls that fail, or neither.

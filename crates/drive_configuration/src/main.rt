@@ -10,7 +10,7 @@ mod texts;
 
 use ldm_class::{Class, Policy};
 use ldm_drive::{Trial, drive};
-use ldm_outside::MemFile;
+use ldm_outside_memory::MemFile;
 use std::alloc::Global;
 use std::io;
 

@@ -5,7 +5,8 @@ use crate::doors::calls;
 use crate::file::attach;
 use crate::nets::{man, net_of};
 use ldm_adapters::RealNet;
-use ldm_disk::{DeskScript, Desks, Furnished, MemSite};
+use ldm_disk::{Desks, Furnished};
+use ldm_disk_memory::{DeskScript, MemSite};
 use ldm_drive::{Trial, idle, numbers, push, tell_count, tell_go, tell_word};
 use std::rt::HostRuntime;
 

@@ -5,7 +5,8 @@ use arrayvec::ArrayVec;
 use ldm_drive::{
     Trial, copied, listen, numbers, push, tell_bytes, tell_count, tell_got, tell_number, tell_word,
 };
-use ldm_outside::{Came, Dial, Dialled, Door, Got, LinkScript, MemDial, MemDoor, MemPeer};
+use ldm_outside::{Came, Dial, Dialled, Door, Got};
+use ldm_outside_memory::{LinkScript, MemDial, MemDoor, MemPeer};
 
 fn script(trial: &mut Trial, bytes: &[u8], failing: &[u64]) -> LinkScript {
     LinkScript {

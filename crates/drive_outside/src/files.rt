@@ -4,7 +4,7 @@ use ldm_drive::{
     Trial, append, bytes_in, copied, numbers, push, read, rewrite, tell_bytes, tell_count,
     tell_word, text_copied, turns,
 };
-use ldm_outside::{MemFile, MemStore};
+use ldm_outside_memory::{MemFile, MemStore};
 
 // A store with the file `old` of three bytes.
 fn store_of(trial: &mut Trial, failing: Vec<u64>) -> MemStore {

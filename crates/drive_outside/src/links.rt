@@ -3,7 +3,8 @@ ghost use Rattle.std.specs.Prelude.{◌≡◌, false};
 ghost use Rattle.ldm_outside.specs.Link.{IsNotClosed};
 
 use ldm_drive::{Trial, bytes_in, copied, numbers, push, tell_bytes, tell_count, tell_word};
-use ldm_outside::{Awaited, Got, Link, LinkScript, MemLink, Way, send_all};
+use ldm_outside::{Awaited, Got, Link, Way, send_all};
+use ldm_outside_memory::{LinkScript, MemLink};
 
 // A link that gives five bytes in pieces of 2, of 1 and of what is left, and takes two bytes a call.
 fn link_of(trial: &mut Trial, has_end: bool, failing: Vec<u64>) -> MemLink

@@ -1,7 +1,8 @@
 //! Clocks and gates.
 
 use ldm_drive::{Trial, ask, idle, numbers, push, tell_count, tell_go, tell_number};
-use ldm_outside::{Gate, GateCall, Go, MemClock, MemGate, OpenGate};
+use ldm_outside::{Gate, GateCall, Go, OpenGate};
+use ldm_outside_memory::{MemClock, MemGate};
 use ldm_types::{Actor, Micros};
 
 fn instants(trial: &mut Trial) -> Vec<Micros> {

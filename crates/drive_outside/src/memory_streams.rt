@@ -3,7 +3,8 @@
 use ldm_drive::{
     Trial, bytes_in, copied, numbers, reads, tell_bytes, tell_count, tell_word, wholes, writes,
 };
-use ldm_outside::{MemSink, MemSource, SureSink, SureSource};
+use ldm_outside::SureSink;
+use ldm_outside_memory::{MemSink, MemSource, SureSource};
 
 /// `source BYTES MOST FAILING COUNT`: so many reads of two bytes, at most MOST bytes a call.
 pub fn source(trial: &mut Trial) {

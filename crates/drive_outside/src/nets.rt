@@ -3,7 +3,8 @@ ghost use Rattle.std.specs.Prelude.{◌≡◌, false};
 
 use crate::doors::{calls, dial_of, end_of_dial};
 use ldm_drive::{Trial, numbers, push, tell_count, tell_number, tell_word};
-use ldm_outside::{Manned, MemNet, Net, StationScript};
+use ldm_outside::{Manned, Net};
+use ldm_outside_memory::{MemNet, StationScript};
 use std::alloc::Global;
 
 fn station(alloc: Global) -> StationScript {

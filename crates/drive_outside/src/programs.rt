@@ -5,7 +5,8 @@ use ldm_drive::{
     Trial, copied, detach, numbers, shut, start, start_beside, tell_bytes, tell_count, tell_word,
     text_copied, write,
 };
-use ldm_outside::{Launcher, MemLauncher, Put};
+use ldm_outside::{Launcher, Put};
+use ldm_outside_memory::MemLauncher;
 
 // How a child came to its end, or which call failed.
 enum Ran {

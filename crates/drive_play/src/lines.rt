@@ -1,8 +1,9 @@
 //! Lines of scripts as `ldm_script` reads and writes them.
 ghost use Rattle.ldm_script.specs.OrderView.{IsWritable};
 
+use ldm_answers::{Text, text_into};
 use ldm_drive::Trial;
-use ldm_script::{Act, Order, Text, read_line, text_into, write_line};
+use ldm_script::{Act, Order, read_line, write_line};
 use ldm_types::Actor;
 use std::alloc::Global;
 use std::str::from_utf8;

@@ -2,9 +2,9 @@
 ghost use Rattle.std.specs.Prelude.{◌≡◌, false};
 
 use ldm_commands::{World, run_ldm};
-use ldm_disk::{MemDisk, MemSite};
+use ldm_disk_memory::{MemDisk, MemSite};
 use ldm_drive::Trial;
-use ldm_outside::{MemClock, MemDial, MemLauncher, MemNet, MemSink, MemSource, MemStore};
+use ldm_outside_memory::{MemClock, MemDial, MemLauncher, MemNet, MemSink, MemSource, MemStore};
 use ldm_status::Streams;
 use std::alloc::{AllocError, Global};
 use std::str::from_utf8;

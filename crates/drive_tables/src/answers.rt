@@ -3,7 +3,8 @@
 ghost use Rattle.ldm_image.specs.Saving.{IsReady};
 
 use ldm_book::Book;
-use ldm_disk::{Disk, MemDisk};
+use ldm_disk::Disk;
+use ldm_disk_memory::MemDisk;
 use ldm_drive::Trial;
 use ldm_image::{ImageFault, SaveEnd, open_image, save_image};
 use std::alloc::Global;

@@ -3,7 +3,8 @@
 use crate::answers::{Answer, Opened, Row, copied, open_file, save};
 use crate::files::{file_of, queue_of};
 use ldm_book::Book;
-use ldm_disk::{Disk, MemDisk};
+use ldm_disk::Disk;
+use ldm_disk_memory::MemDisk;
 use ldm_drive::Trial;
 use ldm_image::SaveEnd;
 

@@ -14,7 +14,7 @@ use Rattle.ldm_model.specs.History.{after, IsLegal}
 use Rattle.ldm_model.specs.Law.{opening, state_before}
 use Rattle.ldm_shared.specs.Staying.{HasRow}
 use Rattle.ldm_class.specs.Classes.{resumed}
-use Rattle.ldm_intake.specs.Asking.{asked_class}
+use Rattle.ldm_class.specs.Asking.{asked_class}
 use Rattle.ldm_upstream.specs.Turn.{Given}
 use Rattle.ldm_upstream.specs.Feeding.{given_of}
 use Rattle.ldm_between_ends.specs.Handed.{Handed, handed, last_of}

@@ -15,11 +15,11 @@ use Rattle.ldm_session.specs.Owed.{Said}
 use Rattle.ldm_intake.specs.declared.end.RecvEnd.{RecvEnd}
 use Rattle.ldm_intake.specs.declared.end.RecvEnd.TheVariants.{Ended, Truncated, BadFrame, Refused, LinkFault, LogFault, StreamLimit, Worn, OutOfMemory}
 use Rattle.ldm_intake.specs.Answered.{number_of_request}
-use Rattle.ldm_intake.specs.Asking.{asked_class}
+use Rattle.ldm_class.specs.Asking.{asked_class}
 use Rattle.ldm_intake.specs.Course.{Leads}
 use Rattle.ldm_intake.specs.Opening.{request_of, requesting}
 use Rattle.ldm_intake.specs.Receiving.{Receiving}
-use Rattle.ldm_intake.specs.Room.{records_of}
+use Rattle.ldm_relay.specs.Spelling.{records_of}
 use Rattle.ldm_session.specs.declared.limits.TheConstants.{LONGEST_STREAM}
 use Rattle.ldm_sender.specs.Acts.{is_whole}
 use Rattle.ldm_sender.specs.Asked.{Asked}

@@ -13,7 +13,7 @@ use Rattle.ldm_shared.proofs.Made.{calls_none}
 use Rattle.ldm_intake.specs.declared.end.RecvEnd.TheVariants as received
 use Rattle.ldm_intake.specs.Opening.{request_of, requesting}
 use Rattle.ldm_intake.specs.Receiving.{Receiving}
-use Rattle.ldm_intake.specs.Room.{records_of}
+use Rattle.ldm_relay.specs.Spelling.{records_of}
 use Rattle.ldm_intake.specs.Taken.{taken, taken_none}
 use Rattle.ldm_intake.specs.TakesRecord.{Standing}
 use Rattle.ldm_session.specs.Owed.{records_given}

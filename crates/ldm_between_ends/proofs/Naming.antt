@@ -10,7 +10,7 @@ use Rattle.ldm_types.specs.declared.class.Spec.{Spec}
 use Rattle.ldm_types.specs.declared.limits.TheConstants.{MOST_SPECS}
 use Rattle.ldm_signature.specs.HexSignature.{hex_signature}
 use Rattle.ldm_class.specs.Classes.{resumed, signature_in}
-use Rattle.ldm_intake.specs.Asking.{asked_class, resuming}
+use Rattle.ldm_class.specs.Asking.{asked_class, resuming}
 use Rattle.ldm_between_ends.specs.Following.{CanName}
 
 -- what is written of a signature is read

@@ -16,7 +16,7 @@ use Rattle.ldm_relay.specs.Spelling.{class_bytes, instant_bytes, reply_header, s
 use Rattle.ldm_intake.specs.declared.end.RecvEnd.{RecvEnd}
 use Rattle.ldm_intake.specs.declared.phase.Phase.TheVariants.{Asked as AskedFor}
 use Rattle.ldm_intake.specs.Answered.{asks_again, number_of_request}
-use Rattle.ldm_intake.specs.Asking.{same_class}
+use Rattle.ldm_class.specs.Asking.{same_class}
 use Rattle.ldm_intake.specs.Course.{Course}
 use Rattle.ldm_intake.specs.Receiving.{Receiving}
 use Rattle.ldm_intake.specs.Step.{Step, Goes, Bad, Declined}

@@ -24,7 +24,7 @@ use Rattle.ldm_relay.specs.Procedure.{number_of}
 use Rattle.ldm_relay.specs.Reading.{Kind, call_of, read_as, reply_of}
 use Rattle.ldm_relay.specs.Sent.{Sent}
 use Rattle.ldm_relay.specs.Sent as sent
-use Rattle.ldm_relay.specs.Spelling.{written}
+use Rattle.ldm_relay.specs.Spelling.{written, records_of}
 use Rattle.ldm_session.specs.Owed.{AreReplies, Code, IsNoReply, IsReplyTo, Said, hand_given}
 use Rattle.ldm_intake.specs.declared.end.RecvEnd.{RecvEnd}
 use Rattle.ldm_intake.specs.declared.end.RecvEnd.TheVariants.{BadFrame, Refused}
@@ -36,7 +36,6 @@ use Rattle.ldm_intake.specs.Notes.{Unwanted}
 use Rattle.ldm_intake.specs.Products.{accepts, blkdata_of, commits, comingsoon_wanted, declines, fills, hereis_wanted, is_next, reserved}
 use Rattle.ldm_intake.specs.Receiving.{Receiving, is_wanted, left_of, with_last}
 use Rattle.ldm_intake.specs.Record.{call_course, course_in, record_course}
-use Rattle.ldm_intake.specs.Room.{records_of}
 use Rattle.ldm_intake.specs.Step.{Step, Goes, Bad, Declined}
 use Rattle.ldm_intake.specs.Taken.{Arrival, Taken, after_step, taken, taken_none}
 use Rattle.ldm_intake.proofs.Courses.{leads-then_parts}

@@ -23,7 +23,7 @@ use Rattle.ldm_relay.specs.Procedure.{number_of}
 use Rattle.ldm_relay.specs.Reading.{call_of, reply_of}
 use Rattle.ldm_relay.specs.Sent.{Sent}
 use Rattle.ldm_relay.specs.Sent as sent
-use Rattle.ldm_relay.specs.Spelling.{reply_header, written}
+use Rattle.ldm_relay.specs.Spelling.{reply_header, written, records_of}
 use Rattle.ldm_session.specs.Owed.{AreReplies, Code, Said, hand_given}
 use Rattle.ldm_intake.specs.declared.phase.Pending.{Pending}
 use Rattle.ldm_intake.specs.declared.phase.Phase.{Phase}
@@ -33,7 +33,6 @@ use Rattle.ldm_intake.specs.Notes.{Note, Unwanted}
 use Rattle.ldm_intake.specs.Products.{accepts, blkdata_of, commits, comingsoon_wanted, declines, fills, hereis_wanted, is_next, reserve_note, reserved}
 use Rattle.ldm_intake.specs.Receiving.{Receiving, is_wanted, left_of, with_last}
 use Rattle.ldm_intake.specs.Record.{call_course, course_in, record_course}
-use Rattle.ldm_intake.specs.Room.{records_of}
 use Rattle.ldm_intake.specs.Step.{Step, Goes, Bad, Declined}
 use Rattle.ldm_intake.specs.Taken.{Arrival, Taken, after_step, taken, taken_none}
 use Rattle.ldm_intake.proofs.Courses.{leads-then_parts}

@@ -12,7 +12,7 @@ use Rattle.ldm_relay.specs.Writable.{IsShortProduct}
 use Rattle.ldm_session.specs.Owed.{Code}
 use Rattle.ldm_intake.specs.declared.phase.Phase.TheVariants as phase
 use Rattle.ldm_intake.specs.Answered.{number_of_request}
-use Rattle.ldm_intake.specs.Asking.{asked_class, resuming}
+use Rattle.ldm_class.specs.Asking.{asked_class, resuming}
 use Rattle.ldm_intake.specs.Opening.{requesting}
 use Rattle.ldm_sender.specs.Asked.{Asked}
 use Rattle.ldm_between_ends.specs.Codes.{Agree}

@@ -9,7 +9,7 @@ use Rattle.ldm_intake.specs.declared.end.RecvEnd.TheVariants.{Ended, Truncated, 
 use Rattle.ldm_intake.specs.declared.phase.Pending.{Pending}
 use Rattle.ldm_intake.specs.Course.{Comes, Leads}
 use Rattle.ldm_intake.specs.Receiving.{Receiving}
-use Rattle.ldm_intake.specs.Room.{records_of}
+use Rattle.ldm_relay.specs.Spelling.{records_of}
 use Rattle.ldm_intake.specs.Taken.{Arrival, Taken, taken, taken_none, discards}
 use Rattle.ldm_intake.specs.TakesRecord.{Standing}
 use Rattle.ldm_intake.proofs.Courses.{leads-then_comes}

@@ -6,7 +6,7 @@ use Rattle.ldm_types.specs.declared.limits.TheConstants.{MOST_SPECS}
 use Rattle.ldm_model.specs.Law.{state_before}
 use Rattle.ldm_model.specs.State.{is_queued}
 use Rattle.ldm_class.specs.Classes.{resumed}
-use Rattle.ldm_intake.specs.Asking.{asked_class}
+use Rattle.ldm_class.specs.Asking.{asked_class}
 use Rattle.ldm_sender.specs.Opening.{Opened}
 use Rattle.ldm_between_ends.specs.Session.{Session, IsSession}
 use Rattle.ldm_between_ends.specs.Offered.{offered}

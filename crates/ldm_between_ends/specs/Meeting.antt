@@ -14,7 +14,7 @@ use Rattle.ldm_intake.specs.declared.end.RecvEnd.TheVariants.{Ended, Truncated, 
 use Rattle.ldm_intake.specs.Course.{entry_by}
 use Rattle.ldm_intake.specs.Opening.{request_of, requesting}
 use Rattle.ldm_intake.specs.Receiving.{Receiving}
-use Rattle.ldm_intake.specs.Room.{records_of}
+use Rattle.ldm_relay.specs.Spelling.{records_of}
 use Rattle.ldm_intake.specs.Taken.{Arrival}
 use Rattle.ldm_session.specs.declared.limits.TheConstants.{LONGEST_STREAM}
 use Rattle.ldm_sender.specs.declared.end.SendEnd.{SendEnd}

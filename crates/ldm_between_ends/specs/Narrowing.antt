@@ -6,7 +6,7 @@ use Rattle.ldm_relay.specs.Fits.{ClassFits}
 use Rattle.ldm_relay.specs.Sent as sent
 use Rattle.ldm_intake.specs.declared.phase.Phase.TheVariants as phase
 use Rattle.ldm_intake.specs.Answered.{number_of_request}
-use Rattle.ldm_intake.specs.Asking.{same_class}
+use Rattle.ldm_class.specs.Asking.{same_class}
 use Rattle.ldm_intake.specs.Course.{Leads}
 use Rattle.ldm_intake.specs.Receiving.{Receiving}
 use Rattle.ldm_sender.specs.Asked.{Asked}

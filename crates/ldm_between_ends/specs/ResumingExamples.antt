@@ -9,7 +9,7 @@ use Rattle.ldm_model.specs.Law.{Point}
 use Rattle.ldm_model.specs.Next.{Call}
 use Rattle.ldm_model.specs.State.{Row, empty}
 use Rattle.ldm_shared.specs.Passes.{PassView}
-use Rattle.ldm_intake.specs.Asking.{resuming}
+use Rattle.ldm_class.specs.Asking.{resuming}
 use Rattle.ldm_intake.specs.Opening.{requesting}
 use Rattle.ldm_intake.specs.Receiving.{Receiving}
 use Rattle.ldm_intake.specs.Taken.{taken_none}

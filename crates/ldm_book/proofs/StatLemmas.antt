@@ -2,7 +2,7 @@
 use Rattle.std.proofs.Common.{◌≡◌, ℕ, List, length, ap, ◌∙◌}
 use Rattle.std.proofs.lemmas.List.{length-map}
 use Rattle.ldm_types.specs.Arena.{Region, gaps, longest}
-use Rattle.ldm_types.specs.Figures.{figures}
+use Rattle.ldm_model.specs.Figures.{figures}
 use Rattle.ldm_model.specs.declared.event.Reply.TheVariants as reply
 use Rattle.ldm_model.specs.State.{State, queued, end_of, occupied}
 use Rattle.ldm_model.specs.Evict.{count_held}

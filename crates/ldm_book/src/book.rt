@@ -41,11 +41,12 @@ use crate::stored::{metadata_at, write_product};
 use ldm_cursor::Cursors;
 use ldm_model::{
     CloseReply, CommitReply, DiscardReply, ExpireReply, FillReply, InsertReply, LookReply,
-    OpenReply, ReadReply, ReleaseReply, ReserveNo, ReserveReply, Start, StepReply, TallyReply,
+    OpenReply, ReadReply, ReleaseReply, ReserveNo, ReserveReply, Start, Stat, StepReply,
+    TallyReply,
 };
 use ldm_types::{
     ARENA_UNIT, Actor, CursorNo, Feed, Info, LARGEST_ARENA, MOST_SLOTS, Micros, SMALLEST_ARENA,
-    Signature, Stat,
+    Signature,
 };
 use ldm_xdr::info_len;
 use std::alloc::Global;

@@ -1,3 +1,2 @@
-pub mod Insertions
 pub mod Brought
 pub mod Placing

@@ -2,7 +2,7 @@
 use Rattle.std.specs.Prelude.{◌≡◌, ℕ, List, Option, Some, None}
 use Rattle.ldm_model.specs.declared.event.Event.{Event}
 use Rattle.ldm_model.specs.declared.event.Reply.{Reply}
-use Rattle.ldm_script.specs.Answer.{answer_line}
+use Rattle.ldm_answers.specs.Answer.{answer_line}
 use Rattle.ldm_script.specs.Order.{Asked}
 use Rattle.ldm_script.specs.declared.order.LastPlaces.{LastPlaces}
 use Rattle.ldm_script.specs.Resolve.{resolved, unresolved, last_after}

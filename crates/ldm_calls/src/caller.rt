@@ -4,12 +4,13 @@ ghost use Rattle.ldm_model.specs.Answers.{insert_answer};
 ghost use Rattle.ldm_model.specs.declared.event.Event.{Event as Asked};
 ghost use Rattle.ldm_model.specs.declared.event.Event.TheVariants as event;
 ghost use Rattle.ldm_model.specs.declared.event.Reply.{Reply as Answered};
-ghost use Rattle.ldm_script.specs.Answer.{reply_of, FitsAnswer};
+ghost use Rattle.ldm_answers.specs.Answer.{reply_of, FitsAnswer};
 ghost use Rattle.ldm_script.specs.OrderView.{bytes_of, event_of, IsBody, IsWholeCall};
 ghost use Rattle.ldm_calls.specs.Rooms.{bytes_asked, bytes_brought};
 
+use ldm_answers::Answer;
 use ldm_model::InsertReply;
-use ldm_script::{Answer, Body, Call};
+use ldm_script::{Body, Call};
 use ldm_types::{Info, Micros};
 
 /// No call was made: the queue has had all that it can have.

@@ -1,13 +1,14 @@
 //! An actor, which calls a book. The book answers every call.
 
 use crate::caller::{Caller, Unmade};
+use ldm_answers::Answer;
 use ldm_book::Book;
 use ldm_model::{
     InsertReply, actor_is_possible, commit_is_possible, feed_is_possible, fill_is_possible,
     info_is_possible, insert_is_possible, place_is_possible, reservation_is_possible,
     signature_is_possible, start_is_possible,
 };
-use ldm_script::{Answer, Body, Call, body_into};
+use ldm_script::{Body, Call, body_into};
 use ldm_types::{Actor, Info, Micros};
 
 impl Caller for Actor {

@@ -1,16 +1,14 @@
 //! The room in which lines are answered.
 ghost use Rattle.std.specs.Prelude.{◌≡◌, ◌≤◌, length, OnOk, OnErr};
-ghost use Rattle.ldm_script.specs.Answer.{reply_of};
+ghost use Rattle.ldm_answers.specs.Answer.{reply_of};
 ghost use Rattle.ldm_script.specs.OrderView.{asked_of, act_with, IsWhole};
 ghost use Rattle.ldm_script.specs.Resolve.{last_after};
-ghost use Rattle.ldm_script.specs.declared.answer.TheConstants.{LONGEST_ANSWER};
+ghost use Rattle.ldm_answers.specs.declared.answer.TheConstants.{LONGEST_ANSWER};
 ghost use Rattle.ldm_calls.specs.Lines.{AnswersLine};
 
 use crate::caller::{Caller, Unmade};
-use ldm_script::{
-    Act, Answer, LONGEST_BODY, LONGEST_READ, LastPlaces, LentAct, Text, write_answer,
-    write_insert_reply,
-};
+use ldm_answers::{Answer, LONGEST_READ, Text, write_answer, write_insert_reply};
+use ldm_script::{Act, LONGEST_BODY, LastPlaces, LentAct};
 use ldm_types::{Info, OutOfMemory};
 use std::alloc::Global;
 use std::marker::Model;

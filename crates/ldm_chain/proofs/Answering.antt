@@ -34,7 +34,7 @@ use Rattle.ldm_session.specs.Owed.{Code, Said}
 use Rattle.ldm_intake.specs.declared.end.RecvEnd.{RecvEnd}
 use Rattle.ldm_intake.specs.declared.end.RecvEnd.TheVariants as receive
 use Rattle.ldm_intake.specs.Answered.{asks_again, by_answer, number_of_request, reclassed}
-use Rattle.ldm_intake.specs.Asking.{same_class}
+use Rattle.ldm_class.specs.Asking.{same_class}
 use Rattle.ldm_intake.specs.Receiving.{Receiving}
 use Rattle.ldm_intake.specs.Step.{Declined}
 use Rattle.ldm_sender.specs.declared.end.SendEnd.{SendEnd}

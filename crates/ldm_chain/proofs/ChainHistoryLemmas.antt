@@ -6,7 +6,7 @@ use Rattle.ldm_outside.specs.Io.{WritesFront}
 use Rattle.ldm_model.specs.declared.event.Entry.{Entry}
 use Rattle.ldm_model.specs.State.{State}
 use Rattle.ldm_model.specs.History.{after}
-use Rattle.ldm_calls.specs.Lawful.{IsLawful}
+use Rattle.ldm_model.specs.Lawful.{IsLawful}
 use Rattle.ldm_status.specs.declared.status.Status.{Status}
 use Rattle.ldm_status.specs.Status.{code_of}
 use Rattle.ldm_command_files.specs.declared.conf_file.ConfNotTaken.TheVariants as untaken_conf

@@ -5,7 +5,7 @@ use Rattle.std.proofs.lemmas.List.{append-nil}
 use Rattle.ldm_model.specs.declared.event.Entry.{Entry}
 use Rattle.ldm_model.specs.State.{State}
 use Rattle.ldm_model.specs.History.{IsLegal}
-use Rattle.ldm_calls.specs.Lawful.{IsLawful}
+use Rattle.ldm_model.specs.Lawful.{IsLawful}
 use Rattle.ldm_status.specs.Status.{Reports}
 use Rattle.ldm_chain.specs.declared.fault.ChainFault.{ChainFault}
 use Rattle.ldm_chain.specs.declared.fault.ChainFault.TheVariants as stop

@@ -5,9 +5,8 @@ use Rattle.std.proofs.lemmas.List.{append-nil}
 use Rattle.ldm_types.specs.declared.limits.TheConstants.{LARGEST_ARENA}
 use Rattle.ldm_model.specs.declared.event.Entry.{Entry}
 use Rattle.ldm_model.specs.Product.{Product}
-use Rattle.ldm_model.specs.State.{State}
+use Rattle.ldm_model.specs.State.{State, empty}
 use Rattle.ldm_model.specs.History.{after_entries, IsLegalFrom}
-use Rattle.ldm_model.specs.State.{empty}
 use Rattle.ldm_model.proofs.Appended.{after_entries-append, IsLegalFrom-append}
 use Rattle.ldm_class.specs.Classes.{resumed}
 use Rattle.ldm_outside.specs.Session.{SessionRecord}
@@ -15,7 +14,7 @@ use Rattle.ldm_shared.specs.Passes.{PassView, Calls, Makes}
 use Rattle.ldm_intake.specs.declared.end.RecvEnd.{RecvEnd}
 use Rattle.ldm_intake.specs.Course.{Leads}
 use Rattle.ldm_intake.specs.Receiving.{Receiving}
-use Rattle.ldm_intake.specs.Room.{records_of}
+use Rattle.ldm_relay.specs.Spelling.{records_of}
 use Rattle.ldm_intake.specs.Taken.{Taken}
 use Rattle.ldm_sender.specs.declared.end.SendEnd.TheVariants.{Stopped}
 use Rattle.ldm_sender.specs.Asked.{Asked}

@@ -15,14 +15,13 @@ use Rattle.ldm_rpc.specs.Streams.{Position}
 use Rattle.ldm_relay.specs.Fits.{ClassFits}
 use Rattle.ldm_relay.specs.Sent.{Sent}
 use Rattle.ldm_relay.specs.Sent as sent
-use Rattle.ldm_relay.specs.Spelling.{record_of, written}
+use Rattle.ldm_relay.specs.Spelling.{record_of, written, records_of}
 use Rattle.ldm_outside.specs.Link.{bytes_given, bytes_sent}
 use Rattle.ldm_shared.specs.Passes.{PassView}
 use Rattle.ldm_intake.specs.declared.end.RecvEnd.{RecvEnd}
 use Rattle.ldm_intake.specs.Course.{Comes, Leads, then}
 use Rattle.ldm_intake.specs.Opening.{request_of}
 use Rattle.ldm_intake.specs.Receiving.{Receiving}
-use Rattle.ldm_intake.specs.Room.{records_of}
 use Rattle.ldm_intake.specs.Taken.{Arrival, Taken, taken, taken_none}
 use Rattle.ldm_intake.proofs.Courses.{leads-same, leads-then_comes, leads-then_parts}
 use Rattle.ldm_intake.proofs.TakenRecords.{goes_on, goes_on_at, in_front, taken-append, taken-from_none}

@@ -13,7 +13,7 @@ use Rattle.ldm_shared.specs.Passes.{SharedView, PassView, IsPassOf, IsSamePass}
 use Rattle.ldm_intake.specs.declared.end.RecvEnd.{RecvEnd}
 use Rattle.ldm_intake.specs.Opening.{request_of}
 use Rattle.ldm_intake.specs.Receiving.{Receiving}
-use Rattle.ldm_intake.specs.Room.{records_of}
+use Rattle.ldm_relay.specs.Spelling.{records_of}
 use Rattle.ldm_intake.specs.TakesRecord.{Standing, stands}
 use Rattle.ldm_session.specs.declared.limits.TheConstants.{LONGEST_STREAM}
 use Rattle.ldm_downstream.specs.Pieces.{Piece, beginning, joined}

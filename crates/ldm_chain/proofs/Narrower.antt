@@ -16,7 +16,7 @@ use Rattle.ldm_class.specs.Classes.{is_resumption, resumed, signature_in}
 use Rattle.ldm_class.specs.declared.answers.Reduced.TheVariants.{Same, Fewer, Nothing}
 use Rattle.ldm_class.proofs.Left.{whole_left}
 use Rattle.ldm_relay.specs.Fits.{ClassFits, SpecFits}
-use Rattle.ldm_intake.specs.Asking.{same_class, same_spec, same_specs}
+use Rattle.ldm_class.specs.Asking.{same_class, same_spec, same_specs}
 use Rattle.ldm_chain.specs.Queues.{IsForAllTimes}
 
 -- ---- it is another class

@@ -3,7 +3,7 @@ use Rattle.std.proofs.Common.{◌≡◌, List, ℕ, ◌++◌, Option, Some, None
 use Rattle.ldm_intake.specs.declared.end.RecvEnd.{RecvEnd}
 use Rattle.ldm_intake.specs.Course.{Course}
 use Rattle.ldm_intake.specs.Notes.{note_lines}
-use Rattle.ldm_intake.specs.Room.{records_of}
+use Rattle.ldm_relay.specs.Spelling.{records_of}
 use Rattle.ldm_intake.specs.Taken.{Arrival, Taken, taken, taken_none}
 use Rattle.ldm_intake.specs.TakesRecord.{Standing}
 use Rattle.ldm_rpc.specs.Streams.{Position}

@@ -9,11 +9,11 @@ use Rattle.ldm_shared.specs.Own.{own}
 use Rattle.ldm_shared.specs.Passes.{AreAllOf, HasAllOf, HasSeen, IsLast, IsPassOf, PassView, SharedView}
 use Rattle.ldm_model.specs.State.{State, Queued, queued}
 use Rattle.ldm_book.specs.View.{BookView}
-use Rattle.ldm_types.specs.declared.stat.Stat.{Stat}
+use Rattle.ldm_model.specs.declared.stat.Stat.{Stat}
 use Rattle.ldm_model.specs.Answers.{stat_answer}
 use Rattle.ldm_model.specs.Stat.{stat, stat_reply}
 use Rattle.ldm_book.specs.Answers.{Follows}
-use Rattle.ldm_script.specs.Answer.{answer_line}
+use Rattle.ldm_answers.specs.Answer.{answer_line}
 use Rattle.ldm_chain.specs.declared.node.ChainNode.{ChainNode}
 use Rattle.ldm_chain.specs.CommandQueues.{node_line, node_text, nodes_text, product_line}
 use Rattle.ldm_chain.specs.CommandNodes.{HasLegal, queue_of}

@@ -14,7 +14,7 @@ use Rattle.ldm_intake.specs.declared.end.RecvEnd.TheVariants as receive
 use Rattle.ldm_intake.specs.Course.{Leads}
 use Rattle.ldm_intake.specs.Opening.{request_of}
 use Rattle.ldm_intake.specs.Receiving.{Receiving}
-use Rattle.ldm_intake.specs.Room.{records_of}
+use Rattle.ldm_relay.specs.Spelling.{records_of}
 use Rattle.ldm_intake.specs.Taken.{Taken}
 use Rattle.ldm_intake.specs.TakesRecord.{Standing, stands}
 use Rattle.ldm_session.specs.declared.limits.TheConstants.{LONGEST_STREAM}

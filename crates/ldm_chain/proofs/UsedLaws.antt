@@ -15,7 +15,7 @@ use Rattle.ldm_shared.specs.Passes.{PassView, Makes}
 use Rattle.ldm_session.specs.Owed.{IsNoReply, Said}
 use Rattle.ldm_intake.specs.Course.{Leads}
 use Rattle.ldm_intake.specs.Receiving.{Receiving}
-use Rattle.ldm_intake.specs.Room.{records_of}
+use Rattle.ldm_relay.specs.Spelling.{records_of}
 use Rattle.ldm_intake.specs.Taken.{Taken}
 use Rattle.ldm_intake.specs.TakesRecord.{Standing}
 use Rattle.ldm_shared.specs.Staying.{HasRow}

@@ -6,7 +6,7 @@ use Rattle.ldm_model.specs.declared.event.Reply.TheVariants as reply
 use Rattle.ldm_model.specs.State.{State, Queued, empty, queued}
 use Rattle.ldm_model.specs.Stat.{stat_reply}
 use Rattle.ldm_class.specs.Rules.{Rules}
-use Rattle.ldm_script.specs.Answer.{answer_line}
+use Rattle.ldm_answers.specs.Answer.{answer_line}
 use Rattle.ldm_chain.specs.Listing.{listed}
 use Rattle.ldm_chain.specs.Script.{script_played}
 use Rattle.ldm_chain.specs.Putting.{inserted_all}

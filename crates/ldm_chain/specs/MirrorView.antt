@@ -6,7 +6,7 @@ use Rattle.ldm_outside.specs.declared.io.Put.{Put}
 use Rattle.ldm_outside.specs.declared.io.Put.TheVariants as put
 use Rattle.ldm_outside.specs.declared.link.Passed.{Passed}
 use Rattle.ldm_outside.specs.Link.{LinkRecord, bytes_sent, then_piece}
-use Rattle.ldm_outside.specs.Memory.{raised}
+use Rattle.ldm_outside.specs.Count.{raised}
 use Rattle.ldm_shared.specs.Passes.{PassView}
 use Rattle.ldm_session.specs.declared.limits.TheConstants.{LONGEST_STREAM}
 use Rattle.ldm_downstream.specs.ReceiverView.{ReceiverView}

@@ -2,7 +2,7 @@
 use Rattle.std.specs.Prelude.{ℕ, Some, None}
 use Rattle.ldm_outside.specs.Clock.{ClockRecord}
 use Rattle.ldm_outside.specs.Gate.{GateRecord}
-use Rattle.ldm_outside.specs.Memory.{told_by_sure_sink}
+use Rattle.ldm_outside.specs.Sure.{told_by_sure_sink}
 use Rattle.ldm_outside.specs.Session.{SessionRecord}
 use Rattle.ldm_chain.specs.MirrorView.{MirrorView, told_by_mirror}
 

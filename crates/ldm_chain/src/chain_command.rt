@@ -18,7 +18,7 @@ use crate::policy::take_policy;
 use crate::setup::ChainSetup;
 use crate::statuses::status_of;
 use crate::texts::text_of;
-use ldm_calls::histories_are_lawful;
+use ldm_model::histories_are_lawful;
 use ldm_outside::{Clock, Sink, Source, Store, write_all};
 use ldm_status::{Streams, take_script};
 use std::alloc::Global;

@@ -5,7 +5,7 @@ ghost use Rattle.ldm_outside.specs.Io.{WritesFront};
 ghost use Rattle.ldm_model.specs.declared.event.Entry.{Entry};
 ghost use Rattle.ldm_model.specs.State.{State};
 ghost use Rattle.ldm_model.specs.History.{after};
-ghost use Rattle.ldm_calls.specs.Lawful.{IsLawful};
+ghost use Rattle.ldm_model.specs.Lawful.{IsLawful};
 ghost use Rattle.ldm_chain.specs.Script.{script_played};
 ghost use Rattle.ldm_chain.specs.Work.{ChainOutside, ChainWork};
 ghost use Rattle.ldm_chain.specs.CommandQueues.{nodes_text};

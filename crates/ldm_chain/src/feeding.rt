@@ -8,7 +8,7 @@ ghost use Rattle.ldm_class.specs.declared.answers.Reduced.TheVariants as reduced
 ghost use Rattle.ldm_session.specs.declared.gaps.TheConstants.{LONGEST_NAME};
 ghost use Rattle.ldm_shared.specs.Passes.{IsPassOf, IsSamePass};
 ghost use Rattle.ldm_intake.specs.Opening.{request_of};
-ghost use Rattle.ldm_intake.specs.Room.{records_of};
+ghost use Rattle.ldm_relay.specs.Spelling.{records_of};
 ghost use Rattle.ldm_downstream.specs.ReceiverView.{before_stream};
 ghost use Rattle.ldm_downstream.specs.Receives.{at_first};
 ghost use Rattle.ldm_chain.specs.Breaking.{Breaks, Came, CameRest, IsUnbuilt};

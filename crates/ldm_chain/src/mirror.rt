@@ -3,7 +3,7 @@ ghost use Rattle.std.specs.Prelude.{◌≡◌, ◌≤◌, ◌<◌, ◌+◌, leng
 ghost use Rattle.ldm_shared.specs.Passes.{IsPassOf, IsSamePass};
 ghost use Rattle.ldm_session.specs.declared.limits.TheConstants.{LONGEST_STREAM};
 ghost use Rattle.ldm_intake.specs.Opening.{request_of};
-ghost use Rattle.ldm_intake.specs.Room.{records_of};
+ghost use Rattle.ldm_relay.specs.Spelling.{records_of};
 ghost use Rattle.ldm_downstream.specs.ReceiverView.{before_stream};
 ghost use Rattle.ldm_downstream.specs.Receives.{at_first};
 ghost use Rattle.ldm_chain.specs.Ending.{end_pushed};

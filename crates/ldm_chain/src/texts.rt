@@ -7,8 +7,8 @@ ghost use Rattle.ldm_chain.specs.CommandQueues.{node_line, node_text, nodes_text
 ghost use Rattle.ldm_chain.specs.CommandNodes.{AreSole, HasLegal, IsSole, queue_of};
 
 use crate::node::ChainNode;
+use ldm_answers::{Answer, Text, put, put_number, write_answer};
 use ldm_book::Book;
-use ldm_script::{Answer, Text, put, put_number, write_answer};
 use ldm_shared::{calls_made, one_pass};
 use ldm_types::{Actor, OutOfMemory};
 use std::alloc::Global;

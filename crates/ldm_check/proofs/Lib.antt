@@ -1,7 +1,5 @@
 mod Agreeing
-mod Alone
 mod EachAlone
 mod Going
 mod Splits
 mod Telling
-mod Words

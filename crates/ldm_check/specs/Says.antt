@@ -2,7 +2,6 @@
 use Rattle.std.specs.Prelude.{◌≡◌, ℕ, List, [], Option, Result, Ok, Err, MatchOption}
 use Rattle.std.specs.Borrow.{Bor}
 use Rattle.ldm_conf.specs.declared.fault.ConfKind.{ConfKind}
-use Rattle.ldm_conf.specs.declared.fault.ConfKind.TheVariants as kind
 use Rattle.ldm_conf.specs.Statements.{Statement, Blank, Adds, Includes, meaning_of}
 use Rattle.ldm_text.specs.Words.{with_first, words_of}
 use Rattle.ldm_text.specs.declared.words.Comments.TheVariants.{Hash}
@@ -30,17 +29,6 @@ abbrev pub said_view : code.Said → Says
 said_view (said.Fine conf) = Fine
 said_view (said.Faulty kind) = Wrong kind
 said_view (said.Includes path) = Names path.now
-
--- what the kind of the fault tells that a line has where no file comes
-abbrev pub IsFaultOf : List ℕ → ConfKind → Type 0
-IsFaultOf line kind.Keyword = meaning_of line ≡ Err kind.Keyword
-IsFaultOf line kind.Fields = meaning_of line ≡ Err kind.Fields
-IsFaultOf line kind.Feed = meaning_of line ≡ Err kind.Feed
-IsFaultOf line kind.Pattern = meaning_of line ≡ Err kind.Pattern
-IsFaultOf line kind.Depth = meaning_of line ≡ Err kind.Depth
-IsFaultOf line kind.Store = (path : List ℕ) × (meaning_of line ≡ Ok (Includes path))
-IsFaultOf line kind.Long = (path : List ℕ) × (meaning_of line ≡ Ok (Includes path))
-IsFaultOf line kind.OutOfMemory = Unit {0}
 
 -- the first word of a text, and what stands behind it, if it has one
 abbrev pub IsFirstWord : Option (Bor (List ℕ) × Bor (List ℕ)) → List ℕ → Type 0

@@ -1,13 +1,9 @@
 //! What a line of an ldmd.conf says.
-ghost use Rattle.std.specs.Prelude.{◌≡◌, ◌≤◌, ◌∷◌, [], ℕ, List, Ok, length, IfOk};
-ghost use Rattle.ldm_conf.specs.Statements.{Includes, meaning_of};
-ghost use Rattle.ldm_text.specs.Lines.{lines_of};
-ghost use Rattle.ldm_text.specs.declared.limits.TheConstants.{LONGEST_CONFIGURATION};
-ghost use Rattle.ldm_check.specs.Says.{IsFaultOf, IsFirstWord, said_view, says};
+ghost use Rattle.std.specs.Prelude.{◌≡◌, IfOk};
+ghost use Rattle.ldm_conf.specs.Statements.{meaning_of};
+ghost use Rattle.ldm_check.specs.Says.{IsFirstWord, said_view, says};
 
-use crate::source::without_return;
-use ldm_conf::{Conf, ConfKind, read_conf};
-use ldm_outside::MemStore;
+use ldm_conf::{Conf, ConfKind, ConfLine, read_conf_line};
 use ldm_text::{Comments, first_word, to_word};
 use ldm_types::OutOfMemory;
 use std::alloc::Global;
@@ -23,45 +19,15 @@ pub(crate) enum Said<'a> {
     Includes(&'a str),
 }
 
-/// Looks at a line, by what a text of this line alone means where no file comes.
+/// Looks at a line, by what it means by itself.
 pub(crate) fn look_at(alloc: Global, line: &[u8]) -> Result<Said<'_>, OutOfMemory>
-    requires alone { lines_of line.now ≡ line.now ∷ [] }
-    requires short { length line.now ≤ LONGEST_CONFIGURATION }
     ensures { IfOk result (λ said. said_view said ≡ says (meaning_of line.entry.now)) }
 {
-    let mut nothing = MemStore::new(alloc, Vec::new(alloc), Vec::new(alloc));
-    match read_conf(alloc, line, &mut nothing) {
-        Ok(conf) => Ok(Said::Fine(conf)),
-        Err(fault) => by_fault(line, fault.kind),
-    }
-}
-
-// What a line says that is no configuration where no file comes, by the kind of its fault.
-fn by_fault(line: &[u8], kind: ConfKind) -> Result<Said<'_>, OutOfMemory>
-    requires { IsFaultOf line.now kind }
-    ensures { IfOk result (λ said. said_view said ≡ says (meaning_of line.entry.now)) }
-{
-    match kind {
-        ConfKind::OutOfMemory => Err(OutOfMemory),
-        ConfKind::Store | ConfKind::Long => Ok(Said::Includes(path_named(line))),
-        _ => Ok(Said::Faulty(kind)),
-    }
-}
-
-// The path that an INCLUDE line names.
-fn path_named(line: &[u8]) -> &str
-    requires { (path : List ℕ) × (meaning_of line.now ≡ Ok (Includes path)) }
-    ensures { meaning_of line.entry.now ≡ Ok (Includes result.now) }
-{
-    let Some((_, behind)) = take_word(without_return(line)) else {
-        unreachable!()
-    };
-    let Some((path, _)) = take_word(behind) else {
-        unreachable!()
-    };
-    match str::from_utf8(path) {
-        Ok(path) => path,
-        Err(_) => unreachable!(),
+    match read_conf_line(alloc, line) {
+        Ok(ConfLine::Conf(conf)) => Ok(Said::Fine(conf)),
+        Ok(ConfLine::Includes(path)) => Ok(Said::Includes(path)),
+        Err(ConfKind::OutOfMemory) => Err(OutOfMemory),
+        Err(kind) => Ok(Said::Faulty(kind)),
     }
 }
 

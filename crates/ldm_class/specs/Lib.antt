@@ -11,3 +11,4 @@ pub mod PolicyView
 pub mod RuleView
 pub mod Rules
 pub mod Searches
+pub mod Asking

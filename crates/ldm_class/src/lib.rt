@@ -7,6 +7,7 @@
 #![tactic(auto)]
 
 mod answers;
+mod asking;
 mod class;
 mod class_matcher;
 mod host_policy;
@@ -17,6 +18,7 @@ mod search;
 mod verdict;
 
 pub use answers::{Reduced, Verdict};
+pub use asking::{asked_class, is_same_class};
 pub use class::{BUILT_MOST, Class, ClassFault};
 pub use class_matcher::{ClassMatcher, MATCHERS_MOST};
 pub use host_policy::HostPolicy;

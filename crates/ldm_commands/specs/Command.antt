@@ -1,6 +1,6 @@
 -- The words of the program: which command they ask for.
 use Rattle.std.specs.Prelude.{ℕ, ◌-◌, ◌^◌, ◌||◌, Bool, false, List, [], ◌∷◌, codes, bytes_eq, Option, Some, None, option_map, if◌then◌else◌}
-use Rattle.ldm_script.specs.Number.{number_up_to}
+use Rattle.ldm_answers.specs.Number.{number_up_to}
 use Rattle.ldm_words.specs.Checking.{CheckForm, check_form}
 use Rattle.ldm_words.specs.Forms.{ActForm, CatForm, ChainForm, InsertForm, MonForm, NodeForm, NoticesForm, SaveForm, StatsForm, WmoForm}
 use Rattle.ldm_words.specs.Forms.{act_form, cat_form, chain_form, file_form, insert_form, mon_form, node_form, notices_form, save_form, stats_form, wmo_form}

@@ -5,8 +5,8 @@ ghost use Rattle.ldm_commands.specs.Command.{take_memory, play_of, with_file, wi
 ghost use Rattle.ldm_commands.specs.Doing.{IsUnread};
 ghost use Rattle.ldm_commands.specs.Views.{IsWithin, form_of};
 
+use ldm_answers::read_number;
 use ldm_exercise::MOST_DRAWN;
-use ldm_script::read_number;
 use ldm_words::{
     ActWords, CatWords, ChainWords, CheckWords, InsertWords, MonWords, NodeWords, NoticesWords,
     SaveWords, StatsWords, WmoWords, WordsFault, read_chain, read_check, read_file, read_node,

@@ -15,3 +15,4 @@ pub mod AddressViews
 pub mod DirectiveViews
 pub mod Adding
 pub mod States
+pub mod Alone

@@ -25,6 +25,6 @@ pub use limits::{
     ALTERNATE_MAX_HEREIS, DEEPEST_INCLUDE, DEFAULT_PORT, LONGEST_HOST_NAME, MOST_FILES,
     PRIMARY_MAX_HEREIS,
 };
-pub use reader::read_conf;
+pub use reader::{ConfLine, read_conf, read_conf_line};
 pub use request::Request;
 pub use transfer::Transfer;

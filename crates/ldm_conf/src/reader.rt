@@ -2,6 +2,7 @@
 ghost use Rattle.std.specs.Prelude.{◌≡◌, ◌<◌, ◌≤◌, ◌^◌, [], true, Ok, Err, length};
 ghost use Rattle.std.specs.Prelude.{IfOk, IfSome, MatchResult, MatchOption};
 ghost use Rattle.ldm_conf.specs.declared.fault.ConfKind.TheVariants as kind;
+ghost use Rattle.ldm_conf.specs.Alone.{MeansAlone};
 ghost use Rattle.ldm_conf.specs.Causes.{HasCause, IsIn, ReadsConf, first_too_long};
 ghost use Rattle.ldm_conf.specs.Confs.{conf_view};
 ghost use Rattle.ldm_text.specs.Lines.{length_left};
@@ -44,6 +45,30 @@ pub fn read_conf<F: Store>(alloc: Global, bytes: &[u8], store: &mut F) -> Result
     let mut reader = Reader { conf, files: 1 };
     reader.read_file(alloc, store, Lines::of(0, 0, bytes))?;
     Ok(reader.conf)
+}
+
+/// What a line means that stands alone.
+#[derive(Drop)]
+pub enum ConfLine<'a> {
+    /// The configuration of this line; of a blank line or a comment the empty one.
+    Conf(Conf),
+    /// The path of the file whose lines stand here.
+    Includes(&'a str),
+}
+
+/// What a line of an ldmd.conf means by itself. No file is read. The fault is that of the line, or want of memory.
+pub fn read_conf_line<'a>(alloc: Global, line: &'a [u8]) -> Result<ConfLine<'a>, ConfKind>
+    ensures { MatchResult result (MeansAlone line.now) (IsKindOf (meaning_of line.now)) }
+{
+    let Ok(conf) = Conf::create(alloc) else {
+        return Err(ConfKind::OutOfMemory);
+    };
+    let mut reader = Reader { conf, files: 1 };
+    match reader.read_line(alloc, line) {
+        Ok(None) => Ok(ConfLine::Conf(reader.conf)),
+        Ok(Some(path)) => Ok(ConfLine::Includes(path)),
+        Err(kind) => Err(kind),
+    }
 }
 
 // A fault that stands at no line.

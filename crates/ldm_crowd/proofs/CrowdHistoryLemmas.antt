@@ -3,7 +3,7 @@ use Rattle.std.proofs.Common.{◌≡◌, ◌⊎◌, ℕ, List, inl, inr, subst, 
 use Rattle.ldm_outside.specs.Io.{WritesFront}
 use Rattle.ldm_model.specs.declared.event.Entry.{Entry}
 use Rattle.ldm_script.specs.Order.{Asked}
-use Rattle.ldm_calls.specs.Lawful.{IsLawful}
+use Rattle.ldm_model.specs.Lawful.{IsLawful}
 use Rattle.ldm_crowd.specs.Interleaving.{IsInterleaving, crowd_text}
 use Rattle.ldm_status.specs.Status.{code_of}
 use Rattle.ldm_status.specs.Streams.{StreamsRecord}

@@ -7,7 +7,7 @@ use Rattle.ldm_model.specs.History.{after}
 use Rattle.ldm_model.specs.Stat.{stat}
 use Rattle.ldm_book.specs.Limits.{IsGoodArena, IsGoodSlots}
 use Rattle.ldm_book.specs.View.{BookView}
-use Rattle.ldm_script.specs.Answer.{answer_line}
+use Rattle.ldm_answers.specs.Answer.{answer_line}
 use Rattle.ldm_shared.specs.Limits.{IsGoodPasses}
 use Rattle.ldm_shared.specs.Passes.{SharedView}
 use Rattle.ldm_status.specs.WholeScript.{TakesWhole}

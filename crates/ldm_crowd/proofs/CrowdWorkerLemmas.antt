@@ -5,7 +5,7 @@ use Rattle.ldm_outside.specs.Gate.{GateRecord}
 use Rattle.ldm_model.specs.declared.event.Entry.{Entry}
 use Rattle.ldm_model.specs.History.{IsLegal, after}
 use Rattle.ldm_script.specs.Order.{Asked}
-use Rattle.ldm_calls.specs.Lawful.{IsLawful}
+use Rattle.ldm_model.specs.Lawful.{IsLawful}
 use Rattle.ldm_book.specs.View.{BookView}
 use Rattle.ldm_book.specs.Stands.{StandsFor}
 use Rattle.ldm_shared.specs.Limits.{IsGoodPasses}

@@ -5,7 +5,7 @@ use Rattle.ldm_outside.specs.Io.{SourceRecord, Takes, WritesFront}
 use Rattle.ldm_status.specs.Streams.{StreamsRecord, IsUntouched}
 use Rattle.ldm_model.specs.declared.event.Entry.{Entry}
 use Rattle.ldm_script.specs.Order.{Asked}
-use Rattle.ldm_calls.specs.Lawful.{IsLawful}
+use Rattle.ldm_model.specs.Lawful.{IsLawful}
 use Rattle.ldm_book.specs.Limits.{IsGoodArena, IsGoodSlots}
 use Rattle.ldm_shared.specs.Limits.{IsGoodPasses, IsFaultOf}
 use Rattle.ldm_crowd.specs.Script.{script_of}

@@ -3,7 +3,7 @@ use Rattle.std.specs.Prelude.{◌≡◌, ℕ, List, Ok}
 use Rattle.ldm_model.specs.declared.event.Entry.{Entry}
 use Rattle.ldm_model.specs.History.{after}
 use Rattle.ldm_script.specs.Order.{Asked}
-use Rattle.ldm_calls.specs.Lawful.{IsLawful}
+use Rattle.ldm_model.specs.Lawful.{IsLawful}
 use Rattle.ldm_book.specs.View.{BookView}
 use Rattle.ldm_book.specs.Stands.{StandsFor}
 use Rattle.ldm_crowd.specs.Script.{script_of}

@@ -6,7 +6,7 @@ use Rattle.ldm_model.specs.declared.event.Reply.{Reply}
 use Rattle.ldm_model.specs.declared.event.Entry.{Entry}
 use Rattle.ldm_model.specs.History.{after}
 use Rattle.ldm_model.specs.Next.{next}
-use Rattle.ldm_script.specs.Answer.{answer_line}
+use Rattle.ldm_answers.specs.Answer.{answer_line}
 use Rattle.ldm_script.specs.Order.{Asked}
 use Rattle.ldm_script.specs.Resolve.{no_places}
 use Rattle.ldm_shared.specs.Own.{own, AreBelow}

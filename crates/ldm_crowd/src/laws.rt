@@ -4,7 +4,7 @@ ghost use Rattle.ldm_outside.specs.Io.{WritesFront};
 ghost use Rattle.ldm_status.specs.Streams.{StreamsRecord};
 ghost use Rattle.ldm_model.specs.declared.event.Entry.{Entry};
 ghost use Rattle.ldm_script.specs.Order.{Asked};
-ghost use Rattle.ldm_calls.specs.Lawful.{IsLawful};
+ghost use Rattle.ldm_model.specs.Lawful.{IsLawful};
 ghost use Rattle.ldm_crowd.specs.Interleaving.{IsInterleaving, crowd_text};
 ghost use Rattle.ldm_crowd.specs.CrowdEnding.{CrowdSize};
 ghost use Rattle.ldm_crowd.specs.Law.{ObeysCrowdLaw};

@@ -2,14 +2,14 @@
 ghost use Rattle.std.specs.Prelude.{◌≡◌, ◌+◌, ◌<◌, ◌≤◌, ◌∷◌, ◌++◌, [], length, IfOk, IfErr, OnOk, OnErr};
 ghost use Rattle.std.specs.Vec.{vec_len, vec_capacity};
 ghost use Rattle.ldm_model.specs.declared.event.Reply.{Reply};
-ghost use Rattle.ldm_script.specs.Answer.{answer_line};
+ghost use Rattle.ldm_answers.specs.Answer.{answer_line};
 ghost use Rattle.ldm_script.specs.OrderView.{asked_of, act_with, IsWhole};
 ghost use Rattle.ldm_script.specs.Resolve.{no_places};
 ghost use Rattle.ldm_shared.specs.Passes.{IsPassOf, IsSamePass};
 ghost use Rattle.ldm_crowd.specs.Interleaving.{crowd_line};
 ghost use Rattle.ldm_crowd.specs.OrdersView.{asked_lines, script_in};
 ghost use Rattle.ldm_crowd.specs.Players.{Begins, LineFails, PlaysLine, Plays, PlayerEnds, end_of_result};
-ghost use Rattle.ldm_script.specs.declared.answer.TheConstants.{LONGEST_ANSWER};
+ghost use Rattle.ldm_answers.specs.declared.answer.TheConstants.{LONGEST_ANSWER};
 ghost use Rattle.ldm_crowd.specs.declared.player.TheConstants.{ANSWER_ROOM};
 
 use crate::actor_lines::ActorLines;
@@ -17,9 +17,10 @@ use crate::orders::Orders;
 use crate::outcome::CrowdEnd;
 use crate::turns::Turns;
 use itoa::Buffer;
+use ldm_answers::LONGEST_ANSWER;
 use ldm_calls::Room;
 use ldm_outside::{Gate, Go};
-use ldm_script::{LONGEST_ANSWER, LastPlaces, LentAct, blank_info};
+use ldm_script::{LastPlaces, LentAct, blank_info};
 use ldm_shared::{Pass, Shared, Work};
 use ldm_types::{Actor, Info};
 use std::alloc::Global;

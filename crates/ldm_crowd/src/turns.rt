@@ -1,9 +1,10 @@
 //! A pass, with which the calls of a shared queue are made.
 ghost use Rattle.std.specs.Prelude.{◌≡◌, ℕ, IfOk, OnErr};
 
+use ldm_answers::Answer;
 use ldm_calls::{Caller, Unmade};
 use ldm_model::InsertReply;
-use ldm_script::{Answer, Body, Call, body_into};
+use ldm_script::{Body, Call, body_into};
 use ldm_shared::{Pass, Shared, Turn};
 use ldm_types::{Info, Micros};
 use std::sync::Wait;

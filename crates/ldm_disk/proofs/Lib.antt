@@ -1,7 +1,3 @@
 pub mod CrashLemmas
-mod Pieces
-mod MemMoments
-mod Torn
-mod MemFiles
 pub mod Told
 pub mod Filled

@@ -2,8 +2,4 @@ pub mod Told
 pub mod Model
 pub mod Moments
 pub mod Calls
-pub mod MemDisk
-pub mod Pending
-pub mod Consistent
 pub mod Desks
-pub mod MemSite

@@ -8,7 +8,7 @@ use Rattle.ldm_intake.specs.declared.end.RecvEnd.TheVariants.{Ended, Truncated, 
 use Rattle.ldm_intake.specs.Course.{Course}
 use Rattle.ldm_intake.specs.Notes.{note_lines}
 use Rattle.ldm_intake.specs.Receiving.{Receiving}
-use Rattle.ldm_intake.specs.Room.{records_of}
+use Rattle.ldm_relay.specs.Spelling.{records_of}
 use Rattle.ldm_intake.specs.Taken.{Arrival, Taken, taken, taken_none}
 use Rattle.ldm_intake.specs.TakesRecord.{Standing}
 use Rattle.ldm_downstream.specs.Pieces.{Piece, arrivals, hand}

@@ -16,7 +16,7 @@ use Rattle.ldm_intake.specs.declared.end.RecvEnd.TheVariants.{BadFrame, Refused,
 use Rattle.ldm_intake.specs.Course.{Leads}
 use Rattle.ldm_intake.specs.Notes.{note_lines}
 use Rattle.ldm_intake.specs.Record.{record_course}
-use Rattle.ldm_intake.specs.Room.{records_of}
+use Rattle.ldm_relay.specs.Spelling.{records_of}
 use Rattle.ldm_intake.specs.Step.{Step, Goes, Bad, Declined}
 use Rattle.ldm_intake.specs.Taken.{Arrival, taken_none, taken}
 use Rattle.ldm_intake.specs.declared.record_end.AnswerEnd.{AnswerEnd}

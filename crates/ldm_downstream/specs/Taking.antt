@@ -7,7 +7,7 @@ use Rattle.ldm_intake.specs.Course.{Course, Leads, Begins}
 use Rattle.ldm_intake.specs.Notes.{note_lines}
 use Rattle.ldm_intake.specs.Receiving.{Receiving}
 use Rattle.ldm_intake.specs.Record.{record_course}
-use Rattle.ldm_intake.specs.Room.{records_of}
+use Rattle.ldm_relay.specs.Spelling.{records_of}
 use Rattle.ldm_intake.specs.Taken.{Arrival, Taken, taken_none, taken}
 use Rattle.ldm_intake.specs.TakesRecord.{Standing}
 use Rattle.ldm_intake.specs.Turning.{HasClosed}

@@ -1,11 +1,10 @@
 //! A receiver that is given a stream in pieces.
-ghost use Rattle.std.specs.Prelude.{◌≡◌, ◌<◌, ◌≤◌, ◌++◌, ◌∷◌, [], true, false, IfNone, IfOk, IfSome, OnOk};
-ghost use Rattle.std.specs.Prelude.{OnErr, None, Some, cond};
+ghost use Rattle.std.specs.Prelude.{◌≡◌, ◌<◌, ◌≤◌, ◌++◌, ◌∷◌, [], true, false, IfNone, IfOk, IfSome, OnOk, OnErr, None, Some, cond};
 ghost use Rattle.std.specs.Option.{option_map};
 ghost use Rattle.ldm_outside.specs.Link.{IsNotClosed};
 ghost use Rattle.ldm_shared.specs.Passes.{IsPassOf, IsSamePass};
 ghost use Rattle.ldm_intake.specs.Opening.{requesting, accepting, request_of};
-ghost use Rattle.ldm_intake.specs.Room.{records_of};
+ghost use Rattle.ldm_relay.specs.Spelling.{records_of};
 ghost use Rattle.ldm_downstream.specs.declared.limits.TheConstants.{LONGEST_PIECE};
 ghost use Rattle.ldm_downstream.specs.Filling.{Fills};
 

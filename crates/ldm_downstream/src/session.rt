@@ -7,7 +7,7 @@ ghost use Rattle.ldm_outside.specs.Session.{SessionRecord, KeepsFaults, ungated_
 ghost use Rattle.ldm_rpc.specs.Streams.{Position};
 ghost use Rattle.ldm_shared.specs.Passes.{IsPassOf, IsSamePass};
 ghost use Rattle.ldm_intake.specs.Opening.{accepting, request_of, requesting};
-ghost use Rattle.ldm_intake.specs.Room.{records_of};
+ghost use Rattle.ldm_relay.specs.Spelling.{records_of};
 ghost use Rattle.ldm_intake.specs.TakesRecord.{Standing};
 ghost use Rattle.ldm_downstream.specs.Complete.{Completes};
 ghost use Rattle.ldm_downstream.specs.Pieces.{beginning};

@@ -6,7 +6,7 @@ ghost use Rattle.ldm_outside.specs.Link.{IsNotClosed};
 ghost use Rattle.ldm_outside.specs.Session.{SessionRecord};
 ghost use Rattle.ldm_shared.specs.Passes.{IsPassOf, IsSamePass};
 ghost use Rattle.ldm_intake.specs.Opening.{accepting, request_of, requesting};
-ghost use Rattle.ldm_intake.specs.Room.{records_of};
+ghost use Rattle.ldm_relay.specs.Spelling.{records_of};
 ghost use Rattle.ldm_downstream.specs.Pieces.{beginning};
 ghost use Rattle.ldm_downstream.specs.Receives.{at_first};
 ghost use Rattle.ldm_downstream.specs.ReceiverView.{before_stream};

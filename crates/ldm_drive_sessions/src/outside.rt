@@ -6,7 +6,7 @@ use crate::case::Case;
 use ldm_class::Policy;
 use ldm_conf::{Conf, read_conf};
 use ldm_drive::{Trial, copied};
-use ldm_outside::{LinkScript, MemClock, MemLink, MemSink, MemStore};
+use ldm_outside_memory::{LinkScript, MemClock, MemLink, MemSink, MemStore};
 use ldm_shared::{Pass, Shared};
 use std::alloc::Global;
 

@@ -1,7 +1,8 @@
 //! What a session left, as words of an answer.
 
 use ldm_drive::Trial;
-use ldm_outside::{MemLink, Way};
+use ldm_outside::Way;
+use ldm_outside_memory::MemLink;
 use ldm_relay::ClassAnswer;
 
 // So many equal bytes in a row are told as a count and one byte.

@@ -6,7 +6,7 @@ ghost use Rattle.ldm_chain.specs.Queues.{IsForAllTimes};
 
 use ldm_chain::{ChainSetup, run_chain};
 use ldm_class::Class;
-use ldm_outside::{MemClock, MemSink, MemSource, MemStore};
+use ldm_outside_memory::{MemClock, MemSink, MemSource, MemStore};
 use ldm_status::Streams;
 use std::alloc::Global;
 use std::sync::Wait;

@@ -1,7 +1,7 @@
 //! The example of ldm_check.
 
 use ldm_check::{CheckAsked, check};
-use ldm_outside::{MemSink, MemStore};
+use ldm_outside_memory::{MemSink, MemStore};
 use std::alloc::Global;
 
 /// Whether an ldmd.conf and a pqact.conf have a fault: 65, where no store fails and there is memory; else 0.

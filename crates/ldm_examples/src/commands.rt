@@ -1,8 +1,8 @@
 //! The example of ldm_commands.
 
 use ldm_commands::{World, run_ldm};
-use ldm_disk::{MemDisk, MemSite};
-use ldm_outside::{MemClock, MemDial, MemLauncher, MemNet, MemSink, MemSource, MemStore};
+use ldm_disk_memory::{MemDisk, MemSite};
+use ldm_outside_memory::{MemClock, MemDial, MemLauncher, MemNet, MemSink, MemSource, MemStore};
 use ldm_status::Streams;
 use std::alloc::Global;
 use std::sync::Wait;

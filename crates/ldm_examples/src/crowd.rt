@@ -1,7 +1,7 @@
 //! The example of ldm_crowd.
 
 use ldm_crowd::crowd;
-use ldm_outside::{MemSink, MemSource};
+use ldm_outside_memory::{MemSink, MemSource};
 use ldm_status::Streams;
 use std::alloc::Global;
 use std::sync::Wait;

@@ -1,7 +1,7 @@
 //! The example of ldm_exercise.
 
 use ldm_exercise::exercise;
-use ldm_outside::{MemSink, MemSource};
+use ldm_outside_memory::{MemSink, MemSource};
 use ldm_status::Streams;
 use std::alloc::Global;
 

@@ -1,6 +1,6 @@
 //! The example of ldm_play.
 
-use ldm_outside::{MemSink, MemSource};
+use ldm_outside_memory::{MemSink, MemSource};
 use ldm_play::play;
 use ldm_status::Streams;
 use std::alloc::Global;

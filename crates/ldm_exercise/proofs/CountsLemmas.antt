@@ -6,7 +6,7 @@ use Rattle.std.proofs.lemmas.List.Sums.{sum_by-append, sum_by-cons}
 use Rattle.std.proofs.lemmas.Grind.{flat_map-append}
 use Rattle.std.proofs.lemmas.List.Concat.{flat_map-cons}
 use Rattle.ldm_model.specs.declared.event.Reply.{Reply}
-use Rattle.ldm_script.specs.Answer.{answer_line}
+use Rattle.ldm_answers.specs.Answer.{answer_line}
 use Rattle.ldm_exercise.specs.Counts.{counts_of, is_admitted, is_duplicate, is_locked, is_product, is_gap, is_end, evicted_by, lost_by}
 use Rattle.ldm_exercise.specs.Playing.{answer_text}
 use Rattle.ldm_exercise.specs.TallyView.{and_counted}

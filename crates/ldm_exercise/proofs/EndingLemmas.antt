@@ -3,7 +3,7 @@ use Rattle.std.proofs.Common.{◌≡◌, ℕ, List, [], Result, Ok, Err, inl, in
 use Rattle.std.proofs.lemmas.List.{append-nil}
 use Rattle.ldm_model.specs.History.{IsLegal}
 use Rattle.ldm_model.specs.declared.event.Entry.{Entry}
-use Rattle.ldm_calls.specs.Lawful.{IsLawful}
+use Rattle.ldm_model.specs.Lawful.{IsLawful}
 use Rattle.ldm_status.specs.Streams.{StreamsRecord}
 use Rattle.ldm_status.specs.Status.{Reports}
 use Rattle.ldm_exercise.specs.declared.exercise_command.ExerciseFault.{ExerciseFault}

@@ -3,7 +3,7 @@ use Rattle.std.specs.Prelude.{◌⊎◌, ℕ}
 use Rattle.ldm_outside.specs.Count.{Rose}
 use Rattle.ldm_outside.specs.Io.{Takes, WritesFront}
 use Rattle.ldm_status.specs.Streams.{StreamsRecord, IsUntouched}
-use Rattle.ldm_calls.specs.Lawful.{IsLawful}
+use Rattle.ldm_model.specs.Lawful.{IsLawful}
 use Rattle.ldm_exercise.specs.Playing.{arena, slots, exercised}
 use Rattle.ldm_exercise.specs.Summary.{summary}
 

@@ -4,7 +4,7 @@ use Rattle.std.specs.List.{flat_map}
 use Rattle.ldm_model.specs.declared.event.Reply.{Reply}
 use Rattle.ldm_script.specs.Order.{Order}
 use Rattle.ldm_script.specs.Resolve.{Playing, new_play, answer_order}
-use Rattle.ldm_script.specs.Answer.{answer_line}
+use Rattle.ldm_answers.specs.Answer.{answer_line}
 use Rattle.ldm_exercise.specs.Orders.{script}
 
 -- orders that were played: the replies to them, in order, and the play that they led to

@@ -3,7 +3,7 @@ use Rattle.std.specs.Prelude.{ℕ, List, [], ◌∷◌, ◌++◌, codes}
 use Rattle.hex.specs.Hex.{encode_lower}
 use Rattle.md5.specs.Md5.{md5}
 use Rattle.ldm_model.specs.declared.event.Reply.{Reply}
-use Rattle.ldm_script.specs.Answer.{blank_number}
+use Rattle.ldm_answers.specs.Answer.{blank_number}
 use Rattle.ldm_exercise.specs.Counts.{Counts, counts_of}
 use Rattle.ldm_exercise.specs.Playing.{exercised, answer_text}
 

@@ -1,11 +1,11 @@
 //! What is kept of the answers to the orders of an exercise.
 ghost use Rattle.std.specs.Prelude.{◌≡◌, ◌+◌, ◌^◌, ◌<◌, ◌++◌, ◌∷◌, [], List};
 ghost use Rattle.ldm_model.specs.declared.event.Reply.{Reply};
-ghost use Rattle.ldm_script.specs.Answer.{reply_of, FitsAnswer};
+ghost use Rattle.ldm_answers.specs.Answer.{reply_of, FitsAnswer};
 ghost use Rattle.ldm_exercise.specs.Kept.{Keeps};
 
 use crate::tally::Tally;
-use ldm_script::{Answer, Text, write_answer};
+use ldm_answers::{Answer, Text, write_answer};
 use md5::{Digest, Md5};
 
 /// What is kept of answers: the digest of their lines, and how many there are of each kind.

@@ -1,15 +1,16 @@
 //! The calls that the orders of an exercise ask for.
 ghost use Rattle.std.specs.Prelude.{◌≡◌, ◌≤◌, length, IfOk, OnErr};
 ghost use Rattle.ldm_calls.specs.OnBook.{BookAnswers};
-ghost use Rattle.ldm_script.specs.Answer.{reply_of, FitsAnswer};
+ghost use Rattle.ldm_answers.specs.Answer.{reply_of, FitsAnswer};
 ghost use Rattle.ldm_exercise.specs.OrderView.{event_of, IsShort};
 ghost use Rattle.ldm_exercise.specs.declared.order.TheConstants.{BODY_LIMIT, READ_SIZE};
 
 use crate::order::{BODY_LIMIT, Order, READ_SIZE, Request};
+use ldm_answers::Answer;
 use ldm_book::Book;
 use ldm_calls::{Caller, Unmade};
 use ldm_model::Start;
-use ldm_script::{Answer, Body, Call};
+use ldm_script::{Body, Call};
 use ldm_types::{CursorNo, Feed};
 
 /// Makes the call of an order, and answers what the queue does. A body that is inserted is made in `body_room`, and the

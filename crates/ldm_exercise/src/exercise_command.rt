@@ -13,7 +13,7 @@ use crate::order::MOST_DRAWN;
 use crate::playing::play_script;
 use crate::statuses::status_of;
 use crate::summary::summary_for;
-use ldm_calls::histories_are_lawful;
+use ldm_model::histories_are_lawful;
 use ldm_outside::{Sink, SinkFailed, write_all};
 use ldm_status::Streams;
 use ldm_types::OutOfMemory;

@@ -10,7 +10,7 @@ ghost use Rattle.ldm_exercise.specs.Summary.{digest_line, first_line, summary_of
 use crate::answers::Answers;
 use crate::tally::COUNTS_ROOM;
 use arrayvec::ArrayVec;
-use ldm_script::{put, put_number};
+use ldm_answers::{put, put_number};
 use ldm_signature::write_hex;
 use ldm_types::Signature;
 use md5::{Digest, Md5};

@@ -1,14 +1,14 @@
 //! How many answers there are of each kind.
 ghost use Rattle.std.specs.Prelude.{◌≡◌, ◌+◌, ◌^◌, ◌<◌, ◌≤◌, ◌++◌, [], decimal, length};
 ghost use Rattle.arrayvec.specs.ArrayVec.{array_vec_len};
-ghost use Rattle.ldm_script.specs.Answer.{blank_number, reply_of};
+ghost use Rattle.ldm_answers.specs.Answer.{blank_number, reply_of};
 ghost use Rattle.ldm_exercise.specs.Counts.{counts_of};
 ghost use Rattle.ldm_exercise.specs.Summary.{counts_line, insertion_counts, step_counts};
 ghost use Rattle.ldm_exercise.specs.TallyView.{and_counted};
 
 use arrayvec::ArrayVec;
 use itoa::Buffer;
-use ldm_script::{Answer, put};
+use ldm_answers::{Answer, put};
 use std::marker::Model;
 
 /// How many answers there are of each kind that is told, the sum of the evictions of the admitted, and that of the

@@ -8,7 +8,7 @@ use Rattle.ldm_model.specs.declared.event.Reply.TheVariants as reply
 use Rattle.ldm_shared.specs.Passes.{IsPassOf, Makes, PassView, SharedView, entry_of, new_pass}
 use Rattle.ldm_shared.specs.Reader.{HasCursor}
 use Rattle.ldm_intake.specs.Opening.{request_of}
-use Rattle.ldm_intake.specs.Room.{records_of}
+use Rattle.ldm_relay.specs.Spelling.{records_of}
 use Rattle.ldm_downstream.specs.ReceiverView.{before_stream}
 use Rattle.ldm_gather.specs.declared.gatherer.Gatherer.{Gatherer}
 use Rattle.ldm_gather.specs.declared.limits.TheConstants.{EVERY_FEEDTYPE, PASSES}

@@ -13,7 +13,7 @@ use Rattle.ldm_intake.specs.declared.record_end.MessageEnd.TheVariants as messag
 use Rattle.ldm_intake.specs.Course.{Course, Comes, Asks, Leads, Begins}
 use Rattle.ldm_intake.specs.Notes.{Note, note_lines}
 use Rattle.ldm_intake.specs.Receiving.{Receiving}
-use Rattle.ldm_intake.specs.Room.{records_of}
+use Rattle.ldm_relay.specs.Spelling.{records_of}
 use Rattle.ldm_intake.specs.Step.{Step, Goes}
 use Rattle.ldm_intake.specs.TakesRecord.{Standing, TakesRecord, stands}
 use Rattle.ldm_intake.specs.Turning.{end_of_turn}

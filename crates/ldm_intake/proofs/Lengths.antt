@@ -9,10 +9,9 @@ use Rattle.ldm_xdr.specs.Spelling.{number}
 use Rattle.ldm_relay.specs.declared.message.SoonAnswer.{SoonAnswer}
 use Rattle.ldm_relay.specs.declared.message.SoonAnswer.TheVariants as soon_answer
 use Rattle.ldm_relay.specs.Sent as sent
-use Rattle.ldm_relay.specs.Spelling.{written, record_of, reply_header, accepted_header, no_authentication}
+use Rattle.ldm_relay.specs.Spelling.{written, record_of, reply_header, accepted_header, no_authentication, records_of}
 use Rattle.ldm_relay.specs.Sent.{Sent}
 use Rattle.ldm_intake.specs.Notes.{Note, note_line, note_lines}
-use Rattle.ldm_intake.specs.Room.{records_of}
 
 length-number : (n : ℕ) → length (number w32 n) ≡ 4
 unfolding number

@@ -14,7 +14,7 @@ use Rattle.ldm_intake.specs.declared.phase.Phase.TheVariants.{Asked, Feeding}
 use Rattle.ldm_intake.specs.Answered.{asks_again, by_answer}
 use Rattle.ldm_intake.specs.Course.{Comes}
 use Rattle.ldm_intake.specs.Receiving.{Receiving}
-use Rattle.ldm_intake.specs.Room.{records_of}
+use Rattle.ldm_relay.specs.Spelling.{records_of}
 use Rattle.ldm_intake.specs.Step.{Step, Goes, Bad}
 use Rattle.ldm_intake.specs.TakesRecord.{GoesOn, stands}
 

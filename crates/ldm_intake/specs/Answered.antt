@@ -6,7 +6,7 @@ use Rattle.ldm_relay.specs.declared.message.ClassAnswer.TheVariants as class_ans
 use Rattle.ldm_relay.specs.Sent as sent
 use Rattle.ldm_class.specs.Classes.{bad_place}
 use Rattle.ldm_intake.specs.declared.phase.Phase.TheVariants.{Asked, Feeding}
-use Rattle.ldm_intake.specs.Asking.{same_class}
+use Rattle.ldm_class.specs.Asking.{same_class}
 use Rattle.ldm_intake.specs.Receiving.{Receiving}
 use Rattle.ldm_intake.specs.Step.{Step, Goes, Bad, Declined}
 

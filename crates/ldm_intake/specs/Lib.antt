@@ -1,6 +1,5 @@
 pub mod Course
 pub mod Notes
-pub mod Asking
 pub mod Receiving
 pub mod WantingView
 pub mod IntakeView

@@ -2,8 +2,8 @@
 use Rattle.std.specs.Prelude.{ℕ, List, [], ◌∷◌, ◌++◌, codes}
 use Rattle.std.specs.List.{flat_map}
 use Rattle.ldm_model.specs.declared.event.Reply.{Reply}
-use Rattle.ldm_script.specs.Texts.{spelled}
-use Rattle.ldm_script.specs.Answer.{answer_line}
+use Rattle.ldm_answers.specs.Texts.{spelled}
+use Rattle.ldm_answers.specs.Answer.{answer_line}
 
 pub data Note : Type 0 where
   -- a product with that ident is not wanted

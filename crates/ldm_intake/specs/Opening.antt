@@ -7,7 +7,7 @@ use Rattle.ldm_relay.specs.Sent as sent
 use Rattle.ldm_intake.specs.declared.phase.Phase.{Phase}
 use Rattle.ldm_intake.specs.declared.phase.Phase.TheVariants.{Asked, Feeding}
 use Rattle.ldm_intake.specs.Answered.{number_of_request}
-use Rattle.ldm_intake.specs.Asking.{asked_class}
+use Rattle.ldm_class.specs.Asking.{asked_class}
 use Rattle.ldm_intake.specs.Receiving.{Receiving}
 
 -- The products of a class are asked for, behind the last one that was received.

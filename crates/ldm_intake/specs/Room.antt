@@ -1,16 +1,9 @@
 -- Room for what one record makes a receiver write.
-use Rattle.std.specs.Prelude.{ℕ, ◌+◌, ◌≤◌, List}
+use Rattle.std.specs.Prelude.{ℕ, ◌+◌, ◌≤◌}
 use Rattle.std.specs.Global.{Vec}
-use Rattle.std.specs.List.{flat_map}
 use Rattle.std.specs.Vec.{vec_len, vec_capacity}
-use Rattle.ldm_relay.specs.Sent.{Sent}
-use Rattle.ldm_relay.specs.Spelling.{written, record_of}
 use Rattle.ldm_intake.specs.declared.notes.TheConstants.{LONGEST_NOTE}
 use Rattle.ldm_intake.specs.declared.replies.TheConstants.{SOON_REPLY}
-
--- the records of messages, in order
-abbrev pub records_of : List Sent → List ℕ
-records_of messages = flat_map (λ m. record_of (written m)) messages
 
 -- room for a log line
 abbrev pub HasNoteRoom : Vec ℕ → Type 0

@@ -11,7 +11,7 @@ use Rattle.ldm_intake.specs.declared.record_end.MessageEnd.TheVariants as messag
 use Rattle.ldm_intake.specs.Course.{Course, Leads, Begins}
 use Rattle.ldm_intake.specs.Notes.{Note, note_lines}
 use Rattle.ldm_intake.specs.Receiving.{Receiving}
-use Rattle.ldm_intake.specs.Room.{records_of}
+use Rattle.ldm_relay.specs.Spelling.{records_of}
 use Rattle.ldm_intake.specs.Step.{Step, Goes, Bad, Declined}
 
 -- What a record changes: the receiving, the pass, the bytes that the peer is owed, and those of the log.

@@ -7,7 +7,8 @@ ghost use Rattle.ldm_shared.specs.Passes.{IsPassOf};
 ghost use Rattle.ldm_intake.specs.Notes.{note_lines};
 ghost use Rattle.ldm_intake.specs.Products.{comingsoon, comingsoon_wanted, reserved, accepts, commits};
 ghost use Rattle.ldm_intake.specs.Receiving.{with_last};
-ghost use Rattle.ldm_intake.specs.Room.{HasNoteRoom, HasReplyRoom, records_of};
+ghost use Rattle.ldm_intake.specs.Room.{HasNoteRoom, HasReplyRoom};
+ghost use Rattle.ldm_relay.specs.Spelling.{records_of};
 ghost use Rattle.ldm_intake.specs.TakesRecord.{TakesRecord, stands};
 ghost use Rattle.ldm_intake.specs.Turning.{end_of_turn};
 

@@ -10,12 +10,11 @@ ghost use Rattle.ldm_relay.specs.declared.procedure.Procedure.TheVariants as pro
 ghost use Rattle.ldm_relay.specs.Procedure.{number_of};
 ghost use Rattle.ldm_relay.specs.Reading.{reply_of};
 
-use crate::asking::is_same_class;
 use crate::intake::Intake;
 use crate::reading::read_answer;
 use crate::record_end::AnswerEnd;
 use crate::replies::put_feedme;
-use ldm_class::{Class, ClassFault};
+use ldm_class::{Class, ClassFault, is_same_class};
 use ldm_relay::ClassAnswer;
 use ldm_types::ClassSpec;
 

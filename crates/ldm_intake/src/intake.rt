@@ -2,18 +2,17 @@
 ghost use Rattle.std.specs.Prelude.{◌≡◌, ◌++◌, IfOk, OnOk, OnErr};
 ghost use Rattle.std.specs.Option.{option_map};
 ghost use Rattle.ldm_intake.specs.Opening.{requesting, accepting, request_of};
-ghost use Rattle.ldm_intake.specs.Room.{records_of};
+ghost use Rattle.ldm_relay.specs.Spelling.{records_of};
 ghost use Rattle.ldm_intake.specs.Settled.{is_feeding, is_settled};
 ghost use Rattle.ldm_intake.specs.Turning.{HasClosed, HasKept};
 ghost use Rattle.ldm_shared.specs.Passes.{IsPassOf, IsSamePass};
 ghost use Rattle.ldm_shared.specs.Turns.{IfDone, IfWorn};
 
 use crate::answered::number_of_request;
-use crate::asking::asked_class;
 use crate::phase::{Pending, Phase};
 use crate::replies::put_feedme;
 use crate::wanting::Wanted;
-use ldm_class::{Class, Policy};
+use ldm_class::{Class, Policy, asked_class};
 use ldm_shared::{Pass, Shared, Turn, calls_made};
 use ldm_types::{Micros, OutOfMemory, Signature};
 use std::alloc::Global;

@@ -4,7 +4,6 @@
 
 mod announced;
 mod answered;
-mod asking;
 mod blocks;
 mod end;
 mod examples;
@@ -20,7 +19,6 @@ mod replies;
 mod room;
 mod wanting;
 
-pub use asking::{asked_class, is_same_class};
 pub use end::RecvEnd;
 pub use examples::worked_examples;
 pub use intake::Intake;

@@ -3,14 +3,14 @@ ghost use Rattle.std.specs.Prelude.{◌≡◌, ◌≤◌, ◌<◌, ◌+◌, ◌�
 ghost use Rattle.std.specs.Vec.{vec_len, vec_capacity};
 ghost use Rattle.ldm_types.specs.declared.limits.TheConstants.{LONGEST_IDENT};
 ghost use Rattle.ldm_model.specs.Answers.{insert_answer, reserve_answer, commit_answer};
-ghost use Rattle.ldm_script.specs.Answer.{reply_of, FitsAnswer};
+ghost use Rattle.ldm_answers.specs.Answer.{reply_of, FitsAnswer};
 ghost use Rattle.ldm_intake.specs.Notes.{note_line, note_lines};
 ghost use Rattle.ldm_intake.specs.Notes as note;
 ghost use Rattle.ldm_intake.specs.Products.{insert_note, reserve_note, commit_note};
 ghost use Rattle.ldm_intake.specs.Room.{HasNoteRoom};
 
+use ldm_answers::{Answer, LONGEST_ANSWER, Text, put, text_into, write_answer};
 use ldm_model::{CommitReply, InsertReply, ReserveReply};
-use ldm_script::{Answer, LONGEST_ANSWER, Text, put, text_into, write_answer};
 use ldm_types::{Info, LONGEST_IDENT};
 
 /// The most bytes of a log line: a word, the spelling of an ident, and an answer line.

@@ -1,7 +1,8 @@
 //! What a receiver sends.
 ghost use Rattle.std.specs.Prelude.{◌≡◌, ◌++◌, ◌∷◌, [], OnOk, OnErr};
 ghost use Rattle.ldm_relay.specs.Sent as sent;
-ghost use Rattle.ldm_intake.specs.Room.{HasReplyRoom, records_of};
+ghost use Rattle.ldm_intake.specs.Room.{HasReplyRoom};
+ghost use Rattle.ldm_relay.specs.Spelling.{records_of};
 
 use ldm_relay::{ComingsoonReply, Feedme, Message, SoonAnswer, write_message};
 use ldm_types::{ClassSpec, OutOfMemory};

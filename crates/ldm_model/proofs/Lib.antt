@@ -38,3 +38,4 @@ mod Signatures
 mod Regions
 mod RoomKept
 pub mod Witnesses
+mod Insertions

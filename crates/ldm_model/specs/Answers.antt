@@ -8,7 +8,7 @@ use Rattle.ldm_model.specs.declared.replies.LookReply.{LookReply}
 use Rattle.ldm_model.specs.declared.replies.LookReply.TheVariants as look
 use Rattle.ldm_model.specs.declared.replies.ExpireReply.{ExpireReply}
 use Rattle.ldm_model.specs.declared.replies.ExpireReply.TheVariants as expire
-use Rattle.ldm_types.specs.declared.stat.Stat.{Stat}
+use Rattle.ldm_model.specs.declared.stat.Stat.{Stat}
 use Rattle.ldm_model.specs.declared.replies.OpenReply.{OpenReply}
 use Rattle.ldm_model.specs.declared.replies.OpenReply.TheVariants as opening
 use Rattle.ldm_model.specs.declared.replies.StepReply.{StepReply}

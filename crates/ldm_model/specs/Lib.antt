@@ -14,6 +14,7 @@ pub mod Look
 pub mod Expire
 pub mod Tally
 pub mod Stat
+pub mod Figures
 pub mod Reservation
 pub mod Reserve
 pub mod Fill
@@ -26,3 +27,5 @@ pub mod Always
 pub mod Filling
 pub mod Examples
 pub mod Premises
+pub mod Lawful
+pub mod CommitExamples

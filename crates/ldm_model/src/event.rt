@@ -2,7 +2,8 @@
 
 use crate::bytes::Bytes;
 use crate::numbers::ReserveNo;
-use ldm_types::{Actor, CursorNo, Feed, Info, Micros, Signature, Stat};
+use crate::stat::Stat;
+use ldm_types::{Actor, CursorNo, Feed, Info, Micros, Signature};
 
 /// Where a cursor begins.
 #[derive(Clone, Copy, Debug)]

@@ -1,7 +1,7 @@
 //! A check of the definitions: worked examples that compute.
 ghost use Rattle.std.specs.Prelude.{◌≡◌, [], ◌∷◌, Some, None, ◌++◌};
 ghost use Rattle.ldm_types.specs.Arena.{gaps};
-ghost use Rattle.ldm_types.specs.Figures.{figures};
+ghost use Rattle.ldm_model.specs.Figures.{figures};
 ghost use Rattle.ldm_model.specs.State.{occupied};
 ghost use Rattle.ldm_model.specs.Room.{fit_in};
 ghost use Rattle.ldm_model.specs.Evict.{held, unheld, evict, evict_all};

@@ -14,6 +14,7 @@ ghost use Rattle.ldm_model.specs.Law.{ObeysLaw};
 ghost use Rattle.ldm_model.specs.Always.{Always, TimesRise, TimesAreInstants, LastIsNewest};
 ghost use Rattle.ldm_model.specs.Always.{SignaturesDiffer, LiesOnEights, HasSlots, IsInsertable};
 ghost use Rattle.ldm_model.specs.Filling.{ObeysFilling};
+ghost use Rattle.ldm_model.specs.Lawful.{IsLawful};
 ghost use Rattle.ldm_model.specs.History.{after, after_entries, IsLegal, IsLegalFrom, IsAdmitted, count_admissions};
 
 /// How a history that is appended to goes on: it is legal exactly where its front is, and what stands behind is legal
@@ -104,3 +105,16 @@ pub fn reservations_are_filled()
     ensures { (arena slots : ℕ) (history : List Entry) → IsLegal arena slots history
         → ObeysFilling arena slots history }
 {}
+
+/// The law of the queue: in every legal history each reader is given the queued products of its feeds whole, in
+/// insertion order and each once, and is told exactly how many were evicted unread before anything later is given; each
+/// reservation keeps its region and what is filled in; and an insertion is refused only as a duplicate still queued,
+/// larger than the arena, locked by held regions, or out of insertion times, and then changes nothing.
+pub fn histories_are_lawful()
+    ensures { (arena slots : ℕ) (history : List Entry) → IsLegal arena slots history → IsLawful arena slots history }
+{
+    every_reader_is_served();
+    reservations_are_filled();
+    histories_append();
+    evictions_make_room();
+}

@@ -8,6 +8,7 @@
 #![tactic(auto)]
 
 mod bytes;
+mod commits;
 mod event;
 mod examples;
 mod laws;
@@ -16,16 +17,17 @@ mod possible;
 mod premises;
 mod replies;
 mod reserving;
+mod stat;
 
 pub use bytes::Bytes;
+pub use commits::worked_examples_of_commits;
 pub use event::{Entry, Event, Reply, Start};
 pub use examples::{worked_example_of_the_law, worked_examples, worked_examples_of_cursors};
 pub use laws::{
     admissions_are_numbered, every_reader_is_served, evictions_make_room, held_products_are_queued,
-    histories_append, products_were_admitted, regions_lie_apart, reservations_are_filled,
-    signatures_differ, times_rise,
+    histories_append, histories_are_lawful, products_were_admitted, regions_lie_apart,
+    reservations_are_filled, signatures_differ, times_rise,
 };
-pub use ldm_types::Stat;
 pub use numbers::ReserveNo;
 pub use possible::{
     actor_is_possible, bytes_are_possible, commit_is_possible, feed_is_possible, fill_is_possible,
@@ -38,3 +40,4 @@ pub use replies::{
     OpenReply, ReadReply, ReleaseReply, ReserveReply, StepReply, TallyReply,
 };
 pub use reserving::worked_examples_of_reservations;
+pub use stat::Stat;

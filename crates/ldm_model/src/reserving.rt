@@ -1,7 +1,7 @@
 //! A check of the definitions of reservations: worked examples that compute.
 ghost use Rattle.std.specs.Prelude.{◌≡◌, [], ◌∷◌, ◌++◌, replicate, Some};
 ghost use Rattle.ldm_types.specs.Arena.{gaps};
-ghost use Rattle.ldm_types.specs.Figures.{figures};
+ghost use Rattle.ldm_model.specs.Figures.{figures};
 ghost use Rattle.ldm_model.specs.State.{occupied};
 ghost use Rattle.ldm_model.specs.Examples.{answers, answers_to, by, insert_of, open_from, sample_info};
 ghost use Rattle.ldm_model.specs.Examples.{reserve_of, fill_of, state_after, reserved_first, region};

@@ -1,8 +1,8 @@
 -- The lines of a node's log on its sessions.
 use Rattle.std.specs.Prelude.{ℕ, Bool, true, false, List, [], ◌∷◌, ◌++◌, codes}
 use Rattle.ldm_outside.specs.Io.{SinkRecord, Takes, WritesFront}
-use Rattle.ldm_script.specs.Answer.{blank_field}
-use Rattle.ldm_script.specs.Texts.{spelled}
+use Rattle.ldm_answers.specs.Answer.{blank_field}
+use Rattle.ldm_answers.specs.Texts.{spelled}
 use Rattle.ldm_node.specs.declared.session_end.SessionEnd.{SessionEnd}
 use Rattle.ldm_node.specs.SessionEnds.{end_name}
 

@@ -5,8 +5,8 @@ ghost use Rattle.ldm_session.specs.declared.gaps.TheConstants.{LONGEST_NAME};
 ghost use Rattle.ldm_node.specs.Lines.{session_line, unreached_line};
 
 use crate::session_end::SessionEnd;
+use ldm_answers::{Text, put, text_into};
 use ldm_outside::{Sink, SinkFailed, write_all};
-use ldm_script::{Text, put, text_into};
 
 /// Writes the line of a session that is over to the log: `session HOST END`.
 pub fn write_session<E: Sink>(log: &mut E, host: &[u8], end: SessionEnd) -> Result<(), SinkFailed>

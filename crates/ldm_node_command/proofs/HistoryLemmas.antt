@@ -5,7 +5,7 @@ use Rattle.ldm_types.specs.declared.signature.Signature.{Signature}
 use Rattle.ldm_outside.specs.Io.{WritesFront}
 use Rattle.ldm_outside.specs.Station.{StationRecord}
 use Rattle.ldm_model.specs.declared.event.Entry.{Entry}
-use Rattle.ldm_calls.specs.Lawful.{IsLawful}
+use Rattle.ldm_model.specs.Lawful.{IsLawful}
 use Rattle.ldm_shared.specs.declared.fault.CreateFault.TheVariants as queue
 use Rattle.ldm_shared.specs.Passes.{PassView}
 use Rattle.ldm_conf.specs.Confs.{ConfView}

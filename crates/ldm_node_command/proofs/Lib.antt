@@ -8,5 +8,7 @@ pub mod Journaling
 pub mod Attaching
 pub mod LawLemmas
 pub mod HistoryLemmas
+pub mod StillStands
+pub mod Unchanged
 pub mod CompleteLemmas
 pub mod ToldLemmas

@@ -6,7 +6,7 @@ use Rattle.ldm_outside.specs.Io.{Takes, WritesFront}
 use Rattle.ldm_outside.specs.Station.{StationRecord}
 use Rattle.ldm_shared.specs.declared.steps.TheConstants.{MOST_TURNS}
 use Rattle.ldm_shared.specs.Passes.{PassView}
-use Rattle.ldm_calls.specs.Lawful.{IsLawful}
+use Rattle.ldm_model.specs.Lawful.{IsLawful}
 use Rattle.ldm_conf.specs.Confs.{ConfView}
 use Rattle.ldm_node.specs.Causes.{NodeCause, SomeHas}
 use Rattle.ldm_node.specs.Clerks.{LeftRecord}

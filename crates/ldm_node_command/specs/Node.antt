@@ -9,8 +9,8 @@ use Rattle.ldm_outside.specs.Station.{StationRecord}
 use Rattle.ldm_model.specs.declared.event.Entry.{Entry}
 use Rattle.ldm_model.specs.History.{after}
 use Rattle.ldm_model.specs.Stat.{stat as stat_of}
-use Rattle.ldm_calls.specs.Lawful.{IsLawful}
-use Rattle.ldm_script.specs.Answer.{answer_line}
+use Rattle.ldm_model.specs.Lawful.{IsLawful}
+use Rattle.ldm_answers.specs.Answer.{answer_line}
 use Rattle.ldm_shared.specs.Passes.{IsLast, PassView, SharedView, new_pass}
 use Rattle.ldm_conf.specs.Confs.{ConfView}
 use Rattle.ldm_node.specs.Causes.{Completes, NodeCause}

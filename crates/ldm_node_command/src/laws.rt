@@ -4,7 +4,7 @@ ghost use Rattle.ldm_types.specs.declared.signature.Signature.{Signature};
 ghost use Rattle.ldm_outside.specs.Io.{WritesFront};
 ghost use Rattle.ldm_outside.specs.Station.{StationRecord};
 ghost use Rattle.ldm_model.specs.declared.event.Entry.{Entry};
-ghost use Rattle.ldm_calls.specs.Lawful.{IsLawful};
+ghost use Rattle.ldm_model.specs.Lawful.{IsLawful};
 ghost use Rattle.ldm_shared.specs.Passes.{PassView};
 ghost use Rattle.ldm_conf.specs.Confs.{ConfView};
 ghost use Rattle.ldm_node.specs.declared.stop.NodeStop.{NodeStop};

@@ -17,8 +17,8 @@ pub(crate) struct Lines {
     pub(crate) lasts: Vec<Option<Signature>>,
 }
 
-/// The lines of a configuration, of none of which a product is known. The workers behind those that let peers in ask for
-/// them, in order.
+/// The lines of a configuration, of none of which a product is known. The workers behind those that let peers in ask
+/// for them, in order.
 pub(crate) fn lines_of(alloc: Global, conf: &Conf, workers: u32) -> Result<Lines, OutOfMemory>
     requires { workers + length conf.now.requests.items < COUNT }
     ensures lines { IfOk result

@@ -4,13 +4,13 @@ ghost use Rattle.ldm_outside.specs.Io.{WritesAll};
 ghost use Rattle.ldm_model.specs.State.{State};
 ghost use Rattle.ldm_model.specs.Stat.{stat as stat_of};
 ghost use Rattle.ldm_book.specs.Stands.{StandsFor};
-ghost use Rattle.ldm_script.specs.Answer.{answer_line};
+ghost use Rattle.ldm_answers.specs.Answer.{answer_line};
 ghost use Rattle.ldm_node_command.specs.declared.progress.Step.TheVariants as step;
 
 use crate::progress::{Step, Steps};
+use ldm_answers::{Answer, Text, write_answer};
 use ldm_book::Book;
 use ldm_outside::{Sink, SinkFailed, write_all};
-use ldm_script::{Answer, Text, write_answer};
 use ldm_types::Actor;
 
 /// Writes how full the queue is: `stat ADMITTED QUEUED HELD USED LARGEST`. It is the last step.

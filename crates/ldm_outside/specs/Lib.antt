@@ -1,7 +1,5 @@
 pub mod Count
 pub mod Io
-pub mod Memory
-pub mod MemCalls
 pub mod Told
 pub mod Numbered
 pub mod Link
@@ -13,16 +11,8 @@ pub mod Dial
 pub mod Station
 pub mod Session
 pub mod Net
-pub mod MemLink
-pub mod MemClock
-pub mod MemGate
-pub mod MemLending
-pub mod MemDoor
-pub mod MemDial
-pub mod MemNet
 pub mod Store
+pub mod Sure
 pub mod Launcher
-pub mod MemStore
-pub mod MemLauncher
 pub mod Reason
 pub mod Putting

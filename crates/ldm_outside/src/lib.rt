@@ -1,12 +1,12 @@
-//! The outside of the program as traits, so that contracts can speak of what went in and out, and the forms
-//! of these traits that live in memory.
+//! The outside of the program as traits, so that contracts can speak of what went in and out, and the forms of these
+//! traits that need no outside: the gate that never stops, the sink that
+//! takes all.
 //!
 //! An object of the outside counts its faults. The count never falls, and a call answers `Failed` only where
 //! it rose. For contracts each object tells one record: its counts, and what it has left or took, which only the forms
 //! in memory know. Lemmas on these records stand in the proof module `CallerLemmas`.
 #![tactic(auto)]
 
-mod calls;
 mod clock;
 mod dial;
 mod door;
@@ -15,16 +15,6 @@ mod gate;
 mod io;
 mod launcher;
 mod link;
-mod mem_clock;
-mod mem_dial;
-mod mem_door;
-mod mem_gate;
-mod mem_launcher;
-mod mem_lending;
-mod mem_link;
-mod mem_net;
-mod mem_store;
-mod memory;
 mod net;
 mod open_gate;
 mod reason;
@@ -41,19 +31,10 @@ pub use gate::{Gate, GateCall, Go};
 pub use io::{Got, Put, Sink, SinkFailed, Source, write_all};
 pub use launcher::{ChildNo, Launcher};
 pub use link::{Awaited, Link, LinkFailed, Passed, Way, send_all};
-pub use mem_clock::MemClock;
-pub use mem_dial::{DialCall, MemDial};
-pub use mem_door::{MemDoor, MemPeer};
-pub use mem_gate::MemGate;
-pub use mem_launcher::{MemChild, MemLauncher};
-pub use mem_link::{LinkScript, MemLink};
-pub use mem_net::{MemNet, MemStation, StationScript, StationsCall};
-pub use mem_store::{MemFile, MemPath, MemStore};
-pub use memory::{MemSink, MemSource};
 pub use net::{Manned, Net, Station};
 pub use open_gate::OpenGate;
 pub use reason::{LONGEST_REASON, Reasons};
 pub use reason_text::Reason;
 pub use rests::Rests;
 pub use store::{FileNo, FileRead, Store};
-pub use sure::{SureSink, SureSource};
+pub use sure::SureSink;

@@ -1,8 +1,4 @@
 //! Why a call of the outside failed, in the words of the system.
-use crate::mem_dial::MemDial;
-use crate::mem_launcher::MemLauncher;
-use crate::mem_net::MemNet;
-use crate::mem_store::MemStore;
 
 /// The most bytes of a reason.
 pub const LONGEST_REASON: usize = 200;
@@ -15,28 +11,4 @@ pub trait Reasons {
     /// at most [`LONGEST_REASON`] bytes, none of them a control byte. Empty where the system said nothing.
     fn reason(&self) -> &[u8]
         ensures { IsReason result.now };
-}
-
-impl Reasons for MemStore {
-    fn reason(&self) -> &[u8] {
-        b"".as_slice()
-    }
-}
-
-impl Reasons for MemLauncher {
-    fn reason(&self) -> &[u8] {
-        b"".as_slice()
-    }
-}
-
-impl Reasons for MemDial {
-    fn reason(&self) -> &[u8] {
-        b"".as_slice()
-    }
-}
-
-impl Reasons for MemNet {
-    fn reason(&self) -> &[u8] {
-        b"".as_slice()
-    }
 }

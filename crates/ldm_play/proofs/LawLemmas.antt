@@ -12,7 +12,7 @@ use Rattle.ldm_book.specs.declared.fault.CreateFault.{CreateFault}
 use Rattle.ldm_script.specs.Lines.{cut, whole_lines, lines_of, last_line}
 use Rattle.ldm_script.specs.Resolve.{Playing, new_play}
 use Rattle.ldm_script.specs.declared.line.TheConstants.{LONGEST_LINE}
-use Rattle.ldm_calls.specs.Lawful.{IsLawful}
+use Rattle.ldm_model.specs.Lawful.{IsLawful}
 use Rattle.ldm_play.specs.declared.play_command.ScriptEnd.{ScriptEnd}
 use Rattle.ldm_play.specs.declared.play_command.ScriptEnd.TheVariants as script_end
 use Rattle.ldm_play.specs.declared.player.LineFault.{LineFault}

@@ -21,7 +21,7 @@ use Rattle.ldm_script.specs.declared.line.TheConstants.{LONGEST_LINE}
 use Rattle.ldm_script.specs.declared.order.LastPlaces.{LastPlaces}
 use Rattle.ldm_script.specs.Order.{Order, Asked, Plain, OnCursor, OnReservation}
 use Rattle.ldm_script.specs.Grammar.{read_line, read_order, is_comment, at_column}
-use Rattle.ldm_script.specs.Answer.{answer_line}
+use Rattle.ldm_answers.specs.Answer.{answer_line}
 use Rattle.ldm_script.specs.Resolve.{Playing, no_places, resolved, unresolved, last_after, after_reply, answer_event, answer_order}
 use Rattle.ldm_play.specs.Play.{Played, play_reading, play_line}
 use Rattle.ldm_play.specs.declared.player.LineFault.TheVariants as stop

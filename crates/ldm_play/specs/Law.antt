@@ -5,7 +5,7 @@ use Rattle.ldm_outside.specs.Io.{Gives, Takes, WritesFront}
 use Rattle.ldm_status.specs.Streams.{StreamsRecord, IsUntouched}
 use Rattle.ldm_script.specs.Lines.{lines_of}
 use Rattle.ldm_script.specs.Resolve.{Playing, new_play}
-use Rattle.ldm_calls.specs.Lawful.{IsLawful}
+use Rattle.ldm_model.specs.Lawful.{IsLawful}
 use Rattle.ldm_play.specs.Ending.{Size}
 use Rattle.ldm_play.specs.Play.{play}
 

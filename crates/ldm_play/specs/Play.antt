@@ -3,7 +3,7 @@ use Rattle.std.specs.Prelude.{ℕ, ◌+◌, is_some, List, [], ◌∷◌, ◌++�
 use Rattle.ldm_script.specs.Order.{Order}
 use Rattle.ldm_script.specs.Grammar.{read_line}
 use Rattle.ldm_script.specs.Resolve.{Playing, Answered, answer_order}
-use Rattle.ldm_script.specs.Answer.{answer_line}
+use Rattle.ldm_answers.specs.Answer.{answer_line}
 
 -- a line outside the grammar: its number in the script, from 1, and the column of its first fault
 pub record BadLine : Type 0 where

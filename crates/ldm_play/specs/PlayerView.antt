@@ -2,7 +2,7 @@
 use Rattle.std.specs.Prelude.{◌≡◌, ℕ, List}
 use Rattle.ldm_book.specs.View.{BookView}
 use Rattle.ldm_book.specs.Stands.{StandsFor}
-use Rattle.ldm_script.specs.Answer.{answer_line}
+use Rattle.ldm_answers.specs.Answer.{answer_line}
 use Rattle.ldm_script.specs.Resolve.{Playing, Answered}
 use Rattle.ldm_script.specs.declared.order.LastPlaces.{LastPlaces}
 use Rattle.ldm_play.specs.Legal.{StaysLegal}

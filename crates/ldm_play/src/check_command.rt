@@ -12,11 +12,11 @@ ghost use Rattle.ldm_play.specs.Steps.{CheckComes};
 use crate::files::open_file;
 use crate::saving_statuses::status_of_check;
 use arrayvec::ArrayVec;
+use ldm_answers::{put, put_number};
 use ldm_book::Book;
 use ldm_disk::Disk;
 use ldm_image::ImageFault;
 use ldm_outside::{Sink, SinkFailed, write_all};
-use ldm_script::{put, put_number};
 use ldm_types::Actor;
 use std::alloc::Global;
 

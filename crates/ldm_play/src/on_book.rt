@@ -14,7 +14,7 @@ use crate::pending::Pending;
 use crate::play_command::{ScriptEnd, play_script};
 use crate::player::Player;
 use ldm_book::Book;
-use ldm_calls::histories_are_lawful;
+use ldm_model::histories_are_lawful;
 use ldm_outside::{Sink, Source};
 use ldm_status::PIECE;
 use ldm_types::OutOfMemory;

@@ -19,7 +19,7 @@ use crate::pending::Pending;
 use crate::player::{LineFault, Player};
 use crate::statuses::status_of;
 use ldm_book::{Book, CreateFault};
-use ldm_calls::histories_are_lawful;
+use ldm_model::histories_are_lawful;
 use ldm_outside::{Got, Sink, SinkFailed, Source};
 use ldm_script::LONGEST_LINE;
 use ldm_status::Streams;

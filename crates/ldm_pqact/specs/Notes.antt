@@ -1,8 +1,8 @@
 -- The log lines of entries that do nothing.
 use Rattle.std.specs.Prelude.{ℕ, List, [], ◌∷◌, ◌++◌, codes}
 use Rattle.std.specs.List.{flat_map}
-use Rattle.ldm_script.specs.Answer.{blank_field, blank_number}
-use Rattle.ldm_script.specs.Texts.{spelled}
+use Rattle.ldm_answers.specs.Answer.{blank_field, blank_number}
+use Rattle.ldm_answers.specs.Texts.{spelled}
 use Rattle.ldm_pqact_match.specs.declared.chosen.Chosen.{Chosen}
 use Rattle.ldm_pqact_match.specs.declared.chosen.Decision.{Decision}
 use Rattle.ldm_pqact_match.specs.declared.chosen.Decision.TheVariants.{Act, NoDate, NotText}

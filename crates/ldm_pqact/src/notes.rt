@@ -3,8 +3,8 @@ ghost use Rattle.std.specs.Prelude.{◌≡◌, ◌≤◌, ◌++◌, IfOk, length
 ghost use Rattle.ldm_types.specs.declared.limits.TheConstants.{LONGEST_IDENT};
 ghost use Rattle.ldm_pqact.specs.Notes.{note_line, note_of, notes_of};
 
+use ldm_answers::{Text, put, put_number, text_into};
 use ldm_pqact_match::{Chosen, Decision};
-use ldm_script::{Text, put, put_number, text_into};
 use ldm_types::{Info, OutOfMemory};
 use std::alloc::Global;
 

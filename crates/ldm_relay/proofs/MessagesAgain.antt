@@ -9,7 +9,7 @@ use Rattle.ldm_relay.specs.declared.message.ClassAnswer.{ClassAnswer}
 use Rattle.ldm_relay.specs.declared.message.PutAnswer.{PutAnswer}
 use Rattle.ldm_relay.specs.declared.message.PutAnswer.TheVariants as put_answer
 use Rattle.ldm_relay.specs.declared.message.SoonAnswer.{SoonAnswer}
-use Rattle.ldm_types.specs.declared.stat.Stat.{Stat}
+use Rattle.ldm_model.specs.declared.stat.Stat.{Stat}
 use Rattle.ldm_relay.specs.declared.message.SoonAnswer.TheVariants as soon_answer
 use Rattle.ldm_relay.specs.declared.message.TheConstants.{LARGEST_BLOCK}
 use Rattle.ldm_relay.specs.declared.procedure.Answered.{Answered}

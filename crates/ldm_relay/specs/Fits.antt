@@ -9,7 +9,7 @@ use Rattle.ldm_xdr.specs.Spelling.{Fits as InfoFits}
 use Rattle.ldm_relay.specs.declared.message.ClassAnswer.{ClassAnswer}
 use Rattle.ldm_relay.specs.declared.message.ClassAnswer.TheVariants as class_answer
 use Rattle.ldm_relay.specs.declared.message.PutAnswer.{PutAnswer}
-use Rattle.ldm_types.specs.declared.stat.Stat.{Stat}
+use Rattle.ldm_model.specs.declared.stat.Stat.{Stat}
 use Rattle.ldm_relay.specs.declared.message.PutAnswer.TheVariants as put_answer
 use Rattle.ldm_relay.specs.declared.message.Refusal.{Refusal}
 use Rattle.ldm_relay.specs.declared.message.Refusal.TheVariants as refusal

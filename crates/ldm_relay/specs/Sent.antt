@@ -6,7 +6,7 @@ use Rattle.ldm_relay.specs.declared.message.ClassAnswer.{ClassAnswer}
 use Rattle.ldm_relay.specs.declared.message.SoonAnswer.{SoonAnswer}
 use Rattle.ldm_relay.specs.declared.message.PutAnswer.{PutAnswer}
 use Rattle.ldm_relay.specs.declared.message.Refusal.{Refusal}
-use Rattle.ldm_types.specs.declared.stat.Stat.{Stat}
+use Rattle.ldm_model.specs.declared.stat.Stat.{Stat}
 
 pub data Sent : Type 0 where
   Feedme : (xid : ℕ) → (class : ClassSpec) → (max_hereis : ℕ) → Sent

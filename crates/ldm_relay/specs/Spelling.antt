@@ -10,7 +10,7 @@ use Rattle.ldm_relay.specs.declared.message.ClassAnswer.{ClassAnswer}
 use Rattle.ldm_relay.specs.declared.message.ClassAnswer.TheVariants as class_answer
 use Rattle.ldm_relay.specs.declared.message.SoonAnswer.{SoonAnswer}
 use Rattle.ldm_relay.specs.declared.message.SoonAnswer.TheVariants as soon_answer
-use Rattle.ldm_types.specs.declared.stat.Stat.{Stat}
+use Rattle.ldm_model.specs.declared.stat.Stat.{Stat}
 use Rattle.ldm_relay.specs.declared.message.PutAnswer.{PutAnswer}
 use Rattle.ldm_relay.specs.declared.message.PutAnswer.TheVariants as put_answer
 use Rattle.ldm_relay.specs.declared.message.Refusal.{Refusal}
@@ -136,3 +136,7 @@ in_one content = record { before = []; last = content }
 -- its spelling: a header of four bytes, and the content
 abbrev pub record_of : List ℕ → List ℕ
 record_of content = record_spelling (in_one content)
+
+-- the records of messages, in order
+abbrev pub records_of : List Sent → List ℕ
+records_of messages = flat_map (λ m. record_of (written m)) messages

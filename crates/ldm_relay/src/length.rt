@@ -17,7 +17,8 @@ ghost use Rattle.ldm_xdr.specs.declared.length.TheConstants.{LONGEST_METADATA};
 
 use crate::body::CallWithBody;
 use crate::message::{ClassAnswer, Message, PutAnswer, Refusal};
-use ldm_types::{ClassSpec, Info, Signature, Spec, Stat};
+use ldm_model::Stat;
+use ldm_types::{ClassSpec, Info, Signature, Spec};
 use ldm_xdr::info_len;
 
 // The most bytes of a class: 32 specifications with patterns of 255 bytes.

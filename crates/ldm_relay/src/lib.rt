@@ -34,7 +34,7 @@ pub use laws::{
     a_refusal_is_no_result, credentials_are_passed_over, long_records_carry,
     what_is_read_is_written, what_is_written_is_read,
 };
-pub use ldm_types::Stat;
+pub use ldm_model::Stat;
 pub use message::{
     Blkdata, ClassAnswer, Comingsoon, ComingsoonReply, Feedme, FeedmeReply, Hereis, Hiya,
     HiyaReply, Isalive, LARGEST_BLOCK, LARGEST_CONTENT, LARGEST_RECORD, LARGEST_REPLY, Message,

@@ -1,6 +1,7 @@
 //! The messages.
 
-use ldm_types::{ClassSpec, Info, Signature, Stat};
+use ldm_model::Stat;
+use ldm_types::{ClassSpec, Info, Signature};
 
 /// The most bytes of a block.
 pub const LARGEST_BLOCK: usize = 16_384;

@@ -17,7 +17,7 @@ use crate::message::{
     QstatReply, SoonAnswer,
 };
 use crate::procedure::Answered;
-use ldm_types::Stat;
+use ldm_model::Stat;
 use ldm_xdr::Fields;
 
 /// The reply that is the whole content of a record, to a call of that procedure. It takes no memory.

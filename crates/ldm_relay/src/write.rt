@@ -20,7 +20,8 @@ use crate::header::{ACCEPTED, CALL, NO_AUTHENTICATION, REPLY, RPC_VERSION, SUCCE
 use crate::message::{ClassAnswer, Message, PutAnswer, Refusal, SoonAnswer};
 use crate::procedure::{PROGRAM, Procedure, VERSION};
 use byteorder::{BigEndian, ByteOrder};
-use ldm_types::{ClassSpec, Info, Micros, Signature, Spec, Stat};
+use ldm_model::Stat;
+use ldm_types::{ClassSpec, Info, Micros, Signature, Spec};
 use ldm_xdr::{LONGEST_METADATA, info_len, write_info};
 
 // Each of these appends what there is room for.

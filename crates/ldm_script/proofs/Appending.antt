@@ -6,7 +6,8 @@ use Rattle.std.specs.Char.{digit_char, to_ascii_lowercase}
 use Rattle.std.specs.Prelude.{nat_lt, ◌==◌, ◌&&◌, IsSome, slice_index}
 use Rattle.hex.specs.Hex.{IsBytes, encode_with, encode_lower, lower_digits, hex_digit_value}
 use Rattle.hex.proofs.HexLemmas.{length-encode_with, decode_of-ok}
-use Rattle.ldm_script.specs.Bodies.{body_of, body_text, digits_of}
+use Rattle.ldm_script.specs.Bodies.{body_of, digits_of}
+use Rattle.ldm_answers.specs.Texts.{body_text}
 use Rattle.ldm_script.proofs.Hexadecimal.{pairs, cons_pair, digits_of-pairs, length-digits_of, some_bytes, decoded}
 use Rattle.ldm_script.proofs.ReadBack.{body_of-body_text}
 

@@ -10,7 +10,8 @@ use Rattle.hex.specs.Hex.{decode_sized}
 use Rattle.ldm_model.specs.declared.event.Event.{Event}
 use Rattle.ldm_model.specs.declared.event.Event.TheVariants as event
 use Rattle.ldm_script.specs.declared.body.TheConstants.{LONGEST_BODY}
-use Rattle.ldm_script.specs.declared.line.TheConstants.{LONGEST_LINE, LONGEST_READ}
+use Rattle.ldm_script.specs.declared.line.TheConstants.{LONGEST_LINE}
+use Rattle.ldm_answers.specs.declared.answer.TheConstants.{LONGEST_READ}
 use Rattle.ldm_script.specs.declared.order.Act.{Act}
 use Rattle.ldm_script.specs.declared.order.Act.TheVariants as act
 use Rattle.ldm_script.specs.declared.order.Order.{Order as ReadOrder}
@@ -18,11 +19,9 @@ use Rattle.ldm_script.specs.declared.word.LineWord.{LineWord}
 use Rattle.ldm_script.specs.declared.word.LineWord.TheVariants as word
 use Rattle.ldm_script.specs.Bodies.{body_of, body_of_parts, digits_of, filled}
 use Rattle.ldm_script.specs.Fields.{◌>>=◌, Left, field, first_field, behind_field, or_bad, no_more}
-use Rattle.ldm_script.specs.Grammar.{read_details, read_insert, read_open, read_start, read_on_cursor, read_read, read_look, read_reserve, read_fill, read_commit, read_discard}
-use Rattle.ldm_script.specs.Grammar.{read_act, read_order, read_line, is_comment, at_column, instant_of, signature_of, feed_of, four_bytes, place_of, reserve_place_of, Details}
-use Rattle.ldm_script.specs.Number.{number_up_to, number_below, up_to, digits_from}
-use Rattle.ldm_script.specs.Texts.{text_up_to}
-use Rattle.ldm_script.specs.Grammar.{word_of_text, start_word_of_text}
+use Rattle.ldm_script.specs.Grammar.{read_details, read_insert, read_open, read_start, read_on_cursor, read_read, read_look, read_reserve, read_fill, read_commit, read_discard, read_act, read_order, read_line, is_comment, at_column, signature_of, feed_of, place_of, reserve_place_of, Details, word_of_text, start_word_of_text}
+use Rattle.ldm_answers.specs.Number.{instant_of, four_bytes, number_up_to, number_below, up_to, digits_from}
+use Rattle.ldm_answers.specs.Texts.{text_up_to}
 use Rattle.ldm_signature.specs.HexSignature.{hex_signature}
 use Rattle.ldm_types.specs.declared.limits.TheConstants.{LONGEST_ORIGIN, LONGEST_IDENT}
 use Rattle.ldm_script.specs.Order.{Order, Asked, Plain, OnCursor, OnReservation}

@@ -12,7 +12,7 @@ use Rattle.ldm_script.specs.declared.body.Body.{Body}
 use Rattle.ldm_script.specs.declared.body.Body.TheVariants.{Hex, Fill}
 use Rattle.ldm_script.specs.declared.body.TheConstants.{LONGEST_BODY}
 use Rattle.ldm_script.specs.Bodies.{digits_of, filled, body_of, body_of_parts}
-use Rattle.ldm_script.specs.Number.{number_up_to}
+use Rattle.ldm_answers.specs.Number.{number_up_to}
 use Rattle.ldm_script.specs.OrderView.{IsBody, bytes_of}
 use Rattle.ldm_script.specs.Split.{Cuts}
 use Rattle.ldm_script.proofs.Hexadecimal.{length-digits_of, digits_of-nil, digits_of-yes}

@@ -10,6 +10,7 @@ use Rattle.hex.specs.Hex.{decode_of, decode_pairs, decode_sized, digit_or_error,
 use Rattle.hex.specs.declared.error.FromHexError.{FromHexError}
 use Rattle.hex.proofs.HexLemmas.{decode_of-even, decode_of-ok, decode_of-digits, decode_sized-twice, decode_sized-odd}
 use Rattle.ldm_script.specs.Bodies.{digits_of}
+use Rattle.ldm_answers.proofs.Unspelling.{ok_of}
 
 -- ---- pairs of digits, without the place of a fault
 
@@ -97,10 +98,6 @@ joined-assoc (Some xs) (Some ys) (Some zs) = ap (λ (l : List ℕ). Some l) (sym
 pub some_bytes : (o : Option (List ℕ)) → IsSome o → o ≡ Some (unwrap_or o [])
 some_bytes (Some bytes) some = refl
 some_bytes None some = cc some
-
-pub ok_of : (r : Result (List ℕ) FromHexError) (bytes : List ℕ) → result_ok r ≡ Some bytes → r ≡ Ok bytes
-ok_of (Ok xs) bytes e = let same : xs ≡ bytes = ap (λ (o : Option (List ℕ)). unwrap_or o []) e in ap (λ (l : List ℕ). Ok l) same
-ok_of (Err fault) bytes e = cc e
 
 pub even_digits : (s : List ℕ) → IsSome (digits_of s) → length s % 2 ≡ 0
 even_digits s some =

@@ -1,10 +1,7 @@
-pub mod Numbers
 pub mod Taking
 pub mod Splitting
 pub mod Hexadecimal
-pub mod Unspelling
 pub mod Bodies
-pub mod Fitting
 pub mod Appending
 pub mod Solid
 pub mod ReadBack

@@ -28,23 +28,23 @@ use Rattle.ldm_script.specs.declared.word.LineWord.{LineWord}
 use Rattle.ldm_script.specs.declared.word.LineWord.TheVariants as word
 use Rattle.ldm_script.specs.declared.word.StartWord.{StartWord}
 use Rattle.ldm_script.specs.declared.word.StartWord.TheVariants as start_word
-use Rattle.ldm_script.specs.Answer.{blank_field, blank_number, product_text, info_text}
-use Rattle.ldm_script.specs.Bodies.{body_of, body_text}
+use Rattle.ldm_answers.specs.Answer.{blank_field, blank_number, product_text, info_text}
+use Rattle.ldm_script.specs.Bodies.{body_of}
+use Rattle.ldm_answers.specs.Texts.{body_text, spelled, text_up_to}
 use Rattle.ldm_script.specs.Fields.{◌>>=◌, Left, field}
-use Rattle.ldm_script.specs.Grammar.{read_details, read_insert, read_open, read_start, read_on_cursor, read_read, read_look, read_reserve, read_fill, read_commit, read_discard}
-use Rattle.ldm_script.specs.Grammar.{read_act, read_order, read_line, is_comment, at_column, instant_of, signature_of, feed_of, four_bytes, place_of, reserve_place_of, Details}
+use Rattle.ldm_script.specs.Grammar.{read_details, read_insert, read_open, read_start, read_on_cursor, read_read, read_look, read_reserve, read_fill, read_commit, read_discard, read_act, read_order, read_line, is_comment, at_column, signature_of, feed_of, place_of, reserve_place_of, Details, word_text, word_of_text, start_word_of_text}
+use Rattle.ldm_answers.specs.Number.{instant_of, four_bytes, number_up_to, number_below}
 use Rattle.ldm_script.specs.Order.{Asked, Plain, OnCursor, OnReservation}
 use Rattle.ldm_script.specs.OrderView.{bytes_of, asked_of, order_of, IsWritable}
-use Rattle.ldm_script.specs.Spelling.{act_text, place_text, reserve_place_text, start_text, spelling, IsReadBack}
+use Rattle.ldm_script.specs.Spelling.{act_text, place_text, reserve_place_text, start_text, spelling, IsReadBack, front_text, back_text, FrontReadsBack, BackReadsBack, StartReadsBack, IsPlace, IsReservePlace}
 use Rattle.ldm_script.specs.Split.{Lacks}
-use Rattle.ldm_script.specs.Number.{number_up_to, number_below}
-use Rattle.ldm_script.specs.declared.line.TheConstants.{LONGEST_LINE, LONGEST_READ}
-use Rattle.ldm_script.specs.Texts.{spelled, text_up_to}
-use Rattle.ldm_script.specs.Grammar.{word_text, word_of_text, start_word_of_text}
-use Rattle.ldm_script.specs.Spelling.{front_text, back_text, FrontReadsBack, BackReadsBack, ProductReadsBack, InfoReadsBack, StartReadsBack, IsPlace, IsReservePlace}
+use Rattle.ldm_script.specs.declared.line.TheConstants.{LONGEST_LINE}
+use Rattle.ldm_answers.specs.declared.answer.TheConstants.{LONGEST_READ}
+use Rattle.ldm_answers.specs.ReadsBack.{InfoReadsBack, ProductReadsBack}
 use Rattle.ldm_script.proofs.Solid.{lacks-number, lacks-encode_lower, lacks-feed_digits, lacks-spelled, lacks-body_text, lacks-literal}
 use Rattle.ldm_script.proofs.Taking.{field_then, field_last}
-use Rattle.ldm_script.proofs.ReadBack.{number_up_to-decimal, number_below-decimal, place_or_last-decimal, signature_of-digits, feed_of-digits}
+use Rattle.ldm_script.proofs.ReadBack.{place_or_last-decimal, signature_of-digits, feed_of-digits}
+use Rattle.ldm_answers.proofs.ReadFields.{number_below-decimal, number_up_to-decimal}
 
 -- ---- `insert` and `reserve`
 

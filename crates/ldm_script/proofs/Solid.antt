@@ -7,11 +7,10 @@ use Rattle.std.specs.List.{flat_map, list_any}
 use Rattle.std.specs.Prelude.{◌==◌, ◌&&◌, nat_le, bytes_eq, slice_index}
 use Rattle.hex.specs.Hex.{encode_with, encode_lower, encode_upper, lower_digits, upper_digits}
 use Rattle.ldm_feedtype.specs.Text.{hex_digits, feed_digits}
-use Rattle.ldm_script.specs.Number.{is_digit, digits_from, up_to, number_up_to}
+use Rattle.ldm_answers.specs.Number.{is_digit, digits_from, up_to, number_up_to}
 use Rattle.ldm_script.specs.Split.{Lacks}
-use Rattle.ldm_script.specs.Texts.{is_plain, spelled_byte, spelled}
-use Rattle.ldm_script.specs.Bodies.{body_text}
-use Rattle.ldm_script.proofs.Numbers.{one_digit}
+use Rattle.ldm_answers.specs.Texts.{is_plain, spelled_byte, spelled, body_text}
+use Rattle.ldm_answers.proofs.Numbers.{one_digit}
 
 abbrev P : ℕ → ℕ → Type 0
 P c byte = (byte == c) ≡ false

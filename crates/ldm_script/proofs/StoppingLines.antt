@@ -11,7 +11,8 @@ use Rattle.ldm_model.specs.declared.event.Start.{Start}
 use Rattle.ldm_model.specs.declared.event.Start.TheVariants as start
 use Rattle.ldm_model.specs.declared.event.Event.{Event}
 use Rattle.ldm_model.specs.declared.event.Event.TheVariants as event
-use Rattle.ldm_script.specs.declared.line.TheConstants.{LONGEST_LINE, LONGEST_READ}
+use Rattle.ldm_script.specs.declared.line.TheConstants.{LONGEST_LINE}
+use Rattle.ldm_answers.specs.declared.answer.TheConstants.{LONGEST_READ}
 use Rattle.ldm_script.specs.declared.order.Place.{Place}
 use Rattle.ldm_script.specs.declared.order.Place.TheVariants as place
 use Rattle.ldm_script.specs.declared.order.ReservePlace.{ReservePlace}
@@ -20,15 +21,13 @@ use Rattle.ldm_script.specs.declared.word.LineWord.{LineWord}
 use Rattle.ldm_script.specs.declared.word.LineWord.TheVariants as word
 use Rattle.ldm_script.specs.declared.word.StartWord.{StartWord}
 use Rattle.ldm_script.specs.declared.word.StartWord.TheVariants as start_word
-use Rattle.ldm_script.specs.Number.{number_up_to, number_below as below_limit}
-use Rattle.ldm_script.specs.Grammar.{word_of_text, start_word_of_text}
-use Rattle.ldm_script.specs.Texts.{text_up_to}
+use Rattle.ldm_answers.specs.Number.{number_up_to, number_below as below_limit, instant_of, four_bytes}
+use Rattle.ldm_script.specs.Grammar.{word_of_text, start_word_of_text, feed_of, place_of, reserve_place_of, signature_of, Details, read_details, metadata, read_insert, read_start, read_open, read_on_cursor, read_read, read_look, read_reserve, read_fill, read_commit, read_discard, read_act, read_order, at_column, is_comment, read_line}
+use Rattle.ldm_answers.specs.Texts.{text_up_to}
 use Rattle.ldm_script.specs.Bodies.{body_of}
 use Rattle.ldm_script.specs.Fields.{◌>>=◌, Left, field, no_more}
 use Rattle.ldm_script.specs.Order.{Order, Asked, Plain, OnCursor, OnReservation}
 use Rattle.ldm_script.specs.Split.{Lacks}
-use Rattle.ldm_script.specs.Grammar.{four_bytes, instant_of, feed_of, place_of, reserve_place_of, signature_of, Details, read_details, metadata, read_insert, read_start, read_open, read_on_cursor}
-use Rattle.ldm_script.specs.Grammar.{read_read, read_look, read_reserve, read_fill, read_commit, read_discard, read_act, read_order, at_column, is_comment, read_line}
 use Rattle.ldm_script.specs.Faults.{IsLine, IsWrongField, IsMissing, IsSurplus, IsFirstFault}
 use Rattle.ldm_script.proofs.Solid.{lacks-literal}
 use Rattle.ldm_script.proofs.Stopping.{left_of, Reads, Wrong, Lacking, TooMany, Sound, sound_same, not_both, made, sound_made, then, sound_then, sound_end}

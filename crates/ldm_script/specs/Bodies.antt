@@ -2,9 +2,9 @@
 use Rattle.std.specs.Prelude.{ℕ, ◌/◌, ◌==◌, List, [], ◌∷◌, length, replicate, codes, bytes_eq, Option, Some, None, if◌then◌else◌}
 use Rattle.std.specs.List.{slice_split}
 use Rattle.std.specs.Result.{result_ok}
-use Rattle.hex.specs.Hex.{decode_sized, encode_lower}
+use Rattle.hex.specs.Hex.{decode_sized}
 use Rattle.ldm_script.specs.declared.body.TheConstants.{LONGEST_BODY}
-use Rattle.ldm_script.specs.Number.{number_up_to}
+use Rattle.ldm_answers.specs.Number.{number_up_to}
 
 -- the bytes that hexadecimal digits of either case spell, two each
 abbrev pub digits_of : List ℕ → Option (List ℕ)
@@ -26,8 +26,3 @@ abbrev pub body_of : List ℕ → Option (List ℕ)
 body_of [] = None
 body_of (byte ∷ bytes) =
     if bytes_eq (byte ∷ bytes) (codes "-") then Some [] else body_of_parts (slice_split (λ b. b == 42) (byte ∷ bytes))
-
--- how a body is spelled: `-` for no bytes, or digits
-abbrev pub body_text : List ℕ → List ℕ
-body_text [] = codes "-"
-body_text (byte ∷ bytes) = encode_lower (byte ∷ bytes)

@@ -1,16 +1,17 @@
 -- The grammar of script lines.
-use Rattle.std.specs.Prelude.{ℕ, ◌+◌, ◌-◌, ◌^◌, ◌==◌, Bool, true, nat_lt, List, [], ◌∷◌, length, codes, bytes_eq, unwrap_or, Option, Some, None, option_map, Result, Ok, Err, if◌then◌else◌}
+use Rattle.std.specs.Prelude.{ℕ, ◌+◌, ◌-◌, ◌==◌, Bool, true, nat_lt, List, [], ◌∷◌, length, codes, bytes_eq, unwrap_or, Option, Some, None, option_map, Result, Ok, Err, if◌then◌else◌}
 use Rattle.std.specs.List.{list_any, find}
 use Rattle.md5.specs.Md5.{md5}
 use Rattle.ldm_types.specs.Info.{Metadata}
-use Rattle.ldm_types.specs.declared.limits.TheConstants.{GREATEST_INSTANT, LONGEST_ORIGIN, LONGEST_IDENT}
+use Rattle.ldm_types.specs.declared.limits.TheConstants.{LONGEST_ORIGIN, LONGEST_IDENT}
 use Rattle.ldm_signature.specs.HexSignature.{hex_signature}
 use Rattle.ldm_feedtype.specs.Reading.{feed_number}
 use Rattle.ldm_model.specs.declared.event.Start.{Start}
 use Rattle.ldm_model.specs.declared.event.Start.TheVariants as start
 use Rattle.ldm_model.specs.declared.event.Event.{Event}
 use Rattle.ldm_model.specs.declared.event.Event.TheVariants as event
-use Rattle.ldm_script.specs.declared.line.TheConstants.{LONGEST_LINE, LONGEST_READ}
+use Rattle.ldm_script.specs.declared.line.TheConstants.{LONGEST_LINE}
+use Rattle.ldm_answers.specs.declared.answer.TheConstants.{LONGEST_READ}
 use Rattle.ldm_script.specs.declared.order.Place.{Place}
 use Rattle.ldm_script.specs.declared.order.Place.TheVariants as place
 use Rattle.ldm_script.specs.declared.order.ReservePlace.{ReservePlace}
@@ -19,8 +20,8 @@ use Rattle.ldm_script.specs.declared.word.LineWord.{LineWord}
 use Rattle.ldm_script.specs.declared.word.LineWord.TheVariants as word
 use Rattle.ldm_script.specs.declared.word.StartWord.{StartWord}
 use Rattle.ldm_script.specs.declared.word.StartWord.TheVariants as start_word
-use Rattle.ldm_script.specs.Number.{number_up_to, number_below}
-use Rattle.ldm_script.specs.Texts.{text_up_to}
+use Rattle.ldm_answers.specs.Number.{four_bytes, instant_of, number_up_to, number_below}
+use Rattle.ldm_answers.specs.Texts.{text_up_to}
 use Rattle.ldm_script.specs.Bodies.{body_of}
 use Rattle.ldm_script.specs.Fields.{◌>>=◌, Left, field, no_more}
 use Rattle.ldm_script.specs.Order.{Order, Asked, Plain, OnCursor, OnReservation}
@@ -65,13 +66,6 @@ start_words = start_word.Oldest ∷ start_word.Next ∷ start_word.After ∷ sta
 -- the word that a text is, of those that say where a cursor begins
 unfoldable pub start_word_of_text : List ℕ → Option StartWord
 start_word_of_text text = find (λ w. bytes_eq (start_word_text w) text) start_words
-
--- a number of four bytes
-abbrev pub four_bytes : List ℕ → Option ℕ
-four_bytes field = number_up_to (2 ^ 32 - 1) field
-
-abbrev pub instant_of : List ℕ → Option ℕ
-instant_of field = number_up_to GREATEST_INSTANT field
 
 -- a feed expression without blanks
 abbrev pub feed_of : List ℕ → Option ℕ

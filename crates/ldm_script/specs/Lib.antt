@@ -1,6 +1,3 @@
-pub mod Number
-pub mod Texts
-pub mod TextReads
 pub mod Bodies
 pub mod Split
 pub mod Fields
@@ -9,7 +6,6 @@ pub mod FieldReads
 pub mod Order
 pub mod Grammar
 pub mod Faults
-pub mod Answer
 pub mod OrderView
 pub mod Spelling
 pub mod Resolve

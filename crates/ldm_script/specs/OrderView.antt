@@ -6,7 +6,8 @@ use Rattle.ldm_model.specs.declared.event.Event.TheVariants as event
 use Rattle.ldm_script.specs.declared.body.Body.{Body}
 use Rattle.ldm_script.specs.declared.body.Body.TheVariants.{Hex, Fill}
 use Rattle.ldm_script.specs.declared.body.TheConstants.{LONGEST_BODY}
-use Rattle.ldm_script.specs.declared.line.TheConstants.{LONGEST_LINE, LONGEST_READ}
+use Rattle.ldm_script.specs.declared.line.TheConstants.{LONGEST_LINE}
+use Rattle.ldm_answers.specs.declared.answer.TheConstants.{LONGEST_READ}
 use Rattle.ldm_script.specs.declared.line.Details.{Details as ReadDetails}
 use Rattle.ldm_script.specs.declared.order.Act.{Act}
 use Rattle.ldm_script.specs.declared.order.Act.TheVariants as act
@@ -14,10 +15,8 @@ use Rattle.ldm_script.specs.declared.order.Order.{Order as ReadOrder}
 use Rattle.ldm_script.specs.declared.order.LentAct.{LentAct}
 use Rattle.ldm_script.specs.declared.order.LentAct.TheVariants as lent
 use Rattle.ldm_script.specs.declared.order.LentOrder.{LentOrder}
-use Rattle.ldm_script.specs.declared.texts.Spelled.{Spelled}
-use Rattle.ldm_script.specs.declared.texts.Spelled.TheVariants.{Itself, Coded}
 use Rattle.ldm_script.specs.Bodies.{digits_of}
-use Rattle.ldm_script.specs.Texts.{text_up_to}
+use Rattle.ldm_answers.specs.TextReads.{text_of, IsText}
 use Rattle.ldm_script.specs.Grammar.{Details}
 use Rattle.ldm_script.specs.Order.{Order, Asked, Plain, OnCursor, OnReservation}
 use Rattle.ldm_model.specs.declared.event.Event.{Event}
@@ -33,16 +32,6 @@ bytes_of (Fill count byte) = replicate count byte
 abbrev pub IsBody : Body → Type 0
 IsBody (Hex digits) = IsSome (digits_of digits.now) × (length digits.now ≤ LONGEST_LINE)
 IsBody (Fill count byte) = count ≤ LONGEST_BODY
-
--- the text, of at most so many bytes, that was found in a field
-abbrev pub text_of : ℕ → Spelled → List ℕ
-text_of most (Itself text) = text.now
-text_of most (Coded field) = unwrap_or (text_up_to most field.now) []
-
--- A text that a line can spell, of at most so many bytes.
-abbrev pub IsText : ℕ → Spelled → Type 0
-IsText most (Itself text) = length text.now ≤ most
-IsText most (Coded field) = IsSome (text_up_to most field.now)
 
 -- what was read behind a signature
 abbrev pub details_of : ReadDetails → Details

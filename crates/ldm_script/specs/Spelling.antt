@@ -11,16 +11,16 @@ use Rattle.ldm_script.specs.declared.order.ReservePlace.TheVariants as reserve_p
 use Rattle.ldm_script.specs.declared.order.Act.{Act}
 use Rattle.ldm_script.specs.declared.order.Act.TheVariants as act
 use Rattle.ldm_script.specs.declared.order.Order.{Order as ReadOrder}
-use Rattle.ldm_script.specs.Answer.{blank_field, blank_number, product_text, info_text}
-use Rattle.ldm_script.specs.Bodies.{body_text, body_of}
+use Rattle.ldm_answers.specs.Answer.{blank_field, blank_number, product_text, info_text}
+use Rattle.ldm_script.specs.Bodies.{body_of}
+use Rattle.ldm_answers.specs.Texts.{body_text}
 use Rattle.ldm_script.specs.OrderView.{bytes_of, order_of}
-use Rattle.ldm_script.specs.Grammar.{read_line, four_bytes, instant_of}
+use Rattle.ldm_answers.specs.ReadsBack.{ProductReadsBack, InfoReadsBack}
+use Rattle.ldm_script.specs.Grammar.{read_line}
+use Rattle.ldm_answers.specs.Number.{instant_of, four_bytes}
 use Rattle.ldm_script.specs.declared.line.TheConstants.{LONGEST_LINE}
-use Rattle.ldm_types.specs.Info.{Metadata}
-use Rattle.ldm_types.specs.declared.limits.TheConstants.{LONGEST_ORIGIN, LONGEST_IDENT}
 use Rattle.ldm_feedtype.specs.Reading.{feed_number}
 use Rattle.ldm_signature.specs.HexSignature.{hex_signature}
-use Rattle.ldm_script.specs.Texts.{spelled, text_up_to}
 
 abbrev pub place_text : Place → List ℕ
 place_text (place.At k) = decimal k
@@ -80,18 +80,6 @@ front_text (act.Fill r body) = codes "fill" ++ blank_field (reserve_place_text r
 front_text other = act_text other
 
 -- Each of these says that fields are read as what they were written for.
-
-pub record ProductReadsBack (info : Metadata) : Type 0 where
-  pub signature : hex_signature (encode_lower info.signature) ≡ Some info.signature
-  pub feed : feed_number (feed_digits info.feed) ≡ Some info.feed
-  pub seqno : four_bytes (decimal info.seqno) ≡ Some info.seqno
-  pub origin : text_up_to LONGEST_ORIGIN (spelled info.origin) ≡ Some info.origin
-  pub ident : text_up_to LONGEST_IDENT (spelled info.ident) ≡ Some info.ident
-
-pub record InfoReadsBack (info : Metadata) : Type 0 where
-  pub arrival : instant_of (decimal info.arrival) ≡ Some info.arrival
-  pub product : ProductReadsBack info
-  pub size : four_bytes (decimal info.size) ≡ Some info.size
 
 abbrev pub StartReadsBack : Start → Type 0
 StartReadsBack (start.After time) = instant_of (decimal time) ≡ Some time

@@ -6,13 +6,13 @@ ghost use Rattle.hex.specs.Hex.{decode_sized, is_hex_digit};
 ghost use Rattle.std.specs.List.{list_all};
 ghost use Rattle.std.specs.Result.{result_ok};
 ghost use Rattle.ldm_script.specs.Bodies.{body_of, digits_of, filled};
-ghost use Rattle.ldm_script.specs.Number.{number_up_to};
+ghost use Rattle.ldm_answers.specs.Number.{number_up_to};
 ghost use Rattle.ldm_script.specs.OrderView.{IsBody, bytes_of};
 ghost use Rattle.ldm_script.specs.declared.line.TheConstants.{LONGEST_LINE};
 
-use crate::number::read_number;
 use crate::split::split_first;
 use hex::FromHex;
+use ldm_answers::read_number;
 use ldm_types::Signature;
 use md5::{Digest, Md5};
 

@@ -3,22 +3,21 @@ ghost use Rattle.std.specs.Prelude.{◌≡◌, ◌≤◌, ◌<◌, ◌==◌, fal
 ghost use Rattle.std.specs.List.{list_any};
 ghost use Rattle.std.specs.Option.{option_map};
 ghost use Rattle.ldm_signature.specs.HexSignature.{hex_signature};
-ghost use Rattle.ldm_script.specs.Number.{number_up_to, number_below};
-ghost use Rattle.ldm_script.specs.Grammar.{word_of_text, start_word_of_text, four_bytes as four_bytes_of};
-ghost use Rattle.ldm_script.specs.Grammar.{instant_of, signature_of, feed_of, place_of, reserve_place_of};
-ghost use Rattle.ldm_script.specs.Texts.{text_up_to};
+ghost use Rattle.ldm_answers.specs.Number.{number_up_to, number_below, four_bytes as four_bytes_of, instant_of};
+ghost use Rattle.ldm_script.specs.Grammar.{word_of_text, start_word_of_text, signature_of, feed_of, place_of, reserve_place_of};
+ghost use Rattle.ldm_answers.specs.Texts.{text_up_to};
 ghost use Rattle.ldm_script.specs.Bodies.{body_of};
-ghost use Rattle.ldm_script.specs.OrderView.{bytes_of, text_of, IsBody, IsText};
+ghost use Rattle.ldm_script.specs.OrderView.{bytes_of, IsBody};
+ghost use Rattle.ldm_answers.specs.TextReads.{IsText, text_of};
 ghost use Rattle.ldm_script.specs.Fields.{field, no_more};
 ghost use Rattle.ldm_script.specs.FieldReads.{TakesField, Gives};
 ghost use Rattle.ldm_script.specs.declared.line.TheConstants.{LONGEST_LINE};
 
 use crate::body::{Body, read_body};
-use crate::number::{read_number, read_number_below};
 use crate::order::{Place, ReservePlace};
 use crate::split::split_first;
-use crate::texts::{Spelled, read_text};
 use crate::word::{LineWord, StartWord};
+use ldm_answers::{Spelled, read_number, read_number_below, read_text};
 use ldm_feedtype::read_feed;
 use ldm_model::ReserveNo;
 use ldm_signature::read_hex;

@@ -4,29 +4,21 @@ ghost use Rattle.std.specs.Option.{option_map};
 ghost use Rattle.ldm_model.specs.declared.event.Event.{Event};
 ghost use Rattle.ldm_script.specs.Order.{OnCursor};
 ghost use Rattle.ldm_script.specs.FieldReads.{Gives};
-ghost use Rattle.ldm_script.specs.Grammar.{read_line as reading, read_order as order_at, read_act as act_at};
-ghost use Rattle.ldm_script.specs.Grammar.{read_insert as insert_at, read_open as open_at, read_start as start_at};
-ghost use Rattle.ldm_script.specs.Grammar.{read_read as read_at, read_look as look_at, read_on_cursor as on_cursor_at};
-ghost use Rattle.ldm_script.specs.Grammar.{read_reserve as reserve_at, read_fill as fill_at, read_commit as commit_at};
-ghost use Rattle.ldm_script.specs.Grammar.{read_discard as discard_at, read_details as details_at, metadata};
+ghost use Rattle.ldm_script.specs.Grammar.{read_line as reading, read_order as order_at, read_act as act_at, read_insert as insert_at, read_open as open_at, read_start as start_at, read_read as read_at, read_look as look_at, read_on_cursor as on_cursor_at, read_reserve as reserve_at, read_fill as fill_at, read_commit as commit_at, read_discard as discard_at, read_details as details_at, metadata};
 ghost use Rattle.ldm_types.specs.Info.{Metadata, texts_fault};
-ghost use Rattle.ldm_script.specs.OrderView.{order_of, order_with, asked_of, act_with, bytes_of, details_of};
-ghost use Rattle.ldm_script.specs.OrderView.{AreTexts, IsBody, IsWhole, IsWritable};
+ghost use Rattle.ldm_script.specs.OrderView.{order_of, order_with, asked_of, act_with, bytes_of, details_of, AreTexts, IsBody, IsWhole, IsWritable};
 ghost use Rattle.md5.specs.Md5.{md5};
 
 use crate::body::Body;
 use crate::fields::Fields;
 use crate::order::{LentAct, LentOrder, Order, Place};
-use crate::texts::Spelled;
 use crate::word::{LineWord, StartWord};
+use ldm_answers::{LONGEST_READ, Spelled};
 use ldm_model::Start;
 use ldm_types::{Actor, Feed, Info, LONGEST_IDENT, LONGEST_ORIGIN, Micros, Signature};
 
 /// The most bytes of a line, without its newline.
 pub const LONGEST_LINE: usize = 65_536;
-
-/// The most bytes that a line can ask to read.
-pub const LONGEST_READ: u32 = 4_096;
 
 /// A line is outside the grammar.
 #[derive(Clone, Copy, Debug, PartialEq, Eq)]

@@ -5,12 +5,12 @@ ghost use Rattle.ldm_types.specs.Info.{Metadata};
 ghost use Rattle.ldm_model.specs.declared.event.Event.{Event};
 ghost use Rattle.ldm_script.specs.Order.{OnCursor, OnReservation};
 ghost use Rattle.ldm_script.specs.OrderView.{asked_of, event_of, act_with, IsWhole, IsWholeCall};
-ghost use Rattle.ldm_script.specs.Answer.{reply_of, FitsAnswer};
+ghost use Rattle.ldm_answers.specs.Answer.{reply_of, FitsAnswer};
 ghost use Rattle.ldm_script.specs.Resolve.{resolved, unresolved};
 ghost use Rattle.ldm_script.specs.declared.order.LastPlaces.{LastPlaces};
 
-use crate::answer::Answer;
 use crate::body::Body;
+use ldm_answers::Answer;
 use ldm_model::{ReserveNo, Start};
 use ldm_types::{Actor, CursorNo, Feed, Info, Micros, Signature};
 

@@ -1,30 +1,29 @@
 //! Writing lines.
-ghost use Rattle.std.specs.Prelude.{◌≡◌, ◌<◌, ◌≤◌, ◌+◌, ◌*◌, ◌++◌, ℕ, List, [], length, replicate, unwrap_or, Some};
-ghost use Rattle.std.specs.Prelude.{IsSome, Ok, OnOk, OnErr, codes, decimal, vec_len, vec_capacity};
+ghost use Rattle.std.specs.Prelude.{◌≡◌, ◌<◌, ◌≤◌, ◌+◌, ◌*◌, ◌++◌, ℕ, List, [], length, replicate, unwrap_or, Some, IsSome, Ok, OnOk, OnErr, codes, decimal, vec_len, vec_capacity};
 ghost use Rattle.arrayvec.specs.ArrayVec.{array_vec_len};
 ghost use Rattle.hex.specs.Hex.{encode_lower};
 ghost use Rattle.ldm_feedtype.specs.Reading.{feed_number};
 ghost use Rattle.ldm_feedtype.specs.Text.{feed_digits};
 ghost use Rattle.ldm_signature.specs.HexSignature.{hex_signature};
-ghost use Rattle.ldm_script.specs.Answer.{blank_field, blank_number, info_text, product_text};
-ghost use Rattle.ldm_script.specs.Bodies.{body_of, body_text, digits_of};
-ghost use Rattle.ldm_script.specs.Grammar.{four_bytes, instant_of, read_line, word_text};
+ghost use Rattle.ldm_answers.specs.Answer.{blank_field, blank_number, info_text, product_text};
+ghost use Rattle.ldm_script.specs.Bodies.{body_of, digits_of};
+ghost use Rattle.ldm_answers.specs.Texts.{body_text};
+ghost use Rattle.ldm_script.specs.Grammar.{read_line, word_text};
+ghost use Rattle.ldm_answers.specs.Number.{instant_of, four_bytes};
 ghost use Rattle.ldm_script.specs.OrderView.{bytes_of, order_of, IsWritable};
-ghost use Rattle.ldm_script.specs.Spelling.{spelling, start_text, place_text, reserve_place_text, IsReadBack};
-ghost use Rattle.ldm_script.specs.Spelling.{carried, front_text, back_text, FrontReadsBack, BackReadsBack};
-ghost use Rattle.ldm_script.specs.Spelling.{InfoReadsBack, ProductReadsBack, StartReadsBack, IsPlace, IsReservePlace};
+ghost use Rattle.ldm_script.specs.Spelling.{spelling, start_text, place_text, reserve_place_text, IsReadBack, carried, front_text, back_text, FrontReadsBack, BackReadsBack, StartReadsBack, IsPlace, IsReservePlace};
+ghost use Rattle.ldm_answers.specs.ReadsBack.{InfoReadsBack, ProductReadsBack};
 ghost use Rattle.ldm_script.specs.declared.body.TheConstants.{LONGEST_BODY};
 ghost use Rattle.ldm_script.specs.declared.order.Order.{Order as ReadOrder};
 
-use crate::answer::{LONGEST_ANSWER, Text};
 use crate::body::Body;
 use crate::order::{Act, Order, Place, ReservePlace};
-use crate::put_fields::{
-    put_blank, put_blank_number, put_feed, put_four_bytes, put_info, put_instant, put_place,
-    put_product_fields, put_reserve_place, put_signature,
-};
-use crate::texts::{put, put_number};
+use crate::put_places::{put_place, put_reserve_place};
 use crate::word::{LineWord, StartWord};
+use ldm_answers::{
+    LONGEST_ANSWER, Text, put, put_blank, put_blank_number, put_feed, put_four_bytes, put_info,
+    put_instant, put_number, put_product_fields, put_signature,
+};
 use ldm_model::Start;
 use ldm_types::{Feed, Info, Micros, OutOfMemory, Signature};
 

@@ -15,7 +15,7 @@ use Rattle.ldm_session.specs.Exchange.{Exchanged}
 use Rattle.ldm_session.proofs.CallerLemmas.{AnsweredAll-nothing, Exchanged-failing, Exchanged-gave, Exchanged-nothing, Exchanged-then_given}
 use Rattle.ldm_serve.specs.declared.end.ServeEnd.{ServeEnd}
 use Rattle.ldm_serve.specs.declared.end.ServeEnd.TheVariants as end
-use Rattle.ldm_intake.specs.Room.{records_of}
+use Rattle.ldm_relay.specs.Spelling.{records_of}
 use Rattle.ldm_downstream.specs.declared.limits.TheConstants.{LONGEST_PIECE}
 use Rattle.ldm_serve.specs.Client.{Client}
 use Rattle.ldm_downstream.specs.InTurn.{Round}

@@ -10,13 +10,12 @@ use Rattle.ldm_model.specs.declared.event.Entry.{Entry}
 use Rattle.ldm_outside.specs.Clock.{ClockRecord}
 use Rattle.ldm_outside.specs.Told.{TellsMore}
 use Rattle.ldm_relay.specs.Sent.{Sent}
-use Rattle.ldm_relay.specs.Spelling.{written, record_of}
+use Rattle.ldm_relay.specs.Spelling.{written, record_of, records_of}
 use Rattle.ldm_rpc.specs.Streams.{Placed}
 use Rattle.ldm_session.specs.Exchange.{AnsweredAll}
 use Rattle.ldm_shared.specs.Passes.{Calls}
 use Rattle.ldm_shared.proofs.Made.{calls_none, calls_trans}
 use Rattle.ldm_intake.specs.Course.{Leads}
-use Rattle.ldm_intake.specs.Room.{records_of}
 use Rattle.ldm_serve.specs.Answering.{answering}
 use Rattle.ldm_serve.specs.Respond.{respond}
 use Rattle.ldm_serve.specs.Response.{Response, Says, Puts, Figures, Feeds, Receives, Notifies, Refuses, Denies}

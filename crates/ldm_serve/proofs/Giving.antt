@@ -10,7 +10,7 @@ use Rattle.ldm_relay.specs.Sent.{Sent}
 use Rattle.ldm_shared.proofs.Made.{calls_none, calls_some}
 use Rattle.ldm_shared.specs.Passes.{PassView, IsSamePass, Grows, entry_of}
 use Rattle.ldm_intake.specs.Course.{Course, Comes, Leads}
-use Rattle.ldm_intake.specs.Room.{records_of}
+use Rattle.ldm_relay.specs.Spelling.{records_of}
 use Rattle.ldm_serve.specs.declared.responded.Responded.{Responded}
 use Rattle.ldm_serve.specs.declared.responded.RespondFault.{RespondFault}
 use Rattle.ldm_serve.specs.declared.responded.RespondFault.TheVariants as fault

@@ -12,7 +12,7 @@ use Rattle.ldm_outside.specs.declared.link.Way.TheVariants as way
 use Rattle.ldm_outside.specs.Link.{LinkRecord, bytes_given, bytes_sent, passed_all, passed_piece, then_all, then_piece, with_given, with_sent}
 use Rattle.ldm_rpc.specs.Streams.{records_in}
 use Rattle.ldm_session.specs.Exchange.{TellsPassed}
-use Rattle.ldm_intake.specs.Room.{records_of}
+use Rattle.ldm_relay.specs.Spelling.{records_of}
 use Rattle.ldm_downstream.specs.declared.limits.TheConstants.{LONGEST_PIECE}
 use Rattle.ldm_serve.specs.Client.{Client}
 use Rattle.ldm_downstream.specs.InTurn.{PassesRounds, Round, given_in, passed_in, sent_in}

@@ -18,7 +18,7 @@ use Rattle.ldm_relay.specs.declared.fault.RelayFault.{RelayFault}
 use Rattle.ldm_relay.specs.declared.fault.RelayFault.TheVariants.{NotRpc, WrongProgram, WrongProcedure, BadMessage}
 use Rattle.ldm_relay.specs.declared.message.ClassAnswer.TheVariants as class_answer
 use Rattle.ldm_relay.specs.declared.message.PutAnswer.TheVariants as put_answer
-use Rattle.ldm_types.specs.declared.stat.Stat as figures
+use Rattle.ldm_model.specs.declared.stat.Stat as figures
 use Rattle.ldm_serve.specs.declared.hiya.TheConstants.{MAX_HEREIS}
 use Rattle.ldm_intake.specs.Course.{Comes, Begins, Leads}
 use Rattle.ldm_serve.specs.Access.{may_know, may_push}

@@ -10,7 +10,7 @@ use Rattle.ldm_model.specs.declared.event.Event.TheVariants.{Insert, Stat}
 use Rattle.ldm_model.specs.declared.event.Entry.{Entry}
 use Rattle.ldm_outside.specs.Link.{LinkRecord}
 use Rattle.ldm_relay.specs.Sent.{Sent}
-use Rattle.ldm_relay.specs.Spelling.{written, record_of}
+use Rattle.ldm_relay.specs.Spelling.{written, record_of, records_of}
 use Rattle.ldm_session.specs.Exchange.{Exchanged}
 use Rattle.ldm_session.proofs.CallerLemmas.{Exchanged-nothing, Exchanged-still, Exchanged-then}
 use Rattle.ldm_shared.specs.Own.{own}
@@ -25,7 +25,6 @@ use Rattle.ldm_sender.specs.Ending.{closing_of}
 use Rattle.ldm_sender.proofs.Fronts.{front_of}
 use Rattle.ldm_intake.specs.declared.end.RecvEnd.{RecvEnd}
 use Rattle.ldm_intake.specs.Course.{Begins, Comes, Leads}
-use Rattle.ldm_intake.specs.Room.{records_of}
 use Rattle.ldm_intake.proofs.Courses.{leads-begins}
 use Rattle.ldm_serve.specs.declared.responded.Responded.{Responded}
 use Rattle.ldm_serve.specs.declared.responded.Responded.TheVariants as responded

@@ -13,9 +13,8 @@ use Rattle.ldm_relay.specs.declared.message.TheConstants.{LARGEST_RECORD}
 use Rattle.ldm_relay.specs.Fits.{Fits}
 use Rattle.ldm_relay.specs.Reading.{Kind, Call, call_of, kind_of, read_as}
 use Rattle.ldm_relay.specs.Sent.{Sent}
-use Rattle.ldm_relay.specs.Spelling.{in_one, written}
+use Rattle.ldm_relay.specs.Spelling.{in_one, written, records_of}
 use Rattle.ldm_session.specs.declared.limits.TheConstants.{LONGEST_STREAM}
-use Rattle.ldm_intake.specs.Room.{records_of}
 use Rattle.ldm_serve.specs.declared.end.ServeEnd.TheVariants as end
 use Rattle.ldm_serve.specs.Client.{Client}
 use Rattle.ldm_serve.specs.Complete.{IsCall, IsLawful, IsLawfulBy, IsTaken, Meets, is_outlived_by, last_response}

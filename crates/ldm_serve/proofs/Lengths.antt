@@ -7,7 +7,7 @@ use Rattle.std.specs.Int.{to_be_bytes, w32}
 use Rattle.ldm_xdr.proofs.Lengths.{length_unsigned, length_hyper}
 use Rattle.ldm_relay.specs.declared.message.PutAnswer.{PutAnswer}
 use Rattle.ldm_relay.specs.declared.message.PutAnswer.TheVariants as put_answer
-use Rattle.ldm_types.specs.declared.stat.Stat.{Stat}
+use Rattle.ldm_model.specs.declared.stat.Stat.{Stat}
 use Rattle.ldm_relay.specs.Sent.{Sent}
 use Rattle.ldm_relay.specs.Sent as sent
 use Rattle.ldm_relay.specs.Spelling.{written, record_of, reply_header, accepted_header, no_authentication}

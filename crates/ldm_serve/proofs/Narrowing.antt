@@ -20,7 +20,7 @@ use Rattle.ldm_sender.specs.declared.end.SendEnd.TheVariants as send
 use Rattle.ldm_sender.specs.Asked.{asked_of}
 use Rattle.ldm_sender.specs.Ending.{closing_of}
 use Rattle.ldm_sender.specs.Opening.{Answered, Reclassed, IsAnswerTo}
-use Rattle.ldm_intake.specs.Room.{records_of}
+use Rattle.ldm_relay.specs.Spelling.{records_of}
 use Rattle.ldm_upstream.specs.Feeding as feeding
 use Rattle.ldm_upstream.specs.Feeds.{Feeds}
 use Rattle.ldm_upstream.specs.Turn as feed_turn

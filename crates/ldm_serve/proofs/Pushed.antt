@@ -14,7 +14,7 @@ use Rattle.ldm_intake.specs.Course.{Course, Comes, Leads}
 use Rattle.ldm_intake.specs.Opening.{accepting}
 use Rattle.ldm_intake.specs.Receiving.{Receiving}
 use Rattle.ldm_intake.specs.Record.{record_course}
-use Rattle.ldm_intake.specs.Room.{records_of}
+use Rattle.ldm_relay.specs.Spelling.{records_of}
 use Rattle.ldm_intake.specs.Taken.{Arrival, Taken, closing, taken, taken_none}
 use Rattle.ldm_intake.specs.TakesRecord.{Standing}
 use Rattle.ldm_intake.proofs.Courses.{leads-begins}

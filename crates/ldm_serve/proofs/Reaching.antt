@@ -9,7 +9,7 @@ use Rattle.ldm_outside.specs.Io.{SinkRecord}
 use Rattle.ldm_outside.specs.Link.{LinkRecord}
 use Rattle.ldm_outside.specs.Session.{KeepsFaults, SessionRecord}
 use Rattle.ldm_relay.specs.Sent.{Sent}
-use Rattle.ldm_relay.specs.Spelling.{written, record_of}
+use Rattle.ldm_relay.specs.Spelling.{written, record_of, records_of}
 use Rattle.ldm_rpc.specs.Reading.{after_byte}
 use Rattle.ldm_rpc.specs.Streams.{Placed, Position, forgets, in_hand, records_in}
 use Rattle.ldm_rpc.proofs.Joined.{in_hand-append, records-append}
@@ -19,7 +19,6 @@ use Rattle.ldm_session.specs.Exchange.{AnsweredAll, Exchanged}
 use Rattle.ldm_session.specs.Gathering.{Breaks, MovesOn}
 use Rattle.ldm_session.proofs.CallerLemmas.{AnsweredAll-then, Exchanged-front, Exchanged-nothing, Exchanged-sent, Exchanged-then_sent}
 use Rattle.ldm_session.specs.Part.{IsPart}
-use Rattle.ldm_intake.specs.Room.{records_of}
 use Rattle.ldm_serve.specs.Responds.{stands}
 use Rattle.ldm_serve.specs.Client.{Client}
 use Rattle.ldm_serve.specs.Steps.{Does, Step, entries_of, instants_of, messages_of, placed_of}

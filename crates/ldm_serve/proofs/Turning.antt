@@ -12,7 +12,7 @@ use Rattle.ldm_rpc.specs.Reading.{is_faulty, is_pending}
 use Rattle.ldm_rpc.specs.Streams.{Placed, Position, in_hand, records_in}
 use Rattle.ldm_shared.specs.Passes.{Calls, PassView}
 use Rattle.ldm_session.specs.Exchange.{AnsweredAll, Exchanged}
-use Rattle.ldm_intake.specs.Room.{records_of}
+use Rattle.ldm_relay.specs.Spelling.{records_of}
 use Rattle.ldm_serve.specs.declared.responded.Responded.{Responded}
 use Rattle.ldm_serve.specs.Respond.{respond}
 use Rattle.ldm_serve.specs.Response.{Response, Says, Puts, Figures, Feeds, Receives, Notifies, Refuses, Denies}

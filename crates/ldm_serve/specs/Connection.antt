@@ -7,7 +7,7 @@ use Rattle.ldm_rpc.specs.Streams.{Placed, records_in}
 use Rattle.ldm_shared.specs.Passes.{PassView, Calls}
 use Rattle.ldm_session.specs.Exchange.{Exchanged, AnsweredAll}
 use Rattle.ldm_session.specs.Part.{IsPart}
-use Rattle.ldm_intake.specs.Room.{records_of}
+use Rattle.ldm_relay.specs.Spelling.{records_of}
 use Rattle.ldm_serve.specs.Client.{Client}
 use Rattle.ldm_serve.specs.InTurn.{InTurn}
 use Rattle.ldm_serve.specs.Steps.{Step, AreSteps, entries_of, instants_of, messages_of}

@@ -1,6 +1,6 @@
 -- Worked examples, worked out by hand from the rules: what a server responds, and what is asked of its queue.
 use Rattle.std.specs.Prelude.{◌≡◌, ℕ, List, [], ◌∷◌, length, codes, replicate, Some, None, Err}
-use Rattle.ldm_types.specs.Figures.{figures}
+use Rattle.ldm_model.specs.Figures.{figures}
 use Rattle.ldm_types.specs.Info.{Metadata}
 use Rattle.ldm_types.specs.declared.class.ClassSpec.{ClassSpec}
 use Rattle.ldm_types.specs.declared.class.Spec.{Spec}

@@ -2,7 +2,7 @@
 use Rattle.std.specs.Prelude.{◌≡◌, ℕ, ◌≤◌, List, [], ◌∷◌, ◌++◌, length, map, All}
 use Rattle.ldm_outside.specs.Link.{LinkRecord}
 use Rattle.ldm_rpc.specs.Streams.{records_in}
-use Rattle.ldm_intake.specs.Room.{records_of}
+use Rattle.ldm_relay.specs.Spelling.{records_of}
 use Rattle.ldm_downstream.specs.declared.limits.TheConstants.{LONGEST_PIECE}
 use Rattle.ldm_downstream.specs.InTurn.{PassesRounds, Round, given_in, sent_in}
 use Rattle.ldm_serve.specs.Client.{Client}

@@ -4,17 +4,16 @@ use Rattle.std.specs.List.{Contains, list_any}
 use Rattle.ldm_types.specs.Info.{Metadata}
 use Rattle.ldm_class.specs.Access.{is_about, is_yes, verdict}
 use Rattle.ldm_model.specs.declared.event.Event.{Event}
-use Rattle.ldm_model.specs.declared.event.Event.TheVariants.{OpenCursor, Step, Read, Release, Close, Insert, Look, Expire, Tally, Stat}
-use Rattle.ldm_model.specs.declared.event.Event.TheVariants.{Reserve, Fill, Commit, Discard}
+use Rattle.ldm_model.specs.declared.event.Event.TheVariants.{OpenCursor, Step, Read, Release, Close, Insert, Look, Expire, Tally, Stat, Reserve, Fill, Commit, Discard}
 use Rattle.ldm_model.specs.declared.event.Reply.TheVariants.{Reserved}
 use Rattle.ldm_model.specs.declared.event.Entry.{Entry}
 use Rattle.ldm_outside.specs.Link.{LinkRecord}
 use Rattle.ldm_relay.specs.Sent.{Sent}
 use Rattle.ldm_relay.specs.Sent as sent
-use Rattle.ldm_types.specs.declared.stat.Stat as figures
+use Rattle.ldm_model.specs.declared.stat.Stat as figures
 use Rattle.ldm_session.specs.Exchange.{Exchanged}
 use Rattle.ldm_intake.specs.Course.{entry_by}
-use Rattle.ldm_intake.specs.Room.{records_of}
+use Rattle.ldm_relay.specs.Spelling.{records_of}
 use Rattle.ldm_serve.specs.Client.{Client}
 
 -- ---- what a host hands in, and asks

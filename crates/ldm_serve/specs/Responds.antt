@@ -9,7 +9,7 @@ use Rattle.ldm_relay.specs.Sent.{Sent}
 use Rattle.ldm_shared.specs.Passes.{PassView, Calls}
 use Rattle.ldm_shared.specs.declared.steps.TheConstants.{MOST_TURNS}
 use Rattle.ldm_intake.specs.Course.{Leads}
-use Rattle.ldm_intake.specs.Room.{records_of}
+use Rattle.ldm_relay.specs.Spelling.{records_of}
 use Rattle.ldm_serve.specs.declared.saying.TheConstants.{LONGEST_ANSWER}
 use Rattle.ldm_serve.specs.declared.responded.RespondFault.{RespondFault}
 use Rattle.ldm_serve.specs.declared.responded.RespondFault.TheVariants as fault

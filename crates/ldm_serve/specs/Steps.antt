@@ -7,7 +7,7 @@ use Rattle.ldm_relay.specs.Sent.{Sent}
 use Rattle.ldm_shared.specs.Passes.{Calls}
 use Rattle.ldm_session.specs.Exchange.{AnsweredAll}
 use Rattle.ldm_intake.specs.Course.{Leads}
-use Rattle.ldm_intake.specs.Room.{records_of}
+use Rattle.ldm_relay.specs.Spelling.{records_of}
 use Rattle.ldm_serve.specs.declared.responded.Responded.{Responded}
 use Rattle.ldm_serve.specs.declared.responded.Responded.TheVariants as responded
 use Rattle.ldm_serve.specs.Answering.{answering}

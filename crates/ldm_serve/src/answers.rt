@@ -2,13 +2,12 @@
 ghost use Rattle.std.specs.Prelude.{◌≡◌, ℕ, ◌++◌, ◌∷◌, [], Some};
 ghost use Rattle.ldm_model.specs.Answers.{insert_answer};
 ghost use Rattle.ldm_relay.specs.Sent as sent;
-ghost use Rattle.ldm_intake.specs.Room.{records_of};
+ghost use Rattle.ldm_relay.specs.Spelling.{records_of};
 ghost use Rattle.ldm_serve.specs.Answering.{put_replies, stat_replies};
 ghost use Rattle.ldm_serve.specs.Responds.{HasAnswerRoom};
 
-use ldm_model::InsertReply;
+use ldm_model::{InsertReply, Stat};
 use ldm_relay::{Message, PutAnswer, QstatReply, write_message, write_put_reply};
-use ldm_types::Stat;
 
 // Appends the answer to the PUT of that number.
 pub(crate) fn put_answer(out: &mut Vec<u8>, xid: u32, answer: PutAnswer)

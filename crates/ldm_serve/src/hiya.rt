@@ -5,7 +5,7 @@ ghost use Rattle.ldm_class.specs.declared.answers.Reduced.TheVariants as reduced
 ghost use Rattle.ldm_outside.specs.Clock.{ClockRecord};
 ghost use Rattle.ldm_relay.specs.Sent as sent;
 ghost use Rattle.ldm_shared.specs.Passes.{PassView};
-ghost use Rattle.ldm_intake.specs.Room.{records_of};
+ghost use Rattle.ldm_relay.specs.Spelling.{records_of};
 ghost use Rattle.ldm_serve.specs.Respond.{to_hiya, to_offer};
 ghost use Rattle.ldm_serve.specs.Responds.{Responds, stands};
 

@@ -11,7 +11,7 @@ ghost use Rattle.ldm_serve.specs.Connection.{Answers, ServingMoment, messages_in
 ghost use Rattle.ldm_rpc.specs.Streams.{records_in};
 ghost use Rattle.ldm_relay.specs.Sent.{Sent};
 ghost use Rattle.ldm_session.specs.declared.limits.TheConstants.{LONGEST_STREAM};
-ghost use Rattle.ldm_intake.specs.Room.{records_of};
+ghost use Rattle.ldm_relay.specs.Spelling.{records_of};
 ghost use Rattle.ldm_serve.specs.Serve.{ServesAll};
 ghost use Rattle.ldm_serve.specs.ServingView.{beginning};
 ghost use Rattle.ldm_serve.specs.Complete.{BecomesBy, IsCall, IsLawful, LacksMemory, Meets, NothingHinders, last_response};

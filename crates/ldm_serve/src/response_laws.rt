@@ -7,7 +7,7 @@ ghost use Rattle.ldm_model.specs.declared.event.Event.TheVariants.{Insert, Stat}
 ghost use Rattle.ldm_model.specs.declared.event.Entry.{Entry};
 ghost use Rattle.ldm_relay.specs.Sent.{Sent};
 ghost use Rattle.ldm_relay.specs.Sent as sent;
-ghost use Rattle.ldm_types.specs.declared.stat.Stat as figures;
+ghost use Rattle.ldm_model.specs.declared.stat.Stat as figures;
 ghost use Rattle.ldm_intake.specs.Course.{Begins, Leads};
 ghost use Rattle.ldm_serve.specs.Answering.{answering, events_of};
 ghost use Rattle.ldm_serve.specs.Client.{Client};

@@ -4,8 +4,8 @@ use Rattle.std.specs.List.{flat_map}
 use Rattle.ldm_model.specs.declared.event.Reply.{Reply}
 use Rattle.ldm_model.specs.declared.event.Reply.TheVariants as reply
 use Rattle.ldm_model.specs.declared.event.Entry.{Entry}
-use Rattle.ldm_script.specs.Answer.{blank_field, blank_number}
-use Rattle.ldm_script.specs.Texts.{spelled}
+use Rattle.ldm_answers.specs.Answer.{blank_field, blank_number}
+use Rattle.ldm_answers.specs.Texts.{spelled}
 
 -- `gap HOST COUNT FIRST LAST` and a newline: so many products that were for the host were evicted before it was given them
 abbrev pub gap_line : List ℕ → ℕ → ℕ → ℕ → List ℕ

@@ -1,14 +1,14 @@
 //! The log lines of losses.
 ghost use Rattle.std.specs.Prelude.{◌≡◌, ◌≤◌, ◌+◌, ◌++◌, length};
 ghost use Rattle.arrayvec.specs.ArrayVec.{array_vec_len};
-ghost use Rattle.ldm_script.specs.Answer.{blank_number};
-ghost use Rattle.ldm_script.specs.declared.answer.TheConstants.{LONGEST_ANSWER};
+ghost use Rattle.ldm_answers.specs.Answer.{blank_number};
+ghost use Rattle.ldm_answers.specs.declared.answer.TheConstants.{LONGEST_ANSWER};
 ghost use Rattle.ldm_outside.specs.Io.{WritesAll};
 ghost use Rattle.ldm_session.specs.Gaps.{gap_line};
 ghost use Rattle.ldm_session.specs.declared.gaps.TheConstants.{LONGEST_NAME};
 
+use ldm_answers::{Text, put, put_number, text_into};
 use ldm_outside::{Sink, SinkFailed, write_all};
-use ldm_script::{Text, put, put_number, text_into};
 
 /// The most bytes of the name of a host in a log line.
 pub const LONGEST_NAME: usize = 255;

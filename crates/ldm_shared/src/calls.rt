@@ -15,11 +15,12 @@ use crate::shared::Shared;
 use crate::turn::Turn;
 use ldm_model::{
     CloseReply, CommitReply, DiscardReply, ExpireReply, FillReply, InsertReply, LookReply,
-    OpenReply, ReadReply, ReleaseReply, ReserveNo, ReserveReply, Start, StepReply, TallyReply,
-    commit_is_possible, feed_is_possible, fill_is_possible, info_is_possible, insert_is_possible,
-    place_is_possible, reservation_is_possible, signature_is_possible, start_is_possible,
+    OpenReply, ReadReply, ReleaseReply, ReserveNo, ReserveReply, Start, Stat, StepReply,
+    TallyReply, commit_is_possible, feed_is_possible, fill_is_possible, info_is_possible,
+    insert_is_possible, place_is_possible, reservation_is_possible, signature_is_possible,
+    start_is_possible,
 };
-use ldm_types::{CursorNo, Feed, Info, Micros, Signature, Stat};
+use ldm_types::{CursorNo, Feed, Info, Micros, Signature};
 use std::marker::Brand;
 use std::sync::Wait;
 

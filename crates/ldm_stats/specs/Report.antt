@@ -2,8 +2,8 @@
 use Rattle.std.specs.Prelude.{◌≡◌, ◌<◌, ℕ, Bool, true, not, ◌/◌, ◌%◌, ◌==◌, List, [], ◌∷◌, ◌++◌, filter, take, nat_le, if◌then◌else◌, Option, Some, None}
 use Rattle.std.specs.List.{flat_map}
 use Rattle.ldm_feedtype.specs.Text.{feed_digits}
-use Rattle.ldm_script.specs.Texts.{spelled}
-use Rattle.ldm_script.specs.Answer.{blank_field, blank_number}
+use Rattle.ldm_answers.specs.Texts.{spelled}
+use Rattle.ldm_answers.specs.Answer.{blank_field, blank_number}
 use Rattle.ldm_pqact_match.specs.Dates.{CivilDate, date_of_day}
 use Rattle.ldm_pqact_match.specs.Substitution.{last_digits}
 use Rattle.ldm_stats.specs.Place.{Place}

@@ -9,7 +9,7 @@ ghost use Rattle.ldm_stats.specs.Joining.{count_of, joined, total_at, within, Be
 use crate::line::put_line;
 use crate::place::{LAST_HOUR, Place};
 use crate::total::Total;
-use ldm_script::Text;
+use ldm_answers::Text;
 use ldm_types::OutOfMemory;
 use std::alloc::Global;
 use std::collections::BTreeMap;

@@ -1,14 +1,14 @@
 //! Lines of the report.
 ghost use Rattle.std.specs.Prelude.{◌≡◌, ◌+◌, ◌≤◌, ◌++◌, []};
 ghost use Rattle.arrayvec.specs.ArrayVec.{array_vec_len};
-ghost use Rattle.ldm_script.specs.Answer.{blank_number};
+ghost use Rattle.ldm_answers.specs.Answer.{blank_number};
 ghost use Rattle.ldm_stats.specs.Report.{line_of};
 
 use crate::hour::hour_text;
 use crate::place::Place;
 use crate::total::Total;
+use ldm_answers::{Text, put, put_number, text_into};
 use ldm_feedtype::feed_text;
-use ldm_script::{Text, put, put_number, text_into};
 
 /// Writes `YYYYMMDDHH FEED ORIGIN COUNT BYTES LATENCY` and a newline.
 pub fn put_line(place: &Place, total: Total, line: &mut Text)

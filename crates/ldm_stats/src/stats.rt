@@ -125,7 +125,7 @@ impl Stats {
     /// Appends the report: a line `YYYYMMDDHH FEED ORIGIN COUNT BYTES LATENCY` for each hour, feed and origin, in
     /// ascending order of hour, feed and origin by bytes.
     ///
-    /// The hour is in UTC. FEED is as [`ldm_feedtype::feed_text`] writes it, and ORIGIN as [`ldm_script::text_into`]
+    /// The hour is in UTC. FEED is as [`ldm_feedtype::feed_text`] writes it, and ORIGIN as [`ldm_answers::text_into`]
     /// does. LATENCY is the longest time from an arrival to the insertion, in microseconds, 0 where all were inserted
     /// before. For want of memory some first bytes of it were appended.
     pub fn report(&self, out: &mut Vec<u8>) -> Result<(), OutOfMemory>

@@ -6,8 +6,8 @@ ghost use Rattle.ldm_status.specs.Status.{log_line, reason_line};
 ghost use Rattle.ldm_status.specs.declared.status.Status.TheVariants as status;
 
 use arrayvec::ArrayVec;
+use ldm_answers::{put, put_number};
 use ldm_outside::{LONGEST_REASON, Sink, SinkFailed, write_all};
-use ldm_script::{put, put_number};
 
 // Room for a log line with its newline, where each number may take 20 digits.
 const LONGEST_LOG_LINE: usize = 96;

@@ -5,7 +5,7 @@ use Rattle.ldm_outside.specs.Clock.{Answers, ClockRecord}
 use Rattle.ldm_outside.specs.Dial.{Asked}
 use Rattle.ldm_outside.specs.Io.{Takes}
 use Rattle.ldm_outside.proofs.CallerLemmas.{Takes-nothing, Takes-then}
-use Rattle.ldm_types.specs.declared.stat.Stat.{Stat}
+use Rattle.ldm_model.specs.declared.stat.Stat.{Stat}
 use Rattle.ldm_status.specs.Status.{ReportsFor, code_of}
 use Rattle.ldm_tools.specs.declared.mon.MonFault.{MonFault}
 use Rattle.ldm_tools.specs.declared.mon.MonFault.TheVariants.{Unreached, NoStat, Denied, SinkFault}

@@ -3,7 +3,7 @@ use Rattle.std.specs.Prelude.{◌≡◌, ◌⊎◌, ℕ, ◌+◌, ◌*◌, ◌<�
 use Rattle.ldm_outside.specs.Clock.{Answers, ClockRecord}
 use Rattle.ldm_outside.specs.Dial.{Asked}
 use Rattle.ldm_outside.specs.Io.{Takes}
-use Rattle.ldm_types.specs.declared.stat.Stat.{Stat}
+use Rattle.ldm_model.specs.declared.stat.Stat.{Stat}
 use Rattle.ldm_tools.specs.Asking.{AsksPeer}
 use Rattle.ldm_tools.specs.Mon.{MonRecord, Mons, stat_call, stat_line}
 use Rattle.ldm_tools.specs.Replies.{IsStatReply}

@@ -4,10 +4,10 @@ use Rattle.ldm_model.specs.declared.event.Reply.TheVariants as reply
 use Rattle.ldm_outside.specs.Count.{Rose}
 use Rattle.ldm_outside.specs.Dial.{Asked, DialRecord}
 use Rattle.ldm_outside.specs.Io.{SinkRecord, Takes, WritesFront}
-use Rattle.ldm_types.specs.declared.stat.Stat.{Stat}
+use Rattle.ldm_model.specs.declared.stat.Stat.{Stat}
 use Rattle.ldm_relay.specs.Sent as sent
 use Rattle.ldm_relay.specs.Spelling.{record_of, written}
-use Rattle.ldm_script.specs.Answer.{answer_line}
+use Rattle.ldm_answers.specs.Answer.{answer_line}
 use Rattle.ldm_status.specs.declared.status.Status.{Status}
 use Rattle.ldm_status.specs.declared.status.Status.TheVariants as status
 use Rattle.ldm_status.specs.Status.{ReportsBecause}

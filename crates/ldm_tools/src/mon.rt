@@ -11,10 +11,11 @@ use crate::no_reply::NoReply;
 use crate::reader::LinkReader;
 use crate::replies::hear_stat;
 use crate::statuses::status_of_mon;
+use ldm_answers::{Answer, Text, write_answer};
+use ldm_model::Stat;
 use ldm_outside::{Dial, Dialled, Link, Reasons, Sink, SinkFailed, send_all, write_all};
 use ldm_relay::{Message, Qstat, write_message};
-use ldm_script::{Answer, Text, write_answer};
-use ldm_types::{OutOfMemory, Stat};
+use ldm_types::OutOfMemory;
 use std::alloc::Global;
 
 /// Why the figures of a node were not written, all of them.

@@ -1,14 +1,14 @@
 //! The replies that one who asks is owed.
 ghost use Rattle.std.specs.Prelude.{◌≡◌, ◌≤◌, Option, MatchOption};
 ghost use Rattle.ldm_outside.specs.Link.{IsNotClosed};
-ghost use Rattle.ldm_types.specs.declared.stat.Stat.{Stat};
+ghost use Rattle.ldm_model.specs.declared.stat.Stat.{Stat};
 ghost use Rattle.ldm_tools.specs.Replies.{HearsReply, IsStatReply};
 
 use crate::no_reply::{NoReply, no_reply};
 use crate::reader::LinkReader;
+use ldm_model::Stat;
 use ldm_outside::Link;
 use ldm_relay::{Message, Procedure, read_reply};
-use ldm_types::Stat;
 
 /// Hears the reply to the QSTAT of that number, which is the next record that the link gives.
 pub(crate) fn hear_stat<K: Link>(

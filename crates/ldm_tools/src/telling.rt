@@ -3,16 +3,16 @@ ghost use Rattle.std.specs.Prelude.{◌≡◌, ◌≤◌, false, length};
 ghost use Rattle.ldm_model.specs.declared.event.Reply.TheVariants as reply;
 ghost use Rattle.ldm_outside.specs.Link.{IsNotClosed};
 ghost use Rattle.ldm_relay.specs.Writable.{IsShortProduct};
-ghost use Rattle.ldm_script.specs.Answer.{answer_line};
+ghost use Rattle.ldm_answers.specs.Answer.{answer_line};
 ghost use Rattle.ldm_tools.specs.Lines.{is_denied, is_refused, put_line};
 ghost use Rattle.ldm_tools.specs.Told.{TellsAnswer};
 ghost use Rattle.ldm_tools.specs.Telling.{PutsProduct, putting_tells};
 
 use crate::put_fault::PutFault;
 use crate::puts::Puts;
+use ldm_answers::{Answer, Text, put, put_number, write_answer};
 use ldm_outside::{Link, Sink, SinkFailed, write_all};
 use ldm_relay::PutAnswer;
-use ldm_script::{Answer, Text, put, put_number, write_answer};
 use ldm_types::Info;
 
 /// Puts a product into the queue of the peer, and writes the line of the answer, as a script has it. Answers whether
@@ -88,7 +88,7 @@ fn write_put_line(answer: PutAnswer, out: &mut Text)
 }
 
 // The same of an admitted product, from the numbers as the peer sent them: its time may be no instant.
-#[tactic(auto, unfolding(ldm_script::specs::Answer::reply_text, ldm_script::specs::Answer::answer_line))]
+#[tactic(auto, unfolding(ldm_answers::specs::Answer::reply_text, ldm_answers::specs::Answer::answer_line))]
 fn write_admitted(n: u64, time: u64, evicted: u64, out: &mut Text)
     ensures { out.new.items ≡ answer_line (reply.Admitted n time evicted) }
 {

@@ -3,4 +3,3 @@ pub mod Feed
 pub mod Info
 pub mod InfoView
 pub mod Cursors
-pub mod Figures

@@ -12,7 +12,6 @@ mod memory;
 mod micros;
 mod numbers;
 mod signature;
-mod stat;
 mod texts;
 
 pub use class::{ClassSpec, Spec};
@@ -26,4 +25,3 @@ pub use memory::OutOfMemory;
 pub use micros::Micros;
 pub use numbers::{Actor, CursorNo};
 pub use signature::Signature;
-pub use stat::Stat;

@@ -10,11 +10,10 @@ use Rattle.ldm_outside.specs.Io.{SinkRecord, Takes as TakesBytes}
 use Rattle.ldm_outside.specs.Link.{LinkRecord, RecvGives}
 use Rattle.ldm_outside.proofs.CallerLemmas.{Rose-later, Takes-then, Takes-nothing}
 use Rattle.ldm_relay.specs.Sent.{Sent}
-use Rattle.ldm_relay.specs.Spelling.{record_of, written as spelling_of}
+use Rattle.ldm_relay.specs.Spelling.{record_of, written as spelling_of, records_of}
 use Rattle.ldm_rpc.specs.Streams.{Position, Placed, records_in, in_hand}
 use Rattle.ldm_session.specs.Exchange.{Exchanged}
 use Rattle.ldm_session.proofs.CallerLemmas.{Exchanged-gave, Exchanged-nothing, Exchanged-same, Exchanged-still, Exchanged-then_given, Exchanged-then_sent}
-use Rattle.ldm_intake.specs.Room.{records_of}
 use Rattle.ldm_watch.specs.declared.end.WatchEnd.{WatchEnd}
 use Rattle.ldm_watch.specs.declared.end.WatchEnd.TheVariants.{Ended, Counted, Truncated, BadFrame, Refused, LinkFault, SinkFault, StreamLimit, OutOfMemory}
 use Rattle.ldm_watch.specs.declared.form.NoticeForm.{NoticeForm}

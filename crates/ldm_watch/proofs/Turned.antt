@@ -11,7 +11,7 @@ use Rattle.ldm_rpc.specs.Reading.{is_faulty}
 use Rattle.ldm_rpc.specs.Streams.{Position}
 use Rattle.ldm_session.specs.Exchange.{Exchanged}
 use Rattle.ldm_session.proofs.CallerLemmas.{Exchanged-gave, Exchanged-nothing, Exchanged-still}
-use Rattle.ldm_intake.specs.Room.{records_of}
+use Rattle.ldm_relay.specs.Spelling.{records_of}
 use Rattle.ldm_watch.specs.declared.end.WatchEnd.{WatchEnd}
 use Rattle.ldm_watch.specs.declared.end.WatchEnd.TheVariants.{Ended, Counted, Truncated, BadFrame, Refused, LinkFault, SinkFault, StreamLimit, OutOfMemory}
 use Rattle.ldm_session.specs.declared.limits.TheConstants.{LONGEST_STREAM}

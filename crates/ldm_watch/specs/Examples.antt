@@ -5,7 +5,7 @@ use Rattle.ldm_types.specs.declared.class.ClassSpec.{ClassSpec}
 use Rattle.ldm_types.specs.declared.limits.TheConstants.{GREATEST_INSTANT}
 use Rattle.ldm_relay.specs.declared.message.ClassAnswer.TheVariants as class_answer
 use Rattle.ldm_relay.specs.Sent as sent
-use Rattle.ldm_script.specs.Answer.{info_text}
+use Rattle.ldm_answers.specs.Answer.{info_text}
 use Rattle.ldm_watch.specs.declared.end.WatchEnd.TheVariants.{Counted, BadFrame}
 use Rattle.ldm_watch.specs.declared.step.Step.TheVariants.{Alive, AsksAgain, Notice, Bad, Declined}
 use Rattle.ldm_watch.specs.declared.watching.Phase.TheVariants.{Asked, Told}

@@ -4,8 +4,8 @@ use Rattle.std.specs.List.{flat_map}
 use Rattle.hex.specs.Hex.{encode_lower}
 use Rattle.ldm_types.specs.Info.{Metadata}
 use Rattle.ldm_feedtype.specs.Text.{feed_digits}
-use Rattle.ldm_script.specs.Answer.{blank_field, blank_number}
-use Rattle.ldm_script.specs.Texts.{spelled}
+use Rattle.ldm_answers.specs.Answer.{blank_field, blank_number}
+use Rattle.ldm_answers.specs.Texts.{spelled}
 use Rattle.ldm_watch.specs.declared.form.NoticeForm.{NoticeForm}
 use Rattle.ldm_watch.specs.declared.form.NoticeForm.TheVariants.{Numbers, Names}
 use Rattle.ldm_watch.specs.FeedNames.{feeds_text}

@@ -3,7 +3,7 @@ use Rattle.std.specs.Prelude.{◌≡◌, ◌⊎◌, ℕ, ◌<◌, List, [], ◌+
 use Rattle.ldm_outside.specs.Count.{Rose}
 use Rattle.ldm_outside.specs.Io.{SinkRecord, Takes as TakesBytes}
 use Rattle.ldm_outside.specs.Link.{LinkRecord}
-use Rattle.ldm_intake.specs.Room.{records_of}
+use Rattle.ldm_relay.specs.Spelling.{records_of}
 use Rattle.ldm_session.specs.Exchange.{Exchanged}
 use Rattle.ldm_watch.specs.declared.end.WatchEnd.{WatchEnd}
 use Rattle.ldm_watch.specs.declared.end.WatchEnd.TheVariants.{LinkFault, SinkFault}

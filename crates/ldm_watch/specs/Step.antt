@@ -10,7 +10,7 @@ use Rattle.ldm_relay.specs.Procedure.{number_of}
 use Rattle.ldm_relay.specs.Reading.{call_of, reply_of}
 use Rattle.ldm_relay.specs.Sent.{Sent}
 use Rattle.ldm_relay.specs.Sent as sent
-use Rattle.ldm_intake.specs.Asking.{same_class}
+use Rattle.ldm_class.specs.Asking.{same_class}
 use Rattle.ldm_watch.specs.declared.watching.Phase.{Phase}
 use Rattle.ldm_watch.specs.declared.watching.Phase.TheVariants.{Asked, Told}
 use Rattle.ldm_watch.specs.declared.watching.Watching.{Watching}

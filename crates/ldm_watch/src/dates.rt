@@ -7,7 +7,7 @@ ghost use Rattle.ldm_stats.specs.declared.place.TheConstants.{LAST_HOUR};
 ghost use Rattle.ldm_watch.specs.Instants.{date_text, instant_text as text_of};
 
 use arrayvec::ArrayVec;
-use ldm_script::put;
+use ldm_answers::put;
 use ldm_stats::hour_text;
 use ldm_types::Micros;
 

@@ -6,8 +6,8 @@ ghost use Rattle.ldm_feedtype.specs.Names.{feed_names as names_of_feeds};
 ghost use Rattle.ldm_watch.specs.FeedNames.{feeds_text, first_named, listed, member_name, members_text};
 
 use arrayvec::ArrayVec;
+use ldm_answers::put;
 use ldm_feedtype::NAMES;
-use ldm_script::put;
 use ldm_types::Feed;
 
 // A name has at most eight bytes, and one stands in front of it.

@@ -2,18 +2,18 @@
 ghost use Rattle.std.specs.Prelude.{◌≡◌, ◌+◌, ◌*◌, ◌≤◌, ◌++◌, ◌∷◌, [], length, OnOk, OnErr};
 ghost use Rattle.arrayvec.specs.ArrayVec.{array_vec_len};
 ghost use Rattle.ldm_relay.specs.Sent as sent;
-ghost use Rattle.ldm_script.specs.Answer.{blank_field, blank_number};
-ghost use Rattle.ldm_script.specs.Texts.{spelled};
-ghost use Rattle.ldm_script.specs.declared.answer.TheConstants.{LONGEST_ANSWER};
-ghost use Rattle.ldm_intake.specs.Room.{records_of};
+ghost use Rattle.ldm_answers.specs.Answer.{blank_field, blank_number};
+ghost use Rattle.ldm_answers.specs.Texts.{spelled};
+ghost use Rattle.ldm_answers.specs.declared.answer.TheConstants.{LONGEST_ANSWER};
+ghost use Rattle.ldm_relay.specs.Spelling.{records_of};
 ghost use Rattle.ldm_watch.specs.Notices.{arrival_field, feed_field, notice_fields, notice_line, product_fields};
 
 use crate::dates::instant_text;
 use crate::form::NoticeForm;
 use crate::names::feed_names;
+use ldm_answers::{Text, put, put_number, text_into};
 use ldm_feedtype::feed_text;
 use ldm_relay::{Message, Notifyme, write_message};
-use ldm_script::{Text, put, put_number, text_into};
 use ldm_signature::write_hex;
 use ldm_types::{ClassSpec, Feed, Info, Micros, OutOfMemory};
 

@@ -1,12 +1,11 @@
 //! Watching over a link.
-ghost use Rattle.std.specs.Prelude.{◌≡◌, ◌<◌, ◌≤◌, ◌∷◌, [], true};
-ghost use Rattle.std.specs.Prelude.{false, IfOk, IfNone, None, Some, length, take};
+ghost use Rattle.std.specs.Prelude.{◌≡◌, ◌<◌, ◌≤◌, ◌∷◌, [], true, false, IfOk, IfNone, None, Some, length, take};
 ghost use Rattle.std.specs.Option.{ForSome};
 ghost use Rattle.std.specs.Vec.{vec_len};
 ghost use Rattle.ldm_outside.specs.Link.{IsNotClosed};
 ghost use Rattle.ldm_relay.specs.Sent as sent;
 ghost use Rattle.ldm_rpc.specs.Reading.{is_faulty};
-ghost use Rattle.ldm_intake.specs.Room.{records_of};
+ghost use Rattle.ldm_relay.specs.Spelling.{records_of};
 ghost use Rattle.ldm_watch.specs.Complete.{Completes};
 ghost use Rattle.ldm_watch.specs.declared.watching.Phase.TheVariants as phase;
 ghost use Rattle.ldm_watch.specs.Outside.{KeepsWatchCounts, WatchRecord, watch_tells};

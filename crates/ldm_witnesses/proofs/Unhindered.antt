@@ -122,7 +122,7 @@ node_unhindered = record {
     slots = record { some = omega arith; most = omega arith };
     passes = record { some = omega arith; most = omega arith };
   };
-  plain = refl;
+  journal = inl refl;
   store_works = still;
   launcher_works = still;
   net_works = still;

@@ -9,7 +9,7 @@ use Rattle.ldm_xdr.specs.declared.length.TheConstants as metadata
 use Rattle.ldm_feedtype.specs.declared.reader.TheConstants as feeds
 use Rattle.ldm_shared.specs.declared.steps.TheConstants as shared
 use Rattle.ldm_script.specs.declared.line.TheConstants as lines
-use Rattle.ldm_script.specs.declared.answer.TheConstants as answers
+use Rattle.ldm_answers.specs.declared.answer.TheConstants as answers
 use Rattle.ldm_script.specs.declared.body.TheConstants as bodies
 use Rattle.ldm_play.specs.declared.play_command.TheConstants as plays
 use Rattle.ldm_status.specs.declared.whole_script.TheConstants as scripts

@@ -6,7 +6,7 @@ use Rattle.std.proofs.lemmas.Bool.{cases_Bool, ltb-false}
 use Rattle.ldm_types.specs.declared.info.InfoFault.{InfoFault}
 use Rattle.ldm_types.specs.declared.info.InfoFault.TheVariants.{NulByte, OriginLong}
 use Rattle.ldm_types.specs.Info.{Metadata, texts_fault}
-use Rattle.ldm_script.proofs.Fitting.{texts_fit, texts_free}
+use Rattle.ldm_answers.proofs.Fitting.{texts_fit, texts_free}
 use Rattle.ldm_wmo.specs.Headings.{fits, is_heading, long_form, short_form, stands_for}
 use Rattle.ldm_wmo.proofs.Spelled.{IsOther, and_parts, heading_without}
 

@@ -4,8 +4,8 @@ ghost use Rattle.ldm_outside.specs.Io.{WritesAll};
 ghost use Rattle.ldm_wmo.specs.IngestLines.{bad_line, cut_line};
 
 use arrayvec::ArrayVec;
+use ldm_answers::{put, put_number};
 use ldm_outside::{Sink, SinkFailed, write_all};
-use ldm_script::{put, put_number};
 
 // Room for a line with its newline, where a place has 20 digits.
 const LONGEST_LINE: usize = 40;

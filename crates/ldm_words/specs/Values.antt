@@ -12,7 +12,7 @@ use Rattle.ldm_class.specs.Classes.{bad_place, is_resumption, resumed}
 use Rattle.ldm_conf.specs.Addresses.{Address, address_of}
 use Rattle.ldm_conf.specs.Confs.{all_times}
 use Rattle.ldm_feedtype.specs.Reading.{feed_number}
-use Rattle.ldm_script.specs.Number.{number_up_to}
+use Rattle.ldm_answers.specs.Number.{number_up_to}
 use Rattle.ldm_words.specs.declared.limits.TheConstants.{MOST_CLASSES, MOST_HOURS}
 
 infixl 10 ◌>>=◌

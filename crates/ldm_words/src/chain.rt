@@ -10,8 +10,8 @@ use crate::fault::WordsFault;
 use crate::limits::MOST_CLASSES;
 use crate::said::ChainWords;
 use crate::values::{read_class, read_short};
+use ldm_answers::read_number;
 use ldm_class::Class;
-use ldm_script::read_number;
 use std::alloc::Global;
 
 /// What a chain is made with: `[-a CONF] ARENA SLOTS MAXHEREIS FEED PATTERN [FEED PATTERN ..]`, with one to seven pairs

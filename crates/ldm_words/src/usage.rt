@@ -4,10 +4,10 @@ use crate::fault::WordsFault;
 use crate::limits::MOST_HOURS;
 use crate::values::{is_name, read_class, read_peer};
 use arrayvec::ArrayVec;
+use ldm_answers::read_number;
 use ldm_conf::read_port;
 use ldm_feedtype::read_feed;
 use ldm_outside::Reason;
-use ldm_script::read_number;
 use std::alloc::Global;
 
 // The most bytes of a word in a reason.

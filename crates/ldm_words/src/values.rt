@@ -19,10 +19,10 @@ use crate::fault::WordsFault;
 use crate::limits::MOST_HOURS;
 use arrayvec::ArrayVec;
 use clap::ArgMatches;
+use ldm_answers::read_number;
 use ldm_class::Class;
 use ldm_conf::{Address, read_address, read_port};
 use ldm_feedtype::read_feed;
-use ldm_script::read_number;
 use ldm_types::{ClassSpec, Feed, Info, LONGEST_PATTERN, Micros, Signature, Spec};
 use std::alloc::Global;
 

@@ -3,10 +3,12 @@ ghost use Rattle.std.specs.Vec.{vec_len};
 ghost use Rattle.ldm_outside.specs.declared.gate.Go.{Go};
 
 use ldm_crowd::{Crowd, CrowdEnd, Orders, play_crowd};
-use ldm_outside::{Gate, Go, MemGate, OpenGate};
+use ldm_model::Stat;
+use ldm_outside::{Gate, Go, OpenGate};
+use ldm_outside_memory::MemGate;
 use ldm_shared::Shared;
 use ldm_status::LONGEST_SCRIPT;
-use ldm_types::{Actor, Stat};
+use ldm_types::Actor;
 use std::alloc::Global;
 use std::process::Abort;
 use std::sync::Wait;

@@ -4,8 +4,9 @@ ghost use Rattle.ldm_shared.specs.Passes.{AreAllOf, IsPassOf, IsSamePass};
 
 use super::told::{Named, Told};
 use super::worker::Worker;
+use ldm_model::Stat;
 use ldm_shared::{Pass, Shared};
-use ldm_types::{Micros, Stat};
+use ldm_types::Micros;
 use std::alloc::Global;
 use std::process::Abort;
 use std::sync::{Mutex, Wait};

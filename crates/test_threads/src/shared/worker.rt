@@ -5,10 +5,11 @@ ghost use Rattle.ldm_shared.specs.Passes.{IsPassOf, IsSamePass};
 use super::told::Told;
 use ldm_model::{
     CloseReply, CommitReply, DiscardReply, ExpireReply, FillReply, InsertReply, LookReply,
-    OpenReply, ReadReply, ReleaseReply, ReserveNo, ReserveReply, Start, StepReply, TallyReply,
+    OpenReply, ReadReply, ReleaseReply, ReserveNo, ReserveReply, Start, Stat, StepReply,
+    TallyReply,
 };
 use ldm_shared::{Pass, Shared, Turn};
-use ldm_types::{CursorNo, Feed, Info, Micros, Signature, Stat};
+use ldm_types::{CursorNo, Feed, Info, Micros, Signature};
 use std::alloc::Global;
 use std::sync::Wait;
 

@@ -1,5 +1,5 @@
-use Rattle.ldm_outside.specs.MemLauncher.{told_by_launcher}
-use Rattle.ldm_outside.specs.MemStore.{told_by_store}
+use Rattle.ldm_outside_memory.specs.MemLauncher.{told_by_launcher}
+use Rattle.ldm_outside_memory.specs.MemStore.{told_by_store}
 use Rattle.ldm_actions.specs.Outputs.{KeepsUnlessSpent, standing}
 use Rattle.drive_actions.proofs.outputs.take_steps.Given as goal
 

@@ -4,7 +4,7 @@ use Rattle.std.proofs.lemmas.Result.{err_from_is_err_and}
 use Rattle.ldm_outside.specs.Io.{Takes, WritesFront}
 use Rattle.ldm_model.specs.History.{after}
 use Rattle.ldm_model.specs.Stat.{stat}
-use Rattle.ldm_script.specs.Answer.{answer_line}
+use Rattle.ldm_answers.specs.Answer.{answer_line}
 use Rattle.ldm_crowd.specs.CrowdEnding.{CrowdSize}
 use Rattle.ldm_crowd.proofs.CrowdPlayLemmas.{played_at, all_answers, plays_whole}
 use Rattle.ldm_crowd.proofs.crowd_command.run_crowd.Goals as goal

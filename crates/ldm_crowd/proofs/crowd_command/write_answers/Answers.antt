@@ -2,7 +2,7 @@ use Rattle.std.proofs.Common.{ℕ, Vec, Global, map}
 use Rattle.std.specs.List.{concat}
 use Rattle.std.proofs.lemmas.Result.{err_from_is_err_and}
 use Rattle.ldm_model.specs.Stat.{stat}
-use Rattle.ldm_script.specs.Answer.{answer_line}
+use Rattle.ldm_answers.specs.Answer.{answer_line}
 use Rattle.ldm_crowd.proofs.CrowdTextLemmas.{WritesFront-more, WritesAll-then}
 use Rattle.ldm_crowd.proofs.crowd_command.write_answers.Goals as goal
 

@@ -1,4 +1,4 @@
-use Rattle.std.proofs.Common.{◌∙◌, List, [], ◌∷◌, ◌++◌, ap, arith}
+use Rattle.std.proofs.Common.{◌∙◌, [], ◌∷◌, ◌++◌, ap, arith}
 use Rattle.ldm_recorder.specs.declared.line.Line.{Line}
 use Rattle.ldm_node_command.proofs.LineLemmas.{one_line}
 use Rattle.ldm_node_command.proofs.lines.lines_of.Goals as goal

@@ -1,6 +1,6 @@
 use Rattle.ldm_types.specs.declared.limits.TheConstants.{LONGEST_ORIGIN, LONGEST_IDENT}
-use Rattle.ldm_script.specs.OrderView.{text_of}
-use Rattle.ldm_script.proofs.Fitting.{texts_fit}
+use Rattle.ldm_answers.specs.TextReads.{text_of}
+use Rattle.ldm_answers.proofs.Fitting.{texts_fit}
 use Rattle.ldm_script.proofs.line.read_details.Goals as goal
 
 pub returns-clause-fit : goal.returns-clause-fit

@@ -1,7 +1,7 @@
 use Rattle.std.proofs.Common.{List, ℕ, [], ◌∷◌, ◌++◌, refl, sym, ap, ◌∙◌}
 use Rattle.ldm_relay.specs.Sent as sent
 use Rattle.ldm_relay.specs.declared.message.PutAnswer.TheVariants as put_answer
-use Rattle.ldm_intake.specs.Room.{records_of}
+use Rattle.ldm_relay.specs.Spelling.{records_of}
 use Rattle.ldm_serve.specs.declared.responded.Responded.TheVariants as responded
 use Rattle.ldm_serve.specs.Access.{may_push}
 use Rattle.ldm_serve.specs.Respond.{to_put}

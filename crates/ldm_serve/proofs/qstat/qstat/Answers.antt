@@ -1,6 +1,6 @@
 use Rattle.std.proofs.Common.{List, ℕ, [], ◌∷◌, ◌++◌, None, refl, sym, ap, ◌∙◌}
 use Rattle.ldm_relay.specs.Sent as sent
-use Rattle.ldm_intake.specs.Room.{records_of}
+use Rattle.ldm_relay.specs.Spelling.{records_of}
 use Rattle.ldm_serve.specs.declared.responded.Responded.TheVariants as responded
 use Rattle.ldm_serve.specs.Access.{may_know}
 use Rattle.ldm_serve.specs.Respond.{to_qstat}

@@ -1,6 +1,6 @@
 use Rattle.ldm_feedtype.specs.Text.{feed_digits}
-use Rattle.ldm_script.specs.Answer.{blank_number}
-use Rattle.ldm_script.specs.Texts.{spelled}
+use Rattle.ldm_answers.specs.Answer.{blank_number}
+use Rattle.ldm_answers.specs.Texts.{spelled}
 use Rattle.ldm_stats.specs.Report.{hour_text}
 use Rattle.ldm_stats.proofs.Digits.{line_put}
 use Rattle.ldm_stats.proofs.line.put_line.Goals as goal

@@ -1,6 +1,6 @@
 use Rattle.std.proofs.Common.{ℕ, List, subst}
 use Rattle.std.specs.Prelude.{Option}
-use Rattle.ldm_types.specs.declared.stat.Stat.{Stat}
+use Rattle.ldm_model.specs.declared.stat.Stat.{Stat}
 use Rattle.ldm_tools.specs.Replies.{IsStatReply}
 use Rattle.ldm_tools.proofs.Replied.{no_reply_heard, other_heard}
 use Rattle.ldm_tools.proofs.replies.hear_stat.Goals as goal

@@ -1,6 +1,6 @@
 use Rattle.std.proofs.Common.{◌++◌, [], ◌∷◌, sym, subst}
 use Rattle.ldm_model.specs.declared.event.Reply.{Reply}
-use Rattle.ldm_script.specs.Answer.{reply_of}
+use Rattle.ldm_answers.specs.Answer.{reply_of}
 use Rattle.ldm_exercise.specs.Kept.{Keeps, PlayerView, HasPlayed}
 use Rattle.ldm_exercise.proofs.PlayedLemmas.{after_call}
 use Rattle.ldm_exercise.proofs.player.Player.play.Goals as goal

@@ -4,7 +4,7 @@ use Rattle.ldm_relay.specs.declared.message.SoonAnswer.TheVariants as soon_answe
 use Rattle.ldm_intake.specs.Notes.{Unwanted, note_lines}
 use Rattle.ldm_intake.specs.Products.{comingsoon}
 use Rattle.ldm_intake.specs.Receiving.{Receiving, with_last}
-use Rattle.ldm_intake.specs.Room.{records_of}
+use Rattle.ldm_relay.specs.Spelling.{records_of}
 use Rattle.ldm_intake.proofs.Announcing.{comingsoon-unwanted}
 use Rattle.ldm_intake.proofs.Calling.{goes_by_none}
 use Rattle.ldm_intake.proofs.intake.Intake.comingsoon.Goals as goal

@@ -1,0 +1,4 @@
+pub mod Numbers
+pub mod Unspelling
+pub mod Fitting
+pub mod ReadFields

@@ -1,0 +1,5 @@
+pub mod Number
+pub mod Texts
+pub mod TextReads
+pub mod Answer
+pub mod ReadsBack

@@ -1,0 +1,4 @@
+mod Pieces
+mod MemMoments
+mod Torn
+mod MemFiles

@@ -1,0 +1,4 @@
+pub mod MemDisk
+pub mod Pending
+pub mod Consistent
+pub mod MemSite

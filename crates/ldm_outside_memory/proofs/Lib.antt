@@ -1,0 +1,4 @@
+mod CopyFront
+mod ClockLemmas
+mod NetLemmas
+mod FileLemmas

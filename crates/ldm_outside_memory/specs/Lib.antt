@@ -1,0 +1,11 @@
+pub mod Memory
+pub mod MemCalls
+pub mod MemLink
+pub mod MemClock
+pub mod MemGate
+pub mod MemLending
+pub mod MemDoor
+pub mod MemDial
+pub mod MemNet
+pub mod MemStore
+pub mod MemLauncher

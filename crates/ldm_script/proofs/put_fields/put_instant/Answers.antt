@@ -1,6 +1,0 @@
-use Rattle.std.proofs.Common.{arith}
-use Rattle.ldm_script.proofs.ReadBack.{number_up_to-decimal}
-use Rattle.ldm_script.proofs.put_fields.put_instant.Goals as goal
-
-pub returns-clause-read_back : goal.returns-clause-read_back
-returns-clause-read_back c = number_up_to-decimal _ _ c.get.ensures.bound (omega arith)
