@@ -7,11 +7,12 @@ import subprocess
 import time
 import typing
 
-# How long a tool may take, in seconds; notices of a whole queue may take longer. Notices that are queued come without a rest: where none
-# comes for so long, there are no more.
+# How long a tool may take, in seconds; notices of a whole queue may take longer. Those of what is queued come without a rest: where none
+# comes for so long, there are no more. Of a whole queue the last one is known by its number, but to a host that may not have all.
 PATIENCE = 10
 PATIENCE_FOR_NOTICES = 50
-SILENCE = 1
+SILENCE = 5
+SILENCE_OF_SOME = 2
 
 # The status of arguments that are no form of a command.
 USAGE = 64
@@ -59,12 +60,13 @@ def _reason(words, status, log):
 
 
 class Notices:
-    """The notices of what a node has queued, oldest first, and of what comes in the next seconds. `reason` tells why there are none."""
+    """The notices of what a node has queued, oldest first, and of what comes in the next seconds. `reason` tells why they are not all."""
 
     def __init__(self, node, count, live=0, more=()):
         self.words = ["notifyme", *more, "-q", node]
         self.count = count
         self.live = live
+        self.silence = SILENCE_OF_SOME if more else SILENCE
         self.reason = None
 
     def __iter__(self):
@@ -99,8 +101,10 @@ class Notices:
             now = time.monotonic()
             if live_until is None and seen >= self.count:
                 live_until = now + self.live
-            wait = min(last, live_until or now + SILENCE) - now
+            wait = min(last, live_until or now + self.silence) - now
             if wait <= 0 or not select.select([output], [], [], wait)[0]:
+                if live_until is None and time.monotonic() >= last:
+                    self.reason = f"ldm: more notices than come in {PATIENCE_FOR_NOTICES} seconds"
                 return
             piece = os.read(output, 1 << 16)
             came = time.time()

@@ -29,7 +29,8 @@ class Habit:
         return gap
 
     def add_gap(self, gap):
-        self.gaps = heapq.nlargest(FEWEST, [*self.gaps, gap])
+        if len(self.gaps) < FEWEST or gap > self.gaps[-1]:
+            self.gaps = heapq.nlargest(FEWEST, [*self.gaps, gap])
 
     def usual(self):
         """The usual gap in seconds, or None."""

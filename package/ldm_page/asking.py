@@ -61,12 +61,12 @@ class Found:
 def take_sample(node, path, days, given=None):
     """Adds lines to a file of samples, and lets those of earlier days go. Answers the totals of what is queued, and why there are none."""
     now = given or int(time.time())
+    why = None
     try:
         output, reason = ask(["pqmon", "-q", node])
         figures = FIGURES.fullmatch(output.rstrip(b"\n")) if output is not None else None
         kept, last_of = fresh_samples(path, now, days) if os.path.exists(path) else (b"", {})
         found = Found(last_of)
-        why = None
         if figures and int(figures[2]):
             notices = Notices(node, int(figures[2]), LIVE)
             for notice in notices:
@@ -74,7 +74,8 @@ def take_sample(node, path, days, given=None):
             why = notices.reason and f"ldm notifyme: {notices.reason}"
     except CannotAsk as fault:
         raise Failed(str(fault)) from None
-    texts = [figures[0].decode() if figures else reason or "ldm: no figures", *found.texts()]
+    # of a part of the notices the last product of a feed is not known
+    texts = [figures[0].decode() if figures else reason or "ldm: no figures", *(() if why else found.texts())]
     stamp = utc(now, "%Y-%m-%dT%H:%M:%SZ")
     write_file(path, kept + "".join(f"{stamp} {text}\n" for text in texts).encode())
     return found.totals, why

@@ -80,6 +80,13 @@ def read_notices(told, asked, habits):
             if request.takes_all() and notice.feed & request.bits:
                 habit.add(arrival)
     told.reason = notices.reason
+    if told.reason:
+        # the last product of a feed is not known
+        told.feeds.clear()
+        told.all = Habit()
+        told.oldest = None
+        habits[:] = [Habit() for _ in habits]
+        return
     for request, habit in zip(asked, habits):
         if not request.takes_all():
             for notice in Notices(told.node, told.figures.queued, 0, ["-f", request.feed, "-p", request.pattern]):

@@ -7,8 +7,9 @@ from ldm_beside.habit import MICRO
 from ldm_page.reading import EVICTED, LINES, REFUSED, UNKEPT, UNWANTED
 
 LOSSES = {EVICTED: "evicted", REFUSED: "refused", UNWANTED: "unwanted", UNKEPT: "unkept", LINES: "log_lines"}
-# A log has as many hosts as strangers like.
+# A log has as many hosts as strangers like, and a queue as many feeds as who may push likes.
 MOST_HOSTS = 1000
+MOST_FEEDS = 100
 
 
 def families(told):
@@ -24,7 +25,7 @@ def families(told):
         yield "ldm_queue_held_regions", "Regions that are read or filled.", [({}, queue.held)]
     oldest = [({}, told.oldest / MICRO)] if told.oldest is not None else []
     yield "ldm_queue_oldest_arrival_timestamp_seconds", "Arrival of the oldest product in the queue.", oldest
-    feeds = [({"feed": feed_name(feed)}, habit) for feed, habit in sorted(told.feeds.items())]
+    feeds = [({"feed": feed_name(feed)}, habit) for feed, habit in sorted(told.feeds.items())[:MOST_FEEDS]]
     yield from habits("ldm_feed", "of the feed", feeds, told.now)
     asked = {each.request.text(): ({"request": each.request.text()}, each) for each in told.asked}.values()
     yield from habits("ldm_request", "of the REQUEST line", [(labels, each.habit) for labels, each in asked if each.habit.last], told.now)

@@ -12,6 +12,7 @@ REASONS = {
 }
 BUSY = "it does not answer: all its workers are busy, or it hangs"
 MOST_HOSTS = 30
+MOST_FEEDS = 40
 
 
 def faults(told):
@@ -24,14 +25,14 @@ def faults(told):
     for asked in late:
         yield "BEHIND", f"{asked.request.text()}: {gap_text(asked.habit, told.now)}"
         covered |= asked.request.bits
-    for feed, habit in sorted(told.feeds.items()):
+    for feed, habit in sorted(told.feeds.items())[:MOST_FEEDS]:
         if habit.is_late(told.now) and not feed & covered:
             yield "BEHIND", f"{feed_name(feed)}: {gap_text(habit, told.now)}"
     for asked in told.asked:
         if asked.connected is False:
             yield "AWAY", f"{asked.request.host}:{asked.request.port} does not feed: {asked.why}"
     if told.reason:
-        yield "SILENT", f"it gives no notices of its products: {told.reason.removeprefix('ldm: ')}"
+        yield "SILENT", f"its products are not known: {told.reason.removeprefix('ldm: ')}"
     if told.log:
         for what, count in told.log.losses.items():
             yield "LOSING", f"{count_text(count)} {what} {when(told.log)}"
@@ -106,8 +107,10 @@ def requests(told):
 
 
 def feeds(told):
-    for feed, habit in sorted(told.feeds.items()):
+    for feed, habit in sorted(told.feeds.items())[:MOST_FEEDS]:
         yield [feed_name(feed), last_text(habit, told.now), usual_text(habit), count_text(habit.count)]
+    if len(told.feeds) > MOST_FEEDS:
+        yield [f"{count_text(len(told.feeds) - MOST_FEEDS)} others", "", "", ""]
 
 
 def hosts(told):
