@@ -1,4 +1,5 @@
 pub mod Lines
+pub mod Warnings
 pub mod Says
 pub mod ConfFaults
 pub mod PqactFaults
