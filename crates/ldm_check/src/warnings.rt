@@ -1,8 +1,11 @@
 //! Warnings: of what is no fault, and yet may not do what was meant.
 
-ghost use Rattle.std.specs.Prelude.{◌≤◌, length, OnOk};
+ghost use Rattle.std.specs.Prelude.{◌≡◌, ◌∷◌, ◌++◌, ◌≤◌, [], drop, length, OnOk};
 ghost use Rattle.ldm_text.specs.declared.limits.TheConstants.{LONGEST_CONFIGURATION};
+ghost use Rattle.ldm_check.specs.Concerns.{behind_blanks, end_warnings, entry_warnings, field_of, is_group};
+ghost use Rattle.ldm_check.specs.Concerns.{names_group, request_warnings, second_field};
 ghost use Rattle.ldm_check.specs.Programs.{LooksFor};
+ghost use Rattle.ldm_check.specs.Warnings.{OfLine, warning_views};
 
 use crate::patterns::{has_name, may_hold_slash};
 use crate::programs::Programs;
@@ -57,7 +60,10 @@ impl Warnings {
     }
 
     /// Ends with an ldmd.conf.
-    pub(crate) fn end(&mut self, alloc: Global, path: &str) -> Result<(), AllocError> {
+    pub(crate) fn end(&mut self, alloc: Global, path: &str) -> Result<(), AllocError>
+        ensures { OnOk result (warning_views self.new.list.items
+            ≡ warning_views self.old.list.items ++ end_warnings path.now self.old.lets_in) }
+    {
         if self.lets_in {
             return Ok(());
         }
@@ -103,7 +109,7 @@ impl Warnings {
         Ok(())
     }
 
-    // Warns of the first REQUEST line that leaves too few workers, and of the first that is one too many.
+    // Counts the REQUEST lines.
     fn look_at_requests(
         &mut self,
         alloc: Global,
@@ -116,7 +122,20 @@ impl Warnings {
         }
         let before = self.requests;
         self.requests = before.saturating_add(1);
-        let number = u64::from(line.number);
+        self.look_at_request(alloc, path, u64::from(line.number), before)
+    }
+
+    // Warns of the first REQUEST line that leaves too few workers, and of the first that is one too many.
+    fn look_at_request(
+        &mut self,
+        alloc: Global,
+        path: &str,
+        number: u64,
+        before: u32,
+    ) -> Result<(), AllocError>
+        ensures { OnOk result (warning_views self.new.list.items
+            ≡ warning_views self.old.list.items ++ request_warnings path.now number before) }
+    {
         if before == USUAL_REQUESTS {
             return self.warn(alloc, path, number, Concern::FewWorkers);
         }
@@ -178,7 +197,10 @@ impl Warnings {
         number: u64,
         line: &[u8],
         entry: &Entry,
-    ) -> Result<(), AllocError> {
+    ) -> Result<(), AllocError>
+        ensures { OnOk result (warning_views self.new.list.items
+            ≡ warning_views self.old.list.items ++ entry_warnings path.now number line.now entry.now.words) }
+    {
         let [first, ..] = entry.words() else {
             return Ok(());
         };
@@ -231,7 +253,10 @@ impl Warnings {
         path: &str,
         number: u64,
         concern: Concern,
-    ) -> Result<(), AllocError> {
+    ) -> Result<(), AllocError>
+        ensures { OnOk result (warning_views self.new.list.items
+            ≡ warning_views self.old.list.items ++ OfLine path.now number concern ∷ []) }
+    {
         let path = String::from_str(alloc, path)?;
         self.list.push(Warning::OfLine(path, number, concern))?;
         Ok(())
@@ -295,22 +320,54 @@ fn is_none(feedtype: &[u8]) -> bool {
 }
 
 // Whether a path or the name of a program has a form `\1` to `\9`.
-fn names_group(word: &[u8]) -> bool {
+fn names_group(word: &[u8]) -> bool
+    ensures { result ≡ names_group word.entry.now }
+{
     let mut escaped = false;
-    for byte in word {
-        if escaped && matches!(*byte, b'1'..=b'9') {
+    let mut left = word;
+    while let [byte, others @ ..] = left {
+        if escaped && is_group(*byte) {
             return true;
         }
         escaped = *byte == b'\\';
+        left = others;
     }
     false
 }
 
+fn is_group(byte: u8) -> bool
+    ensures { result ≡ is_group byte }
+{
+    matches!(byte, b'1'..=b'9')
+}
+
 // The second field of a line, between its first tabs and the next one: the pattern of an entry.
-fn second_field(line: &[u8]) -> &[u8] {
-    let behind = &line[place_of(b'\t', line)..];
-    let field = &behind[count_blanks(behind)..];
-    &field[..place_of(b'\t', field)]
+fn second_field(line: &[u8]) -> &[u8]
+    ensures { result.now ≡ second_field line.now }
+{
+    field_of(behind_blanks(behind(line, place_of(b'\t', line))))
+}
+
+// What stands before the first tab.
+fn field_of(text: &[u8]) -> &[u8]
+    ensures { result.now ≡ field_of text.now }
+{
+    &text[..place_of(b'\t', text)]
+}
+
+// What stands behind the spaces and tabs that a text begins with.
+fn behind_blanks(text: &[u8]) -> &[u8]
+    ensures { result.now ≡ behind_blanks text.now }
+{
+    behind(text, count_blanks(text))
+}
+
+// What stands behind so many bytes.
+fn behind(text: &[u8], count: usize) -> &[u8]
+    requires { count ≤ length text.now }
+    ensures { result.now ≡ drop count text.now }
+{
+    &text[count..]
 }
 
 // Whether an ALLOW line lets a tool of this machine in.
